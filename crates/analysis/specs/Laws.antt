@@ -9,7 +9,8 @@ use Rattle.analysis.specs.Read.{is_active, open_at, IsTable}
 
 -- records say of the active transactions one list
 abbrev pub OneTable : Type 0
-OneTable = (named : List Active) (records : List Entry) (a b : List Open) → IsTable named records a → IsTable named records b → a ≡ b
+OneTable = (named : List Active) (records : List Entry) (a b : List Open) → IsTable named records a
+    → IsTable named records b → a ≡ b
 
 -- the Begin of a transaction is among the records, and so is that of each one that a master names
 abbrev pub has_begun : List Entry → ℕ → Bool
@@ -20,7 +21,8 @@ HaveBegun named records = AllByRecursion (λ a. has_begun records a.begin ≡ tr
 
 -- then the active transactions are the unfinished ones of the records
 abbrev pub ActiveIsUnfinished : Type 0
-ActiveIsUnfinished = (named : List Active) (records : List Entry) (t : ℕ) → HaveBegun named records → is_active named records t ≡ list_any (λ s. s == t) (losers records)
+ActiveIsUnfinished = (named : List Active) (records : List Entry) (t : ℕ) → HaveBegun named records
+    → is_active named records t ≡ list_any (λ s. s == t) (losers records)
 
 -- in the order of their Begins
 abbrev pub TableOfUnfinished : Type 0
@@ -30,4 +32,5 @@ TableOfUnfinished =
 
 -- what undoing all of them takes
 abbrev pub OwedOfUnfinished : Type 0
-OwedOfUnfinished = (named : List Active) (records : List Entry) → owed_for (map (open_at named records) (losers records)) ≡ owed records
+OwedOfUnfinished = (named : List Active) (records : List Entry)
+    → owed_for (map (open_at named records) (losers records)) ≡ owed records

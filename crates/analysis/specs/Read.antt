@@ -1,5 +1,6 @@
 -- What the records of a log say of active transactions.
-use Rattle.std.specs.Prelude.{◌≡◌, ℕ, ◌+◌, ◌-◌, ◌^◌, ◌==◌, min, Bool, true, false, not, ◌&&◌, if◌then◌else◌, List, [], ◌∷◌, length, map, Option, Some, None}
+use Rattle.std.specs.Prelude.{◌≡◌, ℕ, ◌+◌, ◌-◌, ◌^◌, ◌==◌, min, Bool, true, false, not, ◌&&◌, if◌then◌else◌, List, []}
+use Rattle.std.specs.Prelude.{◌∷◌, length, map, Option, Some, None}
 use Rattle.log_records.specs.Log.{Entry, txn_of, entries_of, is_closed}
 use Rattle.log_records.specs.Unfinished.{is_begin, left_open}
 use Rattle.log_records.specs.Sound.{Active, Master, is_known, last_number, commit_numbers}
@@ -22,7 +23,11 @@ last_of named records t = last_number (last_named named t) (map (λ e. e.lsn) (e
 
 -- what the records say of a transaction, where it is active
 abbrev pub open_at : List Active → List Entry → ℕ → Open
-open_at named records t = record { txn = t; last = last_of named records t; updates = map (λ u. u.lsn) (left_open records t) }
+open_at named records t = record {
+  txn = t;
+  last = last_of named records t;
+  updates = map (λ u. u.lsn) (left_open records t);
+}
 
 abbrev pub open_in : List Active → List Entry → ℕ → Option Open
 open_in named records t = if is_active named records t then Some (open_at named records t) else None

@@ -1,5 +1,6 @@
 -- What a restart hands to analysis of a sound log.
-use Rattle.std.specs.Prelude.{◌≡◌, ℕ, ◌+◌, ◌*◌, ◌≤◌, ◌==◌, ◌||◌, Bool, true, false, nat_le, List, [], ◌∷◌, ◌++◌, length, map, filter}
+use Rattle.std.specs.Prelude.{◌≡◌, ℕ, ◌+◌, ◌*◌, ◌≤◌, ◌==◌, ◌||◌, Bool, true, false, nat_le, List, [], ◌∷◌, ◌++◌, length}
+use Rattle.std.specs.Prelude.{map, filter}
 use Rattle.std.specs.List.{list_any, AllByRecursion}
 use Rattle.log_records.specs.Log.{Entry, txn_of, entries_of, is_loser}
 use Rattle.log_records.specs.Unfinished.{is_begin, losers, pending}
@@ -23,7 +24,8 @@ pub record Steps (named : List Active) (earlier : List Entry) (e : Entry) : Type
   pub active : is_begin e.rec ≡ false → is_active named earlier (txn_of e) ≡ true
 
 abbrev pub StepsOn : Type 0
-StepsOn = (p : Picture) (earlier : List Entry) (e : Entry) (rest : List Entry) → IsSound p → taken p ≡ earlier ++ e ∷ rest → Steps p.master.active earlier e
+StepsOn = (p : Picture) (earlier : List Entry) (e : Entry) (rest : List Entry) → IsSound p
+    → taken p ≡ earlier ++ e ∷ rest → Steps p.master.active earlier e
 
 -- they are in order, and with them each transaction that the master names has begun
 abbrev pub TakenInOrder : Type 0

@@ -1,5 +1,7 @@
 // Analysis, record by record.
-ghost use Rattle.std.specs.Prelude.{◌≡◌, ◌⊎◌, ◌↔◌, ◌+◌, ◌-◌, ◌^◌, ◌<◌, ◌≤◌, min, ℕ, List, [], ◌∷◌, ◌++◌, length, map, drop, true, false, slice_get, IfOk, OnOk, OnErr, IfErr, IsErrOf, IsSome, IfSome, IfNone, option_map, Some, None, ◌||◌};
+ghost use Rattle.std.specs.Prelude.{◌≡◌, ◌⊎◌, ◌↔◌, ◌+◌, ◌-◌, ◌^◌, ◌<◌, ◌≤◌, min, ℕ, List, [], ◌∷◌, ◌++◌, length, map};
+ghost use Rattle.std.specs.Prelude.{drop, true, false, slice_get, IfOk, OnOk, OnErr, IfErr, IsErrOf, IsSome, IfSome};
+ghost use Rattle.std.specs.Prelude.{IfNone, option_map, Some, None, ◌||◌};
 ghost use Rattle.std.specs.List.{AllByRecursion};
 ghost use Rattle.site.specs.declared.outside.Stop.{Stop};
 ghost use Rattle.record_model.specs.State.{Content};
@@ -63,8 +65,8 @@ impl Analysis {
 
     /// Takes the next record of a log, which stands at an LSN above those of the records before it. A Begin makes its
     /// transaction active, a Commit or an End ends that; a CLR compensates the greatest Update that remains. `Foreign`
-    /// comes exactly where a record other than a Begin is of a transaction that isn't active. After an error the table is
-    /// as it was, and the analysis is ended.
+    /// comes exactly where a record other than a Begin is of a transaction that isn't active. After an error the table
+    /// is as it was, and the analysis is ended.
     pub fn step(&mut self, lsn: u64, rec: &LogRecord) -> Result<(), Stop>
         requires { MayGoOn self.old }
         ensures going { MayGoOn self.new }
@@ -167,7 +169,8 @@ impl Analysis {
         ensures of_records { (m : sound.Master) (records : List Entry) (from to : ℕ) → IsAnalysis m records self.now
             → IsInOrder from records to
             → result ≡ option_map (λ u. record { 0 = txn_of u; 1 = u.lsn }) (last_where (λ u. true) (pending records)) }
-        ensures of_table { (named : List Active) (records : List Entry) (from to : ℕ) → IsTable named records (listed self.now.table)
+        ensures of_table { (named : List Active) (records : List Entry) (from to : ℕ)
+            → IsTable named records (listed self.now.table)
             → ((t : ℕ) → (is_known named records t || is_closed records t) ≡ false → entries_of t records ≡ [])
             → IsInOrder from records to
             → result ≡ option_map (λ u. record { 0 = txn_of u; 1 = u.lsn }) (last_where (λ u. true) (pending records)) }
@@ -199,10 +202,12 @@ impl Analysis {
         ensures going { MayGoOn self.new }
         ensures read { (m : sound.Master) (records : List Entry) (prev page slot : ℕ) (after : Content)
             → IsAnalysis m records self.old
-            → IsAnalysis m (records ++ record { lsn = last; rec = Clr txn prev _undo_next page slot after } ∷ []) self.new }
+            → IsAnalysis m (records ++ record { lsn = last; rec = Clr txn prev _undo_next page slot after }
+            ∷ []) self.new }
         ensures table { (named : List Active) (records : List Entry) (prev page slot : ℕ) (after : Content)
             → IsTable named records (listed self.old.table)
-            → IsTable named (records ++ record { lsn = last; rec = Clr txn prev _undo_next page slot after } ∷ []) (listed self.new.table) }
+            → IsTable named (records ++ record { lsn = last; rec = Clr txn prev _undo_next page slot after } ∷ [])
+            (listed self.new.table) }
         ensures rest { self.new ≡ record self.old { table = self.new.table } }
     {
         let Ok(place) = self.table.place_of(txn) else {

@@ -1,6 +1,7 @@
 // Laws on what analysis knows, for the proofs of code above. They do nothing when called.
 ghost use Rattle.analysis.specs.Laws.{OneTable, ActiveIsUnfinished, TableOfUnfinished, OwedOfUnfinished};
-ghost use Rattle.analysis.specs.Taken.{StepsOn, TakenInOrder, TakenBegin, TakenEntries, TakenIsLoser, TakenCommits, TakenTable, TakenPending, AllAreTaken};
+ghost use Rattle.analysis.specs.Taken.{StepsOn, TakenInOrder, TakenBegin, TakenEntries, TakenIsLoser, TakenCommits};
+ghost use Rattle.analysis.specs.Taken.{TakenTable, TakenPending, AllAreTaken};
 
 /// Records say of the active transactions one list: where each has its Begin among them, that of the unfinished ones.
 pub fn table_of_records()
@@ -10,8 +11,8 @@ pub fn table_of_records()
     ensures owed { OwedOfUnfinished }
 {}
 
-/// The records that a restart takes of a sound log step without a refusal, in order, and each transaction that the master
-/// names has its Begin among them.
+/// The records that a restart takes of a sound log step without a refusal, in order, and each transaction that the
+/// master names has its Begin among them.
 pub fn sound_log_steps()
     ensures steps { StepsOn }
     ensures order { TakenInOrder }

@@ -1,5 +1,6 @@
 // The active transactions, in a table.
-ghost use Rattle.std.specs.Prelude.{◌≡◌, ◌+◌, ◌<◌, ◌≤◌, ℕ, List, [], ◌∷◌, ◌++◌, length, map, drop, IfOk, IfErr, OnOk, OnErr, IsErrOf, slice_get, Some, None};
+ghost use Rattle.std.specs.Prelude.{◌≡◌, ◌+◌, ◌<◌, ◌≤◌, ℕ, List, [], ◌∷◌, ◌++◌, length, map, drop, IfOk, IfErr, OnOk};
+ghost use Rattle.std.specs.Prelude.{OnErr, IsErrOf, slice_get, Some, None};
 ghost use Rattle.site.specs.declared.outside.Stop.{Stop};
 ghost use Rattle.analysis.specs.declared.table.Transaction.{Transaction};
 ghost use Rattle.analysis.specs.Open.{Open, found_in, AscendFrom, Changes, TakesOut, IsNext, owed_for, begun};
@@ -9,8 +10,8 @@ use checkpoint::Pairs;
 use site::Stop;
 use std::alloc::Global;
 
-/// An active transaction: the LSNs of its Begin, which names it, of its last record, and of those of its Updates that no
-/// CLR compensates, the greatest last.
+/// An active transaction: the LSNs of its Begin, which names it, of its last record, and of those of its Updates that
+/// no CLR compensates, the greatest last.
 #[derive(Drop)]
 pub struct Transaction {
     pub txn: u64,
@@ -21,7 +22,8 @@ pub struct Transaction {
 impl Transaction {
     // It has one more Update.
     fn update(&mut self, lsn: u64) -> Result<(), Stop>
-        ensures ok { OnOk result (open_of self.new ≡ record (open_of self.old) { last = lsn; updates = lsn ∷ (open_of self.old).updates }) }
+        ensures ok { OnOk result (open_of self.new
+            ≡ record (open_of self.old) { last = lsn; updates = lsn ∷ (open_of self.old).updates }) }
         ensures err { OnErr result (open_of self.new ≡ open_of self.old) }
         ensures stops { IfErr result (λ stop. stop ≡ Stop.Memory) }
     {
@@ -39,7 +41,8 @@ impl Transaction {
         self.updates.last().copied()
     }
 
-    /// The greater of an Update, with its transaction, and the greatest one of this transaction that no CLR compensates.
+    /// The greater of an Update, with its transaction, and the greatest one of this transaction that no CLR
+    /// compensates.
     pub fn later(&self, next: Option<(u64, u64)>) -> Option<(u64, u64)>
         ensures { (table : List Open) → IsNext table next → IsNext (table ++ open_of self.now ∷ []) result }
     {
@@ -60,7 +63,10 @@ impl Transaction {
 
     // Its greatest Update is compensated.
     fn compensate(&mut self, lsn: u64)
-        ensures { open_of self.new ≡ record (open_of self.old) { last = lsn; updates = drop 1 (open_of self.old).updates } }
+        ensures { open_of self.new ≡ record (open_of self.old) {
+          last = lsn;
+          updates = drop 1 (open_of self.old).updates;
+        } }
     {
         self.updates.pop();
         self.last = lsn;

@@ -1,5 +1,6 @@
 -- The pool: a list of frames, the one that was touched last in front.
-use Rattle.std.specs.Prelude.{◌≡◌, ◌≢◌, ℕ, ◌≤◌, ◌==◌, not, Bool, true, false, List, [], ◌∷◌, length, map, filter, find, take, drop, reverse, slice_index_or, slice_set, Option, Some, None, if◌then◌else◌}
+use Rattle.std.specs.Prelude.{◌≡◌, ◌≢◌, ℕ, ◌≤◌, ◌==◌, not, Bool, true, false, List, [], ◌∷◌, length, map, filter, find}
+use Rattle.std.specs.Prelude.{take, drop, reverse, slice_index_or, slice_set, Option, Some, None, if◌then◌else◌}
 use Rattle.std.specs.List.{AllByRecursion}
 use Rattle.slotted_page.specs.Layout.{IsSound, lsn_of, slots_of}
 use Rattle.buffer_pool.specs.declared.frame.Frame.{Frame}

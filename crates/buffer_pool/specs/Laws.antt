@@ -1,7 +1,9 @@
 -- What follows for those who build on pools: where each page's frame is after a change of the list.
-use Rattle.std.specs.Prelude.{◌≡◌, ◌≢◌, ℕ, ◌<◌, ◌==◌, List, [], ◌∷◌, ◌++◌, length, Option, Some, None, option_map, if◌then◌else◌}
+use Rattle.std.specs.Prelude.{◌≡◌, ◌≢◌, ℕ, ◌<◌, ◌==◌, List, [], ◌∷◌, ◌++◌, length, Option, Some, None, option_map}
+use Rattle.std.specs.Prelude.{if◌then◌else◌}
 use Rattle.buffer_pool.specs.declared.frame.Frame.{Frame}
-use Rattle.buffer_pool.specs.Frames.{AreDistinct, frame_of, without, touched, cleared_at, cleared, front_of, ChangesFront}
+use Rattle.buffer_pool.specs.Frames.{AreDistinct, frame_of, without, touched, cleared_at, cleared, front_of}
+use Rattle.buffer_pool.specs.Frames.{ChangesFront}
 
 -- a touch changes the order only
 abbrev pub TouchKeepsFrames : Type 0
@@ -9,11 +11,13 @@ TouchKeepsFrames = (frames : List Frame) (page n : ℕ) → frame_of (touched fr
 
 -- a page that is taken out is gone, and all others are there as before
 abbrev pub WithoutTakesOne : Type 0
-WithoutTakesOne = (frames : List Frame) (page n : ℕ) → frame_of (without frames page) n ≡ (if page == n then None else frame_of frames n)
+WithoutTakesOne = (frames : List Frame) (page n : ℕ)
+    → frame_of (without frames page) n ≡ (if page == n then None else frame_of frames n)
 
 -- a cleared mark changes one frame's mark only
 abbrev pub ClearedKeepsFrames : Type 0
-ClearedKeepsFrames = (frames : List Frame) (page n : ℕ) → frame_of (cleared frames page) n ≡ option_map (cleared_at page) (frame_of frames n)
+ClearedKeepsFrames = (frames : List Frame) (page n : ℕ)
+    → frame_of (cleared frames page) n ≡ option_map (cleared_at page) (frame_of frames n)
 
 -- the last frame is its page's, and no other's
 pub record IsLast (frames : List Frame) (last : Frame) : Type 0 where

@@ -1,6 +1,9 @@
-ghost use Rattle.std.specs.Prelude.{◌≡◌, ◌<◌, ◌≤◌, ◌==◌, ◌↔◌, ◌∷◌, ◌++◌, [], ℕ, List, length, map, IsTrue, true, false, Some, None, IsSome, IsNone, is_some, if◌then◌else◌, IfOk, IfErr, IfSome, IfNone, OnOk, OnErr, OnSome, slice_get, option_map, option_copied};
+ghost use Rattle.std.specs.Prelude.{◌≡◌, ◌<◌, ◌≤◌, ◌==◌, ◌↔◌, ◌∷◌, ◌++◌, [], ℕ, List, length, map, IsTrue, true, false};
+ghost use Rattle.std.specs.Prelude.{Some, None, IsSome, IsNone, is_some, if◌then◌else◌, IfOk, IfErr, IfSome, IfNone};
+ghost use Rattle.std.specs.Prelude.{OnOk, OnErr, OnSome, slice_get, option_map, option_copied};
 ghost use Rattle.slotted_page.specs.Layout.{slots_of, content_length, IsSound, Fits};
-ghost use Rattle.buffer_pool.specs.Frames.{IsPool, frame_of, without, touched, cleared, mark_of, front_of, coldest_changed, ChangesFront};
+ghost use Rattle.buffer_pool.specs.Frames.{IsPool, frame_of, without, touched, cleared, mark_of, front_of};
+ghost use Rattle.buffer_pool.specs.Frames.{coldest_changed, ChangesFront};
 
 use crate::kept::Kept;
 use byte_fields::VALUE_MAX;
@@ -11,7 +14,8 @@ use std::alloc::Global;
 use std::marker::Model;
 use std::num::NonZeroUsize;
 
-/// The pages in memory, the one that was touched last in front, each of them once and at most as many as the pool's size.
+/// The pages in memory, the one that was touched last in front, each of them once and at most as many as the pool's
+/// size.
 #[derive(Drop)]
 pub struct Pool {
     size: u32,
@@ -27,7 +31,8 @@ impl Model for Pool {
 
     ghost view = { λ p. record { size = p.size; frames = frames_in p.pages.entries } };
 
-    ghost invariant = { λ p. (p.pages.cap ≡ p.size) × IsPool (record { size = p.size; frames = frames_in p.pages.entries }) };
+    ghost invariant = { λ p. (p.pages.cap ≡ p.size)
+        × IsPool (record { size = p.size; frames = frames_in p.pages.entries }) };
 }
 
 // Adds a page to others where it is wanted.
@@ -94,11 +99,16 @@ impl Pool {
         self.pages.promote(&page)
     }
 
-    /// Puts a page that isn't there in front, unchanged. The pool isn't full. Where memory is wanting it stays as it was.
+    /// Puts a page that isn't there in front, unchanged. The pool isn't full. Where memory is wanting it stays as it
+    /// was.
     pub fn put(&mut self, page: u32, content: Page) -> Result<(), Stop>
         requires absent { frame_of self.old.frames page ≡ None }
         requires room { length self.old.frames < self.old.size }
-        ensures ok { OnOk result (self.new ≡ record self.old { frames = record { page = page; changed = false; content = content } ∷ self.old.frames }) }
+        ensures ok { OnOk result (self.new
+            ≡ record self.old {
+              frames = record { page = page; changed = false; content = content }
+                  ∷ self.old.frames;
+            }) }
         ensures memory { IfErr result (λ stop. stop ≡ Stop.Memory) }
         ensures err { OnErr result (self.new ≡ self.old) }
     {
@@ -120,8 +130,8 @@ impl Pool {
         Some(&*kept.content)
     }
 
-    /// Changes the page in front: a slot, below 32, gets another content, and the page another LSN. The page is sound, and the
-    /// content fits.
+    /// Changes the page in front: a slot, below 32, gets another content, and the page another LSN. The page is sound,
+    /// and the content fits.
     pub fn change_front(&mut self, slot: u8, value: Option<&[u8]>, lsn: u64)
         requires there { 0 < length self.old.frames }
         requires sound { IsSound (front_of self.old.frames).content }
@@ -144,7 +154,8 @@ impl Pool {
 
     /// Takes out the page that was touched longest ago: its number, whether it was changed, and what it holds.
     pub fn take_coldest(&mut self) -> Option<(u32, bool, Page)>
-        ensures some { IfSome result (λ taken. self.old.frames ≡ self.new.frames ++ record { page = taken.0; changed = taken.1; content = taken.2 } ∷ []) }
+        ensures some { IfSome result (λ taken. self.old.frames
+            ≡ self.new.frames ++ record { page = taken.0; changed = taken.1; content = taken.2 } ∷ []) }
         ensures none { IfNone result (self.old.frames ≡ []) }
         ensures same { IfNone result (self.new ≡ self.old) }
         ensures size { self.new.size ≡ self.old.size }
@@ -153,10 +164,11 @@ impl Pool {
         Some((page, kept.changed, Box::into_inner(kept.content)))
     }
 
-    /// Takes out a page: whether it was changed, and what it holds; none exactly where it isn't there. The others stay in their
-    /// order.
+    /// Takes out a page: whether it was changed, and what it holds; none exactly where it isn't there. The others stay
+    /// in their order.
     pub fn take_page(&mut self, page: u32) -> Option<(bool, Page)>
-        ensures some { IfSome result (λ taken. frame_of self.old.frames page ≡ Some (record { page = page; changed = taken.0; content = taken.1 })) }
+        ensures some { IfSome result (λ taken. frame_of self.old.frames page
+            ≡ Some (record { page = page; changed = taken.0; content = taken.1 })) }
         ensures none { IfNone result (frame_of self.old.frames page ≡ None) }
         ensures same { IfNone result (self.new ≡ self.old) }
         ensures after { self.new ≡ record self.old { frames = without self.old.frames page } }
@@ -213,7 +225,8 @@ impl Pool {
 
     /// The pages that were changed, the one that was touched longest ago in front, so many at most.
     pub fn coldest_changed(&self, alloc: Global, most: usize) -> Result<Vec<u32>, Stop>
-        ensures pages { IfOk result (λ pages. pages.items ≡ map (λ frame. frame.page) (coldest_changed most self.now.frames)) }
+        ensures pages { IfOk result (λ pages. pages.items
+            ≡ map (λ frame. frame.page) (coldest_changed most self.now.frames)) }
         ensures memory { IfErr result (λ stop. stop ≡ Stop.Memory) }
     {
         let mut pages = Vec::new(alloc);

@@ -150,8 +150,8 @@ fn changed_pages_are_listed_from_the_cold_end(rt: HostRuntime) -> Result<(), Fai
     Ok(())
 }
 
-// Where memory is refused to a put the pool stays as it was, and the next put is made. `checks/refused_memory.sh` refuses each
-// allocation in turn, and counts on the line that tells of it.
+// Where memory is refused to a put the pool stays as it was, and the next put is made. `checks/refused_memory.sh`
+// refuses each allocation in turn, and counts on the line that tells of it.
 #[test]
 fn a_refused_put_leaves_the_pool_as_it_was(rt: HostRuntime) -> Result<(), Fail> {
     let Ok(mut pool) = Pool::new(rt.alloc(), 12) else {

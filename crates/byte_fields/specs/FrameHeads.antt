@@ -1,5 +1,6 @@
 -- Heads of frames: their octets, and the rule on the eight heads of a group.
-use Rattle.std.specs.Prelude.{◌≡◌, ℕ, ◌-◌, ◌*◌, ◌^◌, ◌<◌, ◌≤◌, Bool, true, false, IsTrue, ◌⊎◌, List, [], ◌∷◌, ◌++◌, length, take, drop, replicate, flat_map}
+use Rattle.std.specs.Prelude.{◌≡◌, ℕ, ◌-◌, ◌*◌, ◌^◌, ◌<◌, ◌≤◌, Bool, true, false, IsTrue, ◌⊎◌, List, [], ◌∷◌, ◌++◌}
+use Rattle.std.specs.Prelude.{length, take, drop, replicate, flat_map}
 use Rattle.std.specs.List.{AllByRecursion, prefix_len}
 use Rattle.std.specs.Int.{w32, w64, to_be_bytes}
 use Rattle.byte_fields.specs.declared.frame_head.FrameHead.{FrameHead}
@@ -14,7 +15,8 @@ blank = record { present = false; dirty = false; page = 0; lsn = 0 }
 
 -- the octets of a head: two flags, two zeros, the page, and the LSN of the page
 unfoldable pub spelling : FrameHead → List ℕ
-spelling head = flag head.present ∷ flag head.dirty ∷ 0 ∷ 0 ∷ [] ++ to_be_bytes w32 head.page ++ to_be_bytes w64 head.lsn
+spelling head = flag head.present ∷ flag head.dirty ∷ 0 ∷ 0 ∷ [] ++ to_be_bytes w32 head.page
+    ++ to_be_bytes w64 head.lsn
 
 -- a head that isn't present is blank
 abbrev pub HasForm : FrameHead → Type 0

@@ -18,4 +18,5 @@ HaveForm = (heads : List FrameHead) → AreGroupHeads heads → AllByRecursion H
 
 -- those that are present are the first
 abbrev pub PresentAreFirst : Type 0
-PresentAreFirst = (heads : List FrameHead) (i : ℕ) → AreGroupHeads heads → i < 8 → IsTrue (get_or heads i blank).present ↔ (i < present_in_front heads)
+PresentAreFirst = (heads : List FrameHead) (i : ℕ) → AreGroupHeads heads → i < 8
+    → IsTrue (get_or heads i blank).present ↔ (i < present_in_front heads)

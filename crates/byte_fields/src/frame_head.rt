@@ -1,8 +1,10 @@
-ghost use Rattle.std.specs.Prelude.{◌≡◌, ℕ, ◌+◌, ◌*◌, ◌≤◌, List, [], ◌∷◌, length, IfOk, IfErr, OnErr, OnOk, IsTrue, ◌↔◌, Bool};
+ghost use Rattle.std.specs.Prelude.{◌≡◌, ℕ, ◌+◌, ◌*◌, ◌≤◌, List, [], ◌∷◌, length, IfOk, IfErr, OnErr, OnOk, IsTrue};
+ghost use Rattle.std.specs.Prelude.{◌↔◌, Bool};
 ghost use Rattle.std.specs.List.{AllByRecursion};
 ghost use Rattle.byte_fields.specs.declared.frame_head.FrameHead.{FrameHead};
 ghost use Rattle.byte_fields.specs.Writes.{Writes};
-ghost use Rattle.byte_fields.specs.FrameHeads.{flag, blank, spelling, spelling_of_all, HasForm, IsHeadAt, AreHeads, present_in_front, AreGroupHeads};
+ghost use Rattle.byte_fields.specs.FrameHeads.{flag, blank, spelling, spelling_of_all, HasForm, IsHeadAt, AreHeads};
+ghost use Rattle.byte_fields.specs.FrameHeads.{present_in_front, AreGroupHeads};
 
 use crate::{get_u16, get_u32, get_u64, put_u16, put_u32, put_u64};
 
@@ -122,7 +124,8 @@ pub fn write_head(head: &FrameHead, bytes: &mut [u8], at: usize)
 pub fn read_heads(bytes: &[u8], heads: &mut [FrameHead]) -> Result<(), BadHead>
     requires { HEAD_LEN * length heads.old ≤ length bytes.now }
     ensures found { OnOk result (AreHeads bytes.now heads.new) }
-    ensures bad { OnErr result ((other : List FrameHead) → length other ≡ length heads.old → AreHeads bytes.now other → ⊥) }
+    ensures bad { OnErr result ((other : List FrameHead) → length other ≡ length heads.old
+        → AreHeads bytes.now other → ⊥) }
 {
     for place in 0..heads.len() {
         heads[place] = read_head(bytes, HEAD_LEN * place)?;

@@ -9,7 +9,8 @@ no_pair = record { begin = 0; last = 0 }
 
 -- the LSNs of the Begins ascend
 abbrev pub Ascend : List Pair → Type 0
-Ascend pairs = (i : ℕ) → i + 1 < length pairs → (slice_index_or pairs i no_pair).begin < (slice_index_or pairs (i + 1) no_pair).begin
+Ascend pairs = (i : ℕ) → i + 1 < length pairs
+    → (slice_index_or pairs i no_pair).begin < (slice_index_or pairs (i + 1) no_pair).begin
 
 abbrev pub pair_spelling : Pair → List ℕ
 pair_spelling pair = to_be_bytes w64 pair.begin ++ to_be_bytes w64 pair.last

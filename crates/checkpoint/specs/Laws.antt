@@ -29,7 +29,8 @@ BlankHasNone = (g : Geometry) → HasLimits g → HasMaster (blank_image g) blan
 -- the unit that was appended last is the newest one
 abbrev pub AppendedIsNewest : Type 0
 AppendedIsNewest =
-    (image : Image) (units : Units) (content : List ℕ) (m : Master) → IsUnit content m → units_on master_shape image ≡ appended master_shape units content → HasMaster image m
+    (image : Image) (units : Units) (content : List ℕ) (m : Master) → IsUnit content m
+    → units_on master_shape image ≡ appended master_shape units content → HasMaster image m
 
 -- changes that leave the units of the master ring leave its newest master
 abbrev pub KeptBeside : Type 0

@@ -26,4 +26,9 @@ HasMaster image m = IsOf (newest_of (units_on master_shape image).live) m
 
 -- a master as the laws of logs see it
 abbrev pub seen : Master → sound.Master
-seen m = record { redo = m.redo; kept = m.kept; commits = m.commits; active = map (λ pair. record { begin = pair.begin; last = pair.last }) m.active }
+seen m = record {
+  redo = m.redo;
+  kept = m.kept;
+  commits = m.commits;
+  active = map (λ pair. record { begin = pair.begin; last = pair.last }) m.active;
+}

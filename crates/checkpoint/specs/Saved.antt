@@ -19,4 +19,5 @@ pub record LeavesMaster (old : State) (m : Master) (snapshot : Snapshot) : Type 
   pub form : IsRing master_shape snapshot.image.log
   pub either : KeepsMaster old.image snapshot.image ⊎ HasMaster snapshot.image m
   pub beside : SameOutside master_shape old.image.log snapshot.image.log
-  pub others : (dev : Dev) → dev ≢ Log → MayStand (loose_of dev old.loose) (content_of dev old.image) (content_of dev snapshot.image)
+  pub others : (dev : Dev) → dev ≢ Log
+      → MayStand (loose_of dev old.loose) (content_of dev old.image) (content_of dev snapshot.image)

@@ -1,5 +1,6 @@
 -- The content of a master unit.
-use Rattle.std.specs.Prelude.{◌≡◌, ℕ, zero, suc, ◌-◌, ◌^◌, ◌<◌, ◌≤◌, List, [], ◌∷◌, ◌++◌, length, take, drop, replicate, get_or}
+use Rattle.std.specs.Prelude.{◌≡◌, ℕ, zero, suc, ◌-◌, ◌^◌, ◌<◌, ◌≤◌, List, [], ◌∷◌, ◌++◌, length, take, drop, replicate}
+use Rattle.std.specs.Prelude.{get_or}
 use Rattle.std.specs.List.{AllByRecursion}
 use Rattle.std.specs.Int.{w64, from_be_bytes, to_be_bytes}
 use Rattle.checkpoint.specs.declared.TheConstants.{UNIT_LEN}
@@ -9,7 +10,8 @@ use Rattle.checkpoint.specs.Actives.{Ascend, FitsFields, spelling_of_all}
 
 -- the three numbers, how many transactions were active, and these
 unfoldable pub spelling : Master → List ℕ
-spelling m = to_be_bytes w64 m.redo ++ to_be_bytes w64 m.kept ++ to_be_bytes w64 m.commits ++ length m.active ∷ [] ++ spelling_of_all m.active
+spelling m = to_be_bytes w64 m.redo ++ to_be_bytes w64 m.kept ++ to_be_bytes w64 m.commits ++ length m.active ∷ []
+    ++ spelling_of_all m.active
 
 -- zeros follow
 unfoldable pub unit : Master → List ℕ

@@ -8,8 +8,8 @@ pub fn one_master()
     ensures newest { OneNewest }
 {}
 
-/// Blank devices have the blank master, a unit that is appended is the newest one, and changes beside the master ring leave
-/// the newest one.
+/// Blank devices have the blank master, a unit that is appended is the newest one, and changes beside the master ring
+/// leave the newest one.
 pub fn stays_newest()
     ensures blank { BlankHasNone }
     ensures appended { AppendedIsNewest }

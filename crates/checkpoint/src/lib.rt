@@ -1,4 +1,5 @@
-//! Master units: where a restart begins. Each checkpoint appends one to the master ring, at the front of the log device.
+//! Master units: where a restart begins. Each checkpoint appends one to the master ring, at the front of the log
+//! device.
 #![tactic(auto)]
 
 mod codec;

@@ -1,5 +1,6 @@
 // The newest master of the devices: reading it, and saving a newer one.
-ghost use Rattle.std.specs.Prelude.{◌≡◌, ◌≢◌, ◌⊎◌, ◌↔◌, ◌+◌, ◌^◌, ◌≤◌, [], ◌∷◌, length, true, false, IsTrue, IfOk, OnOk, OnErr, IfErr, IsErrOf};
+ghost use Rattle.std.specs.Prelude.{◌≡◌, ◌≢◌, ◌⊎◌, ◌↔◌, ◌+◌, ◌^◌, ◌≤◌, [], ◌∷◌, length, true, false, IsTrue, IfOk};
+ghost use Rattle.std.specs.Prelude.{OnOk, OnErr, IfErr, IsErrOf};
 ghost use Rattle.site.specs.declared.outside.Dev.{Dev};
 ghost use Rattle.site.specs.declared.outside.Stop.{Stop};
 ghost use Rattle.site.specs.declared.geometry.Geometry.{Geometry};
@@ -136,7 +137,8 @@ pub fn save<S: Site>(site: &mut S, ring: &mut Ring, master: &Master) -> Result<(
         → OnOk result (HasMaster (S.state site.new).image master.now) }
     ensures reaches { (g : Geometry) → HasLimits g → HasLengths g (S.state site.old).image
         → IsTrue (S.state site.old).honest → Finds ring.old (S.state site.old)
-        → OnOk result (Reaches g (AppendsMaster (unit master.now) ∷ []) (S.state site.old).image (S.state site.new).image) }
+        → OnOk result (Reaches g (AppendsMaster (unit master.now) ∷ []) (S.state site.old).image
+        (S.state site.new).image) }
     ensures stands { IsTrue (S.state site.old).honest → Finds ring.old (S.state site.old)
         → OnOk result (units_on master_shape (S.state site.new).image
         ≡ appended master_shape (units_on master_shape (S.state site.old).image) (unit master.now)) }

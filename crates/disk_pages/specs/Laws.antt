@@ -13,7 +13,8 @@ pub record HasWritten (page : ℕ) (octets old new : List ℕ) : Type 0 where
   pub beside : (place : ℕ) → IsBesidePage page place → slice_index new place ≡ slice_index old place
 
 abbrev pub PageIsWritten : Type 0
-PageIsWritten = (page : ℕ) (octets disk : List ℕ) → LiesOn page disk → length octets ≡ 4096 → HasWritten page octets disk (with_page page octets disk)
+PageIsWritten = (page : ℕ) (octets disk : List ℕ) → LiesOn page disk → length octets ≡ 4096
+    → HasWritten page octets disk (with_page page octets disk)
 
 -- a page whose octets stay is the page that it was
 abbrev pub PageStays : Type 0
@@ -24,4 +25,5 @@ PageStays =
 
 -- so is each page beside one that was written
 abbrev pub OthersStay : Type 0
-OthersStay = (page other : ℕ) (octets old new : List ℕ) → other ≢ page → LiesOn other old → HasWritten page octets old new → page_on other new ≡ page_on other old
+OthersStay = (page other : ℕ) (octets old new : List ℕ) → other ≢ page → LiesOn other old
+    → HasWritten page octets old new → page_on other new ≡ page_on other old

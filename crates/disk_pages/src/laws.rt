@@ -1,4 +1,5 @@
-// Laws on the pages of a disk, for the proofs of code above; their lemmas stand in proofs/. They do nothing when called.
+// Laws on the pages of a disk, for the proofs of code above; their lemmas stand in proofs/. They do nothing when
+// called.
 ghost use Rattle.disk_pages.specs.Laws.{PageIsWritten, PageStays, OthersStay};
 
 /// Law: a written page has its octets, and all octets beside it stay.

@@ -45,8 +45,8 @@ pub fn read_page<S: Site>(site: &mut S, page: u32, into: &mut [u8]) -> Result<()
     Ok(())
 }
 
-/// Writes 4,096 octets as a page of the disk, by one write. Until a sync the page is loose: a crash may leave any octets
-/// there. The one error is that of the disk.
+/// Writes 4,096 octets as a page of the disk, by one write. Until a sync the page is loose: a crash may leave any
+/// octets there. The one error is that of the disk.
 pub fn write_page<S: Site>(site: &mut S, page: u32, from: &[u8]) -> Result<(), Stop>
     requires lies { LiesOn page (S.state site.old).image.disk }
     requires room { length from.now ≡ 4096 }

@@ -21,7 +21,8 @@ use Rattle.engine.specs.Going.{MayGoOn, sizes_of}
 use Rattle.engine.specs.Fits.{Fits}
 use Rattle.engine.specs.Numbers.{CountsOn}
 
--- How a call ends on an honest site that stands for something: each crash meanwhile leaves P, and no error comes but for its cause.
+-- How a call ends on an honest site that stands for something: each crash meanwhile leaves P, and no error comes but
+-- for its cause.
 pub record Ends {T : Type 0} (result : Result T Stop) (g : Geometry) (before now : Site)
     (P : Snapshot → Type 0) : Type 0 where
   pub any_moment : IsQuiet before → LeavesOnly before now P
@@ -37,8 +38,8 @@ pub record Serves {T : Type 0} (result : Result T Stop) (old new : Engine) (befo
   pub sizes : sizes_of new.store ≡ sizes_of old.store
   pub stops : IfErr result (λ stop. MayStop stop)
 
--- The same call on an honest site that the database fits in this state: it takes it to that state, each crash meanwhile leaves P, and no
--- error comes but for its cause.
+-- The same call on an honest site that the database fits in this state: it takes it to that state, each crash meanwhile
+-- leaves P, and no error comes but for its cause.
 pub record Does {T : Type 0} (result : Result T Stop) (old new : Engine) (before now : Site) (s after : State)
     (P : Snapshot → Type 0) (checkpoints : ℕ) : Type 0 where
   pub after_fits : OnOk result (Fits new now after)

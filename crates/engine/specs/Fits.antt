@@ -1,5 +1,6 @@
 -- The database of an honest site, and the model's state.
-use Rattle.std.specs.Prelude.{◌≡◌, ℕ, ◌+◌, ◌<◌, List, [], ◌∷◌, length, Option, Some, None, option_map, IsTrue, ⊤, Bool, true, false, if◌then◌else◌}
+use Rattle.std.specs.Prelude.{◌≡◌, ℕ, ◌+◌, ◌<◌, List, [], ◌∷◌, length, Option, Some, None, option_map, IsTrue, ⊤, Bool}
+use Rattle.std.specs.Prelude.{true, false, if◌then◌else◌}
 use Rattle.site.specs.State.{State as Site}
 use Rattle.record_model.specs.State.{Session, State, Write, session_at, kept_by_checkpoint}
 use Rattle.record_model.specs.State as model
@@ -21,8 +22,10 @@ use Rattle.log_records.specs.Unfinished as unfinished
 use Rattle.engine.specs.declared.engine.Engine.{Engine}
 use Rattle.redo_undo.specs.Stores.{Holds}
 
--- a session's transaction: it is open, was never undone, and has made the session's writes; records are counted from the oldest kept one on
-pub record IsUnderWay (newest : Option Master) (kept : ℕ) (records : List Entry) (entry : Active) (session : Session) : Type 0 where
+-- a session's transaction: it is open, was never undone, and has made the session's writes; records are counted from
+-- the oldest kept one on
+pub record IsUnderWay (newest : Option Master) (kept : ℕ) (records : List Entry) (entry : Active)
+    (session : Session) : Type 0 where
   pub is_active : IsActive (master_of newest) records entry.begin entry.last session.writes
   pub born : entry.born + kept ≡ session.born
   pub count : entry.writes ≡ length session.writes
@@ -37,10 +40,12 @@ SessionIs newest kept records _ _ = ⊥
 pub record SessionsAre (newest : Option Master) (records : List Entry) (active : List Active) (s : State) : Type 0 where
   pub count : length s.sessions ≡ 8
   pub each : (n : ℕ) → SessionIs newest s.kept records (entry_of active n) (session_at s n)
-  pub all : (t : ℕ) → IsTrue (is_loser records t) → (n : ℕ) × (entry : Active) × (entry_of active n ≡ Some entry) × (entry.begin ≡ t)
+  pub all : (t : ℕ) → IsTrue (is_loser records t) → (n : ℕ) × (entry : Active) × (entry_of active n ≡ Some entry)
+      × (entry.begin ≡ t)
   -- what undo may take
   pub owes : unfinished.owed records ≡ entries.owed active
-  pub differ : (n m : ℕ) (a b : Active) → entry_of active n ≡ Some a → entry_of active m ≡ Some b → a.begin ≡ b.begin → n ≡ m
+  pub differ : (n m : ℕ) (a b : Active) → entry_of active n ≡ Some a → entry_of active m ≡ Some b
+      → a.begin ≡ b.begin → n ≡ m
 
 -- the locks are the model's writes and reads
 pub record LocksAre (held : List Lock) (s : State) : Type 0 where
@@ -89,11 +94,13 @@ with_reads s n numbers = with_session s n (option_map (having_read numbers) (ses
 
 -- where no checkpoint comes first, a command is refused: it changes nothing, and asks nothing of the cache
 abbrev pub IsRefusedWith : State → Command → Reply → Type 0
-IsRefusedWith s command reply = (run_now s command ≡ record { after = s; reply = reply }) × (command_touches false s command ≡ [])
+IsRefusedWith s command reply = (run_now s command ≡ record { after = s; reply = reply })
+    × (command_touches false s command ≡ [])
 
 -- where no checkpoint comes first, it is carried out, and touches the pages of its records
 abbrev pub IsCarriedOut : State → Command → Type 0
-IsCarriedOut s command = (run_now s command ≡ record { after = effect s command; reply = answer s command [] }) × (command_touches false s command ≡ record_touches s command)
+IsCarriedOut s command = (run_now s command ≡ record { after = effect s command; reply = answer s command [] })
+    × (command_touches false s command ≡ record_touches s command)
 
 -- so it is in whatever state the database stands for
 abbrev pub Refuses : Engine → Command → Reply → Type 0

@@ -16,4 +16,5 @@ listing_of engine = listing (cache_of engine.store.pages)
 
 -- a restart would find the queue of the database's cache on flash, in its groups and with its dirty marks
 abbrev pub QueueIsOnFlash : Type 0
-QueueIsOnFlash = (engine : Engine) (site : Site) (s : State) → Fits engine site s → cache_on (sizes_of engine.store) site.image ≡ opened (cache_of engine.store.pages).queue
+QueueIsOnFlash = (engine : Engine) (site : Site) (s : State) → Fits engine site s
+    → cache_on (sizes_of engine.store) site.image ≡ opened (cache_of engine.store.pages).queue

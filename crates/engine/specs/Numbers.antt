@@ -21,20 +21,22 @@ use Rattle.engine.specs.Fits.{Fits}
 abbrev pub checkpoints_by : State → Command → ℕ
 checkpoints_by s command = if makes_checkpoint true s command then 1 else 0
 
--- A call takes the model from one state to another, with so many checkpoints. However it ends, the ring of the log's blocks has at most
--- one number more for each record that the model counts, beside the one for the tail that the call found, and the ring of the master
--- units at most one for each checkpoint. At Ok the blocks are no more than that with the tail that it leaves, too, and each checkpoint
--- has its master unit.
-pub record CountsOn {T E : Type 0} (result : Result T E) (old new : Engine) (before now : Site) (s after : State) (checkpoints : ℕ) : Type 0 where
+-- A call takes the model from one state to another, with so many checkpoints. However it ends, the ring of the log's
+-- blocks has at most one number more for each record that the model counts, beside the one for the tail that the call
+-- found, and the ring of the master units at most one for each checkpoint. At Ok the blocks are no more than that with
+-- the tail that it leaves, too, and each checkpoint has its master unit.
+pub record CountsOn {T E : Type 0} (result : Result T E) (old new : Engine) (before now : Site) (s after : State)
+    (checkpoints : ℕ) : Type 0 where
   pub log : OnOk result (blocks_to new.store.log + s.made ≤ blocks_to old.store.log + after.made)
   pub blocks : hi_of (log_shape (sizes_of old.store)) now.image.log + s.made ≤ blocks_to old.store.log + after.made
   pub masters : hi_of master_shape now.image.log ≤ hi_of master_shape before.image.log + checkpoints
   pub saved : OnOk result (hi_of master_shape now.image.log ≡ hi_of master_shape before.image.log + checkpoints)
 
--- A restart on these records. However it ends, the ring of the log's blocks has at most one number more for each record that undo owes,
--- and the ring of the master units one for its checkpoint. At Ok the blocks are no more than that with the tail, too, and the master
--- unit is there.
-pub record RestartsWithin {T : Type 0} (result : Result T Stop) (log_of : T → LogStore) (g : Geometry) (records : List Entry) (before now : Site) : Type 0 where
+-- A restart on these records. However it ends, the ring of the log's blocks has at most one number more for each record
+-- that undo owes, and the ring of the master units one for its checkpoint. At Ok the blocks are no more than that with
+-- the tail, too, and the master unit is there.
+pub record RestartsWithin {T : Type 0} (result : Result T Stop) (log_of : T
+    → LogStore) (g : Geometry) (records : List Entry) (before now : Site) : Type 0 where
   pub log : IfOk result (λ x. blocks_to (log_of x) ≤ hi_of (log_shape g) before.image.log + unfinished.owed records)
   pub blocks : hi_of (log_shape g) now.image.log ≤ hi_of (log_shape g) before.image.log + unfinished.owed records
   pub masters : hi_of master_shape now.image.log ≤ hi_of master_shape before.image.log + 1
@@ -42,4 +44,5 @@ pub record RestartsWithin {T : Type 0} (result : Result T Stop) (log_of : T → 
 
 -- where nothing is called, nothing is counted
 abbrev pub RestCountsNothing : Type 0
-RestCountsNothing = (result : Result Reply Stop) (engine : Engine) (site : Site) (s : State) → Fits engine site s → MayGoOn engine site → CountsOn result engine engine site site s s 0
+RestCountsNothing = (result : Result Reply Stop) (engine : Engine) (site : Site) (s : State) → Fits engine site s
+    → MayGoOn engine site → CountsOn result engine engine site site s s 0

@@ -12,7 +12,8 @@ use Rattle.redo_undo.specs.Stores.{Holds}
 use Rattle.redo_undo.specs.StoreRollback.{ConcernsOnly}
 
 -- Behind these records a new transaction has written one record of the table, and isn't committed yet.
-pub record HasOneWrite (store : Store) (site : State) (newest : Option Master) (records : List Entry) (table : List Content) (commits txn number : ℕ) (after : Content) : Type 0 where
+pub record HasOneWrite (store : Store) (site : State) (newest : Option Master) (records : List Entry)
+    (table : List Content) (commits txn number : ℕ) (after : Content) : Type 0 where
   pub log : List Entry
   pub fresh : IsFresh txn records
   pub concerns : ConcernsOnly newest txn records log

@@ -33,16 +33,20 @@ cache_on g image = record { pool = []; queue = queue_on g image }
 abbrev pub restart_works : Picture → List CacheWork
 restart_works p = redo_works p ++ undo_works p.log ++ checkpoint_works
 
--- A crash meanwhile leaves no more groups than this work appends, beginning with a cache, and each disk page that it doesn't stage as it
--- was.
+-- A crash meanwhile leaves no more groups than this work appends, beginning with a cache, and each disk page that it
+-- doesn't stage as it was.
 abbrev pub WritesFrom : Geometry → Rules → List CacheWork → Cache → State → State → Type 0
 WritesFrom g r works start before now =
-    LeavesOnly before now (λ s. WritesOnly g (staged_by_works r works start) (next_group (after_works r works start)) before.image s.image)
+    LeavesOnly before now (λ s. WritesOnly g (staged_by_works r works start) (next_group (after_works r works start))
+    before.image s.image)
 
--- A call that opens pages asks for this work, beginning with a cache. At Ok the machine has done it. It answers that flash is worn only
--- where the work overflows. Beside so many reads of flash that find the queue it reads no more pages than the work needs.
-pub record AsksFrom {T : Type 0} (result : Result T Stop) (pages : T → PageStore) (r : Rules) (works : List CacheWork) (start : Cache) (scanned : ℕ) (before now : State) : Type 0 where
+-- A call that opens pages asks for this work, beginning with a cache. At Ok the machine has done it. It answers that
+-- flash is worn only where the work overflows. Beside so many reads of flash that find the queue it reads no more pages
+-- than the work needs.
+pub record AsksFrom {T : Type 0} (result : Result T Stop) (pages : T
+    → PageStore) (r : Rules) (works : List CacheWork) (start : Cache) (scanned : ℕ) (before now : State) : Type 0 where
   pub machine : IfOk result (λ x. (cache_of (pages x) ≡ after_works r works start) × (rules (pages x) ≡ r))
   pub worn : IsErrOf result (Worn Flash) → Overflows r works start
-  pub flash : now.flash_reads + 12 * next_group start ≤ before.flash_reads + scanned + 12 * next_group (after_works r works start) + finds_in r works start
+  pub flash : now.flash_reads + 12 * next_group start
+      ≤ before.flash_reads + scanned + 12 * next_group (after_works r works start) + finds_in r works start
   pub disk : now.disk_reads ≤ before.disk_reads + misses_in r works start

@@ -44,8 +44,8 @@ pub record IsReady (opened : Opened) (site : State) (newest : Option Master) (bl
   pub masters : Finds opened.masters site
   pub opened_is : IsOpened opened.pages.flash.geometry opened.log opened.pages site newest blocks table commits
 
--- An honest site stands after a restart for the table that its blocks stood for before. Nothing is unfinished, a checkpoint was made, and
--- no record counts.
+-- An honest site stands after a restart for the table that its blocks stood for before. Nothing is unfinished, a
+-- checkpoint was made, and no record counts.
 pub record RestartedAs (restarted : Restarted) (site : State) (table : List Content) (commits : ℕ) : Type 0 where
   pub newest : Option Master
   pub records : List Entry
@@ -54,7 +54,8 @@ pub record RestartedAs (restarted : Restarted) (site : State) (table : List Cont
   pub made : restarted.store.made ≡ 0
   pub commits_are : restarted.commits ≡ commits
 
--- A restart on every site, over a pool of so many pages: log and pages may go on, no record counts, and the log has room.
+-- A restart on every site, over a pool of so many pages: log and pages may go on, no record counts, and the log has
+-- room.
 pub record Restarts (result : Result Restarted Stop) (size : ℕ) (before now : State) : Type 0 where
   pub calls : Calls result before now
   pub going : IfOk result (λ restarted. MayWork restarted.store now)

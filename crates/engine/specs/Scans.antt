@@ -10,7 +10,8 @@ use Rattle.lock_table.specs.Locks.{busy_read}
 
 -- the reply for the first of these records that another session has written, if there is one
 abbrev pub first_busy : List Lock → ℕ → List ℕ → Option Reply
-first_busy held session numbers = first_refusal (map (λ number. option_map reply.Busy (busy_read held (Some session) number)) numbers)
+first_busy held session numbers =
+    first_refusal (map (λ number. option_map reply.Busy (busy_read held (Some session) number)) numbers)
 
 -- those of these records that have a value in a session's eyes, with what they have
 abbrev pub items_seen : State → ℕ → List ℕ → List Item

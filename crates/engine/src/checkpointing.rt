@@ -24,9 +24,11 @@ use redo_undo::{hold_together, sessions_outlive};
 use site::{Site, Stop};
 
 impl Engine {
-    /// Whether a session's begin makes a checkpoint first: it may begin, but for the log's room, and a checkpoint is due.
+    /// Whether a session's begin makes a checkpoint first: it may begin, but for the log's room, and a checkpoint is
+    /// due.
     pub(crate) fn wants_checkpoint_to_begin(&self, session: u32) -> bool
-        ensures { (s : State) (site : Site) → Fits self.now site s → result ≡ makes_checkpoint true s (Command.Begin session) }
+        ensures { (s : State) (site : Site) → Fits self.now site s
+            → result ≡ makes_checkpoint true s (Command.Begin session) }
     {
         if session >= SESSIONS {
             return false;
@@ -40,7 +42,8 @@ impl Engine {
     /// Whether a set makes a checkpoint first: it isn't refused, but for the log's room, and a checkpoint is due.
     pub fn wants_checkpoint_to_set(&self, number: u32, value: &Octets) -> bool
         requires going { (site : Site) × MayGoOn self.now site }
-        ensures { (s : State) (site : Site) → Fits self.now site s → result ≡ makes_checkpoint true s (Command.Set number value.now) }
+        ensures { (s : State) (site : Site) → Fits self.now site s
+            → result ≡ makes_checkpoint true s (Command.Set number value.now) }
     {
         if self.store.lacks(number) {
             return false;
@@ -54,7 +57,8 @@ impl Engine {
         self.is_due()
     }
 
-    // Makes a checkpoint: the active sessions' transactions are named, and the records that none of them needs count no more.
+    // Makes a checkpoint: the active sessions' transactions are named, and the records that none of them needs count no
+    // more.
     fn carry_out_checkpoint<S: Site>(&mut self, site: &mut S) -> Result<(), Stop>
         requires going { MayGoOn self.old (S.state site.old) }
 
@@ -109,8 +113,9 @@ impl Engine {
         }
     }
 
-    /// A checkpoint: what is unsealed in the log is sealed, all changed pages are flushed to flash and none to disk, and a master is saved
-    /// that names the active sessions' transactions. Then the log may write over the blocks that none of them needs.
+    /// A checkpoint: what is unsealed in the log is sealed, all changed pages are flushed to flash and none to disk,
+    /// and a master is saved that names the active sessions' transactions. Then the log may write over the blocks that
+    /// none of them needs.
     pub fn checkpoint<S: Site>(&mut self, site: &mut S) -> Result<Reply, Stop>
         requires going { MayGoOn self.old (S.state site.old) }
 

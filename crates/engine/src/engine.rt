@@ -1,5 +1,6 @@
 // The database.
-ghost use Rattle.std.specs.Prelude.{Option, ◌≡◌, ◌+◌, ◌*◌, ◌/◌, ◌^◌, ◌<◌, ◌≤◌, nat_le, List, true, false, Some, None, option_map, IsTrue, IfSome, IfNone, IfOk, IfErr, ℕ};
+ghost use Rattle.std.specs.Prelude.{Option, ◌≡◌, ◌+◌, ◌*◌, ◌/◌, ◌^◌, ◌<◌, ◌≤◌, nat_le, List, true, false, Some, None};
+ghost use Rattle.std.specs.Prelude.{option_map, IsTrue, IfSome, IfNone, IfOk, IfErr, ℕ};
 ghost use Rattle.site.specs.declared.outside.Stop.{Stop};
 ghost use Rattle.site.specs.declared.geometry.Geometry.{Geometry};
 ghost use Rattle.site.specs.State.{State as Site, IsQuiet};
@@ -52,7 +53,8 @@ pub struct Engine {
 }
 
 impl Engine {
-    /// Restart: reads the log, redoes what its pages lack, undoes what it leaves unfinished, makes a checkpoint, and answers the database.
+    /// Restart: reads the log, redoes what its pages lack, undoes what it leaves unfinished, makes a checkpoint, and
+    /// answers the database.
     /// It keeps so many pages in memory, 1 to 4,096.
     pub fn start<S: Site>(alloc: Global, site: &mut S, pool: u32) -> Result<Engine, Stop>
         requires pool { (1 ≤ pool) × (pool ≤ 4096) }
@@ -67,16 +69,22 @@ impl Engine {
             → Ends result g (S.state site.old) (S.state site.new)
             (LeavesTable g table commits (S.state site.old).told) }
         ensures numbers { IsTrue (S.state site.old).honest → IsQuiet (S.state site.old)
-            → (g : Geometry) (newest : Option Master) (blocks : List (List LogRecord)) → IsSound newest g (S.state site.old).image blocks
-            → RestartsWithin result (λ engine. engine.store.log) g (log_under newest blocks) (S.state site.old) (S.state site.new) }
+            → (g : Geometry) (newest : Option Master) (blocks : List (List LogRecord))
+            → IsSound newest g (S.state site.old).image blocks
+            → RestartsWithin result (λ engine. engine.store.log) g (log_under newest blocks) (S.state site.old)
+            (S.state site.new) }
         ensures asks { IsTrue (S.state site.old).honest
-            → (g : Geometry) (newest : Option Master) (blocks : List (List LogRecord)) → IsSound newest g (S.state site.old).image blocks
+            → (g : Geometry) (newest : Option Master) (blocks : List (List LogRecord))
+            → IsSound newest g (S.state site.old).image blocks
             → AsksFrom result (λ engine. engine.store.pages) (rules_of pool g.groups)
-            (restart_works (picture_under newest g (S.state site.old).image blocks)) (cache_on g (S.state site.old).image)
+            (restart_works (picture_under newest g (S.state site.old).image blocks))
+            (cache_on g (S.state site.old).image)
             (start_reads g) (S.state site.old) (S.state site.new) }
         ensures writes { IsTrue (S.state site.old).honest → IsQuiet (S.state site.old)
-            → (g : Geometry) (newest : Option Master) (blocks : List (List LogRecord)) → IsSound newest g (S.state site.old).image blocks
-            → WritesFrom g (rules_of pool g.groups) (restart_works (picture_under newest g (S.state site.old).image blocks))
+            → (g : Geometry) (newest : Option Master) (blocks : List (List LogRecord))
+            → IsSound newest g (S.state site.old).image blocks
+            → WritesFrom g (rules_of pool g.groups)
+            (restart_works (picture_under newest g (S.state site.old).image blocks))
             (cache_on g (S.state site.old).image) (S.state site.old) (S.state site.new) }
 
         // Of every site.
@@ -167,11 +175,13 @@ impl Engine {
         self.store.made >= self.cap / 2
     }
 
-    /// The listing of the page cache: the frames of its queue, the oldest group first, and then the pages in memory. It changes nothing.
+    /// The listing of the page cache: the frames of its queue, the oldest group first, and then the pages in memory. It
+    /// changes nothing.
     pub fn cache(&self) -> Result<Reply, Stop>
         requires going { (site : Site) × MayGoOn self.now site }
         ensures listing { IfOk result (λ reply. reply ≡ Reply.Listing (listing_of self.now)) }
-        ensures model { (s : State) → IfOk result (λ reply. step true s Command.Cache (listing_of self.now) ≡ record { after = s; reply = reply }) }
+        ensures model { (s : State) → IfOk result (λ reply. step true s Command.Cache (listing_of self.now)
+            ≡ record { after = s; reply = reply }) }
         ensures stops { IfErr result (λ stop. stop ≡ Stop.Memory) }
     {
         match self.store.pages.listing() {

@@ -1,5 +1,5 @@
-// Laws on the numbers of the rings, the queue and the versions, for the proofs of code above; their lemmas stand in proofs/. They do nothing when
-// called.
+// Laws on the numbers of the rings, the queue and the versions, for the proofs of code above; their lemmas stand in
+// proofs/. They do nothing when called.
 ghost use Rattle.engine.specs.Listings.{QueueIsOnFlash};
 ghost use Rattle.engine.specs.Numbers.{RestCountsNothing};
 ghost use Rattle.engine.specs.SeenVersions.{WhereItFits};
@@ -18,8 +18,8 @@ pub fn queue_is_on_flash()
     content_frames();
 }
 
-/// Law: where the database stands for a state, each slot of the version of a page that the pool doesn't hold as changed has
-/// what is seen of its record: by the session that has written it, or in the table where none has.
+/// Law: where the database stands for a state, each slot of the version of a page that the pool doesn't hold as changed
+/// has what is seen of its record: by the session that has written it, or in the table where none has.
 pub fn versions_are_seen()
     ensures { WhereItFits }
 {}

@@ -1,5 +1,6 @@
-//! The database: sessions, record locks, and the log and the pages under them. Each call answers what the model answers and leaves what
-//! the model leaves; a crash at any moment leaves devices that stand for a table after a prefix of the commits.
+//! The database: sessions, record locks, and the log and the pages under them. Each call answers what the model answers
+//! and leaves what the model leaves; a crash at any moment leaves devices that stand for a table after a prefix of the
+//! commits.
 #![tactic(auto)]
 
 mod checkpointing;

@@ -1,5 +1,6 @@
 // Records are read, in a session and outside of one.
-ghost use Rattle.std.specs.Prelude.{Option, map, ◌≡◌, ◌+◌, ◌/◌, ◌<◌, true, false, Some, None, IfSome, IfNone, IfOk, OnOk, OnErr, IsErrOf};
+ghost use Rattle.std.specs.Prelude.{Option, map, ◌≡◌, ◌+◌, ◌/◌, ◌<◌, true, false, Some, None, IfSome, IfNone, IfOk};
+ghost use Rattle.std.specs.Prelude.{OnOk, OnErr, IsErrOf};
 ghost use Rattle.std.specs.List.{range_with_len};
 ghost use Rattle.site.specs.declared.outside.Dev.{Dev};
 ghost use Rattle.site.specs.declared.outside.Stop.{Stop};
@@ -156,7 +157,8 @@ impl Engine {
         ensures serves { Serves result self.old self.new (S.state site.old) (S.state site.new) }
         ensures ended { OnErr result (self.new.ended ≡ true) }
         ensures worn_flash { IsErrOf result (Stop.Worn Dev.Flash)
-            → Overflows (rules self.old.store.pages) (map read_touch (range_with_len number count)) (cache_of self.old.store.pages) }
+            → Overflows (rules self.old.store.pages) (map read_touch (range_with_len number count))
+            (cache_of self.old.store.pages) }
     {
         hold_together();
         if let Some(refused) = self.scan_refusal(session, number, count) {
@@ -192,7 +194,8 @@ impl Engine {
 
         // Of every site.
         ensures serves { Serves result self.old self.new (S.state site.old) (S.state site.new) }
-        ensures asks { Asks result (map read_touch (range_with_len number count)) self.old.store.pages self.new.store.pages
+        ensures asks { Asks result (map read_touch (range_with_len number count)) self.old.store.pages
+            self.new.store.pages
             (S.state site.old) (S.state site.new) }
     {
         hold_together();

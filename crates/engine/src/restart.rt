@@ -109,12 +109,14 @@ fn open<S: Site>(
         → Means (picture_under newest geometry.now (S.state site.old).image blocks) table commits
         → IfOk result (λ opened. IsReady opened (S.state site.new) newest blocks table commits) }
     ensures readable { IsTrue (S.state site.old).honest
-        → (newest : Option Master) (blocks : List (List LogRecord)) → IsSound newest geometry.now (S.state site.old).image blocks
+        → (newest : Option Master) (blocks : List (List LogRecord))
+        → IsSound newest geometry.now (S.state site.old).image blocks
         → IsErrOf result Stop.Foreign → ⊥ }
     ensures same { IsTrue (S.state site.old).honest
         → IsUnchanged (S.state site.old) (S.state site.new) }
     ensures cache { IsTrue (S.state site.old).honest
-        → (newest : Option Master) (blocks : List (List LogRecord)) → IsSound newest geometry.now (S.state site.old).image blocks
+        → (newest : Option Master) (blocks : List (List LogRecord))
+        → IsSound newest geometry.now (S.state site.old).image blocks
         → IfOk result (λ opened. cache_of opened.pages ≡ cache_on geometry.now (S.state site.old).image) }
 
     // Of every site.
@@ -234,8 +236,8 @@ fn recover<S: Site>(alloc: Global, site: &mut S, opened: Opened) -> Result<Resta
     }
 }
 
-/// Opens the devices, redoes what their pages lack, undoes all transactions that the log leaves unfinished, and makes a checkpoint: then
-/// the log keeps nothing. Devices without sizes are Foreign.
+/// Opens the devices, redoes what their pages lack, undoes all transactions that the log leaves unfinished, and makes a
+/// checkpoint: then the log keeps nothing. Devices without sizes are Foreign.
 pub fn restart<S: Site>(alloc: Global, site: &mut S, pool: u32) -> Result<Restarted, Stop>
     requires pool { (1 ≤ pool) × (pool ≤ 4096) }
 
@@ -244,21 +246,26 @@ pub fn restart<S: Site>(alloc: Global, site: &mut S, pool: u32) -> Result<Restar
         → (g : Geometry) (newest : Option Master) (blocks : List (List LogRecord)) (table : List Content) (commits : ℕ)
         → IsSound newest g (S.state site.old).image blocks
         → Means (picture_under newest g (S.state site.old).image blocks) table commits
-        → IfOk result (λ restarted. RestartedAs restarted (S.state site.new) table commits × (sizes_of restarted.store ≡ g)) }
+        → IfOk result (λ restarted. RestartedAs restarted (S.state site.new) table commits
+        × (sizes_of restarted.store ≡ g)) }
     ensures ends { IsTrue (S.state site.old).honest
         → (g : Geometry) (table : List Content) (commits : ℕ)
         → Stands g (S.state site.old).image table commits
         → Ends result g (S.state site.old) (S.state site.new) (LeavesTable g table commits (S.state site.old).told) }
     ensures numbers { IsTrue (S.state site.old).honest → IsQuiet (S.state site.old)
-        → (g : Geometry) (newest : Option Master) (blocks : List (List LogRecord)) → IsSound newest g (S.state site.old).image blocks
-        → RestartsWithin result (λ restarted. restarted.store.log) g (log_under newest blocks) (S.state site.old) (S.state site.new) }
+        → (g : Geometry) (newest : Option Master) (blocks : List (List LogRecord))
+        → IsSound newest g (S.state site.old).image blocks
+        → RestartsWithin result (λ restarted. restarted.store.log) g (log_under newest blocks) (S.state site.old)
+        (S.state site.new) }
     ensures asks { IsTrue (S.state site.old).honest
-        → (g : Geometry) (newest : Option Master) (blocks : List (List LogRecord)) → IsSound newest g (S.state site.old).image blocks
+        → (g : Geometry) (newest : Option Master) (blocks : List (List LogRecord))
+        → IsSound newest g (S.state site.old).image blocks
         → AsksFrom result (λ restarted. restarted.store.pages) (rules_of pool g.groups)
         (restart_works (picture_under newest g (S.state site.old).image blocks)) (cache_on g (S.state site.old).image)
         (start_reads g) (S.state site.old) (S.state site.new) }
     ensures writes { IsTrue (S.state site.old).honest → IsQuiet (S.state site.old)
-        → (g : Geometry) (newest : Option Master) (blocks : List (List LogRecord)) → IsSound newest g (S.state site.old).image blocks
+        → (g : Geometry) (newest : Option Master) (blocks : List (List LogRecord))
+        → IsSound newest g (S.state site.old).image blocks
         → WritesFrom g (rules_of pool g.groups) (restart_works (picture_under newest g (S.state site.old).image blocks))
         (cache_on g (S.state site.old).image) (S.state site.old) (S.state site.new) }
 

@@ -48,7 +48,8 @@ pub fn remove(active: &mut TxnTable, entry: Active)
 
 /// The transactions of the active sessions, those that began first in front.
 pub fn named(active: &TxnTable) -> Pairs
-    requires differ { (n m : ℕ) (a b : Active) → entry_of active.now n ≡ Some a → entry_of active.now m ≡ Some b → a.begin ≡ b.begin → n ≡ m }
+    requires differ { (n m : ℕ) (a b : Active) → entry_of active.now n ≡ Some a → entry_of active.now m ≡ Some b
+        → a.begin ≡ b.begin → n ≡ m }
     ensures named { result ≡ map (λ entry. record { begin = entry.begin; last = entry.last }) active.now }
     ensures ascend { Ascend result }
 {

@@ -1,5 +1,6 @@
 // A transaction of one write, outside sessions.
-ghost use Rattle.std.specs.Prelude.{Option, ◌≡◌, ◌⊎◌, ◌+◌, ◌/◌, ◌<◌, ◌≤◌, [], ◌∷◌, ◌++◌, length, true, false, Some, None, IfSome, IfNone, IfOk, OnErr, IsErrOf};
+ghost use Rattle.std.specs.Prelude.{Option, ◌≡◌, ◌⊎◌, ◌+◌, ◌/◌, ◌<◌, ◌≤◌, [], ◌∷◌, ◌++◌, length, true, false, Some};
+ghost use Rattle.std.specs.Prelude.{None, IfSome, IfNone, IfOk, OnErr, IsErrOf};
 ghost use Rattle.site.specs.declared.outside.Dev.{Dev};
 ghost use Rattle.site.specs.declared.outside.Stop.{Stop};
 ghost use Rattle.site.specs.State.{State as Site};
@@ -30,7 +31,8 @@ use redo_undo::{hold_together, works_add_up};
 use site::{Site, Stop};
 
 impl Engine {
-    // Logs the Begin of a transaction that sets one record, and its Update, and changes the record's page. Answers the transaction.
+    // Logs the Begin of a transaction that sets one record, and its Update, and changes the record's page. Answers the
+    // transaction.
     fn log_set<S: Site>(
         &mut self,
         site: &mut S,
@@ -177,7 +179,8 @@ impl Engine {
         ensures ended { OnErr result (self.new.ended ≡ true) }
         ensures worn_flash { IsErrOf result (Stop.Worn Dev.Flash)
             → Overflows (rules self.old.store.pages) (one_change (number / 32)) (cache_of self.old.store.pages)
-            ⊎ Overflows (rules self.old.store.pages) (checkpoint_works ++ one_change (number / 32)) (cache_of self.old.store.pages) }
+            ⊎ Overflows (rules self.old.store.pages) (checkpoint_works ++ one_change (number / 32))
+            (cache_of self.old.store.pages) }
     {
         works_add_up();
         let wanted = self.wants_checkpoint_to_set(number, value);

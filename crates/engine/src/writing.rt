@@ -1,5 +1,6 @@
 // A session's writes.
-ghost use Rattle.std.specs.Prelude.{Option, ◌≡◌, ◌/◌, ◌<◌, ◌≤◌, length, true, Some, None, IsSome, IfSome, IfNone, IfOk, OnErr, IsErrOf};
+ghost use Rattle.std.specs.Prelude.{Option, ◌≡◌, ◌/◌, ◌<◌, ◌≤◌, length, true, Some, None, IsSome, IfSome, IfNone, IfOk};
+ghost use Rattle.std.specs.Prelude.{OnErr, IsErrOf};
 ghost use Rattle.site.specs.declared.outside.Dev.{Dev};
 ghost use Rattle.site.specs.declared.outside.Stop.{Stop};
 ghost use Rattle.site.specs.State.{State as Site};

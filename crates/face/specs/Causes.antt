@@ -1,5 +1,6 @@
 -- When a run halts.
-use Rattle.std.specs.Prelude.{◌≡◌, ◌≢◌, ◌⊎◌, ℕ, ◌+◌, ◌<◌, ◌≤◌, List, length, take, true, false, ⊤, Result, Ok, Err, IsTrue}
+use Rattle.std.specs.Prelude.{◌≡◌, ◌≢◌, ◌⊎◌, ℕ, ◌+◌, ◌<◌, ◌≤◌, List, length, take, true, false, ⊤, Result, Ok, Err}
+use Rattle.std.specs.Prelude.{IsTrue}
 use Rattle.site.specs.declared.outside.Dev.{Dev}
 use Rattle.site.specs.declared.outside.Dev.TheVariants.{Log, Flash, Disk}
 use Rattle.site.specs.declared.outside.Stop.{Stop}
@@ -100,8 +101,8 @@ abbrev pub RunFaults : {T : Type 0} → Result T Halt → State → State → Ty
 RunFaults (Ok x) old new = SameFaults old new
 RunFaults (Err h) old new = faults_in new ≡ after_halt h (faults_in old)
 
--- The counts of faults once the status is fixed. The first failed call fixes it: with 3 one call of a device has failed,
--- with 5 a take, with 6 a tell; with any other status none has.
+-- The counts of faults once the status is fixed. The first failed call fixes it: with 3 one call of a device has
+-- failed, with 5 a take, with 6 a tell; with any other status none has.
 abbrev pub AfterFirst : ℕ → Faults → Faults → Type 0
 AfterFirst status before after =
     ((status ≡ 3) × (dev : Dev) × (after ≡ with_fault dev before))
@@ -123,7 +124,8 @@ pub record NoFaultRose (old new : State) : Type 0 where
 
 -- the input ends within the limit of octets, or has a quit within it
 abbrev pub EndsInTime : State → Type 0
-EndsInTime site = (length site.input.left ≤ limit) ⊎ (list_any is_quit (commands_of false (take limit site.input.left)) ≡ true)
+EndsInTime site = (length site.input.left ≤ limit)
+    ⊎ (list_any is_quit (commands_of false (take limit site.input.left)) ≡ true)
 
 -- devices without sizes are refused, and nothing was done
 abbrev pub Halts : {T : Type 0} → Result T Halt → State → State → Type 0

@@ -67,8 +67,8 @@ pub record HearsOnly (old new : State) : Type 0 where
   pub past : new.past ≡ old.past
   pub reads : SameReads old new
 
--- Input was asked for within a line: of what was to hear these octets were heard by then, none of them a newline, and no
--- more was told than before.
+-- Input was asked for within a line: of what was to hear these octets were heard by then, none of them a newline, and
+-- no more was told than before.
 pub record TookWithin (source : Source) (before : State) (t : Take) : Type 0 where
   pub octets : List ℕ
   pub none : AllByRecursion (λ x. x ≢ 10) octets

@@ -28,9 +28,11 @@ pub record IsFoundAfter (g : Geometry) (run : Run) (text : List ℕ) (image : Im
   pub table : List Content
   pub commits : ℕ
   pub goes_on : GoesOn run text table commits
-  pub finds : (site : Site) → IsTrue site.honest → site.loose ≡ no_loose → site.image ≡ image → Finds g table commits site
+  pub finds : (site : Site) → IsTrue site.honest → site.loose ≡ no_loose → site.image ≡ image
+      → Finds g table commits site
 
--- A life is over, with a status: all that it told is its text, and what a crash now leaves is found after some of its commits.
+-- A life is over, with a status: all that it told is its text, and what a crash now leaves is found after some of its
+-- commits.
 pub record HasLivedOne (g : Geometry) (before : Between) (octets : List ℕ) (status : ℕ) (site : Site) : Type 0 where
   pub listings : List (List CacheLine)
   pub is_text : IsTextOf (life_run g before octets listings) status site.told

@@ -20,7 +20,8 @@ use Rattle.face.specs.Going.{Serves}
 use Rattle.face.specs.Headline.{IsFaultOf, Resources}
 use Rattle.face.specs.Tells.{EndsBehind}
 use Rattle.face.specs.Range.{all_commits, StandsAfter}
-use Rattle.face.specs.Run.{Run, IsFront, StandsFor, after_lines, answered, first_lines, works_of, checkpoints_of, turns_of}
+use Rattle.face.specs.Run.{Run, IsFront, StandsFor, after_lines, answered, first_lines, works_of, checkpoints_of}
+use Rattle.face.specs.Run.{turns_of}
 use Rattle.engine.specs.Numbers.{CountsOn}
 use Rattle.face.specs.Texts.{IsLineOf, status_of}
 use Rattle.face.specs.Working.{Demands}

@@ -31,7 +31,8 @@ load_words = with_rule (with_rule (with_rule (new_app (codes "load")) (text (new
     (text (new_rule (codes "seed")))) (text (new_rule (codes "pool")))
 
 abbrev pub simulate_words : App
-simulate_words = with_rule (with_rule (new_app (codes "simulate")) (text (new_rule (codes "groups")))) (text (new_rule (codes "pool")))
+simulate_words = with_rule (with_rule (new_app (codes "simulate")) (text (new_rule (codes "groups"))))
+    (text (new_rule (codes "pool")))
 
 abbrev pub trial_words : App
 trial_words = with_rule (with_rule (with_rule (with_rule (new_app (codes "trial")) (text (new_rule (codes "pages"))))
@@ -57,7 +58,8 @@ database_words = with_subcommand (with_subcommand (with_subcommand bare new_word
 -- and `simulate` with two, `trial` with four, and `check` with none
 abbrev pub program : App
 program =
-    with_subcommand (with_subcommand (with_subcommand database_words simulate_words.top) trial_words.top) check_words.top
+    with_subcommand (with_subcommand (with_subcommand database_words simulate_words.top) trial_words.top)
+    check_words.top
 
 -- the command is this one, and no argument of it is global
 abbrev pub IsLike : Command → App → Type 0

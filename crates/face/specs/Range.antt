@@ -1,5 +1,6 @@
 -- What a run may tell and leave: its commits, the numbers that it gives, and its work on the page cache.
-use Rattle.std.specs.Prelude.{◌≡◌, ◌⊎◌, ℕ, ◌+◌, ◌<◌, ◌≤◌, Bool, true, List, [], ◌∷◌, ◌++◌, ◌^◌, length, take, slice_index_or}
+use Rattle.std.specs.Prelude.{◌≡◌, ◌⊎◌, ℕ, ◌+◌, ◌<◌, ◌≤◌, Bool, true, List, [], ◌∷◌, ◌++◌, ◌^◌, length, take}
+use Rattle.std.specs.Prelude.{slice_index_or}
 use Rattle.std.specs.Prelude.{flat_map, count_by, Option}
 use Rattle.site.specs.State.{State as Site, Snapshot, Image}
 use Rattle.site.specs.declared.geometry.Geometry.{Geometry}

@@ -64,7 +64,8 @@ abbrev pub works_of : State → List Line → List CacheWork
 works_of s [] = []
 works_of s (line ∷ lines) = line_touches true s line ++ works_of (step s line []).after lines
 
--- since the run opened on this site no more is read than this work needs, and of flash as often as a start may beside it
+-- since the run opened on this site no more is read than this work needs, and of flash as often as a start may beside
+-- it
 abbrev pub ReadsFew : ℕ → Geometry → List CacheWork → Site → Site → Type 0
 ReadsFew pool g works old now = ReadsFor (rules_of pool g.groups) works (cache_on g old.image)
     (record old { flash_reads = old.flash_reads + start_reads g }) now

@@ -15,8 +15,9 @@ use Rattle.face.specs.Workload.{load_run}
 pub record RunContract (pool : ℕ) (old new : Site) (status : ℕ) : Type 0 where
   -- what is told, and what a crash at any moment leaves
   pub headline : (g : Geometry) (opening : State) → IsGood g opening old → Headline pool g opening old new status
-  -- Where nothing fails, no group is to be appended to a ring that stands at its end, the rings on the log's device have
-  -- numbers for all that is to be appended to them, and the input ends in time, the status is 0, or memory was wanted.
+  -- Where nothing fails, no group is to be appended to a ring that stands at its end, the rings on the log's device
+  -- have numbers for all that is to be appended to them, and the input ends in time, the status is 0, or memory was
+  -- wanted.
   pub complete : (g : Geometry) (opening : State) → IsGood g opening old → NoFaultRose old new →
       NeverWears pool (run_of g opening true old.input.left []) old.image →
       HasLogRoom (run_of g opening true old.input.left []) old.image → EndsInTime old → (status ≡ 0) ⊎ (status ≡ 4)

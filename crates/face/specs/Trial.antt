@@ -1,5 +1,6 @@
 -- Lives of one database, one after the other, a power cut behind each but the last: lines told, and the record table.
-use Rattle.std.specs.Prelude.{◌≡◌, ◌≢◌, ◌⊎◌, ℕ, zero, suc, ◌+◌, ◌-◌, ◌<◌, ◌≤◌, Bool, true, false, ◌&&◌, nat_le, List, [], ◌∷◌}
+use Rattle.std.specs.Prelude.{◌≡◌, ◌≢◌, ◌⊎◌, ℕ, zero, suc, ◌+◌, ◌-◌, ◌<◌, ◌≤◌, Bool, true, false, ◌&&◌, nat_le, List}
+use Rattle.std.specs.Prelude.{[], ◌∷◌}
 use Rattle.std.specs.Prelude.{◌++◌, length, slice_get, slice_range, Option, Some, None, IsTrue, codes, decimal}
 use Rattle.site.specs.State.{State as Site}
 use Rattle.site.specs.Calls.{Rose, SameReads}

@@ -36,8 +36,8 @@ fn words<R: Env + AllocGlobal>(rt: &R) -> Result<Vec<String>, AllocError> {
     Ok(words)
 }
 
-// The site that these words work on: for a new database its files are made where they are missing; a simulation, a trial and
-// wrong words open none.
+// The site that these words work on: for a new database its files are made where they are missing; a simulation, a
+// trial and wrong words open none.
 fn site<'a, R>(rt: &'a R, words: &[String]) -> Result<FileSite<&'a R>, Stop>
 where
     R: Files + Input + Print + Eprint + Clock + AllocGlobal,

@@ -13,8 +13,8 @@ use std::rt::{Clock, Env};
 use std::test::Fail;
 use std::time::Duration;
 
-// A runtime with these words and this input. It counts the files of a database that are opened and keeps what is told, of
-// which it takes a few octets at once; before each it isn't ready once.
+// A runtime with these words and this input. It counts the files of a database that are opened and keeps what is told,
+// of which it takes a few octets at once; before each it isn't ready once.
 #[derive(Drop)]
 struct Caller<'a> {
     rt: &'a HostRuntime,
@@ -206,8 +206,8 @@ impl<'a> Eprint for Caller<'a> {
     }
 }
 
-// Each list of words has its status, its text, and so many files that it opens: the three of a database and, for a new one,
-// the drafts of those that are missing.
+// Each list of words has its status, its text, and so many files that it opens: the three of a database and, for a new
+// one, the drafts of those that are missing.
 #[test]
 fn words_open_their_files(rt: HostRuntime) -> Result<(), Fail> {
     let rows: [(&[&[u8]], &'static [u8], u8, &[u8], u64); 15] = [

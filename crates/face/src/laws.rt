@@ -44,8 +44,8 @@ pub fn what_is_left_opens()
     ensures { LawOfLives }
 {}
 
-/// Law: what a load leaves opens again, with the table after a number of its commits that what was told allows: none before
-/// its opening is told, all of them once its last line is.
+/// Law: what a load leaves opens again, with the table after a number of its commits that what was told allows: none
+/// before its opening is told, all of them once its last line is.
 pub fn what_a_load_leaves_opens()
     ensures { LawOfLoads }
 {}

@@ -317,7 +317,8 @@ impl Seen {
 fn say_no_files<R: Eprint>(rt: &R, seen: &Seen) -> bool {
     if seen.is_bare() {
         let _ = eprintln!(rt;
-            "face: this folder has no database: face.log, face.flash and face.disk are missing. To make one: face new PAGES GROUPS BLOCKS"
+            "face: this folder has no database: face.log, face.flash and face.disk are missing. To make one: face new \
+            PAGES GROUPS BLOCKS"
         );
         return true;
     }
@@ -341,7 +342,8 @@ fn say_no_database<R: Eprint>(rt: &R, seen: &Seen) {
         return;
     }
     let _ = eprintln!(rt;
-        "face: what face.log, face.flash and face.disk hold isn't sound, isn't of one database, or is an older version's: face check tells which rule fails. Bring back all three files of one copy"
+        "face: what face.log, face.flash and face.disk hold isn't sound, isn't of one database, or is an older \
+        version's: face check tells which rule fails. Bring back all three files of one copy"
     );
 }
 
@@ -349,7 +351,8 @@ fn say_no_database<R: Eprint>(rt: &R, seen: &Seen) {
 fn broken(rule: u8) -> &'static str {
     match rule {
         1 => {
-            "octets aren't of the form, or name a page that the disk hasn't: of a ring, the newest master, a kept block, a live group or segment, or a page"
+            "octets aren't of the form, or name a page that the disk hasn't: of a ring, the newest master, a kept \
+            block, a live group or segment, or a page"
         }
         2 => "the oldest kept block isn't live, or redo begins before it or behind the log's end",
         3 => {
@@ -422,7 +425,8 @@ fn say_not_made<R: Eprint>(rt: &R, seen: &Seen, geometry: Geometry) {
     if let Some((dev, len, wanted)) = seen.first_unlike([log, flash, disk]) {
         let name = path(dev);
         let _ = eprintln!(rt;
-            "face: {name} has {len} octets, and these sizes ask for {wanted}: nothing was made. Give its own sizes, or go to another folder"
+            "face: {name} has {len} octets, and these sizes ask for {wanted}: nothing was made. Give its own sizes, or \
+            go to another folder"
         );
     }
 }
@@ -435,7 +439,8 @@ fn say_refused<R: Eprint>(rt: &R, watch: Watch) {
     }
     if let Some(line) = watch.returned() {
         let _ = eprintln!(rt;
-            "face: line {line} of the input ends with a carriage return, and so is no command: send lines that end with a newline alone"
+            "face: line {line} of the input ends with a carriage return, and so is no command: send lines that end \
+            with a newline alone"
         );
     }
 }
@@ -456,13 +461,15 @@ pub fn say<R: Eprint>(rt: &R, status: u8, words: &[String], seen: &Seen, place: 
         },
         10 => {
             let _ = eprintln!(rt;
-                "face: the files aren't blank, and nothing was written over. To make a new database move them away, or go to another folder"
+                "face: the files aren't blank, and nothing was written over. To make a new database move them away, or \
+                go to another folder"
             );
         }
         11 => say_unsound(rt, seen, place),
         16 => {
             let _ = eprintln!(rt;
-                "face: that line of the input is no touch: each is r PAGE or w PAGE, PAGE 0 to 65535, and there are at most 1000000"
+                "face: that line of the input is no touch: each is r PAGE or w PAGE, PAGE 0 to 65535, and there are at \
+                most 1000000"
             );
         }
         _ => {}

@@ -6,7 +6,8 @@ ghost use Rattle.clap.specs.declared.error.kind.ErrorKind.TheVariants.{OutOfMemo
 ghost use Rattle.face.specs.Program.{AreSizes, IsLike, IsLoadOf, IsPool, IsReadFrom, IsSimulationOf, IsTrialOf};
 ghost use Rattle.face.specs.Program.{bare, check_words, database_words, load_words, new_words, program, run_words};
 ghost use Rattle.face.specs.Program.{simulate_words, text, trial_words};
-ghost use Rattle.face.specs.Words.{HasTrialLimits, IsRight, IsRequest, HasCacheLimits, HasDash, HasLoadLimits, is_dashed, words_of};
+ghost use Rattle.face.specs.Words.{HasTrialLimits, IsRight, IsRequest, HasCacheLimits, HasDash, HasLoadLimits};
+ghost use Rattle.face.specs.Words.{is_dashed, words_of};
 ghost use Rattle.face.specs.declared.request.Load.{Load};
 ghost use Rattle.face.specs.declared.request.Simulation.{Simulation};
 ghost use Rattle.face.specs.declared.request.TrialSizes.{TrialSizes};
@@ -270,7 +271,8 @@ fn simulation_in(simulate: &ArgMatches<'_>) -> Option<Simulation>
 
 // The sizes that two words write, if they are within the limits.
 fn simulation_of(groups: &[u8], pool: &[u8]) -> Option<Simulation>
-    ensures simulation { IfSome result (λ s. HasCacheLimits s × (groups.now ≡ decimal s.groups) × (pool.now ≡ decimal s.pool)) }
+    ensures simulation { IfSome result (λ s. HasCacheLimits s × (groups.now ≡ decimal s.groups)
+        × (pool.now ≡ decimal s.pool)) }
     ensures none { IfNone result ((s : Simulation) → HasCacheLimits s → groups.now ≡ decimal s.groups
         → pool.now ≡ decimal s.pool → ⊥) }
 {

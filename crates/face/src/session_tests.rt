@@ -49,16 +49,21 @@ fn sessions_are_kept_apart(rt: HostRuntime) -> Result<(), Fail> {
             b"open 0\nrefused session\nrefused session\nok\nrefused session\ncommitted 1\nvalue ab\n",
         ),
         (
-            b"set 1 aa\nbegin 3\nwrite 3 1 bb\nget 1\nset 1 cc\nbegin 2\nread 2 1\nread 3 1\nabort 3\nread 2 1\nset 1 dd\ncommit 2\nstat\n",
-            b"open 0\ncommitted 1\nok\nok\nbusy 3\nbusy 3\nok\nbusy 3\nvalue bb\naborted\nvalue aa\nbusy 2\ncommitted 2\nstat commits 2 used 9 owed 0 cap 63 active 0\n",
+            b"set 1 aa\nbegin 3\nwrite 3 1 bb\nget 1\nset 1 cc\nbegin 2\nread 2 1\nread 3 1\nabort 3\nread 2 1\n\
+            set 1 dd\ncommit 2\nstat\n",
+            b"open 0\ncommitted 1\nok\nok\nbusy 3\nbusy 3\nok\nbusy 3\nvalue bb\naborted\nvalue aa\nbusy 2\n\
+            committed 2\nstat commits 2 used 9 owed 0 cap 63 active 0\n",
         ),
         (
             b"set 2 aa\nset 4 -\nbegin 0\nscan 0 0 6\nbegin 1\nwrite 1 9 01\nscan 0 5 8\nset 6 bb\nscan 0 500 64\n",
-            b"open 0\ncommitted 1\ncommitted 2\nok\nitem 2 aa\nitem 4 -\nend 2\nok\nok\nbusy 1\ncommitted 3\nrefused record\n",
+            b"open 0\ncommitted 1\ncommitted 2\nok\nitem 2 aa\nitem 4 -\nend 2\nok\nok\nbusy 1\ncommitted 3\n\
+            refused record\n",
         ),
         (
-            b"set 31 aa\nbegin 2\nwrite 2 32 bb\nscan 2 31 2\nbegin 4\nwrite 4 33 cc\nbegin 3\nwrite 3 34 dd\nscan 2 31 64\nset 31 ee\nscan 2 449 64\nscan 2 449 63\n",
-            b"open 0\ncommitted 1\nok\nok\nitem 31 aa\nitem 32 bb\nend 2\nok\nok\nok\nok\nbusy 4\nbusy 2\nrefused record\nend 0\n",
+            b"set 31 aa\nbegin 2\nwrite 2 32 bb\nscan 2 31 2\nbegin 4\nwrite 4 33 cc\nbegin 3\nwrite 3 34 dd\n\
+            scan 2 31 64\nset 31 ee\nscan 2 449 64\nscan 2 449 63\n",
+            b"open 0\ncommitted 1\nok\nok\nitem 31 aa\nitem 32 bb\nend 2\nok\nok\nok\nok\nbusy 4\nbusy 2\n\
+            refused record\nend 0\n",
         ),
     ];
     for (input, told) in rows {
@@ -94,12 +99,15 @@ fn lines_and_sessions_are_refused(rt: HostRuntime) -> Result<(), Fail> {
 fn undo_has_room(rt: HostRuntime) -> Result<(), Fail> {
     let rows: [(&[u8], &[u8]); 2] = [
         (
-            b"begin 0\nwrite 0 1 aa\nwrite 0 1 aa\nwrite 0 1 aa\nwrite 0 1 aa\nwrite 0 1 aa\nwrite 0 1 aa\nwrite 0 1 aa\nabort 0\nstat\nset 0 aa\n",
-            b"open 0\nok\nok\nok\nok\nok\nok\nok\nfull 7 7 15\naborted\nstat commits 0 used 14 owed 0 cap 15 active 0\ncommitted 1\n",
+            b"begin 0\nwrite 0 1 aa\nwrite 0 1 aa\nwrite 0 1 aa\nwrite 0 1 aa\nwrite 0 1 aa\nwrite 0 1 aa\n\
+            write 0 1 aa\nabort 0\nstat\nset 0 aa\n",
+            b"open 0\nok\nok\nok\nok\nok\nok\nok\nfull 7 7 15\naborted\nstat commits 0 used 14 owed 0 cap 15 active 0\n\
+            committed 1\n",
         ),
         (
             b"begin 0\nbegin 1\nbegin 2\nbegin 3\nbegin 4\nbegin 5\nbegin 6\nbegin 7\ncommit 0\nbegin 7\nstat\n",
-            b"open 0\nok\nok\nok\nok\nok\nok\nok\nfull 7 7 15\ncommitted 1\nok\nstat commits 1 used 8 owed 7 cap 15 active 7\n",
+            b"open 0\nok\nok\nok\nok\nok\nok\nok\nfull 7 7 15\ncommitted 1\nok\n\
+            stat commits 1 used 8 owed 7 cap 15 active 7\n",
         ),
     ];
     for (input, told) in rows {

@@ -94,7 +94,8 @@ fn the_cache_is_listed(rt: HostRuntime) -> Result<(), Fail> {
         ),
         (
             b"set 0 01\ncache\nget 32\ncache\nget 0\ncache\n",
-            b"open 0\ncommitted 1\npool 0*\nend 1\nnone\nframe 0 0 page 0 vd-\npool 1\nend 2\nvalue 01\nframe 0 0 page 0 vdr\nframe 1 0 page 1 v--\npool 0\nend 3\n",
+            b"open 0\ncommitted 1\npool 0*\nend 1\nnone\nframe 0 0 page 0 vd-\npool 1\nend 2\nvalue 01\n\
+            frame 0 0 page 0 vdr\nframe 1 0 page 1 v--\npool 0\nend 3\n",
         ),
     ];
     for (input, told) in rows {
@@ -118,7 +119,8 @@ fn only_this_was_written(site: &MemSite, page: usize) -> bool {
 fn a_full_queue_is_listed(rt: HostRuntime) -> Result<(), Fail> {
     let mut site = MemSite::new(rt.alloc(), &STANDARD)?;
     let input =
-        b"set 0 01\nset 32 02\nget 0\nset 64 03\nset 96 04\nset 128 05\nset 160 06\nset 192 07\nset 224 08\nset 256 09\ncache\n";
+        b"set 0 01\nset 32 02\nget 0\nset 64 03\nset 96 04\nset 128 05\nset 160 06\nset 192 07\nset 224 08\n\
+        set 256 09\ncache\n";
     assert_eq!(rt; run(rt.alloc(), &mut site, input)?, 0);
     let told = b"\
 open 0
@@ -148,8 +150,8 @@ end 9
     Ok(())
 }
 
-// A group is filled from the pool, all its frames are read, and seven checkpoints push groups of one page: as the first group leaves,
-// the eighth frame that was read goes to the disk.
+// A group is filled from the pool, all its frames are read, and seven checkpoints push groups of one page: as the first
+// group leaves, the eighth frame that was read goes to the disk.
 #[test]
 fn seven_frames_have_a_second_chance(rt: HostRuntime) -> Result<(), Fail> {
     let mut site = MemSite::new(rt.alloc(), &STANDARD)?;
@@ -376,8 +378,11 @@ fn a_checkpoint_lets_records_go(rt: HostRuntime) -> Result<(), Fail> {
         ),
         // The records of an active session stay.
         (
-            b"begin 0\nwrite 0 1 aa\ncheckpoint\nstat\nwrite 0 2 bb\ncheckpoint\nstat\ncommit 0\nstat\ncheckpoint\nstat\n",
-            b"open 0\nok\nok\ncheckpoint\nstat commits 0 used 2 owed 2 cap 63 active 1\nok\ncheckpoint\nstat commits 0 used 3 owed 3 cap 63 active 1\ncommitted 1\nstat commits 1 used 4 owed 0 cap 63 active 0\ncheckpoint\nstat commits 1 used 0 owed 0 cap 63 active 0\n",
+            b"begin 0\nwrite 0 1 aa\ncheckpoint\nstat\nwrite 0 2 bb\ncheckpoint\nstat\ncommit 0\nstat\ncheckpoint\n\
+            stat\n",
+            b"open 0\nok\nok\ncheckpoint\nstat commits 0 used 2 owed 2 cap 63 active 1\nok\ncheckpoint\n\
+            stat commits 0 used 3 owed 3 cap 63 active 1\ncommitted 1\nstat commits 1 used 4 owed 0 cap 63 active 0\n\
+            checkpoint\nstat commits 1 used 0 owed 0 cap 63 active 0\n",
         ),
     ];
     for (input, told) in rows {

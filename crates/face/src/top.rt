@@ -122,7 +122,8 @@ fn lack_memory<S: Site>(site: &mut S) -> u8
     ensures run { (pool : ℕ) → RunContract pool (S.state site.old) (S.state site.new) result }
     ensures load { (load : Load) → LoadContract load (S.state site.old) (S.state site.new) result }
     ensures new { (g : Geometry) → NewContract g (S.state site.old) (S.state site.new) result }
-    ensures simulate { (s : Simulation) → SimulateContract s.groups s.pool (S.state site.old) (S.state site.new) result }
+    ensures simulate { (s : Simulation)
+        → SimulateContract s.groups s.pool (S.state site.old) (S.state site.new) result }
     ensures trial { (g : Geometry) → TrialContract g (S.state site.old) (S.state site.new) result (0 ∷ []) }
     ensures check { CheckContract (S.state site.old) (S.state site.new) result }
     ensures lacks { LacksMemory result (S.state site.old) (S.state site.new) }
@@ -156,11 +157,11 @@ fn serve_trial<S: Site>(alloc: Global, sizes: &TrialSizes, site: &mut S) -> u8
 /// The top call: the program's words, without its own name, and the site that it works on. The answer is the status
 /// with which the program ends. The words `run POOL`, with POOL from 1 to 4,096, are the work of `serve`. The words
 /// `new PAGES GROUPS BLOCKS` test that the devices have these sizes and are blank. The words `load COUNT SEED POOL`,
-/// with COUNT from 1 to 100,000 and SEED below 2^64, are the work of `serve_load`. The words `simulate GROUPS POOL`, with
-/// GROUPS a multiple of 4 from 8 to 16,384, tell what three page caches do with the trace on the input, and touch no
-/// device. The words `trial PAGES GROUPS BLOCKS POOL`, with at most 1,024 pages, 256 groups and 4,096 blocks, are the
-/// work of `trial`, on a site in memory of these sizes, and touch no device either. The word `check` tells whether the
-/// devices are sound, and changes nothing. All other words have status 2.
+/// with COUNT from 1 to 100,000 and SEED below 2^64, are the work of `serve_load`. The words `simulate GROUPS POOL`,
+/// with GROUPS a multiple of 4 from 8 to 16,384, tell what three page caches do with the trace on the input, and touch
+/// no device. The words `trial PAGES GROUPS BLOCKS POOL`, with at most 1,024 pages, 256 groups and 4,096 blocks, are
+/// the work of `trial`, on a site in memory of these sizes, and touch no device either. The word `check` tells whether
+/// the devices are sound, and changes nothing. All other words have status 2.
 /// Reading the words may want memory, which has status 4; then nothing is read or changed.
 pub fn face<S: Site>(alloc: Global, words: &[String], site: &mut S) -> u8
     // What each command does, and when each of its statuses comes.

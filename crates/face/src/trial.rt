@@ -1,5 +1,6 @@
 // Lives of one database in memory, one after the other, with a power cut behind each but the last.
-ghost use Rattle.std.specs.Prelude.{◌≡◌, ◌⊎◌, ◌+◌, ◌++◌, ◌≤◌, ◌<◌, ℕ, List, Option, IsTrue, IfSome, IfOk, IfErr, OnOk, OnErr};
+ghost use Rattle.std.specs.Prelude.{◌≡◌, ◌⊎◌, ◌+◌, ◌++◌, ◌≤◌, ◌<◌, ℕ, List, Option, IsTrue, IfSome, IfOk, IfErr, OnOk};
+ghost use Rattle.std.specs.Prelude.{OnErr};
 ghost use Rattle.std.specs.Prelude.{Err, [], length, true, false, take};
 ghost use Rattle.site.specs.Calls.{Goes, Rose, SameReads};
 ghost use Rattle.site.specs.Telling.{SameDevices};
@@ -12,7 +13,8 @@ ghost use Rattle.face.specs.Lines.{HearsOnly};
 ghost use Rattle.face.specs.Run.{IsFront};
 ghost use Rattle.face.specs.declared.halt.Halt.{Halt};
 ghost use Rattle.face.specs.Trial as spec;
-ghost use Rattle.face.specs.Trial.{Between, IsNewSite, IsStatus, LeavesDevices, TellsAll, TellsSome, TrialContract, numbers_of};
+ghost use Rattle.face.specs.Trial.{Between, IsNewSite, IsStatus, LeavesDevices, TellsAll, TellsSome, TrialContract};
+ghost use Rattle.face.specs.Trial.{numbers_of};
 ghost use Rattle.face.specs.Trial.{script_limit};
 ghost use Rattle.face.specs.Living.{Ends, HasLivedOne, IsGivenUp, IsHaltOfTrial, IsReady};
 
@@ -39,13 +41,16 @@ fn take_more<S: Site>(site: &mut S, script: &mut Vec<u8>) -> Result<bool, Halt>
     requires few { length script.old.items ≤ SCRIPT_MAX }
     ensures taken { IsTrue (S.state site.old).honest → OnOk result (script.old.items ++ (S.state site.old).input.left
         ≡ script.new.items ++ (S.state site.new).input.left) }
-    ensures end { IsTrue (S.state site.old).honest → IfOk result (λ some. some ≡ false → (S.state site.new).input.left ≡ []) }
+    ensures end { IsTrue (S.state site.old).honest
+        → IfOk result (λ some. some ≡ false → (S.state site.new).input.left ≡ []) }
     ensures more { IfOk result (λ some. some ≡ true → length script.old.items < length script.new.items) }
     ensures few { OnOk result (length script.new.items ≤ SCRIPT_MAX) }
     ensures limit { IsTrue (S.state site.old).honest → result ≡ Err Halt.Limit
-        → length script.old.items + length (S.state site.old).input.left ≡ script_limit + 1 + length (S.state site.new).input.left }
+        → length script.old.items + length (S.state site.old).input.left
+        ≡ script_limit + 1 + length (S.state site.new).input.left }
     ensures input { result ≡ Err Halt.Input → Rose (S.state site.old).input_faults (S.state site.new).input_faults }
-    ensures halts { IfErr result (λ halt. (halt ≡ Halt.Stop Stop.Memory) ⊎ ((halt ≡ Halt.Input) ⊎ (halt ≡ Halt.Limit))) }
+    ensures halts { IfErr result (λ halt. (halt ≡ Halt.Stop Stop.Memory)
+        ⊎ ((halt ≡ Halt.Input) ⊎ (halt ≡ Halt.Limit))) }
     ensures same { IsTrue (S.state site.old).honest → HearsOnly (S.state site.old) (S.state site.new) }
     ensures reads { SameReads (S.state site.old) (S.state site.new) }
     ensures goes { Goes (S.state site.old) (S.state site.new) }
@@ -70,12 +75,14 @@ fn take_more<S: Site>(site: &mut S, script: &mut Vec<u8>) -> Result<bool, Halt>
 
 // Reads the script to its end.
 fn read_script<S: Site>(alloc: Global, site: &mut S) -> Result<Vec<u8>, Halt>
-    ensures script { IsTrue (S.state site.old).honest → IfOk result (λ script. script.items ≡ (S.state site.old).input.left) }
+    ensures script { IsTrue (S.state site.old).honest
+        → IfOk result (λ script. script.items ≡ (S.state site.old).input.left) }
     ensures few { IfOk result (λ script. length script.items ≤ SCRIPT_MAX) }
     ensures limit { IsTrue (S.state site.old).honest → result ≡ Err Halt.Limit
         → length (S.state site.old).input.left ≡ script_limit + 1 + length (S.state site.new).input.left }
     ensures input { result ≡ Err Halt.Input → Rose (S.state site.old).input_faults (S.state site.new).input_faults }
-    ensures halts { IfErr result (λ halt. (halt ≡ Halt.Stop Stop.Memory) ⊎ ((halt ≡ Halt.Input) ⊎ (halt ≡ Halt.Limit))) }
+    ensures halts { IfErr result (λ halt. (halt ≡ Halt.Stop Stop.Memory)
+        ⊎ ((halt ≡ Halt.Input) ⊎ (halt ≡ Halt.Limit))) }
     ensures same { IsTrue (S.state site.old).honest → HearsOnly (S.state site.old) (S.state site.new) }
     ensures reads { SameReads (S.state site.old) (S.state site.new) }
     ensures goes { Goes (S.state site.old) (S.state site.new) }
@@ -111,8 +118,8 @@ fn is_within(stop: Option<(u64, u64)>, changes: u64) -> bool
     }
 }
 
-// The status that is told of a life: 0 where it asked for no more changes than it may, else 3 or 6. None where it ended otherwise, which
-// only want of memory brings about.
+// The status that is told of a life: 0 where it asked for no more changes than it may, else 3 or 6. None where it ended
+// otherwise, which only want of memory brings about.
 fn status_of_life(status: u8, within: bool) -> Option<u8>
     ensures { IfSome result (λ told. (told ≡ status) × IsStatus within told) }
 {
@@ -195,7 +202,8 @@ fn live_script<S: Site>(
     ensures lives { (g : Geometry) → IsNewSite g inner → IsTrue (S.state site.old).honest
         → Ends g script.now result.0 (S.state site.old) (S.state site.new) (numbers_of result.1) }
     ensures halts { IfErr result.0 (λ halt. (halt ≡ Halt.Stop Stop.Memory) ⊎ (halt ≡ Halt.Output)) }
-    ensures output { result.0 ≡ Err Halt.Output → Rose (S.state site.old).output_faults (S.state site.new).output_faults }
+    ensures output { result.0 ≡ Err Halt.Output
+        → Rose (S.state site.old).output_faults (S.state site.new).output_faults }
     ensures left { IsTrue (S.state site.old).honest → (S.state site.new).input ≡ (S.state site.old).input }
     ensures devices { IsTrue (S.state site.old).honest → LeavesDevices (S.state site.old) (S.state site.new) }
     ensures reads { SameReads (S.state site.old) (S.state site.new) }
@@ -235,7 +243,8 @@ fn work<S: Site>(
         → Ends g (S.state site.old).input.left result.0 (S.state site.old) (S.state site.new) (numbers_of result.1) }
     ensures unbegun { (result.0 ≡ Err Halt.Input) ⊎ (result.0 ≡ Err Halt.Limit) → result.1 ≡ inner }
     ensures halts { IfErr result.0 IsHaltOfTrial }
-    ensures fits { IsTrue (S.state site.old).honest → OnOk result.0 (length (S.state site.old).input.left ≤ script_limit) }
+    ensures fits { IsTrue (S.state site.old).honest
+        → OnOk result.0 (length (S.state site.old).input.left ≤ script_limit) }
     ensures limit { IsTrue (S.state site.old).honest → result.0 ≡ Err Halt.Limit
         → length (S.state site.old).input.left ≡ script_limit + 1 + length (S.state site.new).input.left }
     ensures input { result.0 ≡ Err Halt.Input → Rose (S.state site.old).input_faults (S.state site.new).input_faults }
@@ -252,14 +261,15 @@ fn work<S: Site>(
     }
 }
 
-/// The work of `trial`: lives on a site in memory that is new, as the script says that the input is. The first 31 lines of the form
-/// `stop K SEED` end a life each, the last life has the lines behind them. A life is a run over its lines with a pool of so many pages;
-/// where a stop line ends it, only K changes pass. Then its text is told, and `life I status S`, with S 0 where it asked for
-/// no more changes than that, and for 10,000 at most, and 3 or 6 otherwise. Behind a stop line power is cut; SEED says what that leaves of
-/// what wasn't synced.
+/// The work of `trial`: lives on a site in memory that is new, as the script says that the input is. The first 31 lines
+/// of the form `stop K SEED` end a life each, the last life has the lines behind them. A life is a run over its lines
+/// with a pool of so many pages; where a stop line ends it, only K changes pass. Then its text is told, and `life I
+/// status S`, with S 0 where it asked for no more changes than that, and for 10,000 at most, and 3 or 6 otherwise.
+/// Behind a stop line power is cut; SEED says what that leaves of what wasn't synced.
 ///
-/// The answer is the status, and the site of the last life that was begun: 0 where all lives were told, 4 for want of memory, 5 where taking
-/// input failed, 6 where telling failed, 7 where the script is longer than 65,536 octets. The devices of the other site aren't touched.
+/// The answer is the status, and the site of the last life that was begun: 0 where all lives were told, 4 for want of
+/// memory, 5 where taking input failed, 6 where telling failed, 7 where the script is longer than 65,536 octets. The
+/// devices of the other site aren't touched.
 pub fn trial<S: Site>(alloc: Global, pool: u32, inner: MemSite, site: &mut S) -> (u8, MemSite)
     requires from { 1 ≤ pool }
     requires to { pool ≤ 4096 }

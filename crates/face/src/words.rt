@@ -99,7 +99,8 @@ fn groups_within(word: &[u8], most: u32) -> Option<u32>
 
 /// The sizes of a trial that three words write, if they are within its limits.
 pub fn trial_geometry_of(pages: &[u8], groups: &[u8], blocks: &[u8]) -> Option<Geometry>
-    ensures sizes { IfSome result (λ g. HasTrialSizes g × (pages.now ≡ decimal g.pages) × (groups.now ≡ decimal g.groups)
+    ensures sizes { IfSome result (λ g. HasTrialSizes g × (pages.now ≡ decimal g.pages)
+        × (groups.now ≡ decimal g.groups)
         × (blocks.now ≡ decimal g.blocks)) }
     ensures none { IfNone result ((g : Geometry) → HasTrialSizes g → pages.now ≡ decimal g.pages
         → groups.now ≡ decimal g.groups → blocks.now ≡ decimal g.blocks → ⊥) }

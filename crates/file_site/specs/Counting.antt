@@ -40,7 +40,11 @@ abbrev pub state_of : Book → State
 state_of book = record {
   honest = false;
   kept = [];
-  image = record { log = replicate book.log.len 0; flash = replicate book.flash.len 0; disk = replicate book.disk.len 0 };
+  image = record {
+    log = replicate book.log.len 0;
+    flash = replicate book.flash.len 0;
+    disk = replicate book.disk.len 0;
+  };
   loose = no_loose;
   told = [];
   input = no_input;

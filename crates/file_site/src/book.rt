@@ -1,7 +1,8 @@
 // What is known of a site over files: the lengths of its devices, and what was counted.
 ghost use Rattle.std.specs.Prelude.{◌≡◌, ◌+◌, ◌-◌, ◌/◌, ◌^◌, min};
 ghost use Rattle.site.specs.Calls.{Goes};
-ghost use Rattle.file_site.specs.Counting.{raised, reads_after, faulted, tally_of, with_tally, Grows, IsFresh, state_of};
+ghost use Rattle.file_site.specs.Counting.{raised, reads_after, faulted, tally_of, with_tally, Grows, IsFresh};
+ghost use Rattle.file_site.specs.Counting.{state_of};
 
 use site::Dev;
 
@@ -99,7 +100,8 @@ impl Book {
 
     /// A read of this many octets of the device more.
     pub fn read(&mut self, dev: Dev, octets: usize)
-        ensures read { self.new ≡ with_tally dev (record (tally_of dev self.old) { reads = reads_after octets (tally_of dev self.old).reads }) self.old }
+        ensures read { self.new ≡ with_tally dev
+            (record (tally_of dev self.old) { reads = reads_after octets (tally_of dev self.old).reads }) self.old }
         ensures goes { Goes (state_of self.old) (state_of self.new) }
     {
         match dev {

@@ -1,5 +1,5 @@
-// A runtime for tests: files of the current folder under a record of the calls, of which one may be told to fail; an input
-// of given octets, and an output that keeps what it took.
+// A runtime for tests: files of the current folder under a record of the calls, of which one may be told to fail; an
+// input of given octets, and an output that keeps what it took.
 
 use crate::LockFile;
 use std::alloc::{AllocError, Allocator, Global};

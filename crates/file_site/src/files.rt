@@ -71,8 +71,8 @@ impl<R: Files + Input + Print + Clock + Drop> FileSite<R>
 where
     R::File: FileExt + LockFile,
 {
-    /// The files that are there. A file that can't be opened to be read and written, or a log that another program holds,
-    /// is a device of length 0. The one error is want of memory.
+    /// The files that are there. A file that can't be opened to be read and written, or a log that another program
+    /// holds, is a device of length 0. The one error is want of memory.
     pub fn existing(rt: R, alloc: Global) -> Result<FileSite<R>, Stop>
         ensures fresh { IfOk result (λ site. IsFresh (state_of site.book)) }
         ensures memory { IfErr result (λ stop. stop ≡ Stop.Memory) }
@@ -101,7 +101,8 @@ where
         })
     }
 
-    /// As `bare`, for a trace on standard input: where it takes long to hear it, standard error says how far it has come.
+    /// As `bare`, for a trace on standard input: where it takes long to hear it, standard error says how far it has
+    /// come.
     pub fn for_trace(rt: R, alloc: Global) -> Result<FileSite<R>, Stop>
         ensures fresh { IfOk result (λ site. IsFresh (state_of site.book)) }
         ensures bare { IfOk result (λ site. IsBare (state_of site.book)) }
@@ -181,9 +182,10 @@ impl<R: Files + Input + Print + Clock + Eprint + Drop> FileSite<R>
 where
     R::File: FileExt + LockFile,
 {
-    /// The files of a new database of these lengths. Each missing file is made of this many zeros, stable, where all that
-    /// are there have their length and are blank; else it reads as a blank one, and nothing is made. Where one can't be
-    /// made, none of them is there then. All else is as of `existing`. Want of memory comes before a file is made.
+    /// The files of a new database of these lengths. Each missing file is made of this many zeros, stable, where all
+    /// that are there have their length and are blank; else it reads as a blank one, and nothing is made. Where one
+    /// can't be made, none of them is there then. All else is as of `existing`. Want of memory comes before a file is
+    /// made.
     pub fn fresh(rt: R, alloc: Global, log: u64, flash: u64, disk: u64) -> Result<FileSite<R>, Stop>
         ensures fresh { IfOk result (λ site. IsFresh (state_of site.book)) }
         ensures memory { IfErr result (λ stop. stop ≡ Stop.Memory) }
@@ -210,12 +212,15 @@ where
 
     fn read_at(&mut self, dev: Dev, at: u64, into: &mut [u8]) -> Result<(), Failed>
         requires { at + length into.old ≤ length (content_of dev (state_of self.old.book).image) }
-        ensures read { IsTrue (state_of self.old.book).honest → HasRead dev at into.new (state_of self.old.book) (state_of self.new.book) result }
+        ensures read { IsTrue (state_of self.old.book).honest
+            → HasRead dev at into.new (state_of self.old.book) (state_of self.new.book) result }
         ensures goes { Goes (state_of self.old.book) (state_of self.new.book) }
         ensures reads { ReadsMore dev (length into.old) (state_of self.old.book) (state_of self.new.book) }
-        ensures cause { OnErr result (Rose (faults_of dev (state_of self.old.book)) (faults_of dev (state_of self.new.book))) }
+        ensures cause { OnErr result (Rose (faults_of dev (state_of self.old.book))
+            (faults_of dev (state_of self.new.book))) }
         ensures faults { CallFaults dev result (state_of self.old.book) (state_of self.new.book) }
-        ensures counted { reads_of dev (state_of self.new.book) ≡ reads_after (length into.old) (reads_of dev (state_of self.old.book)) }
+        ensures counted { reads_of dev (state_of self.new.book)
+            ≡ reads_after (length into.old) (reads_of dev (state_of self.old.book)) }
     {
         self.book.read(dev, into.len());
         let done = self.devices.of(dev).read(at, into);
@@ -226,10 +231,12 @@ where
 
     fn write_at(&mut self, dev: Dev, at: u64, bytes: &[u8]) -> Result<(), Failed>
         requires { at + length bytes.now ≤ length (content_of dev (state_of self.old.book).image) }
-        ensures wrote { IsTrue (state_of self.old.book).honest → Wrote dev at bytes.now (state_of self.old.book) (state_of self.new.book) result }
+        ensures wrote { IsTrue (state_of self.old.book).honest
+            → Wrote dev at bytes.now (state_of self.old.book) (state_of self.new.book) result }
         ensures goes { Goes (state_of self.old.book) (state_of self.new.book) }
         ensures reads { SameReads (state_of self.old.book) (state_of self.new.book) }
-        ensures cause { OnErr result (Rose (faults_of dev (state_of self.old.book)) (faults_of dev (state_of self.new.book))) }
+        ensures cause { OnErr result (Rose (faults_of dev (state_of self.old.book))
+            (faults_of dev (state_of self.new.book))) }
         ensures faults { CallFaults dev result (state_of self.old.book) (state_of self.new.book) }
     {
         let done = self.devices.of(dev).write(at, bytes);
@@ -238,10 +245,12 @@ where
     }
 
     fn sync(&mut self, dev: Dev) -> Result<(), Failed>
-        ensures synced { IsTrue (state_of self.old.book).honest → Synced dev (state_of self.old.book) (state_of self.new.book) result }
+        ensures synced { IsTrue (state_of self.old.book).honest
+            → Synced dev (state_of self.old.book) (state_of self.new.book) result }
         ensures goes { Goes (state_of self.old.book) (state_of self.new.book) }
         ensures reads { SameReads (state_of self.old.book) (state_of self.new.book) }
-        ensures cause { OnErr result (Rose (faults_of dev (state_of self.old.book)) (faults_of dev (state_of self.new.book))) }
+        ensures cause { OnErr result (Rose (faults_of dev (state_of self.old.book))
+            (faults_of dev (state_of self.new.book))) }
         ensures faults { CallFaults dev result (state_of self.old.book) (state_of self.new.book) }
     {
         let done = self.devices.of(dev).sync();
@@ -251,11 +260,13 @@ where
 
     fn take(&mut self, into: &mut [u8]) -> Result<usize, Failed>
         requires { 0 < length into.old }
-        ensures took { IsTrue (state_of self.old.book).honest → Took into.new (state_of self.old.book) (state_of self.new.book) result }
+        ensures took { IsTrue (state_of self.old.book).honest
+            → Took into.new (state_of self.old.book) (state_of self.new.book) result }
         ensures at_most { IfOk result (λ n. n ≤ length into.old) }
         ensures goes { Goes (state_of self.old.book) (state_of self.new.book) }
         ensures reads { SameReads (state_of self.old.book) (state_of self.new.book) }
-        ensures cause { OnErr result (Rose (state_of self.old.book).input_faults (state_of self.new.book).input_faults) }
+        ensures cause { OnErr result (Rose (state_of self.old.book).input_faults
+            (state_of self.new.book).input_faults) }
         ensures faults { TakeFaults result (state_of self.old.book) (state_of self.new.book) }
     {
         match self.input.take(&self.rt, into) {
@@ -276,12 +287,14 @@ where
 
     fn tell(&mut self, piece: &[u8]) -> Result<usize, Failed>
         requires { 0 < length piece.now }
-        ensures told { IsTrue (state_of self.old.book).honest → Told piece.now (state_of self.old.book) (state_of self.new.book) result }
+        ensures told { IsTrue (state_of self.old.book).honest
+            → Told piece.now (state_of self.old.book) (state_of self.new.book) result }
         ensures at_least { IfOk result (λ n. 1 ≤ n) }
         ensures at_most { IfOk result (λ n. n ≤ length piece.now) }
         ensures goes { Goes (state_of self.old.book) (state_of self.new.book) }
         ensures reads { SameReads (state_of self.old.book) (state_of self.new.book) }
-        ensures cause { OnErr result (Rose (state_of self.old.book).output_faults (state_of self.new.book).output_faults) }
+        ensures cause { OnErr result (Rose (state_of self.old.book).output_faults
+            (state_of self.new.book).output_faults) }
         ensures faults { TellFaults result (state_of self.old.book) (state_of self.new.book) }
     {
         match tells(&self.rt, piece) {

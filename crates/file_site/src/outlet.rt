@@ -46,7 +46,8 @@ pub fn tells<P: Print + Clock>(rt: &P, piece: &[u8]) -> io::Result<usize>
     Err(io::Error::from(ErrorKind::TimedOut))
 }
 
-/// Writes a line to standard output, where there is no site for want of memory, and answers whether all of it was taken.
+/// Writes a line to standard output, where there is no site for want of memory, and answers whether all of it was
+/// taken.
 pub fn tell_line<P: Print + Clock>(rt: &P, line: &[u8]) -> bool {
     let mut rest = line;
     for _piece in 0..line.len() {

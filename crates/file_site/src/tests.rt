@@ -1,4 +1,5 @@
-// What no clause says: which files are read, written, synced, made and locked, and what the standard streams give and take.
+// What no clause says: which files are read, written, synced, made and locked, and what the standard streams give and
+// take.
 use crate::fakes::{Fake, FakeReader, World};
 use crate::intake::Intake;
 use crate::watch::Watch;
@@ -67,7 +68,8 @@ fn files_are_made_and_found_again(rt: HostRuntime) -> Result<(), Fail> {
     Ok(())
 }
 
-// Where a file that is there can't be read, no device is there: else the missing ones would read as blank and not be made.
+// Where a file that is there can't be read, no device is there: else the missing ones would read as blank and not be
+// made.
 #[test]
 fn a_file_that_cannot_be_read_is_not_fit(rt: HostRuntime) -> Result<(), Fail> {
     remove_all(&rt);
@@ -87,8 +89,8 @@ fn a_file_that_cannot_be_read_is_not_fit(rt: HostRuntime) -> Result<(), Fail> {
     Ok(())
 }
 
-// Each file is filled and synced under the name of a draft, and then renamed; the folder is synced last, also where nothing
-// was to be made.
+// Each file is filled and synced under the name of a draft, and then renamed; the folder is synced last, also where
+// nothing was to be made.
 #[test]
 fn a_new_database_is_made_in_this_order(rt: HostRuntime) -> Result<(), Fail> {
     remove_all(&rt);
@@ -105,7 +107,10 @@ fn a_new_database_is_made_in_this_order(rt: HostRuntime) -> Result<(), Fail> {
     assert_eq!(rt;
         made,
         Some(
-            "open face.log;open face.flash;open face.disk;remove face.log.new;make face.log.new;lock face.log.new;fill face.log.new;fill face.log.new;sync all face.log.new;remove face.flash.new;make face.flash.new;fill face.flash.new;sync all face.flash.new;remove face.disk.new;make face.disk.new;fill face.disk.new;sync all face.disk.new;rename face.log.new;rename face.flash.new;rename face.disk.new;sync all .;"
+            "open face.log;open face.flash;open face.disk;remove face.log.new;make face.log.new;lock face.log.new;fill \
+            face.log.new;fill face.log.new;sync all face.log.new;remove face.flash.new;make face.flash.new;fill \
+            face.flash.new;sync all face.flash.new;remove face.disk.new;make face.disk.new;fill face.disk.new;sync all \
+            face.disk.new;rename face.log.new;rename face.flash.new;rename face.disk.new;sync all .;"
         )
     );
     assert_eq!(rt; lengths(&rt), [70_000, 20, 30, NONE, NONE, NONE]);
@@ -124,15 +129,16 @@ fn a_new_database_is_made_in_this_order(rt: HostRuntime) -> Result<(), Fail> {
     assert_eq!(rt;
         again.as_str().strip_prefix(opening),
         Some(
-            "open face.log;lock face.log;sync face.log;open face.flash;sync face.flash;open face.disk;sync face.disk;read face.log;read face.flash;read face.disk;sync all .;"
+            "open face.log;lock face.log;sync face.log;open face.flash;sync face.flash;open face.disk;sync \
+            face.disk;read face.log;read face.flash;read face.disk;sync all .;"
         )
     );
     remove_all(&rt);
     Ok(())
 }
 
-// Where a file can't be made, nothing is there and nothing stays; but a file system without a sync of folders or without
-// locks makes a new database all the same.
+// Where a file can't be made, nothing is there and nothing stays; but a file system without a sync of folders or
+// without locks makes a new database all the same.
 #[test]
 fn what_cannot_be_made_is_removed(rt: HostRuntime) -> Result<(), Fail> {
     let rows = [

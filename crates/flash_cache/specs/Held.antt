@@ -53,9 +53,11 @@ pub record MayGoOn (cache : FlashCache) (site : State) : Type 0 where
   pub next : cache.directory.first + length cache.directory.groups ≡ cache.ring.hi
   pub few : length cache.directory.groups < cache.geometry.groups
   pub sizes : AllByRecursion (λ frames. (1 ≤ length frames) × (length frames ≤ 8)) cache.directory.groups
-  pub exist : AllByRecursion (λ frames. AllByRecursion (λ frame. frame.page < cache.geometry.pages) frames) cache.directory.groups
+  pub exist : AllByRecursion (λ frames. AllByRecursion (λ frame. frame.page < cache.geometry.pages) frames)
+      cache.directory.groups
 
--- of an honest site, whatever of the flash is loose: the rings of groups and segments are of the form and the ones that the cache found
+-- of an honest site, whatever of the flash is loose: the rings of groups and segments are of the form and the ones that
+-- the cache found
 pub record Fits (cache : FlashCache) (site : State) : Type 0 where
   pub honest : IsTrue site.honest
   pub form : IsRing (group_shape cache.geometry) site.image.flash

@@ -1,5 +1,6 @@
 -- What a push does to the queue and to the devices: pages are staged, then a group is appended.
-use Rattle.std.specs.Prelude.{◌≡◌, ◌⊎◌, ℕ, Bool, false, List, [], ◌∷◌, ◌++◌, map, drop, zip, slice_index_or, if◌then◌else◌}
+use Rattle.std.specs.Prelude.{◌≡◌, ◌⊎◌, ℕ, Bool, false, List, [], ◌∷◌, ◌++◌, map, drop, zip, slice_index_or}
+use Rattle.std.specs.Prelude.{if◌then◌else◌}
 use Rattle.site.specs.declared.geometry.Geometry.{Geometry}
 use Rattle.site.specs.declared.outside.Dev.TheVariants.{Log}
 use Rattle.site.specs.State.{State, Image, Snapshot}
@@ -32,7 +33,8 @@ no_frame = record { page = 0; dirty = false; octets = [] }
 
 -- what they have on flash
 abbrev pub staged_contents : FlashCache → List (List Frame) → List (List ℕ)
-staged_contents cache groups = map (λ f. (slice_index_or (slice_index_or groups 0 []) f.0 no_frame).octets) (staged_marks cache)
+staged_contents cache groups =
+    map (λ f. (slice_index_or (slice_index_or groups 0 []) f.0 no_frame).octets) (staged_marks cache)
 
 -- the frames of the front group that the machine's push gives a second chance
 abbrev pub chance_marks : FlashCache → List Placed
@@ -53,13 +55,14 @@ frames_given pages changed contents = map given_frame (zip (zip pages changed) c
 abbrev pub known_given : List ℕ → List Bool → List Known
 known_given pages changed = map (λ f. known_of f.0 f.1) (zip pages changed)
 
--- The new group: the second chances in their order, then the pages given. Its pages, its frames, and these as the directory knows
--- them.
+-- The new group: the second chances in their order, then the pages given. Its pages, its frames, and these as the
+-- directory knows them.
 abbrev pub pages_pushed : FlashCache → List ℕ → List ℕ
 pages_pushed cache pages = map (λ f. f.1.page) (chance_marks cache) ++ pages
 
 abbrev pub frames_pushed : FlashCache → Image → List ℕ → List Bool → List (List ℕ) → List Frame
-frames_pushed cache image pages changed contents = map (chance_given (version_on cache.geometry image)) (chance_marks cache) ++ frames_given pages changed contents
+frames_pushed cache image pages changed contents =
+    map (chance_given (version_on cache.geometry image)) (chance_marks cache) ++ frames_given pages changed contents
 
 abbrev pub known_pushed : FlashCache → List ℕ → List Bool → List Known
 known_pushed cache pages changed = map chance_frame (chance_marks cache) ++ known_given pages changed
@@ -76,12 +79,15 @@ pushed_queue cache frames = pushed (front_leaves cache) frames cache.directory
 abbrev pub changes_of_push : List ℕ → List ℕ → List Change
 changes_of_push pages group = changes_of pages ++ AppendsGroup group ∷ []
 
--- Nothing was told. Either no group was appended: the first of the changes before were made, and staged pages may have any octets;
--- or the group was, and each staged page has its octets.
-pub record LeavesPushBehind (g : Geometry) (before : List Change) (pages : List ℕ) (contents : List (List ℕ)) (group : List ℕ) (old : State) (snapshot : Snapshot) : Type 0 where
+-- Nothing was told. Either no group was appended: the first of the changes before were made, and staged pages may have
+-- any octets; or the group was, and each staged page has its octets.
+pub record LeavesPushBehind (g : Geometry) (before : List Change) (pages : List ℕ) (contents : List (List ℕ))
+    (group : List ℕ) (old : State) (snapshot : Snapshot) : Type 0 where
   pub told : snapshot.told ≡ old.told
-  pub either : ((changes : List Change) × IsFrontOf (before ++ changes_of pages) changes × Reaches g changes old.image snapshot.image)
-      ⊎ (HasStaged pages contents old.image.disk snapshot.image.disk × Reaches g (before ++ changes_of_push pages group) old.image snapshot.image)
+  pub either : ((changes : List Change) × IsFrontOf (before ++ changes_of pages) changes
+      × Reaches g changes old.image snapshot.image)
+      ⊎ (HasStaged pages contents old.image.disk snapshot.image.disk
+      × Reaches g (before ++ changes_of_push pages group) old.image snapshot.image)
 
 -- where no segment is saved before
 abbrev pub LeavesPush : Geometry → List ℕ → List (List ℕ) → List ℕ → State → Snapshot → Type 0
@@ -91,11 +97,12 @@ LeavesPush g = LeavesPushBehind g []
 abbrev pub changes_before : FlashCache → Image → List Change
 changes_before cache image = changes_of_save (is_due cache.ring.hi cache.segments.hi) (groups_on cache.geometry image)
 
--- All changes of a push by the cache: the segment that is due, then the staged pages and the group with the second chances and the
--- pages given.
+-- All changes of a push by the cache: the segment that is due, then the staged pages and the group with the second
+-- chances and the pages given.
 abbrev pub changes_of_group : FlashCache → Image → List ℕ → List Bool → List (List ℕ) → List Change
 changes_of_group cache image pages changed contents =
-    changes_before cache image ++ changes_of_push (staged_pages cache) (group (frames_pushed cache image pages changed contents))
+    changes_before cache image ++ changes_of_push (staged_pages cache)
+    (group (frames_pushed cache image pages changed contents))
 
 -- the log's device stays as it is, nothing was told, and nothing was heard
 pub record ChangesPages (old new : State) : Type 0 where

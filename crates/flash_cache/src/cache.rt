@@ -1,5 +1,7 @@
 // The queue on flash: its groups stand on a ring of the flash device, and a directory in memory knows their frames.
-ghost use Rattle.std.specs.Prelude.{◌≡◌, ◌≢◌, ◌⊎◌, ◌↔◌, ◌+◌, ◌-◌, ◌*◌, ◌^◌, ◌<◌, ◌≤◌, ℕ, List, length, map, take, [], ◌∷◌, ◌++◌, true, false, IsTrue, IfOk, OnOk, OnErr, IfErr, IsErrOf, IfSome, IfNone, Some, if◌then◌else◌, slice_get, AllPairs};
+ghost use Rattle.std.specs.Prelude.{◌≡◌, ◌≢◌, ◌⊎◌, ◌↔◌, ◌+◌, ◌-◌, ◌*◌, ◌^◌, ◌<◌, ◌≤◌, ℕ, List, length, map, take, []};
+ghost use Rattle.std.specs.Prelude.{◌∷◌, ◌++◌, true, false, IsTrue, IfOk, OnOk, OnErr, IfErr, IsErrOf, IfSome, IfNone};
+ghost use Rattle.std.specs.Prelude.{Some, if◌then◌else◌, slice_get, AllPairs};
 ghost use Rattle.std.specs.List.{All, AllByRecursion};
 ghost use Rattle.site.specs.declared.outside.Dev.{Dev};
 ghost use Rattle.site.specs.declared.outside.Stop.{Stop};
@@ -20,8 +22,12 @@ ghost use Rattle.second_chance.specs.Queue.{has_frame, with_read, marks, front_m
 ghost use Rattle.second_chance.specs.Machine.{rules_of, leaving};
 ghost use Rattle.stage_out.specs.Staged.{HasStaged};
 ghost use Rattle.flash_directory.specs.Heads.{frames_in};
-ghost use Rattle.flash_cache.specs.Held.{MayGoOn, Fits, IsWorn, HasGroups, HasFrames, AreSaved, Holds, queue_of, version_on, PagesExist, IsCleanOn, start_reads};
-ghost use Rattle.flash_cache.specs.Pushed.{staged_marks, staged_pages, staged_contents, chance_marks, pages_pushed, frames_given, frames_pushed, known_pushed, pushed_groups, pushed_queue, changes_of_push, changes_before, changes_of_group, LeavesPush, LeavesPushBehind, ChangesPages};
+ghost use Rattle.flash_cache.specs.Held.{MayGoOn, Fits, IsWorn, HasGroups, HasFrames, AreSaved, Holds, queue_of};
+ghost use Rattle.flash_cache.specs.Held.{version_on, PagesExist, IsCleanOn, start_reads};
+ghost use Rattle.flash_cache.specs.Pushed.{staged_marks, staged_pages, staged_contents, chance_marks, pages_pushed};
+ghost use Rattle.flash_cache.specs.Pushed.{frames_given, frames_pushed, known_pushed, pushed_groups, pushed_queue};
+ghost use Rattle.flash_cache.specs.Pushed.{changes_of_push, changes_before, changes_of_group, LeavesPush};
+ghost use Rattle.flash_cache.specs.Pushed.{LeavesPushBehind, ChangesPages};
 ghost use Rattle.flash_cache.specs.Kept.{GivesVersions, LeavesVersions, AreCleanGiven, LeavesClean};
 
 use crate::leaving::frames_leaving;
@@ -49,12 +55,12 @@ pub struct FlashCache {
 }
 
 impl FlashCache {
-    /// The queue that stands on the flash of a site, found by its segments: it reads each segment that has a live group, and
-    /// the heads of the at most four groups that aren't in segments, and so about half as often as there are slots for
-    /// groups. No frame is referenced.
+    /// The queue that stands on the flash of a site, found by its segments: it reads each segment that has a live
+    /// group, and the heads of the at most four groups that aren't in segments, and so about half as often as there are
+    /// slots for groups. No frame is referenced.
     ///
-    /// `Foreign` comes only where flash isn't of the form, or its segments don't follow the groups; `Memory` where the heads
-    /// or the directory find none.
+    /// `Foreign` comes only where flash isn't of the form, or its segments don't follow the groups; `Memory` where the
+    /// heads or the directory find none.
     pub fn start<S: Site>(
         alloc: Global,
         site: &mut S,
@@ -126,8 +132,8 @@ impl FlashCache {
         self.directory.newest(page).is_some()
     }
 
-    /// Reads the last frame of a page, by one read of one page, and marks it as referenced. It answers false where the page
-    /// has no frame; then nothing changes.
+    /// Reads the last frame of a page, by one read of one page, and marks it as referenced. It answers false where the
+    /// page has no frame; then nothing changes.
     pub fn fetch<S: Site>(&mut self, site: &mut S, page: u32, into: &mut Page) -> Result<bool, Stop>
         requires { MayGoOn self.old (S.state site.old) }
 
@@ -174,18 +180,19 @@ impl FlashCache {
     }
 
     /// Pushes a group with the second chances of the plan, and behind them the pages given, each dirty where it was
-    /// changed. First, where four groups aren't in segments, a segment with their heads is saved. Where the queue is full
-    /// its front group leaves. The frames of it that have a second chance are read, and
-    /// stand in the new group as they were, dirty or not, but not referenced. Those that the plan stages, the others that
-    /// are valid and dirty, are read, written to the disk, and synced there before the group is appended.
+    /// changed. First, where four groups aren't in segments, a segment with their heads is saved. Where the queue is
+    /// full its front group leaves. The frames of it that have a second chance are read, and
+    /// stand in the new group as they were, dirty or not, but not referenced. Those that the plan stages, the others
+    /// that are valid and dirty, are read, written to the disk, and synced there before the group is appended.
     ///
-    /// At each moment of the call segments follow the groups, and the queue has its old groups, and the staged pages may
-    /// have any octets on the disk; or it has the new group, and the staged pages stand on the disk. So each page has the
-    /// version that it had, or all pages given have their contents, and every other page the version that it had.
+    /// At each moment of the call segments follow the groups, and the queue has its old groups, and the staged pages
+    /// may have any octets on the disk; or it has the new group, and the staged pages stand on the disk. So each page
+    /// has the version that it had, or all pages given have their contents, and every other page the version that it
+    /// had.
     ///
     /// `plan` is that of the machine for the front group. The lists are the pages given, of which none is given twice,
-    /// whether each was changed, and the content of each. With the second chances they are 1 to 8 pages; a page that has
-    /// a second chance may be given, too, and has the content given then.
+    /// whether each was changed, and the content of each. With the second chances they are 1 to 8 pages; a page that
+    /// has a second chance may be given, too, and has the content given then.
     ///
     /// `Foreign` comes only of a site that isn't honest, or has other groups than the cache found.
     pub fn push_group<S: Site>(
@@ -531,8 +538,8 @@ impl FlashCache {
         Ok(())
     }
 
-    /// What a plan knows of the front group's frames, in the first places of `into`, with their number; none where the queue
-    /// has room for one group more.
+    /// What a plan knows of the front group's frames, in the first places of `into`, with their number; none where the
+    /// queue has room for one group more.
     pub fn front_marks(&self, into: &mut [Mark; 8]) -> Option<usize>
         requires { 2 ≤ self.now.geometry.groups }
         ensures marks { IfSome result (λ count. slice_get (marks self.now.directory) 0 ≡ Some (take count into.new)) }
@@ -574,8 +581,8 @@ impl FlashCache {
         self.directory.first()
     }
 
-    /// What a listing knows of a group's frames, in the first places of `into`, with their number. The group is named by its
-    /// place in the queue.
+    /// What a listing knows of a group's frames, in the first places of `into`, with their number. The group is named
+    /// by its place in the queue.
     pub fn marks(&self, place: usize, into: &mut [Mark; 8]) -> usize
         requires { place < length self.now.directory.groups }
         ensures marks { slice_get (marks self.now.directory) place ≡ Some (take result into.new) }

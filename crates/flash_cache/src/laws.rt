@@ -1,4 +1,5 @@
-// Laws on pushes and versions, for the proofs of code above; their lemmas stand in proofs/. They do nothing when called.
+// Laws on pushes and versions, for the proofs of code above; their lemmas stand in proofs/. They do nothing when
+// called.
 ghost use Rattle.flash_cache.specs.Laws.{PushesMakeFronts, UnframedIsDisk};
 
 /// Law: at each moment of a push the first of its changes were made.

@@ -1,4 +1,5 @@
-//! The queue of pages on flash: its groups stand on a ring, and a directory in memory knows the last frame of each page.
+//! The queue of pages on flash: its groups stand on a ring, and a directory in memory knows the last frame of each
+//! page.
 #![tactic(auto)]
 
 mod cache;

@@ -269,8 +269,8 @@ fn crashed(site: MemSite, seed: u64) -> MemSite
     site.crash(seed)
 }
 
-// Stops a push that stages page 3 at one of its changes, and answers whether the next run finds the new group. It answers none
-// where a page's version isn't the one that it is to be.
+// Stops a push that stages page 3 at one of its changes, and answers whether the next run finds the new group. It
+// answers none where a page's version isn't the one that it is to be.
 fn survives(alloc: Global, changes: u64, seed: u64) -> Result<Option<bool>, Stop> {
     let (mut cache, mut site) = full_queue(alloc)?;
     site.fuse(changes);
@@ -297,8 +297,8 @@ fn survives(alloc: Global, changes: u64, seed: u64) -> Result<Option<bool>, Stop
 
 #[test]
 fn a_stopped_push_is_done_or_not(rt: HostRuntime) -> Result<(), Fail> {
-    // By the change that is stopped, and by the seeds 0, 1, 2 and 77: the write of page 3 and the sync of the disk; number
-    // and content, the next gate, and a sync; the gate, which a crash may leave open or closed, and a sync.
+    // By the change that is stopped, and by the seeds 0, 1, 2 and 77: the write of page 3 and the sync of the disk;
+    // number and content, the next gate, and a sync; the gate, which a crash may leave open or closed, and a sync.
     let rows: [[bool; 4]; 8] = [
         [false, false, false, false],
         [false, false, false, false],
@@ -342,7 +342,8 @@ fn a_push_to_a_queue_with_room(rt: HostRuntime) -> Result<(), Fail> {
 #[test]
 fn a_push_to_a_full_queue(rt: HostRuntime) -> Result<(), Fail> {
     let (mut cache, mut site) = full_queue(rt.alloc())?;
-    // Seven groups and one segment; the two rings are found by six reads and one, and the segment has the heads of four groups.
+    // Seven groups and one segment; the two rings are found by six reads and one, and the segment has the heads of four
+    // groups.
     assert_eq!(rt; site.changes(), 40);
     assert_eq!(rt; site.reads(Dev::Flash), 11);
     push_one(&mut cache, &mut site, 10, true, 0x50)?;

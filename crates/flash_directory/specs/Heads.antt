@@ -1,5 +1,7 @@
 -- The queue by the heads of its groups.
-use Rattle.std.specs.Prelude.{◌≡◌, ℕ, zero, suc, ◌+◌, ◌-◌, ◌^◌, ◌<◌, ◌≤◌, ◌==◌, true, false, List, [], ◌∷◌, length, map, drop, take_while, slice_get, slice_index_or, Option, Some, None, option_map, if◌then◌else◌}
+use Rattle.std.specs.Prelude.{◌≡◌, ℕ, zero, suc, ◌+◌, ◌-◌, ◌^◌, ◌<◌, ◌≤◌, ◌==◌, true, false, List, [], ◌∷◌, length, map}
+use Rattle.std.specs.Prelude.{drop, take_while, slice_get, slice_index_or, Option, Some, None, option_map}
+use Rattle.std.specs.Prelude.{if◌then◌else◌}
 use Rattle.std.specs.Option.{option_or}
 use Rattle.std.specs.List.{AllByRecursion}
 use Rattle.byte_fields.specs.declared.frame_head.FrameHead.{FrameHead}
@@ -14,7 +16,8 @@ frames_in heads = map (λ head. frame_of head.page head.dirty) (take_while (λ h
 -- Where the last frame of a page stands in a group whose first frame has this number, and none where it has none there.
 abbrev pub last_in : ℕ → List Frame → ℕ → Option ℕ
 last_in index [] page = None
-last_in index (frame ∷ behind) page = option_or (last_in (index + 1) behind page) (if frame.page == page then Some index else None)
+last_in index (frame ∷ behind) page =
+    option_or (last_in (index + 1) behind page) (if frame.page == page then Some index else None)
 
 abbrev pub place_in : ℕ → ℕ → Place
 place_in group index = record { group = group; index = index }
@@ -22,7 +25,8 @@ place_in group index = record { group = group; index = index }
 -- the same in groups, the first of which has this number
 abbrev pub last_among : ℕ → List (List Frame) → ℕ → Option Place
 last_among number [] page = None
-last_among number (group ∷ later) page = option_or (last_among (number + 1) later page) (option_map (place_in number) (last_in 0 group page))
+last_among number (group ∷ later) page =
+    option_or (last_among (number + 1) later page) (option_map (place_in number) (last_in 0 group page))
 
 -- the place of the last frame of a page in the queue
 abbrev pub newest : Queue → ℕ → Option Place
@@ -56,7 +60,8 @@ in_next place = (place.0 + 1, place.1)
 
 abbrev pub last_place : List (List Frame) → ℕ → Option (ℕ × ℕ)
 last_place [] page = None
-last_place (group ∷ later) page = option_or (option_map in_next (last_place later page)) (option_map in_first (last_in 0 group page))
+last_place (group ∷ later) page =
+    option_or (option_map in_next (last_place later page)) (option_map in_first (last_in 0 group page))
 
 -- each group has one to eight frames, and all group numbers fit
 pub record IsQueue (queue : Queue) : Type 0 where

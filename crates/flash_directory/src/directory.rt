@@ -1,4 +1,5 @@
-ghost use Rattle.std.specs.Prelude.{◌≡◌, ◌↔◌, ◌+◌, ◌^◌, ◌<◌, ◌≤◌, ◌==◌, ℕ, nat_eq, length, drop, take, map, All, IsTrue, Some, IfOk, IfErr, IfSome, OnOk, OnErr, is_some, slice_get, if◌then◌else◌};
+ghost use Rattle.std.specs.Prelude.{◌≡◌, ◌↔◌, ◌+◌, ◌^◌, ◌<◌, ◌≤◌, ◌==◌, ℕ, nat_eq, length, drop, take, map, All};
+ghost use Rattle.std.specs.Prelude.{IsTrue, Some, IfOk, IfErr, IfSome, OnOk, OnErr, is_some, slice_get, if◌then◌else◌};
 ghost use Rattle.byte_fields.specs.FrameHeads.{AreGroupHeads};
 ghost use Rattle.second_chance.specs.Queue.{has_frame, marks, pushed, with_read};
 ghost use Rattle.flash_directory.specs.Heads.{frames_in, newest, IsNewest, IsQueue};
@@ -22,8 +23,8 @@ pub struct HeadView<'a> {
     pub list: &'a [[FrameHead; 8]],
 }
 
-/// What is in the queue on flash, by the heads of its groups: where each page's last frame is, and what a plan and a listing
-/// know of the frames.
+/// What is in the queue on flash, by the heads of its groups: where each page's last frame is, and what a plan and a
+/// listing know of the frames.
 #[derive(Drop)]
 pub struct Directory {
     first: u64,
@@ -50,7 +51,8 @@ impl Directory {
     pub fn of_groups(alloc: Global, heads: &HeadView) -> Result<Directory, Stop>
         requires first { heads.now.first ≤ 2 ^ 40 }
         requires groups { All (λ group. AreGroupHeads group) heads.now.list.now }
-        ensures ok { IfOk result (λ directory. directory ≡ record { first = heads.now.first; groups = map frames_in heads.now.list.now }) }
+        ensures ok { IfOk result (λ directory. directory
+            ≡ record { first = heads.now.first; groups = map frames_in heads.now.list.now }) }
         ensures memory { IfErr result (λ stop. stop ≡ Stop.Memory) }
     {
         let mut groups = VecDeque::with_capacity(alloc, heads.list.len())?;
@@ -101,8 +103,8 @@ impl Directory {
         Some(*place)
     }
 
-    /// A group enters the queue behind the others, and the front one leaves where it is said to. Where memory is wanting the
-    /// queue stays as it was.
+    /// A group enters the queue behind the others, and the front one leaves where it is said to. Where memory is
+    /// wanting the queue stays as it was.
     pub fn push_group(&mut self, heads: &[FrameHead; 8], drop_front: bool) -> Result<(), Stop>
         requires heads { AreGroupHeads heads.now }
         requires front { IsTrue drop_front → 0 < length self.old.groups }
@@ -135,8 +137,8 @@ impl Directory {
         }
     }
 
-    /// Writes the marks of a group's frames into the first places of `into`, and answers how many there are. The group is named
-    /// by its place in the queue, counted from the front.
+    /// Writes the marks of a group's frames into the first places of `into`, and answers how many there are. The group
+    /// is named by its place in the queue, counted from the front.
     pub fn marks(&self, place: usize, into: &mut [Mark; 8]) -> usize
         requires { place < length self.now.groups }
         ensures marks { slice_get (marks self.now) place ≡ Some (take result into.new) }

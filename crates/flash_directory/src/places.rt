@@ -1,5 +1,6 @@
 // Where each page's last frame stands, kept as groups enter the queue and leave it.
-ghost use Rattle.std.specs.Prelude.{◌≡◌, ◌+◌, ◌<◌, ◌≤◌, ◌==◌, ℕ, nat_eq, length, drop, IsTrue, OnOk, OnErr, IfErr, if◌then◌else◌};
+ghost use Rattle.std.specs.Prelude.{◌≡◌, ◌+◌, ◌<◌, ◌≤◌, ◌==◌, ℕ, nat_eq, length, drop, IsTrue, OnOk, OnErr, IfErr};
+ghost use Rattle.std.specs.Prelude.{if◌then◌else◌};
 ghost use Rattle.std.specs.VecDeque.{deque_len, deque_capacity};
 ghost use Rattle.indexmap.specs.IndexMap.{get, spare};
 ghost use Rattle.second_chance.specs.Queue.{in_group};
@@ -55,8 +56,8 @@ pub fn enter_group(places: &mut IndexMap<u32, Place>, group: &Group, number: u64
     }
 }
 
-/// The front group leaves where it is said to, and there is room for another one. The first group has this number. Where
-/// memory is wanting all stays as it was.
+/// The front group leaves where it is said to, and there is room for another one. The first group has this number.
+/// Where memory is wanting all stays as it was.
 pub fn make_way(
     groups: &mut VecDeque<Group>,
     places: &mut IndexMap<u32, Place>,
@@ -64,9 +65,13 @@ pub fn make_way(
     drop_front: bool,
 ) -> Result<(), Stop>
     requires front { IsTrue drop_front → 0 < length groups.old.items }
-    ensures groups { OnOk result (groups.new.items ≡ (if drop_front then drop 1 groups.old.items else groups.old.items)) }
+    ensures groups { OnOk result (groups.new.items
+        ≡ (if drop_front then drop 1 groups.old.items else groups.old.items)) }
     ensures places { FindsNewest places.old (record { first = first; groups = groups.old.items })
-        → OnOk result (FindsNewest places.new (record { first = (if drop_front then first + 1 else first); groups = groups.new.items })) }
+        → OnOk result (FindsNewest places.new (record {
+          first = (if drop_front then first + 1 else first);
+          groups = groups.new.items;
+        })) }
     ensures room { OnOk result (deque_len groups.new < deque_capacity groups.new) }
     ensures places_room { spare places.old ≤ spare places.new }
     ensures same_groups { OnErr result (groups.new.items ≡ groups.old.items) }

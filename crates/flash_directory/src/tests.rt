@@ -102,7 +102,8 @@ fn eight_from(page: u32) -> [FrameHead; 8] {
     heads
 }
 
-// Puts a group of eight pages behind the others, and takes the front one out where there are five, once it is known that it may.
+// Puts a group of eight pages behind the others, and takes the front one out where there are five, once it is known
+// that it may.
 fn push_eight(directory: &mut Directory, page: u32) -> Result<bool, Stop> {
     let heads = eight_from(page);
     if !are_group_heads(&heads) || directory.first() + directory.len() as u64 > 1 << 40 {
@@ -113,7 +114,8 @@ fn push_eight(directory: &mut Directory, page: u32) -> Result<bool, Stop> {
     Ok(true)
 }
 
-// Whether the groups are those numbered from `first` up to `end`, each with the eight pages from eight times its number on.
+// Whether the groups are those numbered from `first` up to `end`, each with the eight pages from eight times its number
+// on.
 fn has_groups(directory: &Directory, first: u64, end: u64) -> bool {
     if directory.first() != first || directory.len() as u64 != end.wrapping_sub(first) {
         return false;
@@ -132,8 +134,8 @@ fn has_groups(directory: &Directory, first: u64, end: u64) -> bool {
     true
 }
 
-// Where memory is refused to a push the directory stays as it was, and the next push is made. `checks/refused_memory.sh` refuses
-// each allocation in turn, and counts on the line that tells of it.
+// Where memory is refused to a push the directory stays as it was, and the next push is made.
+// `checks/refused_memory.sh` refuses each allocation in turn, and counts on the line that tells of it.
 #[test]
 fn a_refused_push_leaves_the_directory_as_it_was(rt: HostRuntime) -> Result<(), Fail> {
     let list: &[[FrameHead; 8]] = &[];

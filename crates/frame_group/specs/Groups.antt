@@ -1,5 +1,6 @@
 -- Groups of frames, and the octets that they have on flash.
-use Rattle.std.specs.Prelude.{◌≡◌, ℕ, ◌+◌, ◌-◌, ◌*◌, ◌≤◌, ◌==◌, Bool, true, List, [], ◌∷◌, ◌++◌, length, take, drop, map, filter, replicate, flat_map, get_or}
+use Rattle.std.specs.Prelude.{◌≡◌, ℕ, ◌+◌, ◌-◌, ◌*◌, ◌≤◌, ◌==◌, Bool, true, List, [], ◌∷◌, ◌++◌, length, take, drop}
+use Rattle.std.specs.Prelude.{map, filter, replicate, flat_map, get_or}
 use Rattle.std.specs.List.{AllByRecursion}
 use Rattle.std.specs.Int.{w32, w64, from_be_bytes}
 use Rattle.byte_fields.specs.declared.frame_head.FrameHead.{FrameHead}
@@ -66,4 +67,5 @@ frame_at content i = record {
 
 -- the frames of a content: those whose head is present
 abbrev pub frames_in : List ℕ → List Frame
-frames_in content = map (frame_at content) (filter (λ i. get_or content (16 * i) 0 == 1) (0 ∷ 1 ∷ 2 ∷ 3 ∷ 4 ∷ 5 ∷ 6 ∷ 7 ∷ []))
+frames_in content = map (frame_at content)
+    (filter (λ i. get_or content (16 * i) 0 == 1) (0 ∷ 1 ∷ 2 ∷ 3 ∷ 4 ∷ 5 ∷ 6 ∷ 7 ∷ []))

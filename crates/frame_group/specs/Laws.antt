@@ -1,5 +1,6 @@
 -- Laws of groups and of lists of frames.
-use Rattle.std.specs.Prelude.{◌≡◌, ◌≢◌, ℕ, ◌+◌, ◌*◌, ◌<◌, ◌≤◌, true, false, List, [], ◌∷◌, ◌++◌, length, map, flat_map, take, drop, replicate, get_or, Some, None}
+use Rattle.std.specs.Prelude.{◌≡◌, ◌≢◌, ℕ, ◌+◌, ◌*◌, ◌<◌, ◌≤◌, true, false, List, [], ◌∷◌, ◌++◌, length, map, flat_map}
+use Rattle.std.specs.Prelude.{take, drop, replicate, get_or, Some, None}
 use Rattle.std.specs.List.{AllByRecursion}
 use Rattle.std.specs.Option.{option_or}
 use Rattle.byte_fields.specs.declared.frame_head.FrameHead.{FrameHead}
@@ -11,7 +12,8 @@ use Rattle.frame_group.specs.Versions.{frames_of, last_frame, version, CleanAsDi
 
 -- a content of zeros has no frames yet
 abbrev pub ZerosHaveNoFrames : Type 0
-ZerosHaveNoFrames = (content : List ℕ) → length content ≡ GROUP_LEN → content ≡ replicate (length content) 0 → content ≡ group []
+ZerosHaveNoFrames = (content : List ℕ) → length content ≡ GROUP_LEN → content ≡ replicate (length content) 0
+    → content ≡ group []
 
 -- a group's content has its length
 abbrev pub GroupSize : Type 0
@@ -27,7 +29,8 @@ OneHeads = (octets : List ℕ) (a b : List FrameHead) → HasHeads octets a → 
 
 -- it is enough to look at the octets of the heads
 abbrev pub HeadsOfFront : Type 0
-HeadsOfFront = (octets : List ℕ) (n : ℕ) (heads : List FrameHead) → HEADS_LEN ≤ n → HasHeads octets heads → HasHeads (take n octets) heads
+HeadsOfFront = (octets : List ℕ) (n : ℕ) (heads : List FrameHead) → HEADS_LEN ≤ n → HasHeads octets heads
+    → HasHeads (take n octets) heads
 
 -- the page of each frame stands at its place
 abbrev pub PagesStand : Type 0
@@ -40,65 +43,80 @@ FramesAreIn = (content : List ℕ) (frames : List Frame) → IsGroup content fra
 
 -- a group more has its frames behind all others
 abbrev pub FramesMore : Type 0
-FramesMore = (contents : List (List ℕ)) (content : List ℕ) (frames : List Frame) → IsGroup content frames → frames_of (contents ++ content ∷ []) ≡ frames_of contents ++ frames
+FramesMore = (contents : List (List ℕ)) (content : List ℕ) (frames : List Frame) → IsGroup content frames
+    → frames_of (contents ++ content ∷ []) ≡ frames_of contents ++ frames
 
 -- contents of groups have the frames of these groups
 abbrev pub FramesOfGroups : Type 0
-FramesOfGroups = (groups : List (List Frame)) → AllByRecursion (λ frames. IsGroup (group frames) frames) groups → frames_of (map group groups) ≡ flat_map (λ frames. frames) groups
+FramesOfGroups = (groups : List (List Frame)) → AllByRecursion (λ frames. IsGroup (group frames) frames) groups
+    → frames_of (map group groups) ≡ flat_map (λ frames. frames) groups
 
 -- The last frame of a page.
 
 abbrev pub LastOfBoth : Type 0
-LastOfBoth = (page : ℕ) (older newer : List Frame) → last_frame page (older ++ newer) ≡ option_or (last_frame page newer) (last_frame page older)
+LastOfBoth = (page : ℕ) (older newer : List Frame)
+    → last_frame page (older ++ newer) ≡ option_or (last_frame page newer) (last_frame page older)
 
 -- it is a frame of the page
 abbrev pub LastIsOfPage : Type 0
-LastIsOfPage = (page : ℕ) (frames : List Frame) (frame : Frame) → last_frame page frames ≡ Some frame → frame.page ≡ page
+LastIsOfPage = (page : ℕ) (frames : List Frame) (frame : Frame) → last_frame page frames ≡ Some frame
+    → frame.page ≡ page
 
 -- and no other one follows
 abbrev pub LastByIndex : Type 0
-LastByIndex = (page : ℕ) (frames : List Frame) (i : ℕ) (d : Frame) → i < length frames → (get_or frames i d).page ≡ page →
-    ((j : ℕ) → i < j → j < length frames → (get_or frames j d).page ≢ page) → last_frame page frames ≡ Some (get_or frames i d)
+LastByIndex = (page : ℕ) (frames : List Frame) (i : ℕ) (d : Frame) → i < length frames
+    → (get_or frames i d).page ≡ page →
+    ((j : ℕ) → i < j → j < length frames → (get_or frames j d).page ≢ page)
+    → last_frame page frames ≡ Some (get_or frames i d)
 
 abbrev pub NoneByIndex : Type 0
-NoneByIndex = (page : ℕ) (frames : List Frame) (d : Frame) → ((j : ℕ) → j < length frames → (get_or frames j d).page ≢ page) → last_frame page frames ≡ None
+NoneByIndex = (page : ℕ) (frames : List Frame) (d : Frame)
+    → ((j : ℕ) → j < length frames → (get_or frames j d).page ≢ page) → last_frame page frames ≡ None
 
 -- A group is pushed.
 
 -- a page of the group has its version from it
 abbrev pub NewVersion : Type 0
-NewVersion = (disk : ℕ → List ℕ) (frames new : List Frame) (page : ℕ) (frame : Frame) → last_frame page new ≡ Some frame → version disk (frames ++ new) page ≡ frame.octets
+NewVersion = (disk : ℕ → List ℕ) (frames new : List Frame) (page : ℕ) (frame : Frame) → last_frame page new ≡ Some frame
+    → version disk (frames ++ new) page ≡ frame.octets
 
 -- every other page has the version that it had
 abbrev pub OtherVersions : Type 0
-OtherVersions = (disk : ℕ → List ℕ) (frames new : List Frame) (page : ℕ) → last_frame page new ≡ None → version disk (frames ++ new) page ≡ version disk frames page
+OtherVersions = (disk : ℕ → List ℕ) (frames new : List Frame) (page : ℕ) → last_frame page new ≡ None
+    → version disk (frames ++ new) page ≡ version disk frames page
 
 -- clean frames equal the disk where those of the group do
 abbrev pub PushKeepsClean : Type 0
-PushKeepsClean = (disk : ℕ → List ℕ) (frames new : List Frame) → CleanAsDisk disk frames → CleanAsDisk disk new → CleanAsDisk disk (frames ++ new)
+PushKeepsClean = (disk : ℕ → List ℕ) (frames new : List Frame) → CleanAsDisk disk frames → CleanAsDisk disk new
+    → CleanAsDisk disk (frames ++ new)
 
 -- Pages are staged to the disk.
 
 -- a disk that differs in pages with frames alone has the same versions, whatever these pages have
 abbrev pub StagingKeepsVersions : Type 0
-StagingKeepsVersions = (old new : ℕ → List ℕ) (frames : List Frame) → ((page : ℕ) → last_frame page frames ≡ None → new page ≡ old page) →
+StagingKeepsVersions = (old new : ℕ → List ℕ) (frames : List Frame)
+    → ((page : ℕ) → last_frame page frames ≡ None → new page ≡ old page) →
     (page : ℕ) → version new frames page ≡ version old frames page
 
 -- clean frames equal the disk where no page of theirs is written
 abbrev pub StagingKeepsClean : Type 0
-StagingKeepsClean = (old new : ℕ → List ℕ) (frames : List Frame) → ((page : ℕ) (frame : Frame) → last_frame page frames ≡ Some frame → frame.dirty ≡ false → new page ≡ old page) →
+StagingKeepsClean = (old new : ℕ → List ℕ) (frames : List Frame)
+    → ((page : ℕ) (frame : Frame) → last_frame page frames ≡ Some frame → frame.dirty ≡ false → new page ≡ old page) →
     CleanAsDisk old frames → CleanAsDisk new frames
 
 -- The front group is dropped.
 
 -- if the last frame of a page is in the front group and dirty, the disk has its octets
 abbrev pub IsStaged : (ℕ → List ℕ) → List Frame → List Frame → ℕ → Type 0
-IsStaged disk front rest page = (frame : Frame) → last_frame page rest ≡ None → last_frame page front ≡ Some frame → frame.dirty ≡ true → disk page ≡ frame.octets
+IsStaged disk front rest page = (frame : Frame) → last_frame page rest ≡ None → last_frame page front ≡ Some frame
+    → frame.dirty ≡ true → disk page ≡ frame.octets
 
 -- then the version of that page doesn't change
 abbrev pub DropKeepsVersion : Type 0
-DropKeepsVersion = (disk : ℕ → List ℕ) (front rest : List Frame) (page : ℕ) → CleanAsDisk disk (front ++ rest) → IsStaged disk front rest page →
+DropKeepsVersion = (disk : ℕ → List ℕ) (front rest : List Frame) (page : ℕ) → CleanAsDisk disk (front ++ rest)
+    → IsStaged disk front rest page →
     version disk rest page ≡ version disk (front ++ rest) page
 
 abbrev pub DropKeepsClean : Type 0
-DropKeepsClean = (disk : ℕ → List ℕ) (front rest : List Frame) → CleanAsDisk disk (front ++ rest) → CleanAsDisk disk rest
+DropKeepsClean = (disk : ℕ → List ℕ) (front rest : List Frame) → CleanAsDisk disk (front ++ rest)
+    → CleanAsDisk disk rest

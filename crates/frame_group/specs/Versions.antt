@@ -22,4 +22,5 @@ version disk frames page = version_by (last_frame page frames) (disk page)
 
 -- a valid frame that isn't dirty equals its disk page
 abbrev pub CleanAsDisk : (ℕ → List ℕ) → List Frame → Type 0
-CleanAsDisk disk frames = (page : ℕ) (frame : Frame) → last_frame page frames ≡ Some frame → frame.dirty ≡ false → frame.octets ≡ disk page
+CleanAsDisk disk frames = (page : ℕ) (frame : Frame) → last_frame page frames ≡ Some frame → frame.dirty ≡ false
+    → frame.octets ≡ disk page

@@ -23,9 +23,11 @@ pub fn put_frame(content: &mut [u8], index: usize, head: &FrameHead, page: &[u8]
     requires index_in { index < 8 }
     requires present { IsTrue head.now.present }
     requires lsn { head.now.lsn ≡ lsn_of page.now }
-    ensures written { content.new ≡ put (put content.old (HEAD_LEN * index) (spelling head.now)) (HEADS_LEN + PAGE_LEN * index) page.now }
+    ensures written { content.new ≡ put (put content.old (HEAD_LEN * index) (spelling head.now))
+        (HEADS_LEN + PAGE_LEN * index) page.now }
     ensures frame { IsFrame (frame_of head.now page.now) }
-    ensures grown { (frames : List Frame) → length frames ≡ index → content.old ≡ group frames → content.new ≡ group (frames ++ frame_of head.now page.now ∷ []) }
+    ensures grown { (frames : List Frame) → length frames ≡ index → content.old ≡ group frames
+        → content.new ≡ group (frames ++ frame_of head.now page.now ∷ []) }
 {
     write_head(head, content, HEAD_LEN * index);
     let at = HEADS_LEN + PAGE_LEN * index;
@@ -38,7 +40,8 @@ pub fn put_frame(content: &mut [u8], index: usize, head: &FrameHead, page: &[u8]
 pub fn group_heads(content: &[u8]) -> Result<[FrameHead; 8], BadHead>
     requires { HEADS_LEN ≤ length content.now }
     ensures found { IfOk result (λ heads. HasHeads content.now heads) }
-    ensures frames { IfOk result (λ heads. (frames : List Frame) → IsGroup content.now frames → heads ≡ heads_of frames) }
+    ensures frames { IfOk result (λ heads. (frames : List Frame) → IsGroup content.now frames
+        → heads ≡ heads_of frames) }
     ensures bad { IfErr result (λ e. (heads : List FrameHead) → HasHeads content.now heads → ⊥) }
 {
     let mut heads = [FrameHead::BLANK; 8];

@@ -1,5 +1,8 @@
 // Laws of groups and of lists of frames, for the proofs of code above. They do nothing when called.
-ghost use Rattle.frame_group.specs.Laws.{ZerosHaveNoFrames, GroupSize, BeginsWithHeads, OneHeads, HeadsOfFront, PagesStand, FramesAreIn, FramesMore, FramesOfGroups, LastOfBoth, LastIsOfPage, LastByIndex, NoneByIndex, NewVersion, OtherVersions, PushKeepsClean, StagingKeepsVersions, StagingKeepsClean, DropKeepsVersion, DropKeepsClean};
+ghost use Rattle.frame_group.specs.Laws.{ZerosHaveNoFrames, GroupSize, BeginsWithHeads, OneHeads, HeadsOfFront};
+ghost use Rattle.frame_group.specs.Laws.{PagesStand, FramesAreIn, FramesMore, FramesOfGroups, LastOfBoth, LastIsOfPage};
+ghost use Rattle.frame_group.specs.Laws.{LastByIndex, NoneByIndex, NewVersion, OtherVersions, PushKeepsClean};
+ghost use Rattle.frame_group.specs.Laws.{StagingKeepsVersions, StagingKeepsClean, DropKeepsVersion, DropKeepsClean};
 
 /// A content of zeros is that of a group which has no frames yet.
 pub fn no_frames()

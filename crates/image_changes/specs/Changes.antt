@@ -7,7 +7,8 @@ use Rattle.site.specs.State.{Image, content_of}
 use Rattle.sealed_ring.specs.Ring.{IsRing, IsBeside, appended}
 use Rattle.log_records.specs.declared.log_record.LogRecord.{LogRecord}
 use Rattle.log_records.specs.Spelling.{AreBlock, block}
-use Rattle.image_changes.specs.Rings.{RingName, Masters, Blocks, Groups, Segments, shape_of, octets_of, units_on, KeepsUnits}
+use Rattle.image_changes.specs.Rings.{RingName, Masters, Blocks, Groups, Segments, shape_of, octets_of, units_on}
+use Rattle.image_changes.specs.Rings.{KeepsUnits}
 
 pub data Change : Type 0 where
   -- a log block with these records is sealed
@@ -50,7 +51,8 @@ pub record Rewrites (g : Geometry) (pages : List ℕ) (old new : Image) : Type 0
   pub sizes : SameSizes old new
   pub rings : (ring : RingName) → KeepsUnits (shape_of g ring) old new
   pub exist : AllByRecursion (λ page. page < g.pages) pages
-  pub others : (place : ℕ) → ((page : ℕ) → Contains pages page → IsBeside (4096 * page) 4096 place) → slice_index new.disk place ≡ slice_index old.disk place
+  pub others : (place : ℕ) → ((page : ℕ) → Contains pages page → IsBeside (4096 * page) 4096 place)
+      → slice_index new.disk place ≡ slice_index old.disk place
 
 -- what a change does to an image, with what must hold of it
 abbrev pub Makes : Geometry → Change → Image → Image → Type 0

@@ -13,11 +13,14 @@ use Rattle.image_changes.specs.Reached.{LeavesFront}
 
 -- one list of changes after the other
 abbrev pub ChangesAddUp : Type 0
-ChangesAddUp = (g : Geometry) (first second : List Change) (a b c : Image) → Reaches g first a b → Reaches g second b c → Reaches g (first ++ second) a c
+ChangesAddUp = (g : Geometry) (first second : List Change) (a b c : Image) → Reaches g first a b → Reaches g second b c
+    → Reaches g (first ++ second) a c
 
 -- a ring that no change appends to keeps its units
 abbrev pub RingKept : Type 0
-RingKept = (g : Geometry) (ring : RingName) (changes : List Change) (a b : Image) → AllByRecursion (λ change. ring_of change ≢ Some ring) changes → Reaches g changes a b → KeepsUnits (shape_of g ring) a b
+RingKept = (g : Geometry) (ring : RingName) (changes : List Change) (a b : Image)
+    → AllByRecursion (λ change. ring_of change ≢ Some ring) changes → Reaches g changes a b
+    → KeepsUnits (shape_of g ring) a b
 
 -- one call after another
 abbrev pub FrontsAddUp : Type 0
@@ -27,7 +30,8 @@ FrontsAddUp =
     LeavesFront g (first ++ second) a c
 
 -- nothing was told, and all reads as before, or the ring has one more unit
-pub record KeepsOrAppends (g : Geometry) (ring : RingName) (bytes : List ℕ) (old : State) (snapshot : Snapshot) : Type 0 where
+pub record KeepsOrAppends (g : Geometry) (ring : RingName) (bytes : List ℕ) (old : State)
+    (snapshot : Snapshot) : Type 0 where
   pub told : snapshot.told ≡ old.told
   pub either : ReadsAs g old.image snapshot.image ⊎ Appends g ring bytes old.image snapshot.image
 

@@ -17,8 +17,8 @@ pub fn fronts_add_up()
     ensures { FrontsAddUp }
 {}
 
-/// Law: an append to one of the four rings of a quiet site leaves images that read as before, or that have one more unit, and
-/// once it is done its image has.
+/// Law: an append to one of the four rings of a quiet site leaves images that read as before, or that have one more
+/// unit, and once it is done its image has.
 pub fn append_makes()
     ensures moments { AppendMakes }
     ensures done { AppendDone }

@@ -32,4 +32,5 @@ pub record IsNamedFrom (g : Geometry) (image : Image) (first page : ℕ) : Type 
 abbrev pub IsCleanFrame : Geometry → Image → ℕ → List Frame → ℕ → Type 0
 IsCleanFrame g image group frames i =
     (frame : Frame) → slice_get frames i ≡ Some frame → frame.dirty ≡ false →
-    has_frame frame.page (drop (i + 1) frames) ≡ false → (IsNamedFrom g image (group + 1) frame.page → ⊥) → frame.octets ≡ disk_on image frame.page
+    has_frame frame.page (drop (i + 1) frames) ≡ false → (IsNamedFrom g image (group + 1) frame.page → ⊥)
+    → frame.octets ≡ disk_on image frame.page

@@ -1,5 +1,6 @@
 -- The records that unfinished transactions have written, record by record.
-use Rattle.std.specs.Prelude.{◌≡◌, ℕ, ◌==◌, nat_eq, Bool, false, not, ◌&&◌, List, filter, Option, Some, None, option_map}
+use Rattle.std.specs.Prelude.{◌≡◌, ℕ, ◌==◌, nat_eq, Bool, false, not, ◌&&◌, List, filter, Option, Some, None}
+use Rattle.std.specs.Prelude.{option_map}
 use Rattle.std.specs.List.{list_any}
 use Rattle.indexmap.specs.IndexMap.{IndexMap, get}
 use Rattle.log_records.specs.Log.{Entry, txn_of, is_update, is_closed, last_on}

@@ -11,7 +11,8 @@ use Rattle.image_check.specs.Verdict.{Reading, Reads, Rule1, Rule2, HoldBefore, 
 
 -- Devices for which all rules hold stand for the table and the commits that they are read as.
 abbrev pub SoundStands : Type 0
-SoundStands = (r : Reading) (image : Image) (table : List Content) (commits : ℕ) → Reads r image → HoldBefore 12 r image →
+SoundStands = (r : Reading) (image : Image) (table : List Content) (commits : ℕ) → Reads r image
+    → HoldBefore 12 r image →
     Means (picture_of r image) table commits → StandsFor r.g image table commits
 
 -- a reading by which all rules hold, with this table and so many commits
@@ -24,7 +25,8 @@ pub record IsReadAs (g : Geometry) (image : Image) (table : List Content) (commi
 
 -- And devices that stand for a table are sound by all rules, and read as that.
 abbrev pub StandingIsSound : Type 0
-StandingIsSound = (g : Geometry) (image : Image) (table : List Content) (commits : ℕ) → StandsFor g image table commits → IsReadAs g image table commits
+StandingIsSound = (g : Geometry) (image : Image) (table : List Content) (commits : ℕ) → StandsFor g image table commits
+    → IsReadAs g image table commits
 
 -- Devices are read in one way: no two readings are of one image,
 abbrev pub OneReading : Type 0
@@ -32,7 +34,8 @@ OneReading = (image : Image) (a b : Reading) → Reads a image → Reads b image
 
 -- and where the first two rules hold there is one, with their sizes and master.
 abbrev pub AReading : Type 0
-AReading = (g : Geometry) (m : Master) (image : Image) → Rule1 g m image → Rule2 g m image → (blocks : List (List LogRecord)) × Reads (record { g = g; master = m; blocks = blocks }) image
+AReading = (g : Geometry) (m : Master) (image : Image) → Rule1 g m image → Rule2 g m image
+    → (blocks : List (List LogRecord)) × Reads (record { g = g; master = m; blocks = blocks }) image
 
 -- Sound devices fail no rule.
 abbrev pub SoundFailsNone : Type 0
@@ -47,8 +50,10 @@ pub record StandsWith (image : Image) (records commits : ℕ) : Type 0 where
 
 -- Devices that are judged sound stand for a table with as many values and commits as they are judged to have,
 abbrev pub JudgedStands : Type 0
-JudgedStands = (image : Image) (records commits : ℕ) → IsSoundWith image records commits → StandsWith image records commits
+JudgedStands = (image : Image) (records commits : ℕ) → IsSoundWith image records commits
+    → StandsWith image records commits
 
 -- and all that stand for a table are judged so.
 abbrev pub StandingIsJudged : Type 0
-StandingIsJudged = (image : Image) (records commits : ℕ) → StandsWith image records commits → IsSoundWith image records commits
+StandingIsJudged = (image : Image) (records commits : ℕ) → StandsWith image records commits
+    → IsSoundWith image records commits

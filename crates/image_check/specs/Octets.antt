@@ -50,7 +50,8 @@ pub record IsBlockOn (pages : ℕ) (content : List ℕ) (records : List LogRecor
 
 -- each live block from the oldest kept one on is of the form
 abbrev pub AreBlocks : Geometry → ℕ → Image → Type 0
-AreBlocks g kept image = OfLive (log_shape g) image (λ n. kept ≤ n → (records : List LogRecord) × IsBlockOn g.pages (block_on g image n) records)
+AreBlocks g kept image = OfLive (log_shape g) image (λ n. kept ≤ n
+    → (records : List LogRecord) × IsBlockOn g.pages (block_on g image n) records)
 
 -- the content of a group, whose frames are sound pages of the disk
 pub record IsGroupOn (g : Geometry) (content : List ℕ) (frames : List Frame) : Type 0 where
@@ -68,14 +69,15 @@ pub record IsSegmentOn (pages : ℕ) (content : List ℕ) (heads : List FrameHea
 
 -- each live segment is of the form
 abbrev pub SegmentsAreFormed : Geometry → Image → Type 0
-SegmentsAreFormed g image = OfLive (segment_shape g) image (λ n. (heads : List FrameHead) × IsSegmentOn g.pages (segment_on g image n) heads)
+SegmentsAreFormed g image = OfLive (segment_shape g) image (λ n. (heads : List FrameHead)
+    × IsSegmentOn g.pages (segment_on g image n) heads)
 
 -- the version of each page is a sound page
 abbrev pub AreVersions : Geometry → Image → Type 0
 AreVersions g image = (number : ℕ) → number < g.pages → page.IsSound (version_on g image number)
 
--- The first rule, with the sizes and the newest master: what is live is of the form, each frame and each version is a sound page,
--- and no page is named that the disk hasn't.
+-- The first rule, with the sizes and the newest master: what is live is of the form, each frame and each version is a
+-- sound page, and no page is named that the disk hasn't.
 pub record IsFormed (g : Geometry) (m : Master) (image : Image) : Type 0 where
   pub sizes : HasSizes g image
   pub rings : AreRings g image

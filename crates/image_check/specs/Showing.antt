@@ -1,5 +1,6 @@
 -- What versions know of a log, record by record.
-use Rattle.std.specs.Prelude.{◌≡◌, ℕ, ◌+◌, ◌*◌, ◌/◌, ◌≤◌, ◌<◌, ◌==◌, ◌||◌, nat_eq, nat_lt, Bool, List, slice_get, Option, Some, None, option_map, IsTrue, ⊤}
+use Rattle.std.specs.Prelude.{◌≡◌, ℕ, ◌+◌, ◌*◌, ◌/◌, ◌≤◌, ◌<◌, ◌==◌, ◌||◌, nat_eq, nat_lt, Bool, List, slice_get}
+use Rattle.std.specs.Prelude.{Option, Some, None, option_map, IsTrue, ⊤}
 use Rattle.site.specs.declared.geometry.Geometry.{Geometry}
 use Rattle.site.specs.State.{State}
 use Rattle.indexmap.specs.IndexMap.{IndexMap, get}

@@ -6,8 +6,8 @@ use Rattle.image_check.specs.declared.survey.Survey.{Survey}
 use Rattle.image_check.specs.Counting.{NumbersAre}
 use Rattle.image_check.specs.Unended.{AreLeft}
 
--- these are the transactions that records leave unfinished, those that the records before the redo block do, and the numbers of the
--- commits
+-- these are the transactions that records leave unfinished, those that the records before the redo block do, and the
+-- numbers of the commits
 pub record Surveys (redo : ℕ) (records : List Entry) (survey : Survey) : Type 0 where
   pub left : AreLeft records survey.left.left.items
   pub early : AreLeft (before_block redo records) survey.early.left.items

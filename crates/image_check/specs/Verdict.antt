@@ -6,7 +6,8 @@ use Rattle.sealed_ring.specs.Ring.{hi_of}
 use Rattle.image_changes.specs.Rings.{log_shape}
 use Rattle.log_records.specs.declared.log_record.LogRecord.{LogRecord}
 use Rattle.log_records.specs.Log.{log_from, table_of, entries_of, is_loser}
-use Rattle.log_records.specs.Sound.{Picture, InTurn, Pairwise, IsOfOpenTransaction, HaveBegunBefore, IsLoserChain, HoldsOff, FitsLog, HasRoom, active_in, before_block, AreNumbered, commit_count}
+use Rattle.log_records.specs.Sound.{Picture, InTurn, Pairwise, IsOfOpenTransaction, HaveBegunBefore, IsLoserChain}
+use Rattle.log_records.specs.Sound.{HoldsOff, FitsLog, HasRoom, active_in, before_block, AreNumbered, commit_count}
 use Rattle.log_records.specs.Log.{version_at}
 use Rattle.checkpoint.specs.declared.master.Master.{Master}
 use Rattle.checkpoint.specs.Newest.{seen}
@@ -15,8 +16,8 @@ use Rattle.flash_cache.specs.Held.{IsCleanOn}
 use Rattle.image_meaning.specs.Meaning.{versions_on, AreSegments}
 use Rattle.image_check.specs.Octets.{IsFormed}
 
--- What three contents are read as where the first two rules hold: their sizes, their newest master, and the records of the blocks from
--- its oldest kept one on.
+-- What three contents are read as where the first two rules hold: their sizes, their newest master, and the records of
+-- the blocks from its oldest kept one on.
 pub record Reading : Type 0 where
   pub g : Geometry
   pub master : Master
@@ -42,7 +43,8 @@ pub record Rule2 (g : Geometry) (m : Master) (image : Image) : Type 0 where
   pub redo_before_end : m.redo ≤ hi_of (log_shape g) image.log
   pub kept_is_live : hi_of (log_shape g) image.log ≤ m.kept + (g.blocks - 1)
 
--- 3. From the redo block on each record but a Begin is of an open transaction, and no record stands before the Begin that it names.
+-- 3. From the redo block on each record but a Begin is of an open transaction, and no record stands before the Begin
+-- that it names.
 pub record Rule3 (p : Picture) : Type 0 where
   pub open_transactions : InTurn (IsOfOpenTransaction p.master) [] p.log
   pub begun : HaveBegunBefore p.log
@@ -55,7 +57,8 @@ Rule4 p = (t : ℕ) → IsTrue (is_loser p.log t) → IsLoserChain t (entries_of
 abbrev pub Rule5 : Picture → Type 0
 Rule5 p = Pairwise (HoldsOff p.log) p.log
 
--- 6. Each version shows the records that it knows of, knows of all before the redo block, and of none that isn't sealed.
+-- 6. Each version shows the records that it knows of, knows of all before the redo block, and of none that isn't
+-- sealed.
 abbrev pub Rule6 : Picture → Type 0
 Rule6 p = (page : ℕ) → page < length p.pages → FitsLog p page (version_at p.pages page)
 

@@ -1,5 +1,6 @@
 -- A walk over the records of a log.
-use Rattle.std.specs.Prelude.{◌≡◌, ℕ, ◌+◌, ◌-◌, ◌*◌, ◌^◌, ◌≤◌, List, [], ◌∷◌, ◌++◌, length, drop, flat_map, Option, Some, None}
+use Rattle.std.specs.Prelude.{◌≡◌, ℕ, ◌+◌, ◌-◌, ◌*◌, ◌^◌, ◌≤◌, List, [], ◌∷◌, ◌++◌, length, drop, flat_map, Option}
+use Rattle.std.specs.Prelude.{Some, None}
 use Rattle.std.specs.List.{AllByRecursion}
 use Rattle.site.specs.State.{Image}
 use Rattle.log_records.specs.declared.log_record.LogRecord.{LogRecord}
@@ -37,7 +38,8 @@ pub record StandsBefore (walk : Walk) (log : LogStore) (image : Image) (left : L
 -- what is found is the first entry, and the walk stands before the others; none where none is left
 abbrev pub Gives : Option (ℕ × LogRecord) → List Entry → Walk → LogStore → Image → Type 0
 Gives None left walk log image = left ≡ []
-Gives (Some found) left walk log image = (rest : List Entry) × (left ≡ record { lsn = found.0; rec = found.1 } ∷ rest) × StandsBefore walk log image rest
+Gives (Some found) left walk log image = (rest : List Entry) × (left ≡ record { lsn = found.0; rec = found.1 } ∷ rest)
+    × StandsBefore walk log image rest
 
 -- what is left to be read falls with each record
 abbrev pub to_go : LogStore → Walk → ℕ

@@ -145,9 +145,9 @@ fn is_clean_group<S: Site>(
     Ok(true)
 }
 
-/// The seventh rule, of devices whose live groups are of the form: the first group with a valid frame that isn't dirty and
-/// doesn't equal its disk page, `None` exactly where there is none. It reads such a frame and its disk page, and the heads
-/// of later groups where these differ.
+/// The seventh rule, of devices whose live groups are of the form: the first group with a valid frame that isn't dirty
+/// and doesn't equal its disk page, `None` exactly where there is none. It reads such a frame and its disk page, and
+/// the heads of later groups where these differ.
 pub fn rule_clean<S: Site>(
     site: &mut S,
     geometry: &Geometry,

@@ -91,8 +91,9 @@ impl Numbers {
     }
 }
 
-/// The eleventh rule, by the numbers of the commits: how many were made, or `None` exactly where they aren't numbered on
-/// by one, up to the master's count before the redo block and from there on, or are more than the blocks that were sealed.
+/// The eleventh rule, by the numbers of the commits: how many were made, or `None` exactly where they aren't numbered
+/// on by one, up to the master's count before the redo block and from there on, or are more than the blocks that were
+/// sealed.
 pub fn rule_commits(log: &LogStore, master: &Master, numbers: &Option<Numbers>) -> Option<u64>
     requires bounded { log.now.ring.hi ≤ 2 ^ 40 }
 

@@ -44,8 +44,8 @@ fn are_saved<S: Site>(site: &mut S, rings: &Rings, group: u64) -> Result<bool, S
 }
 
 /// The eighth rule, of devices that meet the first one: the ring of segments where it doesn't end as the groups say, or
-/// the first group whose heads its segment hasn't; `None` exactly where the live segments follow the live groups. It reads
-/// the heads of each live group of a saved segment, and what its segment has of it.
+/// the first group whose heads its segment hasn't; `None` exactly where the live segments follow the live groups. It
+/// reads the heads of each live group of a saved segment, and what its segment has of it.
 pub fn rule_following<S: Site>(
     site: &mut S,
     geometry: &Geometry,

@@ -72,8 +72,8 @@ pub fn are_same(one: &[u8], other: &[u8]) -> bool
     one == other
 }
 
-/// The first live group that isn't of the form, or has a frame that isn't a sound page of the disk; `None` exactly where
-/// there is none: reads each once.
+/// The first live group that isn't of the form, or has a frame that isn't a sound page of the disk; `None` exactly
+/// where there is none: reads each once.
 pub fn rule_groups<S: Site>(
     site: &mut S,
     geometry: &Geometry,

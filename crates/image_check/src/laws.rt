@@ -1,5 +1,6 @@
 // Laws on the rules, for the proofs of code above. They do nothing when called.
-ghost use Rattle.image_check.specs.Laws.{SoundStands, StandingIsSound, OneReading, AReading, SoundFailsNone, JudgedStands, StandingIsJudged};
+ghost use Rattle.image_check.specs.Laws.{SoundStands, StandingIsSound, OneReading, AReading, SoundFailsNone};
+ghost use Rattle.image_check.specs.Laws.{JudgedStands, StandingIsJudged};
 
 use checkpoint::one_master;
 

@@ -37,7 +37,7 @@ pub use following::rule_following;
 pub use groups::rule_groups;
 pub use holding::rule_apart;
 pub use kept::rule_kept;
-pub use laws::{one_reading, sound_is_standing, judged_stands};
+pub use laws::{judged_stands, one_reading, sound_is_standing};
 pub use lengths::rule_lengths;
 pub use master::rule_master;
 pub use place::Place;

@@ -36,8 +36,8 @@ fn is_segment_on(content: &[u8], pages: u32) -> bool
     }
 }
 
-/// The first live segment that isn't of the form, or has a head of a page that the disk hasn't; `None` exactly where there
-/// is none: reads each once.
+/// The first live segment that isn't of the form, or has a head of a page that the disk hasn't; `None` exactly where
+/// there is none: reads each once.
 pub fn rule_segments<S: Site>(
     site: &mut S,
     geometry: &Geometry,

@@ -1,5 +1,6 @@
 // What one walk over the kept blocks finds.
-ghost use Rattle.std.specs.Prelude.{◌≡◌, ◌↔◌, ◌^◌, ◌+◌, ◌-◌, ◌<◌, ◌≤◌, ◌++◌, ◌∷◌, [], ℕ, List, length, is_ok, IsTrue, IfOk, IfErr, OnOk};
+ghost use Rattle.std.specs.Prelude.{◌≡◌, ◌↔◌, ◌^◌, ◌+◌, ◌-◌, ◌<◌, ◌≤◌, ◌++◌, ◌∷◌, [], ℕ, List, length, is_ok, IsTrue};
+ghost use Rattle.std.specs.Prelude.{IfOk, IfErr, OnOk};
 ghost use Rattle.site.specs.declared.outside.Stop.{Stop};
 ghost use Rattle.site.specs.Work.{OnlyReads};
 ghost use Rattle.log_records.specs.declared.log_record.LogRecord.{LogRecord};
@@ -23,8 +24,8 @@ use log_store::LogStore;
 use site::{Site, Stop};
 use std::alloc::Global;
 
-/// What the records of a log leave: the unfinished transactions, those that were before the redo block, and the numbers of
-/// the commits, `None` where these don't run on.
+/// What the records of a log leave: the unfinished transactions, those that were before the redo block, and the numbers
+/// of the commits, `None` where these don't run on.
 #[derive(Drop)]
 pub struct Survey {
     pub left: LeftTxns,
@@ -88,9 +89,9 @@ impl Survey {
     }
 }
 
-/// The third rule: what the records of the kept blocks leave, where from the redo block on each record but a Begin is of
-/// an open transaction, and no record stands before the Begin that it names; or the block of the first one of which that
-/// isn't so. It reads each kept block once, and holds the open and the unfinished transactions.
+/// The third rule: what the records of the kept blocks leave, where from the redo block on each record but a Begin is
+/// of an open transaction, and no record stands before the Begin that it names; or the block of the first one of which
+/// that isn't so. It reads each kept block once, and holds the open and the unfinished transactions.
 pub fn rule_transactions<S: Site>(
     alloc: Global,
     site: &mut S,

@@ -102,8 +102,8 @@ enum LogRule {
     OneCommit,
 }
 
-// Whether a rule on the log holds with the first and the third, where the lengths are those of sizes and the kept blocks are
-// live.
+// Whether a rule on the log holds with the first and the third, where the lengths are those of sizes and the kept
+// blocks are live.
 fn holds_of_log(
     alloc: Global,
     site: &mut MemSite,

@@ -1,5 +1,6 @@
 // Whether unfinished transactions can be undone.
-ghost use Rattle.std.specs.Prelude.{◌≡◌, ◌↔◌, ◌==◌, ◌+◌, ◌-◌, ◌≤◌, ◌++◌, ◌∷◌, [], true, not, filter, ◌&&◌, ℕ, List, is_none, IsTrue, IfOk, IfErr, OnOk};
+ghost use Rattle.std.specs.Prelude.{◌≡◌, ◌↔◌, ◌==◌, ◌+◌, ◌-◌, ◌≤◌, ◌++◌, ◌∷◌, [], true, not, filter, ◌&&◌, ℕ, List};
+ghost use Rattle.std.specs.Prelude.{is_none, IsTrue, IfOk, IfErr, OnOk};
 ghost use Rattle.std.specs.List.{list_any};
 ghost use Rattle.site.specs.declared.outside.Stop.{Stop};
 ghost use Rattle.site.specs.Work.{OnlyReads};
@@ -207,7 +208,8 @@ fn find_unchained<S: Site>(
     ensures chains { (blocks : List (List LogRecord)) → Finds log.now (S.state site.old)
         → HasBlocks log.now.geometry kept blocks (S.state site.old).image → HaveBegunBefore (log_from kept blocks)
         → AreLeft (log_from kept blocks) left.now.left.items
-        → IfOk result (λ failing. IsTrue (is_none failing) ↔ ((t : ℕ) → list_any (λ n. n == t) (losers (log_from kept blocks)) ≡ true
+        → IfOk result (λ failing. IsTrue (is_none failing)
+        ↔ ((t : ℕ) → list_any (λ n. n == t) (losers (log_from kept blocks)) ≡ true
         → IsLoserChain t (entries_of t (log_from kept blocks)))) }
     ensures reads { OnlyReads result (S.state site.old) (S.state site.new) }
 {
@@ -224,10 +226,10 @@ fn find_unchained<S: Site>(
     Ok(None)
 }
 
-/// The fourth rule, of devices that meet the third one, by what is left unfinished: the first unfinished transaction that
-/// hasn't its Begin, then Updates, then compensation records of the last of these backwards; `None` exactly where there is
-/// none. It reads each kept block once, and once more for each transaction whose last record doesn't close it; it holds
-/// those that are open, and of one what remains of its Updates.
+/// The fourth rule, of devices that meet the third one, by what is left unfinished: the first unfinished transaction
+/// that hasn't its Begin, then Updates, then compensation records of the last of these backwards; `None` exactly where
+/// there is none. It reads each kept block once, and once more for each transaction whose last record doesn't close it;
+/// it holds those that are open, and of one what remains of its Updates.
 pub fn rule_undoable<S: Site>(
     alloc: Global,
     site: &mut S,

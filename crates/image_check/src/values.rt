@@ -1,5 +1,6 @@
 // What versions show of the log, and the numbers that have a value.
-ghost use Rattle.std.specs.Prelude.{◌≡◌, ◌↔◌, ◌*◌, ◌-◌, ◌+◌, ◌<◌, ◌≤◌, ◌++◌, ◌∷◌, [], ℕ, List, map, count_by, is_some, is_ok, IsTrue, IfOk, IfErr, IfSome, OnOk, if◌then◌else◌};
+ghost use Rattle.std.specs.Prelude.{◌≡◌, ◌↔◌, ◌*◌, ◌-◌, ◌+◌, ◌<◌, ◌≤◌, ◌++◌, ◌∷◌, [], ℕ, List, map, count_by, is_some};
+ghost use Rattle.std.specs.Prelude.{is_ok, IsTrue, IfOk, IfErr, IfSome, OnOk, if◌then◌else◌};
 ghost use Rattle.std.specs.List.{AllByRecursion, range_with_len};
 ghost use Rattle.site.specs.declared.outside.Stop.{Stop};
 ghost use Rattle.site.specs.Work.{OnlyReads};
@@ -263,12 +264,12 @@ fn show_log<S: Site>(
     }
 }
 
-/// The sixth rule, of devices that meet the first one: how many numbers have a value, an unfinished transaction counting
-/// as undone, where each version shows the records that it knows of, knows of all before the redo block, and of none
-/// that isn't sealed; or a page of which that isn't so. The number is that of the table that devices stand for which
-/// meet the fifth rule, too. It reads the heads of the live groups and each kept block once, and each version twice; it
-/// holds an LSN for each page, where the newest frames stand, what the kept blocks have written last on each number,
-/// and which transactions they close.
+/// The sixth rule, of devices that meet the first one: how many numbers have a value, an unfinished transaction
+/// counting as undone, where each version shows the records that it knows of, knows of all before the redo block, and
+/// of none that isn't sealed; or a page of which that isn't so. The number is that of the table that devices stand for
+/// which meet the fifth rule, too. It reads the heads of the live groups and each kept block once, and each version
+/// twice; it holds an LSN for each page, where the newest frames stand, what the kept blocks have written last on each
+/// number, and which transactions they close.
 pub fn rule_shown<S: Site>(
     alloc: Global,
     site: &mut S,

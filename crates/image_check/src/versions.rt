@@ -92,8 +92,8 @@ fn is_sound_page<S: Site>(site: &mut S, page: u32) -> Result<bool, Stop>
     Ok(Page::from_bytes(&octets).sound())
 }
 
-/// The first page whose version isn't a sound page, where the live groups are of the form; `None` exactly where there is
-/// none. It reads each page of the disk once, and for one that isn't sound the heads of the live groups.
+/// The first page whose version isn't a sound page, where the live groups are of the form; `None` exactly where there
+/// is none. It reads each page of the disk once, and for one that isn't sound the heads of the live groups.
 pub fn rule_versions<S: Site>(
     site: &mut S,
     geometry: &Geometry,

@@ -87,7 +87,8 @@ impl Walk {
             → StandsBefore self.old log.now (S.state site.old).image left
             → IfOk result (λ found. Gives found left self.new log.now (S.state site.old).image) }
         ensures walk { IfOk result (λ found. MayWalk log.now self.new) }
-        ensures shorter { IfOk result (λ found. IfSome found (λ found. to_go log.now self.new < to_go log.now self.old)) }
+        ensures shorter { IfOk result (λ found. IfSome found (λ found. to_go log.now self.new
+            < to_go log.now self.old)) }
         ensures reads { OnlyReads result (S.state site.old) (S.state site.new) }
     {
         let more = match self.fill(site, log) {

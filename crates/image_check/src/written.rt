@@ -1,5 +1,6 @@
 // What a log has written to the records of the table, record by record.
-ghost use Rattle.std.specs.Prelude.{◌≡◌, ◌==◌, ◌++◌, ◌∷◌, [], ℕ, nat_eq, List, Some, true, is_some, IfErr, OnOk, if◌then◌else◌};
+ghost use Rattle.std.specs.Prelude.{◌≡◌, ◌==◌, ◌++◌, ◌∷◌, [], ℕ, nat_eq, List, Some, true, is_some, IfErr, OnOk};
+ghost use Rattle.std.specs.Prelude.{if◌then◌else◌};
 ghost use Rattle.std.specs.Option.{option_or};
 ghost use Rattle.site.specs.declared.outside.Stop.{Stop};
 ghost use Rattle.indexmap.specs.IndexMap.{get};

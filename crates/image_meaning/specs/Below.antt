@@ -1,5 +1,6 @@
 -- The laws of the layers below that the laws on a new master rest on, in one place.
-use Rattle.log_laws.specs.NewImageLaws.{MasterIsSound, MasterMeans, MasterIsOrderly, EmptyMasterIsSound, EmptyMasterMeans, EmptyMasterIsOrderly, SealedIsOrderly}
+use Rattle.log_laws.specs.NewImageLaws.{MasterIsSound, MasterMeans, MasterIsOrderly, EmptyMasterIsSound}
+use Rattle.log_laws.specs.NewImageLaws.{EmptyMasterMeans, EmptyMasterIsOrderly, SealedIsOrderly}
 use Rattle.log_laws.specs.LoserLaws.{ListedIsLoser, LoserIsListed}
 use Rattle.checkpoint.specs.Laws.{UnitIsRead, AppendedIsNewest}
 

@@ -7,7 +7,8 @@ use Rattle.site.specs.State.{Image}
 use Rattle.frame_group.specs.Groups.{Frame, IsGroup}
 use Rattle.checkpoint.specs.declared.master.Master.{Master}
 use Rattle.checkpoint.specs.Units.{IsUnit, master_in}
-use Rattle.image_changes.specs.Changes.{Change, SealsBlock, RewritesPages, AppendsGroup, AppendsSegment, AppendsMaster, Makes, Reaches}
+use Rattle.image_changes.specs.Changes.{Change, SealsBlock, RewritesPages, AppendsGroup, AppendsSegment, AppendsMaster}
+use Rattle.image_changes.specs.Changes.{Makes, Reaches}
 use Rattle.image_meaning.specs.Meaning.{HasNewest, IsFrameOf, AreGroups, AreSegments}
 use Rattle.image_meaning.specs.Changes.{NoSegmentIsDue, MaySaveSegment}
 
@@ -23,24 +24,27 @@ pub record AreRingsSoundUnder (newest : Option Master) (g : Geometry) (image : I
 abbrev pub AreRingsSound : Geometry → Image → Type 0
 AreRingsSound = AreRingsSoundUnder None
 
--- A group is appended where no segment is due, and has frames of pages that exist, with a sound page's octets; a segment where one is
--- due, with the heads of the last four groups. Blocks and disk pages are free here.
+-- A group is appended where no segment is due, and has frames of pages that exist, with a sound page's octets; a
+-- segment where one is due, with the heads of the last four groups. Blocks and disk pages are free here.
 abbrev pub KeepsRings : Geometry → Image → Change → Type 0
 KeepsRings g image (SealsBlock records) = ⊤
 KeepsRings g image (RewritesPages pages) = ⊤
-KeepsRings g image (AppendsGroup content) = NoSegmentIsDue g image × (frames : List Frame) × IsGroup content frames × AllByRecursion (IsFrameOf g) frames
+KeepsRings g image (AppendsGroup content) = NoSegmentIsDue g image × (frames : List Frame) × IsGroup content frames
+    × AllByRecursion (IsFrameOf g) frames
 KeepsRings g image (AppendsSegment content) = MaySaveSegment g image content
 KeepsRings g image (AppendsMaster content) = ⊥
 
 -- each of a list does, whatever image the ones before it have led to
 abbrev pub KeepsRingsAll : Geometry → Image → List Change → Type 0
 KeepsRingsAll g image [] = ⊤
-KeepsRingsAll g image (change ∷ changes) = KeepsRings g image change × ((mid : Image) → Makes g change image mid → KeepsRingsAll g mid changes)
+KeepsRingsAll g image (change ∷ changes) = KeepsRings g image change
+    × ((mid : Image) → Makes g change image mid → KeepsRingsAll g mid changes)
 
 -- such changes keep the rings sound
 abbrev pub RingsKeptUnder : Option Master → Type 0
 RingsKeptUnder newest =
-    (g : Geometry) (changes : List Change) (old new : Image) → AreRingsSoundUnder newest g old → KeepsRingsAll g old changes → Reaches g changes old new → AreRingsSoundUnder newest g new
+    (g : Geometry) (changes : List Change) (old new : Image) → AreRingsSoundUnder newest g old
+    → KeepsRingsAll g old changes → Reaches g changes old new → AreRingsSoundUnder newest g new
 
 abbrev pub RingsKept : Type 0
 RingsKept = RingsKeptUnder None
@@ -48,5 +52,6 @@ RingsKept = RingsKeptUnder None
 -- and a master unit makes its master the newest
 abbrev pub RingsSaved : Type 0
 RingsSaved =
-    (newest : Option Master) (g : Geometry) (content : List ℕ) (old new : Image) → AreRingsSoundUnder newest g old → IsUnit content (master_in content) → Makes g (AppendsMaster content) old new →
+    (newest : Option Master) (g : Geometry) (content : List ℕ) (old new : Image) → AreRingsSoundUnder newest g old
+    → IsUnit content (master_in content) → Makes g (AppendsMaster content) old new →
     AreRingsSoundUnder (Some (master_in content)) g new

@@ -1,5 +1,6 @@
 -- Which changes an image may see.
-use Rattle.std.specs.Prelude.{◌≡◌, ◌⊎◌, ℕ, ◌+◌, ◌-◌, ◌*◌, ◌<◌, true, List, [], ◌∷◌, ◌++◌, length, take, drop, Contains, Option, Some, filter_map, ⊤}
+use Rattle.std.specs.Prelude.{◌≡◌, ◌⊎◌, ℕ, ◌+◌, ◌-◌, ◌*◌, ◌<◌, true, List, [], ◌∷◌, ◌++◌, length, take, drop, Contains}
+use Rattle.std.specs.Prelude.{Option, Some, filter_map, ⊤}
 use Rattle.std.specs.List.{AllByRecursion}
 use Rattle.site.specs.declared.geometry.Geometry.{Geometry}
 use Rattle.site.specs.State.{Image}
@@ -12,7 +13,8 @@ use Rattle.log_laws.specs.NewImage.{Replaces, with_master, MayCheckpoint}
 use Rattle.frame_group.specs.Groups.{Frame, IsGroup}
 use Rattle.frame_group.specs.Versions.{frames_of, last_frame}
 use Rattle.image_changes.specs.Rings.{group_shape, segment_shape, units_on}
-use Rattle.image_changes.specs.Changes.{Change, SealsBlock, RewritesPages, AppendsGroup, AppendsSegment, AppendsMaster, Makes}
+use Rattle.image_changes.specs.Changes.{Change, SealsBlock, RewritesPages, AppendsGroup, AppendsSegment, AppendsMaster}
+use Rattle.image_changes.specs.Changes.{Makes}
 use Rattle.checkpoint.specs.declared.master.Master.{Master}
 use Rattle.checkpoint.specs.Units.{IsUnit, master_in}
 use Rattle.checkpoint.specs.Newest.{seen}
@@ -49,33 +51,40 @@ front_on g image = frames_of (take (leaving g image) (units_on (group_shape g) i
 abbrev pub rest_on : Geometry → Image → List Frame
 rest_on g image = frames_of (drop (leaving g image) (units_on (group_shape g) image).live)
 
--- A group with these frames may be appended: no segment is due, they are of the form, they may be pushed, and each page's last frame replaces
--- the page's version.
-pub record MayAppend (newest : Option Master) (g : Geometry) (image : Image) (blocks : List (List LogRecord)) (frames : List Frame) : Type 0 where
+-- A group with these frames may be appended: no segment is due, they are of the form, they may be pushed, and each
+-- page's last frame replaces the page's version.
+pub record MayAppend (newest : Option Master) (g : Geometry) (image : Image) (blocks : List (List LogRecord))
+    (frames : List Frame) : Type 0 where
   pub none_due : NoSegmentIsDue g image
   pub are_frames : AllByRecursion (IsFrameOf g) frames
   pub pushed : MayPush (disk_on image) (front_on g image) (rest_on g image) frames
-  pub replace : (number : ℕ) (frame : Frame) → last_frame number frames ≡ Some frame → Replaces (picture_under newest g image blocks) number (version_in frame.octets)
+  pub replace : (number : ℕ) (frame : Frame) → last_frame number frames ≡ Some frame
+      → Replaces (picture_under newest g image blocks) number (version_in frame.octets)
 
 -- Disk pages are rewritten: each has a valid frame that is dirty.
 abbrev pub MayStage : Geometry → Image → List ℕ → Type 0
-MayStage g image pages = (number : ℕ) → Contains pages number → (frame : Frame) × (last_frame number (frames_on g image) ≡ Some frame) × (frame.dirty ≡ true)
+MayStage g image pages = (number : ℕ) → Contains pages number
+    → (frame : Frame) × (last_frame number (frames_on g image) ≡ Some frame) × (frame.dirty ≡ true)
 
 -- A master unit is appended.
 
--- A unit with this content may be appended: it is that of a master under which redo begins with the next block, and the blocks
--- from one of the kept ones on are kept. The log is orderly, or none of its blocks is kept.
-pub record MaySave (newest : Option Master) (g : Geometry) (image : Image) (blocks : List (List LogRecord)) (content : List ℕ) : Type 0 where
+-- A unit with this content may be appended: it is that of a master under which redo begins with the next block, and the
+-- blocks from one of the kept ones on are kept. The log is orderly, or none of its blocks is kept.
+pub record MaySave (newest : Option Master) (g : Geometry) (image : Image) (blocks : List (List LogRecord))
+    (content : List ℕ) : Type 0 where
   pub unit : IsUnit content (master_in content)
-  pub master : seen (master_in content) ≡ (with_master (picture_under newest g image blocks) (master_in content).kept).master
+  pub master : seen (master_in content)
+      ≡ (with_master (picture_under newest g image blocks) (master_in content).kept).master
   pub may : MayCheckpoint (picture_under newest g image blocks) (master_in content).kept
-  pub orderly : AreOrderly (picture_under newest g image blocks).log ⊎ ((master_in content).kept ≡ (picture_under newest g image blocks).hi)
+  pub orderly : AreOrderly (picture_under newest g image blocks).log
+      ⊎ ((master_in content).kept ≡ (picture_under newest g image blocks).hi)
 
 -- Which changes keep an image sound.
 abbrev pub MayMake : Option Master → Geometry → Image → List (List LogRecord) → Change → Type 0
 MayMake newest g image blocks (SealsBlock records) = GoesOn (picture_under newest g image blocks) records
 MayMake newest g image blocks (RewritesPages pages) = MayStage g image pages
-MayMake newest g image blocks (AppendsGroup content) = (frames : List Frame) × IsGroup content frames × MayAppend newest g image blocks frames
+MayMake newest g image blocks (AppendsGroup content) = (frames : List Frame) × IsGroup content frames
+    × MayAppend newest g image blocks frames
 MayMake newest g image blocks (AppendsSegment content) = MaySaveSegment g image content
 MayMake newest g image blocks (AppendsMaster content) = MaySave newest g image blocks content
 
@@ -94,7 +103,9 @@ blocks_after newest blocks _ = blocks
 abbrev pub MayMakeAll : Option Master → Geometry → Image → List (List LogRecord) → List Change → Type 0
 MayMakeAll newest g image blocks [] = ⊤
 MayMakeAll newest g image blocks (change ∷ changes) =
-    MayMake newest g image blocks change × ((mid : Image) → Makes g change image mid → MayMakeAll (newest_after newest change) g mid (blocks_after newest blocks change) changes)
+    MayMake newest g image blocks change
+    × ((mid : Image) → Makes g change image mid
+    → MayMakeAll (newest_after newest change) g mid (blocks_after newest blocks change) changes)
 
 abbrev pub newest_after_all : Option Master → List Change → Option Master
 newest_after_all newest [] = newest
@@ -102,7 +113,8 @@ newest_after_all newest (change ∷ changes) = newest_after_all (newest_after ne
 
 abbrev pub blocks_after_all : Option Master → List (List LogRecord) → List Change → List (List LogRecord)
 blocks_after_all newest blocks [] = blocks
-blocks_after_all newest blocks (change ∷ changes) = blocks_after_all (newest_after newest change) (blocks_after newest blocks change) changes
+blocks_after_all newest blocks (change ∷ changes) =
+    blocks_after_all (newest_after newest change) (blocks_after newest blocks change) changes
 
 -- a block that is sealed has no Commit
 abbrev pub SealsNoCommit : Change → Type 0

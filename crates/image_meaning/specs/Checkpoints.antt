@@ -1,5 +1,6 @@
 -- Laws on a new master.
-use Rattle.std.specs.Prelude.{◌≡◌, ◌⊎◌, ℕ, ◌+◌, ◌*◌, ◌/◌, ◌<◌, ◌≤◌, ◌==◌, true, List, [], ◌∷◌, ◌++◌, replicate, slice_set, Option, Some, None, if◌then◌else◌}
+use Rattle.std.specs.Prelude.{◌≡◌, ◌⊎◌, ℕ, ◌+◌, ◌*◌, ◌/◌, ◌<◌, ◌≤◌, ◌==◌, true, List, [], ◌∷◌, ◌++◌, replicate}
+use Rattle.std.specs.Prelude.{slice_set, Option, Some, None, if◌then◌else◌}
 use Rattle.std.specs.List.{AllByRecursion}
 use Rattle.site.specs.declared.geometry.Geometry.{Geometry}
 use Rattle.site.specs.Geometry.{HasLimits, blank_image}
@@ -20,8 +21,10 @@ use Rattle.checkpoint.specs.Units.{unit, IsUnit, master_in}
 use Rattle.checkpoint.specs.Newest.{seen}
 use Rattle.image_changes.specs.Changes.{Change, SealsBlock, AppendsGroup, AppendsMaster, Makes, Reaches}
 use Rattle.image_changes.specs.Reached.{LeavesFront}
-use Rattle.image_meaning.specs.Meaning.{master_of, kept_by, picture_under, picture, versions_on, AreOctetsSoundUnder, IsSoundUnder, StandsUnder}
-use Rattle.image_meaning.specs.Changes.{MaySave, MayMake, MayMakeAll, SealsNoCommit, SavesNoMaster, newest_after, blocks_after, newest_after_all, blocks_after_all}
+use Rattle.image_meaning.specs.Meaning.{master_of, kept_by, picture_under, picture, versions_on, AreOctetsSoundUnder}
+use Rattle.image_meaning.specs.Meaning.{IsSoundUnder, StandsUnder}
+use Rattle.image_meaning.specs.Changes.{MaySave, MayMake, MayMakeAll, SealsNoCommit, SavesNoMaster, newest_after}
+use Rattle.image_meaning.specs.Changes.{blocks_after, newest_after_all, blocks_after_all}
 use Rattle.image_meaning.specs.Flushed.{IsFlushed, IsMasterOf, oldest_needed}
 use Rattle.image_meaning.specs.Moments.{LeavesFor}
 use Rattle.image_meaning.specs.Reached.{IsPushed, LeavesPushed}
@@ -30,117 +33,154 @@ use Rattle.image_meaning.specs.Reached.{IsPushed, LeavesPushed}
 abbrev pub blocks_saved : Option Master → List (List LogRecord) → List ℕ → List (List LogRecord)
 blocks_saved newest blocks content = blocks_after newest blocks (AppendsMaster content)
 
--- A unit of a master under which redo begins with the next block may be appended where each page's version knows of all of its
--- records and the blocks of unfinished transactions are kept: over an orderly log,
+-- A unit of a master under which redo begins with the next block may be appended where each page's version knows of all
+-- of its records and the blocks of unfinished transactions are kept: over an orderly log,
 abbrev pub MasterMaySave : Type 0
 MasterMaySave =
-    (newest : Option Master) (g : Geometry) (image : Image) (blocks : List (List LogRecord)) (content : List ℕ) (m : Master) → IsUnit content m →
-    seen m ≡ (with_master (picture_under newest g image blocks) m.kept).master → MayCheckpoint (picture_under newest g image blocks) m.kept →
+    (newest : Option Master) (g : Geometry) (image : Image) (blocks : List (List LogRecord)) (content : List ℕ)
+    (m : Master) → IsUnit content m →
+    seen m ≡ (with_master (picture_under newest g image blocks) m.kept).master
+    → MayCheckpoint (picture_under newest g image blocks) m.kept →
     AreOrderly (picture_under newest g image blocks).log → MaySave newest g image blocks content
 
 -- and over every log where no block is kept, of which none is left then.
 abbrev pub EmptyMasterMaySave : Type 0
 EmptyMasterMaySave =
-    (newest : Option Master) (g : Geometry) (image : Image) (blocks : List (List LogRecord)) (content : List ℕ) (m : Master) → IsUnit content m →
-    seen m ≡ (with_master (picture_under newest g image blocks) m.kept).master → MayCheckpoint (picture_under newest g image blocks) m.kept →
-    m.kept ≡ (picture_under newest g image blocks).hi → MaySave newest g image blocks content × (blocks_saved newest blocks content ≡ [])
+    (newest : Option Master) (g : Geometry) (image : Image) (blocks : List (List LogRecord)) (content : List ℕ)
+    (m : Master) → IsUnit content m →
+    seen m ≡ (with_master (picture_under newest g image blocks) m.kept).master
+    → MayCheckpoint (picture_under newest g image blocks) m.kept →
+    m.kept ≡ (picture_under newest g image blocks).hi
+    → MaySave newest g image blocks content × (blocks_saved newest blocks content ≡ [])
 
--- So the unit of a checkpoint's master may be: the pages are flushed, and it keeps the blocks of unfinished transactions.
+-- So the unit of a checkpoint's master may be: the pages are flushed, and it keeps the blocks of unfinished
+-- transactions.
 abbrev pub CheckpointMaySave : Type 0
 CheckpointMaySave =
-    (newest : Option Master) (g : Geometry) (image : Image) (blocks : List (List LogRecord)) (content : List ℕ) (m : Master) → IsSoundUnder newest g image blocks → IsUnit content m →
-    IsMasterOf (picture_under newest g image blocks) m → IsFlushed (picture_under newest g image blocks) → kept_by newest ≤ m.kept → m.kept ≤ oldest_needed (picture_under newest g image blocks) →
-    AreOrderly (picture_under newest g image blocks).log ⊎ (m.kept ≡ (picture_under newest g image blocks).hi) → MaySave newest g image blocks content
+    (newest : Option Master) (g : Geometry) (image : Image) (blocks : List (List LogRecord)) (content : List ℕ)
+    (m : Master) → IsSoundUnder newest g image blocks → IsUnit content m →
+    IsMasterOf (picture_under newest g image blocks) m → IsFlushed (picture_under newest g image blocks)
+    → kept_by newest ≤ m.kept → m.kept ≤ oldest_needed (picture_under newest g image blocks) →
+    AreOrderly (picture_under newest g image blocks).log ⊎ (m.kept ≡ (picture_under newest g image blocks).hi)
+    → MaySave newest g image blocks content
 
 -- Its octets are sound where the others were,
 abbrev pub SavedOctets : Type 0
 SavedOctets =
-    (newest : Option Master) (g : Geometry) (old new : Image) (content : List ℕ) → AreOctetsSoundUnder newest g old → IsUnit content (master_in content) →
+    (newest : Option Master) (g : Geometry) (old new : Image) (content : List ℕ) → AreOctetsSoundUnder newest g old
+    → IsUnit content (master_in content) →
     Makes g (AppendsMaster content) old new → AreOctetsSoundUnder (Some (master_in content)) g new
 
 -- and its picture is the one before, with the new master.
 abbrev pub SavedPicture : Type 0
 SavedPicture =
-    (newest : Option Master) (g : Geometry) (old new : Image) (blocks : List (List LogRecord)) (content : List ℕ) → IsSoundUnder newest g old blocks → MaySave newest g old blocks content →
+    (newest : Option Master) (g : Geometry) (old new : Image) (blocks : List (List LogRecord)) (content : List ℕ)
+    → IsSoundUnder newest g old blocks → MaySave newest g old blocks content →
     Makes g (AppendsMaster content) old new →
-    picture_under (Some (master_in content)) g new (blocks_saved newest blocks content) ≡ with_master (picture_under newest g old blocks) (master_in content).kept
+    picture_under (Some (master_in content)) g new (blocks_saved newest blocks content)
+    ≡ with_master (picture_under newest g old blocks) (master_in content).kept
 
 -- So the image is sound under the new master, from its oldest kept block on,
 abbrev pub SavedIsSound : Type 0
 SavedIsSound =
-    (newest : Option Master) (g : Geometry) (old new : Image) (blocks : List (List LogRecord)) (content : List ℕ) → IsSoundUnder newest g old blocks → MaySave newest g old blocks content →
-    Makes g (AppendsMaster content) old new → IsSoundUnder (Some (master_in content)) g new (blocks_saved newest blocks content)
+    (newest : Option Master) (g : Geometry) (old new : Image) (blocks : List (List LogRecord)) (content : List ℕ)
+    → IsSoundUnder newest g old blocks → MaySave newest g old blocks content →
+    Makes g (AppendsMaster content) old new
+    → IsSoundUnder (Some (master_in content)) g new (blocks_saved newest blocks content)
 
 -- stands for the same,
 abbrev pub SavedMeans : Type 0
 SavedMeans =
-    (newest : Option Master) (g : Geometry) (old new : Image) (blocks : List (List LogRecord)) (content : List ℕ) → IsSoundUnder newest g old blocks → MaySave newest g old blocks content →
+    (newest : Option Master) (g : Geometry) (old new : Image) (blocks : List (List LogRecord)) (content : List ℕ)
+    → IsSoundUnder newest g old blocks → MaySave newest g old blocks content →
     Makes g (AppendsMaster content) old new →
-    (table : List Content) (count : ℕ) → Means (picture_under newest g old blocks) table count → Means (picture_under (Some (master_in content)) g new (blocks_saved newest blocks content)) table count
+    (table : List Content) (count : ℕ) → Means (picture_under newest g old blocks) table count
+    → Means (picture_under (Some (master_in content)) g new (blocks_saved newest blocks content)) table count
 
 -- and its log is orderly.
 abbrev pub SavedIsOrderly : Type 0
 SavedIsOrderly =
-    (newest : Option Master) (g : Geometry) (old new : Image) (blocks : List (List LogRecord)) (content : List ℕ) → IsSoundUnder newest g old blocks → MaySave newest g old blocks content →
-    Makes g (AppendsMaster content) old new → AreOrderly (picture_under (Some (master_in content)) g new (blocks_saved newest blocks content)).log
+    (newest : Option Master) (g : Geometry) (old new : Image) (blocks : List (List LogRecord)) (content : List ℕ)
+    → IsSoundUnder newest g old blocks → MaySave newest g old blocks content →
+    Makes g (AppendsMaster content) old new
+    → AreOrderly (picture_under (Some (master_in content)) g new (blocks_saved newest blocks content)).log
 
 -- Each change that may be made keeps an orderly log,
 abbrev pub ChangeKeepsOrderly : Type 0
 ChangeKeepsOrderly =
-    (newest : Option Master) (g : Geometry) (old new : Image) (blocks : List (List LogRecord)) (change : Change) → IsSoundUnder newest g old blocks → AreOrderly (picture_under newest g old blocks).log →
-    MayMake newest g old blocks change → Makes g change old new → AreOrderly (picture_under (newest_after newest change) g new (blocks_after newest blocks change)).log
+    (newest : Option Master) (g : Geometry) (old new : Image) (blocks : List (List LogRecord)) (change : Change)
+    → IsSoundUnder newest g old blocks → AreOrderly (picture_under newest g old blocks).log →
+    MayMake newest g old blocks change → Makes g change old new
+    → AreOrderly (picture_under (newest_after newest change) g new (blocks_after newest blocks change)).log
 
 -- and so do the first ones of a list.
 abbrev pub FrontKeepsOrderly : Type 0
 FrontKeepsOrderly =
-    (newest : Option Master) (g : Geometry) (old new : Image) (blocks : List (List LogRecord)) (front left : List Change) → IsSoundUnder newest g old blocks → AreOrderly (picture_under newest g old blocks).log →
-    MayMakeAll newest g old blocks (front ++ left) → Reaches g front old new → AreOrderly (picture_under (newest_after_all newest front) g new (blocks_after_all newest blocks front)).log
+    (newest : Option Master) (g : Geometry) (old new : Image) (blocks : List (List LogRecord))
+    (front left : List Change) → IsSoundUnder newest g old blocks
+    → AreOrderly (picture_under newest g old blocks).log →
+    MayMakeAll newest g old blocks (front ++ left) → Reaches g front old new
+    → AreOrderly (picture_under (newest_after_all newest front) g new (blocks_after_all newest blocks front)).log
 
 -- A checkpoint: changes that seal no Commit, then a master unit. The devices stand for the same table at each moment.
 abbrev pub CheckpointStands : Type 0
 CheckpointStands =
-    (newest : Option Master) (g : Geometry) (old mid new : State) (blocks : List (List LogRecord)) (changes : List Change) (content : List ℕ) (table : List Content) (count : ℕ) →
-    IsSoundUnder newest g old.image blocks → Means (picture_under newest g old.image blocks) table count → MayMakeAll newest g old.image blocks changes → AllByRecursion SealsNoCommit changes →
+    (newest : Option Master) (g : Geometry) (old mid new : State) (blocks : List (List LogRecord))
+    (changes : List Change) (content : List ℕ) (table : List Content) (count : ℕ) →
+    IsSoundUnder newest g old.image blocks → Means (picture_under newest g old.image blocks) table count
+    → MayMakeAll newest g old.image blocks changes → AllByRecursion SealsNoCommit changes →
     LeavesFront g changes old mid → Reaches g changes old.image mid.image → mid.told ≡ old.told →
-    MaySave (newest_after_all newest changes) g mid.image (blocks_after_all newest blocks changes) content → LeavesFront g (AppendsMaster content ∷ []) mid new →
+    MaySave (newest_after_all newest changes) g mid.image (blocks_after_all newest blocks changes) content
+    → LeavesFront g (AppendsMaster content ∷ []) mid new →
     LeavesOnly old new (LeavesFor g table count old.told)
 
 -- So they do where pages are pushed behind these changes, known by what versions they have at each moment.
 abbrev pub PushedCheckpointStands : Type 0
 PushedCheckpointStands =
-    (newest : Option Master) (g : Geometry) (old mid pushed new : State) (blocks : List (List LogRecord)) (changes : List Change) (content : List ℕ) (table : List Content) (count : ℕ) →
-    IsSoundUnder newest g old.image blocks → Means (picture_under newest g old.image blocks) table count → MayMakeAll newest g old.image blocks changes → AllByRecursion SealsNoCommit changes →
-    AllByRecursion SavesNoMaster changes → LeavesFront g changes old mid → Reaches g changes old.image mid.image → mid.told ≡ old.told →
-    LeavesOnly mid pushed (LeavesPushed newest g (blocks_after_all newest blocks changes) mid) → IsPushed newest g mid.image pushed.image (blocks_after_all newest blocks changes) → pushed.told ≡ mid.told →
-    MaySave newest g pushed.image (blocks_after_all newest blocks changes) content → LeavesFront g (AppendsMaster content ∷ []) pushed new →
+    (newest : Option Master) (g : Geometry) (old mid pushed new : State) (blocks : List (List LogRecord))
+    (changes : List Change) (content : List ℕ) (table : List Content) (count : ℕ) →
+    IsSoundUnder newest g old.image blocks → Means (picture_under newest g old.image blocks) table count
+    → MayMakeAll newest g old.image blocks changes → AllByRecursion SealsNoCommit changes →
+    AllByRecursion SavesNoMaster changes → LeavesFront g changes old mid → Reaches g changes old.image mid.image
+    → mid.told ≡ old.told →
+    LeavesOnly mid pushed (LeavesPushed newest g (blocks_after_all newest blocks changes) mid)
+    → IsPushed newest g mid.image pushed.image (blocks_after_all newest blocks changes) → pushed.told ≡ mid.told →
+    MaySave newest g pushed.image (blocks_after_all newest blocks changes) content
+    → LeavesFront g (AppendsMaster content ∷ []) pushed new →
     LeavesOnly old new (LeavesFor g table count old.told)
 
 -- So they do where all that is known of the moments before the master unit is that the devices stood for it.
 abbrev pub SaveStands : Type 0
 SaveStands =
-    (newest : Option Master) (g : Geometry) (old mid new : State) (blocks : List (List LogRecord)) (content : List ℕ) (table : List Content) (count : ℕ) →
+    (newest : Option Master) (g : Geometry) (old mid new : State) (blocks : List (List LogRecord)) (content : List ℕ)
+    (table : List Content) (count : ℕ) →
     LeavesOnly old mid (LeavesFor g table count old.told) → mid.told ≡ old.told →
     IsSoundUnder newest g mid.image blocks → Means (picture_under newest g mid.image blocks) table count →
     MaySave newest g mid.image blocks content → LeavesFront g (AppendsMaster content ∷ []) mid new →
     LeavesOnly old new (LeavesFor g table count old.told)
 
--- The first set on blank devices, whose page is pushed, and then a master unit that keeps no block: the image stands for the same, by its
--- pages alone.
+-- The first set on blank devices, whose page is pushed, and then a master unit that keeps no block: the image stands
+-- for the same, by its pages alone.
 abbrev pub first_master : Master
 first_master = record { redo = 1; kept = 1; commits = 1; active = [] }
 
 abbrev pub FirstCheckpointStands : Type 0
 FirstCheckpointStands =
-    (g : Geometry) (number : ℕ) (value : Content) (mid pushed new : Image) (octets content : List ℕ) → HasLimits g → number < 32 * g.pages → IsShort value →
+    (g : Geometry) (number : ℕ) (value : Content) (mid pushed new : Image) (octets content : List ℕ) → HasLimits g
+    → number < 32 * g.pages → IsShort value →
     Makes g (SealsBlock (set_records (picture g (blank_image g) []) number value)) (blank_image g) mid →
     page.IsSound octets → lsn_of octets ≡ 3 →
-    ((slot : ℕ) → slot < 32 → content_at (slots_of octets) slot ≡ (if 32 * (number / 32) + slot == number then value else content_at (version_at (versions_on g mid) (number / 32)).slots slot)) →
-    IsGroup content (record { page = number / 32; dirty = true; octets = octets } ∷ []) → Makes g (AppendsGroup content) mid pushed →
+    ((slot : ℕ) → slot < 32 → content_at (slots_of octets) slot
+    ≡ (if 32 * (number / 32) + slot
+    == number then value else content_at (version_at (versions_on g mid) (number / 32)).slots slot)) →
+    IsGroup content (record { page = number / 32; dirty = true; octets = octets } ∷ [])
+    → Makes g (AppendsGroup content) mid pushed →
     Makes g (AppendsMaster (unit first_master)) pushed new →
     StandsUnder (Some first_master) g new (slice_set (replicate (32 * g.pages) None) number value) 1
 
 -- The master of a sound image keeps the blocks of the transactions that it names as active.
 abbrev pub ActiveAreKept : Type 0
 ActiveAreKept =
-    (newest : Option Master) (g : Geometry) (image : Image) (blocks : List (List LogRecord)) → IsSoundUnder newest g image blocks →
+    (newest : Option Master) (g : Geometry) (image : Image) (blocks : List (List LogRecord))
+    → IsSoundUnder newest g image blocks →
     AllByRecursion (λ a. 512 * kept_by newest ≤ a.begin) (master_of newest).active

@@ -25,19 +25,21 @@ oldest_needed p = first_block p.hi (losers p.log)
 
 -- A checkpoint may be made exactly where the pages are flushed and the blocks of all unfinished transactions are kept.
 abbrev pub CheckpointNeeds : Type 0
-CheckpointNeeds = (p : Picture) (kept : ℕ) → IsSound p → MayCheckpoint p kept ↔ (IsFlushed p × (p.master.kept ≤ kept) × (kept ≤ oldest_needed p))
+CheckpointNeeds = (p : Picture) (kept : ℕ) → IsSound p
+    → MayCheckpoint p kept ↔ (IsFlushed p × (p.master.kept ≤ kept) × (kept ≤ oldest_needed p))
 
 -- That block is one of the kept ones, or the next.
 abbrev pub OldestIsThere : Type 0
 OldestIsThere = (p : Picture) → IsSound p → (p.master.kept ≤ oldest_needed p) × (oldest_needed p ≤ p.hi)
 
--- The master of a checkpoint: redo begins with the next block, all commits count, and it names the unfinished transactions, each
--- with the LSN of its last record.
+-- The master of a checkpoint: redo begins with the next block, all commits count, and it names the unfinished
+-- transactions, each with the LSN of its last record.
 pub record IsMasterOf (p : Picture) (m : Master) : Type 0 where
   pub redo : m.redo ≡ p.hi
   pub commits : m.commits ≡ commit_count p
   pub ascend : Ascend m.active
-  pub unfinished : AllByRecursion (λ pair. (is_loser p.log pair.begin ≡ true) × (pair.last ≡ last_lsn (entries_of pair.begin p.log))) m.active
+  pub unfinished : AllByRecursion (λ pair. (is_loser p.log pair.begin ≡ true)
+      × (pair.last ≡ last_lsn (entries_of pair.begin p.log))) m.active
   pub all : (t : ℕ) → is_loser p.log t ≡ true → list_any (λ pair. pair.begin == t) m.active ≡ true
 
 -- It is the one that such a checkpoint saves.

@@ -16,11 +16,14 @@ use Rattle.checkpoint.specs.declared.master.Master.{Master}
 use Rattle.checkpoint.specs.Newest.{HasMaster}
 use Rattle.sealed_ring.specs.Ring.{IsRing}
 use Rattle.image_changes.specs.Rings.{master_shape}
-use Rattle.image_changes.specs.Changes.{Change, SealsBlock, RewritesPages, AppendsGroup, AppendsSegment, ReadsAs, Makes, Reaches}
+use Rattle.image_changes.specs.Changes.{Change, SealsBlock, RewritesPages, AppendsGroup, AppendsSegment, ReadsAs, Makes}
+use Rattle.image_changes.specs.Changes.{Reaches}
 use Rattle.log_store.specs.Held.{HasBlocks}
 use Rattle.flash_cache.specs.Held.{version_on}
-use Rattle.image_meaning.specs.Meaning.{saved_by, kept_by, picture_under, version_in, HasNewest, AreOctetsSoundUnder, IsSoundUnder, Stands, StandsFor}
-use Rattle.image_meaning.specs.Changes.{MaySaveSegment, MayAppend, MayStage, MayMake, MayMakeAll, SealsNoCommit, newest_after, blocks_after, newest_after_all, blocks_after_all}
+use Rattle.image_meaning.specs.Meaning.{saved_by, kept_by, picture_under, version_in, HasNewest, AreOctetsSoundUnder}
+use Rattle.image_meaning.specs.Meaning.{IsSoundUnder, Stands, StandsFor}
+use Rattle.image_meaning.specs.Changes.{MaySaveSegment, MayAppend, MayStage, MayMake, MayMakeAll, SealsNoCommit}
+use Rattle.image_meaning.specs.Changes.{newest_after, blocks_after, newest_after_all, blocks_after_all}
 
 -- blank devices stand for the table without values
 abbrev pub BlankStands : Type 0
@@ -29,22 +32,26 @@ BlankStands = (g : Geometry) → HasLimits g → Stands g (blank_image g) (repli
 -- an image stands for one table at most
 abbrev pub OneMeaning : Type 0
 OneMeaning =
-    (g : Geometry) (image : Image) (table other : List Content) (commits many : ℕ) → Stands g image table commits → Stands g image other many →
+    (g : Geometry) (image : Image) (table other : List Content) (commits many : ℕ) → Stands g image table commits
+    → Stands g image other many →
     (table ≡ other) × (commits ≡ many)
 
 -- whatever its newest master is
 abbrev pub OneMeaningFor : Type 0
 OneMeaningFor =
-    (g : Geometry) (image : Image) (table other : List Content) (commits many : ℕ) → StandsFor g image table commits → StandsFor g image other many →
+    (g : Geometry) (image : Image) (table other : List Content) (commits many : ℕ) → StandsFor g image table commits
+    → StandsFor g image other many →
     (table ≡ other) × (commits ≡ many)
 
 -- which is one master at most
 abbrev pub OneMasterStands : Type 0
-OneMasterStands = (g : Geometry) (image : Image) (a b : Option Master) → HasNewest a g image → HasNewest b g image → a ≡ b
+OneMasterStands = (g : Geometry) (image : Image) (a b : Option Master) → HasNewest a g image
+    → HasNewest b g image → a ≡ b
 
 -- and the one that is read of the master ring.
 abbrev pub NewestIsRead : Type 0
-NewestIsRead = (newest : Option Master) (g : Geometry) (image : Image) → HasNewest newest g image → HasMaster image (saved_by newest)
+NewestIsRead = (newest : Option Master) (g : Geometry) (image : Image) → HasNewest newest g image
+    → HasMaster image (saved_by newest)
 
 abbrev pub ReadIsNewest : Type 0
 ReadIsNewest =
@@ -53,86 +60,117 @@ ReadIsNewest =
 
 -- what reads the same is sound too, and stands for the same
 abbrev pub SameIsSound : Type 0
-SameIsSound = (newest : Option Master) (g : Geometry) (old new : Image) (blocks : List (List LogRecord)) → IsSoundUnder newest g old blocks → ReadsAs g old new → IsSoundUnder newest g new blocks
+SameIsSound = (newest : Option Master) (g : Geometry) (old new : Image) (blocks : List (List LogRecord))
+    → IsSoundUnder newest g old blocks → ReadsAs g old new → IsSoundUnder newest g new blocks
 
 abbrev pub SameMeans : Type 0
 SameMeans =
     (newest : Option Master) (g : Geometry) (old new : Image) (blocks : List (List LogRecord)) → ReadsAs g old new →
-    (table : List Content) (count : ℕ) → Means (picture_under newest g old blocks) table count → Means (picture_under newest g new blocks) table count
+    (table : List Content) (count : ℕ) → Means (picture_under newest g old blocks) table count
+    → Means (picture_under newest g new blocks) table count
 
 -- A block that goes on is sealed.
 abbrev pub SealedIsSound : Type 0
 SealedIsSound =
-    (newest : Option Master) (g : Geometry) (old new : Image) (blocks : List (List LogRecord)) (records : List LogRecord) → IsSoundUnder newest g old blocks → GoesOn (picture_under newest g old blocks) records →
+    (newest : Option Master) (g : Geometry) (old new : Image) (blocks : List (List LogRecord))
+    (records : List LogRecord) → IsSoundUnder newest g old blocks
+    → GoesOn (picture_under newest g old blocks) records →
     Makes g (SealsBlock records) old new → IsSoundUnder newest g new (blocks ++ records ∷ [])
 
 -- without a Commit it changes nothing of what the image stands for
 abbrev pub SealedWithoutCommit : Type 0
 SealedWithoutCommit =
-    (newest : Option Master) (g : Geometry) (old new : Image) (blocks : List (List LogRecord)) (records : List LogRecord) → IsSoundUnder newest g old blocks → GoesOn (picture_under newest g old blocks) records →
-    Makes g (SealsBlock records) old new → commit_numbers (next_entries (picture_under newest g old blocks) records) ≡ [] →
-    (table : List Content) (count : ℕ) → Means (picture_under newest g old blocks) table count → Means (picture_under newest g new (blocks ++ records ∷ [])) table count
+    (newest : Option Master) (g : Geometry) (old new : Image) (blocks : List (List LogRecord))
+    (records : List LogRecord) → IsSoundUnder newest g old blocks
+    → GoesOn (picture_under newest g old blocks) records →
+    Makes g (SealsBlock records) old new
+    → commit_numbers (next_entries (picture_under newest g old blocks) records) ≡ [] →
+    (table : List Content) (count : ℕ) → Means (picture_under newest g old blocks) table count
+    → Means (picture_under newest g new (blocks ++ records ∷ [])) table count
 
 -- with one Commit the writes of its transaction enter the table
 abbrev pub SealedWithCommit : Type 0
 SealedWithCommit =
-    (newest : Option Master) (g : Geometry) (old new : Image) (blocks : List (List LogRecord)) (records : List LogRecord) → IsSoundUnder newest g old blocks → GoesOn (picture_under newest g old blocks) records →
+    (newest : Option Master) (g : Geometry) (old new : Image) (blocks : List (List LogRecord))
+    (records : List LogRecord) → IsSoundUnder newest g old blocks
+    → GoesOn (picture_under newest g old blocks) records →
     Makes g (SealsBlock records) old new →
-    (before after : List Entry) (lsn t number : ℕ) → next_entries (picture_under newest g old blocks) records ≡ before ++ record { lsn = lsn; rec = Commit t number } ∷ after →
+    (before after : List Entry) (lsn t number : ℕ)
+    → next_entries (picture_under newest g old blocks) records
+    ≡ before ++ record { lsn = lsn; rec = Commit t number } ∷ after →
     commit_numbers before ≡ [] → commit_numbers after ≡ [] →
     (table : List Content) (count : ℕ) → Means (picture_under newest g old blocks) table count →
-    Means (picture_under newest g new (blocks ++ records ∷ [])) (table_with table (writes_in t ((picture_under newest g old blocks).log ++ before))) (count + 1)
+    Means (picture_under newest g new (blocks ++ records ∷ []))
+    (table_with table (writes_in t ((picture_under newest g old blocks).log ++ before))) (count + 1)
 
 -- Valid dirty frames are staged, whatever octets the disk has meanwhile.
 abbrev pub StagedIsSound : Type 0
 StagedIsSound =
-    (newest : Option Master) (g : Geometry) (old new : Image) (blocks : List (List LogRecord)) (pages : List ℕ) → IsSoundUnder newest g old blocks → MayStage g old pages →
+    (newest : Option Master) (g : Geometry) (old new : Image) (blocks : List (List LogRecord)) (pages : List ℕ)
+    → IsSoundUnder newest g old blocks → MayStage g old pages →
     Makes g (RewritesPages pages) old new → IsSoundUnder newest g new blocks
 
 abbrev pub StagedMeans : Type 0
 StagedMeans =
-    (newest : Option Master) (g : Geometry) (old new : Image) (blocks : List (List LogRecord)) (pages : List ℕ) → IsSoundUnder newest g old blocks → MayStage g old pages →
+    (newest : Option Master) (g : Geometry) (old new : Image) (blocks : List (List LogRecord)) (pages : List ℕ)
+    → IsSoundUnder newest g old blocks → MayStage g old pages →
     Makes g (RewritesPages pages) old new →
-    (table : List Content) (count : ℕ) → Means (picture_under newest g old blocks) table count → Means (picture_under newest g new blocks) table count
+    (table : List Content) (count : ℕ) → Means (picture_under newest g old blocks) table count
+    → Means (picture_under newest g new blocks) table count
 
 -- A group is appended, which brings new versions, and the front group leaves where the queue is full.
 abbrev pub PushedIsSound : Type 0
 PushedIsSound =
-    (newest : Option Master) (g : Geometry) (old new : Image) (blocks : List (List LogRecord)) (content : List ℕ) (frames : List Frame) → IsSoundUnder newest g old blocks → IsGroup content frames →
+    (newest : Option Master) (g : Geometry) (old new : Image) (blocks : List (List LogRecord)) (content : List ℕ)
+    (frames : List Frame) → IsSoundUnder newest g old blocks → IsGroup content frames →
     MayAppend newest g old blocks frames → Makes g (AppendsGroup content) old new → IsSoundUnder newest g new blocks
 
 abbrev pub PushedMeans : Type 0
 PushedMeans =
-    (newest : Option Master) (g : Geometry) (old new : Image) (blocks : List (List LogRecord)) (content : List ℕ) (frames : List Frame) → IsSoundUnder newest g old blocks → IsGroup content frames →
+    (newest : Option Master) (g : Geometry) (old new : Image) (blocks : List (List LogRecord)) (content : List ℕ)
+    (frames : List Frame) → IsSoundUnder newest g old blocks → IsGroup content frames →
     MayAppend newest g old blocks frames → Makes g (AppendsGroup content) old new →
-    (table : List Content) (count : ℕ) → Means (picture_under newest g old blocks) table count → Means (picture_under newest g new blocks) table count
+    (table : List Content) (count : ℕ) → Means (picture_under newest g old blocks) table count
+    → Means (picture_under newest g new blocks) table count
 
 -- A segment that is due is saved: the image has the same groups and pages.
 abbrev pub SegmentIsSound : Type 0
 SegmentIsSound =
-    (newest : Option Master) (g : Geometry) (old new : Image) (blocks : List (List LogRecord)) (content : List ℕ) → IsSoundUnder newest g old blocks → MaySaveSegment g old content →
+    (newest : Option Master) (g : Geometry) (old new : Image) (blocks : List (List LogRecord)) (content : List ℕ)
+    → IsSoundUnder newest g old blocks → MaySaveSegment g old content →
     Makes g (AppendsSegment content) old new → IsSoundUnder newest g new blocks
 
 abbrev pub SegmentMeans : Type 0
 SegmentMeans =
-    (newest : Option Master) (g : Geometry) (old new : Image) (blocks : List (List LogRecord)) (content : List ℕ) → Makes g (AppendsSegment content) old new →
-    (table : List Content) (count : ℕ) → Means (picture_under newest g old blocks) table count → Means (picture_under newest g new blocks) table count
+    (newest : Option Master) (g : Geometry) (old new : Image) (blocks : List (List LogRecord)) (content : List ℕ)
+    → Makes g (AppendsSegment content) old new →
+    (table : List Content) (count : ℕ) → Means (picture_under newest g old blocks) table count
+    → Means (picture_under newest g new blocks) table count
 
--- All else of the octets may change as long as they are sound and each version replaces the one before: by itself, or by a new one.
+-- All else of the octets may change as long as they are sound and each version replaces the one before: by itself, or
+-- by a new one.
 abbrev pub ReplacedIsSound : Type 0
 ReplacedIsSound =
-    (newest : Option Master) (g : Geometry) (old new : Image) (blocks : List (List LogRecord)) → IsSoundUnder newest g old blocks → AreOctetsSoundUnder newest g new → HasBlocks g (kept_by newest) blocks new →
-    ((number : ℕ) → number < g.pages → Replaces (picture_under newest g old blocks) number (version_in (version_on g new number))) → IsSoundUnder newest g new blocks
+    (newest : Option Master) (g : Geometry) (old new : Image) (blocks : List (List LogRecord))
+    → IsSoundUnder newest g old blocks → AreOctetsSoundUnder newest g new
+    → HasBlocks g (kept_by newest) blocks new →
+    ((number : ℕ) → number < g.pages
+    → Replaces (picture_under newest g old blocks) number (version_in (version_on g new number)))
+    → IsSoundUnder newest g new blocks
 
 abbrev pub ReplacedMeans : Type 0
 ReplacedMeans =
-    (newest : Option Master) (g : Geometry) (old new : Image) (blocks : List (List LogRecord)) → IsSoundUnder newest g old blocks →
-    ((number : ℕ) → number < g.pages → Replaces (picture_under newest g old blocks) number (version_in (version_on g new number))) →
-    (table : List Content) (count : ℕ) → Means (picture_under newest g old blocks) table count → Means (picture_under newest g new blocks) table count
+    (newest : Option Master) (g : Geometry) (old new : Image) (blocks : List (List LogRecord))
+    → IsSoundUnder newest g old blocks →
+    ((number : ℕ) → number < g.pages
+    → Replaces (picture_under newest g old blocks) number (version_in (version_on g new number))) →
+    (table : List Content) (count : ℕ) → Means (picture_under newest g old blocks) table count
+    → Means (picture_under newest g new blocks) table count
 
 abbrev pub VersionReplaces : Type 0
 VersionReplaces =
-    (newest : Option Master) (g : Geometry) (image : Image) (blocks : List (List LogRecord)) (number : ℕ) → IsSoundUnder newest g image blocks → number < g.pages →
+    (newest : Option Master) (g : Geometry) (image : Image) (blocks : List (List LogRecord)) (number : ℕ)
+    → IsSoundUnder newest g image blocks → number < g.pages →
     Replaces (picture_under newest g image blocks) number (version_in (version_on g image number))
 
 -- Changes that may be made, one after the other.
@@ -140,25 +178,32 @@ VersionReplaces =
 -- each of them keeps an image sound
 abbrev pub ChangeKeepsSound : Type 0
 ChangeKeepsSound =
-    (newest : Option Master) (g : Geometry) (old new : Image) (blocks : List (List LogRecord)) (change : Change) → IsSoundUnder newest g old blocks → MayMake newest g old blocks change → Makes g change old new →
+    (newest : Option Master) (g : Geometry) (old new : Image) (blocks : List (List LogRecord)) (change : Change)
+    → IsSoundUnder newest g old blocks → MayMake newest g old blocks change → Makes g change old new →
     IsSoundUnder (newest_after newest change) g new (blocks_after newest blocks change)
 
 -- and what it stands for, where it seals no Commit
 abbrev pub ChangeKeepsMeaning : Type 0
 ChangeKeepsMeaning =
-    (newest : Option Master) (g : Geometry) (old new : Image) (blocks : List (List LogRecord)) (change : Change) → IsSoundUnder newest g old blocks → MayMake newest g old blocks change →
+    (newest : Option Master) (g : Geometry) (old new : Image) (blocks : List (List LogRecord)) (change : Change)
+    → IsSoundUnder newest g old blocks → MayMake newest g old blocks change →
     SealsNoCommit change → Makes g change old new →
-    (table : List Content) (count : ℕ) → Means (picture_under newest g old blocks) table count → Means (picture_under (newest_after newest change) g new (blocks_after newest blocks change)) table count
+    (table : List Content) (count : ℕ) → Means (picture_under newest g old blocks) table count
+    → Means (picture_under (newest_after newest change) g new (blocks_after newest blocks change)) table count
 
 -- so do the first ones of a list
 abbrev pub FrontKeepsSound : Type 0
 FrontKeepsSound =
-    (newest : Option Master) (g : Geometry) (old new : Image) (blocks : List (List LogRecord)) (front left : List Change) → IsSoundUnder newest g old blocks → MayMakeAll newest g old blocks (front ++ left) → Reaches g front old new →
+    (newest : Option Master) (g : Geometry) (old new : Image) (blocks : List (List LogRecord))
+    (front left : List Change) → IsSoundUnder newest g old blocks → MayMakeAll newest g old blocks (front ++ left)
+    → Reaches g front old new →
     IsSoundUnder (newest_after_all newest front) g new (blocks_after_all newest blocks front)
 
 -- and where none of them seals a Commit the image stands for the same
 abbrev pub FrontKeepsMeaning : Type 0
 FrontKeepsMeaning =
-    (newest : Option Master) (g : Geometry) (old new : Image) (blocks : List (List LogRecord)) (front left : List Change) → IsSoundUnder newest g old blocks → MayMakeAll newest g old blocks (front ++ left) →
+    (newest : Option Master) (g : Geometry) (old new : Image) (blocks : List (List LogRecord))
+    (front left : List Change) → IsSoundUnder newest g old blocks → MayMakeAll newest g old blocks (front ++ left) →
     AllByRecursion SealsNoCommit front → Reaches g front old new →
-    (table : List Content) (count : ℕ) → Means (picture_under newest g old blocks) table count → Means (picture_under (newest_after_all newest front) g new (blocks_after_all newest blocks front)) table count
+    (table : List Content) (count : ℕ) → Means (picture_under newest g old blocks) table count
+    → Means (picture_under (newest_after_all newest front) g new (blocks_after_all newest blocks front)) table count

@@ -109,15 +109,17 @@ pub record AreOctetsSoundUnder (newest : Option Master) (g : Geometry) (image : 
   -- a valid frame that isn't dirty equals its disk page
   pub clean : IsCleanOn g image
 
--- An image is sound under its newest master: its octets are, its log has these blocks from the oldest kept one on, and their
--- records, the versions and the master belong together.
-pub record IsSoundUnder (newest : Option Master) (g : Geometry) (image : Image) (blocks : List (List LogRecord)) : Type 0 where
+-- An image is sound under its newest master: its octets are, its log has these blocks from the oldest kept one on, and
+-- their records, the versions and the master belong together.
+pub record IsSoundUnder (newest : Option Master) (g : Geometry) (image : Image)
+    (blocks : List (List LogRecord)) : Type 0 where
   pub octets : AreOctetsSoundUnder newest g image
   pub held : HasBlocks g (kept_by newest) blocks image
   pub records : lists.IsSound (picture_under newest g image blocks)
 
 -- an image is sound under its newest master, and stands for this table and this number of commits
-pub record StandsUnder (newest : Option Master) (g : Geometry) (image : Image) (table : List Content) (commits : ℕ) : Type 0 where
+pub record StandsUnder (newest : Option Master) (g : Geometry) (image : Image) (table : List Content)
+    (commits : ℕ) : Type 0 where
   pub blocks : List (List LogRecord)
   pub sound : IsSoundUnder newest g image blocks
   pub means : Means (picture_under newest g image blocks) table commits

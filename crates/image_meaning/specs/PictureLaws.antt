@@ -1,5 +1,6 @@
 -- Laws on the picture of an image.
-use Rattle.std.specs.Prelude.{◌≡◌, ◌≢◌, ℕ, ◌+◌, ◌-◌, ◌*◌, ◌/◌, ◌==◌, ◌<◌, ◌≤◌, true, List, [], ◌∷◌, ◌++◌, length, replicate, map, slice_set, Option, None, if◌then◌else◌, ⊤}
+use Rattle.std.specs.Prelude.{◌≡◌, ◌≢◌, ℕ, ◌+◌, ◌-◌, ◌*◌, ◌/◌, ◌==◌, ◌<◌, ◌≤◌, true, List, [], ◌∷◌, ◌++◌, length}
+use Rattle.std.specs.Prelude.{replicate, map, slice_set, Option, None, if◌then◌else◌, ⊤}
 use Rattle.site.specs.declared.geometry.Geometry.{Geometry}
 use Rattle.site.specs.Geometry.{HasLimits, blank_image}
 use Rattle.site.specs.State.{Image}
@@ -19,37 +20,45 @@ use Rattle.frame_group.specs.Groups.{IsGroup}
 use Rattle.checkpoint.specs.declared.master.Master.{Master}
 use Rattle.image_changes.specs.Changes.{SealsBlock, RewritesPages, AppendsGroup, Makes}
 use Rattle.flash_cache.specs.Held.{version_on}
-use Rattle.image_meaning.specs.Meaning.{kept_by, next_block_under, picture_under, picture, versions_on, version_in, IsSoundUnder, Stands}
+use Rattle.image_meaning.specs.Meaning.{kept_by, next_block_under, picture_under, picture, versions_on, version_in}
+use Rattle.image_meaning.specs.Meaning.{IsSoundUnder, Stands}
 use Rattle.image_meaning.specs.Pictures.{ReplaceAll}
 use Rattle.image_meaning.specs.Changes.{MayStage, MayMakeAll, newest_after_all, blocks_after_all}
 
 -- a sealed block is the picture's next one
 abbrev pub PictureSealed : Type 0
 PictureSealed =
-    (newest : Option Master) (g : Geometry) (old new : Image) (blocks : List (List LogRecord)) (records : List LogRecord) → Makes g (SealsBlock records) old new →
+    (newest : Option Master) (g : Geometry) (old new : Image) (blocks : List (List LogRecord))
+    (records : List LogRecord) → Makes g (SealsBlock records) old new →
     picture_under newest g new (blocks ++ records ∷ []) ≡ sealed (picture_under newest g old blocks) records
 
 -- as it is on one image
 abbrev pub BlocksSealed : Type 0
 BlocksSealed =
-    (newest : Option Master) (g : Geometry) (image : Image) (blocks : List (List LogRecord)) (records : List LogRecord) →
+    (newest : Option Master) (g : Geometry) (image : Image) (blocks : List (List LogRecord))
+    (records : List LogRecord) →
     picture_under newest g image (blocks ++ records ∷ []) ≡ sealed (picture_under newest g image blocks) records
 
 -- where each page has the same version the picture is the same
 abbrev pub PictureStays : Type 0
 PictureStays =
-    (newest : Option Master) (g : Geometry) (old new : Image) (blocks : List (List LogRecord)) → ((number : ℕ) → version_on g new number ≡ version_on g old number) → picture_under newest g new blocks ≡ picture_under newest g old blocks
+    (newest : Option Master) (g : Geometry) (old new : Image) (blocks : List (List LogRecord))
+    → ((number : ℕ) → version_on g new number ≡ version_on g old number)
+    → picture_under newest g new blocks ≡ picture_under newest g old blocks
 
 -- as while pages are staged
 abbrev pub StagedVersions : Type 0
 StagedVersions =
-    (newest : Option Master) (g : Geometry) (old new : Image) (blocks : List (List LogRecord)) (pages : List ℕ) → IsSoundUnder newest g old blocks → MayStage g old pages → Makes g (RewritesPages pages) old new →
+    (newest : Option Master) (g : Geometry) (old new : Image) (blocks : List (List LogRecord)) (pages : List ℕ)
+    → IsSoundUnder newest g old blocks → MayStage g old pages → Makes g (RewritesPages pages) old new →
     (number : ℕ) → version_on g new number ≡ version_on g old number
 
 -- where each page's version replaces the one before, all of them do
 abbrev pub EachReplacesUnder : Option Master → Type 0
 EachReplacesUnder newest =
-    (g : Geometry) (old new : Image) (blocks : List (List LogRecord)) → ((number : ℕ) → number < g.pages → Replaces (picture_under newest g old blocks) number (version_in (version_on g new number))) →
+    (g : Geometry) (old new : Image) (blocks : List (List LogRecord))
+    → ((number : ℕ) → number < g.pages
+    → Replaces (picture_under newest g old blocks) number (version_in (version_on g new number))) →
     ReplaceAll (picture_under newest g old blocks) (versions_on g new)
 
 abbrev pub EachReplaces : Type 0
@@ -57,61 +66,76 @@ EachReplaces = EachReplacesUnder None
 
 -- The next block's number, by the oldest kept one.
 abbrev pub NextBlock : Type 0
-NextBlock = (newest : Option Master) (blocks : List (List LogRecord)) → next_block_under newest blocks ≡ kept_by newest + length blocks
+NextBlock = (newest : Option Master) (blocks : List (List LogRecord))
+    → next_block_under newest blocks ≡ kept_by newest + length blocks
 
 -- There is room for a tail as long as the kept blocks, one more and what is owed have room,
 abbrev pub RoomForBlock : Type 0
 RoomForBlock =
     (newest : Option Master) (g : Geometry) (image : Image) (blocks : List (List LogRecord)) (tail : List LogRecord) →
-    length blocks + 1 + owed (whole (picture_under newest g image blocks) tail) ≤ g.blocks - 1 → HasRoom (sealed (picture_under newest g image blocks) tail)
+    length blocks + 1 + owed (whole (picture_under newest g image blocks) tail) ≤ g.blocks - 1
+    → HasRoom (sealed (picture_under newest g image blocks) tail)
 
 -- and so it is as long as all records of these blocks and what is owed have room.
 abbrev pub RoomForTailUnder : Option Master → Type 0
 RoomForTailUnder newest =
-    (g : Geometry) (image : Image) (blocks : List (List LogRecord)) (tail : List LogRecord) → IsSoundUnder newest g image blocks → tail ≢ [] →
-    length (whole (picture_under newest g image blocks) tail) + owed (whole (picture_under newest g image blocks) tail) ≤ g.blocks - 1 → HasRoom (sealed (picture_under newest g image blocks) tail)
+    (g : Geometry) (image : Image) (blocks : List (List LogRecord)) (tail : List LogRecord)
+    → IsSoundUnder newest g image blocks → tail ≢ [] →
+    length (whole (picture_under newest g image blocks) tail) + owed (whole (picture_under newest g image blocks) tail)
+    ≤ g.blocks - 1 → HasRoom (sealed (picture_under newest g image blocks) tail)
 
 abbrev pub RoomForTail : Type 0
 RoomForTail = RoomForTailUnder None
 
 -- All commits of the log count.
 abbrev pub AllCommitsCount : Type 0
-AllCommitsCount = (g : Geometry) (image : Image) (blocks : List (List LogRecord)) → commit_count (picture g image blocks) ≡ length (commit_numbers (log_from 0 blocks))
+AllCommitsCount = (g : Geometry) (image : Image) (blocks : List (List LogRecord))
+    → commit_count (picture g image blocks) ≡ length (commit_numbers (log_from 0 blocks))
 
--- Blocks of which each goes on behind the ones before it may be sealed one after the other, whatever else changes of the octets.
+-- Blocks of which each goes on behind the ones before it may be sealed one after the other, whatever else changes of
+-- the octets.
 abbrev pub GoOn : Picture → List (List LogRecord) → Type 0
 GoOn p [] = ⊤
 GoOn p (records ∷ later) = GoesOn p records × GoOn (sealed p records) later
 
 abbrev pub SealsMayBeMade : Type 0
 SealsMayBeMade =
-    (newest : Option Master) (g : Geometry) (image : Image) (blocks later : List (List LogRecord)) → GoOn (picture_under newest g image blocks) later → MayMakeAll newest g image blocks (map SealsBlock later)
+    (newest : Option Master) (g : Geometry) (image : Image) (blocks later : List (List LogRecord))
+    → GoOn (picture_under newest g image blocks) later → MayMakeAll newest g image blocks (map SealsBlock later)
 
 abbrev pub BlocksAfterSeals : Type 0
 BlocksAfterSeals =
     (newest : Option Master) (blocks later : List (List LogRecord)) →
-    (blocks_after_all newest blocks (map SealsBlock later) ≡ blocks ++ later) × (newest_after_all newest (map SealsBlock later) ≡ newest)
+    (blocks_after_all newest blocks (map SealsBlock later) ≡ blocks ++ later)
+    × (newest_after_all newest (map SealsBlock later) ≡ newest)
 
--- The first set on blank devices: its block makes an image that stands for the table with its record, and for one commit.
+-- The first set on blank devices: its block makes an image that stands for the table with its record, and for one
+-- commit.
 abbrev pub FirstSetStands : Type 0
 FirstSetStands =
     (g : Geometry) (number : ℕ) (value : Content) (new : Image) → HasLimits g → number < 32 * g.pages → IsShort value →
     Makes g (SealsBlock (set_records (picture g (blank_image g) []) number value)) (blank_image g) new →
     Stands g new (slice_set (replicate (32 * g.pages) None) number value) 1
 
--- And when its page, with the record in its slot and the Update's LSN, is pushed as a dirty frame, the image stands for the same.
+-- And when its page, with the record in its slot and the Update's LSN, is pushed as a dirty frame, the image stands for
+-- the same.
 abbrev pub FirstPushStands : Type 0
 FirstPushStands =
-    (g : Geometry) (number : ℕ) (value : Content) (mid new : Image) (octets content : List ℕ) → HasLimits g → number < 32 * g.pages → IsShort value →
+    (g : Geometry) (number : ℕ) (value : Content) (mid new : Image) (octets content : List ℕ) → HasLimits g
+    → number < 32 * g.pages → IsShort value →
     Makes g (SealsBlock (set_records (picture g (blank_image g) []) number value)) (blank_image g) mid →
     page.IsSound octets → lsn_of octets ≡ 3 →
-    ((slot : ℕ) → slot < 32 → content_at (slots_of octets) slot ≡ (if 32 * (number / 32) + slot == number then value else content_at (version_at (versions_on g mid) (number / 32)).slots slot)) →
-    IsGroup content (record { page = number / 32; dirty = true; octets = octets } ∷ []) → Makes g (AppendsGroup content) mid new →
+    ((slot : ℕ) → slot < 32 → content_at (slots_of octets) slot
+    ≡ (if 32 * (number / 32) + slot
+    == number then value else content_at (version_at (versions_on g mid) (number / 32)).slots slot)) →
+    IsGroup content (record { page = number / 32; dirty = true; octets = octets } ∷ [])
+    → Makes g (AppendsGroup content) mid new →
     Stands g new (slice_set (replicate (32 * g.pages) None) number value) 1
 
 -- the versions of an image by their pages
 abbrev pub VersionOfPage : Type 0
-VersionOfPage = (g : Geometry) (image : Image) (number : ℕ) → number < g.pages → version_at (versions_on g image) number ≡ version_in (version_on g image number)
+VersionOfPage = (g : Geometry) (image : Image) (number : ℕ) → number < g.pages
+    → version_at (versions_on g image) number ≡ version_in (version_on g image number)
 
 abbrev pub CountOfVersions : Type 0
 CountOfVersions = (g : Geometry) (image : Image) → length (versions_on g image) ≡ g.pages

@@ -16,7 +16,8 @@ pub record ReplaceAll (p : Picture) (versions : List Version) : Type 0 where
 
 -- they keep a picture sound
 abbrev pub VersionsAreSound : Type 0
-VersionsAreSound = (p : Picture) (versions : List Version) → IsSound p → ReplaceAll p versions → IsSound (with_versions p versions)
+VersionsAreSound = (p : Picture) (versions : List Version) → IsSound p → ReplaceAll p versions
+    → IsSound (with_versions p versions)
 
 -- and what it stands for
 abbrev pub VersionsMean : Type 0
@@ -26,4 +27,5 @@ VersionsMean =
 
 -- the version that a page has replaces itself
 abbrev pub VersionReplacesItself : Type 0
-VersionReplacesItself = (p : Picture) (page : ℕ) → IsSound p → page < length p.pages → Replaces p page (version_at p.pages page)
+VersionReplacesItself = (p : Picture) (page : ℕ) → IsSound p → page < length p.pages
+    → Replaces p page (version_at p.pages page)

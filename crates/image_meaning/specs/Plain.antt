@@ -11,7 +11,8 @@ use Rattle.log_laws.specs.Tail.{plain}
 use Rattle.log_store.specs.Held.{HasBlocks}
 use Rattle.image_meaning.specs.Meaning.{picture, IsSound}
 
--- The log has these blocks, whose records belong together over pages that were never written, and all other octets are zero.
+-- The log has these blocks, whose records belong together over pages that were never written, and all other octets are
+-- zero.
 pub record IsLogAlone (g : Geometry) (image : Image) (blocks : List (List LogRecord)) : Type 0 where
   pub limits : HasLimits g
   pub lengths : HasLengths g image
@@ -23,9 +24,11 @@ pub record IsLogAlone (g : Geometry) (image : Image) (blocks : List (List LogRec
 
 -- Such an image is sound, and stands for what the log stands for.
 abbrev pub LogAloneIsSound : Type 0
-LogAloneIsSound = (g : Geometry) (image : Image) (blocks : List (List LogRecord)) → IsLogAlone g image blocks → IsSound g image blocks
+LogAloneIsSound = (g : Geometry) (image : Image) (blocks : List (List LogRecord)) → IsLogAlone g image blocks
+    → IsSound g image blocks
 
 abbrev pub LogAloneMeans : Type 0
 LogAloneMeans =
     (g : Geometry) (image : Image) (blocks : List (List LogRecord)) → IsLogAlone g image blocks →
-    (table : List Content) (count : ℕ) → Means (plain g.pages g.blocks blocks) table count → Means (picture g image blocks) table count
+    (table : List Content) (count : ℕ) → Means (plain g.pages g.blocks blocks) table count
+    → Means (picture g image blocks) table count

@@ -1,5 +1,6 @@
 -- Laws on pushes: pages are staged, then a group is appended.
-use Rattle.std.specs.Prelude.{◌≡◌, ℕ, ◌-◌, ◌<◌, true, false, List, [], length, Contains, slice_index, slice_index_or, Option, Some, None, flat_map}
+use Rattle.std.specs.Prelude.{◌≡◌, ℕ, ◌-◌, ◌<◌, true, false, List, [], length, Contains, slice_index, slice_index_or}
+use Rattle.std.specs.Prelude.{Option, Some, None, flat_map}
 use Rattle.std.specs.List.{AllByRecursion}
 use Rattle.site.specs.declared.geometry.Geometry.{Geometry}
 use Rattle.site.specs.State.{State, Image, Snapshot}
@@ -25,31 +26,42 @@ pub record IsStagedFrom (g : Geometry) (image : Image) (number : ℕ) (octets : 
   pub same : octets ≡ frame.octets
 
 -- These pages may be staged, with these octets, and a group with these frames appended behind them: no segment is due.
-pub record MayPushGroup (newest : Option Master) (g : Geometry) (image : Image) (blocks : List (List LogRecord)) (pages : List ℕ) (contents : List (List ℕ)) (frames : List Frame) : Type 0 where
+pub record MayPushGroup (newest : Option Master) (g : Geometry) (image : Image) (blocks : List (List LogRecord))
+    (pages : List ℕ) (contents : List (List ℕ)) (frames : List Frame) : Type 0 where
   pub none_due : NoSegmentIsDue g image
   pub are_frames : AllByRecursion (IsFrameOf g) frames
-  pub replace : (number : ℕ) (frame : Frame) → last_frame number frames ≡ Some frame → Replaces (picture_under newest g image blocks) number (version_in frame.octets)
+  pub replace : (number : ℕ) (frame : Frame) → last_frame number frames ≡ Some frame
+      → Replaces (picture_under newest g image blocks) number (version_in frame.octets)
   -- a clean frame of the group equals its disk page, which isn't staged
   pub clean : CleanAsDisk (disk_on image) frames
-  pub apart : (number : ℕ) (frame : Frame) → last_frame number frames ≡ Some frame → frame.dirty ≡ false → Contains pages number → ⊥
+  pub apart : (number : ℕ) (frame : Frame) → last_frame number frames ≡ Some frame → frame.dirty ≡ false
+      → Contains pages number → ⊥
   pub staged : (k : ℕ) → k < length pages → IsStagedFrom g image (slice_index pages k) (slice_index_or contents k [])
   -- a valid dirty frame that leaves is staged, or its page is in the group
-  pub left : (number : ℕ) (frame : Frame) → last_frame number frames ≡ None → last_frame number (rest_on g image) ≡ None → last_frame number (front_on g image) ≡ Some frame →
+  pub left : (number : ℕ) (frame : Frame) → last_frame number frames ≡ None → last_frame number (rest_on g image) ≡ None
+      → last_frame number (front_on g image) ≡ Some frame →
       frame.dirty ≡ true → Contains pages number
 
 -- Whatever a crash leaves of it is sound,
 abbrev pub PushKeepsSound : Type 0
 PushKeepsSound =
-    (newest : Option Master) (g : Geometry) (pages : List ℕ) (contents : List (List ℕ)) (group : List ℕ) (frames : List Frame) (old : State) (snapshot : Snapshot) (blocks : List (List LogRecord)) →
-    IsSoundUnder newest g old.image blocks → IsGroup group frames → MayPushGroup newest g old.image blocks pages contents frames → LeavesPush g pages contents group old snapshot →
+    (newest : Option Master) (g : Geometry) (pages : List ℕ) (contents : List (List ℕ)) (group : List ℕ)
+    (frames : List Frame) (old : State) (snapshot : Snapshot) (blocks : List (List LogRecord)) →
+    IsSoundUnder newest g old.image blocks → IsGroup group frames
+    → MayPushGroup newest g old.image blocks pages contents frames
+    → LeavesPush g pages contents group old snapshot →
     IsSoundUnder newest g snapshot.image blocks
 
 -- and stands for the same.
 abbrev pub PushKeepsMeaning : Type 0
 PushKeepsMeaning =
-    (newest : Option Master) (g : Geometry) (pages : List ℕ) (contents : List (List ℕ)) (group : List ℕ) (frames : List Frame) (old : State) (snapshot : Snapshot) (blocks : List (List LogRecord)) →
-    IsSoundUnder newest g old.image blocks → IsGroup group frames → MayPushGroup newest g old.image blocks pages contents frames → LeavesPush g pages contents group old snapshot →
-    (table : List Content) (count : ℕ) → Means (picture_under newest g old.image blocks) table count → Means (picture_under newest g snapshot.image blocks) table count
+    (newest : Option Master) (g : Geometry) (pages : List ℕ) (contents : List (List ℕ)) (group : List ℕ)
+    (frames : List Frame) (old : State) (snapshot : Snapshot) (blocks : List (List LogRecord)) →
+    IsSoundUnder newest g old.image blocks → IsGroup group frames
+    → MayPushGroup newest g old.image blocks pages contents frames
+    → LeavesPush g pages contents group old snapshot →
+    (table : List Content) (count : ℕ) → Means (picture_under newest g old.image blocks) table count
+    → Means (picture_under newest g snapshot.image blocks) table count
 
 -- Groups that a cache knows of are of the form, where their pages are sound, and their frames are those of the image.
 abbrev pub GroupsAreRead : Type 0
@@ -62,9 +74,11 @@ GroupsAreRead =
 abbrev pub GroupsAreThere : Type 0
 GroupsAreThere =
     (g : Geometry) (image : Image) → AreGroups g image →
-    HasGroups g ((units_on (group_shape g) image).hi - length (units_on (group_shape g) image).live) (groups_on g image) image
+    HasGroups g ((units_on (group_shape g) image).hi - length (units_on (group_shape g) image).live)
+    (groups_on g image) image
 
 -- Segments that follow these groups are the image's.
 abbrev pub SegmentsAreRead : Type 0
 SegmentsAreRead =
-    (g : Geometry) (first : ℕ) (groups : List (List Frame)) (image : Image) → HasGroups g first groups image → AreSaved g groups image → AreSegments g image
+    (g : Geometry) (first : ℕ) (groups : List (List Frame)) (image : Image) → HasGroups g first groups image
+    → AreSaved g groups image → AreSegments g image

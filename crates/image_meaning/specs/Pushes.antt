@@ -11,14 +11,17 @@ pub record MayPush (disk : ℕ → List ℕ) (front rest new : List Frame) : Typ
 
 -- then clean frames equal the disk still
 abbrev pub PushedClean : Type 0
-PushedClean = (disk : ℕ → List ℕ) (front rest new : List Frame) → CleanAsDisk disk (front ++ rest) → MayPush disk front rest new → CleanAsDisk disk (rest ++ new)
+PushedClean = (disk : ℕ → List ℕ) (front rest new : List Frame) → CleanAsDisk disk (front ++ rest)
+    → MayPush disk front rest new → CleanAsDisk disk (rest ++ new)
 
 -- a page of the new group has its version from it
 abbrev pub PushedVersion : Type 0
-PushedVersion = (disk : ℕ → List ℕ) (rest new : List Frame) (page : ℕ) (frame : Frame) → last_frame page new ≡ Some frame → version disk (rest ++ new) page ≡ frame.octets
+PushedVersion = (disk : ℕ → List ℕ) (rest new : List Frame) (page : ℕ) (frame : Frame)
+    → last_frame page new ≡ Some frame → version disk (rest ++ new) page ≡ frame.octets
 
 -- and every other page the version that it had
 abbrev pub OthersKeepVersions : Type 0
 OthersKeepVersions =
-    (disk : ℕ → List ℕ) (front rest new : List Frame) (page : ℕ) → CleanAsDisk disk (front ++ rest) → MayPush disk front rest new → last_frame page new ≡ None →
+    (disk : ℕ → List ℕ) (front rest new : List Frame) (page : ℕ) → CleanAsDisk disk (front ++ rest)
+    → MayPush disk front rest new → last_frame page new ≡ None →
     version disk (rest ++ new) page ≡ version disk (front ++ rest) page

@@ -27,11 +27,14 @@ ChangesPages _ = ⊥
 -- a page has the version that it had, or a sound page that replaces it
 abbrev pub IsKeptOrReplaced : Option Master → Geometry → Image → Image → List (List LogRecord) → ℕ → Type 0
 IsKeptOrReplaced newest g old new blocks number =
-    (version_on g new number ≡ version_on g old number) ⊎ (page.IsSound (version_on g new number) × Replaces (picture_under newest g old blocks) number (version_in (version_on g new number)))
+    (version_on g new number ≡ version_on g old number)
+    ⊎ (page.IsSound (version_on g new number)
+    × Replaces (picture_under newest g old blocks) number (version_in (version_on g new number)))
 
--- Such changes lead from one image to another, which has these groups of sound pages, segments that follow them, clean frames that equal the
--- disk, and for each page the version that it had or one that replaces it.
-pub record IsPushed (newest : Option Master) (g : Geometry) (old new : Image) (blocks : List (List LogRecord)) : Type 0 where
+-- Such changes lead from one image to another, which has these groups of sound pages, segments that follow them, clean
+-- frames that equal the disk, and for each page the version that it had or one that replaces it.
+pub record IsPushed (newest : Option Master) (g : Geometry) (old new : Image)
+    (blocks : List (List LogRecord)) : Type 0 where
   pub changes : List Change
   pub of_pages : AllByRecursion ChangesPages changes
   pub reaches : Reaches g changes old new
@@ -45,31 +48,40 @@ pub record IsPushed (newest : Option Master) (g : Geometry) (old new : Image) (b
 
 -- Then the other one is sound too, and stands for the same.
 abbrev pub ReachedIsSound : Type 0
-ReachedIsSound = (newest : Option Master) (g : Geometry) (old new : Image) (blocks : List (List LogRecord)) → IsSoundUnder newest g old blocks → IsPushed newest g old new blocks → IsSoundUnder newest g new blocks
+ReachedIsSound = (newest : Option Master) (g : Geometry) (old new : Image) (blocks : List (List LogRecord))
+    → IsSoundUnder newest g old blocks → IsPushed newest g old new blocks → IsSoundUnder newest g new blocks
 
 abbrev pub ReachedMeans : Type 0
 ReachedMeans =
-    (newest : Option Master) (g : Geometry) (old new : Image) (blocks : List (List LogRecord)) → IsSoundUnder newest g old blocks → IsPushed newest g old new blocks →
-    (table : List Content) (count : ℕ) → Means (picture_under newest g old blocks) table count → Means (picture_under newest g new blocks) table count
+    (newest : Option Master) (g : Geometry) (old new : Image) (blocks : List (List LogRecord))
+    → IsSoundUnder newest g old blocks → IsPushed newest g old new blocks →
+    (table : List Content) (count : ℕ) → Means (picture_under newest g old blocks) table count
+    → Means (picture_under newest g new blocks) table count
 
 -- nothing was told, and such an image is left
-pub record LeavesPushed (newest : Option Master) (g : Geometry) (blocks : List (List LogRecord)) (old : State) (snapshot : Snapshot) : Type 0 where
+pub record LeavesPushed (newest : Option Master) (g : Geometry) (blocks : List (List LogRecord)) (old : State)
+    (snapshot : Snapshot) : Type 0 where
   pub told : snapshot.told ≡ old.told
   pub pushed : IsPushed newest g old.image snapshot.image blocks
 
 abbrev pub PushedStands : Type 0
 PushedStands =
-    (newest : Option Master) (g : Geometry) (old new : State) (blocks : List (List LogRecord)) (table : List Content) (count : ℕ) → IsSoundUnder newest g old.image blocks → Means (picture_under newest g old.image blocks) table count →
-    LeavesOnly old new (LeavesPushed newest g blocks old) → LeavesOnly old new (LeavesTableUnder newest g table count old.told)
+    (newest : Option Master) (g : Geometry) (old new : State) (blocks : List (List LogRecord)) (table : List Content)
+    (count : ℕ) → IsSoundUnder newest g old.image blocks
+    → Means (picture_under newest g old.image blocks) table count →
+    LeavesOnly old new (LeavesPushed newest g blocks old)
+    → LeavesOnly old new (LeavesTableUnder newest g table count old.told)
 
 -- A push changes groups and disk pages alone.
 abbrev pub PushChangesPages : Type 0
 PushChangesPages =
-    (g : Geometry) (pages : List ℕ) (contents : List (List ℕ)) (group : List ℕ) (old : State) (snapshot : Snapshot) → LeavesPush g pages contents group old snapshot →
+    (g : Geometry) (pages : List ℕ) (contents : List (List ℕ)) (group : List ℕ) (old : State) (snapshot : Snapshot)
+    → LeavesPush g pages contents group old snapshot →
     (changes : List Change) × AllByRecursion ChangesPages changes × Reaches g changes old.image snapshot.image
 
 -- The groups that a cache knows of a sound image have sound pages.
 abbrev pub GroupsAreSound : Type 0
 GroupsAreSound =
-    (g : Geometry) (first : ℕ) (groups : List (List Frame)) (image : Image) → AreGroups g image → HasGroups g first groups image →
+    (g : Geometry) (first : ℕ) (groups : List (List Frame)) (image : Image) → AreGroups g image
+    → HasGroups g first groups image →
     AllByRecursion (λ frames. AllByRecursion (λ frame. page.IsSound frame.octets) frames) groups

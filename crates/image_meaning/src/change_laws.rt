@@ -3,7 +3,8 @@ ghost use Rattle.std.specs.Prelude.{Option};
 ghost use Rattle.image_meaning.specs.Laws.{ChangeKeepsSound, ChangeKeepsMeaning, FrontKeepsSound, FrontKeepsMeaning};
 ghost use Rattle.image_meaning.specs.Beside.{RingsKept, RingsKeptUnder};
 ghost use Rattle.checkpoint.specs.declared.master.Master.{Master};
-ghost use Rattle.image_meaning.specs.PushLaws.{PushKeepsSound, PushKeepsMeaning, GroupsAreRead, GroupsAreThere, SegmentsAreRead};
+ghost use Rattle.image_meaning.specs.PushLaws.{PushKeepsSound, PushKeepsMeaning, GroupsAreRead, GroupsAreThere};
+ghost use Rattle.image_meaning.specs.PushLaws.{SegmentsAreRead};
 
 use crate::checkpoint_laws::master_laws;
 
@@ -27,16 +28,16 @@ pub fn push_kept()
     frame_group::staged();
 }
 
-/// Groups that a cache knows of are of the form, and their frames those of the image, and segments that follow them are the
-/// image's; and groups of the form are there for a cache to find.
+/// Groups that a cache knows of are of the form, and their frames those of the image, and segments that follow them are
+/// the image's; and groups of the form are there for a cache to find.
 pub fn groups_are_read()
     ensures read { GroupsAreRead }
     ensures there { GroupsAreThere }
     ensures segments { SegmentsAreRead }
 {}
 
-/// Sealed blocks, rewritten disk pages, segments where one is due, and groups of sound pages where none is keep the rings
-/// sound.
+/// Sealed blocks, rewritten disk pages, segments where one is due, and groups of sound pages where none is keep the
+/// rings sound.
 pub fn rings_kept()
     ensures { RingsKept }
 {}

@@ -1,7 +1,11 @@
 // Laws on a new master.
 ghost use Rattle.image_meaning.specs.Below.{MasterLaws};
 ghost use Rattle.image_meaning.specs.Beside.{RingsSaved};
-ghost use Rattle.image_meaning.specs.Checkpoints.{MasterMaySave, EmptyMasterMaySave, CheckpointMaySave, SavedOctets, SavedPicture, SavedIsSound, SavedMeans, SavedIsOrderly, ChangeKeepsOrderly, FrontKeepsOrderly, CheckpointStands, PushedCheckpointStands, SaveStands, FirstCheckpointStands, ActiveAreKept};
+ghost use Rattle.image_meaning.specs.Checkpoints.{MasterMaySave, EmptyMasterMaySave, CheckpointMaySave, SavedOctets};
+ghost use Rattle.image_meaning.specs.Checkpoints.{SavedPicture, SavedIsSound, SavedMeans, SavedIsOrderly};
+ghost use Rattle.image_meaning.specs.Checkpoints.{ChangeKeepsOrderly, FrontKeepsOrderly, CheckpointStands};
+ghost use Rattle.image_meaning.specs.Checkpoints.{PushedCheckpointStands, SaveStands, FirstCheckpointStands};
+ghost use Rattle.image_meaning.specs.Checkpoints.{ActiveAreKept};
 
 use checkpoint::{one_master, stays_newest};
 use log_laws::{empty_master, losers_listed, new_master, sealed_is_orderly, table_at};
@@ -30,8 +34,8 @@ pub fn master_may_save()
     master_laws();
 }
 
-/// Appending a master unit keeps an image sound, and what it stands for, from the new oldest kept block on, and leaves an
-/// orderly log: its octets stay sound, and its picture is the one before with the new master.
+/// Appending a master unit keeps an image sound, and what it stands for, from the new oldest kept block on, and leaves
+/// an orderly log: its octets stay sound, and its picture is the one before with the new master.
 pub fn master_saved()
     ensures octets { SavedOctets }
     ensures rings { RingsSaved }
@@ -52,8 +56,8 @@ pub fn orderly_kept()
     master_laws();
 }
 
-/// Changes that seal no Commit, pushes of pages, and then a master unit leave devices that stand for the same table at each
-/// moment.
+/// Changes that seal no Commit, pushes of pages, and then a master unit leave devices that stand for the same table at
+/// each moment.
 pub fn checkpoint_stands()
     ensures whole { CheckpointStands }
     ensures pushes { PushedCheckpointStands }
@@ -63,7 +67,8 @@ pub fn checkpoint_stands()
     master_laws();
 }
 
-/// And so does the first checkpoint on devices on which one record was set, with its page pushed: no block is kept then.
+/// And so does the first checkpoint on devices on which one record was set, with its page pushed: no block is kept
+/// then.
 pub fn first_checkpoint_stands()
     ensures { FirstCheckpointStands }
 {

@@ -1,5 +1,9 @@
 // Laws on images.
-ghost use Rattle.image_meaning.specs.Laws.{BlankStands, OneMeaning, OneMeaningFor, OneMasterStands, NewestIsRead, ReadIsNewest, SameIsSound, SameMeans, SealedIsSound, SealedWithoutCommit, SealedWithCommit, StagedIsSound, StagedMeans, PushedIsSound, PushedMeans, SegmentIsSound, SegmentMeans, ReplacedIsSound, ReplacedMeans, VersionReplaces};
+ghost use Rattle.image_meaning.specs.Laws.{BlankStands, OneMeaning, OneMeaningFor, OneMasterStands, NewestIsRead};
+ghost use Rattle.image_meaning.specs.Laws.{ReadIsNewest, SameIsSound, SameMeans, SealedIsSound, SealedWithoutCommit};
+ghost use Rattle.image_meaning.specs.Laws.{SealedWithCommit, StagedIsSound, StagedMeans, PushedIsSound, PushedMeans};
+ghost use Rattle.image_meaning.specs.Laws.{SegmentIsSound, SegmentMeans, ReplacedIsSound, ReplacedMeans};
+ghost use Rattle.image_meaning.specs.Laws.{VersionReplaces};
 ghost use Rattle.image_meaning.specs.Plain.{LogAloneIsSound, LogAloneMeans};
 
 use checkpoint::one_master;
@@ -16,8 +20,8 @@ pub fn blank_stands()
     table_at();
 }
 
-/// Devices on which no page was ever written, with sound records in their log, are sound, and stand for what the log stands
-/// for.
+/// Devices on which no page was ever written, with sound records in their log, are sound, and stand for what the log
+/// stands for.
 pub fn log_alone()
     ensures sound { LogAloneIsSound }
     ensures means { LogAloneMeans }
@@ -58,8 +62,8 @@ pub fn sealed()
     ensures with { SealedWithCommit }
 {}
 
-/// Rewriting disk pages that have valid dirty frames keeps an image sound, and what it stands for, whatever octets these
-/// pages have meanwhile.
+/// Rewriting disk pages that have valid dirty frames keeps an image sound, and what it stands for, whatever octets
+/// these pages have meanwhile.
 pub fn staged()
     ensures sound { StagedIsSound }
     ensures means { StagedMeans }
@@ -68,8 +72,8 @@ pub fn staged()
 }
 
 /// Appending a group keeps an image sound, and what it stands for, where no segment is due, each version that it brings
-/// fits the log and is as the one before in each slot that no record stands on, its clean frames equal the disk, and the
-/// disk has what the group that leaves alone has.
+/// fits the log and is as the one before in each slot that no record stands on, its clean frames equal the disk, and
+/// the disk has what the group that leaves alone has.
 pub fn pushed()
     ensures sound { PushedIsSound }
     ensures means { PushedMeans }
@@ -81,8 +85,8 @@ pub fn segment_saved()
     ensures means { SegmentMeans }
 {}
 
-/// New versions of any pages keep an image sound, and what it stands for, where the octets are sound with them. The version
-/// that a page has is one.
+/// New versions of any pages keep an image sound, and what it stands for, where the octets are sound with them. The
+/// version that a page has is one.
 pub fn replaced()
     ensures sound { ReplacedIsSound }
     ensures means { ReplacedMeans }

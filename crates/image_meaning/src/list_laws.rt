@@ -1,7 +1,9 @@
 // The parts of the laws that speak of lists.
 ghost use Rattle.image_meaning.specs.Pictures.{VersionsAreSound, VersionsMean, VersionReplacesItself};
-ghost use Rattle.image_meaning.specs.Redone.{RedoneReplaces, CurrentReplaces, VersionIsRedone, NextIsRedone, RedoneIsCurrent, ShowsMore, ShowsElsewhere};
-ghost use Rattle.image_meaning.specs.Ahead.{SealedPageReplaces, ShownStays, TableStays, ShowsStill, CarriesStill, GoesOnStill, TailGoesOn};
+ghost use Rattle.image_meaning.specs.Redone.{RedoneReplaces, CurrentReplaces, VersionIsRedone, NextIsRedone};
+ghost use Rattle.image_meaning.specs.Redone.{RedoneIsCurrent, ShowsMore, ShowsElsewhere};
+ghost use Rattle.image_meaning.specs.Ahead.{SealedPageReplaces, ShownStays, TableStays, ShowsStill, CarriesStill};
+ghost use Rattle.image_meaning.specs.Ahead.{GoesOnStill, TailGoesOn};
 ghost use Rattle.image_meaning.specs.Flushed.{CheckpointNeeds, OldestIsThere, MasterIsSaved};
 ghost use Rattle.image_meaning.specs.Pushes.{PushedClean, PushedVersion, OthersKeepVersions};
 
@@ -28,8 +30,8 @@ pub fn redoing()
     ensures last { RedoneIsCurrent }
 {}
 
-/// A page that shows all records shows one more when it is written into its slot with the record's LSN; a record that isn't on the page
-/// changes nothing of it.
+/// A page that shows all records shows one more when it is written into its slot with the record's LSN; a record that
+/// isn't on the page changes nothing of it.
 pub fn showing()
     ensures more { ShowsMore }
     ensures elsewhere { ShowsElsewhere }
@@ -40,8 +42,8 @@ pub fn write_ahead()
     ensures { SealedPageReplaces }
 {}
 
-/// New versions change nothing of what slots show and of what counts, and what followed or went on behind the log does so
-/// still.
+/// New versions change nothing of what slots show and of what counts, and what followed or went on behind the log does
+/// so still.
 pub fn versions_beside_the_tail()
     ensures shown { ShownStays }
     ensures table { TableStays }
@@ -63,15 +65,15 @@ pub fn pushed_frames()
     ensures others { OthersKeepVersions }
 {}
 
-/// A checkpoint may be made exactly where the pages are flushed and the blocks of all unfinished transactions are kept. The oldest
-/// of these blocks is one of the kept ones, or the next.
+/// A checkpoint may be made exactly where the pages are flushed and the blocks of all unfinished transactions are kept.
+/// The oldest of these blocks is one of the kept ones, or the next.
 pub fn checkpoint_needs()
     ensures exactly { CheckpointNeeds }
     ensures oldest { OldestIsThere }
 {}
 
-/// A master under which redo begins with the next block and all commits count, and that names the unfinished transactions by
-/// ascending Begins, each with its last record, is the one that a checkpoint saves.
+/// A master under which redo begins with the next block and all commits count, and that names the unfinished
+/// transactions by ascending Begins, each with its last record, is the one that a checkpoint saves.
 pub fn master_is_saved()
     ensures { MasterIsSaved }
 {

@@ -1,11 +1,13 @@
 // Laws on what a crash leaves of calls.
-ghost use Rattle.image_meaning.specs.Reached.{ReachedIsSound, ReachedMeans, PushedStands, PushChangesPages, GroupsAreSound};
-ghost use Rattle.image_meaning.specs.Moments.{UnderLeavesFor, UnderLeavesEitherFor, FrontStandsFor, FrontStands, PushStands, CommitStands};
+ghost use Rattle.image_meaning.specs.Reached.{ReachedIsSound, ReachedMeans, PushedStands, PushChangesPages};
+ghost use Rattle.image_meaning.specs.Reached.{GroupsAreSound};
+ghost use Rattle.image_meaning.specs.Moments.{UnderLeavesFor, UnderLeavesEitherFor, FrontStandsFor, FrontStands};
+ghost use Rattle.image_meaning.specs.Moments.{PushStands, CommitStands};
 
 use crate::checkpoint_laws::master_laws;
 
-/// Calls of which a crash leaves the first ones of changes that may be made leave devices that stand for the same table at
-/// each moment, as long as no Commit is sealed: under the same newest master where no master unit is appended.
+/// Calls of which a crash leaves the first ones of changes that may be made leave devices that stand for the same table
+/// at each moment, as long as no Commit is sealed: under the same newest master where no master unit is appended.
 pub fn calls_without_commit()
     ensures whole { FrontStandsFor }
     ensures under { FrontStands }
@@ -36,8 +38,8 @@ pub fn calls_with_commit()
     master_laws();
 }
 
-/// Pushes of which is known what versions pages have at each moment, as before or new ones, leave devices that stand for
-/// the same table.
+/// Pushes of which is known what versions pages have at each moment, as before or new ones, leave devices that stand
+/// for the same table.
 pub fn versions_at_moments()
     ensures sound { ReachedIsSound }
     ensures means { ReachedMeans }

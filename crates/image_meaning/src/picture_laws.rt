@@ -1,13 +1,18 @@
 // Laws on the picture of an image.
 ghost use Rattle.std.specs.Prelude.{Option};
 ghost use Rattle.checkpoint.specs.declared.master.Master.{Master};
-ghost use Rattle.image_meaning.specs.PictureLaws.{PictureSealed, BlocksSealed, PictureStays, StagedVersions, EachReplaces, EachReplacesUnder, NextBlock, RoomForBlock, RoomForTail, RoomForTailUnder, AllCommitsCount, SealsMayBeMade, BlocksAfterSeals, FirstSetStands, FirstPushStands, VersionOfPage, CountOfVersions};
+ghost use Rattle.image_meaning.specs.PictureLaws.{PictureSealed, BlocksSealed, PictureStays, StagedVersions};
+ghost use Rattle.image_meaning.specs.PictureLaws.{EachReplaces, EachReplacesUnder, NextBlock, RoomForBlock};
+ghost use Rattle.image_meaning.specs.PictureLaws.{RoomForTail, RoomForTailUnder, AllCommitsCount, SealsMayBeMade};
+ghost use Rattle.image_meaning.specs.PictureLaws.{BlocksAfterSeals, FirstSetStands, FirstPushStands, VersionOfPage};
+ghost use Rattle.image_meaning.specs.PictureLaws.{CountOfVersions};
 
 use log_laws::table_at;
 use log_store::blank_log;
 use sealed_ring::blank_is_ring;
 
-/// What changes make of an image's picture: a sealed block is its next one, staging leaves it, and a push replaces versions.
+/// What changes make of an image's picture: a sealed block is its next one, staging leaves it, and a push replaces
+/// versions.
 pub fn pictures()
     ensures sealed { PictureSealed }
     ensures more { BlocksSealed }
@@ -25,8 +30,8 @@ pub fn room_and_count()
     ensures count { AllCommitsCount }
 {}
 
-/// Under whatever master is the newest there is room for a tail as long as the kept blocks, or their records, one block more
-/// and what is owed have room.
+/// Under whatever master is the newest there is room for a tail as long as the kept blocks, or their records, one block
+/// more and what is owed have room.
 pub fn room_under()
     ensures next { NextBlock }
     ensures block { RoomForBlock }

@@ -9,10 +9,12 @@ session_count = 8
 
 -- whether a session has read a record, and whether it has written it
 abbrev pub has_read : List Lock → ℕ → ℕ → Bool
-has_read locks session number = list_any (λ lock. lock.session == session && (lock.number == number && not lock.writes)) locks
+has_read locks session number =
+    list_any (λ lock. lock.session == session && (lock.number == number && not lock.writes)) locks
 
 abbrev pub has_written : List Lock → ℕ → ℕ → Bool
-has_written locks session number = list_any (λ lock. lock.session == session && (lock.number == number && lock.writes)) locks
+has_written locks session number =
+    list_any (λ lock. lock.session == session && (lock.number == number && lock.writes)) locks
 
 -- whether a session has written the record already, or read it, whichever is said
 abbrev pub holds : List Lock → ℕ → ℕ → Bool → Bool
@@ -28,7 +30,8 @@ abbrev pub busy_read : List Lock → Option ℕ → ℕ → Option ℕ
 busy_read locks own number = find (λ n. is_other own n && has_written locks n number) (range_with_len 0 session_count)
 
 abbrev pub busy_write : List Lock → Option ℕ → ℕ → Option ℕ
-busy_write locks own number = find (λ n. is_other own n && (has_written locks n number || has_read locks n number)) (range_with_len 0 session_count)
+busy_write locks own number = find (λ n. is_other own n
+    && (has_written locks n number || has_read locks n number)) (range_with_len 0 session_count)
 
 -- The session has now also read the record, or also written it, whichever is said. All other locks are as before.
 pub record AddsLock (old new : List Lock) (session number : ℕ) (writes : Bool) : Type 0 where

@@ -1,5 +1,6 @@
 ghost use Rattle.std.specs.Prelude.{◌≡◌, ◌<◌, [], Some, None, false, IfOk, IfErr, OnOk, OnErr};
-ghost use Rattle.lock_table.specs.Locks.{has_read, has_written, holds, is_other, busy_read, busy_write, AddsLock, ReleasesAll};
+ghost use Rattle.lock_table.specs.Locks.{has_read, has_written, holds, is_other, busy_read, busy_write, AddsLock};
+ghost use Rattle.lock_table.specs.Locks.{ReleasesAll};
 
 use crate::lock::Lock;
 use indexmap::IndexSet;

@@ -19,8 +19,10 @@ ActiveBegun =
 -- its Update may follow where no other unfinished transaction has written
 abbrev pub ActiveMayWrite : Type 0
 ActiveMayWrite =
-    (m : Master) (pages : List Version) (log : List Entry) (lsn t last page slot : ℕ) (writes : List Write) (before after : Content) →
-    IsActive m log t last writes → 32 * page + slot < 32 * length pages → IsFreeFor log t (32 * page + slot) → before ≡ shown log pages (32 * page + slot) →
+    (m : Master) (pages : List Version) (log : List Entry) (lsn t last page slot : ℕ) (writes : List Write)
+    (before after : Content) →
+    IsActive m log t last writes → 32 * page + slot < 32 * length pages → IsFreeFor log t (32 * page + slot)
+    → before ≡ shown log pages (32 * page + slot) →
     Follows m pages log (record { lsn = lsn; rec = Update t last page slot before after })
 
 -- and it has then written once more
@@ -28,7 +30,8 @@ abbrev pub ActiveWrites : Type 0
 ActiveWrites =
     (m : Master) (log : List Entry) (lsn t last page slot : ℕ) (writes : List Write) (before after : Content) →
     IsActive m log t last writes →
-    IsActive m (log ++ record { lsn = lsn; rec = Update t last page slot before after } ∷ []) t lsn (writes ++ (32 * page + slot, after) ∷ [])
+    IsActive m (log ++ record { lsn = lsn; rec = Update t last page slot before after } ∷ []) t lsn
+    (writes ++ (32 * page + slot, after) ∷ [])
 
 -- the records of others change nothing of it
 abbrev pub ActiveStays : Type 0
@@ -38,7 +41,8 @@ ActiveStays =
 
 -- to undo it takes a block for each of its writes, and one more
 abbrev pub ActiveOwes : Type 0
-ActiveOwes = (m : Master) (log : List Entry) (t last : ℕ) (writes : List Write) → IsActive m log t last writes → owed_by log t ≡ length writes + 1
+ActiveOwes = (m : Master) (log : List Entry) (t last : ℕ) (writes : List Write) → IsActive m log t last writes
+    → owed_by log t ≡ length writes + 1
 
 -- Which transactions are unfinished after one more record.
 
@@ -48,7 +52,8 @@ LoserStays = (log : List Entry) (e : Entry) (t : ℕ) → is_of t e ≡ false �
 
 -- its own, which doesn't close it
 abbrev pub LoserGoesOn : Type 0
-LoserGoesOn = (log : List Entry) (e : Entry) → is_closing e.rec ≡ false → is_closed log (txn_of e) ≡ false → is_loser (log ++ e ∷ []) (txn_of e) ≡ true
+LoserGoesOn = (log : List Entry) (e : Entry) → is_closing e.rec ≡ false → is_closed log (txn_of e) ≡ false
+    → is_loser (log ++ e ∷ []) (txn_of e) ≡ true
 
 -- its own, which closes it
 abbrev pub LoserIsClosed : Type 0
@@ -60,27 +65,32 @@ LoserIsNotClosed = (log : List Entry) (t : ℕ) → is_loser log t ≡ true → 
 
 -- the LSN of its last record
 abbrev pub LastMore : Type 0
-LastMore = (log : List Entry) (e : Entry) (t : ℕ) → last_lsn (entries_of t (log ++ e ∷ [])) ≡ (if is_of t e then e.lsn else last_lsn (entries_of t log))
+LastMore = (log : List Entry) (e : Entry) (t : ℕ)
+    → last_lsn (entries_of t (log ++ e ∷ [])) ≡ (if is_of t e then e.lsn else last_lsn (entries_of t log))
 
 -- Undo.
 
 -- where redo begins with the first block an unfinished transaction is open
 abbrev pub LoserIsOpen : Type 0
 LoserIsOpen =
-    (p : Picture) (tail : List LogRecord) (t : ℕ) → Carries p tail → p.master.redo ≡ 0 → is_loser (whole p tail) t ≡ true → IsOpen p.master (whole p tail) t
+    (p : Picture) (tail : List LogRecord) (t : ℕ) → Carries p tail → p.master.redo ≡ 0
+    → is_loser (whole p tail) t ≡ true → IsOpen p.master (whole p tail) t
 
 -- So it is wherever redo begins: the master names those that were active there.
 abbrev pub LoserIsKnown : Type 0
-LoserIsKnown = (p : Picture) (tail : List LogRecord) (t : ℕ) → Carries p tail → is_loser (whole p tail) t ≡ true → IsOpen p.master (whole p tail) t
+LoserIsKnown = (p : Picture) (tail : List LogRecord) (t : ℕ) → Carries p tail → is_loser (whole p tail) t ≡ true
+    → IsOpen p.master (whole p tail) t
 
 -- what is left to be undone are Updates of the transaction, of which holds what holds of all records
 abbrev pub LeftAreItsUpdates : Type 0
-LeftAreItsUpdates = (log : List Entry) (t : ℕ) → AllByRecursion (λ u. (is_update u.rec ≡ true) × (txn_of u ≡ t)) (left_open log t)
+LeftAreItsUpdates = (log : List Entry) (t : ℕ)
+    → AllByRecursion (λ u. (is_update u.rec ≡ true) × (txn_of u ≡ t)) (left_open log t)
 
 -- the CLR of the last Update that is left follows
 abbrev pub ClrFollows : Type 0
 ClrFollows =
-    (m : Master) (pages : List Version) (log : List Entry) (lsn t own at prev page slot : ℕ) (before after : Content) (rest : List Entry) →
+    (m : Master) (pages : List Version) (log : List Entry) (lsn t own at prev page slot : ℕ) (before after : Content)
+    (rest : List Entry) →
     IsUndoable log → IsOpen m log t → is_loser log t ≡ true → AllByRecursion (IsInTable pages) log →
     left_open log t ≡ record { lsn = at; rec = Update own prev page slot before after } ∷ rest →
     Follows m pages log (record { lsn = lsn; rec = Clr t (last_lsn (entries_of t log)) prev page slot before })

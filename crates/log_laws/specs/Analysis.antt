@@ -8,7 +8,8 @@ use Rattle.log_records.specs.Sound.{IsInOrder, last_lsn}
 use Rattle.log_laws.specs.Follow.{IsFresh}
 use Rattle.log_laws.specs.UndoLaws.{next_by, next_of}
 
--- a transaction, the LSN of its last record, the LSN where undoing it goes on, and how many of its Updates remain to be undone
+-- a transaction, the LSN of its last record, the LSN where undoing it goes on, and how many of its Updates remain to be
+-- undone
 pub record Unfinished : Type 0 where
   pub txn : ℕ
   pub last : ℕ
@@ -16,7 +17,12 @@ pub record Unfinished : Type 0 where
   pub remaining : ℕ
 
 abbrev pub unfinished_at : List Entry → ℕ → Unfinished
-unfinished_at log t = record { txn = t; last = last_lsn (entries_of t log); next = next_of log t; remaining = length (left_open log t) }
+unfinished_at log t = record {
+  txn = t;
+  last = last_lsn (entries_of t log);
+  next = next_of log t;
+  remaining = length (left_open log t);
+}
 
 -- the unfinished transactions of a log, in the order of their Begins
 abbrev pub unfinished_in : List Entry → List Unfinished
@@ -29,25 +35,33 @@ remaining_by n _ = n
 
 -- a transaction after one more record of its own
 abbrev pub after_record : Unfinished → Entry → Unfinished
-after_record x e = record { txn = x.txn; last = e.lsn; next = next_by x.next e.lsn e.rec; remaining = remaining_by x.remaining e.rec }
+after_record x e = record {
+  txn = x.txn;
+  last = e.lsn;
+  next = next_by x.next e.lsn e.rec;
+  remaining = remaining_by x.remaining e.rec;
+}
 
 -- a Begin comes at the end
 abbrev pub UnfinishedBegin : Type 0
 UnfinishedBegin =
     (log : List Entry) (lsn : ℕ) → IsFresh lsn log →
-    unfinished_in (log ++ record { lsn = lsn; rec = Begin } ∷ []) ≡ unfinished_in log ++ record { txn = lsn; last = lsn; next = lsn; remaining = 0 } ∷ []
+    unfinished_in (log ++ record { lsn = lsn; rec = Begin } ∷ [])
+    ≡ unfinished_in log ++ record { txn = lsn; last = lsn; next = lsn; remaining = 0 } ∷ []
 
 -- an Update or a CLR changes its transaction
 abbrev pub UnfinishedMore : Type 0
 UnfinishedMore =
-    (from to : ℕ) (log : List Entry) (e : Entry) (front : List Unfinished) (x : Unfinished) (back : List Unfinished) → IsInOrder from log to →
+    (from to : ℕ) (log : List Entry) (e : Entry) (front : List Unfinished) (x : Unfinished) (back : List Unfinished)
+    → IsInOrder from log to →
     is_begin e.rec ≡ false → is_closing e.rec ≡ false → unfinished_in log ≡ front ++ x ∷ back → x.txn ≡ txn_of e →
     unfinished_in (log ++ e ∷ []) ≡ front ++ after_record x e ∷ back
 
 -- a Commit or an End takes it out
 abbrev pub UnfinishedClosed : Type 0
 UnfinishedClosed =
-    (from to : ℕ) (log : List Entry) (e : Entry) (front : List Unfinished) (x : Unfinished) (back : List Unfinished) → IsInOrder from log to →
+    (from to : ℕ) (log : List Entry) (e : Entry) (front : List Unfinished) (x : Unfinished) (back : List Unfinished)
+    → IsInOrder from log to →
     is_closing e.rec ≡ true → unfinished_in log ≡ front ++ x ∷ back → x.txn ≡ txn_of e →
     unfinished_in (log ++ e ∷ []) ≡ front ++ back
 
@@ -59,7 +73,8 @@ pub record IsUnfinished (log : List Entry) (x : Unfinished) : Type 0 where
   pub remaining_is : x.remaining ≡ length (left_open log x.txn)
 
 abbrev pub UnfinishedThere : Type 0
-UnfinishedThere = (log : List Entry) (front : List Unfinished) (x : Unfinished) (back : List Unfinished) → unfinished_in log ≡ front ++ x ∷ back → IsUnfinished log x
+UnfinishedThere = (log : List Entry) (front : List Unfinished) (x : Unfinished) (back : List Unfinished)
+    → unfinished_in log ≡ front ++ x ∷ back → IsUnfinished log x
 
 -- what undoing all of them takes
 abbrev pub UnfinishedOwed : Type 0

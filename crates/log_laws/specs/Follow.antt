@@ -1,13 +1,16 @@
 -- What may be put behind a log, and what that changes.
-use Rattle.std.specs.Prelude.{◌≡◌, ℕ, ◌+◌, ◌*◌, ◌==◌, Bool, true, false, List, [], ◌∷◌, ◌++◌, length, map, filter_map, Option, Some, None, option_map, IsTrue}
+use Rattle.std.specs.Prelude.{◌≡◌, ℕ, ◌+◌, ◌*◌, ◌==◌, Bool, true, false, List, [], ◌∷◌, ◌++◌, length, map, filter_map}
+use Rattle.std.specs.Prelude.{Option, Some, None, option_map, IsTrue}
 use Rattle.std.specs.List.{AllByRecursion, list_any, range_with_len}
 use Rattle.record_model.specs.State.{Content, Write, table_with}
 use Rattle.log_records.specs.declared.log_record.LogRecord.{LogRecord}
 use Rattle.log_records.specs.declared.log_record.LogRecord.TheVariants.{Commit, End}
 use Rattle.log_records.specs.Spelling.{AreBlock}
-use Rattle.log_records.specs.Log.{Entry, Version, slot_at, entries_from, txn_of, is_of, is_closed, entries_of, last_on, is_loser, number_of, is_update, before_of, after_of}
+use Rattle.log_records.specs.Log.{Entry, Version, slot_at, entries_from, txn_of, is_of, is_closed, entries_of, last_on}
+use Rattle.log_records.specs.Log.{is_loser, number_of, is_update, before_of, after_of}
 use Rattle.log_records.specs.Unfinished.{is_begin, clrs_in, left_open}
-use Rattle.log_records.specs.Sound.{Master, Picture, InTurn, IsInTable, IsOpen, IsLoserChain, Pairwise, HoldsOff, HasRoom, AreNumbered, last_lsn}
+use Rattle.log_records.specs.Sound.{Master, Picture, InTurn, IsInTable, IsOpen, IsLoserChain, Pairwise, HoldsOff}
+use Rattle.log_records.specs.Sound.{HasRoom, AreNumbered, last_lsn}
 
 -- what a slot shows once all records are redone
 abbrev pub shown_by : Content → Option Entry → Content
@@ -43,7 +46,8 @@ pub record Follows (m : Master) (pages : List Version) (earlier : List Entry) (e
   -- no other unfinished transaction has an Update there
   pub held_off : AllByRecursion (λ u. HoldsOff earlier u e) earlier
   -- an Update begins with what is there
-  pub from_shown : (number : ℕ) → IsTrue (is_update e.rec) → number_of e.rec ≡ Some number → before_of e.rec ≡ shown earlier pages number
+  pub from_shown : (number : ℕ) → IsTrue (is_update e.rec) → number_of e.rec ≡ Some number
+      → before_of e.rec ≡ shown earlier pages number
   -- an End comes last
   pub ends_undone : IsTrue (is_end e.rec) → IsUndone earlier (txn_of e)
 

@@ -9,17 +9,20 @@ use Rattle.log_laws.specs.Follow.{IsUndoable, IsFresh}
 
 -- a Begin adds its transaction at the end
 abbrev pub LosersBegin : Type 0
-LosersBegin = (log : List Entry) (lsn : ℕ) → IsFresh lsn log → losers (log ++ record { lsn = lsn; rec = Begin } ∷ []) ≡ losers log ++ lsn ∷ []
+LosersBegin = (log : List Entry) (lsn : ℕ) → IsFresh lsn log
+    → losers (log ++ record { lsn = lsn; rec = Begin } ∷ []) ≡ losers log ++ lsn ∷ []
 
 -- a Commit or an End takes its transaction out
 abbrev pub LosersClosed : Type 0
 LosersClosed =
-    (from to : ℕ) (log : List Entry) (e : Entry) (front back : List ℕ) → IsInOrder from log to → is_closing e.rec ≡ true →
+    (from to : ℕ) (log : List Entry) (e : Entry) (front back : List ℕ) → IsInOrder from log to
+    → is_closing e.rec ≡ true →
     losers log ≡ front ++ txn_of e ∷ back → losers (log ++ e ∷ []) ≡ front ++ back
 
 -- any other record leaves the list
 abbrev pub LosersStay : Type 0
-LosersStay = (log : List Entry) (e : Entry) → is_begin e.rec ≡ false → is_closing e.rec ≡ false → losers (log ++ e ∷ []) ≡ losers log
+LosersStay = (log : List Entry) (e : Entry) → is_begin e.rec ≡ false → is_closing e.rec ≡ false
+    → losers (log ++ e ∷ []) ≡ losers log
 
 -- who is on the list is a loser
 abbrev pub ListedIsLoser : Type 0
@@ -27,13 +30,14 @@ ListedIsLoser = (log : List Entry) (t : ℕ) → list_any (λ s. s == t) (losers
 
 -- and each loser is, where it can be undone
 abbrev pub LoserIsListed : Type 0
-LoserIsListed = (log : List Entry) (t : ℕ) → IsUndoable log → is_loser log t ≡ true → list_any (λ s. s == t) (losers log) ≡ true
+LoserIsListed = (log : List Entry) (t : ℕ) → IsUndoable log → is_loser log t ≡ true
+    → list_any (λ s. s == t) (losers log) ≡ true
 
 abbrev pub NoneListed : Type 0
 NoneListed = (log : List Entry) (t : ℕ) → IsUndoable log → losers log ≡ [] → is_loser log t ≡ false
 
--- What each record of a sound log is, by those before it, where redo begins with the first block: a Begin of a new transaction, or
--- a record of one that is on the list then.
+-- What each record of a sound log is, by those before it, where redo begins with the first block: a Begin of a new
+-- transaction, or a record of one that is on the list then.
 pub record IsRead (pages : ℕ) (earlier : List Entry) (e : Entry) : Type 0 where
   pub fresh : is_begin e.rec ≡ true → IsFresh e.lsn earlier × (txn_of e ≡ e.lsn)
   pub listed : is_begin e.rec ≡ false → list_any (λ s. s == txn_of e) (losers earlier) ≡ true
@@ -43,5 +47,6 @@ pub record IsRead (pages : ℕ) (earlier : List Entry) (e : Entry) : Type 0 wher
 
 abbrev pub ReadsOn : Type 0
 ReadsOn =
-    (p : Picture) (earlier : List Entry) (e : Entry) (rest : List Entry) → IsSound p → p.master.redo ≡ 0 → p.log ≡ earlier ++ e ∷ rest →
+    (p : Picture) (earlier : List Entry) (e : Entry) (rest : List Entry) → IsSound p → p.master.redo ≡ 0
+    → p.log ≡ earlier ++ e ∷ rest →
     IsRead (length p.pages) earlier e

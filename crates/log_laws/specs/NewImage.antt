@@ -12,7 +12,8 @@ with_version p page v = record p { pages = slice_set p.pages page v }
 -- a version fits the log, and is as the one before in each slot that no record stands on
 pub record Replaces (p : Picture) (page : ℕ) (v : Version) : Type 0 where
   pub fits : FitsLog p page v
-  pub as_before : (slot : ℕ) → slot < 32 → last_on p.log (32 * page + slot) ≡ None → content_at v.slots slot ≡ content_at (version_at p.pages page).slots slot
+  pub as_before : (slot : ℕ) → slot < 32 → last_on p.log (32 * page + slot) ≡ None
+      → content_at v.slots slot ≡ content_at (version_at p.pages page).slots slot
 
 -- a master that keeps the blocks from one on, and redo begins with the next block
 abbrev pub with_master : Picture → ℕ → Picture
@@ -26,4 +27,5 @@ pub record MayCheckpoint (p : Picture) (kept : ℕ) : Type 0 where
   pub kept_rises : p.master.kept ≤ kept
   pub kept_in_log : kept ≤ p.hi
   pub losers_kept : AllByRecursion (λ t. 512 * kept ≤ t) (losers p.log)
-  pub flushed : AllByRecursion (λ e. (number : ℕ) → number_of e.rec ≡ Some number → e.lsn ≤ (version_at p.pages (number / 32)).lsn) p.log
+  pub flushed : AllByRecursion (λ e. (number : ℕ) → number_of e.rec ≡ Some number
+      → e.lsn ≤ (version_at p.pages (number / 32)).lsn) p.log

@@ -9,7 +9,8 @@ use Rattle.log_laws.specs.NewImage.{with_version, Replaces, with_master, MayChec
 
 -- a new version keeps a picture sound, and what it stands for
 abbrev pub VersionIsSound : Type 0
-VersionIsSound = (p : Picture) (page : ℕ) (v : Version) → IsSound p → Replaces p page v → IsSound (with_version p page v)
+VersionIsSound = (p : Picture) (page : ℕ) (v : Version) → IsSound p → Replaces p page v
+    → IsSound (with_version p page v)
 
 abbrev pub VersionMeans : Type 0
 VersionMeans =
@@ -18,7 +19,8 @@ VersionMeans =
 
 -- so does a new master over an orderly log, which stays orderly
 abbrev pub MasterIsSound : Type 0
-MasterIsSound = (p : Picture) (kept : ℕ) → IsSound p → AreOrderly p.log → MayCheckpoint p kept → IsSound (with_master p kept)
+MasterIsSound = (p : Picture) (kept : ℕ) → IsSound p → AreOrderly p.log → MayCheckpoint p kept
+    → IsSound (with_master p kept)
 
 abbrev pub MasterMeans : Type 0
 MasterMeans =
@@ -34,11 +36,13 @@ EmptyMasterIsSound = (p : Picture) → IsSound p → MayCheckpoint p p.hi → Is
 
 abbrev pub EmptyMasterMeans : Type 0
 EmptyMasterMeans =
-    (p : Picture) → IsSound p → MayCheckpoint p p.hi → (table : List Content) (count : ℕ) → Means p table count → Means (with_master p p.hi) table count
+    (p : Picture) → IsSound p → MayCheckpoint p p.hi → (table : List Content) (count : ℕ) → Means p table count
+    → Means (with_master p p.hi) table count
 
 abbrev pub EmptyMasterIsOrderly : Type 0
 EmptyMasterIsOrderly = (p : Picture) → IsSound p → AreOrderly (with_master p p.hi).log
 
 -- a block that goes on keeps a log orderly
 abbrev pub SealedIsOrderly : Type 0
-SealedIsOrderly = (p : Picture) (records : List LogRecord) → IsSound p → AreOrderly p.log → GoesOn p records → AreOrderly (sealed p records).log
+SealedIsOrderly = (p : Picture) (records : List LogRecord) → IsSound p → AreOrderly p.log → GoesOn p records
+    → AreOrderly (sealed p records).log

@@ -5,17 +5,20 @@ use Rattle.log_records.specs.declared.log_record.LogRecord.TheVariants.{Begin, U
 use Rattle.log_records.specs.Log.{Entry, log_from, is_loser, entries_of, table_of}
 use Rattle.log_records.specs.Unfinished.{pending, losers, left_open, owed}
 use Rattle.log_records.specs.Sets.{blank_versions}
-use Rattle.log_records.specs.Sound.{Master, IsLoserChain, IsOfOpenTransaction, InTurn, AreOrderly, active_in, before_block, from_block, commit_numbers, last_known}
+use Rattle.log_records.specs.Sound.{Master, IsLoserChain, IsOfOpenTransaction, InTurn, AreOrderly, active_in}
+use Rattle.log_records.specs.Sound.{before_block, from_block, commit_numbers, last_known}
 use Rattle.record_model.specs.Touches.{touch, flush}
 use Rattle.log_records.specs.Restart.{restart_touches}
 use Rattle.log_laws.specs.Follow.{shown_table, writes_in}
 
--- Block 0 is a transaction that sets record 5. Block 1 is one that writes record 5 twice and record 33, and undoes the last of these.
+-- Block 0 is a transaction that sets record 5. Block 1 is one that writes record 5 twice and record 33, and undoes the
+-- last of these.
 abbrev pub first_set : List LogRecord
 first_set = Begin ∷ Update 2 2 0 5 None (Some (10 ∷ 11 ∷ [])) ∷ Commit 2 1 ∷ []
 
 abbrev pub loser : List LogRecord
-loser = Begin ∷ Update 514 514 0 5 (Some (10 ∷ 11 ∷ [])) (Some (1 ∷ [])) ∷ Update 514 515 0 5 (Some (1 ∷ [])) None ∷ Update 514 542 1 1 None (Some []) ∷ Clr 514 567 542 1 1 None ∷ []
+loser = Begin ∷ Update 514 514 0 5 (Some (10 ∷ 11 ∷ [])) (Some (1 ∷ [])) ∷ Update 514 515 0 5 (Some (1 ∷ [])) None
+    ∷ Update 514 542 1 1 None (Some []) ∷ Clr 514 567 542 1 1 None ∷ []
 
 abbrev pub log : List Entry
 log = log_from 0 (first_set ∷ loser ∷ [])
@@ -39,8 +42,15 @@ pub record OfTheLoser : Type 0 where
   pub shows : shown_table log (blank_versions 2) ≡ replicate 64 None
   pub counts : table_of log (blank_versions 2) ≡ slice_set (replicate 64 None) 5 (Some (10 ∷ 11 ∷ []))
   -- restart touches the pages of the Updates and the CLR, and those of the Updates that it undoes
-  pub touches : restart_touches (record { master = blank_master; log = log; hi = 2; blocks = 16; pages = blank_versions 2 })
-      ≡ touch 0 true ∷ touch 0 true ∷ touch 0 true ∷ touch 1 true ∷ touch 1 true ∷ touch 0 true ∷ touch 0 true ∷ flush ∷ []
+  pub touches : restart_touches (record {
+    master = blank_master;
+    log = log;
+    hi = 2;
+    blocks = 16;
+    pages = blank_versions 2;
+  })
+      ≡ touch 0 true ∷ touch 0 true ∷ touch 0 true ∷ touch 1 true ∷ touch 1 true ∷ touch 0 true ∷ touch 0 true
+      ∷ flush ∷ []
   -- with a redo block of 1 the master has counted the commit, and with one of 2 it names the second transaction
   pub counted : length (commit_numbers (before_block 1 log)) ≡ 1
   pub named : active_in (before_block 2 log) ≡ record { begin = 514; last = 591 } ∷ []
@@ -48,13 +58,18 @@ pub record OfTheLoser : Type 0 where
   pub known : last_known log 3 5 ≡ Some (record { lsn = 3; rec = Update 2 2 0 5 None (Some (10 ∷ 11 ∷ [])) })
   pub unknown : last_known log 2 5 ≡ None
 
--- A log that isn't orderly: behind the Commit of transaction 2 stands an Update of it. With a redo block of 2 no rule on the
--- records from there on speaks of it. Kept from block 1 on, the log has a loser without a Begin.
+-- A log that isn't orderly: behind the Commit of transaction 2 stands an Update of it. With a redo block of 2 no rule
+-- on the records from there on speaks of it. Kept from block 1 on, the log has a loser without a Begin.
 abbrev pub stray : List Entry
 stray = log_from 0 ((Begin ∷ Commit 2 1 ∷ []) ∷ (Update 2 2 0 5 None None ∷ Begin ∷ []) ∷ [])
 
 pub record OfTheStray : Type 0 where
-  pub passes : InTurn (IsOfOpenTransaction (record { redo = 2; kept = 0; commits = 1; active = record { begin = 538; last = 538 } ∷ [] })) [] stray
+  pub passes : InTurn (IsOfOpenTransaction (record {
+    redo = 2;
+    kept = 0;
+    commits = 1;
+    active = record { begin = 538; last = 538 } ∷ [];
+  })) [] stray
   pub not_orderly : AreOrderly stray → ⊥
   pub closed : is_loser stray 2 ≡ false
   pub unfinished : is_loser (from_block 1 stray) 2 ≡ true

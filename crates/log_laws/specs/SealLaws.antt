@@ -23,6 +23,7 @@ abbrev pub MeansWithCommit : Type 0
 MeansWithCommit =
     (p : Picture) (records : List LogRecord) → IsSound p → GoesOn p records →
     (table : List Content) (count : ℕ) → Means p table count →
-    (before after : List Entry) (lsn t number : ℕ) → next_entries p records ≡ before ++ record { lsn = lsn; rec = Commit t number } ∷ after →
+    (before after : List Entry) (lsn t number : ℕ)
+    → next_entries p records ≡ before ++ record { lsn = lsn; rec = Commit t number } ∷ after →
     commit_numbers before ≡ [] → commit_numbers after ≡ [] →
     Means (sealed p records) (table_with table (writes_in t (p.log ++ before))) (count + 1)

@@ -1,5 +1,6 @@
 -- A block that sets one record of the table.
-use Rattle.std.specs.Prelude.{ℕ, ◌+◌, ◌-◌, ◌*◌, ◌/◌, ◌%◌, ◌^◌, ◌<◌, ◌≤◌, List, [], ◌∷◌, length, replicate, slice_set, None}
+use Rattle.std.specs.Prelude.{ℕ, ◌+◌, ◌-◌, ◌*◌, ◌/◌, ◌%◌, ◌^◌, ◌<◌, ◌≤◌, List, [], ◌∷◌, length, replicate, slice_set}
+use Rattle.std.specs.Prelude.{None}
 use Rattle.record_model.specs.State.{Content}
 use Rattle.log_records.specs.declared.log_record.LogRecord.{LogRecord}
 use Rattle.log_records.specs.declared.log_record.LogRecord.TheVariants.{Begin, Update, Commit}
@@ -13,7 +14,8 @@ use Rattle.log_laws.specs.Tail.{plain}
 abbrev pub set_records : Picture → ℕ → Content → List LogRecord
 set_records p number value =
     let t = 512 * p.hi + 2 in
-    Begin ∷ Update t t (number / 32) (number % 32) (shown p.log p.pages number) value ∷ Commit t (commit_count p + 1) ∷ []
+    Begin ∷ Update t t (number / 32) (number % 32) (shown p.log p.pages number) value
+    ∷ Commit t (commit_count p + 1) ∷ []
 
 -- it may be sealed where no unfinished transaction has written there and one block more has room
 pub record MaySet (p : Picture) (number : ℕ) (value : Content) : Type 0 where
@@ -33,7 +35,8 @@ SetGoesOn = (p : Picture) (number : ℕ) (value : Content) → MaySet p number v
 
 abbrev pub SetMeans : Type 0
 SetMeans =
-    (p : Picture) (number : ℕ) (value : Content) → MaySet p number value → (table : List Content) (count : ℕ) → Means p table count →
+    (p : Picture) (number : ℕ) (value : Content) → MaySet p number value → (table : List Content) (count : ℕ)
+    → Means p table count →
     Means (sealed p (set_records p number value)) (slice_set table number value) (count + 1)
 
 -- and so it is for the first one on blank devices

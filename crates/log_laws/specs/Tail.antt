@@ -22,7 +22,8 @@ pub record Carries (p : Picture) (tail : List LogRecord) : Type 0 where
 
 -- the tail has no Commit, or one, which is the next
 abbrev pub CommitsOnceAtMost : Picture → List LogRecord → Type 0
-CommitsOnceAtMost p tail = (commit_numbers (next_entries p tail) ≡ []) ⊎ (commit_numbers (next_entries p tail) ≡ (commit_count p + 1) ∷ [])
+CommitsOnceAtMost p tail = (commit_numbers (next_entries p tail) ≡ [])
+    ⊎ (commit_numbers (next_entries p tail) ≡ (commit_count p + 1) ∷ [])
 
 -- a log without checkpoints, over pages that were never written: its blocks from number 0 on
 abbrev pub plain : ℕ → ℕ → List (List LogRecord) → Picture

@@ -6,7 +6,8 @@ use Rattle.log_records.specs.declared.log_record.LogRecord.{LogRecord}
 use Rattle.log_records.specs.declared.log_record.LogRecord.TheVariants.{Commit}
 use Rattle.log_records.specs.Spelling.{AreBlock}
 use Rattle.log_records.specs.Log.{Entry, table_of}
-use Rattle.log_records.specs.Sound.{Picture, IsSound, IsInOrder, IsInTable, HasRoom, IsOrderly, AreOrderly, commit_count, commit_number, commit_numbers}
+use Rattle.log_records.specs.Sound.{Picture, IsSound, IsInOrder, IsInTable, HasRoom, IsOrderly, AreOrderly}
+use Rattle.log_records.specs.Sound.{commit_count, commit_number, commit_numbers}
 use Rattle.log_records.specs.Unfinished.{owed}
 use Rattle.log_laws.specs.Follow.{Follows, IsUndoable, IsFresh, sealed, next_entries, table_after, writes_in}
 use Rattle.log_laws.specs.Tail.{Carries, CommitsOnceAtMost, whole, next_lsn, plain}
@@ -23,15 +24,18 @@ CarriesMore =
 
 -- and comes last in the log
 abbrev pub WholeMore : Type 0
-WholeMore = (p : Picture) (tail : List LogRecord) (rec : LogRecord) → whole p (tail ++ rec ∷ []) ≡ whole p tail ++ record { lsn = next_lsn p tail; rec = rec } ∷ []
+WholeMore = (p : Picture) (tail : List LogRecord) (rec : LogRecord)
+    → whole p (tail ++ rec ∷ []) ≡ whole p tail ++ record { lsn = next_lsn p tail; rec = rec } ∷ []
 
 -- the log is in order up to there
 abbrev pub WholeInOrder : Type 0
-WholeInOrder = (p : Picture) (tail : List LogRecord) → Carries p tail → IsInOrder (512 * p.master.kept) (whole p tail) (next_lsn p tail)
+WholeInOrder = (p : Picture) (tail : List LogRecord) → Carries p tail
+    → IsInOrder (512 * p.master.kept) (whole p tail) (next_lsn p tail)
 
 -- and each record is on a record of the table
 abbrev pub WholeInTable : Type 0
-WholeInTable = (p : Picture) (tail : List LogRecord) → Carries p tail → AllByRecursion (IsInTable p.pages) (whole p tail)
+WholeInTable = (p : Picture) (tail : List LogRecord) → Carries p tail
+    → AllByRecursion (IsInTable p.pages) (whole p tail)
 
 -- its unfinished transactions can be undone
 abbrev pub WholeIsUndoable : Type 0
@@ -42,19 +46,23 @@ abbrev pub WholeIsOrderly : Type 0
 WholeIsOrderly = (p : Picture) (tail : List LogRecord) → Carries p tail → p.master.redo ≡ 0 → AreOrderly (whole p tail)
 
 abbrev pub FreshAtEnd : Type 0
-FreshAtEnd = (p : Picture) (tail : List LogRecord) (lsn : ℕ) → Carries p tail → p.master.redo ≡ 0 → next_lsn p tail ≤ lsn → IsFresh lsn (whole p tail)
+FreshAtEnd = (p : Picture) (tail : List LogRecord) (lsn : ℕ) → Carries p tail → p.master.redo ≡ 0
+    → next_lsn p tail ≤ lsn → IsFresh lsn (whole p tail)
 
 -- So it is wherever redo begins, as long as the sealed log is orderly.
 abbrev pub WholeStaysOrderly : Type 0
-WholeStaysOrderly = (p : Picture) (tail : List LogRecord) → Carries p tail → AreOrderly p.log → AreOrderly (whole p tail)
+WholeStaysOrderly = (p : Picture) (tail : List LogRecord) → Carries p tail → AreOrderly p.log
+    → AreOrderly (whole p tail)
 
 abbrev pub FreshBehind : Type 0
-FreshBehind = (p : Picture) (tail : List LogRecord) (lsn : ℕ) → Carries p tail → AreOrderly p.log → next_lsn p tail ≤ lsn → IsFresh lsn (whole p tail)
+FreshBehind = (p : Picture) (tail : List LogRecord) (lsn : ℕ) → Carries p tail → AreOrderly p.log
+    → next_lsn p tail ≤ lsn → IsFresh lsn (whole p tail)
 
 -- So it is for each record in the log.
 abbrev pub OrderlyAt : Type 0
 OrderlyAt =
-    (from to : ℕ) (earlier : List Entry) (e : Entry) (rest : List Entry) → IsInOrder from (earlier ++ e ∷ rest) to → AreOrderly (earlier ++ e ∷ rest) →
+    (from to : ℕ) (earlier : List Entry) (e : Entry) (rest : List Entry) → IsInOrder from (earlier ++ e ∷ rest) to
+    → AreOrderly (earlier ++ e ∷ rest) →
     AreOrderly earlier × IsOrderly earlier e × IsFresh e.lsn earlier
 
 -- what one more record makes of the table and of the numbers of the commits
@@ -64,21 +72,26 @@ TableMore =
     table_of (whole p tail ++ e ∷ []) p.pages ≡ table_after (table_of (whole p tail) p.pages) (whole p tail) e.rec
 
 abbrev pub CommitsMore : Type 0
-CommitsMore = (log : List Entry) (e : Entry) (number : ℕ) → commit_number e ≡ Some number → commit_numbers (log ++ e ∷ []) ≡ commit_numbers log ++ number ∷ []
+CommitsMore = (log : List Entry) (e : Entry) (number : ℕ) → commit_number e ≡ Some number
+    → commit_numbers (log ++ e ∷ []) ≡ commit_numbers log ++ number ∷ []
 
 abbrev pub CommitsStay : Type 0
-CommitsStay = (log : List Entry) (e : Entry) → commit_number e ≡ None → commit_numbers (log ++ e ∷ []) ≡ commit_numbers log
+CommitsStay = (log : List Entry) (e : Entry) → commit_number e ≡ None
+    → commit_numbers (log ++ e ∷ []) ≡ commit_numbers log
 
 -- a tail without Commit counts for nothing
 abbrev pub TailWithoutCommit : Type 0
 TailWithoutCommit =
-    (p : Picture) (tail : List LogRecord) → Carries p tail → commit_numbers (next_entries p tail) ≡ [] → table_of (whole p tail) p.pages ≡ table_of p.log p.pages
+    (p : Picture) (tail : List LogRecord) → Carries p tail → commit_numbers (next_entries p tail) ≡ []
+    → table_of (whole p tail) p.pages ≡ table_of p.log p.pages
 
 -- one whose last record is its only Commit counts for what that transaction has written
 abbrev pub TailWithCommit : Type 0
 TailWithCommit =
-    (p : Picture) (front : List LogRecord) (t number : ℕ) → Carries p (front ++ Commit t number ∷ []) → commit_numbers (next_entries p front) ≡ [] →
-    table_of (whole p (front ++ Commit t number ∷ [])) p.pages ≡ table_with (table_of p.log p.pages) (writes_in t (whole p front))
+    (p : Picture) (front : List LogRecord) (t number : ℕ) → Carries p (front ++ Commit t number ∷ [])
+    → commit_numbers (next_entries p front) ≡ [] →
+    table_of (whole p (front ++ Commit t number ∷ [])) p.pages
+    ≡ table_with (table_of p.log p.pages) (writes_in t (whole p front))
 
 -- what was carried with its last record was carried without it, and that record followed
 abbrev pub CarriesFront : Type 0
@@ -89,7 +102,8 @@ CarriesFront =
 -- a tail that is sealed makes a sound picture, which has its records and counts its commits
 abbrev pub SealedTail : Type 0
 SealedTail =
-    (p : Picture) (tail : List LogRecord) → Carries p tail → AreBlock tail → HasRoom (sealed p tail) → CommitsOnceAtMost p tail →
+    (p : Picture) (tail : List LogRecord) → Carries p tail → AreBlock tail → HasRoom (sealed p tail)
+    → CommitsOnceAtMost p tail →
     IsSound (sealed p tail)
 
 -- its records are those that it had
@@ -106,14 +120,18 @@ abbrev pub BlankIsSound : Type 0
 BlankIsSound = (pages room : ℕ) → IsSound (plain pages room [])
 
 abbrev pub PlainSealed : Type 0
-PlainSealed = (pages room : ℕ) (blocks : List (List LogRecord)) (records : List LogRecord) → sealed (plain pages room blocks) records ≡ plain pages room (blocks ++ records ∷ [])
+PlainSealed = (pages room : ℕ) (blocks : List (List LogRecord)) (records : List LogRecord)
+    → sealed (plain pages room blocks) records ≡ plain pages room (blocks ++ records ∷ [])
 
 -- all their commits count
 abbrev pub PlainCount : Type 0
-PlainCount = (pages room : ℕ) (blocks : List (List LogRecord)) → commit_count (plain pages room blocks) ≡ length (commit_numbers (plain pages room blocks).log)
+PlainCount = (pages room : ℕ) (blocks : List (List LogRecord))
+    → commit_count (plain pages room blocks) ≡ length (commit_numbers (plain pages room blocks).log)
 
 -- where no block is empty there is room for the tail as long as all records and what is owed have room
 abbrev pub PlainRoom : Type 0
 PlainRoom =
-    (pages room : ℕ) (blocks : List (List LogRecord)) (tail : List LogRecord) → AllByRecursion (λ records. records ≢ []) blocks → tail ≢ [] →
-    length (whole (plain pages room blocks) tail) + owed (whole (plain pages room blocks) tail) ≤ room - 1 → HasRoom (sealed (plain pages room blocks) tail)
+    (pages room : ℕ) (blocks : List (List LogRecord)) (tail : List LogRecord)
+    → AllByRecursion (λ records. records ≢ []) blocks → tail ≢ [] →
+    length (whole (plain pages room blocks) tail) + owed (whole (plain pages room blocks) tail) ≤ room - 1
+    → HasRoom (sealed (plain pages room blocks) tail)

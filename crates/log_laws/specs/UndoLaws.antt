@@ -29,7 +29,8 @@ next_of log t = next_in t (entries_of t log)
 
 -- one more record
 abbrev pub NextMore : Type 0
-NextMore = (log : List Entry) (e : Entry) (t : ℕ) → next_of (log ++ e ∷ []) t ≡ (if is_of t e then next_by (next_of log t) e.lsn e.rec else next_of log t)
+NextMore = (log : List Entry) (e : Entry) (t : ℕ)
+    → next_of (log ++ e ∷ []) t ≡ (if is_of t e then next_by (next_of log t) e.lsn e.rec else next_of log t)
 
 -- undoing goes on with the last Update that is left, which stands in the log and names the one before it that is left
 pub record IsNext (log : List Entry) (t : ℕ) (u : Entry) (rest : List Entry) : Type 0 where
@@ -44,17 +45,21 @@ pub record IsNext (log : List Entry) (t : ℕ) (u : Entry) (rest : List Entry) :
 
 abbrev pub NextToUndo : Type 0
 NextToUndo =
-    (from to : ℕ) (log : List Entry) (t : ℕ) (u : Entry) (rest : List Entry) → IsInOrder from log to → IsLoserChain t (entries_of t log) →
+    (from to : ℕ) (log : List Entry) (t : ℕ) (u : Entry) (rest : List Entry) → IsInOrder from log to
+    → IsLoserChain t (entries_of t log) →
     left_open log t ≡ u ∷ rest → IsNext log t u rest
 
 -- where nothing is left it has come to the Begin
 abbrev pub NextOfUndone : Type 0
-NextOfUndone = (from to : ℕ) (log : List Entry) (t : ℕ) → IsInOrder from log to → IsLoserChain t (entries_of t log) → left_open log t ≡ [] → next_of log t ≡ t
+NextOfUndone = (from to : ℕ) (log : List Entry) (t : ℕ) → IsInOrder from log to → IsLoserChain t (entries_of t log)
+    → left_open log t ≡ [] → next_of log t ≡ t
 
 -- and for a transaction that was never undone it is the last record
 abbrev pub NextOfActive : Type 0
-NextOfActive = (m : Master) (from to : ℕ) (log : List Entry) (t last : ℕ) (writes : List Write) → IsInOrder from log to → IsActive m log t last writes → next_of log t ≡ last
+NextOfActive = (m : Master) (from to : ℕ) (log : List Entry) (t last : ℕ) (writes : List Write) → IsInOrder from log to
+    → IsActive m log t last writes → next_of log t ≡ last
 
 -- a record in the log is found by its LSN
 abbrev pub FoundByLsn : Type 0
-FoundByLsn = (from to : ℕ) (earlier : List Entry) (e : Entry) (rest : List Entry) → IsInOrder from (earlier ++ e ∷ rest) to → find (λ x. x.lsn == e.lsn) (earlier ++ e ∷ rest) ≡ Some e
+FoundByLsn = (from to : ℕ) (earlier : List Entry) (e : Entry) (rest : List Entry)
+    → IsInOrder from (earlier ++ e ∷ rest) to → find (λ x. x.lsn == e.lsn) (earlier ++ e ∷ rest) ≡ Some e

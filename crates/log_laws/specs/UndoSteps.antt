@@ -19,32 +19,38 @@ IsToUndo p log x _ = ⊥
 -- as long as an Update remains the record at the LSN where undoing goes on is one
 abbrev pub UndoStep : Type 0
 UndoStep =
-    (p : Picture) (tail : List LogRecord) (x : Unfinished) → Carries p tail → p.master.redo ≡ 0 → IsUnfinished (whole p tail) x → 0 < x.remaining →
+    (p : Picture) (tail : List LogRecord) (x : Unfinished) → Carries p tail → p.master.redo ≡ 0
+    → IsUnfinished (whole p tail) x → 0 < x.remaining →
     (u : Entry) × (find (λ e. e.lsn == x.next) (whole p tail) ≡ Some u) × IsToUndo p (whole p tail) x u.rec
 
 -- and where none remains the End may follow
 abbrev pub UndoEnd : Type 0
 UndoEnd =
-    (p : Picture) (tail : List LogRecord) (x : Unfinished) → Carries p tail → p.master.redo ≡ 0 → IsUnfinished (whole p tail) x → x.remaining ≡ 0 →
+    (p : Picture) (tail : List LogRecord) (x : Unfinished) → Carries p tail → p.master.redo ≡ 0
+    → IsUnfinished (whole p tail) x → x.remaining ≡ 0 →
     (lsn : ℕ) → Follows p.master p.pages (whole p tail) (record { lsn = lsn; rec = End x.txn })
 
 -- So it is wherever redo begins.
 abbrev pub UndoGoesOn : Type 0
 UndoGoesOn =
-    (p : Picture) (tail : List LogRecord) (x : Unfinished) → Carries p tail → IsUnfinished (whole p tail) x → 0 < x.remaining →
+    (p : Picture) (tail : List LogRecord) (x : Unfinished) → Carries p tail → IsUnfinished (whole p tail) x
+    → 0 < x.remaining →
     (u : Entry) × (find (λ e. e.lsn == x.next) (whole p tail) ≡ Some u) × IsToUndo p (whole p tail) x u.rec
 
 abbrev pub UndoEnds : Type 0
 UndoEnds =
-    (p : Picture) (tail : List LogRecord) (x : Unfinished) → Carries p tail → IsUnfinished (whole p tail) x → x.remaining ≡ 0 →
+    (p : Picture) (tail : List LogRecord) (x : Unfinished) → Carries p tail → IsUnfinished (whole p tail) x
+    → x.remaining ≡ 0 →
     (lsn : ℕ) → Follows p.master p.pages (whole p tail) (record { lsn = lsn; rec = End x.txn })
 
 -- what one more record of its own makes of an unfinished transaction
 abbrev pub UnfinishedStep : Type 0
-UnfinishedStep = (log : List Entry) (e : Entry) (x : Unfinished) → IsUnfinished log x → x.txn ≡ txn_of e → is_closing e.rec ≡ false → IsUnfinished (log ++ e ∷ []) (after_record x e)
+UnfinishedStep = (log : List Entry) (e : Entry) (x : Unfinished) → IsUnfinished log x → x.txn ≡ txn_of e
+    → is_closing e.rec ≡ false → IsUnfinished (log ++ e ∷ []) (after_record x e)
 
 -- an active transaction is unfinished, and undoing it goes on with its last record
 abbrev pub ActiveIsUnfinished : Type 0
 ActiveIsUnfinished =
-    (m : Master) (from to : ℕ) (log : List Entry) (t last : ℕ) (writes : List Write) → IsInOrder from log to → IsActive m log t last writes →
+    (m : Master) (from to : ℕ) (log : List Entry) (t last : ℕ) (writes : List Write) → IsInOrder from log to
+    → IsActive m log t last writes →
     IsUnfinished log (record { txn = t; last = last; next = last; remaining = length writes })

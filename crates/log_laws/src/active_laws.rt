@@ -1,5 +1,7 @@
 // Transactions at work, and transactions that are undone.
-ghost use Rattle.log_laws.specs.ActiveLaws.{ActiveBegun, ActiveMayWrite, ActiveWrites, ActiveStays, ActiveOwes, LoserStays, LoserGoesOn, LoserIsClosed, LoserIsNotClosed, LastMore, LoserIsOpen, LoserIsKnown, LeftAreItsUpdates, ClrFollows};
+ghost use Rattle.log_laws.specs.ActiveLaws.{ActiveBegun, ActiveMayWrite, ActiveWrites, ActiveStays, ActiveOwes};
+ghost use Rattle.log_laws.specs.ActiveLaws.{LoserStays, LoserGoesOn, LoserIsClosed, LoserIsNotClosed, LastMore};
+ghost use Rattle.log_laws.specs.ActiveLaws.{LoserIsOpen, LoserIsKnown, LeftAreItsUpdates, ClrFollows};
 
 /// A transaction that has begun is active and has written nothing.
 pub fn active_begun()

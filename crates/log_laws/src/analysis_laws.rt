@@ -1,5 +1,6 @@
 // What analysis keeps of each unfinished transaction.
-ghost use Rattle.log_laws.specs.Analysis.{UnfinishedBegin, UnfinishedMore, UnfinishedClosed, UnfinishedThere, UnfinishedOwed};
+ghost use Rattle.log_laws.specs.Analysis.{UnfinishedBegin, UnfinishedMore, UnfinishedClosed, UnfinishedThere};
+ghost use Rattle.log_laws.specs.Analysis.{UnfinishedOwed};
 
 /// What one more record makes of the list of the unfinished transactions, each with the LSN of its last record, the LSN
 /// where undoing it goes on, and the count of its Updates that remain.

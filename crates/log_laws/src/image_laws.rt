@@ -1,5 +1,7 @@
 // The laws on a new version of a page, on a new master, and on orderly logs.
-ghost use Rattle.log_laws.specs.NewImageLaws.{VersionIsSound, VersionMeans, MasterIsSound, MasterMeans, MasterIsOrderly, EmptyMasterIsSound, EmptyMasterMeans, EmptyMasterIsOrderly, SealedIsOrderly};
+ghost use Rattle.log_laws.specs.NewImageLaws.{VersionIsSound, VersionMeans, MasterIsSound, MasterMeans};
+ghost use Rattle.log_laws.specs.NewImageLaws.{MasterIsOrderly, EmptyMasterIsSound, EmptyMasterMeans};
+ghost use Rattle.log_laws.specs.NewImageLaws.{EmptyMasterIsOrderly, SealedIsOrderly};
 
 /// A new version of a page keeps a picture sound, and what it stands for.
 pub fn new_version()

@@ -1,5 +1,6 @@
 // The list of the unfinished transactions, and how it is read from a log.
-ghost use Rattle.log_laws.specs.LoserLaws.{LosersBegin, LosersClosed, LosersStay, ListedIsLoser, LoserIsListed, NoneListed, ReadsOn};
+ghost use Rattle.log_laws.specs.LoserLaws.{LosersBegin, LosersClosed, LosersStay, ListedIsLoser, LoserIsListed};
+ghost use Rattle.log_laws.specs.LoserLaws.{NoneListed, ReadsOn};
 
 /// What one more record makes of the list of the unfinished transactions.
 pub fn losers_more()

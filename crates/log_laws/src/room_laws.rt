@@ -1,5 +1,6 @@
 // What undo may need, record by record.
-ghost use Rattle.log_laws.specs.RoomLaws.{OwedBegin, OwedUpdate, OwedClr, OwedClosing, OwedNone, LeftPush, LeftIsWritten, BlocksHaveRecords};
+ghost use Rattle.log_laws.specs.RoomLaws.{OwedBegin, OwedUpdate, OwedClr, OwedClosing, OwedNone, LeftPush};
+ghost use Rattle.log_laws.specs.RoomLaws.{LeftIsWritten, BlocksHaveRecords};
 
 /// With its Begin a transaction owes one block.
 pub fn owed_begin()

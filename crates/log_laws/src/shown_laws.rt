@@ -1,5 +1,7 @@
 // What slots show once all records are redone, and what counts.
-ghost use Rattle.log_laws.specs.ShownLaws.{ShownPush, ShownSet, ShownStays, ShownBlank, ShownAt, TableAt, ShownIsValue, ShownIsSeen, ValueHeld, WriterIsLoser, ShownIsTable, ShownOfClosed, ShownOfNone, ValueOfOpen};
+ghost use Rattle.log_laws.specs.ShownLaws.{ShownPush, ShownSet, ShownStays, ShownBlank, ShownAt, TableAt, ShownIsValue};
+ghost use Rattle.log_laws.specs.ShownLaws.{ShownIsSeen, ValueHeld, WriterIsLoser, ShownIsTable, ShownOfClosed};
+ghost use Rattle.log_laws.specs.ShownLaws.{ShownOfNone, ValueOfOpen};
 
 /// One more record shows what it leaves on its number, and nothing else changes.
 pub fn shown_push()

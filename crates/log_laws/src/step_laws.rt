@@ -1,8 +1,8 @@
 // One step of undo.
 ghost use Rattle.log_laws.specs.UndoSteps.{UndoStep, UndoEnd, UndoGoesOn, UndoEnds, UnfinishedStep, ActiveIsUnfinished};
 
-/// As long as an Update of an unfinished transaction remains, the record at the LSN where undoing goes on is one, and the
-/// CLR that compensates it may follow.
+/// As long as an Update of an unfinished transaction remains, the record at the LSN where undoing goes on is one, and
+/// the CLR that compensates it may follow.
 pub fn undo_step()
     ensures { UndoStep }
 {}

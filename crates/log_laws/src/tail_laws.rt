@@ -1,5 +1,9 @@
 // A log that goes on record by record.
-ghost use Rattle.log_laws.specs.TailLaws.{CarriesNothing, CarriesMore, WholeMore, WholeInOrder, WholeIsUndoable, WholeIsOrderly, FreshAtEnd, WholeStaysOrderly, FreshBehind, TableMore, CommitsMore, CommitsStay, TailWithoutCommit, SealedTail, SealedCount, BlankIsSound, PlainSealed, PlainCount, WholeInTable, OrderlyAt, WholeSealed, PlainRoom, TailWithCommit, CarriesFront};
+ghost use Rattle.log_laws.specs.TailLaws.{CarriesNothing, CarriesMore, WholeMore, WholeInOrder, WholeIsUndoable};
+ghost use Rattle.log_laws.specs.TailLaws.{WholeIsOrderly, FreshAtEnd, WholeStaysOrderly, FreshBehind, TableMore};
+ghost use Rattle.log_laws.specs.TailLaws.{CommitsMore, CommitsStay, TailWithoutCommit, SealedTail, SealedCount};
+ghost use Rattle.log_laws.specs.TailLaws.{BlankIsSound, PlainSealed, PlainCount, WholeInTable, OrderlyAt, WholeSealed};
+ghost use Rattle.log_laws.specs.TailLaws.{PlainRoom, TailWithCommit, CarriesFront};
 
 /// A sound picture carries the empty tail.
 pub fn carries_nothing()

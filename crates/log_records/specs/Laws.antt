@@ -1,5 +1,6 @@
 -- Laws of the format and of logs.
-use Rattle.std.specs.Prelude.{◌≡◌, ℕ, ◌+◌, ◌*◌, ◌^◌, ◌<◌, ◌≤◌, List, [], ◌∷◌, ◌++◌, length, map, replicate, slice_set, None}
+use Rattle.std.specs.Prelude.{◌≡◌, ℕ, ◌+◌, ◌*◌, ◌^◌, ◌<◌, ◌≤◌, List, [], ◌∷◌, ◌++◌, length, map, replicate, slice_set}
+use Rattle.std.specs.Prelude.{None}
 use Rattle.log_records.specs.declared.log_record.LogRecord.{LogRecord}
 use Rattle.log_records.specs.Spelling.{spelling, block, AreBlock, HasForm, FitsFields, IsSpelledAt}
 use Rattle.log_records.specs.Writes.{Writes}

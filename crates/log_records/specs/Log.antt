@@ -1,5 +1,6 @@
 -- What the records of a log say of transactions and of the table.
-use Rattle.std.specs.Prelude.{ℕ, ◌+◌, ◌*◌, ◌/◌, ◌%◌, ◌==◌, Bool, true, false, not, ◌&&◌, List, [], ◌∷◌, ◌++◌, length, map, filter, find, slice_index_or, Option, Some, None, if◌then◌else◌}
+use Rattle.std.specs.Prelude.{ℕ, ◌+◌, ◌*◌, ◌/◌, ◌%◌, ◌==◌, Bool, true, false, not, ◌&&◌, List, [], ◌∷◌, ◌++◌, length}
+use Rattle.std.specs.Prelude.{map, filter, find, slice_index_or, Option, Some, None, if◌then◌else◌}
 use Rattle.std.specs.List.{list_any, range_with_len}
 use Rattle.std.specs.Option.{option_or}
 use Rattle.record_model.specs.State.{Content, content_at}
@@ -121,7 +122,8 @@ abbrev pub slot_at : List Version → ℕ → Content
 slot_at versions number = content_at (version_at versions (number / 32)).slots (number % 32)
 
 -- What a record of the table has, by its slot and by the last Update or CLR on it. A loser counts as undone:
--- what stood before its first Update there is back. (Its transaction has a record in the log, so it is a loser unless it is closed.)
+-- what stood before its first Update there is back. (Its transaction has a record in the log, so it is a loser unless
+-- it is closed.)
 abbrev pub value_after : List Entry → ℕ → Content → Option Entry → Content
 value_after log number slot None = slot
 value_after log number slot (Some x) =

@@ -1,5 +1,6 @@
 -- Reading a record from left to right: what stands at the front of octets, and the octets after it.
-use Rattle.std.specs.Prelude.{◌≡◌, ℕ, zero, suc, ◌==◌, ◌||◌, List, [], ◌∷◌, length, take, drop, Option, Some, None, Result, Ok, Err, nat_lt, if◌then◌else◌}
+use Rattle.std.specs.Prelude.{◌≡◌, ℕ, zero, suc, ◌==◌, ◌||◌, List, [], ◌∷◌, length, take, drop, Option, Some, None}
+use Rattle.std.specs.Prelude.{Result, Ok, Err, nat_lt, if◌then◌else◌}
 use Rattle.std.specs.Int.{Width, w32, w64, byte_len, from_be_bytes}
 use Rattle.byte_fields.specs.declared.TheConstants.{VALUE_MAX}
 use Rattle.record_model.specs.State.{Content}
@@ -18,7 +19,8 @@ Gives view (Ok x) read = read ≡ Some (view x)
 Gives view (Err e) read = read ≡ None
 
 abbrev pub number_at : Width → List ℕ → Option (ℕ × List ℕ)
-number_at w octets = if nat_lt (length octets) (byte_len w) then None else Some (from_be_bytes w (take (byte_len w) octets), drop (byte_len w) octets)
+number_at w octets = if nat_lt (length octets) (byte_len w) then None else Some
+    (from_be_bytes w (take (byte_len w) octets), drop (byte_len w) octets)
 
 unfoldable pub slot_at : List ℕ → Option (ℕ × List ℕ)
 slot_at [] = None
@@ -27,7 +29,8 @@ slot_at (slot ∷ rest) = if nat_lt slot 32 then Some (slot, rest) else None
 unfoldable pub value_at : List ℕ → Option (Content × List ℕ)
 value_at [] = None
 value_at (zero ∷ rest) = Some (None, rest)
-value_at (suc n ∷ rest) = if nat_lt VALUE_MAX n || nat_lt (length rest) n then None else Some (Some (take n rest), drop n rest)
+value_at (suc n ∷ rest) = if nat_lt VALUE_MAX n
+    || nat_lt (length rest) n then None else Some (Some (take n rest), drop n rest)
 
 unfoldable pub update_at : List ℕ → Option (LogRecord × List ℕ)
 update_at octets = do

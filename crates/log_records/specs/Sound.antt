@@ -1,10 +1,13 @@
--- When the records of a log, the newest versions of the pages and the newest master belong together, and what they stand for.
-use Rattle.std.specs.Prelude.{◌≡◌, ℕ, ◌+◌, ◌-◌, ◌*◌, ◌/◌, ◌≤◌, ◌<◌, ◌==◌, Bool, false, ◌&&◌, ◌||◌, nat_lt, nat_le, List, [], ◌∷◌, ◌++◌, drop, length, map, filter, filter_map, Option, Some, None, IsTrue, ⊤}
+-- When the records of a log, the newest versions of the pages and the newest master belong together, and what they
+-- stand for.
+use Rattle.std.specs.Prelude.{◌≡◌, ℕ, ◌+◌, ◌-◌, ◌*◌, ◌/◌, ◌≤◌, ◌<◌, ◌==◌, Bool, false, ◌&&◌, ◌||◌, nat_lt, nat_le, List}
+use Rattle.std.specs.Prelude.{[], ◌∷◌, ◌++◌, drop, length, map, filter, filter_map, Option, Some, None, IsTrue, ⊤}
 use Rattle.std.specs.List.{list_any, range_with_len, AllByRecursion}
 use Rattle.record_model.specs.State.{Content, content_at}
 use Rattle.log_records.specs.declared.log_record.LogRecord.{LogRecord}
 use Rattle.log_records.specs.declared.log_record.LogRecord.TheVariants.{Begin, Update, Clr, Commit}
-use Rattle.log_records.specs.Log.{Entry, Version, version_at, table_of, txn_of, entries_of, last_where, is_closed, is_loser, number_of, is_on, is_update, after_of}
+use Rattle.log_records.specs.Log.{Entry, Version, version_at, table_of, txn_of, entries_of, last_where, is_closed}
+use Rattle.log_records.specs.Log.{is_loser, number_of, is_on, is_update, after_of}
 use Rattle.log_records.specs.Unfinished.{is_begin, clrs_in, prev_of, open_updates, losers, owed}
 
 -- a transaction that was active at a checkpoint: the LSNs of its Begin and of its last record
@@ -60,7 +63,8 @@ IsInTable pages e = (number : ℕ) → number_of e.rec ≡ Some number → numbe
 
 -- whether a transaction is known: the master names it, or its Begin is among these records
 abbrev pub is_known : List Active → List Entry → ℕ → Bool
-is_known active records t = list_any (λ a. a.begin == t) active || list_any (λ e. is_begin e.rec && (e.lsn == t)) records
+is_known active records t = list_any (λ a. a.begin == t) active
+    || list_any (λ e. is_begin e.rec && (e.lsn == t)) records
 
 -- a transaction is known from the redo block on, and isn't closed
 pub record IsOpen (m : Master) (earlier : List Entry) (t : ℕ) : Type 0 where
@@ -86,7 +90,8 @@ Compensates _ _ = ⊥
 -- an Update, or a CLR of the last Update that is left
 abbrev pub Undoes : List Entry → LogRecord → Type 0
 Undoes updates (Update txn prev page slot before after) = ⊤
-Undoes (u ∷ updates) (Clr txn prev undo_next page slot after) = Compensates (Clr txn prev undo_next page slot after) u.rec
+Undoes (u ∷ updates) (Clr txn prev undo_next page slot after) =
+    Compensates (Clr txn prev undo_next page slot after) u.rec
 Undoes _ _ = ⊥
 
 abbrev pub last_number : ℕ → List ℕ → ℕ
@@ -103,7 +108,8 @@ pub record Continues (earlier : List Entry) (e : Entry) : Type 0 where
   pub undoes : Undoes (open_updates [] earlier) e.rec
   pub updates_first : IsTrue (is_update e.rec) → clrs_in earlier ≡ []
 
--- what the log has of an unfinished transaction: its Begin, then Updates, then CLRs that compensate the last of these backwards
+-- what the log has of an unfinished transaction: its Begin, then Updates, then CLRs that compensate the last of these
+-- backwards
 pub record IsLoserChain (begin : ℕ) (entries : List Entry) : Type 0 where
   pub begins : entries ≡ record { lsn = begin; rec = Begin } ∷ drop 1 entries
   pub continues : InTurn Continues (record { lsn = begin; rec = Begin } ∷ []) (drop 1 entries)
@@ -111,7 +117,8 @@ pub record IsLoserChain (begin : ℕ) (entries : List Entry) : Type 0 where
 -- where an unfinished transaction has an Update on a number, a record there behind it is its own
 abbrev pub HoldsOff : List Entry → Entry → Entry → Type 0
 HoldsOff log u e =
-    (number : ℕ) → IsTrue (is_update u.rec) → IsTrue (is_on number u) → IsTrue (is_on number e) → is_closed log (txn_of u) ≡ false → txn_of u ≡ txn_of e
+    (number : ℕ) → IsTrue (is_update u.rec) → IsTrue (is_on number u) → IsTrue (is_on number e)
+    → is_closed log (txn_of u) ≡ false → txn_of u ≡ txn_of e
 
 -- the unfinished transactions of these records, each with the LSN of its last one
 abbrev pub active_in : List Entry → List Active
@@ -132,7 +139,8 @@ ShowsLast slot (Some e) = slot ≡ after_of e.rec
 pub record FitsLog (p : Picture) (page : ℕ) (v : Version) : Type 0 where
   pub logged : IsTrue ((v.lsn == 0) || nat_lt v.lsn (512 * p.hi))
   pub shows : (slot : ℕ) → slot < 32 → ShowsLast (content_at v.slots slot) (last_known p.log v.lsn (32 * page + slot))
-  pub knows : AllByRecursion (λ e. (number : ℕ) → number_of e.rec ≡ Some number → number / 32 ≡ page → e.lsn ≤ v.lsn) (before_block p.master.redo p.log)
+  pub knows : AllByRecursion (λ e. (number : ℕ) → number_of e.rec ≡ Some number → number / 32 ≡ page
+      → e.lsn ≤ v.lsn) (before_block p.master.redo p.log)
 
 -- Commits.
 
@@ -151,8 +159,8 @@ commit_numbers log = filter_map commit_number log
 abbrev pub commit_count : Picture → ℕ
 commit_count p = p.master.commits + length (commit_numbers (from_block p.master.redo p.log))
 
--- The commits are numbered on by one, up to the master's count before the redo block and from there on. Each has sealed a
--- block of its own.
+-- The commits are numbered on by one, up to the master's count before the redo block and from there on. Each has sealed
+-- a block of its own.
 pub record AreNumbered (p : Picture) : Type 0 where
   pub before_redo : length (commit_numbers (before_block p.master.redo p.log)) ≤ p.master.commits + 1
   pub run_on : let before = length (commit_numbers (before_block p.master.redo p.log)) in

@@ -1,5 +1,6 @@
 -- How log records and blocks of them are spelled in octets.
-use Rattle.std.specs.Prelude.{◌≡◌, ◌≢◌, slice_range, ℕ, ◌+◌, ◌-◌, ◌^◌, ◌<◌, ◌≤◌, List, [], ◌∷◌, ◌++◌, length, replicate, flat_map, Some, None, IfSome, ⊤}
+use Rattle.std.specs.Prelude.{◌≡◌, ◌≢◌, slice_range, ℕ, ◌+◌, ◌-◌, ◌^◌, ◌<◌, ◌≤◌, List, [], ◌∷◌, ◌++◌, length, replicate}
+use Rattle.std.specs.Prelude.{flat_map, Some, None, IfSome, ⊤}
 use Rattle.std.specs.List.{AllByRecursion}
 use Rattle.std.specs.Int.{w16, w32, w64, to_be_bytes}
 use Rattle.byte_fields.specs.declared.TheConstants.{VALUE_MAX}
@@ -16,9 +17,11 @@ content_spelling (Some value) = (length value + 1) ∷ value
 unfoldable pub spelling : LogRecord → List ℕ
 spelling Begin = 1 ∷ []
 spelling (Update txn prev page slot before after) =
-    2 ∷ to_be_bytes w64 txn ++ to_be_bytes w64 prev ++ to_be_bytes w32 page ++ slot ∷ [] ++ content_spelling before ++ content_spelling after
+    2 ∷ to_be_bytes w64 txn ++ to_be_bytes w64 prev ++ to_be_bytes w32 page ++ slot ∷ [] ++ content_spelling before
+    ++ content_spelling after
 spelling (Clr txn prev undo_next page slot after) =
-    3 ∷ to_be_bytes w64 txn ++ to_be_bytes w64 prev ++ to_be_bytes w64 undo_next ++ to_be_bytes w32 page ++ slot ∷ [] ++ content_spelling after
+    3 ∷ to_be_bytes w64 txn ++ to_be_bytes w64 prev ++ to_be_bytes w64 undo_next ++ to_be_bytes w32 page ++ slot ∷ []
+    ++ content_spelling after
 spelling (Commit txn number) = 4 ∷ to_be_bytes w64 txn ++ to_be_bytes w64 number
 spelling (End txn) = 5 ∷ to_be_bytes w64 txn
 
@@ -36,7 +39,8 @@ HasForm _ = ⊤
 abbrev pub FitsFields : LogRecord → Type 0
 FitsFields Begin = ⊤
 FitsFields (Update txn prev page slot before after) = (txn < 2 ^ 64) × (prev < 2 ^ 64) × (page < 2 ^ 32)
-FitsFields (Clr txn prev undo_next page slot after) = (txn < 2 ^ 64) × (prev < 2 ^ 64) × (undo_next < 2 ^ 64) × (page < 2 ^ 32)
+FitsFields (Clr txn prev undo_next page slot after) = (txn < 2 ^ 64) × (prev < 2 ^ 64) × (undo_next < 2 ^ 64)
+    × (page < 2 ^ 32)
 FitsFields (Commit txn number) = (txn < 2 ^ 64) × (number < 2 ^ 64)
 FitsFields (End txn) = txn < 2 ^ 64
 
@@ -50,7 +54,8 @@ used_by records = 2 + length (flat_map spelling records)
 
 -- the content of a block with these records: the offset past them, the records, and zeros
 unfoldable pub block : List LogRecord → List ℕ
-block records = to_be_bytes w16 (used_by records) ++ flat_map spelling records ++ replicate (block_len - used_by records) 0
+block records = to_be_bytes w16 (used_by records) ++ flat_map spelling records
+    ++ replicate (block_len - used_by records) 0
 
 -- records that make a block
 pub record AreBlock (records : List LogRecord) : Type 0 where

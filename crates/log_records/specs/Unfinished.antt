@@ -1,5 +1,6 @@
 -- What unfinished transactions leave to be undone.
-use Rattle.std.specs.Prelude.{ℕ, ◌+◌, ◌==◌, Bool, true, false, not, ◌&&◌, List, [], ◌∷◌, length, map, filter, drop, sum_by}
+use Rattle.std.specs.Prelude.{ℕ, ◌+◌, ◌==◌, Bool, true, false, not, ◌&&◌, List, [], ◌∷◌, length, map, filter, drop}
+use Rattle.std.specs.Prelude.{sum_by}
 use Rattle.std.specs.List.{list_any}
 use Rattle.log_records.specs.declared.log_record.LogRecord.{LogRecord}
 use Rattle.log_records.specs.declared.log_record.LogRecord.TheVariants.{Begin, Update, Clr}
@@ -37,7 +38,8 @@ left_open log t = open_updates [] (entries_of t log)
 
 -- the Updates of all unfinished transactions that no CLR compensates
 abbrev pub pending : List Entry → List Entry
-pending log = filter (λ e. is_update e.rec && not (is_closed log (txn_of e)) && list_any (λ u. u.lsn == e.lsn) (left_open log (txn_of e))) log
+pending log = filter (λ e. is_update e.rec && not (is_closed log (txn_of e))
+    && list_any (λ u. u.lsn == e.lsn) (left_open log (txn_of e))) log
 
 -- the unfinished transactions whose Begin is in the log
 abbrev pub losers : List Entry → List ℕ

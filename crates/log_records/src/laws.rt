@@ -1,5 +1,6 @@
 // Laws of the format and of logs, for the proofs of code above. They do nothing when called.
-ghost use Rattle.log_records.specs.Laws.{OneForm, WrittenIsSpelled, OneSpelled, OneChange, SetIsBlock, SetLsns, ValuesOfSets, ValuesOfNone};
+ghost use Rattle.log_records.specs.Laws.{OneForm, WrittenIsSpelled, OneSpelled, OneChange, SetIsBlock, SetLsns};
+ghost use Rattle.log_records.specs.Laws.{ValuesOfSets, ValuesOfNone};
 
 /// No record's spelling begins another one's, whatever follows it.
 pub fn one_form()

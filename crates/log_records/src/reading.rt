@@ -2,7 +2,8 @@ ghost use Rattle.std.specs.Prelude.{◌≡◌, ◌≤◌, length, IfOk, IfErr, �
 ghost use Rattle.std.specs.Int.{w32, w64};
 ghost use Rattle.log_records.specs.Spelling.{used_by, IsBlock, IsSpelledAt};
 ghost use Rattle.log_records.specs.declared.log_record.LogRecord.{LogRecord};
-ghost use Rattle.log_records.specs.Reading.{Gives, number_at, slot_at, value_at, update_at, clr_at, commit_at, end_at, record_at};
+ghost use Rattle.log_records.specs.Reading.{Gives, number_at, slot_at, value_at, update_at, clr_at, commit_at, end_at};
+ghost use Rattle.log_records.specs.Reading.{record_at};
 
 use crate::BLOCK_LEN;
 use crate::codec::BadRecord;
@@ -171,7 +172,8 @@ fn all_zero(octets: &[u8]) -> bool
 /// offset, one or more records up to it, and zeros behind.
 pub fn check_block(content: &[u8]) -> Result<usize, BadRecord>
     requires { length content.now ≡ BLOCK_LEN }
-    ensures found { IfOk result (λ used. (records : List LogRecord) × IsBlock content.now records × (used ≡ used_by records)) }
+    ensures found { IfOk result (λ used. (records : List LogRecord) × IsBlock content.now records
+        × (used ≡ used_by records)) }
     ensures bad { IfErr result (λ e. (records : List LogRecord) → IsBlock content.now records → ⊥) }
 {
     let used = get_u16(content, 0) as usize;

@@ -1,5 +1,6 @@
 -- What a log store holds, in memory and on a site.
-use Rattle.std.specs.Prelude.{◌≡◌, ◌⊎◌, ℕ, ◌+◌, ◌-◌, ◌*◌, ◌≤◌, ◌<◌, IsTrue, Bool, true, nat_lt, if◌then◌else◌, List, [], ◌∷◌, ◌++◌, length, drop, map, flat_map, replicate}
+use Rattle.std.specs.Prelude.{◌≡◌, ◌⊎◌, ℕ, ◌+◌, ◌-◌, ◌*◌, ◌≤◌, ◌<◌, IsTrue, Bool, true, nat_lt, if◌then◌else◌, List, []}
+use Rattle.std.specs.Prelude.{◌∷◌, ◌++◌, length, drop, map, flat_map, replicate}
 use Rattle.std.specs.List.{AllByRecursion}
 use Rattle.site.specs.declared.outside.Dev.TheVariants.{Log}
 use Rattle.site.specs.declared.geometry.Geometry.{Geometry}
@@ -45,16 +46,16 @@ end_of store = 512 * store.ring.hi + store.used
 abbrev pub next_lsn : LogStore → LogRecord → ℕ
 next_lsn store rec = if overflows store rec then 512 * (store.ring.hi + 1) + 2 else end_of store
 
--- of an honest site: nothing of the log device is loose, and the ring of the log's blocks is of the form and the one that
--- the store found
+-- of an honest site: nothing of the log device is loose, and the ring of the log's blocks is of the form and the one
+-- that the store found
 pub record Fits (store : LogStore) (site : State) : Type 0 where
   pub honest : IsTrue site.honest
   pub settled : IsSettled Log site
   pub form : IsRing (log_shape store.geometry) site.image.log
   pub hi : store.ring.hi ≡ hi_of (log_shape store.geometry) site.image.log
 
--- of an honest site, whatever of the log device is loose: the ring of the log's blocks is of the form and the one that the
--- store found
+-- of an honest site, whatever of the log device is loose: the ring of the log's blocks is of the form and the one that
+-- the store found
 pub record Finds (store : LogStore) (site : State) : Type 0 where
   pub honest : IsTrue site.honest
   pub form : IsRing (log_shape store.geometry) site.image.log
@@ -86,9 +87,11 @@ pub record Holds (store : LogStore) (image : Image) (log : LogList) : Type 0 whe
   pub tail : HasTail store.tail store.used log.tail
 
 -- a crash leaves the sealed blocks, or, where the tail is to be sealed, the tail as one more
-pub record LeavesLog (g : Geometry) (sealing : Bool) (log : LogList) (so_far : List ℕ) (snapshot : Snapshot) : Type 0 where
+pub record LeavesLog (g : Geometry) (sealing : Bool) (log : LogList) (so_far : List ℕ)
+    (snapshot : Snapshot) : Type 0 where
   pub told : snapshot.told ≡ so_far
-  pub blocks : HasBlocks g log.first log.blocks snapshot.image ⊎ ((sealing ≡ true) × HasBlocks g log.first (log.blocks ++ log.tail ∷ []) snapshot.image)
+  pub blocks : HasBlocks g log.first log.blocks snapshot.image
+      ⊎ ((sealing ≡ true) × HasBlocks g log.first (log.blocks ++ log.tail ∷ []) snapshot.image)
 
 -- the log device has its length, and each of its octets that lies in no slot of the blocks' ring is as it was
 pub record KeepsBeside (g : Geometry) (old : Image) (snapshot : Snapshot) : Type 0 where

@@ -27,11 +27,13 @@ BlocksAreThere = (log : LogList) → SealedFront log
 
 -- calls that leave the units of the log's ring, and nothing of its device loose, leave a store fit
 abbrev pub FitsBeside : Type 0
-FitsBeside = (store : LogStore) (old new : State) → KeepsUnits (log_shape store.geometry) old.image new.image → Goes old new → IsSettled Log new → Fits store old → Fits store new
+FitsBeside = (store : LogStore) (old new : State) → KeepsUnits (log_shape store.geometry) old.image new.image
+    → Goes old new → IsSettled Log new → Fits store old → Fits store new
 
 -- and it holds its log
 abbrev pub HoldsBeside : Type 0
-HoldsBeside = (store : LogStore) (old new : Image) (log : LogList) → KeepsUnits (log_shape store.geometry) old new → Holds store old log → Holds store new log
+HoldsBeside = (store : LogStore) (old new : Image) (log : LogList) → KeepsUnits (log_shape store.geometry) old new
+    → Holds store old log → Holds store new log
 
 -- blank devices have no block
 abbrev pub BlankHasNoBlocks : Type 0
@@ -39,7 +41,8 @@ BlankHasNoBlocks = (g : Geometry) → HasLimits g → HasBlocks g 0 [] (blank_im
 
 -- what stands there and the octets of the tail tell the log, from its first block on
 abbrev pub OneLog : Type 0
-OneLog = (store : LogStore) (image : Image) (a b : LogList) → Holds store image a → Holds store image b → a.first ≡ b.first → a ≡ b
+OneLog = (store : LogStore) (image : Image) (a b : LogList) → Holds store image a → Holds store image b
+    → a.first ≡ b.first → a ≡ b
 
 -- a tail that a record doesn't fit has records
 abbrev pub FullTail : Type 0

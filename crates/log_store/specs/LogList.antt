@@ -1,5 +1,6 @@
 -- The log as a list of records.
-use Rattle.std.specs.Prelude.{ℕ, ◌+◌, ◌-◌, ◌*◌, ◌==◌, max, slice_index_or, Option, Some, None, if◌then◌else◌, Bool, true, false, List, [], ◌∷◌, ◌++◌, length, drop}
+use Rattle.std.specs.Prelude.{ℕ, ◌+◌, ◌-◌, ◌*◌, ◌==◌, max, slice_index_or, Option, Some, None, if◌then◌else◌, Bool}
+use Rattle.std.specs.Prelude.{true, false, List, [], ◌∷◌, ◌++◌, length, drop}
 use Rattle.log_records.specs.declared.log_record.LogRecord.{LogRecord}
 use Rattle.log_records.specs.Log.{Entry, entries_from, log_from}
 use Rattle.image_changes.specs.Changes.{Change, SealsBlock}
@@ -45,4 +46,8 @@ with_record rec log = record log { tail = log.tail ++ rec ∷ [] }
 
 -- the log from a block on
 abbrev pub from_block : ℕ → LogList → LogList
-from_block block log = record { first = max log.first block; blocks = drop (block - log.first) log.blocks; tail = log.tail }
+from_block block log = record {
+  first = max log.first block;
+  blocks = drop (block - log.first) log.blocks;
+  tail = log.tail;
+}

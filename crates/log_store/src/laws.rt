@@ -1,5 +1,6 @@
 // Laws on logs, for the proofs of code above; their lemmas stand in proofs/. They do nothing when called.
-ghost use Rattle.log_store.specs.Laws.{SealingKeeps, FitsBeside, HoldsBeside, BlankHasNoBlocks, BlocksAreThere, OneLog, FullTail};
+ghost use Rattle.log_store.specs.Laws.{SealingKeeps, FitsBeside, HoldsBeside, BlankHasNoBlocks, BlocksAreThere, OneLog};
+ghost use Rattle.log_store.specs.Laws.{FullTail};
 
 /// Law: sealing the tail changes no record and no LSN, and a snapshot's blocks begin the log.
 pub fn list_kept()

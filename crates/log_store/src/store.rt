@@ -1,5 +1,7 @@
 // The log: sealed blocks on a ring, and the records that aren't sealed yet.
-ghost use Rattle.std.specs.Prelude.{◌≡◌, ◌≢◌, ◌⊎◌, ◌↔◌, ◌+◌, ◌-◌, ◌*◌, ◌^◌, ◌<◌, ◌≤◌, length, [], ◌∷◌, ◌++◌, ℕ, List, Bool, true, false, nat_lt, if◌then◌else◌, IsTrue, IfOk, OnOk, OnErr, IfErr, IsErrOf, Some, None};
+ghost use Rattle.std.specs.Prelude.{◌≡◌, ◌≢◌, ◌⊎◌, ◌↔◌, ◌+◌, ◌-◌, ◌*◌, ◌^◌, ◌<◌, ◌≤◌, length, [], ◌∷◌, ◌++◌, ℕ, List};
+ghost use Rattle.std.specs.Prelude.{Bool, true, false, nat_lt, if◌then◌else◌, IsTrue, IfOk, OnOk, OnErr, IfErr};
+ghost use Rattle.std.specs.Prelude.{IsErrOf, Some, None};
 ghost use Rattle.site.specs.declared.outside.Dev.{Dev};
 ghost use Rattle.site.specs.declared.outside.Stop.{Stop};
 ghost use Rattle.site.specs.Geometry.{HasLimits, HasLengths};
@@ -14,8 +16,10 @@ ghost use Rattle.log_records.specs.Spelling.{spelling, used_by, block, HasForm, 
 ghost use Rattle.image_changes.specs.Rings.{log_shape};
 ghost use Rattle.image_changes.specs.Changes.{Reaches};
 ghost use Rattle.image_changes.specs.Reached.{LeavesFront};
-ghost use Rattle.log_store.specs.LogList.{LogList, entries, at_lsn, sealed_block, sealed_if, changes_if, with_record, from_block};
-ghost use Rattle.log_store.specs.Held.{MayGoOn, HasRoom, has_tail, overflows, end_of, next_lsn, block_on, Fits, Finds, HasBlocks, HasTail, Holds, LeavesLog, KeepsBeside};
+ghost use Rattle.log_store.specs.LogList.{LogList, entries, at_lsn, sealed_block, sealed_if, changes_if, with_record};
+ghost use Rattle.log_store.specs.LogList.{from_block};
+ghost use Rattle.log_store.specs.Held.{MayGoOn, HasRoom, has_tail, overflows, end_of, next_lsn, block_on, Fits, Finds};
+ghost use Rattle.log_store.specs.Held.{HasBlocks, HasTail, Holds, LeavesLog, KeepsBeside};
 
 use crate::RECORDS_AT;
 use crate::reading::record_at;
@@ -405,7 +409,8 @@ impl LogStore {
         self.kept = block;
     }
 
-    /// The record with an LSN, from the tail or from its sealed block. Answers Foreign too where no record begins at it.
+    /// The record with an LSN, from the tail or from its sealed block. Answers Foreign too where no record begins at
+    /// it.
     pub fn read_at<S: Site>(&self, site: &mut S, lsn: u64) -> Result<LogRecord, Stop>
         requires going { MayGoOn self.now (S.state site.old) }
         requires kept { 512 * self.now.kept ≤ lsn }

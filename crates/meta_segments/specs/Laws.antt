@@ -20,12 +20,14 @@ NoneFollow = Follow 0 [] 0 []
 
 -- a group more, unless a segment is due; the oldest ones may go
 abbrev pub GroupFollows : Type 0
-GroupFollows = (k h gone : ℕ) (segments groups : List (List FrameHead)) (heads : List FrameHead) → Follow k segments h groups → h < 4 * k + 4 →
+GroupFollows = (k h gone : ℕ) (segments groups : List (List FrameHead)) (heads : List FrameHead)
+    → Follow k segments h groups → h < 4 * k + 4 →
     Follow k segments (h + 1) (drop gone (groups ++ heads ∷ []))
 
 -- a segment more, where it is due; the oldest ones may go where the others reach as far back as the groups
 abbrev pub SegmentFollows : Type 0
-SegmentFollows = (k h gone : ℕ) (segments groups : List (List FrameHead)) (heads : List FrameHead) → Follow k segments h groups → h ≡ 4 * k + 4 →
+SegmentFollows = (k h gone : ℕ) (segments groups : List (List FrameHead)) (heads : List FrameHead)
+    → Follow k segments h groups → h ≡ 4 * k + 4 →
     ((i : ℕ) → i < 4 → IsLive h groups (4 * k + i) → heads_of_group heads i ≡ heads_with h groups (4 * k + i)) →
     (gone ≡ 0) ⊎ (length groups ≤ 4 * length (drop gone (segments ++ heads ∷ []))) →
     Follow (k + 1) (drop gone (segments ++ heads ∷ [])) h groups

@@ -1,5 +1,6 @@
 -- The page store as the cache machine.
-use Rattle.std.specs.Prelude.{ℕ, ◌+◌, nat_le, Bool, false, true, ◌&&◌, List, [], ◌∷◌, length, map, reverse, if◌then◌else◌}
+use Rattle.std.specs.Prelude.{ℕ, ◌+◌, nat_le, Bool, false, true, ◌&&◌, List, [], ◌∷◌, length, map, reverse}
+use Rattle.std.specs.Prelude.{if◌then◌else◌}
 use Rattle.buffer_pool.specs.declared.frame.Frame.{Frame}
 use Rattle.second_chance.specs.Queue.{Queue}
 use Rattle.second_chance.specs.Machine.{Rules, rules_of, PoolPage, Cache, must_be_pushed, lacks_room, evict_coldest}

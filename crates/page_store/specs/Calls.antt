@@ -1,5 +1,6 @@
 -- What the calls on pages ask and say, each as one record, with the call's result as its index where that matters.
-use Rattle.std.specs.Prelude.{◌≡◌, ◌≢◌, ◌⊎◌, ℕ, ◌+◌, ◌*◌, ◌^◌, ◌≤◌, ◌<◌, Bool, true, if◌then◌else◌, IsTrue, List, ◌++◌, map, Option, Result, OnOk, IfErr, IsErrOf}
+use Rattle.std.specs.Prelude.{◌≡◌, ◌≢◌, ◌⊎◌, ℕ, ◌+◌, ◌*◌, ◌^◌, ◌≤◌, ◌<◌, Bool, true, if◌then◌else◌, IsTrue, List, ◌++◌}
+use Rattle.std.specs.Prelude.{map, Option, Result, OnOk, IfErr, IsErrOf}
 use Rattle.std.specs.List.{AllByRecursion}
 use Rattle.site.specs.declared.outside.Dev.{Dev}
 use Rattle.site.specs.declared.outside.Dev.TheVariants.{Log, Flash}
@@ -73,8 +74,8 @@ pub record Pushes {T : Type 0} (result : Result T Stop) (old new : LogStore) (pa
   pub ended : pages'.ended ≡ pages.ended
   pub others : (d : Dev) → d ≢ Flash → reads_of d now ≡ reads_of d before
 
--- When a ring at its end stops a call: that of the log where the log is forced, unless memory is wanting before; that of
--- the flash where a group is pushed, and each such push.
+-- When a ring at its end stops a call: that of the log where the log is forced, unless memory is wanting before; that
+-- of the flash where a group is pushed, and each such push.
 pub record StopsAtEnd {T : Type 0} (result : Result T Stop) (log : LogStore) (pages : PageStore)
     (sealing pushing : Bool) : Type 0 where
   pub worn_log : IsErrOf result (Worn Log) → (sealing ≡ true) × (log.ring.hi ≡ 2 ^ 40)
@@ -89,9 +90,11 @@ pub record Saves {T : Type 0} (result : Result T Stop) (log : LogStore) (pages p
   pub frames : OnOk result
       (pages'.pool.frames ≡ cleared_all (map (λ f. f.page) (saved_next pages)) pages.pool.frames)
   pub directory : OnOk result
-      (pages'.flash.directory ≡ pushed_queue pages.flash (map chance_frame (chance_marks pages.flash) ++ map (λ f. known_of f.page true) (saved_next pages)))
+      (pages'.flash.directory ≡ pushed_queue pages.flash (map chance_frame (chance_marks pages.flash)
+      ++ map (λ f. known_of f.page true) (saved_next pages)))
   pub gives : (list : LogList) → AreReady pages log list before →
-      OnOk result (Gives pages.flash.geometry (map (λ f. f.page) (saved_next pages)) (flushed_first pages) before.image now.image)
+      OnOk result (Gives pages.flash.geometry (map (λ f. f.page) (saved_next pages)) (flushed_first pages)
+      before.image now.image)
   pub reads : now.flash_reads ≤ before.flash_reads + 12
   pub worn_log : IsErrOf result (Worn Log) → (forces log (flushed_first pages) ≡ true) × (log.ring.hi ≡ 2 ^ 40)
   pub worn_flash : IsErrOf result (Worn Flash) → pages.flash.ring.hi ≡ 2 ^ 40

@@ -35,12 +35,13 @@ content_by (Some frame) version = frame.content
 abbrev pub current : PageStore → Image → ℕ → List ℕ
 current store image page = content_by (frame_of store.pool.frames page) (version_on store.flash.geometry image page)
 
--- Of an honest site, whatever is loose: the cache holds the queue on the flash, clean frames are as on the disk, each page's version is
--- sound, and a page of the pool that isn't changed is its version.
+-- Of an honest site, whatever is loose: the cache holds the queue on the flash, clean frames are as on the disk, each
+-- page's version is sound, and a page of the pool that isn't changed is its version.
 pub record Fits (store : PageStore) (site : State) : Type 0 where
   pub flash : held.Fits store.flash site
   pub groups : List (List Stored)
   pub holds : held.Holds store.flash site.image groups
   pub clean : IsCleanOn store.flash.geometry site.image
   pub sound : (page : ℕ) → page < store.flash.geometry.pages → IsSound (version_on store.flash.geometry site.image page)
-  pub unchanged : (page : ℕ) (frame : Frame) → frame_of store.pool.frames page ≡ Some frame → frame.changed ≡ false → frame.content ≡ version_on store.flash.geometry site.image page
+  pub unchanged : (page : ℕ) (frame : Frame) → frame_of store.pool.frames page ≡ Some frame → frame.changed ≡ false
+      → frame.content ≡ version_on store.flash.geometry site.image page

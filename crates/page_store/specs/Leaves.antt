@@ -1,5 +1,6 @@
 -- What a call on pages leaves.
-use Rattle.std.specs.Prelude.{◌≡◌, ◌⊎◌, ℕ, ◌<◌, Bool, true, false, List, length, [], ◌∷◌, Some, slice_index, slice_index_or, Contains, Option}
+use Rattle.std.specs.Prelude.{◌≡◌, ◌⊎◌, ℕ, ◌<◌, Bool, true, false, List, length, [], ◌∷◌, Some, slice_index}
+use Rattle.std.specs.Prelude.{slice_index_or, Contains, Option}
 use Rattle.site.specs.declared.geometry.Geometry.{Geometry}
 use Rattle.site.specs.State.{State, Image, Snapshot}
 use Rattle.image_changes.specs.Rings.{master_shape, KeepsUnits}
@@ -16,7 +17,8 @@ use Rattle.image_meaning.specs.Beside.{AreRingsSoundUnder}
 use Rattle.page_store.specs.declared.store.PageStore.{PageStore}
 use Rattle.page_store.specs.Held.{Fits, current}
 
--- Of an honest site, whatever is loose: the store fits it, the log is the one that stands there, and it has these records.
+-- Of an honest site, whatever is loose: the store fits it, the log is the one that stands there, and it has these
+-- records.
 pub record AreReady (store : PageStore) (log : LogStore) (list : LogList) (site : State) : Type 0 where
   pub pages : Fits store site
   pub blocks : log_held.Finds log site
@@ -29,15 +31,18 @@ pub record HasQueue (g : Geometry) (image : Image) : Type 0 where
   pub has : HasGroups g first groups image
   pub saved : AreSaved g groups image
 
--- Nothing was told. The log has its sealed blocks, or its tail as one more where that is to be sealed, and the ring of masters is as before.
--- The queue is of the form, segments follow it, clean frames are as on the disk, and each page's version is the one from before, or has this
--- content.
-pub record LeavesPages (g : Geometry) (contents : ℕ → List ℕ) (sealing : Bool) (list : LogList) (old : State) (snapshot : Snapshot) : Type 0 where
+-- Nothing was told. The log has its sealed blocks, or its tail as one more where that is to be sealed, and the ring of
+-- masters is as before.
+-- The queue is of the form, segments follow it, clean frames are as on the disk, and each page's version is the one
+-- from before, or has this content.
+pub record LeavesPages (g : Geometry) (contents : ℕ
+    → List ℕ) (sealing : Bool) (list : LogList) (old : State) (snapshot : Snapshot) : Type 0 where
   pub log : LeavesLog g sealing list old.told snapshot
   pub masters : KeepsUnits master_shape old.image snapshot.image
   pub queue : HasQueue g snapshot.image
   pub clean : IsCleanOn g snapshot.image
-  pub versions : (page : ℕ) → page < g.pages → (version_on g snapshot.image page ≡ version_on g old.image page) ⊎ (version_on g snapshot.image page ≡ contents page)
+  pub versions : (page : ℕ) → page < g.pages → (version_on g snapshot.image page ≡ version_on g old.image page)
+      ⊎ (version_on g snapshot.image page ≡ contents page)
 
 -- the rings are sound under a newest master
 abbrev pub LeavesRings : Option Master → Geometry → Snapshot → Type 0
@@ -54,7 +59,8 @@ pub record Gives (g : Geometry) (pages : List ℕ) (contents : List (List ℕ)) 
 
 -- the pages given aren't in the pool, or are marked as changed there
 pub record AreChanged (store : PageStore) (pages : List ℕ) : Type 0 where
-  pub each : (k : ℕ) (frame : Frame) → k < length pages → frame_of store.pool.frames (slice_index pages k) ≡ Some frame → frame.changed ≡ true
+  pub each : (k : ℕ) (frame : Frame) → k < length pages → frame_of store.pool.frames (slice_index pages k) ≡ Some frame
+      → frame.changed ≡ true
 
 -- each page has the content that it had
 pub record KeepsCurrent (store : PageStore) (old : Image) (store' : PageStore) (new : Image) : Type 0 where

@@ -38,14 +38,15 @@ candidates store = take 7 (movable store.flash.directory (reverse store.pool.fra
 -- those that it pulls: as many as its group has room for beside the evicted page, where evictions pull at all
 abbrev pub pulled_frames : Rules → Queue → List Frame → List Frame
 pulled_frames r queue warmer =
-    if r.pulls then take (group_size - 1 - length (chances_of r.chances (leaving r queue))) (movable queue warmer) else []
+    if r.pulls then take (group_size - 1 - length (chances_of r.chances (leaving r queue)))
+    (movable queue warmer) else []
 
 -- what is pulled from the pool of a store that the evicted page has left
 abbrev pub pulled : PageStore → List Frame
 pulled store = pulled_frames (rules store) store.flash.directory (reverse store.pool.frames)
 
--- The pages that an eviction pushes: the coldest one and those that are pulled with it, where that one is changed or has
--- no frame; else none.
+-- The pages that an eviction pushes: the coldest one and those that are pulled with it, where that one is changed or
+-- has no frame; else none.
 abbrev pub evicted_of : Rules → Queue → List Frame → List Frame
 evicted_of r queue [] = []
 evicted_of r queue (coldest ∷ warmer) =

@@ -33,10 +33,12 @@ pub record HasQueueOn (store : PageStore) (site : State) : Type 0 where
   pub next : next_group (cache_of store) ≡ hi_of (group_shape store.flash.geometry) site.image.flash
   pub room : 1 ≤ (rules store).groups
 
--- A call beside which at most these frames are staged, and groups appended below this number, whatever the log has: a crash
--- meanwhile leaves no more than that.
-pub record Stages {T : Type 0} (result : Result T Stop) (staged : List Staged) (next : ℕ) (old new : PageStore) (before now : State) : Type 0 where
+-- A call beside which at most these frames are staged, and groups appended below this number, whatever the log has: a
+-- crash meanwhile leaves no more than that.
+pub record Stages {T : Type 0} (result : Result T Stop) (staged : List Staged) (next : ℕ) (old new : PageStore)
+    (before now : State) : Type 0 where
   pub holds : HasQueueOn old before → OnOk result (HasQueueOn new now)
   pub quiet : HasQueueOn old before → IsQuiet before → OnOk result (IsQuiet now)
-  pub writes : HasQueueOn old before → IsQuiet before → LeavesOnly before now (λ s. WritesOnly old.flash.geometry staged next before.image s.image)
+  pub writes : HasQueueOn old before → IsQuiet before
+      → LeavesOnly before now (λ s. WritesOnly old.flash.geometry staged next before.image s.image)
   pub sizes : new.flash.geometry ≡ old.flash.geometry

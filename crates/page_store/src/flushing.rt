@@ -1,5 +1,6 @@
 // Changed pages are pushed, until none is changed.
-ghost use Rattle.std.specs.Prelude.{◌≡◌, ◌<◌, ◌≤◌, [], length, map, true, if◌then◌else◌, IfOk, OnOk, IfErr, IsSome, Some};
+ghost use Rattle.std.specs.Prelude.{◌≡◌, ◌<◌, ◌≤◌, [], length, map, true, if◌then◌else◌, IfOk, OnOk, IfErr, IsSome};
+ghost use Rattle.std.specs.Prelude.{Some};
 ghost use Rattle.std.specs.List.{All};
 ghost use Rattle.site.specs.declared.outside.Stop.{Stop};
 ghost use Rattle.flash_cache.specs.Pushed.{staged_marks, chance_marks};
@@ -195,10 +196,12 @@ impl PageStore {
         // Of an honest site.
         ensures keeps { (list : LogList) → AreReady self.old log.old list (S.state site.old)
             → Keeps result log.old self.old (S.state site.old) (S.state site.new) list
-            (forces log.old (flushed_contents self.old)) (flush_changes log.old list self.old (S.state site.old).image) }
+            (forces log.old (flushed_contents self.old))
+            (flush_changes log.old list self.old (S.state site.old).image) }
         ensures stands { (list : LogList) → AreReady self.old log.old list (S.state site.old)
             → OnOk result (Stands log.old log.new self.old self.new (S.state site.old) (S.state site.new) list
-            (forces log.old (flushed_contents self.old)) (flush_changes log.old list self.old (S.state site.old).image)) }
+            (forces log.old (flushed_contents self.old))
+            (flush_changes log.old list self.old (S.state site.old).image)) }
 
         // Of every site.
         ensures pushes { Pushes result log.old log.new self.old self.new (S.state site.old) (S.state site.new)

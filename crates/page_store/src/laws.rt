@@ -1,5 +1,6 @@
 // Laws of page stores, for the proofs of code above. They do nothing when called.
-ghost use Rattle.page_store.specs.Laws.{TouchThenChange, GoesOnBeside, FitsBeside, CurrentBeside, AheadBeside, VersionsBeside, LeavesBeside, SealedBeside};
+ghost use Rattle.page_store.specs.Laws.{TouchThenChange, GoesOnBeside, FitsBeside, CurrentBeside, AheadBeside};
+ghost use Rattle.page_store.specs.Laws.{VersionsBeside, LeavesBeside, SealedBeside};
 
 use image_changes::ring_kept;
 
@@ -8,8 +9,8 @@ pub fn touch_then_change()
     ensures { TouchThenChange }
 {}
 
-/// Law: calls that change the log's device alone leave a store fit, and each page's content; a log that grew is ahead of the pages
-/// still. A store may go on after any calls.
+/// Law: calls that change the log's device alone leave a store fit, and each page's content; a log that grew is ahead
+/// of the pages still. A store may go on after any calls.
 pub fn stays_beside()
     ensures going { GoesOnBeside }
     ensures fits { FitsBeside }
@@ -17,8 +18,8 @@ pub fn stays_beside()
     ensures ahead { AheadBeside }
 {}
 
-/// Law: calls that change the log's device alone leave each page's version, and at each moment no more than a call on pages may; the
-/// LSN of each version is sealed still.
+/// Law: calls that change the log's device alone leave each page's version, and at each moment no more than a call on
+/// pages may; the LSN of each version is sealed still.
 pub fn pages_beside_the_log()
     ensures versions { VersionsBeside }
     ensures leaves { LeavesBeside }

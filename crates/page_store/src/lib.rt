@@ -1,5 +1,5 @@
-//! The pages of the database: a pool in memory over the queue on flash and the disk. The log is sealed up to a page's last change
-//! before the page leaves the pool.
+//! The pages of the database: a pool in memory over the queue on flash and the disk. The log is sealed up to a page's
+//! last change before the page leaves the pool.
 #![tactic(auto)]
 
 mod flushing;

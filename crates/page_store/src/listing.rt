@@ -1,5 +1,6 @@
 // The pages of the cache, line by line.
-ghost use Rattle.std.specs.Prelude.{◌≡◌, ◌+◌, ◌^◌, ◌<◌, ◌≤◌, ◌++◌, ◌∷◌, [], length, map, take, List, Some, slice_get, IfOk, OnOk, IfErr};
+ghost use Rattle.std.specs.Prelude.{◌≡◌, ◌+◌, ◌^◌, ◌<◌, ◌≤◌, ◌++◌, ◌∷◌, [], length, map, take, List, Some, slice_get};
+ghost use Rattle.std.specs.Prelude.{IfOk, OnOk, IfErr};
 ghost use Rattle.site.specs.declared.outside.Stop.{Stop};
 ghost use Rattle.byte_fields.specs.declared.frame_head.Mark.{Mark};
 ghost use Rattle.record_model.specs.declared.words.CacheLine.{CacheLine};
@@ -50,7 +51,8 @@ fn list_group(flash: &FlashCache, place: usize, lines: &mut Listing) -> Result<(
 // Lists the queue, the front group first.
 fn list_queue(flash: &FlashCache, lines: &mut Listing) -> Result<(), Stop>
     requires numbers { flash.now.directory.first + length flash.now.directory.groups ≤ 2 ^ 40 }
-    ensures lines { OnOk result (lines.new ≡ lines.old ++ group_lines flash.now.directory.first (marks flash.now.directory)) }
+    ensures lines { OnOk result (lines.new
+        ≡ lines.old ++ group_lines flash.now.directory.first (marks flash.now.directory)) }
     ensures memory { IfErr result (λ stop. stop ≡ Stop.Memory) }
 {
     for place in 0..flash.groups() {
@@ -76,8 +78,8 @@ fn list_pool(alloc: Global, pool: &Pool, lines: &mut Listing) -> Result<(), Stop
 }
 
 impl PageStore {
-    /// The frames in the queue, the oldest group first, and then the pages in memory, the one touched last in front. The one error
-    /// is want of memory.
+    /// The frames in the queue, the oldest group first, and then the pages in memory, the one touched last in front.
+    /// The one error is want of memory.
     pub fn listing(&self) -> Result<Listing, Stop>
         requires numbers { self.now.flash.directory.first + length self.now.flash.directory.groups ≤ 2 ^ 40 }
         ensures lines { IfOk result (λ lines. lines ≡ listing (cache_of self.now)) }

@@ -1,5 +1,6 @@
 // Pages leave the pool for the queue on flash.
-ghost use Rattle.std.specs.Prelude.{◌≡◌, ◌≢◌, ◌+◌, ◌^◌, ◌<◌, ◌≤◌, ◌&&◌, ℕ, [], length, map, take, true, false, if◌then◌else◌, OnOk, IsErrOf, Some, None, AllPairs};
+ghost use Rattle.std.specs.Prelude.{◌≡◌, ◌≢◌, ◌+◌, ◌^◌, ◌<◌, ◌≤◌, ◌&&◌, ℕ, [], length, map, take, true, false};
+ghost use Rattle.std.specs.Prelude.{if◌then◌else◌, OnOk, IsErrOf, Some, None, AllPairs};
 ghost use Rattle.std.specs.List.{All};
 ghost use Rattle.site.specs.declared.outside.Dev.{Dev};
 ghost use Rattle.site.specs.declared.outside.Stop.{Stop};
@@ -41,7 +42,8 @@ pub const NO_MARK: Mark = Mark {
     referenced: false,
 };
 
-/// What a plan knows of the frames that leave the queue with the next push, in the first places of `into`, with their number.
+/// What a plan knows of the frames that leave the queue with the next push, in the first places of `into`, with their
+/// number.
 pub fn leaving(flash: &FlashCache, into: &mut [Mark; 8]) -> usize
     requires groups { 2 ≤ flash.now.geometry.groups }
     requires few { length flash.now.directory.groups < flash.now.geometry.groups }
@@ -128,8 +130,8 @@ impl PageStore {
         }
     }
 
-    /// Takes the coldest page out of the pool. Where it was changed, or has no frame in the queue, it is pushed, with the coldest
-    /// others of which one or the other is so: as many as the group has room for leave the pool too.
+    /// Takes the coldest page out of the pool. Where it was changed, or has no frame in the queue, it is pushed, with
+    /// the coldest others of which one or the other is so: as many as the group has room for leave the pool too.
     pub(crate) fn evict<S: Site>(&mut self, site: &mut S, log: &mut LogStore) -> Result<(), Stop>
         requires going { MayWork log.old self.old (S.state site.old) }
 

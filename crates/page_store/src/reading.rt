@@ -1,5 +1,6 @@
 // Pages come into the pool.
-ghost use Rattle.std.specs.Prelude.{None, length, ◌&&◌, ◌≡◌, ◌⊎◌, ◌+◌, ◌≤◌, ◌<◌, false, if◌then◌else◌, IsTrue, IfOk, OnOk, OnErr, IfErr};
+ghost use Rattle.std.specs.Prelude.{None, length, ◌&&◌, ◌≡◌, ◌⊎◌, ◌+◌, ◌≤◌, ◌<◌, false, if◌then◌else◌, IsTrue, IfOk};
+ghost use Rattle.std.specs.Prelude.{OnOk, OnErr, IfErr};
 ghost use Rattle.site.specs.declared.outside.Dev.{Dev};
 ghost use Rattle.site.specs.declared.outside.Stop.{Stop};
 ghost use Rattle.site.specs.Calls.{IsUnchanged};

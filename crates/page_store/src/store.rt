@@ -1,5 +1,7 @@
 // The pool, the queue on flash and the disk, joined under the write-ahead rule.
-ghost use Rattle.std.specs.Prelude.{◌≡◌, ◌≢◌, ◌⊎◌, ◌↔◌, ◌+◌, ◌*◌, ◌^◌, ◌<◌, ◌≤◌, ℕ, List, [], length, true, false, if◌then◌else◌, IsTrue, IfOk, OnOk, OnErr, IfErr, IsErrOf, Some, None, option_copied, slice_index_or, Option};
+ghost use Rattle.std.specs.Prelude.{◌≡◌, ◌≢◌, ◌⊎◌, ◌↔◌, ◌+◌, ◌*◌, ◌^◌, ◌<◌, ◌≤◌, ℕ, List, [], length, true, false};
+ghost use Rattle.std.specs.Prelude.{if◌then◌else◌, IsTrue, IfOk, OnOk, OnErr, IfErr, IsErrOf, Some, None};
+ghost use Rattle.std.specs.Prelude.{option_copied, slice_index_or, Option};
 ghost use Rattle.site.specs.declared.outside.Dev.{Dev};
 ghost use Rattle.site.specs.declared.outside.Stop.{Stop};
 ghost use Rattle.site.specs.Geometry.{HasLimits, HasLengths};
@@ -44,8 +46,8 @@ pub struct PageStore {
 }
 
 impl PageStore {
-    /// The pages of a site, with an empty pool of so many pages, 1 to 4,096, and the queue that stands on the flash, found by its
-    /// segments.
+    /// The pages of a site, with an empty pool of so many pages, 1 to 4,096, and the queue that stands on the flash,
+    /// found by its segments.
     pub fn start<S: Site>(
         alloc: Global,
         site: &mut S,
@@ -111,7 +113,8 @@ impl PageStore {
         requires store { IsStore self.now }
         requires there { 0 < length self.now.pool.frames }
         requires slot { slot < 32 }
-        ensures content { option_copied result ≡ slice_index_or (slots_of (front_of self.now.pool.frames).content) slot None }
+        ensures content { option_copied result
+            ≡ slice_index_or (slots_of (front_of self.now.pool.frames).content) slot None }
         ensures short { content_length (option_copied result) ≤ VALUE_MAX }
     {
         match self.pool.front() {
@@ -131,13 +134,14 @@ impl PageStore {
         }
     }
 
-    /// Whether a content has room in a slot, below 32, of the page in front, beside the values of its other slots. The pool isn't
-    /// empty.
+    /// Whether a content has room in a slot, below 32, of the page in front, beside the values of its other slots. The
+    /// pool isn't empty.
     pub fn fits(&self, slot: u8, value: Option<&[u8]>) -> bool
         requires store { IsStore self.now }
         requires there { 0 < length self.now.pool.frames }
         requires slot { slot < 32 }
-        ensures { IsTrue result ↔ FitsPage (slots_of (front_of self.now.pool.frames).content) slot (option_copied value.entry) }
+        ensures { IsTrue result ↔ FitsPage (slots_of (front_of self.now.pool.frames).content) slot
+            (option_copied value.entry) }
     {
         match self.pool.front() {
             Some(page) => page.fits(slot, value),
@@ -145,8 +149,8 @@ impl PageStore {
         }
     }
 
-    /// Gives a slot, below 32, of the page in front another content, and the page a greater LSN, and marks it as changed. The pool
-    /// isn't empty. A value has at most 120 octets, and fits.
+    /// Gives a slot, below 32, of the page in front another content, and the page a greater LSN, and marks it as
+    /// changed. The pool isn't empty. A value has at most 120 octets, and fits.
     pub fn change(&mut self, slot: u8, value: Option<&[u8]>, lsn: u64)
         requires store { IsStore self.old }
         requires there { 0 < length self.old.pool.frames }
@@ -173,9 +177,9 @@ impl PageStore {
         self.pool.change_front(slot, value, lsn);
     }
 
-    /// Brings a page to the front of the pool. A page that isn't there is read, from its last frame on flash or from the disk; where
-    /// the pool is full its coldest page is evicted before. An evicted page that was changed, or has no frame in the queue, is pushed,
-    /// and the log is forced before exactly where its tail has that page's last change.
+    /// Brings a page to the front of the pool. A page that isn't there is read, from its last frame on flash or from
+    /// the disk; where the pool is full its coldest page is evicted before. An evicted page that was changed, or has no
+    /// frame in the queue, is pushed, and the log is forced before exactly where its tail has that page's last change.
     pub fn touch<S: Site>(
         &mut self,
         site: &mut S,
@@ -188,10 +192,12 @@ impl PageStore {
         // Of an honest site.
         ensures keeps { (list : LogList) → AreReady self.old log.old list (S.state site.old)
             → Keeps result log.old self.old (S.state site.old) (S.state site.new) list
-            (forces log.old (pushed_by_touch self.old page)) (touch_changes log.old list self.old (S.state site.old).image page) }
+            (forces log.old (pushed_by_touch self.old page))
+            (touch_changes log.old list self.old (S.state site.old).image page) }
         ensures stands { (list : LogList) → AreReady self.old log.old list (S.state site.old)
             → OnOk result (Stands log.old log.new self.old self.new (S.state site.old) (S.state site.new) list
-            (forces log.old (pushed_by_touch self.old page)) (touch_changes log.old list self.old (S.state site.old).image page)) }
+            (forces log.old (pushed_by_touch self.old page))
+            (touch_changes log.old list self.old (S.state site.old).image page)) }
 
         // Of every site.
         ensures works { Works result log.old log.new self.old self.new (S.state site.old) (S.state site.new)
@@ -226,18 +232,21 @@ impl PageStore {
         Ok(())
     }
 
-    /// Pushes groups of changed pages, the coldest first, until no page in the pool is changed. The pages stay in the pool. Before a
-    /// group is pushed the log is forced, exactly where its tail has the last change of a page of the group.
+    /// Pushes groups of changed pages, the coldest first, until no page in the pool is changed. The pages stay in the
+    /// pool. Before a group is pushed the log is forced, exactly where its tail has the last change of a page of the
+    /// group.
     pub fn flush_all<S: Site>(&mut self, site: &mut S, log: &mut LogStore) -> Result<(), Stop>
         requires going { MayWork log.old self.old (S.state site.old) }
 
         // Of an honest site.
         ensures keeps { (list : LogList) → AreReady self.old log.old list (S.state site.old)
             → Keeps result log.old self.old (S.state site.old) (S.state site.new) list
-            (forces log.old (flushed_contents self.old)) (flush_changes log.old list self.old (S.state site.old).image) }
+            (forces log.old (flushed_contents self.old))
+            (flush_changes log.old list self.old (S.state site.old).image) }
         ensures stands { (list : LogList) → AreReady self.old log.old list (S.state site.old)
             → OnOk result (Stands log.old log.new self.old self.new (S.state site.old) (S.state site.new) list
-            (forces log.old (flushed_contents self.old)) (flush_changes log.old list self.old (S.state site.old).image)) }
+            (forces log.old (flushed_contents self.old))
+            (flush_changes log.old list self.old (S.state site.old).image)) }
 
         // Of every site.
         ensures works { Works result log.old log.new self.old self.new (S.state site.old) (S.state site.new)

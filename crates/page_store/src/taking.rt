@@ -71,8 +71,8 @@ impl PageStore {
         Ok(())
     }
 
-    // The pages that may be pulled from the pool, the coldest in front: seven at most of those that are changed or have no frame in
-    // the queue.
+    // The pages that may be pulled from the pool, the coldest in front: seven at most of those that are changed or have
+    // no frame in the queue.
     fn candidates(&self) -> Result<Vec<PoolMark>, Stop>
         ensures marks { IfOk result (λ marks. marks.items
             ≡ map (mark_for self.now.flash.directory) (candidates self.now)) }
@@ -130,8 +130,8 @@ impl PageStore {
         Ok(())
     }
 
-    /// The plan of a push with a page that the pool has not any more, and that page with those that the plan pulls, which are taken
-    /// out of the pool.
+    /// The plan of a push with a page that the pool has not any more, and that page with those that the plan pulls,
+    /// which are taken out of the pool.
     pub(crate) fn take_with(
         &mut self,
         page: u32,

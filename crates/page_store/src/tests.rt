@@ -233,8 +233,8 @@ const MIXED: [(u32, Work); 60] = [
     (7, Work::Flush),
 ];
 
-// The frames that are in the queue then: the place of the group, the frame's own in it, its page, and whether it is valid, dirty
-// and referenced.
+// The frames that are in the queue then: the place of the group, the frame's own in it, its page, and whether it is
+// valid, dirty and referenced.
 const FRAMES: [(usize, usize, u32, bool, bool, bool); 17] = [
     (0, 0, 1, false, true, true),
     (0, 1, 7, false, true, true),
@@ -391,8 +391,8 @@ fn nine_pages_are_listed(rt: HostRuntime) -> Result<(), Fail> {
     Ok(())
 }
 
-// Two pages change in turn in a pool of one page, and only so many changes of the devices pass. Answers whether the log's block
-// and page 0's frame are there after a crash.
+// Two pages change in turn in a pool of one page, and only so many changes of the devices pass. Answers whether the
+// log's block and page 0's frame are there after a crash.
 fn stopped_at(alloc: Global, changes: u64, seed: u64) -> Result<(bool, bool), Stop> {
     let mut site = MemSite::new(alloc, &SMALL)?;
     site.fuse(changes);

@@ -1,5 +1,6 @@
 -- The list of the pages that a push may take, kept beside the pool.
-use Rattle.std.specs.Prelude.{◌≡◌, ℕ, ◌-◌, ◌^◌, ◌<◌, ◌==◌, ◌&&◌, ◌||◌, Bool, false, not, List, [], ◌∷◌, ◌++◌, nat_eq, ⊤, if◌then◌else◌}
+use Rattle.std.specs.Prelude.{◌≡◌, ℕ, ◌-◌, ◌^◌, ◌<◌, ◌==◌, ◌&&◌, ◌||◌, Bool, false, not, List, [], ◌∷◌, ◌++◌, nat_eq, ⊤}
+use Rattle.std.specs.Prelude.{if◌then◌else◌}
 use Rattle.std.specs.Prelude.{unwrap_or}
 use Rattle.std.specs.List.{AllByRecursion, list_any}
 use Rattle.std.specs.Map.{lookup, remove_entry}
@@ -58,4 +59,5 @@ struck kept listed = if kept.listed then remove_entry (is_at (nat_cmp kept.stamp
 
 -- and with it
 abbrev pub enlisted : ℕ → Kept → List (ℕ × Entry) → List (ℕ × Entry)
-enlisted page kept listed = if kept.listed then insert_entry nat_cmp listed kept.stamp (record { page = page; changed = kept.changed }) else listed
+enlisted page kept listed = if kept.listed then insert_entry nat_cmp listed kept.stamp
+    (record { page = page; changed = kept.changed }) else listed

@@ -2,13 +2,14 @@
 use Rattle.std.specs.Prelude.{◌≡◌, ℕ, ◌+◌, ◌-◌, ◌*◌, Bool, true, false, ◌&&◌, List, [], ◌∷◌, length, reverse}
 use Rattle.record_model.specs.Touches.{touch}
 use Rattle.second_chance.specs.Queue.{Queue}
-use Rattle.second_chance.specs.Machine.{Rules, PoolPage, Cache, holds, must_be_pushed, lacks_room, touched, finds, misses, staged_by}
+use Rattle.second_chance.specs.Machine.{Rules, PoolPage, Cache, holds, must_be_pushed, lacks_room, touched, finds}
+use Rattle.second_chance.specs.Machine.{misses, staged_by}
 use Rattle.policy_sim.specs.declared.policy.Policy.{Policy}
 use Rattle.policy_sim.specs.declared.policy.Policy.TheVariants.{Fifo, Group, Chance}
 use Rattle.policy_sim.specs.declared.counts.Counts.{Counts}
 
--- The rules of the cache machine under a policy, on a flash of so many groups, of which one stays free, and with a pool of so many
--- pages. Where nothing is pulled each group has one frame, so as many frames are as many groups.
+-- The rules of the cache machine under a policy, on a flash of so many groups, of which one stays free, and with a pool
+-- of so many pages. Where nothing is pulled each group has one frame, so as many frames are as many groups.
 abbrev pub rules_of_policy : Policy → ℕ → ℕ → Rules
 rules_of_policy Fifo groups pages = record { pages = pages; groups = 8 * (groups - 1); chances = false; pulls = false }
 rules_of_policy Group groups pages = record { pages = pages; groups = groups - 1; chances = false; pulls = true }

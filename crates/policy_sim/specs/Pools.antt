@@ -42,4 +42,5 @@ pulled_frames pool pages = map (λ page. frame_of page (is_changed pool page)) p
 
 -- the frames of the group that a plan says
 abbrev pub group_of : List Mark → Plan → PoolPage → List PoolPage → List Frame
-group_of front plan own pool = given_again front plan.chances ++ frame_of own.page own.changed ∷ pulled_frames pool plan.pulled
+group_of front plan own pool = given_again front plan.chances ++ frame_of own.page own.changed
+    ∷ pulled_frames pool plan.pulled

@@ -34,4 +34,11 @@ abbrev pub two_reads : List (ℕ × Bool)
 two_reads = read 0 ∷ read 0 ∷ []
 
 abbrev pub TwoReads : Policy → Type 0
-TwoReads kind = machine_counts kind 8 1 two_reads ≡ record { touches = 2; pool = 1; flash = 0; disk = 1; staged = 0; pushed = 0 }
+TwoReads kind = machine_counts kind 8 1 two_reads ≡ record {
+  touches = 2;
+  pool = 1;
+  flash = 0;
+  disk = 1;
+  staged = 0;
+  pushed = 0;
+}

@@ -1,6 +1,7 @@
 -- What the steps of a touch do to a machine.
 use Rattle.std.specs.Prelude.{◌≡◌, ℕ, ◌+◌, ◌≤◌, Bool, true, false, [], nat_le, length, reverse, if◌then◌else◌}
-use Rattle.second_chance.specs.Machine.{Rules, PoolPage, Cache, push_evicted, evict_coldest, touched, staged_in_push, staged_in_eviction}
+use Rattle.second_chance.specs.Machine.{Rules, PoolPage, Cache, push_evicted, evict_coldest, touched, staged_in_push}
+use Rattle.second_chance.specs.Machine.{staged_in_eviction}
 use Rattle.policy_sim.specs.declared.counts.Counts.{Counts}
 use Rattle.policy_sim.specs.declared.machine.Machine.{Machine}
 use Rattle.policy_sim.specs.declared.machine.Pushed.{Pushed}
@@ -57,7 +58,8 @@ is_crowded m = nat_le m.pages (length (pages_of m.pool))
 pub record HasRoom (old new : Machine) (made : Pushed) : Type 0 where
   pub cache : cache_of new ≡ (if is_crowded old then evict_coldest (rules_in old) (cache_of old) else cache_of old)
   pub pushed : made.pushed ≡ (if is_crowded old then eviction_pushes (reverse (pages_of old.pool)) old.queue else false)
-  pub staged : made.staged ≡ length (if is_crowded old then staged_in_eviction (rules_in old) (reverse (pages_of old.pool)) old.queue else [])
+  pub staged : made.staged ≡ length
+      (if is_crowded old then staged_in_eviction (rules_in old) (reverse (pages_of old.pool)) old.queue else [])
   pub few : made.staged ≤ 8
   pub stays : StaysIn old new
 

@@ -1,5 +1,6 @@
 // The queue on flash, with a table by the pages' numbers in place of the maps that a directory of any pages needs.
-ghost use Rattle.std.specs.Prelude.{◌≡◌, ◌↔◌, ◌+◌, ◌^◌, ◌<◌, ◌≤◌, ℕ, [], ◌∷◌, ◌++◌, length, drop, take, IsTrue, Some, IfErr, IfSome, OnOk, is_some, slice_get, if◌then◌else◌};
+ghost use Rattle.std.specs.Prelude.{◌≡◌, ◌↔◌, ◌+◌, ◌^◌, ◌<◌, ◌≤◌, ℕ, [], ◌∷◌, ◌++◌, length, drop, take, IsTrue, Some};
+ghost use Rattle.std.specs.Prelude.{IfErr, IfSome, OnOk, is_some, slice_get, if◌then◌else◌};
 ghost use Rattle.second_chance.specs.Queue.{has_frame, marks, pushed, with_read};
 ghost use Rattle.flash_directory.specs.Heads.{newest, IsNewest};
 ghost use Rattle.flash_directory.specs.Places.{newer};
@@ -65,8 +66,8 @@ impl Directory {
         find(&self.slots, page)
     }
 
-    /// A group of these frames enters the queue behind the others, and the front one leaves where it is said to. Where memory is
-    /// wanting the queue is empty then.
+    /// A group of these frames enters the queue behind the others, and the front one leaves where it is said to. Where
+    /// memory is wanting the queue is empty then.
     pub fn push_group(&mut self, frames: ArrayVec<Frame, 8>, drop_front: bool) -> Result<(), Stop>
         requires some { 1 ≤ length frames.items }
         requires few { length frames.items ≤ 8 }
@@ -98,8 +99,8 @@ impl Directory {
         }
     }
 
-    /// Writes the marks of a group's frames into the first places of `into`, and answers how many there are. The group is named
-    /// by its place in the queue, counted from the front.
+    /// Writes the marks of a group's frames into the first places of `into`, and answers how many there are. The group
+    /// is named by its place in the queue, counted from the front.
     pub fn marks(&self, place: usize, into: &mut [Mark; 8]) -> usize
         requires { place < length self.now.groups }
         ensures marks { slice_get (marks self.now) place ≡ Some (take result into.new) }
@@ -147,7 +148,10 @@ fn make_way(groups: &mut VecDeque<Group>, slots: &mut Vec<Slot>, first: u64, dro
     requires front { IsTrue drop_front → 0 < length groups.old.items }
     ensures groups { groups.new.items ≡ (if drop_front then drop 1 groups.old.items else groups.old.items) }
     ensures places { PlacesNewest slots.old.items (record { first = first; groups = groups.old.items })
-        → PlacesNewest slots.new.items (record { first = (if drop_front then first + 1 else first); groups = groups.new.items }) }
+        → PlacesNewest slots.new.items (record {
+          first = (if drop_front then first + 1 else first);
+          groups = groups.new.items;
+        }) }
 {
     if !drop_front {
         return;
@@ -166,7 +170,8 @@ fn append(
     number: u32,
 ) -> Result<(), Stop>
     ensures groups { OnOk result (groups.new.items ≡ groups.old.items ++ group ∷ []) }
-    ensures enters { OnOk result ((n : ℕ) → at_page slots.new.items n ≡ newer number group n (at_page slots.old.items n)) }
+    ensures enters { OnOk result ((n : ℕ)
+        → at_page slots.new.items n ≡ newer number group n (at_page slots.old.items n)) }
     ensures memory { IfErr result (λ stop. stop ≡ Stop.Memory) }
 {
     enter_group(slots, &group, number)?;

@@ -10,8 +10,8 @@ use arrayvec::ArrayVec;
 use byte_fields::Mark;
 use second_chance::{Frame, Places, Plan};
 
-/// The frames of the group that a plan says, beside the evicted page: those that are given a second chance, of a front group
-/// with these marks, then the evicted page, then the pages that are pulled from the pool.
+/// The frames of the group that a plan says, beside the evicted page: those that are given a second chance, of a front
+/// group with these marks, then the evicted page, then the pages that are pulled from the pool.
 pub fn new_group(front: &[Mark], plan: &Plan, own: &Entry, pool: &Pool) -> ArrayVec<Frame, 8>
     requires { length plan.now.chances + length plan.now.pulled ≤ 7 }
     ensures frames { result.items ≡ group_of front.now plan.now (page_of own.now) (pages_of pool.now) }

@@ -1,4 +1,5 @@
-ghost use Rattle.std.specs.Prelude.{◌≡◌, ◌+◌, ◌<◌, ◌≤◌, ◌&&◌, ◌||◌, not, false, ℕ, Bool, [], List, length, take, IsTrue, IfOk, IfErr, OnOk, if◌then◌else◌};
+ghost use Rattle.std.specs.Prelude.{◌≡◌, ◌+◌, ◌<◌, ◌≤◌, ◌&&◌, ◌||◌, not, false, ℕ, Bool, [], List, length, take};
+ghost use Rattle.std.specs.Prelude.{IsTrue, IfOk, IfErr, OnOk, if◌then◌else◌};
 ghost use Rattle.byte_fields.specs.declared.frame_head.Mark.{Mark};
 ghost use Rattle.second_chance.specs.Queue.{has_frame, with_read, front_marks};
 ghost use Rattle.second_chance.specs.Plans.{eviction_plan};
@@ -7,7 +8,8 @@ ghost use Rattle.policy_sim.specs.Bounds.{IsBounded};
 ghost use Rattle.policy_sim.specs.Machines.{rules_of_policy, blank, one_where};
 ghost use Rattle.policy_sim.specs.Pools.{page_of, pages_of};
 ghost use Rattle.policy_sim.specs.Listing.{IsPool, IsListedBy, unless};
-ghost use Rattle.policy_sim.specs.Steps.{cache_of, rules_in, IsOrdered, IsUsable, HasPushed, HasEvicted, HasRoom, HasTouched};
+ghost use Rattle.policy_sim.specs.Steps.{cache_of, rules_in, IsOrdered, IsUsable, HasPushed, HasEvicted, HasRoom};
+ghost use Rattle.policy_sim.specs.Steps.{HasTouched};
 
 use crate::counts::Counts;
 use crate::directory::Directory;
@@ -88,11 +90,13 @@ impl Machine {
         self.queue.len() >= self.groups
     }
 
-    /// Writes what a push knows of the pages that it may take into the first places of `into`, and answers how many there are:
+    /// Writes what a push knows of the pages that it may take into the first places of `into`, and answers how many
+    /// there are:
     /// the first seven from the cold end, and none where it takes none at all.
     fn candidates(&self, into: &mut [PoolMark; 7]) -> usize
         requires { IsOrdered self.now }
-        ensures candidates { (front : List Mark) → eviction_plan self.now.taking.pulls self.now.taking.chances front (take result into.new)
+        ensures candidates { (front : List Mark)
+            → eviction_plan self.now.taking.pulls self.now.taking.chances front (take result into.new)
             ≡ eviction_plan self.now.taking.pulls self.now.taking.chances front (pool_marks (cache_of self.now)) }
         ensures few { result ≤ 7 }
     {
@@ -107,7 +111,8 @@ impl Machine {
     fn plan(&self, front: &[Mark]) -> Plan
         requires few { length front.now ≤ 8 }
         requires ordered { IsOrdered self.now }
-        ensures plan { result ≡ eviction_plan self.now.taking.pulls self.now.taking.chances front.now (pool_marks (cache_of self.now)) }
+        ensures plan { result ≡ eviction_plan self.now.taking.pulls self.now.taking.chances front.now
+            (pool_marks (cache_of self.now)) }
         ensures fits { length result.chances + length result.pulled ≤ 7 }
     {
         let mut pool = [NO_PAGE; 7];
@@ -207,7 +212,8 @@ impl Machine {
     }
 }
 
-/// Writes the marks of the front group, where it leaves, into the first places of `into`, and answers how many there are.
+/// Writes the marks of the front group, where it leaves, into the first places of `into`, and answers how many there
+/// are.
 fn marks_of_front(queue: &Directory, leaves: bool, into: &mut [Mark; 8]) -> usize
     requires { IsTrue leaves → 0 < length queue.now.groups }
     ensures marks { take result into.new ≡ (if leaves then front_marks queue.now.groups else []) }
@@ -223,8 +229,8 @@ fn lists(pulls: bool, change: bool, unframed: bool) -> bool
     pulls && (change || unframed)
 }
 
-/// Lists the pages of a group that has left the queue, where they are in the pool and have no frame any more. It does nothing
-/// where pushes take no pages.
+/// Lists the pages of a group that has left the queue, where they are in the pool and have no frame any more. It does
+/// nothing where pushes take no pages.
 fn list_unframed(
     pool: &mut Pool,
     queue: &Directory,

@@ -1,4 +1,5 @@
-ghost use Rattle.std.specs.Prelude.{◌≡◌, ◌≤◌, ◌==◌, ◌&&◌, ◌||◌, not, false, ℕ, Bool, nat_eq, take, [], ◌∷◌, ◌++◌, length, IfOk, IfErr, OnOk, IfSome, IfNone};
+ghost use Rattle.std.specs.Prelude.{◌≡◌, ◌≤◌, ◌==◌, ◌&&◌, ◌||◌, not, false, ℕ, Bool, nat_eq, take, [], ◌∷◌, ◌++◌};
+ghost use Rattle.std.specs.Prelude.{length, IfOk, IfErr, OnOk, IfSome, IfNone};
 ghost use Rattle.std.specs.Map.{remove_entry};
 ghost use Rattle.second_chance.specs.Queue.{Queue, has_frame};
 ghost use Rattle.second_chance.specs.Machine.{holds, is_changed, without, pool_mark};
@@ -17,8 +18,8 @@ use std::collections::BTreeMap;
 /// The most pages that a push takes from the pool.
 const MOST_PULLED: usize = 7;
 
-/// The pages in the pool, the one that was touched last in front, and a list of those that a push may take: by the numbers of
-/// their last touches, so that the coldest come first.
+/// The pages in the pool, the one that was touched last in front, and a list of those that a push may take: by the
+/// numbers of their last touches, so that the coldest come first.
 #[derive(Drop)]
 pub struct Pool {
     pub pages: LruCache<u32, Kept>,
@@ -120,9 +121,9 @@ impl Pool {
         kept
     }
 
-    /// Brings a page to the front, whether it is in the pool or not. It is changed where it was, and where it is now. It is
-    /// listed where it was, and where it is to be listed now: a page that is changed, or comes into the pool with no frame in the
-    /// queue, where a list is wanted.
+    /// Brings a page to the front, whether it is in the pool or not. It is changed where it was, and where it is now.
+    /// It is listed where it was, and where it is to be listed now: a page that is changed, or comes into the pool with
+    /// no frame in the queue, where a list is wanted.
     pub fn touch(&mut self, page: u32, change: bool, list: bool) -> Result<(), Stop>
         requires { IsPool self.old }
         ensures ok { OnOk result (pages_of self.new
@@ -166,8 +167,8 @@ impl Pool {
         })
     }
 
-    /// Writes what a push knows of the first seven pages of the list into the first places of `into`, and answers how many
-    /// there are.
+    /// Writes what a push knows of the first seven pages of the list into the first places of `into`, and answers how
+    /// many there are.
     pub fn candidates(&self, queue: &Directory, into: &mut [PoolMark; 7]) -> usize
         requires pool { IsPool self.now }
         requires listed { IsListed queue.now self.now }

@@ -1,5 +1,5 @@
-// Runs that were worked out by hand, after which the counts are as they should be. The functions do nothing: each states rows as
-// clauses.
+// Runs that were worked out by hand, after which the counts are as they should be. The functions do nothing: each
+// states rows as clauses.
 ghost use Rattle.policy_sim.specs.declared.policy.Policy.TheVariants.{Fifo, Group, Chance};
 ghost use Rattle.policy_sim.specs.Rows.{OneReadFifo, OneReadGroup, OneReadChance, TwoReads};
 

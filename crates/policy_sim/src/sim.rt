@@ -30,8 +30,8 @@ impl Model for Sim {
 }
 
 impl Sim {
-    /// A cache with nothing in its pool and its queue, for a flash of so many groups (8 to 16,384, a multiple of 4) and a pool
-    /// of so many pages (1 to 4,096).
+    /// A cache with nothing in its pool and its queue, for a flash of so many groups (8 to 16,384, a multiple of 4) and
+    /// a pool of so many pages (1 to 4,096).
     pub fn new(alloc: Global, kind: Policy, groups: u32, pool: u32) -> Result<Sim, Stop>
         requires groups_least { 8 ≤ groups }
         requires groups_most { groups ≤ 16384 }
@@ -48,13 +48,14 @@ impl Sim {
         })
     }
 
-    /// A touch of a page, with a change of it or without. Fewer than 1,000,000 touches were made before. Where memory is
-    /// wanting the cache is ended.
+    /// A touch of a page, with a change of it or without. Fewer than 1,000,000 touches were made before. Where memory
+    /// is wanting the cache is ended.
     pub fn touch(&mut self, page: u32, change: bool) -> Result<(), Stop>
         requires few { self.old.counts.touches < 1000000 }
         ensures after { OnOk result (self.new ≡ after_touch self.old page change) }
         ensures counts_are_the_machines { OnOk result ((kind : Policy) → (groups pool : ℕ) → (touches : List (ℕ × Bool))
-            → IsAfter kind groups pool touches self.old → IsAfter kind groups pool (touches ++ (page, change) ∷ []) self.new) }
+            → IsAfter kind groups pool touches self.old
+            → IsAfter kind groups pool (touches ++ (page, change) ∷ []) self.new) }
         ensures memory { IfErr result (λ stop. stop ≡ Stop.Memory) }
     {
         if self.ended {

@@ -1,5 +1,6 @@
 -- What follows from the model, for those who build on it.
-use Rattle.std.specs.Prelude.{◌≡◌, ℕ, ◌+◌, ◌<◌, Bool, true, false, not, List, length, take, slice_get, Some, IsTrue, if◌then◌else◌}
+use Rattle.std.specs.Prelude.{◌≡◌, ℕ, ◌+◌, ◌<◌, Bool, true, false, not, List, length, take, slice_get, Some, IsTrue}
+use Rattle.std.specs.Prelude.{if◌then◌else◌}
 use Rattle.std.specs.List.{list_any}
 use Rattle.record_model.specs.declared.words.Command.{Command}
 use Rattle.record_model.specs.declared.words.CacheLine.{CacheLine}
@@ -7,12 +8,14 @@ use Rattle.record_model.specs.declared.words.Reply.{Reply}
 use Rattle.record_model.specs.declared.words.Reply.TheVariants as reply
 use Rattle.record_model.specs.State.{State, kept_by_checkpoint}
 use Rattle.record_model.specs.Step.{Outcome, step, is_accepted, makes_checkpoint}
-use Rattle.record_model.specs.Run.{Line, Turn, turn as turn_of, line_step, turns, state_at, next_listing, listings_after, is_quit, is_committed, commit_marks, commits_among, after_commits}
+use Rattle.record_model.specs.Run.{Line, Turn, turn as turn_of, line_step, turns, state_at, next_listing}
+use Rattle.record_model.specs.Run.{listings_after, is_quit, is_committed, commit_marks, commits_among, after_commits}
 
 -- What a line does to a state. Where it commits, the count of commits rises by one, and the reply names the new count.
 -- Otherwise the table and the count stay.
 pub record IsCountedIn (s : State) (o : Outcome) : Type 0 where
-  pub committed : IsTrue (is_committed o.reply) → (o.reply ≡ reply.Committed (s.commits + 1)) × (o.after.commits ≡ s.commits + 1)
+  pub committed : IsTrue (is_committed o.reply)
+      → (o.reply ≡ reply.Committed (s.commits + 1)) × (o.after.commits ≡ s.commits + 1)
   pub others : is_committed o.reply ≡ false → (o.after.table ≡ s.table) × (o.after.commits ≡ s.commits)
 
 -- the sizes that no line changes
@@ -55,14 +58,17 @@ EachLineHasATurn = (checkpoints : Bool) (s : State) (lines : List Line) (listing
     list_any is_quit lines ≡ false → length (turns checkpoints s lines listings) ≡ length lines
 
 -- a turn of a run that begins at s: it answers its line from the state that the turns before it left
-pub record IsTurnAt (checkpoints : Bool) (s : State) (run : List Turn) (i : ℕ) (line : Line) (listing : List CacheLine) : Type 0 where
+pub record IsTurnAt (checkpoints : Bool) (s : State) (run : List Turn) (i : ℕ) (line : Line)
+    (listing : List CacheLine) : Type 0 where
   pub turn : slice_get run i ≡ Some (turn_of checkpoints (state_at run s i) line listing)
   pub next : state_at run s (i + 1) ≡ (line_step checkpoints (state_at run s i) line listing).after
 
 abbrev pub TurnsFollow : Type 0
-TurnsFollow = (checkpoints : Bool) (s : State) (lines : List Line) (listings : List (List CacheLine)) (i : ℕ) (line : Line) →
+TurnsFollow = (checkpoints : Bool) (s : State) (lines : List Line) (listings : List (List CacheLine)) (i : ℕ)
+    (line : Line) →
     i < length (turns checkpoints s lines listings) → slice_get lines i ≡ Some line →
-    IsTurnAt checkpoints s (turns checkpoints s lines listings) i line (next_listing (listings_after (take i lines) listings))
+    IsTurnAt checkpoints s (turns checkpoints s lines listings) i line
+    (next_listing (listings_after (take i lines) listings))
 
 -- after the first turns of a run that begins at s, the table is that of the commits among them, and they are counted
 pub record IsCountedAt (s : State) (run : List Turn) (i : ℕ) : Type 0 where

@@ -1,7 +1,9 @@
 -- Runs that were worked out by hand. Of each, the lines and what they are answered.
-use Rattle.std.specs.Prelude.{◌≡◌, ℕ, ◌*◌, List, [], ◌∷◌, ◌++◌, length, replicate, map, reverse, slice_set, take, Bool, true, false, Some, None}
+use Rattle.std.specs.Prelude.{◌≡◌, ℕ, ◌*◌, List, [], ◌∷◌, ◌++◌, length, replicate, map, reverse, slice_set, take, Bool}
+use Rattle.std.specs.Prelude.{true, false, Some, None}
 use Rattle.std.specs.List.{range_with_len}
-use Rattle.record_model.specs.declared.words.Command.TheVariants.{Begin, Read, Write, Erase, Scan, Commit, Abort, Get, Set, Checkpoint, Stat, Quit}
+use Rattle.record_model.specs.declared.words.Command.TheVariants.{Begin, Read, Write, Erase, Scan, Commit, Abort, Get}
+use Rattle.record_model.specs.declared.words.Command.TheVariants.{Set, Checkpoint, Stat, Quit}
 use Rattle.record_model.specs.declared.words.Reply.{Reply}
 use Rattle.record_model.specs.declared.words.Reply.TheVariants as reply
 use Rattle.record_model.specs.declared.words.Why.TheVariants.{BadLine, BadSession, NoRecord, TooLong}
@@ -33,7 +35,8 @@ aa = 170 ∷ []
 -- Values: the longest, one that is too long, and the empty one.
 abbrev pub LongestValue : Type 0
 LongestValue =
-    answers 63 (Some (Set 3 (replicate 120 90)) ∷ Some (Set 3 (replicate 121 90)) ∷ Some (Set 3 []) ∷ Some (Get 3) ∷ Some (Get 4) ∷ [])
+    answers 63 (Some (Set 3 (replicate 120 90)) ∷ Some (Set 3 (replicate 121 90)) ∷ Some (Set 3 []) ∷ Some (Get 3)
+    ∷ Some (Get 4) ∷ [])
     ≡ reply.Committed 1 ∷ reply.Refused TooLong ∷ reply.Committed 2 ∷ reply.Value [] ∷ reply.Nothing ∷ []
 
 abbrev pub LastRecord : Type 0
@@ -44,7 +47,8 @@ LastRecord =
 -- a pending write keeps the readers of other sessions off until it is dropped
 abbrev pub WriteKeepsReadersOff : Type 0
 WriteKeepsReadersOff =
-    answers 63 (Some (Begin 0) ∷ Some (Write 0 7 (1 ∷ [])) ∷ Some (Begin 1) ∷ Some (Read 1 7) ∷ Some (Abort 0) ∷ Some (Read 1 7) ∷ [])
+    answers 63 (Some (Begin 0) ∷ Some (Write 0 7 (1 ∷ [])) ∷ Some (Begin 1) ∷ Some (Read 1 7) ∷ Some (Abort 0)
+    ∷ Some (Read 1 7) ∷ [])
     ≡ reply.Done ∷ reply.Done ∷ reply.Done ∷ reply.Busy 0 ∷ reply.Aborted ∷ reply.Nothing ∷ []
 
 -- a read keeps the writers of other sessions off until its session ends
@@ -62,13 +66,16 @@ ReadKeepsWritersOff =
 -- sessions that aren't there, or are there already
 abbrev pub SessionsRefused : Type 0
 SessionsRefused =
-    answers 63 (Some (Begin 8) ∷ Some (Read 0 0) ∷ Some (Begin 0) ∷ Some (Begin 0) ∷ Some (Set 5 (171 ∷ [])) ∷ Some (Get 5) ∷ [])
-    ≡ reply.Refused BadSession ∷ reply.Refused BadSession ∷ reply.Done ∷ reply.Refused BadSession ∷ reply.Committed 1 ∷ reply.Value (171 ∷ []) ∷ []
+    answers 63 (Some (Begin 8) ∷ Some (Read 0 0) ∷ Some (Begin 0) ∷ Some (Begin 0) ∷ Some (Set 5 (171 ∷ []))
+    ∷ Some (Get 5) ∷ [])
+    ≡ reply.Refused BadSession ∷ reply.Refused BadSession ∷ reply.Done ∷ reply.Refused BadSession ∷ reply.Committed 1
+    ∷ reply.Value (171 ∷ []) ∷ []
 
 -- a scan answers for the records that have a value, and for its first busy one
 abbrev pub ScanAmongWrites : Type 0
 ScanAmongWrites =
-    answers 63 (Some (Set 2 aa) ∷ Some (Set 4 []) ∷ Some (Begin 0) ∷ Some (Scan 0 0 6) ∷ Some (Begin 1) ∷ Some (Write 1 9 (1 ∷ []))
+    answers 63 (Some (Set 2 aa) ∷ Some (Set 4 []) ∷ Some (Begin 0) ∷ Some (Scan 0 0 6) ∷ Some (Begin 1)
+    ∷ Some (Write 1 9 (1 ∷ []))
     ∷ Some (Scan 0 5 8) ∷ Some (Set 6 (187 ∷ [])) ∷ Some (Scan 0 500 64) ∷ [])
     ≡ reply.Committed 1 ∷ reply.Committed 2 ∷ reply.Done
     ∷ reply.Items (record { number = 2; value = aa } ∷ record { number = 4; value = [] } ∷ [])
@@ -76,7 +83,8 @@ ScanAmongWrites =
 
 abbrev pub ErasedBeforeCommit : Type 0
 ErasedBeforeCommit =
-    answers 63 (Some (Begin 0) ∷ Some (Write 0 1 aa) ∷ Some (Erase 0 1) ∷ Some (Read 0 1) ∷ Some (Commit 0) ∷ Some (Get 1) ∷ [])
+    answers 63 (Some (Begin 0) ∷ Some (Write 0 1 aa) ∷ Some (Erase 0 1) ∷ Some (Read 0 1) ∷ Some (Commit 0)
+    ∷ Some (Get 1) ∷ [])
     ≡ reply.Done ∷ reply.Done ∷ reply.Done ∷ reply.Nothing ∷ reply.Committed 1 ∷ reply.Nothing ∷ []
 
 -- the lines after a quit aren't read
@@ -102,12 +110,14 @@ NoRoomWithoutCheckpoint =
 abbrev pub HundredSets : Type 0
 HundredSets =
     answers 15 (replicate 100 (Some (Set 0 aa)) ++ Some Stat ∷ [])
-    ≡ map reply.Committed (range_with_len 1 100) ++ reply.Stat (record { commits = 100; used = 3; owed = 0; cap = 15; active = 0 }) ∷ []
+    ≡ map reply.Committed (range_with_len 1 100)
+    ++ reply.Stat (record { commits = 100; used = 3; owed = 0; cap = 15; active = 0 }) ∷ []
 
 -- eight sessions want to begin, and the last one only can when another has ended and a checkpoint has made room
 abbrev pub eight_sessions : List Line
 eight_sessions =
-    Some (Begin 0) ∷ Some (Begin 1) ∷ Some (Begin 2) ∷ Some (Begin 3) ∷ Some (Begin 4) ∷ Some (Begin 5) ∷ Some (Begin 6) ∷ Some (Begin 7)
+    Some (Begin 0) ∷ Some (Begin 1) ∷ Some (Begin 2) ∷ Some (Begin 3) ∷ Some (Begin 4) ∷ Some (Begin 5) ∷ Some (Begin 6)
+    ∷ Some (Begin 7)
     ∷ Some (Commit 0) ∷ Some (Begin 7) ∷ []
 
 abbrev pub EightSessions : Type 0
@@ -137,7 +147,8 @@ FullFromTheStart =
 abbrev pub CheckpointOnlyAnswered : Type 0
 CheckpointOnlyAnswered =
     plain_answers 15 (Some (Set 0 aa) ∷ Some Checkpoint ∷ Some Stat ∷ [])
-    ≡ reply.Committed 1 ∷ reply.Checked ∷ reply.Stat (record { commits = 1; used = 3; owed = 0; cap = 15; active = 0 }) ∷ []
+    ≡ reply.Committed 1 ∷ reply.Checked
+    ∷ reply.Stat (record { commits = 1; used = 3; owed = 0; cap = 15; active = 0 }) ∷ []
 
 -- What a run asks of the cache.
 abbrev pub TouchesOfTwoReaders : Type 0
@@ -145,14 +156,17 @@ TouchesOfTwoReaders =
     run_touches true (turns true (fresh 63) two_readers [])
     ≡ touch 0 false ∷ touch 0 false ∷ touch 0 true ∷ touch 0 false ∷ []
 
--- an abort touches the pages of its writes from the last one back, and the set that finds the log full makes a checkpoint first
+-- an abort touches the pages of its writes from the last one back, and the set that finds the log full makes a
+-- checkpoint first
 abbrev pub TouchesOfAnAbort : Type 0
 TouchesOfAnAbort =
-    run_touches true (turns true (fresh 15) (Some (Begin 0) ∷ Some (Write 0 33 aa) ∷ Some (Write 0 64 aa) ∷ Some (Write 0 1 aa) ∷ Some (Abort 0) ∷ Some (Set 511 aa) ∷ []) [])
-    ≡ touch 1 true ∷ touch 2 true ∷ touch 0 true ∷ touch 0 true ∷ touch 2 true ∷ touch 1 true ∷ flush ∷ touch 15 true ∷ []
+    run_touches true (turns true (fresh 15) (Some (Begin 0) ∷ Some (Write 0 33 aa) ∷ Some (Write 0 64 aa)
+    ∷ Some (Write 0 1 aa) ∷ Some (Abort 0) ∷ Some (Set 511 aa) ∷ []) [])
+    ≡ touch 1 true ∷ touch 2 true ∷ touch 0 true ∷ touch 0 true ∷ touch 2 true ∷ touch 1 true ∷ flush
+    ∷ touch 15 true ∷ []
 
--- What may be left of a run. The opening was told, the text of the first line, which was no commit, and half of that of the
--- second. The second and the third were commits.
+-- What may be left of a run. The opening was told, the text of the first line, which was no commit, and half of that of
+-- the second. The second and the third were commits.
 abbrev pub told : List ℕ
 told = 1 ∷ 2 ∷ 3 ∷ []
 
@@ -191,7 +205,8 @@ abbrev pub second_transaction : List Turn
 second_transaction = since_begin true 0 (reverse (take 8 two_readers_run))
 
 abbrev pub SecondTransaction : Type 0
-SecondTransaction = lines_of second_transaction ≡ Some (Begin 0) ∷ Some (Read 0 9) ∷ Some (Write 0 9 aa) ∷ Some (Commit 0) ∷ []
+SecondTransaction = lines_of second_transaction
+    ≡ Some (Begin 0) ∷ Some (Read 0 9) ∷ Some (Write 0 9 aa) ∷ Some (Commit 0) ∷ []
 
 abbrev pub second_answers : List Reply
 second_answers = reply.Done ∷ reply.Nothing ∷ reply.Done ∷ reply.Committed 2 ∷ []
@@ -200,7 +215,8 @@ abbrev pub AnsweredAmongOthers : Type 0
 AnsweredAmongOthers = replies second_transaction ≡ second_answers
 
 abbrev pub AnsweredAlone : Type 0
-AnsweredAlone = replies (turns true (opened (after_commits blank two_readers_run 1) 1 0 16) (lines_of second_transaction) []) ≡ second_answers
+AnsweredAlone = replies (turns true (opened (after_commits blank two_readers_run 1) 1 0 16)
+    (lines_of second_transaction) []) ≡ second_answers
 
 -- Three sessions, over a log of 16 blocks. One scans what the two others read and write, one is refused in between, and
 -- the begin of the session that is left unfinished makes a checkpoint first.
@@ -265,6 +281,8 @@ ReadingAlone =
     ≡ Some (Begin 0) ∷ Some (Read 0 2) ∷ Some (Write 0 2 (204 ∷ [])) ∷ Some (Read 0 2) ∷ Some (Scan 0 0 7)
     ∷ Some (Commit 0) ∷ [])
     × (replies reading
-    ≡ reply.Done ∷ reply.Value aa ∷ reply.Done ∷ reply.Value (204 ∷ []) ∷ reply.Items new_items ∷ reply.Committed 4 ∷ [])
+    ≡ reply.Done ∷ reply.Value aa ∷ reply.Done ∷ reply.Value (204 ∷ []) ∷ reply.Items new_items
+    ∷ reply.Committed 4 ∷ [])
     × (alone_after 3 reading
-    ≡ reply.Done ∷ reply.Value aa ∷ reply.Done ∷ reply.Value (204 ∷ []) ∷ reply.Items new_items ∷ reply.Committed 4 ∷ [])
+    ≡ reply.Done ∷ reply.Value aa ∷ reply.Done ∷ reply.Value (204 ∷ []) ∷ reply.Items new_items
+    ∷ reply.Committed 4 ∷ [])

@@ -1,5 +1,6 @@
 -- Whole runs: what each line is answered, which commits it makes, and what a crash may leave of them.
-use Rattle.std.specs.Prelude.{ℕ, zero, suc, ◌+◌, ◌-◌, ◌≤◌, Bool, true, false, List, [], ◌∷◌, length, map, filter, take, drop, count_by, slice_index_or, nat_eq, Option, Some, None, if◌then◌else◌}
+use Rattle.std.specs.Prelude.{ℕ, zero, suc, ◌+◌, ◌-◌, ◌≤◌, Bool, true, false, List, [], ◌∷◌, length, map, filter, take}
+use Rattle.std.specs.Prelude.{drop, count_by, slice_index_or, nat_eq, Option, Some, None, if◌then◌else◌}
 use Rattle.std.specs.List.{starts_with}
 use Rattle.record_model.specs.declared.words.Command.{Command}
 use Rattle.record_model.specs.declared.words.Command.TheVariants.{Cache, Quit}
@@ -43,7 +44,12 @@ pub record Turn : Type 0 where
   pub after : State
 
 abbrev pub turn : Bool → State → Line → List CacheLine → Turn
-turn checkpoints s line listing = let o = line_step checkpoints s line listing in record { before = s; line = line; reply = o.reply; after = o.after }
+turn checkpoints s line listing = let o = line_step checkpoints s line listing in record {
+  before = s;
+  line = line;
+  reply = o.reply;
+  after = o.after;
+}
 
 -- the turns of a run, up to the one that quits
 abbrev pub turns : Bool → State → List Line → List (List CacheLine) → List Turn
@@ -97,7 +103,8 @@ after_commits table run k = slice_index_or (table ∷ committed_tables run) k ta
 -- how many of the texts stand whole, one after the other, at the front of what was told
 abbrev pub whole_texts : List ℕ → List (List ℕ) → ℕ
 whole_texts told [] = 0
-whole_texts told (text ∷ texts) = if starts_with nat_eq told text then 1 + whole_texts (drop (length text) told) texts else 0
+whole_texts told (text ∷ texts) =
+    if starts_with nat_eq told text then 1 + whole_texts (drop (length text) told) texts else 0
 
 -- The text of the opening comes first, and then one for each turn. The commits whose replies were told whole are
 -- acknowledged. That of the next turn, if it is one, was asked for.

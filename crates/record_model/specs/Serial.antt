@@ -1,12 +1,15 @@
 -- Serial order: each transaction answers as if it had run alone at the moment of its commit.
-use Rattle.std.specs.Prelude.{◌≡◌, ◌⊎◌, ℕ, ◌+◌, ◌*◌, ◌≤◌, ◌==◌, Bool, true, false, ◌&&◌, List, [], ◌∷◌, ◌++◌, length, map, filter, reverse, Option, Some, None, is_some, IsTrue, if◌then◌else◌}
+use Rattle.std.specs.Prelude.{◌≡◌, ◌⊎◌, ℕ, ◌+◌, ◌*◌, ◌≤◌, ◌==◌, Bool, true, false, ◌&&◌, List, [], ◌∷◌, ◌++◌, length}
+use Rattle.std.specs.Prelude.{map, filter, reverse, Option, Some, None, is_some, IsTrue, if◌then◌else◌}
 use Rattle.std.specs.List.{list_any}
 use Rattle.record_model.specs.declared.words.Command.{Command}
-use Rattle.record_model.specs.declared.words.Command.TheVariants.{Begin, Read, Write, Erase, Scan, Commit, Abort, Get, Set}
+use Rattle.record_model.specs.declared.words.Command.TheVariants.{Begin, Read, Write, Erase, Scan, Commit, Abort, Get}
+use Rattle.record_model.specs.declared.words.Command.TheVariants.{Set}
 use Rattle.record_model.specs.declared.words.CacheLine.{CacheLine}
 use Rattle.record_model.specs.State.{Content, State, content_at, opened, session_at}
 use Rattle.record_model.specs.Step.{found, is_accepted}
-use Rattle.record_model.specs.Run.{Line, Turn, turns, replies, left_by, is_committed, commit_marks, commits_among, after_commits}
+use Rattle.record_model.specs.Run.{Line, Turn, turns, replies, left_by, is_committed, commit_marks, commits_among}
+use Rattle.record_model.specs.Run.{after_commits}
 
 -- the session that a command is of
 abbrev pub session_of : Command → Option ℕ
@@ -87,8 +90,8 @@ abbrev pub table_before : List Content → List Turn → List Turn → Turn → 
 table_before table earlier later t = after_commits table (earlier ++ t ∷ later) (commits_before earlier later t)
 
 -- A transaction gives its replies again where it runs alone, on the table and from the count of the commits before it.
--- The log has no limit there: the cap is any number that has room for four log records for each of its commands, so that
--- no reply is `Full`.
+-- The log has no limit there: the cap is any number that has room for four log records for each of its commands, so
+-- that no reply is `Full`.
 abbrev pub AnswersAlone : Bool → List Content → ℕ → List Turn → List Turn → Turn → Type 0
 AnswersAlone checkpoints table commits earlier later t =
     let own = transaction checkpoints t (reverse earlier) in
@@ -106,8 +109,8 @@ LeavesItsTable checkpoints table commits earlier later t =
     (left_by alone (turns checkpoints alone (lines_of own) [])).table
     ≡ after_commits table (earlier ++ t ∷ later) (commits_before earlier later t + 1)
 
--- A session that is active behind a turn has been answered so far as it would be alone, on the table of that moment. So a
--- session that aborts, or that is left unfinished, has seen one table too.
+-- A session that is active behind a turn has been answered so far as it would be alone, on the table of that moment. So
+-- a session that aborts, or that is left unfinished, has seen one table too.
 abbrev pub AnswersSoFar : Bool → List Content → ℕ → List Turn → List Turn → Turn → Type 0
 AnswersSoFar checkpoints table commits earlier later t =
     (n : ℕ) → IsTrue (is_some (session_at t.after n)) → (cap : ℕ) →
@@ -123,7 +126,8 @@ GetsTheTable checkpoints table earlier later t =
     (number : ℕ) → t.line ≡ Some (Get number) → IsTrue (is_accepted checkpoints t.before (Get number)) →
     t.reply ≡ found (content_at (table_before table earlier later t) number)
 
-pub record IsSerial (checkpoints : Bool) (table : List Content) (commits : ℕ) (earlier later : List Turn) (t : Turn) : Type 0 where
+pub record IsSerial (checkpoints : Bool) (table : List Content) (commits : ℕ) (earlier later : List Turn)
+    (t : Turn) : Type 0 where
   pub whole : IsTrue (is_committed t.reply) →
       IsTransaction checkpoints earlier t (transaction checkpoints t (reverse earlier))
   pub alone : AnswersAlone checkpoints table commits earlier later t

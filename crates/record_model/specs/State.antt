@@ -1,5 +1,7 @@
 -- The record table, its sessions, and the budget of the log.
-use Rattle.std.specs.Prelude.{ℕ, ◌+◌, ◌-◌, ◌/◌, ◌==◌, Bool, true, not, ◌&&◌, ◌||◌, nat_le, min, List, [], ◌∷◌, length, fold, sum_by, find, filter_map, replicate, slice_index_or, slice_set, Option, Some, None, unwrap_or, if◌then◌else◌}
+use Rattle.std.specs.Prelude.{ℕ, ◌+◌, ◌-◌, ◌/◌, ◌==◌, Bool, true, not, ◌&&◌, ◌||◌, nat_le, min, List, [], ◌∷◌, length}
+use Rattle.std.specs.Prelude.{fold, sum_by, find, filter_map, replicate, slice_index_or, slice_set, Option, Some, None}
+use Rattle.std.specs.Prelude.{unwrap_or, if◌then◌else◌}
 use Rattle.std.specs.List.{list_any, range_with_len}
 use Rattle.std.specs.Option.{option_or}
 
@@ -11,7 +13,8 @@ Content = Option (List ℕ)
 abbrev pub Write : Type 0
 Write = ℕ × Content
 
--- an active session: how many log records were made before it, what it has written, the last write last, and which records it has read
+-- an active session: how many log records were made before it, what it has written, the last write last, and which
+-- records it has read
 pub record Session : Type 0 where
   pub born : ℕ
   pub writes : List Write
@@ -33,7 +36,14 @@ session_count = 8
 -- A run begins with this table and this many commits, with no active session. So many log records count as made before
 -- its first command, and it has so many blocks of the log to use.
 abbrev pub opened : List Content → ℕ → ℕ → ℕ → State
-opened table commits made cap = record { table = table; commits = commits; sessions = replicate session_count None; made = made; kept = 0; cap = cap }
+opened table commits made cap = record {
+  table = table;
+  commits = commits;
+  sessions = replicate session_count None;
+  made = made;
+  kept = 0;
+  cap = cap;
+}
 
 -- what a record has in a table
 abbrev pub content_at : List Content → ℕ → Content
@@ -47,7 +57,8 @@ table_with table (write ∷ writes) = table_with (slice_set table write.0 write.
 -- what the last of the writes on a record wrote there
 abbrev pub last_write : List Write → ℕ → Option Content
 last_write [] number = None
-last_write (write ∷ writes) number = option_or (last_write writes number) (if write.0 == number then Some write.1 else None)
+last_write (write ∷ writes) number =
+    option_or (last_write writes number) (if write.0 == number then Some write.1 else None)
 
 -- the session of a number, where it is active
 abbrev pub session_at : State → ℕ → Option Session
@@ -83,7 +94,8 @@ abbrev pub busy_read : State → Option ℕ → ℕ → Option ℕ
 busy_read s own number = find (λ n. is_other own n && has_written s n number) (range_with_len 0 session_count)
 
 abbrev pub busy_write : State → Option ℕ → ℕ → Option ℕ
-busy_write s own number = find (λ n. is_other own n && (has_written s n number || has_read s n number)) (range_with_len 0 session_count)
+busy_write s own number = find (λ n. is_other own n
+    && (has_written s n number || has_read s n number)) (range_with_len 0 session_count)
 
 abbrev pub active_sessions : State → List Session
 active_sessions s = filter_map (λ session. session) s.sessions

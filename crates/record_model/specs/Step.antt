@@ -1,15 +1,20 @@
 -- What each command answers, and what it leaves.
-use Rattle.std.specs.Prelude.{ℕ, ◌+◌, ◌-◌, Bool, true, false, not, ◌&&◌, ◌||◌, nat_lt, nat_le, List, [], ◌∷◌, ◌++◌, length, map, filter_map, slice_set, Option, Some, None, option_map, is_none, is_some, if◌then◌else◌}
+use Rattle.std.specs.Prelude.{ℕ, ◌+◌, ◌-◌, Bool, true, false, not, ◌&&◌, ◌||◌, nat_lt, nat_le, List, [], ◌∷◌, ◌++◌}
+use Rattle.std.specs.Prelude.{length, map, filter_map, slice_set, Option, Some, None, option_map, is_none, is_some}
+use Rattle.std.specs.Prelude.{if◌then◌else◌}
 use Rattle.std.specs.List.{range_with_len}
 use Rattle.byte_fields.specs.declared.TheConstants.{VALUE_MAX}
 use Rattle.record_model.specs.declared.words.Command.{Command}
-use Rattle.record_model.specs.declared.words.Command.TheVariants.{Begin, Read, Write, Erase, Scan, Commit, Abort, Get, Set, Checkpoint, Cache, Stat, Quit}
+use Rattle.record_model.specs.declared.words.Command.TheVariants.{Begin, Read, Write, Erase, Scan, Commit, Abort, Get}
+use Rattle.record_model.specs.declared.words.Command.TheVariants.{Set, Checkpoint, Cache, Stat, Quit}
 use Rattle.record_model.specs.declared.words.Why.TheVariants.{BadSession, NoRecord, TooLong}
 use Rattle.record_model.specs.declared.words.Item.{Item}
 use Rattle.record_model.specs.declared.words.CacheLine.{CacheLine}
 use Rattle.record_model.specs.declared.words.Reply.{Reply}
 use Rattle.record_model.specs.declared.words.Reply.TheVariants as reply
-use Rattle.record_model.specs.State.{Content, Session, State, session_count, content_at, table_with, session_at, writes_of, seen, busy_read, busy_write, active_sessions, used, owed, kept_by_checkpoint, is_due}
+use Rattle.record_model.specs.State.{Content, Session, State, session_count, content_at, table_with, session_at}
+use Rattle.record_model.specs.State.{writes_of, seen, busy_read, busy_write, active_sessions, used, owed}
+use Rattle.record_model.specs.State.{kept_by_checkpoint, is_due}
 use Rattle.record_model.specs.State as state
 
 -- Tests. Each gives the reply that refuses the command, or none where it is passed.
@@ -44,9 +49,12 @@ may_write s own number = option_map reply.Busy (busy_write s own number)
 abbrev pub refusal : State → Command → Option Reply
 refusal s (Begin n) = wants_free s n
 refusal s (Read n number) = first_refusal (wants_active s n ∷ wants_record s number ∷ may_read s (Some n) number ∷ [])
-refusal s (Write n number value) = first_refusal (wants_active s n ∷ wants_record s number ∷ wants_short value ∷ may_write s (Some n) number ∷ [])
+refusal s (Write n number value) =
+    first_refusal (wants_active s n ∷ wants_record s number ∷ wants_short value ∷ may_write s (Some n) number ∷ [])
 refusal s (Erase n number) = first_refusal (wants_active s n ∷ wants_record s number ∷ may_write s (Some n) number ∷ [])
-refusal s (Scan n number count) = first_refusal (wants_active s n ∷ wants_record s (number + count - 1) ∷ map (may_read s (Some n)) (range_with_len number count))
+refusal s (Scan n number count) =
+    first_refusal (wants_active s n ∷ wants_record s (number + count - 1)
+    ∷ map (may_read s (Some n)) (range_with_len number count))
 refusal s (Commit n) = wants_active s n
 refusal s (Abort n) = wants_active s n
 refusal s (Get number) = first_refusal (wants_record s number ∷ may_read s None number ∷ [])
@@ -56,7 +64,8 @@ refusal s Cache = None
 refusal s Stat = None
 refusal s Quit = None
 
--- The log's budget. Where checkpoints are made, a begin and a set make one first where it is due, and the command itself does.
+-- The log's budget. Where checkpoints are made, a begin and a set make one first where it is due, and the command
+-- itself does.
 
 abbrev pub asks_for_checkpoint : State → Command → Bool
 asks_for_checkpoint s (Begin n) = is_due s
@@ -69,7 +78,10 @@ wants_checkpoint checkpoints s command = checkpoints && asks_for_checkpoint s co
 
 -- the state in which a command that its tests let through is carried out
 abbrev pub ready : Bool → State → Command → State
-ready checkpoints s command = record s { kept = if wants_checkpoint checkpoints s command then kept_by_checkpoint s else s.kept }
+ready checkpoints s command = record s {
+  kept =
+      if wants_checkpoint checkpoints s command then kept_by_checkpoint s else s.kept;
+}
 
 -- whether the cap has no room for the log records that a command may come to need
 abbrev pub lacks_room : State → Command → Bool
@@ -87,7 +99,8 @@ abbrev pub makes_checkpoint : Bool → State → Command → Bool
 makes_checkpoint checkpoints s command = wants_checkpoint checkpoints s command && is_none (refusal s command)
 
 abbrev pub is_accepted : Bool → State → Command → Bool
-is_accepted checkpoints s command = is_none (refusal s command) && not (lacks_room (ready checkpoints s command) command)
+is_accepted checkpoints s command = is_none (refusal s command)
+    && not (lacks_room (ready checkpoints s command) command)
 
 -- What an accepted command leaves.
 
@@ -109,9 +122,11 @@ committed s writes = record s { table = table_with s.table writes; commits = s.c
 abbrev pub effect : State → Command → State
 effect s (Begin n) = making 1 (with_session s n (Some (record { born = s.made; writes = []; reads = [] })))
 effect s (Read n number) = with_session s n (option_map (having_read (number ∷ [])) (session_at s n))
-effect s (Write n number value) = making 1 (with_session s n (option_map (having_written (number, Some value)) (session_at s n)))
+effect s (Write n number value) =
+    making 1 (with_session s n (option_map (having_written (number, Some value)) (session_at s n)))
 effect s (Erase n number) = making 1 (with_session s n (option_map (having_written (number, None)) (session_at s n)))
-effect s (Scan n number count) = with_session s n (option_map (having_read (range_with_len number count)) (session_at s n))
+effect s (Scan n number count) =
+    with_session s n (option_map (having_read (range_with_len number count)) (session_at s n))
 effect s (Commit n) = making 1 (with_session (committed s (writes_of (session_at s n))) n None)
 effect s (Abort n) = making (length (writes_of (session_at s n)) + 1) (with_session s n None)
 effect s (Get number) = s
@@ -142,7 +157,13 @@ answer s (Get number) listing = found (content_at s.table number)
 answer s (Set number value) listing = reply.Committed (s.commits + 1)
 answer s Checkpoint listing = reply.Checked
 answer s Cache listing = reply.Listing listing
-answer s Stat listing = reply.Stat (record { commits = s.commits; used = used s; owed = owed s; cap = s.cap; active = length (active_sessions s) })
+answer s Stat listing = reply.Stat (record {
+  commits = s.commits;
+  used = used s;
+  owed = owed s;
+  cap = s.cap;
+  active = length (active_sessions s);
+})
 answer s Quit listing = reply.Bye
 
 -- The step.
@@ -162,7 +183,7 @@ abbrev pub outcome : Bool → State → Command → List CacheLine → Option Re
 outcome checkpoints s command listing (Some refused) = record { after = s; reply = refused }
 outcome checkpoints s command listing None = carried_out (ready checkpoints s command) command listing
 
--- What a command answers, and the state that it leaves, where the cache has this listing. The first argument says whether
--- checkpoints are made.
+-- What a command answers, and the state that it leaves, where the cache has this listing. The first argument says
+-- whether checkpoints are made.
 abbrev pub step : Bool → State → Command → List CacheLine → Outcome
 step checkpoints s command listing = outcome checkpoints s command listing (refusal s command)

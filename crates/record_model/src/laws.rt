@@ -1,14 +1,16 @@
 // Facts about the model. The functions do nothing: each states its law as a clause.
-ghost use Rattle.record_model.specs.Laws.{CommitsOnce, RefusedChangesNothing, RefusalsAreTold, SizesStay, EachLineHasATurn, TurnsFollow, CommitsMakeTheTable};
+ghost use Rattle.record_model.specs.Laws.{CommitsOnce, RefusedChangesNothing, RefusalsAreTold, SizesStay};
+ghost use Rattle.record_model.specs.Laws.{EachLineHasATurn, TurnsFollow, CommitsMakeTheTable};
 ghost use Rattle.record_model.specs.Serial.{GetsAreSerial, Serial};
 
-/// A line commits at most once: the reply `Committed` names the count of commits, which has then risen by one, and after
-/// every other reply the table and the count are as they were.
+/// A line commits at most once: the reply `Committed` names the count of commits, which has then risen by one, and
+/// after every other reply the table and the count are as they were.
 pub fn commits_once()
     ensures { CommitsOnce }
 {}
 
-/// A command that isn't carried out leaves the state as it was, but for the checkpoint that may come before its refusal.
+/// A command that isn't carried out leaves the state as it was, but for the checkpoint that may come before its
+/// refusal.
 pub fn refused_changes_nothing()
     ensures { RefusedChangesNothing }
 {}
@@ -43,9 +45,9 @@ pub fn gets_are_serial()
     ensures { GetsAreSerial }
 {}
 
-/// Whatever the interleaving of the sessions, each transaction answers as if it had run alone, on the table of the commits
-/// before its own and with room enough in the log, and leaves there the table that its commit made in the run. An active
-/// session has at each moment been answered as alone on the table of that moment.
+/// Whatever the interleaving of the sessions, each transaction answers as if it had run alone, on the table of the
+/// commits before its own and with room enough in the log, and leaves there the table that its commit made in the run.
+/// An active session has at each moment been answered as alone on the table of that moment.
 pub fn serial_order()
     ensures { Serial }
 {}

@@ -1,6 +1,15 @@
-// Runs that were worked out by hand, which the model answers as it should. The functions do nothing: each states rows as clauses.
-ghost use Rattle.record_model.specs.Rows.{LongestValue, LastRecord, WriteKeepsReadersOff, ReadKeepsWritersOff, SessionsRefused, ScanAmongWrites, ErasedBeforeCommit, QuitEnds, CheckpointMakesRoom, NoRoomWithoutCheckpoint, HundredSets, EightSessions, SevenSessionsWithoutCheckpoint, FourSetsFillTheLog, FullFromTheStart, CheckpointOnlyAnswered, TouchesOfTwoReaders, TouchesOfAnAbort, AcknowledgedNone, AskedForOne, AcknowledgedOne, AskedForTwo, AskedForNone, AskedForAll, SecondTransaction, AnsweredAmongOthers, AnsweredAlone, ThreeSessions, ScanningAlone, WritingAlone, ReadingAlone};
-ghost use Rattle.record_model.specs.Faults.{ReadLocksKeepWritersOff, ReadsDifferWithoutLocks, ScanLocksItsRange, ScansDifferWithFewLocks, GetKeptOff, GetSeesWhatIsNotThere};
+// Runs that were worked out by hand, which the model answers as it should. The functions do nothing: each states rows
+// as clauses.
+ghost use Rattle.record_model.specs.Rows.{LongestValue, LastRecord, WriteKeepsReadersOff, ReadKeepsWritersOff};
+ghost use Rattle.record_model.specs.Rows.{SessionsRefused, ScanAmongWrites, ErasedBeforeCommit, QuitEnds};
+ghost use Rattle.record_model.specs.Rows.{CheckpointMakesRoom, NoRoomWithoutCheckpoint, HundredSets, EightSessions};
+ghost use Rattle.record_model.specs.Rows.{SevenSessionsWithoutCheckpoint, FourSetsFillTheLog, FullFromTheStart};
+ghost use Rattle.record_model.specs.Rows.{CheckpointOnlyAnswered, TouchesOfTwoReaders, TouchesOfAnAbort};
+ghost use Rattle.record_model.specs.Rows.{AcknowledgedNone, AskedForOne, AcknowledgedOne, AskedForTwo, AskedForNone};
+ghost use Rattle.record_model.specs.Rows.{AskedForAll, SecondTransaction, AnsweredAmongOthers, AnsweredAlone};
+ghost use Rattle.record_model.specs.Rows.{ThreeSessions, ScanningAlone, WritingAlone, ReadingAlone};
+ghost use Rattle.record_model.specs.Faults.{ReadLocksKeepWritersOff, ReadsDifferWithoutLocks, ScanLocksItsRange};
+ghost use Rattle.record_model.specs.Faults.{ScansDifferWithFewLocks, GetKeptOff, GetSeesWhatIsNotThere};
 
 /// The longest value, one octet more, the empty value, and the last record.
 pub fn rows_of_values()
@@ -57,8 +66,8 @@ pub fn rows_of_serial_order()
     ensures reading_alone { ReadingAlone }
 {}
 
-/// What the locks are for: with a step that takes no read locks, whose scans lock only what they find, or whose `get` sees
-/// pending writes, there are runs that aren't in serial order.
+/// What the locks are for: with a step that takes no read locks, whose scans lock only what they find, or whose `get`
+/// sees pending writes, there are runs that aren't in serial order.
 pub fn rows_of_faulty_steps()
     ensures read_locks { ReadLocksKeepWritersOff }
     ensures without_read_locks { ReadsDifferWithoutLocks }

@@ -21,7 +21,8 @@ use Rattle.redo_undo.specs.Holding.{MayGoOn, IsLogWorn, blocks_to}
 use Rattle.redo_undo.specs.Numbers.{SkipsNone}
 
 -- A call of log and pages, on every site: after Ok they may go on, and what sizes them stays.
-pub record Works {T : Type 0} (result : Result T Stop) (old new : LogStore) (pages pages' : PageStore) (before now : State) : Type 0 where
+pub record Works {T : Type 0} (result : Result T Stop) (old new : LogStore) (pages pages' : PageStore)
+    (before now : State) : Type 0 where
   pub calls : Calls result before now
   pub going : OnOk result (MayGoOn new pages' now)
   pub rises : OnOk result (end_of old ≤ end_of new)
@@ -32,13 +33,15 @@ pub record Works {T : Type 0} (result : Result T Stop) (old new : LogStore) (pag
   pub stops : IfErr result (λ stop. MayStop stop)
 
 -- The same where it logs no record, and reads none.
-pub record LogsNothing {T : Type 0} (result : Result T Stop) (old new : LogStore) (pages pages' : PageStore) (before now : State) : Type 0 where
+pub record LogsNothing {T : Type 0} (result : Result T Stop) (old new : LogStore) (pages pages' : PageStore)
+    (before now : State) : Type 0 where
   pub works : Works result old new pages pages' before now
   pub blocks : OnOk result (blocks_to new ≡ blocks_to old)
   pub hi : OnOk result (old.ring.hi ≤ new.ring.hi)
   pub log_reads : now.log_reads ≡ before.log_reads
 
--- A call of the log alone, on every site: nothing is read, no other device is written, and any pages that might go on beside it still may.
+-- A call of the log alone, on every site: nothing is read, no other device is written, and any pages that might go on
+-- beside it still may.
 pub record WorksBeside {T : Type 0} (result : Result T Stop) (old new : LogStore) (before now : State) : Type 0 where
   pub calls : Calls result before now
   pub going : (pages : PageStore) → MayGoOn old pages before → OnOk result (MayGoOn new pages now)
@@ -58,10 +61,11 @@ pub record ReadsOne {T : Type 0} (result : Result T Stop) (before now : State) :
   pub stops : IfErr result (λ stop. (stop ≡ Device Log) ⊎ (stop ≡ Foreign))
   pub faults : WorkFaults result before now
 
--- Of an honest site on which log and pages hold together: each crash meanwhile leaves P, no ring skips a number, a site on which no device
--- failed is quiet, a ring is said to be worn only where it stands at its end, what is read is of the form, and but for checkpoints no
--- master is saved.
-pub record Keeps {T : Type 0} (result : Result T Stop) (g : Geometry) (old new : LogStore) (before now : State) (P : Snapshot → Type 0) (records checkpoints : ℕ) : Type 0 where
+-- Of an honest site on which log and pages hold together: each crash meanwhile leaves P, no ring skips a number, a site
+-- on which no device failed is quiet, a ring is said to be worn only where it stands at its end, what is read is of the
+-- form, and but for checkpoints no master is saved.
+pub record Keeps {T : Type 0} (result : Result T Stop) (g : Geometry) (old new : LogStore) (before now : State)
+    (P : Snapshot → Type 0) (records checkpoints : ℕ) : Type 0 where
   pub any_moment : IsQuiet before → LeavesOnly before now P
   pub numbers : IsQuiet before → SkipsNone result g old new before now records checkpoints
   pub quiet : IsQuiet before → IfErr result (λ stop. ((d : Dev) → stop ≢ Device d) → IsQuiet now)
@@ -71,7 +75,8 @@ pub record Keeps {T : Type 0} (result : Result T Stop) (g : Geometry) (old new :
   pub masters : checkpoints ≡ 0 → OnOk result (KeepsUnits master_shape before.image now.image)
 
 -- The same of a call of the log alone, beside pages with which it holds together.
-pub record KeepsBeside {T : Type 0} (result : Result T Stop) (old new : LogStore) (pages : PageStore) (before now : State) (P : Snapshot → Type 0) (records : ℕ) : Type 0 where
+pub record KeepsBeside {T : Type 0} (result : Result T Stop) (old new : LogStore) (pages : PageStore)
+    (before now : State) (P : Snapshot → Type 0) (records : ℕ) : Type 0 where
   pub any_moment : MayGoOn old pages before → IsQuiet before → LeavesOnly before now P
   pub numbers : MayGoOn old pages before → IsQuiet before → SkipsNone result old.geometry old new before now records 0
   pub quiet : IsQuiet before → IfErr result (λ stop. ((d : Dev) → stop ≢ Device d) → IsQuiet now)

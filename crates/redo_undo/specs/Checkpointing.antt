@@ -22,15 +22,17 @@ use Rattle.image_meaning.specs.Beside.{RingsSaved}
 use Rattle.image_meaning.specs.Redone.{VersionIsRedone, RedoneIsCurrent}
 use Rattle.image_meaning.specs.Moments.{UnderLeavesFor}
 use Rattle.image_meaning.specs.Flushed.{OldestIsThere, MasterIsSaved}
-use Rattle.image_meaning.specs.Checkpoints.{CheckpointMaySave, SavedPicture, SavedIsSound, SavedMeans, SavedIsOrderly, SaveStands}
+use Rattle.image_meaning.specs.Checkpoints.{CheckpointMaySave, SavedPicture, SavedIsSound, SavedMeans, SavedIsOrderly}
+use Rattle.image_meaning.specs.Checkpoints.{SaveStands}
 
 -- These are the unfinished transactions of some records, each with the LSN of its last one.
 pub record AreUnfinished (records : List Entry) (active : List Pair) : Type 0 where
-  pub each : AllByRecursion (λ pair. (is_loser records pair.begin ≡ true) × (pair.last ≡ last_lsn (entries_of pair.begin records))) active
+  pub each : AllByRecursion (λ pair. (is_loser records pair.begin ≡ true)
+      × (pair.last ≡ last_lsn (entries_of pair.begin records))) active
   pub all : (t : ℕ) → is_loser records t ≡ true → list_any (λ pair. pair.begin == t) active ≡ true
 
--- A checkpoint with these active transactions may be made: they are the unfinished ones, and the master ring is the one that stands
--- there. The log is orderly, or none of its blocks is needed.
+-- A checkpoint with these active transactions may be made: they are the unfinished ones, and the master ring is the one
+-- that stands there. The log is orderly, or none of its blocks is needed.
 pub record MayBeMade (masters : Ring) (site : State) (records : List Entry) (active : List Pair) : Type 0 where
   pub ring : Finds masters site
   pub unfinished : AreUnfinished records active
@@ -42,9 +44,10 @@ pub record KeepUnfinished (records kept : List Entry) : Type 0 where
   pub entries : (t : ℕ) → is_loser records t ≡ true → entries_of t kept ≡ entries_of t records
   pub owes : owed kept ≡ owed records
 
--- A master was saved: under it log and pages hold the records from its oldest kept block on, which are in order, and among them all
--- records of unfinished transactions. The ring of master units is the one that stands there.
-pub record IsSaved (log : LogStore) (pages : PageStore) (masters : Ring) (site : State) (records : List Entry) (table : List Content) (commits : ℕ) (master : Master) : Type 0 where
+-- A master was saved: under it log and pages hold the records from its oldest kept block on, which are in order, and
+-- among them all records of unfinished transactions. The ring of master units is the one that stands there.
+pub record IsSaved (log : LogStore) (pages : PageStore) (masters : Ring) (site : State) (records : List Entry)
+    (table : List Content) (commits : ℕ) (master : Master) : Type 0 where
   pub holds : Holds log pages site (Some master) (from_block master.kept records) table commits
   pub orderly : AreOrderly (from_block master.kept records)
   pub keeps : KeepUnfinished records (from_block master.kept records)

@@ -30,12 +30,18 @@ pub record MayCommit (newest : Option Master) (records : List Entry) (txn number
   pub chain : IsLoserChain txn (entries_of txn records)
   pub number_is : number ≡ commits + 1
 
--- Log and pages hold together under a newest master with these records, and the log's tail ends with one more, whatever that is.
-pub record EndsWith (g : Geometry) (log : LogStore) (pages : PageStore) (site : State) (newest : Option Master) (records : List Entry) (table : List Content) (commits : ℕ) (last : Entry) : Type 0 where
+-- Log and pages hold together under a newest master with these records, and the log's tail ends with one more, whatever
+-- that is.
+pub record EndsWith (g : Geometry) (log : LogStore) (pages : PageStore) (site : State) (newest : Option Master)
+    (records : List Entry) (table : List Content) (commits : ℕ) (last : Entry) : Type 0 where
   pub kept : log.kept ≡ kept_by newest
   pub blocks : List (List LogRecord)
   pub front : List LogRecord
-  pub ready : AreReady pages log (record { first = kept_by newest; blocks = blocks; tail = front ++ last.rec ∷ [] }) site
+  pub ready : AreReady pages log (record {
+    first = kept_by newest;
+    blocks = blocks;
+    tail = front ++ last.rec ∷ [];
+  }) site
   pub rings : AreRingsSoundUnder newest g site.image
   pub runs_on : RunsOn (picture_under newest g site.image blocks) front records table commits
   pub next : last.lsn ≡ next_lsn (picture_under newest g site.image blocks) front

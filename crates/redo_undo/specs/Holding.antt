@@ -1,5 +1,6 @@
 -- What the log and the pages hold together.
-use Rattle.std.specs.Prelude.{◌≡◌, ◌⊎◌, ℕ, ◌+◌, ◌-◌, ◌/◌, ◌^◌, ◌≤◌, ◌<◌, if◌then◌else◌, List, [], ◌∷◌, ◌++◌, Some, None, Option}
+use Rattle.std.specs.Prelude.{◌≡◌, ◌⊎◌, ℕ, ◌+◌, ◌-◌, ◌/◌, ◌^◌, ◌≤◌, ◌<◌, if◌then◌else◌, List, [], ◌∷◌, ◌++◌, Some, None}
+use Rattle.std.specs.Prelude.{Option}
 use Rattle.site.specs.declared.geometry.Geometry.{Geometry}
 use Rattle.site.specs.State.{State, Image}
 use Rattle.sealed_ring.specs.Ring.{hi_of}
@@ -30,16 +31,19 @@ use Rattle.redo_undo.specs.Running.{RunsOn}
 abbrev pub blocks_to : LogStore → ℕ
 blocks_to log = log.ring.hi + (if has_tail log then 1 else 0)
 
--- Of every site: log and pages may go on. From the kept block on there are no more blocks than can be live, the tail as one of them.
+-- Of every site: log and pages may go on. From the kept block on there are no more blocks than can be live, the tail as
+-- one of them.
 pub record MayGoOn (log : LogStore) (pages : PageStore) (site : State) : Type 0 where
   pub log_going : log_held.MayGoOn log site
   pub pages_going : page_held.MayGoOn pages site
   pub sizes : log.geometry ≡ pages.flash.geometry
   pub room : blocks_to log < log.kept + log.geometry.blocks
 
--- Of an honest site, whatever is loose, but for what the pages show, under a newest master: log and pages fit it, and the log keeps the blocks that the master
--- keeps, with these records. What is sealed of them stands for this table after so many commits. The log is ahead of the pages, and has room to undo all.
-pub record HoldsLog (g : Geometry) (log : LogStore) (pages : PageStore) (site : State) (newest : Option Master) (records : List Entry) (table : List Content) (commits : ℕ) : Type 0 where
+-- Of an honest site, whatever is loose, but for what the pages show, under a newest master: log and pages fit it, and
+-- the log keeps the blocks that the master keeps, with these records. What is sealed of them stands for this table
+-- after so many commits. The log is ahead of the pages, and has room to undo all.
+pub record HoldsLog (g : Geometry) (log : LogStore) (pages : PageStore) (site : State) (newest : Option Master)
+    (records : List Entry) (table : List Content) (commits : ℕ) : Type 0 where
   pub kept : log.kept ≡ kept_by newest
   pub blocks : List (List LogRecord)
   pub tail : List LogRecord
@@ -51,19 +55,23 @@ pub record HoldsLog (g : Geometry) (log : LogStore) (pages : PageStore) (site : 
 
 -- each page has all records redone, those of the tail too
 pub record ShowRecords (g : Geometry) (pages : PageStore) (image : Image) (records : List Entry) : Type 0 where
-  pub each : (page : ℕ) → page < g.pages → ShowsAll records (versions_on g image) page (version_in (current pages image page))
+  pub each : (page : ℕ) → page < g.pages
+      → ShowsAll records (versions_on g image) page (version_in (current pages image page))
 
 -- Of an honest site: both. No page has an LSN that a next record may get.
-pub record HoldsIn (g : Geometry) (log : LogStore) (pages : PageStore) (site : State) (newest : Option Master) (records : List Entry) (table : List Content) (commits : ℕ) : Type 0 where
+pub record HoldsIn (g : Geometry) (log : LogStore) (pages : PageStore) (site : State) (newest : Option Master)
+    (records : List Entry) (table : List Content) (commits : ℕ) : Type 0 where
   pub log_holds : HoldsLog g log pages site newest records table commits
   pub shows : ShowRecords g pages site.image records
   pub below : (page : ℕ) → page < g.pages → lsn_of (current pages site.image page) < end_of log
 
 abbrev pub Holds : LogStore → PageStore → State → Option Master → List Entry → List Content → ℕ → Type 0
-Holds log pages site newest records table commits = HoldsIn pages.flash.geometry log pages site newest records table commits
+Holds log pages site newest records table commits =
+    HoldsIn pages.flash.geometry log pages site newest records table commits
 
 -- One more record may be appended: it may stand there, is no Commit, and leaves room to undo all.
-pub record MayGrow (log : LogStore) (pages : PageStore) (image : Image) (newest : Option Master) (records : List Entry) (e : Entry) : Type 0 where
+pub record MayGrow (log : LogStore) (pages : PageStore) (image : Image) (newest : Option Master) (records : List Entry)
+    (e : Entry) : Type 0 where
   pub follows : Follows (master_of newest) (versions_on pages.flash.geometry image) records e
   pub no_commit : commit_number e ≡ None
   pub room : blocks_to log + 1 + owed (records ++ e ∷ []) ≤ log.kept + (pages.flash.geometry.blocks - 1)

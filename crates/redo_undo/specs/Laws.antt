@@ -1,5 +1,6 @@
 -- The laws of the layers below that the proofs rest on, in one place.
-use Rattle.log_laws.specs.TailLaws.{CarriesNothing, CarriesMore, WholeMore, CommitsStay, TailWithoutCommit, SealedTail, SealedCount, WholeSealed}
+use Rattle.log_laws.specs.TailLaws.{CarriesNothing, CarriesMore, WholeMore, CommitsStay, TailWithoutCommit, SealedTail}
+use Rattle.log_laws.specs.TailLaws.{SealedCount, WholeSealed}
 use Rattle.log_laws.specs.ShownLaws.{ShownPush}
 use Rattle.log_laws.specs.TailLaws.{WholeIsUndoable, WholeInOrder}
 use Rattle.log_laws.specs.UndoLaws.{NextOfUndone, NextToUndo, FoundByLsn}

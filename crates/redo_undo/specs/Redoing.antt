@@ -29,9 +29,10 @@ use Rattle.analysis.specs.Taken.{is_taken}
 use Rattle.image_changes.specs.Rings.{KeepsUnits, master_shape}
 use Rattle.redo_undo.specs.declared.redo_pass.Redone.{Redone}
 
--- What a restart begins with: log and pages fit an image that is sound and stands for this table under its newest master. Nothing of the log is
--- unsealed, and the pool is empty.
-pub record IsOpened (g : Geometry) (log : LogStore) (pages : PageStore) (site : State) (newest : Option Master) (blocks : List (List LogRecord)) (table : List Content) (commits : ℕ) : Type 0 where
+-- What a restart begins with: log and pages fit an image that is sound and stands for this table under its newest
+-- master. Nothing of the log is unsealed, and the pool is empty.
+pub record IsOpened (g : Geometry) (log : LogStore) (pages : PageStore) (site : State) (newest : Option Master)
+    (blocks : List (List LogRecord)) (table : List Content) (commits : ℕ) : Type 0 where
   pub kept : log.kept ≡ kept_by newest
   pub ready : AreReady pages log (record { first = kept_by newest; blocks = blocks; tail = [] }) site
   pub sound : IsSoundUnder newest g site.image blocks
@@ -70,10 +71,12 @@ IsFrom p front page lsn = (lsn ≡ (version_at p.pages page).lsn) ⊎ (lsn ≤ l
 abbrev pub LeavesOpened : Opening → List ℕ → Snapshot → Type 0
 LeavesOpened o told snapshot = LeavesTableUnder o.newest o.sizes o.table o.commits told snapshot
 
--- While these records of an opened log are read, and redone from the redo block on: log and pages fit the site, and nothing of the log is unsealed. Each page's version may
--- replace the one that it had when the log was opened. Each page's content is that version with the records up to the page's LSN redone,
--- and it knows of all of these records. Its LSN is that version's, or none above the last of these records.
-pub record IsRedoing (o : Opening) (log : LogStore) (pages : PageStore) (site : State) (front : List Entry) : Type 0 where
+-- While these records of an opened log are read, and redone from the redo block on: log and pages fit the site, and
+-- nothing of the log is unsealed. Each page's version may replace the one that it had when the log was opened. Each
+-- page's content is that version with the records up to the page's LSN redone, and it knows of all of these records.
+-- Its LSN is that version's, or none above the last of these records.
+pub record IsRedoing (o : Opening) (log : LogStore) (pages : PageStore) (site : State)
+    (front : List Entry) : Type 0 where
   pub geometry : pages.flash.geometry ≡ o.sizes
   pub kept : log.kept ≡ kept_by o.newest
   pub sound : lists.IsSound (opened o)
@@ -88,14 +91,16 @@ pub record IsRedoing (o : Opening) (log : LogStore) (pages : PageStore) (site : 
   pub from : (page : ℕ) → page < o.sizes.pages → IsFrom (opened o) front page (lsn_of (current pages site.image page))
 
 -- These records are read: the pages have them redone, analysis knows of them, and they are counted.
-pub record HasTaken (o : Opening) (log : LogStore) (pages : PageStore) (site : State) (so_far : Redone) (front : List Entry) : Type 0 where
+pub record HasTaken (o : Opening) (log : LogStore) (pages : PageStore) (site : State) (so_far : Redone)
+    (front : List Entry) : Type 0 where
   pub pages_are : IsRedoing o log pages site front
   pub analysis : IsAnalysis (opened o).master (heard_of (opened o).master front) so_far.found
   pub count : so_far.records ≡ length front
 
--- A call takes the next records of the log: then they are read, each crash meanwhile leaves what the log was opened with, and it asks the
--- cache for their pages.
-pub record Takes {T : Type 0} (result : Result T Stop) (o : Opening) (old new : LogStore) (pages pages' : PageStore) (before now : State) (so_far : Redone) (front next : List Entry) : Type 0 where
+-- A call takes the next records of the log: then they are read, each crash meanwhile leaves what the log was opened
+-- with, and it asks the cache for their pages.
+pub record Takes {T : Type 0} (result : Result T Stop) (o : Opening) (old new : LogStore) (pages pages' : PageStore)
+    (before now : State) (so_far : Redone) (front next : List Entry) : Type 0 where
   pub taken : OnOk result (HasTaken o new pages' now so_far (front ++ next))
   pub keeps : Keeps result pages.flash.geometry old new before now (LeavesOpened o before.told) 0 0
   pub asks : Asks result (asked_of o next) pages pages' before now

@@ -22,9 +22,10 @@ AreClrsOf txn more = AllByRecursion (λ e. (is_clr e.rec ≡ true) × (txn_of e 
 abbrev pub left_of : Undoing → ℕ → Unfinished
 left_of at remaining = record { txn = at.txn; last = at.last; next = at.next; remaining = remaining }
 
--- Of an unfinished transaction some Updates are compensated, the last ones first: the log has their CLRs, and the pages show them. From so
--- many blocks and log reads on it took at most one of each for each CLR.
-pub record Compensates (log : LogStore) (pages : PageStore) (site : State) (newest : Option Master) (records : List Entry) (table : List Content) (commits : ℕ) (txn blocks reads : ℕ) (now : Undoing) : Type 0 where
+-- Of an unfinished transaction some Updates are compensated, the last ones first: the log has their CLRs, and the pages
+-- show them. From so many blocks and log reads on it took at most one of each for each CLR.
+pub record Compensates (log : LogStore) (pages : PageStore) (site : State) (newest : Option Master)
+    (records : List Entry) (table : List Content) (commits : ℕ) (txn blocks reads : ℕ) (now : Undoing) : Type 0 where
   pub clrs : List Entry
   pub own : AreClrsOf txn clrs
   pub holds : Holds log pages site newest (records ++ clrs) table commits
@@ -37,9 +38,10 @@ pub record Compensates (log : LogStore) (pages : PageStore) (site : State) (newe
   pub read : site.log_reads ≤ reads + length clrs
   pub orderly : AreOrderly records → AreOrderly (records ++ clrs)
 
--- A transaction is undone as a whole: behind its CLRs the log has its End, and the pages show that. It is unfinished no more, and
--- all others are as they were.
-pub record RollsBack (log : LogStore) (pages : PageStore) (site : State) (newest : Option Master) (records : List Entry) (table : List Content) (commits : ℕ) (txn : ℕ) : Type 0 where
+-- A transaction is undone as a whole: behind its CLRs the log has its End, and the pages show that. It is unfinished no
+-- more, and all others are as they were.
+pub record RollsBack (log : LogStore) (pages : PageStore) (site : State) (newest : Option Master) (records : List Entry)
+    (table : List Content) (commits : ℕ) (txn : ℕ) : Type 0 where
   pub clrs : List Entry
   pub lsn : ℕ
   pub own : AreClrsOf txn clrs
@@ -48,4 +50,5 @@ pub record RollsBack (log : LogStore) (pages : PageStore) (site : State) (newest
   pub holds : Holds log pages site newest ((records ++ clrs) ++ record { lsn = lsn; rec = End txn } ∷ []) table commits
   pub orderly : AreOrderly records → AreOrderly ((records ++ clrs) ++ record { lsn = lsn; rec = End txn } ∷ [])
   pub closed : is_loser ((records ++ clrs) ++ record { lsn = lsn; rec = End txn } ∷ []) txn ≡ false
-  pub others : (t : ℕ) → t ≢ txn → is_loser ((records ++ clrs) ++ record { lsn = lsn; rec = End txn } ∷ []) t ≡ is_loser records t
+  pub others : (t : ℕ) → t ≢ txn
+      → is_loser ((records ++ clrs) ++ record { lsn = lsn; rec = End txn } ∷ []) t ≡ is_loser records t

@@ -7,9 +7,10 @@ use Rattle.log_records.specs.Sound.{Picture, Means, commit_numbers}
 use Rattle.log_laws.specs.Follow.{next_entries}
 use Rattle.log_laws.specs.Tail.{Carries, whole}
 
--- What is sealed stands for this table after so many commits. The records of the tail follow, none of them a Commit, and these are
--- all records.
-pub record RunsOn (p : Picture) (tail : List LogRecord) (records : List Entry) (table : List Content) (commits : ℕ) : Type 0 where
+-- What is sealed stands for this table after so many commits. The records of the tail follow, none of them a Commit,
+-- and these are all records.
+pub record RunsOn (p : Picture) (tail : List LogRecord) (records : List Entry) (table : List Content)
+    (commits : ℕ) : Type 0 where
   pub carries : Carries p tail
   pub means : Means p table commits
   pub no_commit : commit_numbers (next_entries p tail) ≡ []

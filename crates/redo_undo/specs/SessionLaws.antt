@@ -1,4 +1,5 @@
--- Laws for sessions over log and pages that hold together: what each may log next, what it leaves to be undone, and what it sees.
+-- Laws for sessions over log and pages that hold together: what each may log next, what it leaves to be undone, and
+-- what it sees.
 use Rattle.std.specs.Prelude.{◌≡◌, ℕ, ◌+◌, ◌-◌, ◌*◌, ◌<◌, ◌≤◌, List, length, unwrap_or, Option, Some, true}
 use Rattle.site.specs.State.{State}
 use Rattle.record_model.specs.State.{Content, Write, content_at, last_write}
@@ -34,59 +35,87 @@ front_content pages slot = content_at (slots_of (front_of pages.pool.frames).con
 
 -- a transaction that begins behind an orderly log is a new one
 abbrev pub NextIsFresh : Type 0
-NextIsFresh = (log : LogStore) (pages : PageStore) (site : State) (newest : Option Master) (records : List Entry) (table : List Content) (commits lsn : ℕ) → Holds log pages site newest records table commits → AreOrderly records → end_of log ≤ lsn → IsFresh lsn records
+NextIsFresh = (log : LogStore) (pages : PageStore) (site : State) (newest : Option Master) (records : List Entry)
+    (table : List Content) (commits lsn : ℕ) → Holds log pages site newest records table commits → AreOrderly records
+    → end_of log ≤ lsn → IsFresh lsn records
 
 -- its Begin may be logged
 abbrev pub BeginMayGrow : Type 0
 BeginMayGrow =
-    (log : LogStore) (pages : PageStore) (site : State) (newest : Option Master) (records : List Entry) (table : List Content) (commits lsn : ℕ) → Holds log pages site newest records table commits → AreOrderly records →
-    end_of log ≤ lsn → HasRoomForMore log pages records → MayGrow log pages site.image newest records (record { lsn = lsn; rec = Begin })
+    (log : LogStore) (pages : PageStore) (site : State) (newest : Option Master) (records : List Entry)
+    (table : List Content) (commits lsn : ℕ) → Holds log pages site newest records table commits
+    → AreOrderly records →
+    end_of log ≤ lsn → HasRoomForMore log pages records
+    → MayGrow log pages site.image newest records (record { lsn = lsn; rec = Begin })
 
--- An active transaction's Update of a slot of the page in front may be, where no other unfinished transaction has written there.
+-- An active transaction's Update of a slot of the page in front may be, where no other unfinished transaction has
+-- written there.
 abbrev pub UpdateMayGrow : Type 0
 UpdateMayGrow =
-    (log : LogStore) (pages : PageStore) (site : State) (newest : Option Master) (records : List Entry) (table : List Content) (commits lsn txn last slot : ℕ) (writes : List Write) (after : Content) → Holds log pages site newest records table commits →
-    IsStore pages → 0 < length pages.pool.frames → slot < 32 → IsActive (master_of newest) records txn last writes → IsFreeFor records txn (front_number pages slot) → HasRoomForMore log pages records →
-    MayGrow log pages site.image newest records (record { lsn = lsn; rec = Update txn last (front_of pages.pool.frames).page slot (front_content pages slot) after })
+    (log : LogStore) (pages : PageStore) (site : State) (newest : Option Master) (records : List Entry)
+    (table : List Content) (commits lsn txn last slot : ℕ) (writes : List Write) (after : Content)
+    → Holds log pages site newest records table commits →
+    IsStore pages → 0 < length pages.pool.frames → slot < 32 → IsActive (master_of newest) records txn last writes
+    → IsFreeFor records txn (front_number pages slot) → HasRoomForMore log pages records →
+    MayGrow log pages site.image newest records
+    (record {
+      lsn = lsn;
+      rec = Update txn last (front_of pages.pool.frames).page slot
+          (front_content pages slot) after;
+    })
 
 -- An active transaction may be committed.
 abbrev pub ActiveMayCommit : Type 0
-ActiveMayCommit = (newest : Option Master) (records : List Entry) (txn last commits : ℕ) (writes : List Write) → IsActive (master_of newest) records txn last writes → MayCommit newest records txn (commits + 1) commits
+ActiveMayCommit = (newest : Option Master) (records : List Entry) (txn last commits : ℕ) (writes : List Write)
+    → IsActive (master_of newest) records txn last writes → MayCommit newest records txn (commits + 1) commits
 
 -- It is unfinished, and undoing it goes on with its last record.
 abbrev pub ActiveMayBeUndone : Type 0
 ActiveMayBeUndone =
-    (log : LogStore) (pages : PageStore) (site : State) (newest : Option Master) (records : List Entry) (table : List Content) (commits txn last : ℕ) (writes : List Write) → Holds log pages site newest records table commits →
-    IsActive (master_of newest) records txn last writes → IsUnfinished records (record { txn = txn; last = last; next = last; remaining = length writes })
+    (log : LogStore) (pages : PageStore) (site : State) (newest : Option Master) (records : List Entry)
+    (table : List Content) (commits txn last : ℕ) (writes : List Write)
+    → Holds log pages site newest records table commits →
+    IsActive (master_of newest) records txn last writes
+    → IsUnfinished records (record { txn = txn; last = last; next = last; remaining = length writes })
 
 -- An unfinished transaction of which no Update remains to be undone may be ended.
 abbrev pub EndMayGrow : Type 0
 EndMayGrow =
-    (log : LogStore) (pages : PageStore) (site : State) (newest : Option Master) (records : List Entry) (table : List Content) (commits lsn : ℕ) (x : Unfinished) → Holds log pages site newest records table commits →
-    IsUnfinished records x → x.remaining ≡ 0 → MayGrow log pages site.image newest records (record { lsn = lsn; rec = End x.txn })
+    (log : LogStore) (pages : PageStore) (site : State) (newest : Option Master) (records : List Entry)
+    (table : List Content) (commits lsn : ℕ) (x : Unfinished) → Holds log pages site newest records table commits →
+    IsUnfinished records x → x.remaining ≡ 0
+    → MayGrow log pages site.image newest records (record { lsn = lsn; rec = End x.txn })
 
 -- The table has 32 records a page.
 abbrev pub HoldsSize : Type 0
-HoldsSize = (log : LogStore) (pages : PageStore) (site : State) (newest : Option Master) (records : List Entry) (table : List Content) (commits : ℕ) → Holds log pages site newest records table commits → length table ≡ 32 * pages.flash.geometry.pages
+HoldsSize = (log : LogStore) (pages : PageStore) (site : State) (newest : Option Master) (records : List Entry)
+    (table : List Content) (commits : ℕ) → Holds log pages site newest records table commits
+    → length table ≡ 32 * pages.flash.geometry.pages
 
 -- where no unfinished transaction has written, the slot in front has the committed value
 abbrev pub FrontIsCommitted : Type 0
 FrontIsCommitted =
-    (log : LogStore) (pages : PageStore) (site : State) (newest : Option Master) (records : List Entry) (table : List Content) (commits slot : ℕ) → Holds log pages site newest records table commits →
+    (log : LogStore) (pages : PageStore) (site : State) (newest : Option Master) (records : List Entry)
+    (table : List Content) (commits slot : ℕ) → Holds log pages site newest records table commits →
     IsStore pages → 0 < length pages.pool.frames → slot < 32 → IsFree records (front_number pages slot) →
     front_content pages slot ≡ content_at table (front_number pages slot)
 
 -- and where none but this one has, what this one sees: its own last write there, else the committed value
 abbrev pub FrontIsSeen : Type 0
 FrontIsSeen =
-    (log : LogStore) (pages : PageStore) (site : State) (newest : Option Master) (records : List Entry) (table : List Content) (commits txn last slot : ℕ) (writes : List Write) → Holds log pages site newest records table commits →
-    IsStore pages → 0 < length pages.pool.frames → slot < 32 → IsActive (master_of newest) records txn last writes → IsFreeFor records txn (front_number pages slot) →
-    front_content pages slot ≡ unwrap_or (last_write writes (front_number pages slot)) (content_at table (front_number pages slot))
+    (log : LogStore) (pages : PageStore) (site : State) (newest : Option Master) (records : List Entry)
+    (table : List Content) (commits txn last slot : ℕ) (writes : List Write)
+    → Holds log pages site newest records table commits →
+    IsStore pages → 0 < length pages.pool.frames → slot < 32 → IsActive (master_of newest) records txn last writes
+    → IsFreeFor records txn (front_number pages slot) →
+    front_content pages slot ≡ unwrap_or (last_write writes (front_number pages slot))
+    (content_at table (front_number pages slot))
 
 -- An active transaction stays one in the records that a checkpoint keeps, under the master that names it.
 abbrev pub ActiveOutlives : Type 0
 ActiveOutlives =
-    (newest : Option Master) (m : Master) (records kept : List Entry) (t last : ℕ) (writes : List Write) → KeepUnfinished records kept → AreUnfinished records m.active → is_loser records t ≡ true →
+    (newest : Option Master) (m : Master) (records kept : List Entry) (t last : ℕ) (writes : List Write)
+    → KeepUnfinished records kept → AreUnfinished records m.active → is_loser records t ≡ true →
     IsActive (master_of newest) records t last writes → IsActive (master_of (Some m)) kept t last writes
 
 -- the laws on what may be logged next

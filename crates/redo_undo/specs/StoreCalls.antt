@@ -27,8 +27,8 @@ pub record Works {T : Type 0} (result : Result T Stop) (old new : Store) (before
   pub sizes : sizes_of new ≡ sizes_of old
   pub stops : IfErr result (λ stop. MayStop stop)
 
--- The same call on an honest site that log and pages fit: each crash meanwhile leaves P, no ring skips a number, and no error comes but
--- for its cause.
+-- The same call on an honest site that log and pages fit: each crash meanwhile leaves P, no ring skips a number, and no
+-- error comes but for its cause.
 pub record Keeps {T : Type 0} (result : Result T Stop) (old new : Store) (before now : Site) (P : Snapshot → Type 0)
     (records checkpoints : ℕ) : Type 0 where
   pub any_moment : IsQuiet before → LeavesOnly before now P

@@ -12,11 +12,13 @@ use Rattle.redo_undo.specs.Stores.{Holds}
 
 -- all other transactions are as they were
 pub record ConcernsOnly (newest : Option Master) (txn : ℕ) (before now : List Entry) : Type 0 where
-  pub under_way : (t last : ℕ) (writes : List Write) → t ≢ txn → IsActive (master_of newest) before t last writes → IsActive (master_of newest) now t last writes
+  pub under_way : (t last : ℕ) (writes : List Write) → t ≢ txn → IsActive (master_of newest) before t last writes
+      → IsActive (master_of newest) now t last writes
   pub losers : (t : ℕ) → t ≢ txn → is_loser now t ≡ is_loser before t
 
 -- A transaction of so many writes is undone, and its End is logged. It owes nothing any more.
-pub record RollsBack (store : Store) (site : State) (newest : Option Master) (records : List Entry) (table : List Content) (commits : ℕ) (txn writes : ℕ) : Type 0 where
+pub record RollsBack (store : Store) (site : State) (newest : Option Master) (records : List Entry)
+    (table : List Content) (commits : ℕ) (txn writes : ℕ) : Type 0 where
   pub log : List Entry
   pub concerns : ConcernsOnly newest txn records log
   pub holds : Holds store site newest log table commits

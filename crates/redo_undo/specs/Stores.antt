@@ -39,16 +39,18 @@ pub record MayLog (store : Store) (site : State) : Type 0 where
   pub room : blocks_to store.log + 1 < store.log.kept + (sizes_of store).blocks
   pub few : store.made < 2 ^ 40
 
--- Of an honest site: under this newest master log and pages hold these records together, what is sealed of them stands for this table
--- after so many commits, and they are in order. The ring of master units is the one that stands there.
-pub record Holds (store : Store) (site : State) (newest : Option Master) (records : List Entry) (table : List Content) (commits : ℕ) : Type 0 where
+-- Of an honest site: under this newest master log and pages hold these records together, what is sealed of them stands
+-- for this table after so many commits, and they are in order. The ring of master units is the one that stands there.
+pub record Holds (store : Store) (site : State) (newest : Option Master) (records : List Entry) (table : List Content)
+    (commits : ℕ) : Type 0 where
   pub both : both.Holds store.log store.pages site newest records table commits
   pub orderly : AreOrderly records
   pub masters : Finds store.masters site
 
--- A checkpoint was made that names these transactions: under its master log and pages hold the records from its oldest kept block on,
--- and all records of unfinished transactions are among them.
-pub record HasCheckpoint (store : Store) (site : State) (records : List Entry) (table : List Content) (commits : ℕ) (active : List Pair) : Type 0 where
+-- A checkpoint was made that names these transactions: under its master log and pages hold the records from its oldest
+-- kept block on, and all records of unfinished transactions are among them.
+pub record HasCheckpoint (store : Store) (site : State) (records : List Entry) (table : List Content) (commits : ℕ)
+    (active : List Pair) : Type 0 where
   pub master : Master
   pub named : master.active ≡ active
   pub holds : Holds store site (Some master) (from_block master.kept records) table commits

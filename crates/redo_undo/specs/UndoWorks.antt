@@ -23,6 +23,8 @@ pub record IsLastAt (records : List Entry) (txn lsn : ℕ) (u : Entry) : Type 0 
   pub at : u.lsn ≡ lsn
 
 -- Some of what is unfinished is undone. Of all Updates that remained these don't any more, the last ones.
-pub record UndoesUpdates (log : LogStore) (pages : PageStore) (site : State) (newest : Option Master) (records : List Entry) (table : List Content) (commits : ℕ) (found : Analysis) (known : ℕ) (updates : List Entry) : Type 0 where
+pub record UndoesUpdates (log : LogStore) (pages : PageStore) (site : State) (newest : Option Master)
+    (records : List Entry) (table : List Content) (commits : ℕ) (found : Analysis) (known : ℕ)
+    (updates : List Entry) : Type 0 where
   pub some : UndoesSome log pages site newest records table commits found known
   pub left : reverse (pending records) ≡ updates ++ reverse (pending (records ++ some.more))

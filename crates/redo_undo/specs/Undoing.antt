@@ -24,14 +24,17 @@ pub record IsAt (at : Undoing) (x : Unfinished) : Type 0 where
   pub next : at.next ≡ x.next
 
 -- the Update that is undone next: it is on a page that exists, and its CLR may follow
-pub record IsWanted (g : Geometry) (image : Image) (newest : Option Master) (records : List Entry) (x : Unfinished) (w : Wanted) : Type 0 where
+pub record IsWanted (g : Geometry) (image : Image) (newest : Option Master) (records : List Entry) (x : Unfinished)
+    (w : Wanted) : Type 0 where
   pub late : x.txn ≤ w.prev
   pub early : w.prev < x.next
   pub exists : w.page < g.pages
-  pub follows : (lsn : ℕ) → Follows (master_of newest) (versions_on g image) records (record { lsn = lsn; rec = Clr x.txn x.last w.prev w.page w.slot w.before })
+  pub follows : (lsn : ℕ) → Follows (master_of newest) (versions_on g image) records
+      (record { lsn = lsn; rec = Clr x.txn x.last w.prev w.page w.slot w.before })
 
 -- a CLR of the transaction was logged, and its page has what stood there before
-pub record Undone (log : LogStore) (pages : PageStore) (site : State) (newest : Option Master) (records : List Entry) (table : List Content) (commits : ℕ) (x : Unfinished) (now : Undoing) : Type 0 where
+pub record Undone (log : LogStore) (pages : PageStore) (site : State) (newest : Option Master) (records : List Entry)
+    (table : List Content) (commits : ℕ) (x : Unfinished) (now : Undoing) : Type 0 where
   pub e : Entry
   pub page : ℕ
   pub slot : ℕ

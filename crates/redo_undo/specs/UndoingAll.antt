@@ -42,8 +42,10 @@ pub record HasNone (table : List Open) (t : ℕ) : Type 0 where
 abbrev pub AreUpTo : ℕ → List Entry → Type 0
 AreUpTo known records = AllByRecursion (λ e. e.lsn ≤ known) records
 
--- Of an honest site: log and pages have these records, analysis knows what they leave unfinished, and no record stands behind an LSN.
-pub record IsUndoing (log : LogStore) (pages : PageStore) (site : State) (newest : Option Master) (records : List Entry) (table : List Content) (commits : ℕ) (found : Analysis) (known : ℕ) : Type 0 where
+-- Of an honest site: log and pages have these records, analysis knows what they leave unfinished, and no record stands
+-- behind an LSN.
+pub record IsUndoing (log : LogStore) (pages : PageStore) (site : State) (newest : Option Master) (records : List Entry)
+    (table : List Content) (commits : ℕ) (found : Analysis) (known : ℕ) : Type 0 where
   pub holds : Holds log pages site newest records table commits
   pub analysis : IsTable [] records (listed found.table)
   pub up_to : AreUpTo known records
@@ -52,13 +54,16 @@ pub record IsUndoing (log : LogStore) (pages : PageStore) (site : State) (newest
 abbrev pub IsGreatest : List Entry → ℕ → Type 0
 IsGreatest records t = (u : Entry) × (last_where (λ v. true) (pending records) ≡ Some u) × (txn_of u ≡ t)
 
--- what undo logs next: a CLR only where no transaction waits for its End, and then of the last of all Updates that remain
+-- what undo logs next: a CLR only where no transaction waits for its End, and then of the last of all Updates that
+-- remain
 pub record IsNextUndo (earlier : List Entry) (e : Entry) : Type 0 where
   pub ends_first : is_clr e.rec ≡ true → (t : ℕ) → is_loser earlier t ≡ true → 0 < length (left_open earlier t)
   pub greatest : is_clr e.rec ≡ true → IsGreatest earlier (txn_of e)
 
--- Some of what is unfinished is undone: the log goes on by these records, in turn, and each takes away one that undo owes.
-pub record UndoesSome (log : LogStore) (pages : PageStore) (site : State) (newest : Option Master) (records : List Entry) (table : List Content) (commits : ℕ) (found : Analysis) (known : ℕ) : Type 0 where
+-- Some of what is unfinished is undone: the log goes on by these records, in turn, and each takes away one that undo
+-- owes.
+pub record UndoesSome (log : LogStore) (pages : PageStore) (site : State) (newest : Option Master)
+    (records : List Entry) (table : List Content) (commits : ℕ) (found : Analysis) (known : ℕ) : Type 0 where
   pub more : List Entry
   pub now : IsUndoing log pages site newest (records ++ more) table commits found known
   pub in_turn : InTurn IsNextUndo records more
@@ -66,7 +71,8 @@ pub record UndoesSome (log : LogStore) (pages : PageStore) (site : State) (newes
   pub orderly : AreOrderly records → AreOrderly (records ++ more)
 
 -- All unfinished transactions are undone: behind their CLRs and Ends the log leaves none unfinished.
-pub record UndoesAll (log : LogStore) (pages : PageStore) (site : State) (newest : Option Master) (records : List Entry) (table : List Content) (commits : ℕ) : Type 0 where
+pub record UndoesAll (log : LogStore) (pages : PageStore) (site : State) (newest : Option Master) (records : List Entry)
+    (table : List Content) (commits : ℕ) : Type 0 where
   pub more : List Entry
   pub holds : Holds log pages site newest (records ++ more) table commits
   pub none : (t : ℕ) → is_loser (records ++ more) t ≡ false

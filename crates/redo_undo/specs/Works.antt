@@ -1,5 +1,7 @@
--- What calls on pages ask of the cache: work for the machine, the groups that it appends, and the pages that it reads at most.
-use Rattle.std.specs.Prelude.{◌≡◌, ℕ, ◌+◌, ◌*◌, ◌^◌, ◌≤◌, ◌<◌, true, false, List, [], ◌∷◌, ◌++◌, map, filter_map, reverse, if◌then◌else◌, Result, OnOk, IsErrOf, Option}
+-- What calls on pages ask of the cache: work for the machine, the groups that it appends, and the pages that it reads
+-- at most.
+use Rattle.std.specs.Prelude.{◌≡◌, ℕ, ◌+◌, ◌*◌, ◌^◌, ◌≤◌, ◌<◌, true, false, List, [], ◌∷◌, ◌++◌, map, filter_map}
+use Rattle.std.specs.Prelude.{reverse, if◌then◌else◌, Result, OnOk, IsErrOf, Option}
 use Rattle.site.specs.declared.outside.Dev.TheVariants.{Flash}
 use Rattle.site.specs.declared.outside.Stop.{Stop}
 use Rattle.site.specs.declared.outside.Stop.TheVariants.{Worn}
@@ -69,22 +71,26 @@ abbrev pub misses_in : Rules → List CacheWork → Cache → ℕ
 misses_in rules [] cache = 0
 misses_in rules (work ∷ works) cache = misses_by rules work cache + misses_in rules works (worked rules work cache)
 
--- At most one read of flash for each touch that finds its page there, and twelve for each group that is appended (the frames that are
--- staged or have a second chance, and the heads of the groups of a segment); at most one of the disk for each touch that misses its page on
--- flash.
+-- At most one read of flash for each touch that finds its page there, and twelve for each group that is appended (the
+-- frames that are staged or have a second chance, and the heads of the groups of a segment); at most one of the disk
+-- for each touch that misses its page on flash.
 pub record ReadsFor (rules : Rules) (works : List CacheWork) (cache : Cache) (old new : State) : Type 0 where
-  pub flash : new.flash_reads + 12 * next_group cache ≤ old.flash_reads + 12 * next_group (after_works rules works cache) + finds_in rules works cache
+  pub flash : new.flash_reads + 12 * next_group cache
+      ≤ old.flash_reads + 12 * next_group (after_works rules works cache) + finds_in rules works cache
   pub disk : new.disk_reads ≤ old.disk_reads + misses_in rules works cache
 
--- Of an honest site on which the queue in memory is the one on flash: a crash meanwhile leaves no more groups than the work appends, and
--- each disk page that it doesn't stage as it was.
+-- Of an honest site on which the queue in memory is the one on flash: a crash meanwhile leaves no more groups than the
+-- work appends, and each disk page that it doesn't stage as it was.
 abbrev pub StagesFor : {T : Type 0} → Result T Stop → List CacheWork → PageStore → PageStore → State → State → Type 0
 StagesFor result works old new before now =
-    Stages result (staged_by_works (rules old) works (cache_of old)) (next_group (after_works (rules old) works (cache_of old))) old new before now
+    Stages result (staged_by_works (rules old) works (cache_of old))
+    (next_group (after_works (rules old) works (cache_of old))) old new before now
 
--- A call asks for this work, and answers. At Ok the machine has done it. The call answers that flash is worn only where the work overflows.
+-- A call asks for this work, and answers. At Ok the machine has done it. The call answers that flash is worn only where
+-- the work overflows.
 -- It reads and writes no more than the work needs, however it ends.
-pub record Asks {T : Type 0} (result : Result T Stop) (works : List CacheWork) (old new : PageStore) (before now : State) : Type 0 where
+pub record Asks {T : Type 0} (result : Result T Stop) (works : List CacheWork) (old new : PageStore)
+    (before now : State) : Type 0 where
   pub machine : OnOk result (cache_of new ≡ after_works (rules old) works (cache_of old))
   pub worn : IsErrOf result (Worn Flash) → Overflows (rules old) works (cache_of old)
   pub reads : ReadsFor (rules old) works (cache_of old) before now
@@ -95,12 +101,14 @@ pub record Asks {T : Type 0} (result : Result T Stop) (works : List CacheWork) (
 
 -- work after work
 abbrev pub WorksAddUp : Type 0
-WorksAddUp = (rules : Rules) (first later : List CacheWork) (cache : Cache) → after_works rules (first ++ later) cache ≡ after_works rules later (after_works rules first cache)
+WorksAddUp = (rules : Rules) (first later : List CacheWork) (cache : Cache)
+    → after_works rules (first ++ later) cache ≡ after_works rules later (after_works rules first cache)
 
 abbrev pub ReadsAddUp : Type 0
 ReadsAddUp =
     (rules : Rules) (first later : List CacheWork) (cache : Cache) (old mid new : State) →
-    ReadsFor rules first cache old mid → ReadsFor rules later (after_works rules first cache) mid new → ReadsFor rules (first ++ later) cache old new
+    ReadsFor rules first cache old mid → ReadsFor rules later (after_works rules first cache) mid new
+    → ReadsFor rules (first ++ later) cache old new
 
 -- what was read for the first of some work was read for all of it
 abbrev pub ReadsForMore : Type 0
@@ -110,13 +118,16 @@ ReadsForMore =
 
 -- no work takes a group's number back
 abbrev pub NumbersRise : Type 0
-NumbersRise = (rules : Rules) (works : List CacheWork) (cache : Cache) → 1 ≤ rules.groups → next_group cache ≤ next_group (after_works rules works cache)
+NumbersRise = (rules : Rules) (works : List CacheWork) (cache : Cache) → 1 ≤ rules.groups
+    → next_group cache ≤ next_group (after_works rules works cache)
 
 abbrev pub OverflowsWithMore : Type 0
-OverflowsWithMore = (rules : Rules) (first later : List CacheWork) (cache : Cache) → 1 ≤ rules.groups → Overflows rules first cache → Overflows rules (first ++ later) cache
+OverflowsWithMore = (rules : Rules) (first later : List CacheWork) (cache : Cache) → 1 ≤ rules.groups
+    → Overflows rules first cache → Overflows rules (first ++ later) cache
 
 -- undoing an active transaction touches the pages of its writes, the last one first
 abbrev pub ActiveIsUndoneBy : Type 0
 ActiveIsUndoneBy =
-    (newest : Option Master) (records : List Entry) (txn last : ℕ) (writes : List Write) → IsActive (master_of newest) records txn last writes →
+    (newest : Option Master) (records : List Entry) (txn last : ℕ) (writes : List Write)
+    → IsActive (master_of newest) records txn last writes →
     undo_one_works records txn ≡ map (λ write. write_touch write.0) (reverse writes)

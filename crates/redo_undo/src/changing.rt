@@ -52,8 +52,8 @@ fn after_of(rec: &LogRecord) -> Option<&[u8]>
     }
 }
 
-/// Redoes an Update or a CLR, which is on the page in front of the pool: the page has the record's LSN, which is greater than its own,
-/// and its slot what the record has written.
+/// Redoes an Update or a CLR, which is on the page in front of the pool: the page has the record's LSN, which is
+/// greater than its own, and its slot what the record has written.
 pub(crate) fn change_front(pages: &mut PageStore, rec: &LogRecord, lsn: u64)
     requires store { IsStore pages.old }
     requires there { 0 < length pages.old.pool.frames }

@@ -61,8 +61,8 @@ fn save_laws()
     carries_nothing();
 }
 
-// Pushes all changed pages. What log and pages hold together stays, and at each moment the devices stand for the same table. The log's
-// tail is empty, so the log isn't forced.
+// Pushes all changed pages. What log and pages hold together stays, and at each moment the devices stand for the same
+// table. The log's tail is empty, so the log isn't forced.
 fn flush<S: Site>(site: &mut S, log: &mut LogStore, pages: &mut PageStore) -> Result<(), Stop>
     requires going { MayGoOn log.old pages.old (S.state site.old) }
     requires sealed { log.old.used ≡ 2 }
@@ -88,7 +88,8 @@ fn flush<S: Site>(site: &mut S, log: &mut LogStore, pages: &mut PageStore) -> Re
     pages.flush_all(site, log)
 }
 
-// The block of the oldest Begin of these transactions, and the next block where there is none: one from the kept block on.
+// The block of the oldest Begin of these transactions, and the next block where there is none: one from the kept block
+// on.
 fn oldest_block(active: &Pairs, kept: u64, next: u64) -> u64
     requires { kept ≤ next }
     ensures low { kept ≤ result }
@@ -111,9 +112,9 @@ fn oldest_block(active: &Pairs, kept: u64, next: u64) -> u64
     block
 }
 
-// Saves the master of a checkpoint over flushed pages and an empty tail: redo begins with the next block, and the blocks from that of the
-// oldest active Begin on are kept. Then the log lets go of the others. Log and pages hold together under the new master, with the
-// records from its oldest kept block on.
+// Saves the master of a checkpoint over flushed pages and an empty tail: redo begins with the next block, and the
+// blocks from that of the oldest active Begin on are kept. Then the log lets go of the others. Log and pages hold
+// together under the new master, with the records from its oldest kept block on.
 fn save_master<S: Site>(
     site: &mut S,
     log: &mut LogStore,
@@ -142,9 +143,11 @@ fn save_master<S: Site>(
         (LeavesFor pages.flash.geometry table commits (S.state site.old).told) 0 1 }
 
     // Of every site.
-    ensures master { IfOk result (λ master. (master.redo ≡ log.old.ring.hi) × (master.commits ≡ commits) × (master.active ≡ active)) }
+    ensures master { IfOk result (λ master. (master.redo ≡ log.old.ring.hi) × (master.commits ≡ commits)
+        × (master.active ≡ active)) }
     ensures log { IfOk result (λ master. log.new ≡ record log.old { kept = master.kept }) }
-    ensures least { IfOk result (λ master. min log.old.ring.hi (first_block log.old.ring.hi (begins_of active)) ≤ master.kept) }
+    ensures least { IfOk result (λ master. min log.old.ring.hi (first_block log.old.ring.hi (begins_of active))
+        ≤ master.kept) }
     ensures rises { IfOk result (λ master. (log.old.kept ≤ master.kept) × (master.kept ≤ log.old.ring.hi)) }
     ensures log_going { log_held.MayGoOn log.new (S.state site.new) }
     ensures shape { masters.new.shape ≡ master_shape }
@@ -175,8 +178,9 @@ fn save_master<S: Site>(
 }
 
 impl Store {
-    /// A checkpoint that names these unfinished transactions: what is unsealed is sealed, the changed pages are flushed to flash, a master is
-    /// saved, and the log lets go of the blocks that nothing needs. The first so many records count no more.
+    /// A checkpoint that names these unfinished transactions: what is unsealed is sealed, the changed pages are flushed
+    /// to flash, a master is saved, and the log lets go of the blocks that nothing needs. The first so many records
+    /// count no more.
     pub fn checkpoint<S: Site>(
         &mut self,
         site: &mut S,
@@ -189,7 +193,8 @@ impl Store {
         requires first { first ≤ self.old.made }
         // The blocks that are kept have records that go on counting.
         requires begun { first_block (blocks_to self.old.log) (begins_of active) ≤ blocks_to self.old.log }
-        requires enough { blocks_to self.old.log + first ≤ first_block (blocks_to self.old.log) (begins_of active) + self.old.made }
+        requires enough { blocks_to self.old.log + first
+            ≤ first_block (blocks_to self.old.log) (begins_of active) + self.old.made }
 
         // Of an honest site on which log and pages hold together, and of the unfinished transactions.
         ensures checkpoint { (newest : Option Master) (records : List Entry) (table : List Content)

@@ -16,18 +16,20 @@ use image_changes::ring_kept;
 use log_store::LogStore;
 use site::{Site, Stop};
 
-/// Seals the log's tail, where it has records. What log and pages hold together stays, and at each moment the devices stand for the same
-/// table.
+/// Seals the log's tail, where it has records. What log and pages hold together stays, and at each moment the devices
+/// stand for the same table.
 pub(crate) fn force<S: Site>(site: &mut S, log: &mut LogStore) -> Result<(), Stop>
     requires going { log_held.MayGoOn log.old (S.state site.old) }
     requires room { blocks_to log.old < log.old.kept + log.old.geometry.blocks }
 
     // Of an honest site on which log and pages hold together.
-    ensures holds { (pages : PageStore) (newest : Option Master) (records : List Entry) (table : List Content) (commits : ℕ)
+    ensures holds { (pages : PageStore) (newest : Option Master) (records : List Entry) (table : List Content)
+        (commits : ℕ)
         → log.old.geometry ≡ pages.flash.geometry
         → Holds log.old pages (S.state site.old) newest records table commits
         → OnOk result (Holds log.new pages (S.state site.new) newest records table commits) }
-    ensures keeps { (pages : PageStore) (newest : Option Master) (records : List Entry) (table : List Content) (commits : ℕ)
+    ensures keeps { (pages : PageStore) (newest : Option Master) (records : List Entry) (table : List Content)
+        (commits : ℕ)
         → Holds log.old pages (S.state site.old) newest records table commits
         → KeepsBeside result log.old log.new pages (S.state site.old) (S.state site.new)
         (LeavesTableUnder newest pages.flash.geometry table commits (S.state site.old).told) 0 }

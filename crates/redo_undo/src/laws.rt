@@ -1,4 +1,5 @@
-// Laws on log and pages that hold together, and those of the layers below that the proofs rest on. The functions do nothing.
+// Laws on log and pages that hold together, and those of the layers below that the proofs rest on. The functions do
+// nothing.
 ghost use Rattle.redo_undo.specs.HoldingLaws.{HoldLaws};
 ghost use Rattle.redo_undo.specs.Laws.{LogLaws, PageLaws, BesideLaws, UndoLaws, FoundLaws};
 
@@ -79,8 +80,9 @@ pub(crate) fn found_laws()
     found_by_lsn();
 }
 
-/// Law: log and pages that fit a sound image hold together where the pages show all records; where they do the devices stand for the table, now and as long as nothing is called; they do still after
-/// calls that only read; and the page in front of the pool shows what all records leave there.
+/// Law: log and pages that fit a sound image hold together where the pages show all records; where they do the devices
+/// stand for the table, now and as long as nothing is called; they do still after calls that only read; and the page in
+/// front of the pool shows what all records leave there.
 pub fn hold_together()
     ensures { HoldLaws }
 {

@@ -1,5 +1,6 @@
 // A page is touched, a record is logged, and the page is changed.
-ghost use Rattle.std.specs.Prelude.{◌*◌, ◌≡◌, ◌⊎◌, ◌+◌, ◌<◌, ◌≤◌, ◌++◌, ◌∷◌, [], ℕ, List, length, None, IfOk, true, OnOk, IfErr, Option};
+ghost use Rattle.std.specs.Prelude.{◌*◌, ◌≡◌, ◌⊎◌, ◌+◌, ◌<◌, ◌≤◌, ◌++◌, ◌∷◌, [], ℕ, List, length, None, IfOk, true};
+ghost use Rattle.std.specs.Prelude.{OnOk, IfErr, Option};
 ghost use Rattle.site.specs.declared.outside.Dev.{Dev};
 ghost use Rattle.site.specs.declared.outside.Stop.{Stop};
 ghost use Rattle.site.specs.Calls.{SameReads};
@@ -35,8 +36,9 @@ use log_store::LogStore;
 use page_store::PageStore;
 use site::{Site, Stop};
 
-/// Brings a page to the front of the pool. What log and pages hold together stays, and at each moment the devices stand for
-/// the same table. The machine says which pages leave; where they have changes that aren't sealed the log is sealed before.
+/// Brings a page to the front of the pool. What log and pages hold together stays, and at each moment the devices stand
+/// for the same table. The machine says which pages leave; where they have changes that aren't sealed the log is sealed
+/// before.
 pub(crate) fn touch<S: Site>(
     site: &mut S,
     log: &mut LogStore,
@@ -67,7 +69,8 @@ pub(crate) fn touch<S: Site>(
     ensures asks { Asks result (one_touch page) pages.old pages.new (S.state site.old) (S.state site.new) }
     ensures front { OnOk result ((front_of pages.new.pool.frames).page ≡ page) }
     ensures there { OnOk result (0 < length pages.new.pool.frames) }
-    ensures logs_nothing { LogsNothing result log.old log.new pages.old pages.new (S.state site.old) (S.state site.new) }
+    ensures logs_nothing { LogsNothing result log.old log.new pages.old pages.new (S.state site.old)
+        (S.state site.new) }
 {
     log_laws();
     page_laws();
@@ -75,8 +78,8 @@ pub(crate) fn touch<S: Site>(
     pages.touch(site, log, page)
 }
 
-/// Appends a record, and answers its LSN. From the kept block on there is room for one block more. The pages stay as they are, so where
-/// the record is on none of them log and pages hold together still.
+/// Appends a record, and answers its LSN. From the kept block on there is room for one block more. The pages stay as
+/// they are, so where the record is on none of them log and pages hold together still.
 pub(crate) fn log_record<S: Site>(
     site: &mut S,
     log: &mut LogStore,
@@ -87,32 +90,42 @@ pub(crate) fn log_record<S: Site>(
     requires room { blocks_to log.old + 1 < log.old.kept + log.old.geometry.blocks }
 
     // Of an honest site on which log and pages hold together.
-    ensures log_holds { (pages : PageStore) (newest : Option Master) (records : List Entry) (table : List Content) (commits : ℕ)
+    ensures log_holds { (pages : PageStore) (newest : Option Master) (records : List Entry) (table : List Content)
+        (commits : ℕ)
         → log.old.geometry ≡ pages.flash.geometry
         → Holds log.old pages (S.state site.old) newest records table commits
-        → IfOk result (λ lsn. MayGrow log.old pages (S.state site.old).image newest records (record { lsn = lsn; rec = rec.now })
+        → IfOk result (λ lsn. MayGrow log.old pages (S.state site.old).image newest records
+        (record { lsn = lsn; rec = rec.now })
         → HoldsLog pages.flash.geometry log.new pages (S.state site.new) newest
         (records ++ record { lsn = lsn; rec = rec.now } ∷ []) table commits) }
-    ensures pages { (pages : PageStore) (newest : Option Master) (records : List Entry) (table : List Content) (commits : ℕ)
+    ensures pages { (pages : PageStore) (newest : Option Master) (records : List Entry) (table : List Content)
+        (commits : ℕ)
         → Holds log.old pages (S.state site.old) newest records table commits
         → KeepsPages pages.flash.geometry pages (S.state site.old).image (S.state site.new).image }
-    ensures holds { (pages : PageStore) (newest : Option Master) (records : List Entry) (table : List Content) (commits : ℕ)
+    ensures holds { (pages : PageStore) (newest : Option Master) (records : List Entry) (table : List Content)
+        (commits : ℕ)
         → log.old.geometry ≡ pages.flash.geometry
         → Holds log.old pages (S.state site.old) newest records table commits → number_of rec.now ≡ None
-        → IfOk result (λ lsn. MayGrow log.old pages (S.state site.old).image newest records (record { lsn = lsn; rec = rec.now })
+        → IfOk result (λ lsn. MayGrow log.old pages (S.state site.old).image newest records
+        (record { lsn = lsn; rec = rec.now })
         → Holds log.new pages (S.state site.new) newest
         (records ++ record { lsn = lsn; rec = rec.now } ∷ []) table commits) }
-    ensures orderly { (pages : PageStore) (newest : Option Master) (records : List Entry) (table : List Content) (commits : ℕ)
+    ensures orderly { (pages : PageStore) (newest : Option Master) (records : List Entry) (table : List Content)
+        (commits : ℕ)
         → log.old.geometry ≡ pages.flash.geometry
         → Holds log.old pages (S.state site.old) newest records table commits
-        → IfOk result (λ lsn. MayGrow log.old pages (S.state site.old).image newest records (record { lsn = lsn; rec = rec.now })
+        → IfOk result (λ lsn. MayGrow log.old pages (S.state site.old).image newest records
+        (record { lsn = lsn; rec = rec.now })
         → AreOrderly records → AreOrderly (records ++ record { lsn = lsn; rec = rec.now } ∷ [])) }
-    ensures last { (pages : PageStore) (newest : Option Master) (records : List Entry) (table : List Content) (commits : ℕ)
+    ensures last { (pages : PageStore) (newest : Option Master) (records : List Entry) (table : List Content)
+        (commits : ℕ)
         → log.old.geometry ≡ pages.flash.geometry
         → Holds log.old pages (S.state site.old) newest records table commits
-        → IfOk result (λ lsn. EndsWith pages.flash.geometry log.new pages (S.state site.new) newest records table commits
+        → IfOk result (λ lsn. EndsWith pages.flash.geometry log.new pages (S.state site.new) newest records
+        table commits
         (record { lsn = lsn; rec = rec.now })) }
-    ensures keeps { (pages : PageStore) (newest : Option Master) (records : List Entry) (table : List Content) (commits : ℕ)
+    ensures keeps { (pages : PageStore) (newest : Option Master) (records : List Entry) (table : List Content)
+        (commits : ℕ)
         → Holds log.old pages (S.state site.old) newest records table commits
         → KeepsBeside result log.old log.new pages (S.state site.old) (S.state site.new)
         (LeavesTableUnder newest pages.flash.geometry table commits (S.state site.old).told) 1 }
@@ -136,9 +149,9 @@ pub(crate) fn log_record<S: Site>(
     log.append(site, rec)
 }
 
-/// Appends an Update or a CLR, which is on the page in front of the pool, and changes that page by it. Answers the record's LSN. From the
-/// kept block on there is room for one block more. What log and pages hold together goes on by the record, and at each moment the
-/// devices stand for the same table.
+/// Appends an Update or a CLR, which is on the page in front of the pool, and changes that page by it. Answers the
+/// record's LSN. From the kept block on there is room for one block more. What log and pages hold together goes on by
+/// the record, and at each moment the devices stand for the same table.
 pub(crate) fn log_change<S: Site>(
     site: &mut S,
     log: &mut LogStore,
@@ -154,12 +167,14 @@ pub(crate) fn log_change<S: Site>(
     // Of an honest site on which log and pages hold together.
     ensures holds { (newest : Option Master) (records : List Entry) (table : List Content) (commits : ℕ)
         → Holds log.old pages.old (S.state site.old) newest records table commits
-        → IfOk result (λ lsn. MayGrow log.old pages.old (S.state site.old).image newest records (record { lsn = lsn; rec = rec.now })
+        → IfOk result (λ lsn. MayGrow log.old pages.old (S.state site.old).image newest records
+        (record { lsn = lsn; rec = rec.now })
         → Holds log.new pages.new (S.state site.new) newest
         (records ++ record { lsn = lsn; rec = rec.now } ∷ []) table commits) }
     ensures orderly { (newest : Option Master) (records : List Entry) (table : List Content) (commits : ℕ)
         → Holds log.old pages.old (S.state site.old) newest records table commits
-        → IfOk result (λ lsn. MayGrow log.old pages.old (S.state site.old).image newest records (record { lsn = lsn; rec = rec.now })
+        → IfOk result (λ lsn. MayGrow log.old pages.old (S.state site.old).image newest records
+        (record { lsn = lsn; rec = rec.now })
         → AreOrderly records → AreOrderly (records ++ record { lsn = lsn; rec = rec.now } ∷ [])) }
     ensures keeps { (newest : Option Master) (records : List Entry) (table : List Content) (commits : ℕ)
         → Holds log.old pages.old (S.state site.old) newest records table commits
@@ -172,7 +187,8 @@ pub(crate) fn log_change<S: Site>(
     ensures works { Works result log.old log.new pages.old pages.new (S.state site.old) (S.state site.new) }
     ensures blocks { OnOk result (blocks_to log.new ≤ blocks_to log.old + 1) }
     ensures reads { SameReads (S.state site.old) (S.state site.new) }
-    ensures stages { Stages result [] (next_group (cache_of pages.old)) pages.old pages.new (S.state site.old) (S.state site.new) }
+    ensures stages { Stages result [] (next_group (cache_of pages.old)) pages.old pages.new (S.state site.old)
+        (S.state site.new) }
 
     // When each answer comes.
     ensures stops { IfErr result (λ stop. (stop ≡ Stop.Device Dev.Log)

@@ -1,5 +1,6 @@
 // Analysis and redo of a restart: the log is read once, from its kept block on.
-ghost use Rattle.std.specs.Prelude.{◌≡◌, ◌⊎◌, ◌+◌, ◌-◌, ◌*◌, ◌^◌, ◌<◌, ◌≤◌, ◌++◌, ◌∷◌, [], ℕ, List, length, None, true, false, IfSome, IfNone, OnOk, IfOk, IfErr, IsErrOf, Option};
+ghost use Rattle.std.specs.Prelude.{◌≡◌, ◌⊎◌, ◌+◌, ◌-◌, ◌*◌, ◌^◌, ◌<◌, ◌≤◌, ◌++◌, ◌∷◌, [], ℕ, List, length, None, true};
+ghost use Rattle.std.specs.Prelude.{false, IfSome, IfNone, OnOk, IfOk, IfErr, IsErrOf, Option};
 ghost use Rattle.site.specs.declared.outside.Stop.{Stop};
 ghost use Rattle.record_model.specs.State.{Content};
 ghost use Rattle.log_records.specs.declared.log_record.LogRecord.{LogRecord};
@@ -15,7 +16,8 @@ ghost use Rattle.analysis.specs.Read as read;
 ghost use Rattle.analysis.specs.Read.{IsAnalysis, IsTable};
 ghost use Rattle.analysis.specs.Taken.{is_named, is_taken, Steps, taken};
 ghost use Rattle.redo_undo.specs.Holding.{MayGoOn, Holds, IsOnPage, blocks_to};
-ghost use Rattle.redo_undo.specs.Redoing.{IsOpened, Opening, Takes, LeavesOpened, IsRedoing, HasTaken, touches_of, heard_of};
+ghost use Rattle.redo_undo.specs.Redoing.{IsOpened, Opening, Takes, LeavesOpened, IsRedoing, HasTaken, touches_of};
+ghost use Rattle.redo_undo.specs.Redoing.{heard_of};
 ghost use Rattle.redo_undo.specs.RedoLaws.{RedoLaws};
 ghost use Rattle.checkpoint.specs.declared.master.Master.{Master};
 ghost use Rattle.redo_undo.specs.Works.{Asks, redo_works};
@@ -114,7 +116,8 @@ fn analyse(master: &Master, found: &mut Analysis, lsn: u64, rec: &LogRecord) -> 
         → Steps (seen master.now).active (heard_of (seen master.now) records) (record { lsn = lsn; rec = rec.now }))
         → OnOk result (IsAnalysis (seen master.now)
         (heard_of (seen master.now) (records ++ record { lsn = lsn; rec = rec.now } ∷ [])) found.new) }
-    ensures readable { (records : List Entry) → IsAnalysis (seen master.now) (heard_of (seen master.now) records) found.old
+    ensures readable { (records : List Entry)
+        → IsAnalysis (seen master.now) (heard_of (seen master.now) records) found.old
         → (is_taken (seen master.now) (record { lsn = lsn; rec = rec.now }) ≡ true
         → Steps (seen master.now).active (heard_of (seen master.now) records) (record { lsn = lsn; rec = rec.now }))
         → IsErrOf result Stop.Foreign → ⊥ }
@@ -130,7 +133,8 @@ fn analyse(master: &Master, found: &mut Analysis, lsn: u64, rec: &LogRecord) -> 
     found.step(lsn, rec)
 }
 
-// Redoes a record: where it is on a page whose LSN is smaller, the page is changed by it. A page that doesn't exist is Foreign.
+// Redoes a record: where it is on a page whose LSN is smaller, the page is changed by it. A page that doesn't exist is
+// Foreign.
 fn redo_record<S: Site>(
     site: &mut S,
     log: &mut LogStore,
@@ -144,7 +148,8 @@ fn redo_record<S: Site>(
     // Of an honest site with an opened log, of which it is the next record.
     ensures redoing { (o : Opening) (front rest : List Entry) → IsRedoing o log.old pages.old (S.state site.old) front
         → log_from (kept_by o.newest) o.blocks ≡ front ++ record { lsn = lsn; rec = rec.now } ∷ rest
-        → OnOk result (IsRedoing o log.new pages.new (S.state site.new) (front ++ record { lsn = lsn; rec = rec.now } ∷ [])) }
+        → OnOk result (IsRedoing o log.new pages.new (S.state site.new)
+        (front ++ record { lsn = lsn; rec = rec.now } ∷ [])) }
     ensures keeps { (o : Opening) (front rest : List Entry)
         → IsRedoing o log.old pages.old (S.state site.old) front
         → log_from (kept_by o.newest) o.blocks ≡ front ++ record { lsn = lsn; rec = rec.now } ∷ rest
@@ -152,10 +157,12 @@ fn redo_record<S: Site>(
         (LeavesOpened o (S.state site.old).told) 0 0 }
     ensures asks { (o : Opening) (front rest : List Entry) → IsRedoing o log.old pages.old (S.state site.old) front
         → log_from (kept_by o.newest) o.blocks ≡ front ++ record { lsn = lsn; rec = rec.now } ∷ rest
-        → Asks result (touches_of o (record { lsn = lsn; rec = rec.now } ∷ [])) pages.old pages.new (S.state site.old) (S.state site.new) }
+        → Asks result (touches_of o (record { lsn = lsn; rec = rec.now } ∷ [])) pages.old pages.new (S.state site.old)
+        (S.state site.new) }
 
     // Of every site.
-    ensures logs_nothing { LogsNothing result log.old log.new pages.old pages.new (S.state site.old) (S.state site.new) }
+    ensures logs_nothing { LogsNothing result log.old log.new pages.old pages.new (S.state site.old)
+        (S.state site.new) }
 {
     page_laws();
     redo_laws();
@@ -199,10 +206,12 @@ fn take_record<S: Site>(
         front (record { lsn = lsn; rec = rec.now } ∷ []) }
 
     // Of every site.
-    ensures logs_nothing { LogsNothing result log.old log.new pages.old pages.new (S.state site.old) (S.state site.new) }
+    ensures logs_nothing { LogsNothing result log.old log.new pages.old pages.new (S.state site.old)
+        (S.state site.new) }
     ensures found_going { read.MayGoOn so_far.new.found }
     ensures records { OnOk result (so_far.new.records ≡ so_far.old.records + 1) }
-    ensures owed { OnOk result (owed_for (listed so_far.new.found.table) ≤ owed_for (listed so_far.old.found.table) + 1) }
+    ensures owed { OnOk result (owed_for (listed so_far.new.found.table)
+        ≤ owed_for (listed so_far.old.found.table) + 1) }
 {
     page_laws();
     redo_laws();
@@ -244,7 +253,8 @@ fn take_block<S: Site>(
         front (entries_from (512 * block + 2) records) }
 
     // Of every site.
-    ensures logs_nothing { LogsNothing result log.old log.new pages.old pages.new (S.state site.old) (S.state site.new) }
+    ensures logs_nothing { LogsNothing result log.old log.new pages.old pages.new (S.state site.old)
+        (S.state site.new) }
     ensures found_going { OnOk result (read.MayGoOn so_far.new.found) }
     ensures some { OnOk result (so_far.old.records < so_far.new.records) }
     ensures few { OnOk result (so_far.new.records ≤ so_far.old.records + 503) }
@@ -276,9 +286,10 @@ fn take_block<S: Site>(
     Ok(())
 }
 
-/// Analysis and redo of a restart: the log is read once, from its kept block on. Analysis hears of each record from the master's redo block
-/// on, and of those of the transactions that the master names; from the redo block on each Update and each CLR is redone where its page
-/// has a smaller LSN. Where the log's content isn't of the form, or a record is on a page that doesn't exist, it answers Foreign.
+/// Analysis and redo of a restart: the log is read once, from its kept block on. Analysis hears of each record from the
+/// master's redo block on, and of those of the transactions that the master names; from the redo block on each Update
+/// and each CLR is redone where its page has a smaller LSN. Where the log's content isn't of the form, or a record is
+/// on a page that doesn't exist, it answers Foreign.
 pub fn redo<S: Site>(
     alloc: Global,
     site: &mut S,
@@ -289,25 +300,33 @@ pub fn redo<S: Site>(
     requires going { MayGoOn log.old pages.old (S.state site.old) }
     requires ascend { Ascend master.now.active }
 
-    // Of an honest site with a sound image, whose newest master is handed in. Blocks are those from the oldest kept one on.
-    ensures holds { (newest : Option Master) (blocks : List (List LogRecord)) (table : List Content) (commits : ℕ) → master.now ≡ saved_by newest
+    // Of an honest site with a sound image, whose newest master is handed in. Blocks are those from the oldest kept one
+    // on.
+    ensures holds { (newest : Option Master) (blocks : List (List LogRecord)) (table : List Content) (commits : ℕ)
+        → master.now ≡ saved_by newest
         → IsOpened pages.old.flash.geometry log.old pages.old (S.state site.old) newest blocks table commits
-        → OnOk result (Holds log.new pages.new (S.state site.new) newest (log_from (kept_by newest) blocks) table commits) }
-    ensures read { (newest : Option Master) (blocks : List (List LogRecord)) (table : List Content) (commits : ℕ) → master.now ≡ saved_by newest
+        → OnOk result (Holds log.new pages.new (S.state site.new) newest (log_from (kept_by newest) blocks)
+        table commits) }
+    ensures read { (newest : Option Master) (blocks : List (List LogRecord)) (table : List Content) (commits : ℕ)
+        → master.now ≡ saved_by newest
         → IsOpened pages.old.flash.geometry log.old pages.old (S.state site.old) newest blocks table commits
         → IfOk result (λ redone. IsAnalysis (master_of newest)
         (taken (picture_under newest pages.old.flash.geometry (S.state site.old).image blocks)) redone.found) }
-    ensures unfinished { (newest : Option Master) (blocks : List (List LogRecord)) (table : List Content) (commits : ℕ) → master.now ≡ saved_by newest
+    ensures unfinished { (newest : Option Master) (blocks : List (List LogRecord)) (table : List Content) (commits : ℕ)
+        → master.now ≡ saved_by newest
         → IsOpened pages.old.flash.geometry log.old pages.old (S.state site.old) newest blocks table commits
         → IfOk result (λ redone. IsTable [] (log_from (kept_by newest) blocks) (listed redone.found.table)) }
-    ensures count { (newest : Option Master) (blocks : List (List LogRecord)) (table : List Content) (commits : ℕ) → master.now ≡ saved_by newest
+    ensures count { (newest : Option Master) (blocks : List (List LogRecord)) (table : List Content) (commits : ℕ)
+        → master.now ≡ saved_by newest
         → IsOpened pages.old.flash.geometry log.old pages.old (S.state site.old) newest blocks table commits
         → IfOk result (λ redone. redone.records ≡ length (log_from (kept_by newest) blocks)) }
-    ensures keeps { (newest : Option Master) (blocks : List (List LogRecord)) (table : List Content) (commits : ℕ) → master.now ≡ saved_by newest
+    ensures keeps { (newest : Option Master) (blocks : List (List LogRecord)) (table : List Content) (commits : ℕ)
+        → master.now ≡ saved_by newest
         → IsOpened pages.old.flash.geometry log.old pages.old (S.state site.old) newest blocks table commits
         → Keeps result pages.old.flash.geometry log.old log.new (S.state site.old) (S.state site.new)
         (LeavesTableUnder newest pages.old.flash.geometry table commits (S.state site.old).told) 0 0 }
-    ensures asks { (newest : Option Master) (blocks : List (List LogRecord)) (table : List Content) (commits : ℕ) → master.now ≡ saved_by newest
+    ensures asks { (newest : Option Master) (blocks : List (List LogRecord)) (table : List Content) (commits : ℕ)
+        → master.now ≡ saved_by newest
         → IsOpened pages.old.flash.geometry log.old pages.old (S.state site.old) newest blocks table commits
         → Asks result (redo_works (picture_under newest pages.old.flash.geometry (S.state site.old).image blocks))
         pages.old pages.new (S.state site.old) (S.state site.new) }
@@ -317,7 +336,8 @@ pub fn redo<S: Site>(
     ensures found_going { IfOk result (λ redone. read.MayGoOn redone.found) }
     ensures some { IfOk result (λ redone. log.old.ring.hi ≤ log.old.kept + redone.records) }
     ensures few { IfOk result (λ redone. redone.records ≤ 503 * (log.old.ring.hi - log.old.kept)) }
-    ensures owed { IfOk result (λ redone. owed_for (listed redone.found.table) ≤ redone.records + length master.now.active) }
+    ensures owed { IfOk result (λ redone. owed_for (listed redone.found.table)
+        ≤ redone.records + length master.now.active) }
     ensures blocks { OnOk result (blocks_to log.new ≡ blocks_to log.old) }
     ensures rises { OnOk result (log.old.ring.hi ≤ log.new.ring.hi) }
     ensures log_reads { (S.state site.new).log_reads

@@ -8,9 +8,9 @@ use log_laws::{
     owed_update, shown_is_seen, shown_is_value, table_at, whole_is_undoable,
 };
 
-/// Law: where log and pages hold together and there is room, a Begin may be logged; an active transaction's Update of the page in front
-/// may be, which names what its slot has, where no other unfinished transaction has written; an active transaction may be committed, and
-/// undone; and one of which nothing remains to be undone may be ended.
+/// Law: where log and pages hold together and there is room, a Begin may be logged; an active transaction's Update of
+/// the page in front may be, which names what its slot has, where no other unfinished transaction has written; an
+/// active transaction may be committed, and undone; and one of which nothing remains to be undone may be ended.
 pub fn sessions_go_on()
     ensures { GrowLaws }
 {
@@ -26,8 +26,9 @@ pub fn sessions_go_on()
     hold_together();
 }
 
-/// Law: where log and pages hold together the slot of a page in front has the committed value where no unfinished transaction has
-/// written there, and what a transaction sees where none but that one has. The table has 32 records a page.
+/// Law: where log and pages hold together the slot of a page in front has the committed value where no unfinished
+/// transaction has written there, and what a transaction sees where none but that one has. The table has 32 records a
+/// page.
 pub fn sessions_see()
     ensures { SeeLaws }
 {
@@ -40,7 +41,8 @@ pub fn sessions_see()
     hold_together();
 }
 
-/// Law: undoing an active transaction asks the page cache for a change of the page of each of its writes, the last one first.
+/// Law: undoing an active transaction asks the page cache for a change of the page of each of its writes, the last one
+/// first.
 pub fn sessions_are_undone()
     ensures { ActiveIsUndoneBy }
 {}

@@ -1,5 +1,6 @@
 // Log and pages of a run: the records that it logs, and the pages that they change.
-ghost use Rattle.std.specs.Prelude.{Option, map, reverse, ◌≡◌, ◌⊎◌, ◌+◌, ◌*◌, ◌/◌, ◌^◌, ◌<◌, ◌≤◌, ◌↔◌, ◌++◌, ◌∷◌, [], List, length, IfOk, OnOk, IfErr, IsTrue, ℕ};
+ghost use Rattle.std.specs.Prelude.{Option, map, reverse, ◌≡◌, ◌⊎◌, ◌+◌, ◌*◌, ◌/◌, ◌^◌, ◌<◌, ◌≤◌, ◌↔◌, ◌++◌, ◌∷◌, []};
+ghost use Rattle.std.specs.Prelude.{List, length, IfOk, OnOk, IfErr, IsTrue, ℕ};
 ghost use Rattle.site.specs.declared.outside.Dev.{Dev};
 ghost use Rattle.site.specs.declared.outside.Stop.{Stop};
 ghost use Rattle.site.specs.State.{State};
@@ -41,7 +42,8 @@ use txn_table::Active;
 /// The number of a page's slots.
 const SLOTS: u32 = 32;
 
-/// Log, pages and master units of a run, and how many of its records count: all that were made since those that a checkpoint let go.
+/// Log, pages and master units of a run, and how many of its records count: all that were made since those that a
+/// checkpoint let go.
 #[derive(Drop)]
 pub struct Store {
     pub log: LogStore,
@@ -89,8 +91,10 @@ impl Store {
         // Of an honest site whose log and pages hold these records.
         ensures holds { (newest : Option Master) (records : List Entry) (table : List Content) (commits : ℕ)
             → Holds self.old (S.state site.old) newest records table commits
-            → IfOk result (λ lsn. MayGrow self.old (S.state site.old) newest records (record { lsn = lsn; rec = LogRecord.Begin })
-            → Holds self.new (S.state site.new) newest (records ++ record { lsn = lsn; rec = LogRecord.Begin } ∷ []) table commits) }
+            → IfOk result (λ lsn. MayGrow self.old (S.state site.old) newest records
+            (record { lsn = lsn; rec = LogRecord.Begin })
+            → Holds self.new (S.state site.new) newest (records ++ record { lsn = lsn; rec = LogRecord.Begin } ∷ [])
+            table commits) }
         ensures keeps { (newest : Option Master) (records : List Entry) (table : List Content) (commits : ℕ)
             → Holds self.old (S.state site.old) newest records table commits
             → Keeps result self.old self.new (S.state site.old) (S.state site.new)
@@ -143,7 +147,8 @@ impl Store {
     pub fn shown(&self, number: u32) -> Option<Octets>
         requires pages { IsStore self.now.pages }
         requires front { IsInFront self.now number }
-        ensures shown { (site : State) (newest : Option Master) (records : List Entry) (table : List Content) (commits : ℕ)
+        ensures shown { (site : State) (newest : Option Master) (records : List Entry) (table : List Content)
+            (commits : ℕ)
             → Holds self.now site newest records table commits → result ≡ shown_in self.now site records number }
         ensures short { IsShort result }
     {
@@ -174,9 +179,17 @@ impl Store {
         ensures holds { (newest : Option Master) (records : List Entry) (table : List Content) (commits : ℕ)
             → Holds self.old (S.state site.old) newest records table commits
             → IfOk result (λ lsn. MayGrow self.old (S.state site.old) newest records
-            (record { lsn = lsn; rec = update_by txn prev number (shown_in self.old (S.state site.old) records number) after.now })
+            (record {
+              lsn = lsn;
+              rec = update_by txn prev number (shown_in self.old (S.state site.old) records number)
+                  after.now;
+            })
             → Holds self.new (S.state site.new) newest (records
-            ++ record { lsn = lsn; rec = update_by txn prev number (shown_in self.old (S.state site.old) records number) after.now } ∷ [])
+            ++ record {
+              lsn = lsn;
+              rec = update_by txn prev number (shown_in self.old (S.state site.old) records number)
+                  after.now;
+            } ∷ [])
             table commits) }
         ensures keeps { (newest : Option Master) (records : List Entry) (table : List Content) (commits : ℕ)
             → Holds self.old (S.state site.old) newest records table commits
@@ -191,7 +204,8 @@ impl Store {
         ensures reads { SameReads (S.state site.old) (S.state site.new) }
         ensures stages { Stages result [] (next_group (cache_of self.old.pages)) self.old.pages self.new.pages
             (S.state site.old) (S.state site.new) }
-        ensures stops { IfErr result (λ stop. (stop ≡ Stop.Device Dev.Log) ⊎ ((stop ≡ Stop.Worn Dev.Log) ⊎ (stop ≡ Stop.Foreign))) }
+        ensures stops { IfErr result (λ stop. (stop ≡ Stop.Device Dev.Log)
+            ⊎ ((stop ≡ Stop.Worn Dev.Log) ⊎ (stop ≡ Stop.Foreign))) }
     {
         let update = LogRecord::Update {
             txn,
@@ -210,8 +224,9 @@ impl Store {
         }
     }
 
-    /// Undoes a session's transaction: a compensation record for each of its writes, the last one first, and its End. Where the log has
-    /// other records of it than the session has made, they may leave too little room, and it answers Foreign.
+    /// Undoes a session's transaction: a compensation record for each of its writes, the last one first, and its End.
+    /// Where the log has other records of it than the session has made, they may leave too little room, and it answers
+    /// Foreign.
     pub fn roll_back<S: Site>(&mut self, site: &mut S, entry: Active, owed: u64) -> Result<(), Stop>
         requires going { MayWork self.old (S.state site.old) }
         requires last { entry.last < end_of self.old.log }
@@ -223,7 +238,8 @@ impl Store {
             → Holds self.old (S.state site.old) newest records table commits
             → (writes : List Write) → IsActive (master_of newest) records entry.begin entry.last writes
             → length writes ≡ entry.writes
-            → OnOk result (RollsBack self.new (S.state site.new) newest records table commits entry.begin entry.writes) }
+            → OnOk result (RollsBack self.new (S.state site.new) newest records table commits entry.begin
+            entry.writes) }
         ensures keeps { (newest : Option Master) (records : List Entry) (table : List Content) (commits : ℕ)
             → Holds self.old (S.state site.old) newest records table commits
             → (writes : List Write) → IsActive (master_of newest) records entry.begin entry.last writes

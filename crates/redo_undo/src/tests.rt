@@ -195,7 +195,8 @@ fn reopened(alloc: Global, site: &mut MemSite) -> Result<(LogStore, PageStore, R
     requires { HasLengths (record { pages = 1; groups = 8; blocks = 16 }) (state_of site.old).image }
     ensures going { IfOk result (λ all. MayGoOn all.0 all.1 (state_of site.new)) }
     ensures pages { IfOk result (λ all. all.1.flash.geometry.pages ≡ 1) }
-    ensures lengths { OnOk result (HasLengths (record { pages = 1; groups = 8; blocks = 16 }) (state_of site.new).image) }
+    ensures lengths { OnOk result (HasLengths (record { pages = 1; groups = 8; blocks = 16 })
+        (state_of site.new).image) }
 {
     let mut pages = PageStore::start(alloc, site, &SMALL, 4)?;
     let mut log = LogStore::start(site, &SMALL)?;
@@ -251,12 +252,14 @@ fn committed(alloc: Global, site: &mut MemSite) -> Result<Store, Stop>
     Ok(store)
 }
 
-// The newest master once a checkpoint is made with these active transactions after one commit. No record that counts is let go.
+// The newest master once a checkpoint is made with these active transactions after one commit. No record that counts is
+// let go.
 fn checkpointed(site: &mut MemSite, store: &mut Store, active: Pairs) -> Result<Master, Stop>
     requires going { MayWork store.old (state_of site.old) }
     requires ascend { Ascend active }
     requires begun { first_block (blocks_to store.old.log) (begins_of active) ≤ blocks_to store.old.log }
-    requires enough { blocks_to store.old.log ≤ first_block (blocks_to store.old.log) (begins_of active) + store.old.made }
+    requires enough { blocks_to store.old.log
+        ≤ first_block (blocks_to store.old.log) (begins_of active) + store.old.made }
 {
     store.checkpoint(site, active, 1, 0)?;
     let (_ring, master) = newest(site)?;

@@ -1,5 +1,6 @@
 // Undoing an Update: a compensation record, and what stood before it.
-ghost use Rattle.std.specs.Prelude.{◌≡◌, ◌≢◌, ◌↔◌, ◌+◌, ◌*◌, ◌<◌, ◌≤◌, ◌++◌, ◌∷◌, [], ◌^◌, ℕ, List, Some, IsTrue, true, false, IfOk, IfErr, IfSome, IfNone, OnOk, Option};
+ghost use Rattle.std.specs.Prelude.{◌≡◌, ◌≢◌, ◌↔◌, ◌+◌, ◌*◌, ◌<◌, ◌≤◌, ◌++◌, ◌∷◌, [], ◌^◌, ℕ, List, Some, IsTrue, true};
+ghost use Rattle.std.specs.Prelude.{false, IfOk, IfErr, IfSome, IfNone, OnOk, Option};
 ghost use Rattle.site.specs.declared.outside.Stop.{Stop};
 ghost use Rattle.record_model.specs.State.{Content};
 ghost use Rattle.log_records.specs.declared.log_record.LogRecord.{LogRecord};
@@ -62,24 +63,27 @@ pub(crate) fn has_room(log: &LogStore) -> bool
     log.sealed_end() / 512 + tail + 1 < log.kept() + geometry.blocks as u64
 }
 
-// Reads the Update of a transaction that is to be compensated. It stands in the kept log, is on a page that exists, and names an
-// earlier record.
+// Reads the Update of a transaction that is to be compensated. It stands in the kept log, is on a page that exists, and
+// names an earlier record.
 fn read_update<S: Site>(log: &LogStore, site: &mut S, at: &Undoing) -> Result<Wanted, Stop>
     requires going { log_held.MayGoOn log.now (S.state site.old) }
     requires last { at.now.last < end_of log.now }
 
     // Of an honest site on which log and pages hold together.
-    ensures wanted { (pages : PageStore) (newest : Option Master) (records : List Entry) (table : List Content) (commits : ℕ) (x : Unfinished)
+    ensures wanted { (pages : PageStore) (newest : Option Master) (records : List Entry) (table : List Content)
+        (commits : ℕ) (x : Unfinished)
         → log.now.geometry ≡ pages.flash.geometry
         → Holds log.now pages (S.state site.old) newest records table commits
         → IsUnfinished records x → IsAt at.now x → 0 < x.remaining
         → IfOk result (IsWanted pages.flash.geometry (S.state site.old).image newest records x) }
-    ensures readable { (pages : PageStore) (newest : Option Master) (records : List Entry) (table : List Content) (commits : ℕ) (x : Unfinished)
+    ensures readable { (pages : PageStore) (newest : Option Master) (records : List Entry) (table : List Content)
+        (commits : ℕ) (x : Unfinished)
         → log.now.geometry ≡ pages.flash.geometry
         → Holds log.now pages (S.state site.old) newest records table commits
         → IsUnfinished records x → IsAt at.now x → 0 < x.remaining
         → IfErr result (λ stop. stop ≢ Stop.Foreign) }
-    ensures last_left { (pages : PageStore) (newest : Option Master) (records : List Entry) (table : List Content) (commits : ℕ) (x : Unfinished)
+    ensures last_left { (pages : PageStore) (newest : Option Master) (records : List Entry) (table : List Content)
+        (commits : ℕ) (x : Unfinished)
         (u : Entry) (rest : List Entry)
         → log.now.geometry ≡ pages.flash.geometry
         → Holds log.now pages (S.state site.old) newest records table commits
@@ -151,16 +155,32 @@ fn compensate<S: Site>(
     ensures holds { (newest : Option Master) (records : List Entry) (table : List Content) (commits : ℕ)
         → Holds log.old pages.old (S.state site.old) newest records table commits
         → IfOk result (λ lsn. MayGrow log.old pages.old (S.state site.old).image newest records
-        (record { lsn = lsn; rec = LogRecord.Clr at.now.txn at.now.last wanted.prev wanted.page wanted.slot wanted.before })
+        (record {
+          lsn = lsn;
+          rec = LogRecord.Clr at.now.txn at.now.last wanted.prev wanted.page wanted.slot
+              wanted.before;
+        })
         → Holds log.new pages.new (S.state site.new) newest (records
-        ++ record { lsn = lsn; rec = LogRecord.Clr at.now.txn at.now.last wanted.prev wanted.page wanted.slot wanted.before } ∷ [])
+        ++ record {
+          lsn = lsn;
+          rec = LogRecord.Clr at.now.txn at.now.last wanted.prev wanted.page wanted.slot
+              wanted.before;
+        } ∷ [])
         table commits) }
     ensures orderly { (newest : Option Master) (records : List Entry) (table : List Content) (commits : ℕ)
         → Holds log.old pages.old (S.state site.old) newest records table commits
         → IfOk result (λ lsn. MayGrow log.old pages.old (S.state site.old).image newest records
-        (record { lsn = lsn; rec = LogRecord.Clr at.now.txn at.now.last wanted.prev wanted.page wanted.slot wanted.before })
+        (record {
+          lsn = lsn;
+          rec = LogRecord.Clr at.now.txn at.now.last wanted.prev wanted.page wanted.slot
+              wanted.before;
+        })
         → AreOrderly records → AreOrderly (records
-        ++ record { lsn = lsn; rec = LogRecord.Clr at.now.txn at.now.last wanted.prev wanted.page wanted.slot wanted.before } ∷ [])) }
+        ++ record {
+          lsn = lsn;
+          rec = LogRecord.Clr at.now.txn at.now.last wanted.prev wanted.page wanted.slot
+              wanted.before;
+        } ∷ [])) }
     ensures keeps { (newest : Option Master) (records : List Entry) (table : List Content) (commits : ℕ)
         → Holds log.old pages.old (S.state site.old) newest records table commits
         → Keeps result pages.old.flash.geometry log.old log.new (S.state site.old) (S.state site.new)
@@ -190,8 +210,8 @@ fn compensate<S: Site>(
     }
 }
 
-/// Compensates the last Update newest of a transaction that isn't compensated yet: its slot has again what stood before it. Where what it reads
-/// is no such Update, or there is no room for the CLR, it answers Foreign.
+/// Compensates the last Update newest of a transaction that isn't compensated yet: its slot has again what stood before
+/// it. Where what it reads is no such Update, or there is no room for the CLR, it answers Foreign.
 pub(crate) fn undo_update<S: Site>(
     site: &mut S,
     log: &mut LogStore,
@@ -202,17 +222,20 @@ pub(crate) fn undo_update<S: Site>(
     requires last { at.last < end_of log.old }
 
     // Of an honest site on which log and pages hold together.
-    ensures undone { (newest : Option Master) (records : List Entry) (table : List Content) (commits : ℕ) (x : Unfinished)
+    ensures undone { (newest : Option Master) (records : List Entry) (table : List Content) (commits : ℕ)
+        (x : Unfinished)
         → Holds log.old pages.old (S.state site.old) newest records table commits
         → IsUnfinished records x → IsAt at x → 0 < x.remaining
         → IfOk result (Undone log.new pages.new (S.state site.new) newest records table commits x) }
-    ensures keeps { (newest : Option Master) (records : List Entry) (table : List Content) (commits : ℕ) (x : Unfinished)
+    ensures keeps { (newest : Option Master) (records : List Entry) (table : List Content) (commits : ℕ)
+        (x : Unfinished)
         → Holds log.old pages.old (S.state site.old) newest records table commits
         → IsUnfinished records x → IsAt at x → 0 < x.remaining
         → Keeps result pages.old.flash.geometry log.old log.new (S.state site.old) (S.state site.new)
         (LeavesTableUnder newest pages.old.flash.geometry table commits (S.state site.old).told) 1 0 }
 
-    ensures asks { (newest : Option Master) (records : List Entry) (table : List Content) (commits : ℕ) (x : Unfinished) (u : Entry) (rest : List Entry)
+    ensures asks { (newest : Option Master) (records : List Entry) (table : List Content) (commits : ℕ) (x : Unfinished)
+        (u : Entry) (rest : List Entry)
         → Holds log.old pages.old (S.state site.old) newest records table commits
         → IsUnfinished records x → IsAt at x → left_open records x.txn ≡ u ∷ rest
         → Asks result (works_of (u ∷ [])) pages.old pages.new (S.state site.old) (S.state site.new) }
@@ -258,17 +281,20 @@ fn undo_updates<S: Site>(
     requires last { first.last < end_of log.old }
 
     // Of an honest site on which log and pages hold together.
-    ensures undone { (newest : Option Master) (records : List Entry) (table : List Content) (commits : ℕ) (x : Unfinished)
+    ensures undone { (newest : Option Master) (records : List Entry) (table : List Content) (commits : ℕ)
+        (x : Unfinished)
         → Holds log.old pages.old (S.state site.old) newest records table commits
         → IsUnfinished records x → IsAt first x
         → IfOk result (Compensates log.new pages.new (S.state site.new) newest records table commits x.txn
         (blocks_to log.old) (S.state site.old).log_reads) }
-    ensures keeps { (newest : Option Master) (records : List Entry) (table : List Content) (commits : ℕ) (x : Unfinished)
+    ensures keeps { (newest : Option Master) (records : List Entry) (table : List Content) (commits : ℕ)
+        (x : Unfinished)
         → Holds log.old pages.old (S.state site.old) newest records table commits
         → IsUnfinished records x → IsAt first x
         → Keeps result pages.old.flash.geometry log.old log.new (S.state site.old) (S.state site.new)
         (LeavesTableUnder newest pages.old.flash.geometry table commits (S.state site.old).told) x.remaining 0 }
-    ensures log_reads { (newest : Option Master) (records : List Entry) (table : List Content) (commits : ℕ) (x : Unfinished)
+    ensures log_reads { (newest : Option Master) (records : List Entry) (table : List Content) (commits : ℕ)
+        (x : Unfinished)
         → Holds log.old pages.old (S.state site.old) newest records table commits
         → IsUnfinished records x → IsAt first x
         → (S.state site.new).log_reads ≤ (S.state site.old).log_reads + x.remaining }
@@ -308,19 +334,22 @@ fn goes_on(rec: &LogRecord, lsn: u64) -> Option<(u64, u64)>
     }
 }
 
-// Reads the last record of a transaction, which says where undoing it goes on: with an Update itself, behind a CLR with the record that
-// this names, and with a Begin nowhere. The record is of the transaction, and what a CLR names stands before it.
+// Reads the last record of a transaction, which says where undoing it goes on: with an Update itself, behind a CLR with
+// the record that this names, and with a Begin nowhere. The record is of the transaction, and what a CLR names stands
+// before it.
 fn read_last<S: Site>(log: &LogStore, site: &mut S, txn: u64, last: u64) -> Result<Undoing, Stop>
     requires going { log_held.MayGoOn log.now (S.state site.old) }
     requires last { last < end_of log.now }
 
     // Of an honest site on which log and pages hold together, and of an unfinished transaction.
-    ensures at { (pages : PageStore) (newest : Option Master) (records : List Entry) (table : List Content) (commits : ℕ) (x : Unfinished)
+    ensures at { (pages : PageStore) (newest : Option Master) (records : List Entry) (table : List Content)
+        (commits : ℕ) (x : Unfinished)
         → log.now.geometry ≡ pages.flash.geometry
         → Holds log.now pages (S.state site.old) newest records table commits
         → IsUnfinished records x → x.txn ≡ txn → x.last ≡ last
         → IfOk result (λ at. IsAt at x) }
-    ensures readable { (pages : PageStore) (newest : Option Master) (records : List Entry) (table : List Content) (commits : ℕ) (x : Unfinished)
+    ensures readable { (pages : PageStore) (newest : Option Master) (records : List Entry) (table : List Content)
+        (commits : ℕ) (x : Unfinished)
         → log.now.geometry ≡ pages.flash.geometry
         → Holds log.now pages (S.state site.old) newest records table commits
         → IsUnfinished records x → x.txn ≡ txn → x.last ≡ last
@@ -353,8 +382,9 @@ fn read_last<S: Site>(log: &LogStore, site: &mut S, txn: u64, last: u64) -> Resu
     Ok(Undoing { txn, last, next })
 }
 
-/// Undoes a transaction as a whole: a CLR for each of its Updates that has none, the last one first, and its End. `txn` is the LSN of its
-/// Begin and `last` that of its last record. Undo reads no record outside of the kept log, and follows a transaction to falling LSNs only.
+/// Undoes a transaction as a whole: a CLR for each of its Updates that has none, the last one first, and its End. `txn`
+/// is the LSN of its Begin and `last` that of its last record. Undo reads no record outside of the kept log, and
+/// follows a transaction to falling LSNs only.
 /// Where what it reads is no such record of the transaction, or there is no room for what it logs, it answers Foreign.
 pub fn undo_one<S: Site>(
     site: &mut S,
@@ -367,21 +397,25 @@ pub fn undo_one<S: Site>(
     requires last { last < end_of log.old }
 
     // Of an honest site on which log and pages hold together, and of an unfinished transaction.
-    ensures undone { (newest : Option Master) (records : List Entry) (table : List Content) (commits : ℕ) (x : Unfinished)
+    ensures undone { (newest : Option Master) (records : List Entry) (table : List Content) (commits : ℕ)
+        (x : Unfinished)
         → Holds log.old pages.old (S.state site.old) newest records table commits
         → IsUnfinished records x → x.txn ≡ txn → x.last ≡ last
         → OnOk result (RollsBack log.new pages.new (S.state site.new) newest records table commits txn) }
-    ensures keeps { (newest : Option Master) (records : List Entry) (table : List Content) (commits : ℕ) (x : Unfinished)
+    ensures keeps { (newest : Option Master) (records : List Entry) (table : List Content) (commits : ℕ)
+        (x : Unfinished)
         → Holds log.old pages.old (S.state site.old) newest records table commits
         → IsUnfinished records x → x.txn ≡ txn → x.last ≡ last
         → Keeps result pages.old.flash.geometry log.old log.new (S.state site.old) (S.state site.new)
         (LeavesTableUnder newest pages.old.flash.geometry table commits (S.state site.old).told) (x.remaining + 1) 0 }
 
-    ensures blocks { (newest : Option Master) (records : List Entry) (table : List Content) (commits : ℕ) (x : Unfinished)
+    ensures blocks { (newest : Option Master) (records : List Entry) (table : List Content) (commits : ℕ)
+        (x : Unfinished)
         → Holds log.old pages.old (S.state site.old) newest records table commits
         → IsUnfinished records x → x.txn ≡ txn → x.last ≡ last
         → OnOk result (blocks_to log.new ≤ blocks_to log.old + (x.remaining + 1)) }
-    ensures log_reads { (newest : Option Master) (records : List Entry) (table : List Content) (commits : ℕ) (x : Unfinished)
+    ensures log_reads { (newest : Option Master) (records : List Entry) (table : List Content) (commits : ℕ)
+        (x : Unfinished)
         → Holds log.old pages.old (S.state site.old) newest records table commits
         → IsUnfinished records x → x.txn ≡ txn → x.last ≡ last
         → (S.state site.new).log_reads ≤ (S.state site.old).log_reads + (x.remaining + 1) }

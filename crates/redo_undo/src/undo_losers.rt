@@ -1,5 +1,6 @@
 // Undoing all transactions that a log leaves unfinished.
-ghost use Rattle.std.specs.Prelude.{◌≡◌, ◌⊎◌, ◌+◌, ◌<◌, ◌≤◌, [], ◌∷◌, ℕ, List, drop, false, None, Some, IfOk, IfErr, IfSome, IfNone, OnOk, Option};
+ghost use Rattle.std.specs.Prelude.{◌≡◌, ◌⊎◌, ◌+◌, ◌<◌, ◌≤◌, [], ◌∷◌, ℕ, List, drop, false, None, Some, IfOk, IfErr};
+ghost use Rattle.std.specs.Prelude.{IfSome, IfNone, OnOk, Option};
 ghost use Rattle.site.specs.declared.outside.Dev.{Dev};
 ghost use Rattle.site.specs.declared.outside.Stop.{Stop};
 ghost use Rattle.record_model.specs.State.{Content};
@@ -75,15 +76,18 @@ fn end_one<S: Site>(
     requires none { HasNone (listed found.old.table) txn }
 
     // Of an honest site on which log and pages hold together.
-    ensures keeps { (pages : PageStore) (newest : Option Master) (records : List Entry) (table : List Content) (commits known : ℕ)
+    ensures keeps { (pages : PageStore) (newest : Option Master) (records : List Entry) (table : List Content)
+        (commits known : ℕ)
         → MayGoOn log.old pages (S.state site.old)
         → IsUndoing log.old pages (S.state site.old) newest records table commits found.old known
         → Keeps result pages.flash.geometry log.old log.new (S.state site.old) (S.state site.new)
         (LeavesTableUnder newest pages.flash.geometry table commits (S.state site.old).told) 1 0 }
-    ensures updates { (pages : PageStore) (newest : Option Master) (records : List Entry) (table : List Content) (commits known : ℕ)
+    ensures updates { (pages : PageStore) (newest : Option Master) (records : List Entry) (table : List Content)
+        (commits known : ℕ)
         → log.old.geometry ≡ pages.flash.geometry
         → IsUndoing log.old pages (S.state site.old) newest records table commits found.old known
-        → IfOk result (λ lsn. UndoesUpdates log.new pages (S.state site.new) newest records table commits found.new lsn []) }
+        → IfOk result (λ lsn. UndoesUpdates log.new pages (S.state site.new) newest records table commits
+        found.new lsn []) }
 
     // Of every site.
     ensures before { IfOk result (λ lsn. lsn < end_of log.new) }
@@ -112,8 +116,8 @@ fn end_one<S: Site>(
     Ok(lsn)
 }
 
-// Ends the transactions of which nothing remains to be undone, by ascending transaction. `known` is an LSN before the log's end, and so
-// is the answer: that of the last record that undo has logged, or `known`.
+// Ends the transactions of which nothing remains to be undone, by ascending transaction. `known` is an LSN before the
+// log's end, and so is the answer: that of the last record that undo has logged, or `known`.
 fn end_undone<S: Site>(
     site: &mut S,
     log: &mut LogStore,
@@ -125,15 +129,19 @@ fn end_undone<S: Site>(
     requires known { known < end_of log.old }
 
     // Of an honest site on which log and pages hold together.
-    ensures keeps { (pages : PageStore) (newest : Option Master) (records : List Entry) (table : List Content) (commits : ℕ)
+    ensures keeps { (pages : PageStore) (newest : Option Master) (records : List Entry) (table : List Content)
+        (commits : ℕ)
         → MayGoOn log.old pages (S.state site.old)
         → IsUndoing log.old pages (S.state site.old) newest records table commits found.old known
         → Keeps result pages.flash.geometry log.old log.new (S.state site.old) (S.state site.new)
-        (LeavesTableUnder newest pages.flash.geometry table commits (S.state site.old).told) (owed_for (listed found.old.table)) 0 }
-    ensures updates { (pages : PageStore) (newest : Option Master) (records : List Entry) (table : List Content) (commits : ℕ)
+        (LeavesTableUnder newest pages.flash.geometry table commits (S.state site.old).told)
+        (owed_for (listed found.old.table)) 0 }
+    ensures updates { (pages : PageStore) (newest : Option Master) (records : List Entry) (table : List Content)
+        (commits : ℕ)
         → MayGoOn log.old pages (S.state site.old)
         → IsUndoing log.old pages (S.state site.old) newest records table commits found.old known
-        → IfOk result (λ lsn. UndoesUpdates log.new pages (S.state site.new) newest records table commits found.new lsn []) }
+        → IfOk result (λ lsn. UndoesUpdates log.new pages (S.state site.new) newest records table commits
+        found.new lsn []) }
 
     // Of every site.
     ensures before { IfOk result (λ lsn. lsn < end_of log.new) }
@@ -180,11 +188,14 @@ fn undo_greatest<S: Site>(
         → IsUndoing log.old pages.old (S.state site.old) newest records table commits found.old known
         → Keeps result pages.old.flash.geometry log.old log.new (S.state site.old) (S.state site.new)
         (LeavesTableUnder newest pages.old.flash.geometry table commits (S.state site.old).told) 1 0 }
-    ensures updates { (newest : Option Master) (records : List Entry) (table : List Content) (commits known : ℕ) (u : Entry)
+    ensures updates { (newest : Option Master) (records : List Entry) (table : List Content) (commits known : ℕ)
+        (u : Entry)
         → IsUndoing log.old pages.old (S.state site.old) newest records table commits found.old known
         → IsLastAt records loser.txn lsn u
-        → IfOk result (λ last. UndoesUpdates log.new pages.new (S.state site.new) newest records table commits found.new last (u ∷ [])) }
-    ensures asks { (newest : Option Master) (records : List Entry) (table : List Content) (commits known : ℕ) (u : Entry)
+        → IfOk result (λ last. UndoesUpdates log.new pages.new (S.state site.new) newest records table commits found.new
+        last (u ∷ [])) }
+    ensures asks { (newest : Option Master) (records : List Entry) (table : List Content) (commits known : ℕ)
+        (u : Entry)
         → IsUndoing log.old pages.old (S.state site.old) newest records table commits found.old known
         → IsLastAt records loser.txn lsn u
         → Asks result (works_of (u ∷ [])) pages.old pages.new (S.state site.old) (S.state site.new) }
@@ -215,9 +226,9 @@ fn undo_greatest<S: Site>(
     Ok(now.last)
 }
 
-// Compensates the greatest Update newest that remains, and ends its transaction where nothing of that remains. `known` is an LSN before the log's
-// end, and so is the answer, which is that of the last record that undo has logged. A transaction whose last record stands behind
-// `known` is Foreign.
+// Compensates the greatest Update newest that remains, and ends its transaction where nothing of that remains. `known`
+// is an LSN before the log's end, and so is the answer, which is that of the last record that undo has logged. A
+// transaction whose last record stands behind `known` is Foreign.
 fn undo_next<S: Site>(
     site: &mut S,
     log: &mut LogStore,
@@ -237,11 +248,13 @@ fn undo_next<S: Site>(
         → IsUndoing log.old pages.old (S.state site.old) newest records table commits found.old known
         → IsLastAt records next.0 next.1 u
         → Keeps result pages.old.flash.geometry log.old log.new (S.state site.old) (S.state site.new)
-        (LeavesTableUnder newest pages.old.flash.geometry table commits (S.state site.old).told) (owed_for (listed found.old.table)) 0 }
+        (LeavesTableUnder newest pages.old.flash.geometry table commits (S.state site.old).told)
+        (owed_for (listed found.old.table)) 0 }
     ensures updates { (newest : Option Master) (records : List Entry) (table : List Content) (commits : ℕ) (u : Entry)
         → IsUndoing log.old pages.old (S.state site.old) newest records table commits found.old known
         → IsLastAt records next.0 next.1 u
-        → IfOk result (λ last. UndoesUpdates log.new pages.new (S.state site.new) newest records table commits found.new last (u ∷ [])) }
+        → IfOk result (λ last. UndoesUpdates log.new pages.new (S.state site.new) newest records table commits found.new
+        last (u ∷ [])) }
     ensures asks { (newest : Option Master) (records : List Entry) (table : List Content) (commits : ℕ) (u : Entry)
         → IsUndoing log.old pages.old (S.state site.old) newest records table commits found.old known
         → IsLastAt records next.0 next.1 u
@@ -275,10 +288,10 @@ fn undo_next<S: Site>(
     end_one(site, log, found, next.0)
 }
 
-/// Undoes all transactions that analysis has found unfinished. Those of which nothing remains are ended first, by ascending transaction;
-/// then always the Update with the greatest LSN of all that remain is compensated, and its transaction ended as soon as nothing of it
-/// remains. Undo reads no record outside of the kept log. Where what it reads isn't what analysis says, or there is no room for what it
-/// logs, it answers Foreign.
+/// Undoes all transactions that analysis has found unfinished. Those of which nothing remains are ended first, by
+/// ascending transaction; then always the Update with the greatest LSN of all that remain is compensated, and its
+/// transaction ended as soon as nothing of it remains. Undo reads no record outside of the kept log. Where what it
+/// reads isn't what analysis says, or there is no room for what it logs, it answers Foreign.
 pub fn undo_all<S: Site>(
     site: &mut S,
     log: &mut LogStore,
@@ -288,7 +301,8 @@ pub fn undo_all<S: Site>(
     requires going { MayGoOn log.old pages.old (S.state site.old) }
     requires found { analysis.MayGoOn found.old }
 
-    // Of an honest site on which log and pages hold together, where each record is sealed and analysis has taken all of them.
+    // Of an honest site on which log and pages hold together, where each record is sealed and analysis has taken all of
+    // them.
     ensures undone { (newest : Option Master) (records : List Entry) (table : List Content) (commits : ℕ)
         → has_tail log.old ≡ false
         → Holds log.old pages.old (S.state site.old) newest records table commits
@@ -299,7 +313,8 @@ pub fn undo_all<S: Site>(
         → Holds log.old pages.old (S.state site.old) newest records table commits
         → IsTable [] records (listed found.old.table)
         → Keeps result pages.old.flash.geometry log.old log.new (S.state site.old) (S.state site.new)
-        (LeavesTableUnder newest pages.old.flash.geometry table commits (S.state site.old).told) (owed_for (listed found.old.table)) 0 }
+        (LeavesTableUnder newest pages.old.flash.geometry table commits (S.state site.old).told)
+        (owed_for (listed found.old.table)) 0 }
     ensures asks { (newest : Option Master) (records : List Entry) (table : List Content) (commits : ℕ)
         → has_tail log.old ≡ false
         → Holds log.old pages.old (S.state site.old) newest records table commits

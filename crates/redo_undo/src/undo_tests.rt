@@ -89,7 +89,8 @@ fn note(
     found.step(lsn, rec)
 }
 
-// Transactions 2 and 3 are unfinished, with Updates at 4 and 58, and at 31. That at 58 is compensated. All of this is sealed.
+// Transactions 2 and 3 are unfinished, with Updates at 4 and 58, and at 31. That at 58 is compensated. All of this is
+// sealed.
 fn crashed(alloc: Global, site: &mut MemSite) -> Result<Analysis, Stop>
     requires { HasLengths (record { pages = 1; groups = 8; blocks = 16 }) (state_of site.old).image }
     ensures found { IfOk result (λ found. analysis.MayGoOn found) }

@@ -1,8 +1,8 @@
 // Laws on what calls on pages ask of the cache. The functions do nothing.
 ghost use Rattle.redo_undo.specs.Works.{WorksAddUp, ReadsAddUp, ReadsForMore, NumbersRise, OverflowsWithMore};
 
-/// Law: work adds up, and so do the pages that it reads; the numbers of the groups that it appends never fall. So what overflows, and what
-/// was read, stays so with more work behind it.
+/// Law: work adds up, and so do the pages that it reads; the numbers of the groups that it appends never fall. So what
+/// overflows, and what was read, stays so with more work behind it.
 pub fn works_add_up()
     ensures works { WorksAddUp }
     ensures reads { ReadsAddUp }

@@ -6,7 +6,8 @@ use Rattle.sealed_ring.specs.declared.ring.Ring.{Ring}
 use Rattle.sealed_ring.specs.Ring.{gate, number, IsRing, IsLive}
 use Rattle.sealed_ring.specs.Ready.{region, Fits}
 
--- the slot of the live unit n holds its number behind an open gate; of the oldest, where as many live as can, any gate serves
+-- the slot of the live unit n holds its number behind an open gate; of the oldest, where as many live as can, any gate
+-- serves
 pub record Stands (s : Shape) (hi n : ℕ) (found_gate found_number : ℕ) : Type 0 where
   pub own : found_number ≡ n
   pub opened : hi + 1 < n + s.slots → found_gate ≡ 165

@@ -14,7 +14,9 @@ Apart s t = (s.base + s.slots * s.stride ≤ t.base) ⊎ (t.base + t.slots * t.s
 
 -- a change inside the one leaves the other
 abbrev pub LeavesOthers : Type 0
-LeavesOthers = (s t : Shape) (old new : List ℕ) → Apart s t → FitsIn s (length old) → FitsIn t (length old) → length new ≡ length old → SameOutside s old new → (units_of t new ≡ units_of t old) × (IsRing t old → IsRing t new)
+LeavesOthers = (s t : Shape) (old new : List ℕ) → Apart s t → FitsIn s (length old) → FitsIn t (length old)
+    → length new ≡ length old → SameOutside s old new
+    → (units_of t new ≡ units_of t old) × (IsRing t old → IsRing t new)
 
 -- a ring can be used after any calls, since no length changes
 abbrev pub UsableStays : Type 0
@@ -22,12 +24,15 @@ UsableStays = (ring : Ring) (old new : State) → IsUsable ring old → Goes old
 
 -- a ring stays ready where its device stays as it is
 abbrev pub ReadyElsewhere : Type 0
-ReadyElsewhere = (ring : Ring) (old new : State) → Untouched ring.shape.dev old new → IsReady ring old → IsReady ring new
+ReadyElsewhere = (ring : Ring) (old new : State) → Untouched ring.shape.dev old new → IsReady ring old
+    → IsReady ring new
 
 -- and where only another ring of its device changes and nothing is loose in the end
 abbrev pub ReadyBeside : Type 0
-ReadyBeside = (ring : Ring) (s : Shape) (old new : State) → Apart s ring.shape → FitsIn s (length (region ring.shape old)) → IsUsable ring old → Goes old new
-    → SameOutside s (region ring.shape old) (region ring.shape new) → IsSettled ring.shape.dev new → IsReady ring old → IsReady ring new
+ReadyBeside = (ring : Ring) (s : Shape) (old new : State) → Apart s ring.shape
+    → FitsIn s (length (region ring.shape old)) → IsUsable ring old → Goes old new
+    → SameOutside s (region ring.shape old) (region ring.shape new) → IsSettled ring.shape.dev new → IsReady ring old
+    → IsReady ring new
 
 -- hi is above each number of a slot that counts, and one above one of them or 0
 abbrev pub HiIsHighest : Type 0
@@ -40,7 +45,8 @@ LiveCount = (s : Shape) (c : List ℕ) → length (units_of s c).live ≡ min (h
 
 -- an append to a ring that isn't full adds its unit to the live ones
 abbrev pub AppendsBehind : Type 0
-AppendsBehind = (s : Shape) (units : Units) (bytes : List ℕ) → length units.live + 1 < s.slots → appended s units bytes ≡ record { hi = units.hi + 1; live = units.live ++ bytes ∷ [] }
+AppendsBehind = (s : Shape) (units : Units) (bytes : List ℕ) → length units.live + 1 < s.slots
+    → appended s units bytes ≡ record { hi = units.hi + 1; live = units.live ++ bytes ∷ [] }
 
 -- and to a full one it ends the oldest
 abbrev pub EndsOldest : Type 0
@@ -49,4 +55,5 @@ EndsOldest = (s : Shape) (hi : ℕ) (oldest : List ℕ) (rest : List (List ℕ))
 
 -- blank octets are a ring of the form without units
 abbrev pub BlankIsRing : Type 0
-BlankIsRing = (s : Shape) (c : List ℕ) → FitsIn s (length c) → ((p : ℕ) → slice_index c p ≡ 0) → IsRing s c × (units_of s c ≡ record { hi = 0; live = [] })
+BlankIsRing = (s : Shape) (c : List ℕ) → FitsIn s (length c) → ((p : ℕ) → slice_index c p ≡ 0)
+    → IsRing s c × (units_of s c ≡ record { hi = 0; live = [] })

@@ -5,7 +5,8 @@ use Rattle.site.specs.State.{State, Snapshot, content_of, IsSettled}
 use Rattle.site.specs.Moments.{LeavesOnly}
 use Rattle.sealed_ring.specs.declared.slots.Shape.{Shape}
 use Rattle.sealed_ring.specs.declared.ring.Ring.{Ring}
-use Rattle.sealed_ring.specs.Ring.{FitsIn, HasForm, IsRing, hi_of, Units, units_of, appended, Keeps, Adds, OldOrNew, Stages, Seals}
+use Rattle.sealed_ring.specs.Ring.{FitsIn, HasForm, IsRing, hi_of, Units, units_of, appended, Keeps, Adds, OldOrNew}
+use Rattle.sealed_ring.specs.Ring.{Stages, Seals}
 pub use Rattle.site.specs.Calls.{FaultRose}
 pub use Rattle.site.specs.Moments.{ChangesOnly}
 
@@ -58,17 +59,20 @@ abbrev pub LeavesEither : Shape → ℕ → List ℕ → Snapshot → Type 0
 LeavesEither s hi old snapshot = Keeps s hi old (region_left s snapshot) ⊎ Adds s hi old (region_left s snapshot)
 
 -- the unit was put behind its closed gate; a crash leaves the units below it
-pub record HasStaged {T : Type 0} (s : Shape) (hi : ℕ) (bytes : List ℕ) (old new : State) (result : Result T Failed) : Type 0 where
+pub record HasStaged {T : Type 0} (s : Shape) (hi : ℕ) (bytes : List ℕ) (old new : State)
+    (result : Result T Failed) : Type 0 where
   pub any_moment : IsAtRest s hi old → LeavesOnly old new (LeavesKept s hi (region s old))
   pub changes : ChangesOnly s.dev old new
   pub stages : OnOk result (Stages s hi bytes (region s old) (region s new))
   pub settled : OnOk result (IsSettled s.dev new)
 
 -- the unit was staged and its gate opened; a crash leaves the units below it, or this one too
-pub record HasSealed {T : Type 0} (s : Shape) (hi : ℕ) (bytes : List ℕ) (old new : State) (result : Result T Failed) : Type 0 where
+pub record HasSealed {T : Type 0} (s : Shape) (hi : ℕ) (bytes : List ℕ) (old new : State)
+    (result : Result T Failed) : Type 0 where
   pub any_moment : IsAtRest s hi old → LeavesOnly old new (LeavesOldOrNew s (region s old) bytes)
   pub changes : ChangesOnly s.dev old new
   pub seals : OnOk result (Seals s hi bytes (region s old) (region s new))
   pub settled : OnOk result (IsSettled s.dev new)
   pub form : HasForm s hi (region s old) → OnOk result (HasForm s (hi + 1) (region s new))
-  pub stands : HasForm s hi (region s old) → OnOk result (units_of s (region s new) ≡ appended s (units_of s (region s old)) bytes)
+  pub stands : HasForm s hi (region s old)
+      → OnOk result (units_of s (region s new) ≡ appended s (units_of s (region s old)) bytes)

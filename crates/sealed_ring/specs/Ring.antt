@@ -1,5 +1,6 @@
 -- What the octets of one device have as a ring.
-use Rattle.std.specs.Prelude.{◌≡◌, ◌≢◌, ◌⊎◌, ℕ, zero, suc, ◌+◌, ◌-◌, ◌*◌, ◌%◌, ◌^◌, ◌≤◌, ◌<◌, min, max, Bool, ◌&&◌, ◌==◌, if◌then◌else◌, List, [], ◌∷◌, ◌++◌, length, take, drop, slice_index, slice_index_or}
+use Rattle.std.specs.Prelude.{◌≡◌, ◌≢◌, ◌⊎◌, ℕ, zero, suc, ◌+◌, ◌-◌, ◌*◌, ◌%◌, ◌^◌, ◌≤◌, ◌<◌, min, max, Bool, ◌&&◌}
+use Rattle.std.specs.Prelude.{◌==◌, if◌then◌else◌, List, [], ◌∷◌, ◌++◌, length, take, drop, slice_index, slice_index_or}
 use Rattle.std.specs.Int.{from_be_bytes, w64}
 use Rattle.sealed_ring.specs.declared.slots.Shape.{Shape}
 
@@ -97,7 +98,8 @@ IsBeside at n p = (p < at) ⊎ (at + n ≤ p)
 
 -- the octets that are in no slot's gate, number or content
 abbrev pub SameOutside : Shape → List ℕ → List ℕ → Type 0
-SameOutside s old new = (p : ℕ) → ((j : ℕ) → j < s.slots → IsBeside (place s j) (9 + s.room) p) → slice_index new p ≡ slice_index old p
+SameOutside s old new = (p : ℕ) → ((j : ℕ) → j < s.slots → IsBeside (place s j) (9 + s.room) p)
+    → slice_index new p ≡ slice_index old p
 
 -- unit hi stands in its slot behind an open gate, the next gate is closed, and every other octet is as it was
 pub record Seals (s : Shape) (hi : ℕ) (bytes old now : List ℕ) : Type 0 where
@@ -106,7 +108,8 @@ pub record Seals (s : Shape) (hi : ℕ) (bytes old now : List ℕ) : Type 0 wher
   pub number : number s now (hi % s.slots) ≡ hi
   pub content : content_at s now (hi % s.slots) ≡ bytes
   pub next : gate s now ((hi + 1) % s.slots) ≡ 0
-  pub others : (p : ℕ) → IsBeside (place s (hi % s.slots)) (9 + s.room) p → p ≢ place s ((hi + 1) % s.slots) → slice_index now p ≡ slice_index old p
+  pub others : (p : ℕ) → IsBeside (place s (hi % s.slots)) (9 + s.room) p → p ≢ place s ((hi + 1) % s.slots)
+      → slice_index now p ≡ slice_index old p
 
 -- the ring is of the form, with the old units or with the new one too, and all outside it is as it was
 pub record OldOrNew (s : Shape) (old bytes now : List ℕ) : Type 0 where
@@ -123,7 +126,8 @@ pub record Stages (s : Shape) (hi : ℕ) (bytes old now : List ℕ) : Type 0 whe
   pub number : number s now (hi % s.slots) ≡ hi
   pub content : content_at s now (hi % s.slots) ≡ bytes
   pub next : gate s now ((hi + 1) % s.slots) ≡ 0
-  pub others : (p : ℕ) → IsBeside (place s (hi % s.slots) + 1) (8 + s.room) p → p ≢ place s ((hi + 1) % s.slots) → slice_index now p ≡ slice_index old p
+  pub others : (p : ℕ) → IsBeside (place s (hi % s.slots) + 1) (8 + s.room) p → p ≢ place s ((hi + 1) % s.slots)
+      → slice_index now p ≡ slice_index old p
 
 -- the gate of unit hi is open; every other octet is as it was
 pub record Opens (s : Shape) (hi : ℕ) (old now : List ℕ) : Type 0 where

@@ -1,13 +1,16 @@
 // A ring on a device: finding it, reading its units, appending to it.
-ghost use Rattle.std.specs.Prelude.{◌≡◌, ◌≢◌, ◌⊎◌, ◌↔◌, ◌+◌, ◌-◌, ◌%◌, ◌^◌, ◌<◌, ◌≤◌, length, take, drop, true, false, IsTrue, IfOk, OnOk, OnErr, IfErr, IsErrOf};
+ghost use Rattle.std.specs.Prelude.{◌≡◌, ◌≢◌, ◌⊎◌, ◌↔◌, ◌+◌, ◌-◌, ◌%◌, ◌^◌, ◌<◌, ◌≤◌, length, take, drop, true, false};
+ghost use Rattle.std.specs.Prelude.{IsTrue, IfOk, OnOk, OnErr, IfErr, IsErrOf};
 ghost use Rattle.site.specs.declared.outside.Dev.{Dev};
 ghost use Rattle.site.specs.State.{reads_of, IsSettled, IsQuiet};
 ghost use Rattle.site.specs.Calls.{Goes, SameReads, ReadsMore, IsUnchanged};
 ghost use Rattle.site.specs.Faults.{CallFaults, WorkFaults};
 ghost use Rattle.site.specs.Moments.{LeavesOnly};
-ghost use Rattle.sealed_ring.specs.Ring.{FitsIn, IsRing, SameOutside, Seals, appended, gate, number, first_number, unit_at, IsLive};
+ghost use Rattle.sealed_ring.specs.Ring.{FitsIn, IsRing, SameOutside, Seals, appended, gate, number, first_number};
+ghost use Rattle.sealed_ring.specs.Ring.{unit_at, IsLive};
 ghost use Rattle.sealed_ring.specs.Near.{IsFirstMissing, IsNear};
-ghost use Rattle.sealed_ring.specs.Ready.{region, units_in, FaultRose, IsUsable, Fits, Finds, IsReady, ChangesOnly, LeavesOldOrNew};
+ghost use Rattle.sealed_ring.specs.Ready.{region, units_in, FaultRose, IsUsable, Fits, Finds, IsReady, ChangesOnly};
+ghost use Rattle.sealed_ring.specs.Ready.{LeavesOldOrNew};
 
 use crate::Shape;
 use crate::sealing::{OPEN, seal};
@@ -83,9 +86,10 @@ impl Ring {
         })
     }
 
-    /// Finds the ring from a number near its next unit: tries the units `first` to `first + 3` in order, and its next unit is
-    /// the first that isn't there, else `first + 4`. It reads gate and number of each of these slots once, at most 5. Where
-    /// the ring is of the form and its next unit is one of these numbers, it is the ring that `scan` finds.
+    /// Finds the ring from a number near its next unit: tries the units `first` to `first + 3` in order, and its next
+    /// unit is the first that isn't there, else `first + 4`. It reads gate and number of each of these slots once, at
+    /// most 5. Where the ring is of the form and its next unit is one of these numbers, it is the ring that `scan`
+    /// finds.
     pub fn scan_near<S: Site>(site: &mut S, shape: Shape, first: u64) -> Result<Ring, Stop>
         requires fits { FitsIn shape (length (region shape (S.state site.old))) }
         requires slots { 6 ≤ shape.slots }
@@ -184,7 +188,8 @@ impl Ring {
         ensures foreign { IsErrOf result Stop.Foreign → IsTrue (S.state site.old).honest
             → number self.now.shape (region self.now.shape (S.state site.old)) (n % self.now.shape.slots) ≢ n }
         ensures own { IsTrue (S.state site.old).honest
-            → OnOk result (number self.now.shape (region self.now.shape (S.state site.old)) (n % self.now.shape.slots) ≡ n) }
+            → OnOk result (number self.now.shape (region self.now.shape (S.state site.old))
+            (n % self.now.shape.slots) ≡ n) }
         ensures stops { IfErr result (λ e. (e ≡ Stop.Device self.now.shape.dev)
             ⊎ (e ≡ Stop.Foreign)) }
     {
@@ -234,7 +239,8 @@ impl Ring {
         Ok(())
     }
 
-    /// Appends a unit of `room` octets: its number and content behind a closed gate, synced, then its gate open, synced.
+    /// Appends a unit of `room` octets: its number and content behind a closed gate, synced, then its gate open,
+    /// synced.
     /// A crash at any moment leaves the old units, or the new one too. After an error the ring is ended: what stands
     /// there may be either, and is found by a scan. A ring takes 2^40 units and is then worn.
     pub fn append<S: Site>(&mut self, site: &mut S, content: &[u8]) -> Result<(), Stop>

@@ -1,5 +1,6 @@
 -- The page cache as a machine: a pool of pages in memory, and a queue of groups of pages on flash.
-use Rattle.std.specs.Prelude.{ℕ, zero, suc, ◌+◌, ◌-◌, ◌==◌, Bool, false, not, ◌&&◌, ◌||◌, nat_le, List, [], ◌∷◌, ◌++◌, length, map, filter, reverse, if◌then◌else◌}
+use Rattle.std.specs.Prelude.{ℕ, zero, suc, ◌+◌, ◌-◌, ◌==◌, Bool, false, not, ◌&&◌, ◌||◌, nat_le, List, [], ◌∷◌, ◌++◌}
+use Rattle.std.specs.Prelude.{length, map, filter, reverse, if◌then◌else◌}
 use Rattle.std.specs.List.{list_any}
 use Rattle.byte_fields.specs.declared.frame_head.Mark.{Mark}
 use Rattle.record_model.specs.declared.words.CacheLine.{CacheLine}
@@ -8,10 +9,11 @@ use Rattle.record_model.specs.Touches.{CacheWork, touch, flush}
 use Rattle.second_chance.specs.declared.frame.Frame.{Frame}
 use Rattle.second_chance.specs.declared.plan.PoolMark.{PoolMark}
 use Rattle.second_chance.specs.Queue.{Queue, has_frame, marks, front_marks, with_read, pushed, frame_of}
-use Rattle.second_chance.specs.Plans.{chances_given, pages_pulled, Placed, chances_of, staged_of, pulled_at_eviction, pulled_at_flush}
+use Rattle.second_chance.specs.Plans.{chances_given, pages_pulled, Placed, chances_of, staged_of, pulled_at_eviction}
+use Rattle.second_chance.specs.Plans.{pulled_at_flush}
 
--- How many pages the pool holds and how many groups the queue, whether second chances are given, and whether a push at an eviction
--- pulls pages from the cold end of the pool.
+-- How many pages the pool holds and how many groups the queue, whether second chances are given, and whether a push at
+-- an eviction pulls pages from the cold end of the pool.
 pub record Rules : Type 0 where
   pub pages : ℕ
   pub groups : ℕ
@@ -74,7 +76,8 @@ pool_frame p = frame_of p.page p.changed
 -- the queue with a new group: the second chances, the evicted page if there is one, and the pages pulled from the pool
 abbrev pub queue_after : Rules → Queue → List PoolMark → List PoolMark → Queue
 queue_after rules queue own pulled =
-    pushed (is_full rules queue) (map chance_frame (chances_of rules.chances (leaving rules queue)) ++ map pool_frame (own ++ pulled)) queue
+    pushed (is_full rules queue) (map chance_frame (chances_of rules.chances (leaving rules queue))
+    ++ map pool_frame (own ++ pulled)) queue
 
 abbrev pub is_pulled : List PoolMark → ℕ → Bool
 is_pulled pulled page = list_any (λ p. p.page == page) pulled
@@ -83,7 +86,10 @@ is_pulled pulled page = list_any (λ p. p.page == page) pulled
 abbrev pub push_evicted : Rules → PoolPage → Cache → Cache
 push_evicted rules own cache =
     let pulled = pulled_at_eviction rules.pulls rules.chances (leaving rules cache.queue) (pool_marks cache) in
-    record { pool = without (is_pulled pulled) cache.pool; queue = queue_after rules cache.queue (pool_mark cache.queue own ∷ []) pulled }
+    record {
+      pool = without (is_pulled pulled) cache.pool;
+      queue = queue_after rules cache.queue (pool_mark cache.queue own ∷ []) pulled;
+    }
 
 -- a push of a flush: the pulled pages stay in the pool, and count as unchanged
 abbrev pub push_changed : Rules → Cache → Cache
@@ -116,10 +122,12 @@ lacks_room rules page cache = not (holds cache.pool page) && nat_le rules.pages 
 abbrev pub with_room : Rules → ℕ → Cache → Cache
 with_room rules page cache = if lacks_room rules page cache then evict_coldest rules cache else cache
 
--- The page comes to the front. Where it wasn't in the pool it is read from its last frame, if it has one, and is unchanged.
+-- The page comes to the front. Where it wasn't in the pool it is read from its last frame, if it has one, and is
+-- unchanged.
 abbrev pub in_front : ℕ → Bool → Cache → Cache
 in_front page change cache = record {
-  pool = record { page = page; changed = is_changed cache.pool page || change } ∷ without (λ other. other == page) cache.pool;
+  pool = record { page = page; changed = is_changed cache.pool page || change }
+      ∷ without (λ other. other == page) cache.pool;
   queue = if holds cache.pool page then cache.queue else with_read page cache.queue;
 }
 
@@ -140,7 +148,8 @@ wants_flush cache = list_any (λ p. p.changed) cache.pool
 
 abbrev pub flushed_by : ℕ → Rules → Cache → Cache
 flushed_by zero rules cache = cache
-flushed_by (suc pushes) rules cache = if wants_flush cache then flushed_by pushes rules (push_changed rules cache) else cache
+flushed_by (suc pushes) rules cache =
+    if wants_flush cache then flushed_by pushes rules (push_changed rules cache) else cache
 
 abbrev pub flushed : Rules → Cache → Cache
 flushed rules cache = flushed_by (length cache.pool) rules cache
@@ -171,31 +180,37 @@ pub record Staged : Type 0 where
   pub page : ℕ
 
 abbrev pub staged_in_push : Rules → Queue → List Staged
-staged_in_push rules queue = map (λ f. record { group = queue.first; index = f.0; page = f.1.page }) (staged_of rules.chances (leaving rules queue))
+staged_in_push rules queue = map (λ f. record { group = queue.first; index = f.0; page = f.1.page })
+    (staged_of rules.chances (leaving rules queue))
 
 abbrev pub staged_in_eviction : Rules → List PoolPage → Queue → List Staged
 staged_in_eviction rules [] queue = []
-staged_in_eviction rules (coldest ∷ warmer) queue = if must_be_pushed queue coldest then staged_in_push rules queue else []
+staged_in_eviction rules (coldest ∷ warmer) queue =
+    if must_be_pushed queue coldest then staged_in_push rules queue else []
 
 abbrev pub staged_in_flush : ℕ → Rules → Cache → List Staged
 staged_in_flush zero rules cache = []
 staged_in_flush (suc pushes) rules cache =
-    if wants_flush cache then staged_in_push rules cache.queue ++ staged_in_flush pushes rules (push_changed rules cache) else []
+    if wants_flush cache then staged_in_push rules cache.queue
+    ++ staged_in_flush pushes rules (push_changed rules cache) else []
 
 -- what one piece of work stages, the frame that is staged first in front
 abbrev pub staged_by : Rules → CacheWork → Cache → List Staged
-staged_by rules (touch page change) cache = if lacks_room rules page cache then staged_in_eviction rules (reverse cache.pool) cache.queue else []
+staged_by rules (touch page change) cache =
+    if lacks_room rules page cache then staged_in_eviction rules (reverse cache.pool) cache.queue else []
 staged_by rules flush cache = staged_in_flush (length cache.pool) rules cache
 
 abbrev pub staged_by_works : Rules → List CacheWork → Cache → List Staged
 staged_by_works rules [] cache = []
-staged_by_works rules (work ∷ works) cache = staged_by rules work cache ++ staged_by_works rules works (worked rules work cache)
+staged_by_works rules (work ∷ works) cache =
+    staged_by rules work cache ++ staged_by_works rules works (worked rules work cache)
 
 -- The listing: the frames in the order of the queue, then the pool, the front first.
 
 abbrev pub frame_lines : ℕ → ℕ → List Mark → List CacheLine
 frame_lines group index [] = []
-frame_lines group index (mark ∷ behind) = line.Frame group index mark.page mark.valid mark.dirty mark.referenced ∷ frame_lines group (index + 1) behind
+frame_lines group index (mark ∷ behind) = line.Frame group index mark.page mark.valid mark.dirty mark.referenced
+    ∷ frame_lines group (index + 1) behind
 
 abbrev pub group_lines : ℕ → List (List Mark) → List CacheLine
 group_lines group [] = []

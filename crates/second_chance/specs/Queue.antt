@@ -49,7 +49,8 @@ front_marks (group ∷ later) = group_marks group later
 abbrev pub group_read : ℕ → List Frame → List (List Frame) → List Frame
 group_read page [] later = []
 group_read page (frame ∷ behind) later =
-    record frame { referenced = frame.referenced || (frame.page == page && is_last behind later frame) } ∷ group_read page behind later
+    record frame { referenced = frame.referenced || (frame.page == page && is_last behind later frame) }
+    ∷ group_read page behind later
 
 abbrev pub groups_read : ℕ → List (List Frame) → List (List Frame)
 groups_read page [] = []
@@ -62,7 +63,10 @@ with_read page queue = record queue { groups = groups_read page queue.groups }
 -- the queue with one group more behind, and without its front group where that leaves
 abbrev pub pushed : Bool → List Frame → Queue → Queue
 pushed leaves group queue =
-    record { first = if leaves then queue.first + 1 else queue.first; groups = (if leaves then drop 1 queue.groups else queue.groups) ++ group ∷ [] }
+    record {
+      first = if leaves then queue.first + 1 else queue.first;
+      groups = (if leaves then drop 1 queue.groups else queue.groups) ++ group ∷ [];
+    }
 
 -- a frame as it is put into a new group: not referenced yet
 abbrev pub frame_of : ℕ → Bool → Frame

@@ -1,8 +1,10 @@
 // Facts about the machine. The functions do nothing: each states its laws as clauses.
-ghost use Rattle.second_chance.specs.Laws.{EvictionIsPlanned, FlushIsPlanned, StagedIsPlanned, PushSavesAPage, FlushGoesOn, FlushEnds, FlushSavesAll, ChancesStand, ChancesFew, ChancesAreNotStaged, StagedStand, StagedApart};
+ghost use Rattle.second_chance.specs.Laws.{EvictionIsPlanned, FlushIsPlanned, StagedIsPlanned, PushSavesAPage};
+ghost use Rattle.second_chance.specs.Laws.{FlushGoesOn, FlushEnds, FlushSavesAll, ChancesStand, ChancesFew};
+ghost use Rattle.second_chance.specs.Laws.{ChancesAreNotStaged, StagedStand, StagedApart};
 
-/// To do what a plan says is the push of the machine: its new group, the pages that leave the pool or are saved, and the
-/// frames that are staged.
+/// To do what a plan says is the push of the machine: its new group, the pages that leave the pool or are saved, and
+/// the frames that are staged.
 pub fn plans_are_pushes()
     ensures eviction { EvictionIsPlanned }
     ensures flush { FlushIsPlanned }

@@ -1,4 +1,5 @@
-ghost use Rattle.std.specs.Prelude.{◌≡◌, ◌≤◌, ◌-◌, ◌==◌, not, if◌then◌else◌, ◌&&◌, ◌||◌, true, false, [], length, map, filter, take, unwrap_or, IsTrue};
+ghost use Rattle.std.specs.Prelude.{◌≡◌, ◌≤◌, ◌-◌, ◌==◌, not, if◌then◌else◌, ◌&&◌, ◌||◌, true, false, [], length, map};
+ghost use Rattle.std.specs.Prelude.{filter, take, unwrap_or, IsTrue};
 ghost use Rattle.std.specs.Option.{ForSome, option_copied};
 ghost use Rattle.std.specs.List.{enumerate_from};
 ghost use Rattle.second_chance.specs.Plans.{chances_given, pages_pulled, chances_of, eviction_plan, flush_plan};
@@ -67,9 +68,9 @@ pub fn plan_flush(front: Option<&[Mark]>, pool: &[PoolMark]) -> Plan
     plan_flush_taking(TAKING, front, pool)
 }
 
-/// What the push of an evicted page does. The evicted page isn't in `pool` any more, which has the coldest page in front; of
-/// the pages that are changed or have no frame the first seven are enough. `front` is none where the queue has room for one group
-/// more.
+/// What the push of an evicted page does. The evicted page isn't in `pool` any more, which has the coldest page in
+/// front; of the pages that are changed or have no frame the first seven are enough. `front` is none where the queue
+/// has room for one group more.
 pub fn plan_evict_taking(taking: Taking, front: Option<&[Mark]>, pool: &[PoolMark]) -> Plan
     requires { ForSome front (λ marks. length marks.now ≤ 8) }
     ensures { result ≡ eviction_plan taking.pulls taking.chances (unwrap_or (option_copied front.entry) []) pool.now }
@@ -85,7 +86,8 @@ pub fn plan_evict_taking(taking: Taking, front: Option<&[Mark]>, pool: &[PoolMar
     }
 }
 
-/// What a push of a flush does. `pool` has the coldest page in front; of the pages that are changed the first eight are enough.
+/// What a push of a flush does. `pool` has the coldest page in front; of the pages that are changed the first eight are
+/// enough.
 /// `front` is none where the queue has room for one group more.
 pub fn plan_flush_taking(taking: Taking, front: Option<&[Mark]>, pool: &[PoolMark]) -> Plan
     requires { ForSome front (λ marks. length marks.now ≤ 8) }
@@ -133,7 +135,8 @@ fn is_wanted(mark: &Mark) -> bool
 /// The places of the frames that go to the disk when their group leaves, where these have a second chance.
 fn staged_places(chances: &Places, front: &[Mark]) -> Places
     requires few { length front.now ≤ 8 }
-    ensures { result ≡ map (λ f. f.0) (filter (λ f. (f.1.valid && f.1.dirty) && not (names chances.now f.0)) (enumerate_from 0 front.now)) }
+    ensures { result ≡ map (λ f. f.0)
+        (filter (λ f. (f.1.valid && f.1.dirty) && not (names chances.now f.0)) (enumerate_from 0 front.now)) }
 {
     let mut staged = Places::new();
     for (place, mark) in front.iter().enumerate() {
@@ -154,7 +157,8 @@ fn is_staged(chances: &Places, place: u32, mark: &Mark) -> bool
 /// What an eviction pulls from the pool, into a group that has room for so many pages more.
 fn pulled_pages(pulls: bool, room: usize, pool: &[PoolMark]) -> Places
     requires { room ≤ 8 }
-    ensures { result ≡ map (λ p. p.page) (if pulls then take room (filter (λ p. p.changed || not p.framed) pool.now) else []) }
+    ensures { result ≡ map (λ p. p.page)
+        (if pulls then take room (filter (λ p. p.changed || not p.framed) pool.now) else []) }
 {
     if pulls {
         movable_pages(room, pool)

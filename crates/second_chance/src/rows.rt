@@ -1,6 +1,8 @@
-// Runs that were worked out by hand, after which the machine stands as it should. The functions do nothing: each states rows as
-// clauses.
-ghost use Rattle.second_chance.specs.Rows.{EvictedPageIsPushed, ReadPageHasSecondChance, ReadPageStaysOffTheDisk, ReadPageLeaves, ReadPageIsStaged, SevenHaveSecondChances, EighthIsStaged, MixedWithChances, MixedWithChancesStages, MixedWithout, MixedWithoutStages};
+// Runs that were worked out by hand, after which the machine stands as it should. The functions do nothing: each states
+// rows as clauses.
+ghost use Rattle.second_chance.specs.Rows.{EvictedPageIsPushed, ReadPageHasSecondChance, ReadPageStaysOffTheDisk};
+ghost use Rattle.second_chance.specs.Rows.{ReadPageLeaves, ReadPageIsStaged, SevenHaveSecondChances, EighthIsStaged};
+ghost use Rattle.second_chance.specs.Rows.{MixedWithChances, MixedWithChancesStages, MixedWithout, MixedWithoutStages};
 
 /// An evicted page is pushed, a page that was read is given a second chance, and no more than seven of a group are.
 pub fn rows_of_second_chances()

@@ -20,8 +20,8 @@ const fn pooled(page: u32, changed: bool, framed: bool) -> PoolMark {
     }
 }
 
-// Of five frames of the front group two are valid and dirty. One of these was referenced: it has a second chance, as the clean frame
-// that was. The pool has a changed page, and one with no frame.
+// Of five frames of the front group two are valid and dirty. One of these was referenced: it has a second chance, as
+// the clean frame that was. The pool has a changed page, and one with no frame.
 #[test]
 fn an_eviction_stages_what_is_valid_and_dirty(rt: HostRuntime) {
     let front = [
@@ -84,8 +84,8 @@ fn are(places: &Places, wanted: &[u32]) -> bool {
     true
 }
 
-// Two of five frames were read and are the last of their pages. Of eight pages two are changed, two have no frame, and two more are
-// changed and have none.
+// Two of five frames were read and are the last of their pages. Of eight pages two are changed, two have no frame, and
+// two more are changed and have none.
 #[test]
 fn pushes_take_what_they_are_to(rt: HostRuntime) {
     let front = [

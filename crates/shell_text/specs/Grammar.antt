@@ -3,7 +3,8 @@ use Rattle.std.specs.Prelude.{◌≡◌, ◌⊎◌, ℕ, ◌^◌, ◌<◌, ◌�
 use Rattle.std.specs.List.{AllByRecursion, join_with_byte}
 use Rattle.hex.specs.Hex.{decode_of}
 use Rattle.record_model.specs.declared.words.Command.{Command}
-use Rattle.record_model.specs.declared.words.Command.TheVariants.{Begin, Read, Write, Erase, Scan, Commit, Abort, Get, Set, Checkpoint, Cache, Stat, Quit}
+use Rattle.record_model.specs.declared.words.Command.TheVariants.{Begin, Read, Write, Erase, Scan, Commit, Abort, Get}
+use Rattle.record_model.specs.declared.words.Command.TheVariants.{Set, Checkpoint, Cache, Stat, Quit}
 use Rattle.shell_text.specs.declared.grammar.TheConstants.{LINE_MAX, COUNT_MAX}
 
 -- A number of a line is below this, so that it has one to nine digits. It is written in decimal, with no leading zero.
@@ -31,7 +32,8 @@ IsSpelled words (Begin session) = Says words (codes "begin") (session ∷ [])
 IsSpelled words (Read session number) = Says words (codes "read") (session ∷ number ∷ [])
 IsSpelled words (Write session number value) = SaysValue words (codes "write") (session ∷ number ∷ []) value
 IsSpelled words (Erase session number) = Says words (codes "erase") (session ∷ number ∷ [])
-IsSpelled words (Scan session number count) = Says words (codes "scan") (session ∷ number ∷ count ∷ []) × (1 ≤ count) × (count ≤ COUNT_MAX)
+IsSpelled words (Scan session number count) = Says words (codes "scan") (session ∷ number ∷ count ∷ []) × (1 ≤ count)
+    × (count ≤ COUNT_MAX)
 IsSpelled words (Commit session) = Says words (codes "commit") (session ∷ [])
 IsSpelled words (Abort session) = Says words (codes "abort") (session ∷ [])
 IsSpelled words (Get number) = Says words (codes "get") (number ∷ [])

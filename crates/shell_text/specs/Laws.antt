@@ -12,7 +12,8 @@ LinesAreRead = (line : List ℕ) (command : Command) → (line_of line ≡ Some 
 
 -- no line is two commands
 abbrev pub LinesAreOneCommand : Type 0
-LinesAreOneCommand = (line : List ℕ) (one other : Command) → IsCommandLine line one → IsCommandLine line other → one ≡ other
+LinesAreOneCommand = (line : List ℕ) (one other : Command) → IsCommandLine line one → IsCommandLine line other
+    → one ≡ other
 
 -- the octets of a line
 abbrev pub HasNoNewline : List ℕ → Type 0
@@ -20,7 +21,8 @@ HasNoNewline octets = AllByRecursion (λ x. x ≢ 10) octets
 
 -- the octets up to the first newline are the first line
 abbrev pub EndsAtNewline : Type 0
-EndsAtNewline = (ended : Bool) (line rest : List ℕ) → HasNoNewline line → lines_of ended (line ++ 10 ∷ rest) ≡ line ∷ lines_of ended rest
+EndsAtNewline = (ended : Bool) (line rest : List ℕ) → HasNoNewline line
+    → lines_of ended (line ++ 10 ∷ rest) ≡ line ∷ lines_of ended rest
 
 -- octets with no newline behind them are no line yet
 abbrev pub WaitsForNewline : Type 0
@@ -32,4 +34,5 @@ EndsWithInput = (x : ℕ) (line : List ℕ) → HasNoNewline (x ∷ line) → li
 
 -- the lines up to a newline stay the same, whatever is heard behind it
 abbrev pub WholeLinesStay : Type 0
-WholeLinesStay = (ended : Bool) (octets rest : List ℕ) → lines_of ended (octets ++ 10 ∷ rest) ≡ lines_of false (octets ++ 10 ∷ []) ++ lines_of ended rest
+WholeLinesStay = (ended : Bool) (octets rest : List ℕ)
+    → lines_of ended (octets ++ 10 ∷ rest) ≡ lines_of false (octets ++ 10 ∷ []) ++ lines_of ended rest

@@ -1,5 +1,6 @@
 -- Runs that were worked out by hand: what is typed, and what is told.
-use Rattle.std.specs.Prelude.{◌≡◌, ℕ, List, [], ◌∷◌, ◌++◌, replicate, slice_set, flat_map, codes, true, false, Some, None}
+use Rattle.std.specs.Prelude.{◌≡◌, ℕ, List, [], ◌∷◌, ◌++◌, replicate, slice_set, flat_map, codes, true, false, Some}
+use Rattle.std.specs.Prelude.{None}
 use Rattle.std.specs.List.{concat}
 use Rattle.record_model.specs.declared.words.Command.TheVariants.{Set}
 use Rattle.record_model.specs.declared.words.CacheLine.{CacheLine}
@@ -29,14 +30,16 @@ many count = concat (replicate count (codes "5a"))
 
 abbrev pub LongestValue : Type 0
 LongestValue =
-    told (typed ((codes "set 3 " ++ many 120) ∷ (codes "set 3 " ++ many 121) ∷ codes "set 3 -" ∷ codes "get 3" ∷ codes "get 4" ∷ []))
+    told (typed ((codes "set 3 " ++ many 120) ∷ (codes "set 3 " ++ many 121) ∷ codes "set 3 -" ∷ codes "get 3"
+    ∷ codes "get 4" ∷ []))
     ≡ codes "open 0\ncommitted 1\nrefused long\ncommitted 2\nvalue -\nnone\n"
 
--- Lines that are no commands: none of their words, a leading zero, two spaces, a space at the end, an odd digit, a letter
--- that is no digit, a scan of nothing and of too much, upper case, and a line that is too long.
+-- Lines that are no commands: none of their words, a leading zero, two spaces, a space at the end, an odd digit, a
+-- letter that is no digit, a scan of nothing and of too much, upper case, and a line that is too long.
 abbrev pub wrong_lines : List (List ℕ)
 wrong_lines =
-    [] ∷ codes "get 05" ∷ codes "get  5" ∷ codes "get 5 " ∷ codes "set 5 0" ∷ codes "set 5 0g" ∷ codes "scan 0 0 0" ∷ codes "scan 0 0 65"
+    [] ∷ codes "get 05" ∷ codes "get  5" ∷ codes "get 5 " ∷ codes "set 5 0" ∷ codes "set 5 0g" ∷ codes "scan 0 0 0"
+    ∷ codes "scan 0 0 65"
     ∷ codes "GET 5" ∷ (codes "set 55 " ++ replicate 494 48) ∷ []
 
 abbrev pub WrongLines : Type 0
@@ -48,19 +51,22 @@ LongestLine = line_of (codes "set 5 " ++ replicate 494 48) ≡ Some (Set 5 (repl
 
 abbrev pub UpperCaseIsRead : Type 0
 UpperCaseIsRead =
-    told (typed (codes "begin 8" ∷ codes "read 0 0" ∷ codes "begin 0" ∷ codes "begin 0" ∷ codes "set 5 AB" ∷ codes "get 5" ∷ []))
+    told (typed (codes "begin 8" ∷ codes "read 0 0" ∷ codes "begin 0" ∷ codes "begin 0" ∷ codes "set 5 AB"
+    ∷ codes "get 5" ∷ []))
     ≡ codes "open 0\nrefused session\nrefused session\nok\nrefused session\ncommitted 1\nvalue ab\n"
 
 abbrev pub ScanAmongWrites : Type 0
 ScanAmongWrites =
-    told (typed (codes "set 2 aa" ∷ codes "set 4 -" ∷ codes "begin 0" ∷ codes "scan 0 0 6" ∷ codes "begin 1" ∷ codes "write 1 9 01"
+    told (typed (codes "set 2 aa" ∷ codes "set 4 -" ∷ codes "begin 0" ∷ codes "scan 0 0 6" ∷ codes "begin 1"
+    ∷ codes "write 1 9 01"
     ∷ codes "scan 0 5 8" ∷ codes "set 6 bb" ∷ codes "scan 0 500 64" ∷ []))
     ≡ codes "open 0\ncommitted 1\ncommitted 2\nok\nitem 2 aa\nitem 4 -\nend 2\nok\nok\nbusy 1\ncommitted 3\nrefused record\n"
 
 -- what two pages in the cache are listed as
 abbrev pub CacheListed : Type 0
 CacheListed =
-    told_with ((Frame 0 0 0 true true false ∷ Pool 1 true ∷ []) ∷ []) (typed (codes "set 0 01" ∷ codes "set 32 02" ∷ codes "cache" ∷ []))
+    told_with ((Frame 0 0 0 true true false ∷ Pool 1 true ∷ []) ∷ [])
+    (typed (codes "set 0 01" ∷ codes "set 32 02" ∷ codes "cache" ∷ []))
     ≡ codes "open 0\ncommitted 1\ncommitted 2\nframe 0 0 page 0 vd-\npool 1*\nend 2\n"
 
 -- the last line needs no newline
@@ -71,17 +77,22 @@ LastLine = told (codes "get 5") ≡ codes "open 0\nnone\n"
 abbrev pub QuitEnds : Type 0
 QuitEnds = told (typed (codes "quit" ∷ codes "get 5" ∷ [])) ≡ codes "open 0\nbye\n"
 
--- Three sessions: what is told, and what the lines of the one that commits last are told alone, on the table of the commits before it.
+-- Three sessions: what is told, and what the lines of the one that commits last are told alone, on the table of the
+-- commits before it.
 abbrev pub ThreeSessions : Type 0
 ThreeSessions =
-    told (typed (codes "set 2 aa" ∷ codes "begin 0" ∷ codes "begin 1" ∷ codes "begin 2" ∷ codes "read 0 2" ∷ codes "scan 1 0 4" ∷ codes "write 2 5 bb"
-    ∷ codes "write 0 2 cc" ∷ codes "get 5" ∷ codes "read 2 2" ∷ codes "commit 1" ∷ codes "write 0 2 cc" ∷ codes "commit 2" ∷ codes "write 0 2 cc"
-    ∷ codes "begin 1" ∷ codes "erase 1 7" ∷ codes "read 0 2" ∷ codes "foo" ∷ codes "scan 0 0 7" ∷ codes "commit 0" ∷ codes "get 2" ∷ []))
+    told (typed (codes "set 2 aa" ∷ codes "begin 0" ∷ codes "begin 1" ∷ codes "begin 2" ∷ codes "read 0 2"
+    ∷ codes "scan 1 0 4" ∷ codes "write 2 5 bb"
+    ∷ codes "write 0 2 cc" ∷ codes "get 5" ∷ codes "read 2 2" ∷ codes "commit 1" ∷ codes "write 0 2 cc"
+    ∷ codes "commit 2" ∷ codes "write 0 2 cc"
+    ∷ codes "begin 1" ∷ codes "erase 1 7" ∷ codes "read 0 2" ∷ codes "foo" ∷ codes "scan 0 0 7" ∷ codes "commit 0"
+    ∷ codes "get 2" ∷ []))
     ≡ codes "open 0\ncommitted 1\nok\nok\nok\nvalue aa\nitem 2 aa\nend 1\nok\nbusy 1\nbusy 2\nvalue aa\ncommitted 2\nbusy 2\ncommitted 3\nok\nok\nok\n"
     ++ codes "value cc\nrefused line\nitem 2 cc\nitem 5 bb\nend 2\ncommitted 4\nvalue cc\n"
 
 abbrev pub LastAlone : Type 0
 LastAlone =
     run_text true (opened (slice_set (slice_set blank 2 (Some (170 ∷ []))) 5 (Some (187 ∷ []))) 3 0 63)
-    (commands_of true (typed (codes "begin 0" ∷ codes "read 0 2" ∷ codes "write 0 2 cc" ∷ codes "read 0 2" ∷ codes "scan 0 0 7" ∷ codes "commit 0" ∷ []))) []
+    (commands_of true (typed (codes "begin 0" ∷ codes "read 0 2" ∷ codes "write 0 2 cc" ∷ codes "read 0 2"
+    ∷ codes "scan 0 0 7" ∷ codes "commit 0" ∷ []))) []
     ≡ codes "open 3\nok\nvalue aa\nok\nvalue cc\nitem 2 cc\nitem 5 bb\nend 2\ncommitted 4\n"

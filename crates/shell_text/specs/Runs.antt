@@ -12,8 +12,8 @@ abbrev pub in_front : Bool → ℕ → List (List ℕ) → List (List ℕ)
 in_front ended x (line ∷ lines) = (x ∷ line) ∷ lines
 in_front ended x [] = if ended then (x ∷ []) ∷ [] else []
 
--- The lines of the octets that were heard: they are cut at newlines. Behind the last newline octets are a line where the
--- input has ended.
+-- The lines of the octets that were heard: they are cut at newlines. Behind the last newline octets are a line where
+-- the input has ended.
 abbrev pub lines_of : Bool → List ℕ → List (List ℕ)
 lines_of ended [] = []
 lines_of ended (x ∷ octets) = if x == 10 then [] ∷ lines_of ended octets else in_front ended x (lines_of ended octets)
@@ -22,10 +22,11 @@ lines_of ended (x ∷ octets) = if x == 10 then [] ∷ lines_of ended octets els
 abbrev pub commands_of : Bool → List ℕ → List Line
 commands_of ended octets = map line_of (lines_of ended octets)
 
--- The texts of a run from an opening state over these lines: the opening's, and one for each line up to a quit. The first
--- argument says whether checkpoints are made, the last what the cache lists at each cache command.
+-- The texts of a run from an opening state over these lines: the opening's, and one for each line up to a quit. The
+-- first argument says whether checkpoints are made, the last what the cache lists at each cache command.
 abbrev pub texts : Bool → State → List Line → List (List CacheLine) → List (List ℕ)
-texts checkpoints opening lines listings = open_text opening.commits ∷ map reply_text (replies (turns checkpoints opening lines listings))
+texts checkpoints opening lines listings =
+    open_text opening.commits ∷ map reply_text (replies (turns checkpoints opening lines listings))
 
 -- all that the run tells
 abbrev pub run_text : Bool → State → List Line → List (List CacheLine) → List ℕ

@@ -1,5 +1,6 @@
 -- Serial order, for one who sees the lines that are typed and what they are told.
-use Rattle.std.specs.Prelude.{◌≡◌, ℕ, ◌+◌, ◌*◌, ◌≤◌, Bool, false, not, ◌&&◌, ◌||◌, List, [], ◌∷◌, ◌++◌, length, map, reverse, codes, nat_eq, Option, Some, None, is_some, IsTrue, if◌then◌else◌}
+use Rattle.std.specs.Prelude.{◌≡◌, ℕ, ◌+◌, ◌*◌, ◌≤◌, Bool, false, not, ◌&&◌, ◌||◌, List, [], ◌∷◌, ◌++◌, length, map}
+use Rattle.std.specs.Prelude.{reverse, codes, nat_eq, Option, Some, None, is_some, IsTrue, if◌then◌else◌}
 use Rattle.std.specs.List.{starts_with}
 use Rattle.record_model.specs.declared.words.Command.TheVariants.{Get}
 use Rattle.record_model.specs.declared.words.CacheLine.{CacheLine}
@@ -86,7 +87,8 @@ GetIsTold opening earlier later t =
     reply_text t.reply ≡ reply_text (found (content_at (table_before opening.table earlier later t) number))
 
 -- serial order at a turn of a run with these texts
-pub record IsToldSerial (checkpoints : Bool) (opening : State) (told : List (List ℕ)) (earlier later : List Turn) (t : Turn) :
+pub record IsToldSerial (checkpoints : Bool) (opening : State) (told : List (List ℕ)) (earlier later : List Turn)
+    (t : Turn) :
     Type 0 where
   -- its text is told behind the opening's and those of the turns before it
   pub place : told ≡ (open_text opening.commits ∷ texts_of earlier) ++ reply_text t.reply ∷ texts_of later

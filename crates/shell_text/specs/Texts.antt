@@ -61,7 +61,8 @@ reply_lines (reply.Listing lines) = map cache_text lines ++ end_text (length lin
 reply_lines (reply.Stat stat) = stat_text stat ∷ []
 reply_lines reply.Bye = codes "bye\n" ∷ []
 reply_lines (reply.Busy session) = (codes "busy " ++ decimal session ++ codes "\n") ∷ []
-reply_lines (reply.Full used owed cap) = (codes "full " ++ decimal used ++ codes " " ++ decimal owed ++ codes " " ++ decimal cap ++ codes "\n") ∷ []
+reply_lines (reply.Full used owed cap) =
+    (codes "full " ++ decimal used ++ codes " " ++ decimal owed ++ codes " " ++ decimal cap ++ codes "\n") ∷ []
 reply_lines (reply.Refused why) = (codes "refused " ++ why_text why ++ codes "\n") ∷ []
 
 -- the lines, one after the other

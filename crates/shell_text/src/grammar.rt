@@ -1,9 +1,11 @@
 // What a line of input says.
-ghost use Rattle.std.specs.Prelude.{◌≡◌, ◌==◌, ◌≤◌, [], ◌∷◌, length, position, option_and_then, IfOk, IfNone, IfSome, IsErr, ℕ, decimal};
+ghost use Rattle.std.specs.Prelude.{◌≡◌, ◌==◌, ◌≤◌, [], ◌∷◌, length, position, option_and_then, IfOk, IfNone, IfSome};
+ghost use Rattle.std.specs.Prelude.{IsErr, ℕ, decimal};
 ghost use Rattle.std.specs.Result.{result_ok};
 ghost use Rattle.record_model.specs.declared.words.Command.{Command};
 ghost use Rattle.shell_text.specs.Grammar.{IsCommandLine, IsNumber};
-ghost use Rattle.shell_text.specs.Reading.{words_of, small_number, number_of, value_of, bare_command, command_of_one, command_of_two, scan_of, two_words, three_words, command_in, line_of};
+ghost use Rattle.shell_text.specs.Reading.{words_of, small_number, number_of, value_of, bare_command, command_of_one};
+ghost use Rattle.shell_text.specs.Reading.{command_of_two, scan_of, two_words, three_words, command_in, line_of};
 
 use record_model::{Command, Octets};
 use thiserror::Error;
@@ -221,8 +223,8 @@ fn read_words(line: &[u8]) -> Option<Command>
     }
 }
 
-/// The command of a line, which comes without its newline. A line that is in no command's form, or is too long, or asks a
-/// scan for no record or for too many, is a `BadLine`.
+/// The command of a line, which comes without its newline. A line that is in no command's form, or is too long, or asks
+/// a scan for no record or for too many, is a `BadLine`.
 pub fn read_line(line: &[u8]) -> Result<Command, BadLine>
     ensures command { IfOk result (IsCommandLine line.now) }
     ensures bad { IsErr result → (c : Command) → IsCommandLine line.now c → ⊥ }

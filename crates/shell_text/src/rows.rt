@@ -1,5 +1,7 @@
-// Runs that were worked out by hand, whose texts are as they should be. The functions do nothing: each states rows as clauses.
-ghost use Rattle.shell_text.specs.Rows.{LongestValue, WrongLines, LongestLine, UpperCaseIsRead, ScanAmongWrites, CacheListed, LastLine, QuitEnds, ThreeSessions, LastAlone};
+// Runs that were worked out by hand, whose texts are as they should be. The functions do nothing: each states rows as
+// clauses.
+ghost use Rattle.shell_text.specs.Rows.{LongestValue, WrongLines, LongestLine, UpperCaseIsRead, ScanAmongWrites};
+ghost use Rattle.shell_text.specs.Rows.{CacheListed, LastLine, QuitEnds, ThreeSessions, LastAlone};
 
 /// Values that are as long as can be, too long, empty, and absent; and hexadecimal digits of both cases.
 pub fn rows_of_values()

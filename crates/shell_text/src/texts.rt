@@ -1,6 +1,7 @@
 // The lines of replies.
 ghost use Rattle.std.specs.Prelude.{◌≡◌, ◌<◌, ◌≤◌, [], ◌∷◌, ◌++◌, length, slice_index_or, codes, decimal};
-ghost use Rattle.shell_text.specs.Texts.{open_text, value_text, why_text, stat_text, item_text, flag_text, cache_text, end_text, reply_lines};
+ghost use Rattle.shell_text.specs.Texts.{open_text, value_text, why_text, stat_text, item_text, flag_text, cache_text};
+ghost use Rattle.shell_text.specs.Texts.{end_text, reply_lines};
 
 use crate::written::Line;
 use record_model::{CacheLine, Item, Octets, Reply, Stat, Why};
@@ -57,7 +58,8 @@ fn flag(letter: u8, is_set: bool) -> u8
 
 fn frame_line(group: u64, index: u8, page: u32, flags: &[u8]) -> Line
     requires { length flags.now ≤ 3 }
-    ensures { result ≡ codes "frame " ++ decimal group ++ codes " " ++ decimal index ++ codes " page " ++ decimal page ++ codes " " ++ flags.now ++ codes "\n" }
+    ensures { result ≡ codes "frame " ++ decimal group ++ codes " " ++ decimal index ++ codes " page " ++ decimal page
+        ++ codes " " ++ flags.now ++ codes "\n" }
 {
     let mut line = Line::new();
     line.push(b"frame ");
@@ -130,7 +132,8 @@ fn stat_line(stat: &Stat) -> Line
 }
 
 fn full_line(used: u64, owed: u64, cap: u64) -> Line
-    ensures { result ≡ codes "full " ++ decimal used ++ codes " " ++ decimal owed ++ codes " " ++ decimal cap ++ codes "\n" }
+    ensures { result ≡ codes "full " ++ decimal used ++ codes " " ++ decimal owed ++ codes " " ++ decimal cap
+        ++ codes "\n" }
 {
     let mut line = Line::new();
     line.push(b"full ");

@@ -14,7 +14,8 @@ use Rattle.site.specs.History.{ranges_of}
 pub record Laid (dev : Dev) (at : ℕ) (bytes : List ℕ) (old new : Area) (before now : List Change) : Type 0 where
   pub content : new.content.items ≡ put old.content.items at bytes
   pub loose : ranges_of new.loose.items ≡ range at (length bytes) ∷ ranges_of old.loose.items
-  pub had : (v : Vec ℕ Global) × (v.items ≡ take (length bytes) (drop at old.content.items)) × (now ≡ before ++ Wrote dev at v ∷ [])
+  pub had : (v : Vec ℕ Global) × (v.items ≡ take (length bytes) (drop at old.content.items))
+      × (now ≡ before ++ Wrote dev at v ∷ [])
 
 -- nothing changed but counts
 pub record Kept (old new : Area) (before now : List Change) : Type 0 where
@@ -30,6 +31,7 @@ pub record Settled (dev : Dev) (old new : Area) (before now : List Change) : Typ
 
 -- What a failed write leaves, so many changes having been asked for: past the 10,000th what was there; else the new
 -- bytes, or, where memory lacked, what was there.
-pub record LeavesOf (dev : Dev) (at : ℕ) (bytes : List ℕ) (old new : State) (changes : ℕ) (lacked lacked' : Bool) : Type 0 where
+pub record LeavesOf (dev : Dev) (at : ℕ) (bytes : List ℕ) (old new : State) (changes : ℕ)
+    (lacked lacked' : Bool) : Type 0 where
   pub over : 10000 < changes → Stays old new × (lacked' ≡ lacked)
   pub within : changes ≤ 10000 → (Lies dev at bytes old new × (lacked' ≡ lacked)) ⊎ (Stays old new × (lacked' ≡ true))

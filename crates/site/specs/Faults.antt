@@ -39,7 +39,13 @@ abbrev pub with_input_fault : Faults → Faults
 with_input_fault f = record { log = f.log; flash = f.flash; disk = f.disk; input = one_more f.input; output = f.output }
 
 abbrev pub with_output_fault : Faults → Faults
-with_output_fault f = record { log = f.log; flash = f.flash; disk = f.disk; input = f.input; output = one_more f.output }
+with_output_fault f = record {
+  log = f.log;
+  flash = f.flash;
+  disk = f.disk;
+  input = f.input;
+  output = one_more f.output;
+}
 
 -- after a call of the device: all as they were where it answers Ok, and else one failed call of it more
 abbrev pub after_call : {T : Type 0} → Dev → Result T Failed → Faults → Faults
@@ -54,7 +60,8 @@ abbrev pub after_tell : {T : Type 0} → Result T Failed → Faults → Faults
 after_tell (Ok x) f = f
 after_tell (Err e) f = with_output_fault f
 
--- after work that the first failed call of a device ends: one failed call more of the device that the answer names, and no other
+-- after work that the first failed call of a device ends: one failed call more of the device that the answer names, and
+-- no other
 abbrev pub after_work : {T : Type 0} → Result T Stop → Faults → Faults
 after_work (Ok x) f = f
 after_work (Err (Device dev)) f = with_fault dev f
@@ -62,8 +69,8 @@ after_work (Err Memory) f = f
 after_work (Err (Worn dev)) f = f
 after_work (Err Foreign) f = f
 
--- Each failed call is the last one, and is told by the answer: Ok leaves all counts as they were, and an error raises the one count that
--- it names, by one.
+-- Each failed call is the last one, and is told by the answer: Ok leaves all counts as they were, and an error raises
+-- the one count that it names, by one.
 
 abbrev pub CallFaults : {T : Type 0} → Dev → Result T Failed → State → State → Type 0
 CallFaults dev result old new = faults_in new ≡ after_call dev result (faults_in old)

@@ -32,4 +32,8 @@ pub record HasLengths (g : Geometry) (image : Image) : Type 0 where
 
 -- all octets are zero
 abbrev pub blank_image : Geometry → Image
-blank_image g = record { log = replicate (log_length g) 0; flash = replicate (flash_length g) 0; disk = replicate (disk_length g) 0 }
+blank_image g = record {
+  log = replicate (log_length g) 0;
+  flash = replicate (flash_length g) 0;
+  disk = replicate (disk_length g) 0;
+}

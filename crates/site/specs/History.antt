@@ -21,8 +21,18 @@ before after (Wrote dev at had) = record {
   image = with_content dev (put (content_of dev after.image) at had.items) after.image;
   loose = with_loose dev (drop 1 (loose_of dev after.loose)) after.loose;
 }
-before after (Synced dev had) = record { told = after.told; telling = []; image = after.image; loose = with_loose dev (ranges_of had.items) after.loose }
-before after (Told taken rest) = record { told = take (length after.told - taken) after.told; telling = []; image = after.image; loose = after.loose }
+before after (Synced dev had) = record {
+  told = after.told;
+  telling = [];
+  image = after.image;
+  loose = with_loose dev (ranges_of had.items) after.loose;
+}
+before after (Told taken rest) = record {
+  told = take (length after.told - taken) after.told;
+  telling = [];
+  image = after.image;
+  loose = after.loose;
+}
 
 -- the moment within a change, from the one after it
 abbrev pub within : Moment → Change → Moment

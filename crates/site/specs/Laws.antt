@@ -1,18 +1,25 @@
 -- Laws on what a crash may leave, and on the moments of calls.
-use Rattle.std.proofs.Common.{IsTrue, ◌≡◌, ◌≢◌, ◌⊎◌, inl, inr, ℕ, zero, ◌+◌, ◌-◌, ◌≤◌, ◌<◌, Bool, true, false, true≢false, List, [], ◌∷◌, ◌++◌, length, take, drop, get_or, refl, sym, ◌∙◌, ap, subst, append_assoc}
+use Rattle.std.proofs.Common.{IsTrue, ◌≡◌, ◌≢◌, ◌⊎◌, inl, inr, ℕ, zero, ◌+◌, ◌-◌, ◌≤◌, ◌<◌, Bool, true, false}
+use Rattle.std.proofs.Common.{true≢false, List, [], ◌∷◌, ◌++◌, length, take, drop, get_or, refl, sym, ◌∙◌, ap, subst}
+use Rattle.std.proofs.Common.{append_assoc}
 use Rattle.std.proofs.Common.{zero-le, le_trans, le_refl, le-add_right, add_assoc, add-sub_of_le, add-le-add}
 use Rattle.std.proofs.Math.Nat.{min-le_left, min-le_right, le-min}
 use Rattle.std.proofs.Math.ListN.{get_or-append}
-use Rattle.std.proofs.lemmas.List.{same_lists, get_or_default, get_or-append-add, get_or-take, get_or-drop, length-append, length-take-le, length-drop, drop_at, append-nil, take_all}
+use Rattle.std.proofs.lemmas.List.{same_lists, get_or_default, get_or-append-add, get_or-take, get_or-drop}
+use Rattle.std.proofs.lemmas.List.{length-append, length-take-le, length-drop, drop_at, append-nil, take_all}
 use Rattle.std.proofs.lemmas.Bool.{cases_lt, or_parts, and_from, and_left, and_right, lt-leb, le-leb, lt-ltb, le-ltb}
 use Rattle.std.specs.List.{AllByRecursion}
 use Rattle.std.specs.Prelude.{Result, Ok, Err, OnOk, ◌^◌}
 use Rattle.site.specs.declared.outside.Dev.{Dev}
 use Rattle.site.specs.declared.outside.Dev.TheVariants.{Log, Flash, Disk}
 use Rattle.site.specs.declared.outside.Failed.{Failed}
-use Rattle.site.specs.State.{State, Image, Loose, Range, Moment, Snapshot, MayStand, MayLeave, content_of, with_content, loose_of, with_loose, is_loose, is_within, faults_of, reads_of, now_of, snapshot_of, IsSettled, IsQuiet, no_loose}
-use Rattle.site.specs.Calls.{IsUnchanged, HasRead, Goes, Rose, put, range, within_write, within_tell, Adds, Lies, Stays, Wrote, Synced, Took, Told}
-use Rattle.site.specs.Moments.{Leaves, since, EachMoment, LeavesOnly, SameBut, OnlyDevice, ChangesOnly, SameAt, Untouched}
+use Rattle.site.specs.State.{State, Image, Loose, Range, Moment, Snapshot, MayStand, MayLeave, content_of, with_content}
+use Rattle.site.specs.State.{loose_of, with_loose, is_loose, is_within, faults_of, reads_of, now_of, snapshot_of}
+use Rattle.site.specs.State.{IsSettled, IsQuiet, no_loose}
+use Rattle.site.specs.Calls.{IsUnchanged, HasRead, Goes, Rose, put, range, within_write, within_tell, Adds, Lies, Stays}
+use Rattle.site.specs.Calls.{Wrote, Synced, Took, Told}
+use Rattle.site.specs.Moments.{Leaves, since, EachMoment, LeavesOnly, SameBut, OnlyDevice, ChangesOnly, SameAt}
+use Rattle.site.specs.Moments.{Untouched}
 use Rattle.site.specs.Telling.{TellsPart, SameDevices}
 
 -- one device's content and loose ranges
@@ -22,7 +29,8 @@ content_of-same Log c image = refl
 content_of-same Flash c image = refl
 content_of-same Disk c image = refl
 
-pub content_of-other : (dev d : Dev) (c : List ℕ) (image : Image) → d ≢ dev → content_of d (with_content dev c image) ≡ content_of d image
+pub content_of-other : (dev d : Dev) (c : List ℕ) (image : Image) → d ≢ dev
+    → content_of d (with_content dev c image) ≡ content_of d image
 content_of-other Log Log c image ne = absurd (ne refl)
 content_of-other Log Flash c image ne = refl
 content_of-other Log Disk c image ne = refl
@@ -38,7 +46,8 @@ loose_of-same Log rs loose = refl
 loose_of-same Flash rs loose = refl
 loose_of-same Disk rs loose = refl
 
-pub loose_of-other : (dev d : Dev) (rs : List Range) (loose : Loose) → d ≢ dev → loose_of d (with_loose dev rs loose) ≡ loose_of d loose
+pub loose_of-other : (dev d : Dev) (rs : List Range) (loose : Loose) → d ≢ dev
+    → loose_of d (with_loose dev rs loose) ≡ loose_of d loose
 loose_of-other Log Log rs loose ne = absurd (ne refl)
 loose_of-other Log Flash rs loose ne = refl
 loose_of-other Log Disk rs loose ne = refl
@@ -74,9 +83,11 @@ cases_dev Disk Disk = inl refl
 -- moments
 
 -- one call more, with one moment within it
-pub one_call : (old new : State) (m : Moment) (Q : Moment → Type 0) → Adds m old new ⊎ Stays old new → Q m → Q (now_of new) → EachMoment old new Q
+pub one_call : (old new : State) (m : Moment) (Q : Moment → Type 0) → Adds m old new ⊎ Stays old new → Q m
+    → Q (now_of new) → EachMoment old new Q
 one_call old new m Q (inl past) within now =
-    let is : since old new ≡ m ∷ [] = ap (λ (l : List Moment). drop (length old.past) l) past ∙ drop_at old.past (m ∷ []) (length old.past) refl in
+    let is : since old new ≡ m ∷ [] =
+    ap (λ (l : List Moment). drop (length old.past) l) past ∙ drop_at old.past (m ∷ []) (length old.past) refl in
     record {
       grown = past ∙ ap (λ (l : List Moment). old.past ++ l) (sym is);
       each = subst (AllByRecursion Q) (sym is) (within, tt);
@@ -84,36 +95,49 @@ one_call old new m Q (inl past) within now =
     }
 one_call old new m Q (inr stays) within now =
     let past : new.past ≡ old.past ++ [] = stays.past ∙ sym (append-nil old.past) in
-    let is : since old new ≡ [] = ap (λ (l : List Moment). drop (length old.past) l) past ∙ drop_at old.past [] (length old.past) refl in
+    let is : since old new ≡ [] = ap (λ (l : List Moment). drop (length old.past) l) past ∙ drop_at old.past []
+    (length old.past) refl in
     record {
       grown = past ∙ ap (λ (l : List Moment). old.past ++ l) (sym is);
       each = subst (AllByRecursion Q) (sym is) tt;
       now = now;
     }
 
-all_append : (Q : Moment → Type 0) (xs ys : List Moment) → AllByRecursion Q xs → AllByRecursion Q ys → AllByRecursion Q (xs ++ ys)
+all_append : (Q : Moment → Type 0) (xs ys : List Moment) → AllByRecursion Q xs → AllByRecursion Q ys
+    → AllByRecursion Q (xs ++ ys)
 all_append Q [] ys a b = b
 all_append Q (x ∷ xs) ys a b = (a.0, all_append Q xs ys a.1 b)
 
 -- one run after another
 pub in_sequence : (a b c : State) (Q : Moment → Type 0) → EachMoment a b Q → EachMoment b c Q → EachMoment a c Q
 in_sequence a b c Q first second =
-    let all : c.past ≡ a.past ++ (since a b ++ since b c) = second.grown ∙ ap (λ (l : List Moment). l ++ since b c) first.grown ∙ append_assoc a.past (since a b) (since b c) in
-    let is : since a c ≡ since a b ++ since b c = ap (λ (l : List Moment). drop (length a.past) l) all ∙ drop_at a.past (since a b ++ since b c) (length a.past) refl in
+    let all : c.past ≡ a.past ++ (since a b ++ since b c) =
+    second.grown ∙ ap (λ (l : List Moment). l ++ since b c) first.grown ∙ append_assoc a.past (since a b)
+    (since b c) in
+    let is : since a c ≡ since a b ++ since b c =
+    ap (λ (l : List Moment). drop (length a.past) l) all ∙ drop_at a.past (since a b ++ since b c)
+    (length a.past) refl in
     record {
       grown = all ∙ ap (λ (l : List Moment). a.past ++ l) (sym is);
       each = subst (AllByRecursion Q) (sym is) (all_append Q (since a b) (since b c) first.each second.each);
       now = second.now;
     }
 
-all_weaker : (Q R : Moment → Type 0) → ((m : Moment) → Q m → R m) → (xs : List Moment) → AllByRecursion Q xs → AllByRecursion R xs
+all_weaker : (Q R : Moment → Type 0) → ((m : Moment) → Q m → R m) → (xs : List Moment) → AllByRecursion Q xs
+    → AllByRecursion R xs
 all_weaker Q R f [] a = a
 all_weaker Q R f (x ∷ xs) a = (f x a.0, all_weaker Q R f xs a.1)
 
-pub each_weaker : (a b : State) (Q R : Moment → Type 0) → ((m : Moment) → Q m → R m) → EachMoment a b Q → EachMoment a b R
-each_weaker a b Q R f e = record { grown = e.grown; each = all_weaker Q R f (since a b) e.each; now = f (now_of b) e.now }
+pub each_weaker : (a b : State) (Q R : Moment → Type 0) → ((m : Moment) → Q m → R m) → EachMoment a b Q
+    → EachMoment a b R
+each_weaker a b Q R f e = record {
+  grown = e.grown;
+  each = all_weaker Q R f (since a b) e.each;
+  now = f (now_of b) e.now;
+}
 
-pub leaves_weaker : (a b : State) (P R : Snapshot → Type 0) → ((s : Snapshot) → P s → R s) → LeavesOnly a b P → LeavesOnly a b R
+pub leaves_weaker : (a b : State) (P R : Snapshot → Type 0) → ((s : Snapshot) → P s → R s) → LeavesOnly a b P
+    → LeavesOnly a b R
 leaves_weaker a b P R f e = each_weaker a b (Leaves P) (Leaves R) (λ m q s l. f s (q s l)) e
 
 -- a write into a content
@@ -122,22 +146,30 @@ front : (c : List ℕ) (at : ℕ) (bytes : List ℕ) → at + length bytes ≤ l
 front c at bytes fits = length-take-le at c (le_trans (le-add_right at (length bytes)) fits)
 
 -- what stands from the place of the write on
-put_from : (c : List ℕ) (at : ℕ) (bytes : List ℕ) (k : ℕ) → at + length bytes ≤ length c → get_or (put c at bytes) (at + k) 0 ≡ get_or (bytes ++ drop (at + length bytes) c) k 0
-put_from c at bytes k fits = ap (λ (j : ℕ). get_or (put c at bytes) (j + k) 0) (sym (front c at bytes fits)) ∙ get_or-append-add (take at c) (bytes ++ drop (at + length bytes) c) k 0
+put_from : (c : List ℕ) (at : ℕ) (bytes : List ℕ) (k : ℕ) → at + length bytes ≤ length c
+    → get_or (put c at bytes) (at + k) 0 ≡ get_or (bytes ++ drop (at + length bytes) c) k 0
+put_from c at bytes k fits = ap (λ (j : ℕ). get_or (put c at bytes) (j + k) 0) (sym (front c at bytes fits)) ∙
+    get_or-append-add (take at c) (bytes ++ drop (at + length bytes) c) k 0
 
-pub length-put : (c : List ℕ) (at : ℕ) (bytes : List ℕ) → at + length bytes ≤ length c → length (put c at bytes) ≡ length c
+pub length-put : (c : List ℕ) (at : ℕ) (bytes : List ℕ) → at + length bytes ≤ length c
+    → length (put c at bytes) ≡ length c
 length-put c at bytes fits =
     length-append (take at c) (bytes ++ drop (at + length bytes) c)
-    ∙ (λ i. front c at bytes fits i + (length-append bytes (drop (at + length bytes) c) ∙ ap (λ (k : ℕ). length bytes + k) (length-drop (at + length bytes) c)) i)
+    ∙ (λ i. front c at bytes fits i
+    + (length-append bytes (drop (at + length bytes) c) ∙ ap (λ (k : ℕ). length bytes + k)
+    (length-drop (at + length bytes) c)) i)
     ∙ sym (add_assoc at (length bytes) (length c - (at + length bytes)))
     ∙ add-sub_of_le fits
 
-pub put_below : (c : List ℕ) (at : ℕ) (bytes : List ℕ) (place : ℕ) → at + length bytes ≤ length c → place < at → get_or (put c at bytes) place 0 ≡ get_or c place 0
+pub put_below : (c : List ℕ) (at : ℕ) (bytes : List ℕ) (place : ℕ) → at + length bytes ≤ length c → place < at
+    → get_or (put c at bytes) place 0 ≡ get_or c place 0
 put_below c at bytes place fits lt =
-    get_or-append (take at c) (bytes ++ drop (at + length bytes) c) 0 place (subst (λ (n : ℕ). place < n) (sym (front c at bytes fits)) lt)
+    get_or-append (take at c) (bytes ++ drop (at + length bytes) c) 0 place
+    (subst (λ (n : ℕ). place < n) (sym (front c at bytes fits)) lt)
     ∙ get_or-take at c place 0 lt
 
-pub put_behind : (c : List ℕ) (at : ℕ) (bytes : List ℕ) (place : ℕ) → at + length bytes ≤ length c → at + length bytes ≤ place → get_or (put c at bytes) place 0 ≡ get_or c place 0
+pub put_behind : (c : List ℕ) (at : ℕ) (bytes : List ℕ) (place : ℕ) → at + length bytes ≤ length c
+    → at + length bytes ≤ place → get_or (put c at bytes) place 0 ≡ get_or c place 0
 put_behind c at bytes place fits le =
     let more = place - (at + length bytes) in
     ap (λ (p : ℕ). get_or (put c at bytes) p 0) (sym (add-sub_of_le le) ∙ add_assoc at (length bytes) more)
@@ -146,7 +178,8 @@ put_behind c at bytes place fits le =
     ∙ get_or-drop (at + length bytes) c more 0
     ∙ ap (λ (p : ℕ). get_or c p 0) (add-sub_of_le le)
 
-pub put_here : (c : List ℕ) (at : ℕ) (bytes : List ℕ) (k : ℕ) → at + length bytes ≤ length c → k < length bytes → get_or (put c at bytes) (at + k) 0 ≡ get_or bytes k 0
+pub put_here : (c : List ℕ) (at : ℕ) (bytes : List ℕ) (k : ℕ) → at + length bytes ≤ length c → k < length bytes
+    → get_or (put c at bytes) (at + k) 0 ≡ get_or bytes k 0
 put_here c at bytes k fits lt = put_from c at bytes k fits ∙ get_or-append bytes (drop (at + length bytes) c) 0 k lt
 
 -- a place that isn't in a range lies before it or behind it
@@ -165,7 +198,8 @@ within_not at n place (inr behind) = and_right _ _ (le-ltb place (at + n) behind
 
 -- what may stand after a step may stand before it, where what was loose stays loose
 pub stands_back : (rs rs' : List Range) (b b' now : List ℕ) → MayStand rs' b' now → length b' ≡ length b
-    → ((place : ℕ) → is_loose rs place ≡ false → (is_loose rs' place ≡ false) × (get_or b' place 0 ≡ get_or b place 0)) → MayStand rs b now
+    → ((place : ℕ) → is_loose rs place ≡ false → (is_loose rs' place ≡ false) × (get_or b' place 0 ≡ get_or b place 0))
+    → MayStand rs b now
 stands_back rs rs' b b' now m size kept = record {
   size = m.size ∙ size;
   kept = λ place out. m.kept place (kept place out).0 ∙ (kept place out).1;
@@ -173,12 +207,15 @@ stands_back rs rs' b b' now m size kept = record {
 
 -- the same of a device, known by its loose ranges and its content
 stands_at : (rs rs' : List Range) (b b' now : List ℕ) → rs ≡ rs' → b ≡ b' → MayStand rs b now → MayStand rs' b' now
-stands_at rs rs' b b' now r c m = subst (λ (x : List ℕ). MayStand rs' x now) c (subst (λ (x : List Range). MayStand x b now) r m)
+stands_at rs rs' b b' now r c m =
+    subst (λ (x : List ℕ). MayStand rs' x now) c (subst (λ (x : List Range). MayStand x b now) r m)
 
 -- what may stand after a write may stand within it
-pub put_stands : (rs : List Range) (b now : List ℕ) (at n : ℕ) (bytes : List ℕ) → length bytes ≡ n → at + n ≤ length b → MayStand (range at n ∷ rs) (put b at bytes) now → MayStand (range at n ∷ rs) b now
+pub put_stands : (rs : List Range) (b now : List ℕ) (at n : ℕ) (bytes : List ℕ) → length bytes ≡ n → at + n ≤ length b
+    → MayStand (range at n ∷ rs) (put b at bytes) now → MayStand (range at n ∷ rs) b now
 put_stands rs b now at n bytes is fits m =
-    stands_back (range at n ∷ rs) (range at n ∷ rs) b (put b at bytes) now m (length-put b at bytes fits') (λ place out. (out, kept place (or_parts (is_within (range at n) place) (is_loose rs place) out).0))
+    stands_back (range at n ∷ rs) (range at n ∷ rs) b (put b at bytes) now m (length-put b at bytes fits')
+    (λ place out. (out, kept place (or_parts (is_within (range at n) place) (is_loose rs place) out).0))
   where
     fits' : at + length bytes ≤ length b
     fits' = subst (λ (k : ℕ). at + k ≤ length b) (sym is) fits
@@ -191,59 +228,82 @@ put_stands rs b now at n bytes is fits m =
 
 -- what may stand may stand where one range more is loose
 pub more_loose : (r : Range) (rs : List Range) (b now : List ℕ) → MayStand rs b now → MayStand (r ∷ rs) b now
-more_loose r rs b now m = stands_back (r ∷ rs) rs b b now m refl (λ place out. ((or_parts (is_within r place) (is_loose rs place) out).1, refl))
+more_loose r rs b now m = stands_back (r ∷ rs) rs b b now m refl
+    (λ place out. ((or_parts (is_within r place) (is_loose rs place) out).1, refl))
 
 -- what is left after a write, the moment within it might have left
-lies_leaves : (dev : Dev) (at : ℕ) (bytes : List ℕ) (old new : State) (n : ℕ) (s : Snapshot) → length bytes ≡ n → at + n ≤ length (content_of dev old.image) → Lies dev at bytes old new → new.told ≡ old.told
+lies_leaves : (dev : Dev) (at : ℕ) (bytes : List ℕ) (old new : State) (n : ℕ) (s : Snapshot) → length bytes ≡ n
+    → at + n ≤ length (content_of dev old.image) → Lies dev at bytes old new → new.told ≡ old.told
     → MayLeave (now_of new) s → MayLeave (within_write dev at n old) s
 lies_leaves dev at bytes old new n s is fits lies told m = record {
   told = (m.told.0, m.told.1 ∙ ap (λ (l : List ℕ). l ++ take m.told.0 []) told);
   content = λ d. elim (cases_dev d dev) [
-    | inl same ↦ subst (λ (x : Dev). MayStand (loose_of x (with_loose dev (range at n ∷ loose_of dev old.loose) old.loose)) (content_of x old.image) (content_of x s.image)) (sym same) here
-    | inr other ↦ stands_at (loose_of d new.loose) (loose_of d (with_loose dev (range at n ∷ loose_of dev old.loose) old.loose)) (content_of d new.image) (content_of d old.image) (content_of d s.image)
-        (ap (loose_of d) lies.loose ∙ loose_of-other dev d (range at (length bytes) ∷ loose_of dev old.loose) old.loose other ∙ sym (loose_of-other dev d (range at n ∷ loose_of dev old.loose) old.loose other))
-        (ap (content_of d) lies.image ∙ content_of-other dev d (put (content_of dev old.image) at bytes) old.image other)
+    | inl same ↦ subst (λ (x : Dev). MayStand
+        (loose_of x (with_loose dev (range at n ∷ loose_of dev old.loose) old.loose)) (content_of x old.image)
+        (content_of x s.image)) (sym same) here
+    | inr other ↦ stands_at (loose_of d new.loose)
+        (loose_of d (with_loose dev (range at n ∷ loose_of dev old.loose) old.loose)) (content_of d new.image)
+        (content_of d old.image) (content_of d s.image)
+        (ap (loose_of d) lies.loose ∙ loose_of-other dev d (range at (length bytes) ∷ loose_of dev old.loose) old.loose
+        other ∙ sym (loose_of-other dev d (range at n ∷ loose_of dev old.loose) old.loose other))
+        (ap (content_of d) lies.image ∙ content_of-other dev d (put (content_of dev old.image) at bytes)
+        old.image other)
         (m.content d)
   ];
 }
   where
     ranges : loose_of dev new.loose ≡ range at n ∷ loose_of dev old.loose
-    ranges = ap (loose_of dev) lies.loose ∙ loose_of-same dev (range at (length bytes) ∷ loose_of dev old.loose) old.loose ∙ ap (λ (k : ℕ). range at k ∷ loose_of dev old.loose) is
+    ranges = ap (loose_of dev) lies.loose ∙ loose_of-same dev (range at (length bytes) ∷ loose_of dev old.loose)
+        old.loose ∙ ap (λ (k : ℕ). range at k ∷ loose_of dev old.loose) is
 
-    here : MayStand (loose_of dev (with_loose dev (range at n ∷ loose_of dev old.loose) old.loose)) (content_of dev old.image) (content_of dev s.image)
+    here : MayStand (loose_of dev (with_loose dev (range at n ∷ loose_of dev old.loose) old.loose))
+        (content_of dev old.image) (content_of dev s.image)
     here = stands_at _ _ _ _ _ (sym (loose_of-same dev (range at n ∷ loose_of dev old.loose) old.loose)) refl
         (put_stands (loose_of dev old.loose) (content_of dev old.image) (content_of dev s.image) at n bytes is fits
-        (stands_at _ _ _ _ _ ranges (ap (content_of dev) lies.image ∙ content_of-same dev (put (content_of dev old.image) at bytes) old.image) (m.content dev)))
+        (stands_at _ _ _ _ _ ranges (ap (content_of dev) lies.image ∙ content_of-same dev
+        (put (content_of dev old.image) at bytes) old.image) (m.content dev)))
 
-stays_leaves : (dev : Dev) (at n : ℕ) (old new : State) (s : Snapshot) → Stays old new → new.told ≡ old.told → MayLeave (now_of new) s → MayLeave (within_write dev at n old) s
+stays_leaves : (dev : Dev) (at n : ℕ) (old new : State) (s : Snapshot) → Stays old new → new.told ≡ old.told
+    → MayLeave (now_of new) s → MayLeave (within_write dev at n old) s
 stays_leaves dev at n old new s stays told m = record {
   told = (m.told.0, m.told.1 ∙ ap (λ (l : List ℕ). l ++ take m.told.0 []) told);
   content = λ d. elim (cases_dev d dev) [
-    | inl same ↦ subst (λ (x : Dev). MayStand (loose_of x (with_loose dev (range at n ∷ loose_of dev old.loose) old.loose)) (content_of x old.image) (content_of x s.image)) (sym same)
-        (stands_at _ _ _ _ _ (sym (loose_of-same dev (range at n ∷ loose_of dev old.loose) old.loose)) refl (more_loose (range at n) (loose_of dev old.loose) _ _ (before dev)))
-    | inr other ↦ stands_at _ _ _ _ _ (sym (loose_of-other dev d (range at n ∷ loose_of dev old.loose) old.loose other)) refl (before d)
+    | inl same ↦ subst (λ (x : Dev). MayStand
+        (loose_of x (with_loose dev (range at n ∷ loose_of dev old.loose) old.loose)) (content_of x old.image)
+        (content_of x s.image)) (sym same)
+        (stands_at _ _ _ _ _ (sym (loose_of-same dev (range at n ∷ loose_of dev old.loose) old.loose)) refl
+        (more_loose (range at n) (loose_of dev old.loose) _ _ (before dev)))
+    | inr other ↦ stands_at _ _ _ _ _ (sym (loose_of-other dev d (range at n ∷ loose_of dev old.loose) old.loose other))
+        refl (before d)
   ];
 }
   where
     before : (d : Dev) → MayStand (loose_of d old.loose) (content_of d old.image) (content_of d s.image)
     before d = stands_at _ _ _ _ _ (ap (loose_of d) stays.loose) (ap (content_of d) stays.image) (m.content d)
 
-pub wrote_leaves : {T : Type 0} (dev : Dev) (at : ℕ) (bytes : List ℕ) (old new : State) (result : Result T Failed) (s : Snapshot) → at + length bytes ≤ length (content_of dev old.image) → Wrote dev at bytes old new result
+pub wrote_leaves : {T : Type 0} (dev : Dev) (at : ℕ) (bytes : List ℕ) (old new : State) (result : Result T Failed)
+    (s : Snapshot) → at + length bytes ≤ length (content_of dev old.image) → Wrote dev at bytes old new result
     → MayLeave (now_of new) s → MayLeave (within_write dev at (length bytes) old) s
-wrote_leaves dev at bytes old new (Ok x) s fits w m = lies_leaves dev at bytes old new (length bytes) s refl fits w.written w.told m
+wrote_leaves dev at bytes old new (Ok x) s fits w m =
+    lies_leaves dev at bytes old new (length bytes) s refl fits w.written w.told m
 wrote_leaves dev at bytes old new (Err e) s fits w m = elim w.failed [
   | inl stays ↦ stays_leaves dev at (length bytes) old new s stays w.told m
   | inr lost ↦ lies_leaves dev at lost.0 old new (length bytes) s lost.1 fits lost.2 w.told m
 ]
 
 -- what is left after a sync might have been left before it
-pub synced_leaves : {T : Type 0} (dev : Dev) (old new : State) (result : Result T Failed) (s : Snapshot) → Synced dev old new result → MayLeave (now_of new) s → MayLeave (now_of old) s
+pub synced_leaves : {T : Type 0} (dev : Dev) (old new : State) (result : Result T Failed) (s : Snapshot)
+    → Synced dev old new result → MayLeave (now_of new) s → MayLeave (now_of old) s
 synced_leaves dev old new (Ok x) s w m = record {
   told = (m.told.0, m.told.1 ∙ ap (λ (l : List ℕ). l ++ take m.told.0 []) w.told);
   content = λ d. elim (cases_dev d dev) [
-    | inl same ↦ subst (λ (x : Dev). MayStand (loose_of x old.loose) (content_of x old.image) (content_of x s.image)) (sym same)
-        (stands_back (loose_of dev old.loose) [] _ _ _ (stands_at _ _ _ _ _ (ap (loose_of dev) w.settled ∙ loose_of-same dev [] old.loose) (ap (content_of dev) w.image) (m.content dev)) refl (λ place out. (refl, refl)))
-    | inr other ↦ stands_at _ _ _ _ _ (ap (loose_of d) w.settled ∙ loose_of-other dev d [] old.loose other) (ap (content_of d) w.image) (m.content d)
+    | inl same ↦ subst (λ (x : Dev). MayStand (loose_of x old.loose) (content_of x old.image)
+        (content_of x s.image)) (sym same)
+        (stands_back (loose_of dev old.loose) [] _ _ _
+        (stands_at _ _ _ _ _ (ap (loose_of dev) w.settled ∙ loose_of-same dev [] old.loose)
+        (ap (content_of dev) w.image) (m.content dev)) refl (λ place out. (refl, refl)))
+    | inr other ↦ stands_at _ _ _ _ _ (ap (loose_of d) w.settled ∙ loose_of-other dev d [] old.loose other)
+        (ap (content_of d) w.image) (m.content d)
   ];
 }
 synced_leaves dev old new (Err e) s w m = record {
@@ -252,46 +312,81 @@ synced_leaves dev old new (Err e) s w m = record {
 }
 
 -- a write goes on: what the moment within it leaves is all that has to be shown
-pub write_leaves_only : {T : Type 0} (dev : Dev) (at : ℕ) (bytes : List ℕ) (old new : State) (result : Result T Failed) (P : Snapshot → Type 0) → at + length bytes ≤ length (content_of dev old.image) → Wrote dev at bytes old new result
+pub write_leaves_only : {T : Type 0} (dev : Dev) (at : ℕ) (bytes : List ℕ) (old new : State) (result : Result T Failed)
+    (P : Snapshot → Type 0) → at + length bytes ≤ length (content_of dev old.image) → Wrote dev at bytes old new result
     → Leaves P (within_write dev at (length bytes) old) → LeavesOnly old new P
 write_leaves_only dev at bytes old new result P fits w leaves =
-    one_call old new (within_write dev at (length bytes) old) (Leaves P) w.past leaves (λ s m. leaves s (wrote_leaves dev at bytes old new result s fits w m))
+    one_call old new (within_write dev at (length bytes) old) (Leaves P) w.past leaves
+    (λ s m. leaves s (wrote_leaves dev at bytes old new result s fits w m))
 
 -- and a sync leaves what might have been left before it
-pub sync_leaves_only : {T : Type 0} (dev : Dev) (old new : State) (result : Result T Failed) (P : Snapshot → Type 0) → Synced dev old new result → Leaves P (now_of old) → LeavesOnly old new P
+pub sync_leaves_only : {T : Type 0} (dev : Dev) (old new : State) (result : Result T Failed) (P : Snapshot → Type 0)
+    → Synced dev old new result → Leaves P (now_of old) → LeavesOnly old new P
 sync_leaves_only dev old new result P w leaves =
     one_call old new (now_of old) (Leaves P) w.past leaves (λ s m. leaves s (synced_leaves dev old new result s w m))
 
 -- only one device
 
-lies_but : (dev : Dev) (at : ℕ) (bytes : List ℕ) (old new : State) → Lies dev at bytes old new → new.told ≡ old.told → SameBut dev old (now_of new)
+lies_but : (dev : Dev) (at : ℕ) (bytes : List ℕ) (old new : State) → Lies dev at bytes old new → new.told ≡ old.told
+    → SameBut dev old (now_of new)
 lies_but dev at bytes old new lies told = record {
   told = told;
   telling = refl;
-  content = λ d ne. ap (content_of d) lies.image ∙ content_of-other dev d (put (content_of dev old.image) at bytes) old.image ne;
-  loose = λ d ne. ap (loose_of d) lies.loose ∙ loose_of-other dev d (range at (length bytes) ∷ loose_of dev old.loose) old.loose ne;
+  content = λ d ne. ap (content_of d) lies.image ∙ content_of-other dev d (put (content_of dev old.image) at bytes)
+      old.image ne;
+  loose = λ d ne. ap (loose_of d) lies.loose ∙ loose_of-other dev d (range at (length bytes) ∷ loose_of dev old.loose)
+      old.loose ne;
 }
 
-wrote_but : {T : Type 0} (dev : Dev) (at : ℕ) (bytes : List ℕ) (old new : State) (result : Result T Failed) → Wrote dev at bytes old new result → SameBut dev old (now_of new)
+wrote_but : {T : Type 0} (dev : Dev) (at : ℕ) (bytes : List ℕ) (old new : State) (result : Result T Failed)
+    → Wrote dev at bytes old new result → SameBut dev old (now_of new)
 wrote_but dev at bytes old new (Ok x) w = lies_but dev at bytes old new w.written w.told
 wrote_but dev at bytes old new (Err e) w = elim w.failed [
-  | inl stays ↦ record { told = w.told; telling = refl; content = λ d ne. ap (content_of d) stays.image; loose = λ d ne. ap (loose_of d) stays.loose }
+  | inl stays ↦ record {
+    told = w.told;
+    telling = refl;
+    content = λ d ne. ap (content_of d) stays.image;
+    loose = λ d ne. ap (loose_of d) stays.loose;
+  }
   | inr lost ↦ lies_but dev at lost.0 old new lost.2 w.told
 ]
 
-synced_but : {T : Type 0} (dev : Dev) (old new : State) (result : Result T Failed) → Synced dev old new result → SameBut dev old (now_of new)
-synced_but dev old new (Ok x) w = record { told = w.told; telling = refl; content = λ d ne. ap (content_of d) w.image; loose = λ d ne. ap (loose_of d) w.settled ∙ loose_of-other dev d [] old.loose ne }
-synced_but dev old new (Err e) w = record { told = w.told; telling = refl; content = λ d ne. ap (content_of d) w.image; loose = λ d ne. ap (loose_of d) w.failed }
+synced_but : {T : Type 0} (dev : Dev) (old new : State) (result : Result T Failed) → Synced dev old new result
+    → SameBut dev old (now_of new)
+synced_but dev old new (Ok x) w = record {
+  told = w.told;
+  telling = refl;
+  content = λ d ne. ap (content_of d) w.image;
+  loose = λ d ne. ap (loose_of d) w.settled ∙ loose_of-other dev d [] old.loose ne;
+}
+synced_but dev old new (Err e) w = record {
+  told = w.told;
+  telling = refl;
+  content = λ d ne. ap (content_of d) w.image;
+  loose = λ d ne. ap (loose_of d) w.failed;
+}
 
-pub write_only : {T : Type 0} (dev : Dev) (at : ℕ) (bytes : List ℕ) (old new : State) (result : Result T Failed) → Wrote dev at bytes old new result → OnlyDevice dev old new
+pub write_only : {T : Type 0} (dev : Dev) (at : ℕ) (bytes : List ℕ) (old new : State) (result : Result T Failed)
+    → Wrote dev at bytes old new result → OnlyDevice dev old new
 write_only dev at bytes old new result w =
     one_call old new (within_write dev at (length bytes) old) (SameBut dev old) w.past
-    (record { told = refl; telling = refl; content = λ d ne. refl; loose = λ d ne. loose_of-other dev d (range at (length bytes) ∷ loose_of dev old.loose) old.loose ne })
+    (record {
+      told = refl;
+      telling = refl;
+      content = λ d ne. refl;
+      loose = λ d ne. loose_of-other dev d (range at (length bytes) ∷ loose_of dev old.loose) old.loose ne;
+    })
     (wrote_but dev at bytes old new result w)
 
-pub sync_only : {T : Type 0} (dev : Dev) (old new : State) (result : Result T Failed) → Synced dev old new result → OnlyDevice dev old new
+pub sync_only : {T : Type 0} (dev : Dev) (old new : State) (result : Result T Failed) → Synced dev old new result
+    → OnlyDevice dev old new
 sync_only dev old new result w =
-    one_call old new (now_of old) (SameBut dev old) w.past (record { told = refl; telling = refl; content = λ d ne. refl; loose = λ d ne. refl }) (synced_but dev old new result w)
+    one_call old new (now_of old) (SameBut dev old) w.past (record {
+      told = refl;
+      telling = refl;
+      content = λ d ne. refl;
+      loose = λ d ne. refl;
+    }) (synced_but dev old new result w)
 
 pub only_in_sequence : (dev : Dev) (a b c : State) → OnlyDevice dev a b → OnlyDevice dev b c → OnlyDevice dev a c
 only_in_sequence dev a b c first second =
@@ -316,38 +411,72 @@ goes_in_sequence a b c f s = record {
 -- before any call
 pub no_call : (s : State) (Q : Moment → Type 0) → Q (now_of s) → EachMoment s s Q
 no_call s Q now =
-    let none : since s s ≡ [] = ap (λ (l : List Moment). drop (length s.past) l) (sym (append-nil s.past)) ∙ drop_at s.past [] (length s.past) refl in
-    record { grown = sym (append-nil s.past) ∙ ap (λ (l : List Moment). s.past ++ l) (sym none); each = subst (AllByRecursion Q) (sym none) tt; now = now }
+    let none : since s s ≡ [] = ap (λ (l : List Moment). drop (length s.past) l) (sym (append-nil s.past)) ∙ drop_at
+    s.past [] (length s.past) refl in
+    record {
+      grown = sym (append-nil s.past) ∙ ap (λ (l : List Moment). s.past ++ l) (sym none);
+      each = subst (AllByRecursion Q) (sym none) tt;
+      now = now;
+    }
 
 pub stays_honest : (a b : State) → Goes a b → IsTrue a.honest → IsTrue b.honest
 stays_honest a b goes honest = subst IsTrue (sym goes.honest) honest
 
 -- one write more
-pub then_write : {T : Type 0} (old mid new : State) (P : Snapshot → Type 0) (dev : Dev) (at : ℕ) (bytes : List ℕ) (result : Result T Failed) → LeavesOnly old mid P → at + length bytes ≤ length (content_of dev mid.image)
+pub then_write : {T : Type 0} (old mid new : State) (P : Snapshot
+    → Type 0) (dev : Dev) (at : ℕ) (bytes : List ℕ) (result : Result T Failed) → LeavesOnly old mid P
+    → at + length bytes ≤ length (content_of dev mid.image)
     → Leaves P (within_write dev at (length bytes) mid) → Wrote dev at bytes mid new result → LeavesOnly old new P
-then_write old mid new P dev at bytes result so_far fits leaves w = in_sequence old mid new (Leaves P) so_far (write_leaves_only dev at bytes mid new result P fits w leaves)
+then_write old mid new P dev at bytes result so_far fits leaves w =
+    in_sequence old mid new (Leaves P) so_far (write_leaves_only dev at bytes mid new result P fits w leaves)
 
 -- one sync more, of which nothing has to be shown
-pub then_sync : {T : Type 0} (old mid new : State) (P : Snapshot → Type 0) (dev : Dev) (result : Result T Failed) → LeavesOnly old mid P → Synced dev mid new result → LeavesOnly old new P
-then_sync old mid new P dev result so_far w = in_sequence old mid new (Leaves P) so_far (sync_leaves_only dev mid new result P w so_far.now)
+pub then_sync : {T : Type 0} (old mid new : State) (P : Snapshot → Type 0) (dev : Dev) (result : Result T Failed)
+    → LeavesOnly old mid P → Synced dev mid new result → LeavesOnly old new P
+then_sync old mid new P dev result so_far w =
+    in_sequence old mid new (Leaves P) so_far (sync_leaves_only dev mid new result P w so_far.now)
 
 -- reads
 
-pub read_unchanged : {T : Type 0} (dev : Dev) (at : ℕ) (into : List ℕ) (old new : State) (result : Result T Failed) → HasRead dev at into old new result → IsUnchanged old new
-read_unchanged dev at into old new result r = record { image = r.image; loose = r.loose; told = r.told; left = r.left; past = r.past }
+pub read_unchanged : {T : Type 0} (dev : Dev) (at : ℕ) (into : List ℕ) (old new : State) (result : Result T Failed)
+    → HasRead dev at into old new result → IsUnchanged old new
+read_unchanged dev at into old new result r = record {
+  image = r.image;
+  loose = r.loose;
+  told = r.told;
+  left = r.left;
+  past = r.past;
+}
 
 pub unchanged : (a : State) → IsUnchanged a a
 unchanged a = record { image = refl; loose = refl; told = refl; left = refl; past = refl }
 
 pub unchanged_in_sequence : (a b c : State) → IsUnchanged a b → IsUnchanged b c → IsUnchanged a c
-unchanged_in_sequence a b c f s = record { image = s.image ∙ f.image; loose = s.loose ∙ f.loose; told = s.told ∙ f.told; left = s.left ∙ f.left; past = s.past ∙ f.past }
+unchanged_in_sequence a b c f s = record {
+  image = s.image ∙ f.image;
+  loose = s.loose ∙ f.loose;
+  told = s.told ∙ f.told;
+  left = s.left ∙ f.left;
+  past = s.past ∙ f.past;
+}
 
 pub goes_nowhere : (a : State) → Goes a a
-goes_nowhere a = record { honest = refl; kept = refl; sizes = λ dev. refl; faults = λ dev. le_refl (faults_of dev a); input_faults = le_refl a.input_faults; output_faults = le_refl a.output_faults; reads = λ dev. le_refl (reads_of dev a) }
+goes_nowhere a = record {
+  honest = refl;
+  kept = refl;
+  sizes = λ dev. refl;
+  faults = λ dev. le_refl (faults_of dev a);
+  input_faults = le_refl a.input_faults;
+  output_faults = le_refl a.output_faults;
+  reads = λ dev. le_refl (reads_of dev a);
+}
 
 -- what is there now may be left
 pub now_leaves : (s : State) → MayLeave (now_of s) (snapshot_of s)
-now_leaves s = record { told = (0, sym (append-nil s.told)); content = λ dev. record { size = refl; kept = λ place out. refl } }
+now_leaves s = record {
+  told = (0, sym (append-nil s.told));
+  content = λ dev. record { size = refl; kept = λ place out. refl };
+}
 
 -- so what each crash leaves holds of what is there
 pub holds_now : (old new : State) (P : Snapshot → Type 0) → LeavesOnly old new P → P (snapshot_of new)
@@ -355,19 +484,29 @@ holds_now old new P so_far = so_far.now (snapshot_of new) (now_leaves new)
 
 -- two facts of each moment
 
-all_both : (Q R : Moment → Type 0) (xs : List Moment) → AllByRecursion Q xs → AllByRecursion R xs → AllByRecursion (λ m. Q m × R m) xs
+all_both : (Q R : Moment → Type 0) (xs : List Moment) → AllByRecursion Q xs → AllByRecursion R xs
+    → AllByRecursion (λ m. Q m × R m) xs
 all_both Q R [] q r = tt
 all_both Q R (x ∷ xs) q r = ((q.0, r.0), all_both Q R xs q.1 r.1)
 
-pub each_both : (a b : State) (Q R : Moment → Type 0) → EachMoment a b Q → EachMoment a b R → EachMoment a b (λ m. Q m × R m)
+pub each_both : (a b : State) (Q R : Moment → Type 0) → EachMoment a b Q → EachMoment a b R
+    → EachMoment a b (λ m. Q m × R m)
 each_both a b Q R q r = record { grown = q.grown; each = all_both Q R (since a b) q.each r.each; now = (q.now, r.now) }
 
 -- where only one device changes, a crash leaves what was told, and of the other devices what it might have left before
-pub leaves_others_too : (dev : Dev) (old new : State) (P : Snapshot → Type 0) → LeavesOnly old new P → OnlyDevice dev old new
-    → LeavesOnly old new (λ s. P s × (s.told ≡ old.told) × ((d : Dev) → d ≢ dev → MayStand (loose_of d old.loose) (content_of d old.image) (content_of d s.image)))
+pub leaves_others_too : (dev : Dev) (old new : State) (P : Snapshot → Type 0) → LeavesOnly old new P
+    → OnlyDevice dev old new
+    → LeavesOnly old new (λ s. P s × (s.told ≡ old.told)
+    × ((d : Dev) → d ≢ dev → MayStand (loose_of d old.loose) (content_of d old.image) (content_of d s.image)))
 leaves_others_too dev old new P leaves only =
-    each_weaker old new (λ m. Leaves P m × SameBut dev old m) (Leaves (λ s. P s × (s.told ≡ old.told) × ((d : Dev) → d ≢ dev → MayStand (loose_of d old.loose) (content_of d old.image) (content_of d s.image))))
-    (λ m q s left. (q.0 s left, told_is m q.1 s left, λ d ne. stands_at _ _ _ _ _ (q.1.loose d ne) (q.1.content d ne) (left.content d)))
+    each_weaker old new (λ m. Leaves P m
+    × SameBut dev old m) (Leaves (λ s. P s × (s.told ≡ old.told)
+    × ((d : Dev) → d ≢ dev → MayStand (loose_of d old.loose) (content_of d old.image) (content_of d s.image))))
+    (λ m q s left. (
+      q.0 s left,
+      told_is m q.1 s left,
+      λ d ne. stands_at _ _ _ _ _ (q.1.loose d ne) (q.1.content d ne) (left.content d),
+    ))
     (each_both old new (Leaves P) (SameBut dev old) leaves only)
   where
     nothing_more : (k : ℕ) → old.told ++ take k [] ≡ old.told
@@ -379,10 +518,19 @@ leaves_others_too dev old new P leaves only =
 -- a device that stays as it is
 
 pub others_untouched : (dev d : Dev) (old new : State) → d ≢ dev → OnlyDevice dev old new → Untouched d old new
-others_untouched dev d old new ne only = each_weaker old new (SameBut dev old) (SameAt d old) (λ m same. record { content = same.content d ne; loose = same.loose d ne }) only
+others_untouched dev d old new ne only =
+    each_weaker old new (SameBut dev old) (SameAt d old) (λ m same. record {
+      content = same.content d ne;
+      loose = same.loose d ne;
+    }) only
 
-pub tells_untouched : (d : Dev) (piece : List ℕ) (old new : State) → EachMoment old new (TellsPart piece old) → Untouched d old new
-tells_untouched d piece old new tells = each_weaker old new (TellsPart piece old) (SameAt d old) (λ m part. record { content = ap (content_of d) part.image; loose = ap (loose_of d) part.loose }) tells
+pub tells_untouched : (d : Dev) (piece : List ℕ) (old new : State) → EachMoment old new (TellsPart piece old)
+    → Untouched d old new
+tells_untouched d piece old new tells =
+    each_weaker old new (TellsPart piece old) (SameAt d old) (λ m part. record {
+      content = ap (content_of d) part.image;
+      loose = ap (loose_of d) part.loose;
+    }) tells
 
 pub untouched_in_sequence : (d : Dev) (a b c : State) → Untouched d a b → Untouched d b c → Untouched d a c
 untouched_in_sequence d a b c first second =
@@ -392,19 +540,26 @@ untouched_in_sequence d a b c first second =
     }) second)
 
 -- on it a crash leaves exactly what it might have left before
-pub untouched_leaves : (d : Dev) (old new : State) → Untouched d old new → LeavesOnly old new (λ s. MayStand (loose_of d old.loose) (content_of d old.image) (content_of d s.image))
+pub untouched_leaves : (d : Dev) (old new : State) → Untouched d old new
+    → LeavesOnly old new (λ s. MayStand (loose_of d old.loose) (content_of d old.image) (content_of d s.image))
 untouched_leaves d old new same =
-    each_weaker old new (SameAt d old) (Leaves (λ s. MayStand (loose_of d old.loose) (content_of d old.image) (content_of d s.image)))
+    each_weaker old new (SameAt d old)
+    (Leaves (λ s. MayStand (loose_of d old.loose) (content_of d old.image) (content_of d s.image)))
     (λ m at s left. stands_at _ _ _ _ _ at.loose at.content (left.content d)) same
 
 -- with no loose range, what may stand is what stands
 pub settled_is : (c now : List ℕ) → MayStand [] c now → now ≡ c
-settled_is c now m = same_lists now c m.size (λ k d lt. get_or_default now k d 0 lt ∙ m.kept k refl ∙ get_or_default c k 0 d (subst (λ (n : ℕ). k < n) m.size lt))
+settled_is c now m = same_lists now c m.size
+    (λ k d lt. get_or_default now k d 0 lt ∙ m.kept k refl ∙ get_or_default c k 0 d
+    (subst (λ (n : ℕ). k < n) m.size lt))
 
 -- of a settled device a crash between two calls leaves what stands there
-pub settled_leaves : (dev : Dev) (s : State) (snapshot : Snapshot) → IsSettled dev s → MayLeave (now_of s) snapshot → content_of dev snapshot.image ≡ content_of dev s.image
+pub settled_leaves : (dev : Dev) (s : State) (snapshot : Snapshot) → IsSettled dev s → MayLeave (now_of s) snapshot
+    → content_of dev snapshot.image ≡ content_of dev s.image
 settled_leaves dev s snapshot settled m =
-    settled_is (content_of dev s.image) (content_of dev snapshot.image) (subst (λ (rs : List Range). MayStand rs (content_of dev s.image) (content_of dev snapshot.image)) settled (m.content dev))
+    settled_is (content_of dev s.image) (content_of dev snapshot.image)
+    (subst (λ (rs : List Range). MayStand rs (content_of dev s.image) (content_of dev snapshot.image)) settled
+    (m.content dev))
 
 -- quiet sites
 
@@ -422,8 +577,10 @@ same_image a b same = λ i. record { log = same Log i; flash = same Flash i; dis
 
 -- where no range is loose, a crash leaves what stands there
 pub image_is : (m : Moment) (snapshot : Snapshot) → m.loose ≡ no_loose → MayLeave m snapshot → snapshot.image ≡ m.image
-image_is m snapshot quiet left = same_image snapshot.image m.image (λ dev. settled_is (content_of dev m.image) (content_of dev snapshot.image)
-    (subst (λ (rs : List Range). MayStand rs (content_of dev m.image) (content_of dev snapshot.image)) (ap (loose_of dev) quiet ∙ none dev) (left.content dev)))
+image_is m snapshot quiet left =
+    same_image snapshot.image m.image (λ dev. settled_is (content_of dev m.image) (content_of dev snapshot.image)
+    (subst (λ (rs : List Range). MayStand rs (content_of dev m.image) (content_of dev snapshot.image))
+    (ap (loose_of dev) quiet ∙ none dev) (left.content dev)))
   where
     none : (dev : Dev) → loose_of dev no_loose ≡ []
     none Log = refl
@@ -432,18 +589,27 @@ image_is m snapshot quiet left = same_image snapshot.image m.image (λ dev. sett
 
 -- between two calls, a crash leaves what was told
 pub told_is : (s : State) (snapshot : Snapshot) → MayLeave (now_of s) snapshot → snapshot.told ≡ s.told
-told_is s snapshot left = left.told.1 ∙ ap (λ (l : List ℕ). s.told ++ l) (take_all left.told.0 [] zero-le) ∙ append-nil s.told
+told_is s snapshot left = left.told.1 ∙ ap (λ (l : List ℕ). s.told ++ l) (take_all left.told.0 [] zero-le) ∙
+    append-nil s.told
 
 -- so of a quiet site a crash between two calls leaves one snapshot
-pub quiet_leaves : (s : State) (snapshot : Snapshot) → IsQuiet s → MayLeave (now_of s) snapshot → snapshot ≡ snapshot_of s
-quiet_leaves s snapshot quiet left = λ i. record { told = told_is s snapshot left i; image = image_is (now_of s) snapshot quiet left i }
+pub quiet_leaves : (s : State) (snapshot : Snapshot) → IsQuiet s → MayLeave (now_of s) snapshot
+    → snapshot ≡ snapshot_of s
+quiet_leaves s snapshot quiet left =
+    λ i. record { told = told_is s snapshot left i; image = image_is (now_of s) snapshot quiet left i }
 
 -- calls that change nothing that a crash leaves
 
 pub now_same : (a b : State) → b.told ≡ a.told → b.image ≡ a.image → b.loose ≡ a.loose → now_of b ≡ now_of a
-now_same a b told image loose = λ i. let m : Moment = record { told = told i; telling = []; image = image i; loose = loose i } in m
+now_same a b told image loose = λ i. let m : Moment = record {
+  told = told i;
+  telling = [];
+  image = image i;
+  loose = loose i;
+} in m
 
-pub calm : (a b c : State) (Q : Moment → Type 0) → EachMoment a b Q → c.past ≡ b.past → now_of c ≡ now_of b → EachMoment a c Q
+pub calm : (a b c : State) (Q : Moment → Type 0) → EachMoment a b Q → c.past ≡ b.past → now_of c ≡ now_of b
+    → EachMoment a c Q
 calm a b c Q so_far past now =
     let same : since a c ≡ since a b = ap (λ (l : List Moment). drop (length a.past) l) past in
     record {
@@ -455,7 +621,8 @@ calm a b c Q so_far past now =
 pub unchanged_calm : (a b c : State) (Q : Moment → Type 0) → EachMoment a b Q → IsUnchanged b c → EachMoment a c Q
 unchanged_calm a b c Q so_far same = calm a b c Q so_far same.past (now_same b c same.told same.image same.loose)
 
-pub took_calm : (a b c : State) (Q : Moment → Type 0) (into : List ℕ) (result : Result ℕ Failed) → EachMoment a b Q → Took into b c result → EachMoment a c Q
+pub took_calm : (a b c : State) (Q : Moment → Type 0) (into : List ℕ) (result : Result ℕ Failed) → EachMoment a b Q
+    → Took into b c result → EachMoment a c Q
 took_calm a b c Q into result so_far took = calm a b c Q so_far took.past (now_same b c took.told took.image took.loose)
 
 pub unchanged_devices : (a b : State) → IsUnchanged a b → SameDevices a b
@@ -469,17 +636,25 @@ stays_quiet a b same quiet = same.loose ∙ quiet
 
 -- Between two calls a crash leaves nothing that it might not leave within the call before it, or the call behind it.
 
-pub before_write : (dev : Dev) (at n : ℕ) (s : State) (snapshot : Snapshot) → MayLeave (now_of s) snapshot → MayLeave (within_write dev at n s) snapshot
-before_write dev at n s snapshot left = stays_leaves dev at n s s snapshot (record { image = refl; loose = refl; told = refl; past = refl }) refl left
+pub before_write : (dev : Dev) (at n : ℕ) (s : State) (snapshot : Snapshot) → MayLeave (now_of s) snapshot
+    → MayLeave (within_write dev at n s) snapshot
+before_write dev at n s snapshot left =
+    stays_leaves dev at n s s snapshot (record { image = refl; loose = refl; told = refl; past = refl }) refl left
 
-pub before_tell : (piece : List ℕ) (s : State) (snapshot : Snapshot) → MayLeave (now_of s) snapshot → MayLeave (within_tell piece s) snapshot
-before_tell piece s snapshot left = record { told = (zero, told_is s snapshot left ∙ sym (append-nil s.told)); content = left.content }
+pub before_tell : (piece : List ℕ) (s : State) (snapshot : Snapshot) → MayLeave (now_of s) snapshot
+    → MayLeave (within_tell piece s) snapshot
+before_tell piece s snapshot left = record {
+  told = (zero, told_is s snapshot left ∙ sym (append-nil s.told));
+  content = left.content;
+}
 
 -- what is left after a tell, the moment within it might have left
-pub told_leaves : (piece : List ℕ) (old new : State) (result : Result ℕ Failed) (snapshot : Snapshot) → Told piece old new result → MayLeave (now_of new) snapshot → MayLeave (within_tell piece old) snapshot
+pub told_leaves : (piece : List ℕ) (old new : State) (result : Result ℕ Failed) (snapshot : Snapshot)
+    → Told piece old new result → MayLeave (now_of new) snapshot → MayLeave (within_tell piece old) snapshot
 told_leaves piece old new result snapshot told left = record {
   told = let some = some_told result told in (some.0, told_is new snapshot left ∙ some.1);
-  content = λ dev. stands_at _ _ _ _ _ (ap (loose_of dev) told.loose) (ap (content_of dev) told.image) (left.content dev);
+  content = λ dev. stands_at _ _ _ _ _ (ap (loose_of dev) told.loose) (ap (content_of dev) told.image)
+      (left.content dev);
 }
   where
     some_told : (r : Result ℕ Failed) → Told piece old new r → (n : ℕ) × (new.told ≡ old.told ++ take n piece)
@@ -489,16 +664,19 @@ told_leaves piece old new result snapshot told left = record {
 -- a whole piece
 
 -- what telling leaves on the devices might have been left before it, and some front of the piece is told
-pub tell_leaves : (Q : Image → Type 0) (piece : List ℕ) (old new : State) → ((s : Snapshot) → MayLeave (now_of old) s → Q s.image) → EachMoment old new (TellsPart piece old)
+pub tell_leaves : (Q : Image → Type 0) (piece : List ℕ) (old new : State)
+    → ((s : Snapshot) → MayLeave (now_of old) s → Q s.image) → EachMoment old new (TellsPart piece old)
     → LeavesOnly old new (λ s. ((k : ℕ) × (s.told ≡ old.told ++ take k piece)) × Q s.image)
 tell_leaves Q piece old new before tells =
-    each_weaker old new (TellsPart piece old) (Leaves (λ s. ((k : ℕ) × (s.told ≡ old.told ++ take k piece)) × Q s.image)) (λ m part s left.
+    each_weaker old new (TellsPart piece old) (Leaves (λ s. ((k : ℕ) × (s.told ≡ old.told ++ take k piece))
+    × Q s.image)) (λ m part s left.
     let told = part.told left.told.0 in
     let as_before : Snapshot = record { told = old.told; image = s.image } in (
       (told.0, left.told.1 ∙ told.1),
       before as_before (record {
         told = (zero, sym (append-nil old.told));
-        content = λ dev. stands_at _ _ _ _ _ (ap (loose_of dev) part.loose) (ap (content_of dev) part.image) (left.content dev);
+        content = λ dev. stands_at _ _ _ _ _ (ap (loose_of dev) part.loose) (ap (content_of dev) part.image)
+            (left.content dev);
       }),
     )) tells
 
@@ -510,33 +688,45 @@ rose_then a b c rose more = le_trans rose more
 
 -- and it has risen since an earlier call
 pub rose_since : (a b c : ℕ) → a ≤ b → Rose b c → Rose a c
-rose_since a b c more rose = le_trans (le-min (le_trans (min-le_left (a + 1) (2 ^ 64 - 1)) (add-le-add more (le_refl 1))) (min-le_right (a + 1) (2 ^ 64 - 1))) rose
+rose_since a b c more rose = le_trans
+    (le-min (le_trans (min-le_left (a + 1) (2 ^ 64 - 1)) (add-le-add more (le_refl 1)))
+    (min-le_right (a + 1) (2 ^ 64 - 1))) rose
 
 -- the same of a device
-pub fault_then : (dev : Dev) (a b c : State) → Rose (faults_of dev a) (faults_of dev b) → Goes b c → Rose (faults_of dev a) (faults_of dev c)
+pub fault_then : (dev : Dev) (a b c : State) → Rose (faults_of dev a) (faults_of dev b) → Goes b c
+    → Rose (faults_of dev a) (faults_of dev c)
 fault_then dev a b c rose goes = rose_then (faults_of dev a) (faults_of dev b) (faults_of dev c) rose (goes.faults dev)
 
-pub fault_since : (dev : Dev) (a b c : State) → Goes a b → Rose (faults_of dev b) (faults_of dev c) → Rose (faults_of dev a) (faults_of dev c)
-fault_since dev a b c goes rose = rose_since (faults_of dev a) (faults_of dev b) (faults_of dev c) (goes.faults dev) rose
+pub fault_since : (dev : Dev) (a b c : State) → Goes a b → Rose (faults_of dev b) (faults_of dev c)
+    → Rose (faults_of dev a) (faults_of dev c)
+fault_since dev a b c goes rose =
+    rose_since (faults_of dev a) (faults_of dev b) (faults_of dev c) (goes.faults dev) rose
 
 -- one call changes only its device
 
-pub wrote_changes : {T : Type 0} (dev : Dev) (at : ℕ) (bytes : List ℕ) (old new : State) (result : Result T Failed) → Wrote dev at bytes old new result → ChangesOnly dev old new
+pub wrote_changes : {T : Type 0} (dev : Dev) (at : ℕ) (bytes : List ℕ) (old new : State) (result : Result T Failed)
+    → Wrote dev at bytes old new result → ChangesOnly dev old new
 wrote_changes dev at bytes old new result w = record { only = write_only dev at bytes old new result w; left = w.left }
 
-pub synced_changes : {T : Type 0} (dev : Dev) (old new : State) (result : Result T Failed) → Synced dev old new result → ChangesOnly dev old new
+pub synced_changes : {T : Type 0} (dev : Dev) (old new : State) (result : Result T Failed) → Synced dev old new result
+    → ChangesOnly dev old new
 synced_changes dev old new result w = record { only = sync_only dev old new result w; left = w.left }
 
 pub changes_in_sequence : (dev : Dev) (a b c : State) → ChangesOnly dev a b → ChangesOnly dev b c → ChangesOnly dev a c
-changes_in_sequence dev a b c first second = record { only = only_in_sequence dev a b c first.only second.only; left = second.left ∙ first.left }
+changes_in_sequence dev a b c first second = record {
+  only = only_in_sequence dev a b c first.only second.only;
+  left = second.left ∙ first.left;
+}
 
 -- a sync leaves nothing loose
-pub synced_settles : {T : Type 0} (dev : Dev) (old new : State) (result : Result T Failed) → Synced dev old new result → OnOk result (IsSettled dev new)
+pub synced_settles : {T : Type 0} (dev : Dev) (old new : State) (result : Result T Failed) → Synced dev old new result
+    → OnOk result (IsSettled dev new)
 synced_settles dev old new (Ok x) w = ap (loose_of dev) w.settled ∙ loose_of-same dev [] old.loose
 synced_settles dev old new (Err e) w = tt
 
 -- a quiet site is quiet again once its changed device is settled
-pub quiet_again : (dev : Dev) (old new : State) → ChangesOnly dev old new → IsQuiet old → IsSettled dev new → IsQuiet new
+pub quiet_again : (dev : Dev) (old new : State) → ChangesOnly dev old new → IsQuiet old → IsSettled dev new
+    → IsQuiet new
 quiet_again dev old new changes quiet settled = settled_quiet new (λ d. elim (cases_dev d dev) [
   | inl same ↦ subst (λ (x : Dev). IsSettled x new) (sym same) settled
   | inr other ↦ changes.only.now.loose d other ∙ quiet_settled d old quiet

@@ -1,5 +1,6 @@
 -- What a site in memory stands for.
-use Rattle.std.specs.Prelude.{ℕ, List, [], ◌++◌, ◌+◌, ◌-◌, ◌^◌, min, drop, true, false, None, ◌≡◌, ◌≢◌, ◌⊎◌, Result, OnOk, OnErr}
+use Rattle.std.specs.Prelude.{ℕ, List, [], ◌++◌, ◌+◌, ◌-◌, ◌^◌, min, drop, true, false, None, ◌≡◌, ◌≢◌, ◌⊎◌, Result}
+use Rattle.std.specs.Prelude.{OnOk, OnErr}
 use Rattle.site.specs.State.{State, Image, Input, Loose}
 use Rattle.site.specs.declared.limits.Limits.{Limits}
 use Rattle.site.specs.declared.outside.Failed.{Failed}
@@ -19,7 +20,11 @@ abbrev pub image_of : MemSite → Image
 image_of m = record { log = m.log.content.items; flash = m.flash.content.items; disk = m.disk.content.items }
 
 abbrev pub loose_in : MemSite → Loose
-loose_in m = record { log = ranges_of m.log.loose.items; flash = ranges_of m.flash.loose.items; disk = ranges_of m.disk.loose.items }
+loose_in m = record {
+  log = ranges_of m.log.loose.items;
+  flash = ranges_of m.flash.loose.items;
+  disk = ranges_of m.disk.loose.items;
+}
 
 -- what it has to hear, and what it remembers of when it was asked
 abbrev pub input_of : Hearing → Input
@@ -42,7 +47,8 @@ state_of m = record {
   loose = loose_in m;
   told = m.told.items;
   input = input_of m.input;
-  past = moments_of (record { told = m.told.items; telling = []; image = image_of m; loose = loose_in m }) m.history.items;
+  past = moments_of (record { told = m.told.items; telling = []; image = image_of m; loose = loose_in m })
+      m.history.items;
   log_faults = m.log.faults;
   flash_faults = m.flash.faults;
   disk_faults = m.disk.faults;

@@ -11,7 +11,8 @@ use Rattle.site.specs.declared.named.Call.TheVariants.{Read, Write, Sync, Take, 
 -- how much the tell with this number takes of a piece of this length: the first that names it says so, else it is all
 abbrev pub taken_of : List ShortTell → ℕ → ℕ → ℕ
 taken_of [] number len = len
-taken_of (short ∷ shorts) number len = if short.number == number then min short.count len else taken_of shorts number len
+taken_of (short ∷ shorts) number len = if short.number
+    == number then min short.count len else taken_of shorts number len
 
 -- how many calls of this kind were made
 abbrev pub number_of : Call → CallCounts → ℕ

@@ -1,5 +1,6 @@
 -- All that contracts say of a site, as data.
-use Rattle.std.specs.Prelude.{◌≡◌, ℕ, ◌+◌, Bool, false, List, [], ◌∷◌, ◌++◌, length, take, slice_index, nat_le, nat_lt, ◌&&◌, ◌||◌}
+use Rattle.std.specs.Prelude.{◌≡◌, ℕ, ◌+◌, Bool, false, List, [], ◌∷◌, ◌++◌, length, take, slice_index, nat_le, nat_lt}
+use Rattle.std.specs.Prelude.{◌&&◌, ◌||◌}
 use Rattle.site.specs.declared.outside.Dev.{Dev}
 use Rattle.site.specs.declared.outside.Dev.TheVariants.{Log, Flash, Disk}
 use Rattle.site.specs.declared.outside.Take.{Take}
@@ -71,7 +72,8 @@ pub record MayStand (ranges : List Range) (before now : List ℕ) : Type 0 where
 -- a crash at this moment may leave this
 pub record MayLeave (moment : Moment) (snapshot : Snapshot) : Type 0 where
   pub told : (k : ℕ) × (snapshot.told ≡ moment.told ++ take k moment.telling)
-  pub content : (dev : Dev) → MayStand (loose_of dev moment.loose) (content_of dev moment.image) (content_of dev snapshot.image)
+  pub content : (dev : Dev) → MayStand (loose_of dev moment.loose) (content_of dev moment.image)
+      (content_of dev snapshot.image)
 
 pub record Input : Type 0 where
   -- the octets left to hear

@@ -7,9 +7,9 @@ use Rattle.site.specs.State.{State, IsQuiet}
 use Rattle.site.specs.Calls.{Goes, FaultRose, IsUnchanged}
 use Rattle.site.specs.Faults.{WorkFaults}
 
--- Of every site: lengths and honesty stay, an honest site hears nothing, a quiet one is quiet after Ok, and a device is said to fail only
--- where its faults rose. A call of the site that fails is the last one: Ok leaves all counts of faults as they were, and an error raises
--- the one count that it names, by one.
+-- Of every site: lengths and honesty stay, an honest site hears nothing, a quiet one is quiet after Ok, and a device is
+-- said to fail only where its faults rose. A call of the site that fails is the last one: Ok leaves all counts of
+-- faults as they were, and an error raises the one count that it names, by one.
 pub record Calls {T : Type 0} (result : Result T Stop) (before now : State) : Type 0 where
   pub goes : Goes before now
   pub left : IsTrue before.honest → now.input ≡ before.input
@@ -24,8 +24,8 @@ IsOutside Memory = ⊤
 IsOutside (Worn dev) = ⊥
 IsOutside Foreign = ⊥
 
--- Of an honest site nothing changes but counts. An error is that of a device, whose count of faults rose by one, or want of memory, and
--- no other count of faults changes.
+-- Of an honest site nothing changes but counts. An error is that of a device, whose count of faults rose by one, or
+-- want of memory, and no other count of faults changes.
 pub record OnlyReads {T : Type 0} (result : Result T Stop) (old new : State) : Type 0 where
   pub same : IsTrue old.honest → IsUnchanged old new
   pub goes : Goes old new

@@ -1,5 +1,7 @@
 // One device in memory.
-ghost use Rattle.std.specs.Prelude.{replicate, min, IfOk, ◌≡◌, ◌≢◌, ◌⊎◌, ◌-◌, ◌^◌, ◌≤◌, ◌<◌, ◌+◌, ◌/◌, ◌∷◌, [], ◌++◌, length, take, drop, OnOk, OnErr, IsOk, IsErr, ◌↔◌, true, false, vec_len, vec_capacity};
+ghost use Rattle.std.specs.Prelude.{replicate, min, IfOk, ◌≡◌, ◌≢◌, ◌⊎◌, ◌-◌, ◌^◌, ◌≤◌, ◌<◌, ◌+◌, ◌/◌, ◌∷◌, [], ◌++◌};
+ghost use Rattle.std.specs.Prelude.{length, take, drop, OnOk, OnErr, IsOk, IsErr, ◌↔◌, true, false, vec_len};
+ghost use Rattle.std.specs.Prelude.{vec_capacity};
 ghost use Rattle.site.specs.Calls.{Rose, put, range};
 ghost use Rattle.site.specs.History.{ranges_of};
 ghost use Rattle.site.specs.Crash.{scattered, drawn};
@@ -105,8 +107,10 @@ impl Area {
         ensures lacked { lacked.old ≡ true → lacked.new ≡ true }
         ensures why { OnErr result (gate ≡ Gate.Open → lacked.new ≡ true) }
         ensures open { OnOk result ((gate ≡ Gate.Open) × (lacked.new ≡ lacked.old)) }
-        ensures over { gate ≡ Gate.Over → Kept self.old self.new history.old.items history.new.items × (lacked.new ≡ lacked.old) }
-        ensures left { OnErr result (gate ≢ Gate.Over → (Laid dev at bytes.now self.old self.new history.old.items history.new.items × (lacked.new ≡ lacked.old))
+        ensures over { gate ≡ Gate.Over → Kept self.old self.new history.old.items history.new.items
+            × (lacked.new ≡ lacked.old) }
+        ensures left { OnErr result (gate ≢ Gate.Over
+            → (Laid dev at bytes.now self.old self.new history.old.items history.new.items × (lacked.new ≡ lacked.old))
             ⊎ (Kept self.old self.new history.old.items history.new.items × (lacked.new ≡ true))) }
     {
         if gate == Gate::Over {
@@ -182,7 +186,8 @@ impl Area {
         ensures done { OnOk result (self.new.faults ≡ self.old.faults) }
         ensures exactly { IsErr result ↔ (refused ≡ true) }
         ensures reads_few { self.new.reads ≤ self.old.reads + (length into.old + 4095) / 4096 }
-        ensures counted { OnOk result (self.new.reads ≡ min (self.old.reads + (length into.old + 4095) / 4096) (2 ^ 64 - 1)) }
+        ensures counted { OnOk result (self.new.reads
+            ≡ min (self.old.reads + (length into.old + 4095) / 4096) (2 ^ 64 - 1)) }
     {
         if refused {
             self.faults = self.faults.saturating_add(1);
@@ -197,7 +202,8 @@ impl Area {
 
     /// A device of this many zeros.
     pub fn blank(alloc: Global, len: u64) -> Result<Area, AllocError>
-        ensures { IfOk result (λ area. (area.content.items ≡ replicate len 0) × (area.loose.items ≡ []) × (area.faults ≡ 0) × (area.reads ≡ 0)) }
+        ensures { IfOk result (λ area. (area.content.items ≡ replicate len 0) × (area.loose.items ≡ [])
+            × (area.faults ≡ 0) × (area.reads ≡ 0)) }
     {
         Ok(Area {
             content: vec![in alloc; 0; len as usize]?,

@@ -1,4 +1,5 @@
-// What the history keeps of a change: what the change took away, so that the moment before it follows from the one after.
+// What the history keeps of a change: what the change took away, so that the moment before it follows from the one
+// after.
 use crate::outside::Dev;
 
 /// Octets of a device from a place on.

@@ -14,8 +14,10 @@ impl Geometry {
     /// The geometry within the limits whose devices have these lengths in octets, if there is one.
     pub fn of_lengths(log: u64, flash: u64, disk: u64) -> Option<Geometry>
         ensures limits { IfSome result (λ g. HasLimits g) }
-        ensures lengths { IfSome result (λ g. (log ≡ log_length g) × (flash ≡ flash_length g) × (disk ≡ disk_length g)) }
-        ensures found { (g : Geometry) → HasLimits g → log ≡ log_length g → flash ≡ flash_length g → disk ≡ disk_length g → result ≡ Some g }
+        ensures lengths { IfSome result (λ g. (log ≡ log_length g) × (flash ≡ flash_length g)
+            × (disk ≡ disk_length g)) }
+        ensures found { (g : Geometry) → HasLimits g → log ≡ log_length g → flash ≡ flash_length g
+            → disk ≡ disk_length g → result ≡ Some g }
     {
         if log < 1_536 || flash < 3_072 {
             return None;

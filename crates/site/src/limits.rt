@@ -79,7 +79,8 @@ impl Limits {
         ensures passes { result ≡ Gate.Open → named ≡ false }
         ensures over { 10000 < self.new.changes → result ≡ Gate.Over }
         ensures within { self.new.changes ≤ 10000 → result ≢ Gate.Over }
-        ensures spent { is_barred self.old.changes self.old.last ≡ true → is_barred self.new.changes self.new.last ≡ true }
+        ensures spent { is_barred self.old.changes self.old.last ≡ true
+            → is_barred self.new.changes self.new.last ≡ true }
     {
         self.changes = self.changes.saturating_add(1);
         if self.changes > MOST_CHANGES {

@@ -1,6 +1,7 @@
 // The site in memory. It keeps its contents as they are now, and of each change what the change took away: so the
 // moments before follow from the one now, and a call costs what its octets cost.
-ghost use Rattle.std.specs.Prelude.{◌≡◌, ◌⊎◌, ◌≤◌, ◌<◌, ◌+◌, ◌/◌, ◌++◌, ◌∷◌, [], length, ◌^◌, ◌↔◌, drop, set, true, false, min, max, ◌-◌, Some, IfOk, IfErr, OnOk, OnErr, IsTrue};
+ghost use Rattle.std.specs.Prelude.{◌≡◌, ◌⊎◌, ◌≤◌, ◌<◌, ◌+◌, ◌/◌, ◌++◌, ◌∷◌, [], length, ◌^◌, ◌↔◌, drop, set, true};
+ghost use Rattle.std.specs.Prelude.{false, min, max, ◌-◌, Some, IfOk, IfErr, OnOk, OnErr, IsTrue};
 ghost use Rattle.site.specs.Limits.{is_spent, is_past, is_barred};
 ghost use Rattle.site.specs.Named.{Names};
 
@@ -34,13 +35,15 @@ pub struct MemSite {
     calls: CallCounts,
     ghost named_excused: { 0 < length named.items → limits.excused ≡ true },
     // A call has failed only where a limit was passed.
-    ghost known: { 0 < log.faults + flash.faults + disk.faults + input_faults + output_faults → is_spent limits ≡ true },
+    ghost known: { 0 < log.faults + flash.faults + disk.faults + input_faults + output_faults
+        → is_spent limits ≡ true },
 }
 
 impl MemSite {
     ghost use Rattle.site.specs.State.{content_of, with_content, loose_of, is_loose, reads_of, MayLeave, now_of};
     ghost use Rattle.site.specs.Geometry.{HasLengths, blank_image};
-    ghost use Rattle.site.specs.MemState.{state_of, kept_of, fed, limits_of, lives_of, all_faults, named_of, shorts_of, calls_of, IsFresh, SamePlan};
+    ghost use Rattle.site.specs.MemState.{state_of, kept_of, fed, limits_of, lives_of, all_faults, named_of, shorts_of};
+    ghost use Rattle.site.specs.MemState.{calls_of, IsFresh, SamePlan};
     ghost use Rattle.site.specs.Crash.{started, image_left};
     ghost use Rattle.site.specs.Named.{number_of};
 
@@ -77,7 +80,8 @@ impl MemSite {
 
     /// Appends octets to the input.
     pub fn feed(&mut self, octets: &[u8]) -> Result<(), Stop>
-        ensures ok { OnOk result (state_of self.new ≡ record (state_of self.old) { input = fed octets.now (state_of self.old).input }) }
+        ensures ok { OnOk result (state_of self.new
+            ≡ record (state_of self.old) { input = fed octets.now (state_of self.old).input }) }
         ensures err { OnErr result (state_of self.new ≡ state_of self.old) }
         ensures memory { IfErr result (λ stop. stop ≡ Stop.Memory) }
         ensures limits { limits_of self.new ≡ limits_of self.old }
@@ -93,7 +97,8 @@ impl MemSite {
         ensures last { (limits_of self.new).last ≡ Some (min ((limits_of self.old).changes + k) (2 ^ 64 - 1)) }
         ensures changes { (limits_of self.new).changes ≡ (limits_of self.old).changes }
         ensures lacked { (limits_of self.new).lacked ≡ (limits_of self.old).lacked }
-        ensures excused { is_past (limits_of self.old).last (limits_of self.old).changes ≡ false → (limits_of self.new).excused ≡ (limits_of self.old).excused }
+        ensures excused { is_past (limits_of self.old).last (limits_of self.old).changes ≡ false
+            → (limits_of self.new).excused ≡ (limits_of self.old).excused }
         ensures plan { SamePlan self.old self.new }
     {
         self.limits.fuse(k);
@@ -161,7 +166,11 @@ impl MemSite {
     /// Lets the nth call of this kind from now fail, once.
     pub fn fail(&mut self, call: Call, nth: u64) -> Result<(), Stop>
         requires { 1 ≤ nth }
-        ensures ok { OnOk result (named_of self.new ≡ named_of self.old ++ (record { call = call; number = min (number_of call (calls_of self.old) + nth) (2 ^ 64 - 1) }) ∷ []) }
+        ensures ok { OnOk result (named_of self.new
+            ≡ named_of self.old ++ (record {
+              call = call;
+              number = min (number_of call (calls_of self.old) + nth) (2 ^ 64 - 1);
+            }) ∷ []) }
         ensures excused { OnOk result (limits_of self.new ≡ record (limits_of self.old) { excused = true }) }
         ensures err { OnErr result ((limits_of self.new ≡ limits_of self.old) × SamePlan self.old self.new) }
         ensures memory { IfErr result (λ stop. stop ≡ Stop.Memory) }
@@ -180,7 +189,11 @@ impl MemSite {
     pub fn short_tell(&mut self, nth: u64, count: usize) -> Result<(), Stop>
         requires nth { 1 ≤ nth }
         requires count { 1 ≤ count }
-        ensures ok { OnOk result (shorts_of self.new ≡ shorts_of self.old ++ (record { number = min ((calls_of self.old).tells + nth) (2 ^ 64 - 1); count = count }) ∷ []) }
+        ensures ok { OnOk result (shorts_of self.new
+            ≡ shorts_of self.old ++ (record {
+              number = min ((calls_of self.old).tells + nth) (2 ^ 64 - 1);
+              count = count;
+            }) ∷ []) }
         ensures err { OnErr result (SamePlan self.old self.new) }
         ensures memory { IfErr result (λ stop. stop ≡ Stop.Memory) }
         ensures calls { calls_of self.new ≡ calls_of self.old }
@@ -216,10 +229,15 @@ impl MemSite {
     /// The site after a crash. Of the loose octets it leaves by seed 0 what they read as, by seed 1 zeros, by seed 2
     /// 0xA5, and by any other seed the generator's top octets, one number for each, log, flash, disk, places ascending.
     pub fn crash(self, seed: u64) -> MemSite
-        ensures state { state_of result ≡ started (0 ∷ 0 ∷ lives_of result) (image_left seed (state_of self).loose (state_of self).image) }
-        ensures left { MayLeave (now_of (state_of self)) (record { told = (state_of self).told; image = (state_of result).image }) }
+        ensures state { state_of result
+            ≡ started (0 ∷ 0 ∷ lives_of result) (image_left seed (state_of self).loose (state_of self).image) }
+        ensures left { MayLeave (now_of (state_of self)) (record {
+          told = (state_of self).told;
+          image = (state_of result).image;
+        }) }
         ensures fresh { IsFresh result }
-        ensures lives { let all = lives_of self ++ (limits_of self).changes ∷ [] in lives_of result ≡ drop (length all - 31) all }
+        ensures lives { let all = lives_of self ++ (limits_of self).changes ∷ [] in lives_of result
+            ≡ drop (length all - 31) all }
     {
         let alloc = self.alloc;
         let (log, behind_log) = self.log.crash(alloc, seed, seed);
@@ -248,14 +266,16 @@ impl MemSite {
 
 /// Whether a call that changes nothing is refused: it is named, or the fuse has blown.
 fn is_cut(named: &[NamedCall], limits: &Limits, call: Call, number: u64) -> bool
-    ensures exactly { IsTrue result ↔ (Names named.now call number ⊎ (is_past limits.now.last limits.now.changes ≡ true)) }
+    ensures exactly { IsTrue result
+        ↔ (Names named.now call number ⊎ (is_past limits.now.last limits.now.changes ≡ true)) }
     ensures spent { result ≡ true → (0 < length named.now) ⊎ (is_barred limits.now.changes limits.now.last ≡ true) }
 {
     is_named(named, call, number) || limits.is_blown()
 }
 
 impl Site for MemSite {
-    ghost use Rattle.site.specs.MemState.{state_of, limits_of, shorts_of, calls_of, Counts, CutExactly, FailsExactly, IsRefused};
+    ghost use Rattle.site.specs.MemState.{state_of, limits_of, shorts_of, calls_of, Counts, CutExactly, FailsExactly};
+    ghost use Rattle.site.specs.MemState.{IsRefused};
     ghost use Rattle.site.specs.declared.named.Call.{Call};
     ghost use Rattle.site.specs.State.{faults_of, reads_of, content_of};
     ghost use Rattle.site.specs.Named.{taken_of};
@@ -275,14 +295,16 @@ impl Site for MemSite {
 
     fn read_at(&mut self, dev: Dev, at: u64, into: &mut [u8]) -> Result<(), Failed>
         requires { at + length into.old ≤ length (content_of dev (state_of self.old).image) }
-        ensures read { IsTrue (state_of self.old).honest → HasRead dev at into.new (state_of self.old) (state_of self.new) result }
+        ensures read { IsTrue (state_of self.old).honest
+            → HasRead dev at into.new (state_of self.old) (state_of self.new) result }
         ensures goes { Goes (state_of self.old) (state_of self.new) }
         ensures reads { ReadsMore dev (length into.old) (state_of self.old) (state_of self.new) }
         ensures cause { OnErr result (Rose (faults_of dev (state_of self.old)) (faults_of dev (state_of self.new))) }
         ensures faults { CallFaults dev result (state_of self.old) (state_of self.new) }
         ensures exactly { CutExactly (Call.Read dev) self.old self.new result }
         ensures counts { Counts (Call.Read dev) self.old self.new }
-        ensures counted { OnOk result (reads_of dev (state_of self.new) ≡ min (reads_of dev (state_of self.old) + (length into.old + 4095) / 4096) (2 ^ 64 - 1)) }
+        ensures counted { OnOk result (reads_of dev (state_of self.new)
+            ≡ min (reads_of dev (state_of self.old) + (length into.old + 4095) / 4096) (2 ^ 64 - 1)) }
     {
         let number = self.calls.count(Call::Read(dev));
         let refused = is_cut(&self.named, &self.limits, Call::Read(dev), number);
@@ -295,14 +317,16 @@ impl Site for MemSite {
 
     fn write_at(&mut self, dev: Dev, at: u64, bytes: &[u8]) -> Result<(), Failed>
         requires { at + length bytes.now ≤ length (content_of dev (state_of self.old).image) }
-        ensures wrote { IsTrue (state_of self.old).honest → Wrote dev at bytes.now (state_of self.old) (state_of self.new) result }
+        ensures wrote { IsTrue (state_of self.old).honest
+            → Wrote dev at bytes.now (state_of self.old) (state_of self.new) result }
         ensures goes { Goes (state_of self.old) (state_of self.new) }
         ensures reads { SameReads (state_of self.old) (state_of self.new) }
         ensures cause { OnErr result (Rose (faults_of dev (state_of self.old)) (faults_of dev (state_of self.new))) }
         ensures faults { CallFaults dev result (state_of self.old) (state_of self.new) }
         ensures exactly { FailsExactly (Call.Write dev) self.old self.new result }
         ensures counts { Counts (Call.Write dev) self.old self.new }
-        ensures leaves { OnErr result (LeavesOf dev at bytes.now (state_of self.old) (state_of self.new) (limits_of self.new).changes (limits_of self.old).lacked (limits_of self.new).lacked) }
+        ensures leaves { OnErr result (LeavesOf dev at bytes.now (state_of self.old) (state_of self.new)
+            (limits_of self.new).changes (limits_of self.old).lacked (limits_of self.new).lacked) }
     {
         let number = self.calls.count(Call::Write(dev));
         let gate = self
@@ -362,7 +386,8 @@ impl Site for MemSite {
 
     fn take(&mut self, into: &mut [u8]) -> Result<usize, Failed>
         requires { 0 < length into.old }
-        ensures took { IsTrue (state_of self.old).honest → Took into.new (state_of self.old) (state_of self.new) result }
+        ensures took { IsTrue (state_of self.old).honest
+            → Took into.new (state_of self.old) (state_of self.new) result }
         ensures at_most { IfOk result (λ n. n ≤ length into.old) }
         ensures goes { Goes (state_of self.old) (state_of self.new) }
         ensures reads { SameReads (state_of self.old) (state_of self.new) }
@@ -381,7 +406,8 @@ impl Site for MemSite {
 
     fn tell(&mut self, piece: &[u8]) -> Result<usize, Failed>
         requires { 0 < length piece.now }
-        ensures told { IsTrue (state_of self.old).honest → Told piece.now (state_of self.old) (state_of self.new) result }
+        ensures told { IsTrue (state_of self.old).honest
+            → Told piece.now (state_of self.old) (state_of self.new) result }
         ensures at_least { IfOk result (λ n. 1 ≤ n) }
         ensures at_most { IfOk result (λ n. n ≤ length piece.now) }
         ensures goes { Goes (state_of self.old) (state_of self.new) }
@@ -392,7 +418,8 @@ impl Site for MemSite {
         ensures counts { Counts Call.Tell self.old self.new }
         ensures lacks { IsRefused Call.Tell self.new → (limits_of self.new).lacked ≡ (limits_of self.old).lacked }
         ensures untold { OnErr result (Stays (state_of self.old) (state_of self.new)) }
-        ensures whole { IfOk result (λ n. n ≡ max (taken_of (shorts_of self.old) (calls_of self.new).tells (length piece.now)) 1) }
+        ensures whole { IfOk result (λ n. n
+            ≡ max (taken_of (shorts_of self.old) (calls_of self.new).tells (length piece.now)) 1) }
     {
         let number = self.calls.count(Call::Tell);
         let gate = self.limits.ask(is_named(&self.named, Call::Tell, number));

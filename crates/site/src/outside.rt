@@ -84,7 +84,8 @@ pub trait Site {
     /// Fills `into` with what stands on the device from octet `at` on. After an error nobody knows what `into` holds.
     fn read_at(&mut self, dev: Dev, at: u64, into: &mut [u8]) -> Result<(), Failed>
         requires { at + length into.old ≤ length (content_of dev (state self.old).image) }
-        ensures read { IsTrue (state self.old).honest → HasRead dev at into.new (state self.old) (state self.new) result }
+        ensures read { IsTrue (state self.old).honest
+            → HasRead dev at into.new (state self.old) (state self.new) result }
         ensures goes { Goes (state self.old) (state self.new) }
         ensures reads { ReadsMore dev (length into.old) (state self.old) (state self.new) }
         ensures cause { OnErr result (Rose (faults_of dev (state self.old)) (faults_of dev (state self.new))) }
@@ -93,7 +94,8 @@ pub trait Site {
     /// Writes the bytes over what stands on the device from octet `at` on. Until a sync their range is loose.
     fn write_at(&mut self, dev: Dev, at: u64, bytes: &[u8]) -> Result<(), Failed>
         requires { at + length bytes.now ≤ length (content_of dev (state self.old).image) }
-        ensures wrote { IsTrue (state self.old).honest → Wrote dev at bytes.now (state self.old) (state self.new) result }
+        ensures wrote { IsTrue (state self.old).honest
+            → Wrote dev at bytes.now (state self.old) (state self.new) result }
         ensures goes { Goes (state self.old) (state self.new) }
         ensures reads { SameReads (state self.old) (state self.new) }
         ensures cause { OnErr result (Rose (faults_of dev (state self.old)) (faults_of dev (state self.new))) }

@@ -10,8 +10,10 @@ use crate::outside::{Failed, Site};
 /// Tells a piece, by as many calls as it takes. After an error some front of it was told.
 pub fn tell_all<S: Site>(site: &mut S, piece: &[u8]) -> Result<(), Failed>
     // A crash at any moment leaves the devices as they were, and some front of the piece told.
-    ensures any_moment { IsTrue (S.state site.old).honest → EachMoment (S.state site.old) (S.state site.new) (TellsPart piece.now (S.state site.old)) }
-    ensures told { IsTrue (S.state site.old).honest → OnOk result ((S.state site.new).told ≡ (S.state site.old).told ++ piece.now) }
+    ensures any_moment { IsTrue (S.state site.old).honest
+        → EachMoment (S.state site.old) (S.state site.new) (TellsPart piece.now (S.state site.old)) }
+    ensures told { IsTrue (S.state site.old).honest
+        → OnOk result ((S.state site.new).told ≡ (S.state site.old).told ++ piece.now) }
     ensures same { IsTrue (S.state site.old).honest → SameDevices (S.state site.old) (S.state site.new) }
     ensures reads { SameReads (S.state site.old) (S.state site.new) }
     ensures goes { Goes (S.state site.old) (S.state site.new) }

@@ -20,7 +20,8 @@ pub record HasSlots (octets : List ℕ) : Type 0 where
 
 -- and in a sound page no value is longer than values are
 abbrev pub AreShort : Type 0
-AreShort = (octets : List ℕ) (slot : ℕ) → IsSound octets → slot < 32 → content_length (content_of octets slot) ≤ VALUE_MAX
+AreShort = (octets : List ℕ) (slot : ℕ) → IsSound octets → slot < 32
+    → content_length (content_of octets slot) ≤ VALUE_MAX
 
 -- as long as values are so short, each fits into each slot of a sound page
 abbrev pub EachValueFits : Type 0

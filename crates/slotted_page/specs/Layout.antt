@@ -1,5 +1,6 @@
 -- A page's octets: what they mean, and when they are sound.
-use Rattle.std.specs.Prelude.{◌≡◌, ℕ, ◌+◌, ◌-◌, ◌*◌, ◌<◌, ◌≤◌, ◌==◌, ◌⊎◌, List, length, map, take, drop, replicate, sum_by, slice_set, Option, Some, None, if◌then◌else◌}
+use Rattle.std.specs.Prelude.{◌≡◌, ℕ, ◌+◌, ◌-◌, ◌*◌, ◌<◌, ◌≤◌, ◌==◌, ◌⊎◌, List, length, map, take, drop, replicate}
+use Rattle.std.specs.Prelude.{sum_by, slice_set, Option, Some, None, if◌then◌else◌}
 use Rattle.std.specs.List.{range_with_len}
 use Rattle.std.specs.Int.{w16, w64, from_be_bytes}
 use Rattle.byte_fields.specs.declared.TheConstants.{VALUE_MAX}
@@ -16,7 +17,8 @@ number_at octets at = from_be_bytes w16 (take 2 (drop at octets))
 abbrev pub used_of : List ℕ → ℕ
 used_of octets = number_at octets 8
 
--- The entry of a slot in the directory: an offset, and the length of the slot's value plus one. Where the second is 0 the slot is empty.
+-- The entry of a slot in the directory: an offset, and the length of the slot's value plus one. Where the second is 0
+-- the slot is empty.
 abbrev pub offset_of : List ℕ → ℕ → ℕ
 offset_of octets slot = number_at octets (16 + 4 * slot)
 
@@ -47,7 +49,8 @@ pub record IsEntry (octets : List ℕ) (slot : ℕ) : Type 0 where
 -- no octet belongs to the values of both slots
 pub record AreApart (octets : List ℕ) (a b : ℕ) : Type 0 where
   pub disjoint : 0 < length_of octets a → 0 < length_of octets b →
-      (offset_of octets a + length_of octets a ≤ offset_of octets b) ⊎ (offset_of octets b + length_of octets b ≤ offset_of octets a)
+      (offset_of octets a + length_of octets a ≤ offset_of octets b)
+      ⊎ (offset_of octets b + length_of octets b ≤ offset_of octets a)
 
 pub record IsSound (octets : List ℕ) : Type 0 where
   pub size : length octets ≡ 4096

@@ -1,6 +1,7 @@
 // The numbers in front of a page's heap.
 ghost use Rattle.std.specs.Prelude.{◌≡◌, ◌+◌, ◌*◌, ◌^◌, ◌<◌, ◌≤◌, length, option_copied};
-ghost use Rattle.slotted_page.specs.Layout.{lsn_of, number_at, used_of, offset_of, code_of, length_of, content_of, IsSound};
+ghost use Rattle.slotted_page.specs.Layout.{lsn_of, number_at, used_of, offset_of, code_of, length_of, content_of};
+ghost use Rattle.slotted_page.specs.Layout.{IsSound};
 ghost use Rattle.slotted_page.specs.Changes.{Wrote, SetsEntry};
 ghost use Rattle.std.specs.Int.{w16, w64, to_be_bytes};
 

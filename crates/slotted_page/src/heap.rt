@@ -1,6 +1,8 @@
 // Changes of a page's slots.
-ghost use Rattle.std.specs.Prelude.{◌≡◌, ◌≢◌, ◌+◌, ◌^◌, ◌<◌, ◌≤◌, ℕ, length, slice_set, Some, None, replicate, option_copied};
-ghost use Rattle.slotted_page.specs.Layout.{used_of, lsn_of, content_of, slots_of, content_length, total_length, IsSound, Fits};
+ghost use Rattle.std.specs.Prelude.{◌≡◌, ◌≢◌, ◌+◌, ◌^◌, ◌<◌, ◌≤◌, ℕ, length, slice_set, Some, None, replicate};
+ghost use Rattle.std.specs.Prelude.{option_copied};
+ghost use Rattle.slotted_page.specs.Layout.{used_of, lsn_of, content_of, slots_of, content_length, total_length};
+ghost use Rattle.slotted_page.specs.Layout.{IsSound, Fits};
 ghost use Rattle.slotted_page.specs.Laws.{IsBlank};
 ghost use Rattle.slotted_page.specs.Changes.{Wrote, Sets};
 

@@ -13,7 +13,8 @@ pub fn slots_of_a_page()
     ensures short { AreShort }
 {}
 
-/// 32 values of the greatest length fill 3,840 of the heap's 3,952 octets, so each value fits into each slot of a sound page.
+/// 32 values of the greatest length fill 3,840 of the heap's 3,952 octets, so each value fits into each slot of a sound
+/// page.
 pub fn each_value_fits()
     ensures { EachValueFits }
 {}

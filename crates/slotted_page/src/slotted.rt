@@ -1,4 +1,5 @@
-ghost use Rattle.std.specs.Prelude.{◌≡◌, ◌<◌, ◌≤◌, ◌↔◌, IsTrue, None, length, replicate, slice_set, slice_index_or, option_copied};
+ghost use Rattle.std.specs.Prelude.{◌≡◌, ◌<◌, ◌≤◌, ◌↔◌, IsTrue, None, length, replicate, slice_set, slice_index_or};
+ghost use Rattle.std.specs.Prelude.{option_copied};
 ghost use Rattle.slotted_page.specs.Layout.{lsn_of, slots_of, content_length, IsSound, Fits};
 ghost use Rattle.slotted_page.specs.Laws.{IsBlank};
 
@@ -53,8 +54,8 @@ impl Page {
         &self.octets
     }
 
-    /// Whether the page is sound: the octets 10 to 15 are zero, the heap takes up no more octets than there are, an empty
-    /// slot's entry is zero, and each value lies in the heap, has at most 120 octets, and overlaps with no other.
+    /// Whether the page is sound: the octets 10 to 15 are zero, the heap takes up no more octets than there are, an
+    /// empty slot's entry is zero, and each value lies in the heap, has at most 120 octets, and overlaps with no other.
     pub fn sound(&self) -> bool
         ensures { IsTrue result ↔ IsSound self.now }
     {
@@ -78,8 +79,8 @@ impl Page {
         directory::content_of(&self.octets, slot)
     }
 
-    /// Whether a content has room in a slot, below 32, of a sound page: the lengths of the other slots' values and of this
-    /// one are together at most 3,952.
+    /// Whether a content has room in a slot, below 32, of a sound page: the lengths of the other slots' values and of
+    /// this one are together at most 3,952.
     pub fn fits(&self, slot: u8, value: Option<&[u8]>) -> bool
         requires sound { IsSound self.now }
         requires slot { slot < 32 }
@@ -88,8 +89,8 @@ impl Page {
         room::fits(&self.octets, slot, value)
     }
 
-    /// Gives a slot, below 32, of a sound page another content, and the page another LSN. A value has at most 120 octets, and
-    /// fits. All other slots stay, and the page stays sound.
+    /// Gives a slot, below 32, of a sound page another content, and the page another LSN. A value has at most 120
+    /// octets, and fits. All other slots stay, and the page stays sound.
     pub fn set(&mut self, slot: u8, value: Option<&[u8]>, lsn: u64)
         requires sound { IsSound self.old }
         requires slot { slot < 32 }

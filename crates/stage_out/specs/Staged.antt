@@ -22,12 +22,14 @@ pub record HasStaged (pages : List ℕ) (contents : List (List ℕ)) (old new : 
 -- the disk beside the pages has what a crash might have left there before
 pub record LeavesBeside (pages : List ℕ) (old : State) (snapshot : Snapshot) : Type 0 where
   pub size : length snapshot.image.disk ≡ length old.image.disk
-  pub beside : (place : ℕ) → IsBesideAll pages place → is_loose old.loose.disk place ≡ false → slice_index snapshot.image.disk place ≡ slice_index old.image.disk place
+  pub beside : (place : ℕ) → IsBesideAll pages place → is_loose old.loose.disk place ≡ false
+      → slice_index snapshot.image.disk place ≡ slice_index old.image.disk place
 
 -- and nothing was told, and the other devices have what a crash might have left there before
 pub record LeavesStaged (pages : List ℕ) (old : State) (snapshot : Snapshot) : Type 0 where
   pub told : snapshot.told ≡ old.told
-  pub others : (d : Dev) → d ≢ Disk → MayStand (loose_of d old.loose) (content_of d old.image) (content_of d snapshot.image)
+  pub others : (d : Dev) → d ≢ Disk
+      → MayStand (loose_of d old.loose) (content_of d old.image) (content_of d snapshot.image)
   pub disk : LeavesBeside pages old snapshot
 
 -- what staging does to an image
@@ -49,6 +51,8 @@ pub record HasLeft (pages : List ℕ) (old new : State) : Type 0 where
 pub record HasWritten (pages : List ℕ) (contents : List (List ℕ)) (n : ℕ) (old new : State) : Type 0 where
   pub size : length new.image.disk ≡ length old.image.disk
   pub here : (k : ℕ) → k < n → page_on (slice_index pages k) new.image.disk ≡ slice_index_or contents k []
-  pub beside : (place : ℕ) → IsBesideAll pages place → slice_index new.image.disk place ≡ slice_index old.image.disk place
-  pub loose : (place : ℕ) → IsBesideAll pages place → is_loose old.loose.disk place ≡ false → is_loose new.loose.disk place ≡ false
+  pub beside : (place : ℕ) → IsBesideAll pages place
+      → slice_index new.image.disk place ≡ slice_index old.image.disk place
+  pub loose : (place : ℕ) → IsBesideAll pages place → is_loose old.loose.disk place ≡ false
+      → is_loose new.loose.disk place ≡ false
   pub calls : length new.past ≡ length old.past + n

@@ -1,5 +1,6 @@
 -- Lists of heads, as they are read one group after the other.
-use Rattle.std.specs.Prelude.{◌≡◌, ◌≢◌, ◌⊎◌, ℕ, ◌+◌, ◌-◌, ◌≤◌, ◌<◌, IsTrue, List, [], length, take, slice_index_or, Result, IfErr, IsErrOf}
+use Rattle.std.specs.Prelude.{◌≡◌, ◌≢◌, ◌⊎◌, ℕ, ◌+◌, ◌-◌, ◌≤◌, ◌<◌, IsTrue, List, [], length, take, slice_index_or}
+use Rattle.std.specs.Prelude.{Result, IfErr, IsErrOf}
 use Rattle.site.specs.declared.outside.Dev.{Dev}
 use Rattle.site.specs.declared.outside.Dev.TheVariants.{Flash}
 use Rattle.site.specs.declared.outside.Stop.{Stop}
@@ -26,8 +27,9 @@ pub record GoesOnWith (heads : List FrameHead) (skip : ℕ) (all : List (List Fr
   pub inside : at + (4 - skip) ≤ length all
   pub same : (i : ℕ) → i < 4 - skip → slice_index_or all (at + i) [] ≡ heads_of_group heads (skip + i)
 
--- What a call that only reads the flash leaves: of an honest site nothing changes but counts, and of each site at most n flash
--- reads are made and no other; an error is that of the flash, want of memory, or content that isn't of the form.
+-- What a call that only reads the flash leaves: of an honest site nothing changes but counts, and of each site at most
+-- n flash reads are made and no other; an error is that of the flash, want of memory, or content that isn't of the
+-- form.
 pub record ReadsFlash {T : Type 0} (result : Result T Stop) (n : ℕ) (old new : State) : Type 0 where
   pub same : IsTrue old.honest → IsUnchanged old new
   pub goes : Goes old new

@@ -28,7 +28,8 @@ pub record MayStart (g : Geometry) (heads : Heads) (site : State) : Type 0 where
   pub count : (heads.groups.hi - (g.groups - 1)) + length heads.list ≡ heads.groups.hi
   pub are_heads : All (AreHeadsIn g.pages) heads.list
 
--- of an honest site whose flash has these groups: the two rings are the ones that stand there, and the heads those of the groups
+-- of an honest site whose flash has these groups: the two rings are the ones that stand there, and the heads those of
+-- the groups
 pub record Finds (heads : Heads) (groups : List (List Frame)) (site : State) : Type 0 where
   pub groups_fit : Fits heads.groups site
   pub segments_fit : Fits heads.segments site

@@ -1,5 +1,6 @@
 -- A segment that is saved: when it is due, what it has, and what its save does.
-use Rattle.std.specs.Prelude.{ℕ, ◌+◌, ◌-◌, ◌*◌, ◌/◌, ◌==◌, Bool, IsTrue, List, [], ◌∷◌, ◌++◌, length, drop, flat_map, if◌then◌else◌, Result, OnOk}
+use Rattle.std.specs.Prelude.{ℕ, ◌+◌, ◌-◌, ◌*◌, ◌/◌, ◌==◌, Bool, IsTrue, List, [], ◌∷◌, ◌++◌, length, drop, flat_map}
+use Rattle.std.specs.Prelude.{if◌then◌else◌, Result, OnOk}
 use Rattle.site.specs.declared.outside.Stop.{Stop}
 use Rattle.site.specs.declared.geometry.Geometry.{Geometry}
 use Rattle.site.specs.State.{State, IsQuiet}
@@ -33,16 +34,19 @@ abbrev pub saved_after : Bool → Geometry → List (List Frame) → List (List 
 saved_after due g groups segments = if due then with_segment g segments (segment_of groups) else segments
 
 -- an honest site has these groups and segments, and the two rings are those that stand there
-pub record Stands (g : Geometry) (groups segments : Ring) (first : ℕ) (stand : List (List Frame)) (saved : List (List FrameHead)) (site : State) : Type 0 where
+pub record Stands (g : Geometry) (groups segments : Ring) (first : ℕ) (stand : List (List Frame))
+    (saved : List (List FrameHead)) (site : State) : Type 0 where
   pub honest : IsTrue site.honest
   pub groups_fit : Fits groups site
   pub segments_fit : Fits segments site
   pub has : HasGroups g first stand site.image
   pub holds : HasSaved g stand saved site.image
 
--- What a save does where they stand: a crash leaves the images before and behind its change, and where it succeeds its change was
--- made, and the same groups stand there with the segments behind it.
-pub record Saves (g : Geometry) (groups segments new_segments : Ring) (first : ℕ) (stand : List (List Frame)) (saved : List (List FrameHead)) (old new : State) (result : Result (Unit {0}) Stop) : Type 0 where
+-- What a save does where they stand: a crash leaves the images before and behind its change, and where it succeeds its
+-- change was made, and the same groups stand there with the segments behind it.
+pub record Saves (g : Geometry) (groups segments new_segments : Ring) (first : ℕ) (stand : List (List Frame))
+    (saved : List (List FrameHead)) (old new : State) (result : Result (Unit {0}) Stop) : Type 0 where
   pub any_moment : IsQuiet old → LeavesFront g (changes_of_save (is_due groups.hi segments.hi) stand) old new
   pub reaches : OnOk result (Reaches g (changes_of_save (is_due groups.hi segments.hi) stand) old.image new.image)
-  pub stands : OnOk result (Stands g groups new_segments first stand (saved_after (is_due groups.hi segments.hi) g stand saved) new)
+  pub stands : OnOk result (Stands g groups new_segments first stand
+      (saved_after (is_due groups.hi segments.hi) g stand saved) new)

@@ -42,8 +42,11 @@ pub record HasSegments (g : Geometry) (segments : List (List FrameHead)) (image 
   pub exist : AllByRecursion (PagesExist g.pages) segments
   pub live : (units_on (segment_shape g) image).live ≡ map spelling_of_all segments
 
--- The segments follow the groups: as many segments are saved as groups were pushed, by fours, at most one less; a live segment has the heads of those of
--- its groups that are live, and each live group of a saved segment has that segment live.
-pub record HasSaved (g : Geometry) (groups : List (List Frame)) (segments : List (List FrameHead)) (image : Image) : Type 0 where
+-- The segments follow the groups: as many segments are saved as groups were pushed, by fours, at most one less; a live
+-- segment has the heads of those of its groups that are live, and each live group of a saved segment has that segment
+-- live.
+pub record HasSaved (g : Geometry) (groups : List (List Frame)) (segments : List (List FrameHead))
+    (image : Image) : Type 0 where
   pub has : HasSegments g segments image
-  pub follow : Follow (hi_of (segment_shape g) image.flash) segments (hi_of (group_shape g) image.flash) (map heads_of groups)
+  pub follow : Follow (hi_of (segment_shape g) image.flash) segments (hi_of (group_shape g) image.flash)
+      (map heads_of groups)

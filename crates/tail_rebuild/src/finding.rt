@@ -18,12 +18,12 @@ use std::alloc::Global;
 // The number at which the ring of groups ends.
 const HI_MAX: u64 = 1 << 40;
 
-/// Finds the two rings on flash and the heads of all live groups: it scans the segments, takes the groups from four times
-/// the number of the next segment, and reads each segment that has a live group, and the heads of the at most four groups
-/// that aren't in segments. It reads about half as often as there are slots for groups.
+/// Finds the two rings on flash and the heads of all live groups: it scans the segments, takes the groups from four
+/// times the number of the next segment, and reads each segment that has a live group, and the heads of the at most
+/// four groups that aren't in segments. It reads about half as often as there are slots for groups.
 ///
-/// `Foreign` comes only where flash isn't of the form, or its segments don't follow the groups; `Memory` where the heads of
-/// the live groups find none.
+/// `Foreign` comes only where flash isn't of the form, or its segments don't follow the groups; `Memory` where the
+/// heads of the live groups find none.
 pub fn rebuild<S: Site>(alloc: Global, site: &mut S, geometry: &Geometry) -> Result<Heads, Stop>
     requires limits { HasLimits geometry.now }
     requires lengths { HasLengths geometry.now (S.state site.old).image }

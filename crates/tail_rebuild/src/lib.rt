@@ -1,5 +1,5 @@
-//! The heads of all groups that stand in the queue on flash, read at a start: from the segments that were saved, and from
-//! the at most four groups that aren't in segments.
+//! The heads of all groups that stand in the queue on flash, read at a start: from the segments that were saved, and
+//! from the at most four groups that aren't in segments.
 #![tactic(auto)]
 
 mod finding;

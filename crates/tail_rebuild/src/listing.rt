@@ -1,5 +1,6 @@
 // The heads of the live groups, one group after the other.
-ghost use Rattle.std.specs.Prelude.{◌≡◌, ◌+◌, ◌-◌, ◌*◌, ◌/◌, ◌<◌, ◌≤◌, max, ℕ, List, [], length, map, IsTrue, IfOk, OnOk, IfErr, IsErrOf, ◌⊎◌};
+ghost use Rattle.std.specs.Prelude.{◌≡◌, ◌+◌, ◌-◌, ◌*◌, ◌/◌, ◌<◌, ◌≤◌, max, ℕ, List, [], length, map, IsTrue, IfOk};
+ghost use Rattle.std.specs.Prelude.{OnOk, IfErr, IsErrOf, ◌⊎◌};
 ghost use Rattle.std.specs.List.{All};
 ghost use Rattle.site.specs.declared.outside.Stop.{Stop};
 ghost use Rattle.site.specs.Geometry.{HasLimits};
@@ -72,7 +73,8 @@ pub fn list_segments<S: Site>(
     requires none { list.old.items ≡ [] }
 
     ensures listed { OnOk result (All (AreHeadsIn geometry.now.pages) list.new.items) }
-    ensures count { OnOk result ((groups.now.hi - (geometry.now.groups - 1)) + length list.new.items ≡ 4 * segments.now.hi) }
+    ensures count { OnOk result ((groups.now.hi - (geometry.now.groups - 1)) + length list.new.items
+        ≡ 4 * segments.now.hi) }
     ensures front { IsTrue (S.state site.old).honest → RingFits segments.now (S.state site.old)
         → RingFits groups.now (S.state site.old)
         → (first : ℕ) (stand : List (List Frame)) (saved : List (List FrameHead))
@@ -117,7 +119,8 @@ pub fn list_tail<S: Site>(
     ensures front { IsTrue (S.state site.old).honest → RingFits groups.now (S.state site.old)
         → (first : ℕ) (stand : List (List Frame)) → HasGroups geometry.now first stand (S.state site.old).image
         → IsFront (map heads_of stand) list.old.items → OnOk result (IsFront (map heads_of stand) list.new.items) }
-    ensures reads { ReadsFlash result (groups.now.hi - ((groups.now.hi - (geometry.now.groups - 1)) + length list.old.items))
+    ensures reads { ReadsFlash result
+        (groups.now.hi - ((groups.now.hi - (geometry.now.groups - 1)) + length list.old.items))
         (S.state site.old) (S.state site.new) }
     ensures foreign { IsErrOf result Stop.Foreign → IsTrue (S.state site.old).honest
         → RingFits groups.now (S.state site.old)

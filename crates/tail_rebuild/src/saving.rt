@@ -1,5 +1,6 @@
 // A segment is saved where one is due.
-ghost use Rattle.std.specs.Prelude.{◌≡◌, ◌≢◌, ◌⊎◌, ◌+◌, ◌*◌, ◌<◌, ◌≤◌, ◌++◌, ℕ, List, take, drop, false, IsTrue, IfOk, OnOk, OnErr, IfErr, IsErrOf};
+ghost use Rattle.std.specs.Prelude.{◌≡◌, ◌≢◌, ◌⊎◌, ◌+◌, ◌*◌, ◌<◌, ◌≤◌, ◌++◌, ℕ, List, take, drop, false, IsTrue, IfOk};
+ghost use Rattle.std.specs.Prelude.{OnOk, OnErr, IfErr, IsErrOf};
 ghost use Rattle.site.specs.declared.outside.Dev.{Dev};
 ghost use Rattle.site.specs.declared.outside.Stop.{Stop};
 ghost use Rattle.site.specs.Geometry.{HasLimits, HasLengths};
@@ -64,9 +65,9 @@ fn read_last_four<S: Site>(
     Ok(heads)
 }
 
-/// Saves a segment where one is due: where four groups aren't in segments, the heads of these are read and appended to the
-/// ring of segments. To be called before a group is pushed. It never needs memory, and the ring of segments never ends
-/// before that of the groups.
+/// Saves a segment where one is due: where four groups aren't in segments, the heads of these are read and appended to
+/// the ring of segments. To be called before a group is pushed. It never needs memory, and the ring of segments never
+/// ends before that of the groups.
 pub fn save_due<S: Site>(
     site: &mut S,
     geometry: &Geometry,

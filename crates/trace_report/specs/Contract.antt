@@ -10,11 +10,12 @@ use Rattle.trace_report.specs.declared.halt.Halt.TheVariants as halt
 use Rattle.trace_report.specs.Traces.{Touch, IsTrace, IsFirstWrong}
 use Rattle.trace_report.specs.Reports.{report, wrong_line}
 
--- The text of each status, for an input of these octets: the report where they are a trace, and else the number of the first line
--- that is wrong. Telling the report may fail, and so may taking the input; memory may be wanting.
+-- The text of each status, for an input of these octets: the report where they are a trace, and else the number of the
+-- first line that is wrong. Telling the report may fail, and so may taking the input; memory may be wanting.
 abbrev pub IsAnswer : ℕ → ℕ → List ℕ → ℕ → List ℕ → Type 0
 IsAnswer groups pool octets status text =
-    (((status ≡ 0) ⊎ (status ≡ 6)) × (touches : List Touch) × IsTrace octets touches × (text ≡ report groups pool touches))
+    (((status ≡ 0) ⊎ (status ≡ 6)) × (touches : List Touch) × IsTrace octets touches
+    × (text ≡ report groups pool touches))
     ⊎ (((status ≡ 16) × (number : ℕ) × IsFirstWrong octets number × (text ≡ wrong_line number))
     ⊎ (((status ≡ 5) × (text ≡ codes "fault input\n")) ⊎ ((status ≡ 4) × (text ≡ codes "fault memory\n"))))
 
@@ -28,7 +29,8 @@ pub record SimulateContract (groups pool : ℕ) (old new : State) (status : ℕ)
   pub whole : IsTrue old.honest → ¬ (Rose old.output_faults new.output_faults) → new.told ≡ old.told ++ text
   pub done : IsTrue old.honest → status ≡ 0 → new.told ≡ old.told ++ text
   -- where a line is wrong its number is told, unless memory is wanting or taking the input fails before it is heard
-  pub wrong : IsTrue old.honest → (number : ℕ) → IsFirstWrong old.input.left number → (status ≡ 16) ⊎ ((status ≡ 4) ⊎ (status ≡ 5))
+  pub wrong : IsTrue old.honest → (number : ℕ) → IsFirstWrong old.input.left number
+      → (status ≡ 16) ⊎ ((status ≡ 4) ⊎ (status ≡ 5))
   -- and a trace is reported, unless memory is wanting, or taking or telling fails
   pub trace : IsTrue old.honest → (touches : List Touch) → IsTrace old.input.left touches →
       (status ≡ 0) ⊎ ((status ≡ 4) ⊎ ((status ≡ 5) ⊎ (status ≡ 6)))
@@ -66,8 +68,8 @@ abbrev pub HearFaults : {T : Type 0} → Result T Halt → State → State → T
 HearFaults (Ok x) old new = faults_in new ≡ faults_in old
 HearFaults (Err h) old new = faults_in new ≡ after_halt h (faults_in old)
 
--- The first failed call decides the status: with 5 one take has failed, with 6 the telling of the report, and with any other status
--- nothing; behind it the telling of a fault line may fail.
+-- The first failed call decides the status: with 5 one take has failed, with 6 the telling of the report, and with any
+-- other status nothing; behind it the telling of a fault line may fail.
 pub record FirstFails (status : ℕ) (old new : State) : Type 0 where
   pub after : Faults
   pub input : status ≡ 5 → after ≡ with_input_fault (faults_in old)

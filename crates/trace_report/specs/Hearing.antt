@@ -48,7 +48,8 @@ IsWrong line = (t : Touch) → IsTouch line t → ⊥
 abbrev pub Hears : Heard → List ℕ → List ℕ → Type 0
 Hears (heard.Touch page change) before after =
     (line : List ℕ) × (lines_of true before ≡ line ∷ lines_of true after) × IsTouch line (page, change)
-Hears heard.Wrong before after = (line : List ℕ) × (behind : List (List ℕ)) × (lines_of true before ≡ line ∷ behind) × IsWrong line
+Hears heard.Wrong before after = (line : List ℕ) × (behind : List (List ℕ)) × (lines_of true before ≡ line ∷ behind)
+    × IsWrong line
 Hears heard.End before after = before ≡ []
 
 -- what a whole line says

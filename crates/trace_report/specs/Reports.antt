@@ -8,10 +8,13 @@ use Rattle.trace_report.specs.Traces.{Touch}
 -- a machine's name, and what it has counted
 abbrev pub counts_line : List ℕ → Counts → List ℕ
 counts_line name c =
-    name ++ codes " touches " ++ decimal c.touches ++ codes " pool " ++ decimal c.pool ++ codes " flash " ++ decimal c.flash
-    ++ codes " disk " ++ decimal c.disk ++ codes " staged " ++ decimal c.staged ++ codes " pushed " ++ decimal c.pushed ++ codes "\n"
+    name ++ codes " touches " ++ decimal c.touches ++ codes " pool " ++ decimal c.pool ++ codes " flash "
+    ++ decimal c.flash
+    ++ codes " disk " ++ decimal c.disk ++ codes " staged " ++ decimal c.staged ++ codes " pushed " ++ decimal c.pushed
+    ++ codes "\n"
 
--- what the three machines have counted after these touches, each on a flash of so many groups and with a pool of so many pages
+-- what the three machines have counted after these touches, each on a flash of so many groups and with a pool of so
+-- many pages
 abbrev pub report : ℕ → ℕ → List Touch → List ℕ
 report groups pool touches =
     counts_line (codes "fifo") (machine_counts Fifo groups pool touches)

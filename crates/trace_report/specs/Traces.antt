@@ -1,5 +1,6 @@
 -- What a trace is: lines of which each is a touch of a page.
-use Rattle.std.specs.Prelude.{◌≡◌, ◌⊎◌, ℕ, ◌+◌, ◌≤◌, Bool, true, false, List, ◌∷◌, ◌++◌, length, map, All, codes, decimal}
+use Rattle.std.specs.Prelude.{◌≡◌, ◌⊎◌, ℕ, ◌+◌, ◌≤◌, Bool, true, false, List, ◌∷◌, ◌++◌, length, map, All, codes}
+use Rattle.std.specs.Prelude.{decimal}
 use Rattle.shell_text.specs.Runs.{lines_of}
 
 -- a touch of a page, and whether the page is changed
@@ -37,8 +38,8 @@ pub record IsTrace (octets : List ℕ) (touches : List Touch) : Type 0 where
   pub are : AreTouches (lines_of true octets) touches
   pub few : length touches ≤ most
 
--- Among the lines of an input, counted from 1, the one of this number is the first that is no touch, or it is one more than a trace
--- may have. The lines before it are touches.
+-- Among the lines of an input, counted from 1, the one of this number is the first that is no touch, or it is one more
+-- than a trace may have. The lines before it are touches.
 pub record IsFirstWrong (octets : List ℕ) (number : ℕ) : Type 0 where
   pub before : List (List ℕ)
   pub line : List ℕ

@@ -1,5 +1,5 @@
-//! What three page caches do with a trace of touches that stands on the input: it is heard line by line, and their counts
-//! are told.
+//! What three page caches do with a trace of touches that stands on the input: it is heard line by line, and their
+//! counts are told.
 #![tactic(auto)]
 
 mod halt;

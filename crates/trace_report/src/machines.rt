@@ -9,8 +9,8 @@ use policy_sim::{Policy, Sim};
 use site::Stop;
 use std::alloc::Global;
 
-/// So many touches are handed to a cache at once: one cache after the other then finds what it works on in the processor's own
-/// memory.
+/// So many touches are handed to a cache at once: one cache after the other then finds what it works on in the
+/// processor's own memory.
 const BATCH: usize = 262_144;
 
 /// A cache under each policy, and the touches that wait to be handed to all three.
@@ -78,7 +78,8 @@ impl Machines {
 fn serve_all(cache: &mut Sim, touches: &[(u32, bool)]) -> Result<(), Stop>
     requires few { cache.old.counts.touches + length touches.now ≤ 1000000 }
     ensures made { OnOk result (cache.new.counts.touches ≡ cache.old.counts.touches + length touches.now) }
-    ensures served { (kind : Policy) → (groups pool : ℕ) → (before : List Touch) → IsAfter kind groups pool before cache.old
+    ensures served { (kind : Policy) → (groups pool : ℕ) → (before : List Touch)
+        → IsAfter kind groups pool before cache.old
         → OnOk result (IsAfter kind groups pool (before ++ touches.now) cache.new) }
     ensures memory { IfErr result (λ stop. stop ≡ Stop.Memory) }
 {

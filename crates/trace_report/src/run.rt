@@ -59,9 +59,9 @@ fn work<S: Site>(alloc: Global, groups: u32, pool: u32, site: &mut S) -> Result<
     Err(Halt::Trace(LINES + 1))
 }
 
-/// Hears a trace of touches on the input, and tells what three page caches would do with it, each on a flash of so many groups
-/// and with a pool of so many pages. No device is read or changed. The answer is the status: 0, 4 for want of memory, 5 where
-/// taking the input failed, 6 where telling failed, 16 where a line is no touch, or is one too many.
+/// Hears a trace of touches on the input, and tells what three page caches would do with it, each on a flash of so many
+/// groups and with a pool of so many pages. No device is read or changed. The answer is the status: 0, 4 for want of
+/// memory, 5 where taking the input failed, 6 where telling failed, 16 where a line is no touch, or is one too many.
 pub fn simulate<S: Site>(alloc: Global, groups: u32, pool: u32, site: &mut S) -> u8
     requires groups_least { 8 ≤ groups }
     requires groups_most { groups ≤ 16384 }

@@ -9,7 +9,8 @@ const LEAST: Geometry = Geometry {
     blocks: 16,
 };
 
-// Whether a trace, handed to three caches with eight groups and a pool of one page each, has this status, and this is told.
+// Whether a trace, handed to three caches with eight groups and a pool of one page each, has this status, and this is
+// told.
 fn tells(alloc: Global, trace: &[u8], status: u8, told: &[u8]) -> Result<bool, Stop> {
     let mut site = MemSite::new(alloc, &LEAST)?;
     site.feed(trace)?;

@@ -15,7 +15,8 @@ const PIECE: usize = 4096;
 // No touch has a line of so many octets.
 const LONG: usize = 8;
 
-/// What was heard: a line, which is a touch of a page, with a change of it or without, or no touch; or the end of the input.
+/// What was heard: a line, which is a touch of a page, with a change of it or without, or no touch; or the end of the
+/// input.
 #[derive(Clone, Copy, Debug, PartialEq, Eq, Drop)]
 pub enum Heard {
     Touch(u32, bool),
@@ -23,8 +24,8 @@ pub enum Heard {
     End,
 }
 
-/// Octets of the input that were taken and not yet cut into lines. Once a take has answered that the input ended, none is
-/// made any more.
+/// Octets of the input that were taken and not yet cut into lines. Once a take has answered that the input ended, none
+/// is made any more.
 #[derive(Drop)]
 pub struct Trace {
     pub buffer: [u8; PIECE],
@@ -108,12 +109,14 @@ impl Trace {
         }
     }
 
-    /// The next line. Nothing changes but the input. Of a line that is too long to be a touch only the first octets are heard.
+    /// The next line. Nothing changes but the input. Of a line that is too long to be a touch only the first octets are
+    /// heard.
     pub fn next<S: Site>(&mut self, site: &mut S) -> Result<Heard, Failed>
         requires { IsUsable self.old }
         ensures usable { IsUsable self.new }
         ensures heard { IsTrue (S.state site.old).honest → HasEnded self.old (S.state site.old)
-            → IfOk result (λ heard. Hears heard (to_hear self.old (S.state site.old)) (to_hear self.new (S.state site.new))) }
+            → IfOk result (λ heard. Hears heard (to_hear self.old (S.state site.old))
+            (to_hear self.new (S.state site.new))) }
         ensures ended { IsTrue (S.state site.old).honest → HasEnded self.old (S.state site.old)
             → OnOk result (HasEnded self.new (S.state site.new)) }
         ensures same { IsTrue (S.state site.old).honest → HearsOnly (S.state site.old) (S.state site.new) }

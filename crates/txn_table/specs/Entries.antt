@@ -1,9 +1,11 @@
 -- The table of active sessions, as a list of entries.
-use Rattle.std.specs.Prelude.{◌≡◌, ◌≢◌, ℕ, ◌+◌, ◌-◌, ◌^◌, ◌<◌, ◌≤◌, ◌==◌, List, [], ◌∷◌, find, sum_by, All, Contains, Option, Some, None}
+use Rattle.std.specs.Prelude.{◌≡◌, ◌≢◌, ℕ, ◌+◌, ◌-◌, ◌^◌, ◌<◌, ◌≤◌, ◌==◌, List, [], ◌∷◌, find, sum_by, All, Contains}
+use Rattle.std.specs.Prelude.{Option, Some, None}
 use Rattle.std.specs.List.{AllByRecursion}
 use Rattle.txn_table.specs.declared.active.Active.{Active}
 
--- A table: each session stands there once, with a number below 8 and at most 2^32 writes, and none before one that began earlier.
+-- A table: each session stands there once, with a number below 8 and at most 2^32 writes, and none before one that
+-- began earlier.
 abbrev pub IsTable : List Active → Type 0
 IsTable [] = Unit {0}
 IsTable (entry ∷ later) =

@@ -1,4 +1,5 @@
-ghost use Rattle.std.specs.Prelude.{◌≡◌, ◌+◌, ◌^◌, ◌<◌, ◌≤◌, ◌==◌, [], Some, None, length, map, slice_get, All, AllPairs, IsSome, IsNone, option_map};
+ghost use Rattle.std.specs.Prelude.{◌≡◌, ◌+◌, ◌^◌, ◌<◌, ◌≤◌, ◌==◌, [], Some, None, length, map, slice_get, All};
+ghost use Rattle.std.specs.Prelude.{AllPairs, IsSome, IsNone, option_map};
 ghost use Rattle.std.specs.List.{position_or_len};
 ghost use Rattle.std.specs.Option.{ForSome};
 ghost use Rattle.txn_table.specs.Entries.{IsTable, entry_of, ChangesOnly, after_write, counted_from, owed, IsLeast};
@@ -91,7 +92,8 @@ impl TxnTable {
     pub fn wrote(&mut self, session: u32, last: u64)
         requires active { IsSome (entry_of self.old session) }
         requires room { ForSome (entry_of self.old session) (λ entry. entry.writes < 2 ^ 32) }
-        ensures entry { ChangesOnly self.old self.new session (option_map (λ entry. after_write entry last) (entry_of self.old session)) }
+        ensures entry { ChangesOnly self.old self.new session
+            (option_map (λ entry. after_write entry last) (entry_of self.old session)) }
         ensures len { length self.new ≡ length self.old }
     {
         let place = place_of(&self.entries, session);
@@ -120,8 +122,8 @@ impl TxnTable {
         }
     }
 
-    /// How many log records the active sessions may still make: if each of them is undone, one for each of its writes and
-    /// one that ends it.
+    /// How many log records the active sessions may still make: if each of them is undone, one for each of its writes
+    /// and one that ends it.
     pub fn owed(&self) -> u64
         ensures { result ≡ owed self.now }
     {

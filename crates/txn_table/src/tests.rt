@@ -55,7 +55,8 @@ fn seven_sessions_owe_seven(rt: HostRuntime) {
     assert_eq!(rt; table.at(6).session, 7);
 }
 
-// Two sessions begin after three and five log records. Once records are counted from the first of them on, they began after none and two.
+// Two sessions begin after three and five log records. Once records are counted from the first of them on, they began
+// after none and two.
 #[test]
 fn records_are_counted_from_the_oldest(rt: HostRuntime) {
     let mut table = TxnTable::new();

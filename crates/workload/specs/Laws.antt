@@ -1,5 +1,6 @@
 -- What follows for those who read scripts.
-use Rattle.std.specs.Prelude.{◌≡◌, ◌↔◌, ◌⊎◌, ℕ, zero, suc, true, List, [], ◌∷◌, ◌++◌, drop, slice_range, codes, decimal, Some, None}
+use Rattle.std.specs.Prelude.{◌≡◌, ◌↔◌, ◌⊎◌, ℕ, zero, suc, true, List, [], ◌∷◌, ◌++◌, drop, slice_range, codes, decimal}
+use Rattle.std.specs.Prelude.{Some, None}
 use Rattle.std.specs.List.{AllByRecursion, join_with_byte}
 use Rattle.shell_text.specs.Grammar.{IsNumber}
 use Rattle.shell_text.specs.Runs.{lines_of}
@@ -13,7 +14,8 @@ stop_text k seed = join_with_byte 32 (codes "stop" ∷ decimal k ∷ decimal see
 
 -- a line is read as a stop line exactly where it is one
 abbrev pub StopLinesAreRead : Type 0
-StopLinesAreRead = (line : List ℕ) (k seed : ℕ) → (stop_of line ≡ Some (k, seed)) ↔ (IsNumber k × IsNumber seed × (line ≡ stop_text k seed))
+StopLinesAreRead = (line : List ℕ) (k seed : ℕ)
+    → (stop_of line ≡ Some (k, seed)) ↔ (IsNumber k × IsNumber seed × (line ≡ stop_text k seed))
 
 -- the lines of a life, and those of the script from a place on
 abbrev pub lines_in : List ℕ → Life → List (List ℕ)
@@ -26,7 +28,8 @@ lines_from script at = lines_of true (drop at script)
 abbrev pub HaveNoStop : List (List ℕ) → Type 0
 HaveNoStop lines = AllByRecursion (λ line. stop_of line ≡ None) lines
 
--- Behind a life's lines, none of which is a stop line, comes one, with the numbers that the life has, and then the next life's.
+-- Behind a life's lines, none of which is a stop line, comes one, with the numbers that the life has, and then the next
+-- life's.
 pub record IsEnded (script : List ℕ) (life next : Life) : Type 0 where
   pub k : ℕ
   pub seed : ℕ

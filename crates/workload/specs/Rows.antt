@@ -7,7 +7,8 @@ use Rattle.workload.specs.Scripts.{stop_of, lives_of}
 
 -- the first number behind 1 sets record 470 of 512
 abbrev pub FirstOfOne : Type 0
-FirstOfOne = (following 1 ≡ 7806831264735756412) × (record_of (following 1) 512 ≡ 470) × (value_of (following 1) ≡ 108 ∷ 87 ∷ 111 ∷ 172 ∷ 67 ∷ 253 ∷ 0 ∷ 124 ∷ [])
+FirstOfOne = (following 1 ≡ 7806831264735756412) × (record_of (following 1) 512 ≡ 470)
+    × (value_of (following 1) ≡ 108 ∷ 87 ∷ 111 ∷ 172 ∷ 67 ∷ 253 ∷ 0 ∷ 124 ∷ [])
 
 -- a life
 abbrev pub ended : ℕ → ℕ → ℕ → ℕ → Life
@@ -18,7 +19,8 @@ last start end = record { start = start; end = end; stop = None }
 
 -- two stop lines make three lives
 abbrev pub ThreeLives : Type 0
-ThreeLives = lives_of (codes "set 0 aa\nstop 1000 1\nstop 8 1\nget 0\n") ≡ ended 0 9 1000 1 ∷ ended 21 21 8 1 ∷ last 30 36 ∷ []
+ThreeLives = lives_of (codes "set 0 aa\nstop 1000 1\nstop 8 1\nget 0\n")
+    ≡ ended 0 9 1000 1 ∷ ended 21 21 8 1 ∷ last 30 36 ∷ []
 
 -- a script without octets is one life
 abbrev pub OneLife : Type 0
@@ -30,7 +32,8 @@ EndsWithoutNewline = lives_of (codes "get 0\nstop 2 0") ≡ ended 0 6 2 0 ∷ la
 
 -- lines that end no life
 abbrev pub no_stops : List (List ℕ)
-no_stops = codes "stop 5 01" ∷ codes "stop 05 1" ∷ codes "stop 5" ∷ codes "stop 5 0 " ∷ codes "stop 5  0" ∷ codes "stop 5 0 1" ∷ codes " stop 5 0"
+no_stops = codes "stop 5 01" ∷ codes "stop 05 1" ∷ codes "stop 5" ∷ codes "stop 5 0 " ∷ codes "stop 5  0"
+    ∷ codes "stop 5 0 1" ∷ codes " stop 5 0"
     ∷ codes "Stop 5 0" ∷ codes "stop 1000000000 0" ∷ codes "stop -1 0" ∷ codes "stop" ∷ [] ∷ []
 
 abbrev pub NoStops : Type 0

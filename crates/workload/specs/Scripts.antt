@@ -1,5 +1,6 @@
 -- How a script is cut into lives.
-use Rattle.std.specs.Prelude.{ℕ, ◌+◌, min, true, List, [], ◌∷◌, length, take, drop, codes, Option, Some, None, if◌then◌else◌}
+use Rattle.std.specs.Prelude.{ℕ, ◌+◌, min, true, List, [], ◌∷◌, length, take, drop, codes, Option, Some, None}
+use Rattle.std.specs.Prelude.{if◌then◌else◌}
 use Rattle.std.specs.Str.{bytes_eq}
 use Rattle.shell_text.specs.Reading.{words_of, number_of}
 use Rattle.shell_text.specs.Runs.{lines_of}
@@ -28,7 +29,8 @@ with_stop from next (Some (k, seed)) stops = record { from = from; next = next; 
 -- the stop lines among lines, of which the first begins at a place
 abbrev pub stops_among : ℕ → List (List ℕ) → List StopLine
 stops_among at [] = []
-stops_among at (line ∷ lines) = with_stop at (at + length line + 1) (stop_of line) (stops_among (at + length line + 1) lines)
+stops_among at (line ∷ lines) =
+    with_stop at (at + length line + 1) (stop_of line) (stops_among (at + length line + 1) lines)
 
 -- the stop lines of a script from a place on
 abbrev pub stops_from : List ℕ → ℕ → List StopLine
@@ -37,7 +39,8 @@ stops_from script at = stops_among at (lines_of true (drop at script))
 -- the lives that stop lines end, from a place on, and the last one, which goes to the end
 abbrev pub lives_between : ℕ → List StopLine → ℕ → List Life
 lives_between start [] end = record { start = min start end; end = end; stop = None } ∷ []
-lives_between start (stop ∷ stops) end = record { start = start; end = stop.from; stop = Some (stop.limit, stop.seed) } ∷ lives_between stop.next stops end
+lives_between start (stop ∷ stops) end = record { start = start; end = stop.from; stop = Some (stop.limit, stop.seed) }
+    ∷ lives_between stop.next stops end
 
 -- the lives of a script: as many stop lines as may end one do
 abbrev pub lives_of : List ℕ → List Life

@@ -1,4 +1,5 @@
-//! What stated workloads are made of: the generator of their numbers, and the lives that a script of a trial is cut into.
+//! What stated workloads are made of: the generator of their numbers, and the lives that a script of a trial is cut
+//! into.
 #![tactic(auto)]
 
 mod generator;

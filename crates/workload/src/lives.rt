@@ -1,5 +1,6 @@
 // The lives of a script.
-ghost use Rattle.std.specs.Prelude.{◌≡◌, ◌==◌, ◌+◌, ◌≤◌, ◌<◌, ◌∷◌, [], true, min, position, length, drop, codes, slice_get, slice_range, if◌then◌else◌, IfSome, IfNone, Some, None};
+ghost use Rattle.std.specs.Prelude.{◌≡◌, ◌==◌, ◌+◌, ◌≤◌, ◌<◌, ◌∷◌, [], true, min, position, length, drop, codes};
+ghost use Rattle.std.specs.Prelude.{slice_get, slice_range, if◌then◌else◌, IfSome, IfNone, Some, None};
 ghost use Rattle.std.specs.Str.{bytes_eq};
 ghost use Rattle.shell_text.specs.Reading.{words_of, number_of};
 ghost use Rattle.shell_text.specs.Runs.{lines_of};
@@ -83,7 +84,8 @@ fn read_stop(line: &[u8]) -> Option<(u64, u64)>
 // Where the line ends that begins at a place.
 fn line_end(script: &[u8], at: usize) -> usize
     requires { at < length script.now }
-    ensures line { lines_of true (drop at script.now) ≡ slice_range script.now at result ∷ lines_of true (drop (result + 1) script.now) }
+    ensures line { lines_of true (drop at script.now)
+        ≡ slice_range script.now at result ∷ lines_of true (drop (result + 1) script.now) }
     ensures behind { at ≤ result }
     ensures inside { result ≤ length script.now }
 {
@@ -97,7 +99,8 @@ fn line_end(script: &[u8], at: usize) -> usize
 fn next_stop(script: &[u8], from: usize) -> Option<StopLine>
     requires { from ≤ length script.now + 1 }
     ensures some { IfSome result (λ stop. stops_from script.now from ≡ stop ∷ stops_from script.now stop.next) }
-    ensures order { IfSome result (λ stop. (from ≤ stop.from) × (stop.from ≤ length script.now) × (stop.next ≤ length script.now + 1)) }
+    ensures order { IfSome result (λ stop. (from ≤ stop.from) × (stop.from ≤ length script.now)
+        × (stop.next ≤ length script.now + 1)) }
     ensures none { IfNone result (stops_from script.now from ≡ []) }
 {
     let mut at = from;
@@ -118,9 +121,9 @@ fn next_stop(script: &[u8], from: usize) -> Option<StopLine>
 
 /// The life of a script at a place, counted from 0. None exactly where the script has no such life.
 ///
-/// The script is cut into lines at its newlines; octets behind the last newline are a line too. The first 31 lines of the form
-/// `stop K SEED`, with two decimal numbers of at most nine digits and no leading zero, end a life each. The lines
-/// behind the last of them are the last life, which is always there.
+/// The script is cut into lines at its newlines; octets behind the last newline are a line too. The first 31 lines of
+/// the form `stop K SEED`, with two decimal numbers of at most nine digits and no leading zero, end a life each. The
+/// lines behind the last of them are the last life, which is always there.
 pub fn life(script: &[u8], place: usize) -> Option<Life>
     ensures life { result ≡ slice_get (lives_of script.now) place }
     ensures inside { IfSome result (λ life. (life.start ≤ life.end) × (life.end ≤ length script.now)) }
@@ -144,7 +147,11 @@ pub fn life(script: &[u8], place: usize) -> Option<Life>
 
 // The life that goes to the end of the script, where it is the wanted one.
 fn last_life(script: &[u8], start: usize, wanted: bool) -> Option<Life>
-    ensures { result ≡ (if wanted then Some (record { start = min start (length script.now); end = length script.now; stop = None }) else None) }
+    ensures { result ≡ (if wanted then Some (record {
+      start = min start (length script.now);
+      end = length script.now;
+      stop = None;
+    }) else None) }
 {
     if !wanted {
         return None;
