@@ -56,12 +56,10 @@ StandsAfter run k image = Stands run.geometry image (after_commits run.opening.t
 
 -- a front of the run's text, or some of its texts whole and then a front of the fault line
 abbrev pub IsToldOf : Run → List ℕ → List ℕ → Type 0
-IsToldOf run fault told = IsFront told (run_text run)
-    ⊎ ((whole : ℕ) × (whole ≤ length (texts run)) × (rest : List ℕ)
+IsToldOf run fault told = IsFront told (run_text run) ⊎ ((whole : ℕ) × (whole ≤ length (texts run)) × (rest : List ℕ)
     × (told ≡ first_texts run whole ++ rest) × IsFront rest fault)
 
--- What a crash may leave, where `so_far` was told before the run: the table after some number of commits in the range
--- of what the run has told.
+-- What a crash may leave, with `so_far` told before the run: the table after some commits in the range of what it told.
 pub record IsLeft (run : Run) (so_far fault : List ℕ) (snapshot : Snapshot) : Type 0 where
   pub told : List ℕ
   pub told_is : snapshot.told ≡ so_far ++ told

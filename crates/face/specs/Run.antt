@@ -19,8 +19,7 @@ use Rattle.face.specs.Lines.{commands_of, up_to_quit}
 abbrev pub step : State → Line → List CacheLine → Outcome
 step s line listing = line_step true s line listing
 
--- a run opens with a state, has these lines to answer, and the cache has these listings, one after the other, at its
--- cache commands
+-- a run: the state that it opens with, its lines, and the cache's listings, one after the other, at its cache commands
 pub record Run : Type 0 where
   pub geometry : Geometry
   pub opening : State

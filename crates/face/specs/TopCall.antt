@@ -16,8 +16,7 @@ pub record RunContract (pool : ℕ) (old new : Site) (status : ℕ) : Type 0 whe
   -- what is told, and what a crash at any moment leaves
   pub headline : (g : Geometry) (opening : State) → IsGood g opening old → Headline pool g opening old new status
   -- Where nothing fails, no group is to be appended to a ring that stands at its end, the rings on the log's device
-  -- have numbers for all that is to be appended to them, and the input ends in time, the status is 0, or memory was
-  -- wanted.
+  -- have numbers for all that is to be appended, and the input ends in time, the status is 0, or memory was wanted.
   pub complete : (g : Geometry) (opening : State) → IsGood g opening old → NoFaultRose old new →
       NeverWears pool (run_of g opening true old.input.left []) old.image →
       HasLogRoom (run_of g opening true old.input.left []) old.image → EndsInTime old → (status ≡ 0) ⊎ (status ≡ 4)

@@ -44,12 +44,8 @@ pub record Turn : Type 0 where
   pub after : State
 
 abbrev pub turn : Bool → State → Line → List CacheLine → Turn
-turn checkpoints s line listing = let o = line_step checkpoints s line listing in record {
-  before = s;
-  line = line;
-  reply = o.reply;
-  after = o.after;
-}
+turn checkpoints s line listing = let o = line_step checkpoints s line listing in
+    record { before = s; line = line; reply = o.reply; after = o.after }
 
 -- the turns of a run, up to the one that quits
 abbrev pub turns : Bool → State → List Line → List (List CacheLine) → List Turn

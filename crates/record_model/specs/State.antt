@@ -13,8 +13,7 @@ Content = Option (List ℕ)
 abbrev pub Write : Type 0
 Write = ℕ × Content
 
--- an active session: how many log records were made before it, what it has written, the last write last, and which
--- records it has read
+-- an active session: how many log records were made before it, its writes, the last one last, and the records it read
 pub record Session : Type 0 where
   pub born : ℕ
   pub writes : List Write

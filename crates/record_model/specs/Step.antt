@@ -52,17 +52,13 @@ refusal s (Read n number) = first_refusal (wants_active s n ∷ wants_record s n
 refusal s (Write n number value) =
     first_refusal (wants_active s n ∷ wants_record s number ∷ wants_short value ∷ may_write s (Some n) number ∷ [])
 refusal s (Erase n number) = first_refusal (wants_active s n ∷ wants_record s number ∷ may_write s (Some n) number ∷ [])
-refusal s (Scan n number count) =
-    first_refusal (wants_active s n ∷ wants_record s (number + count - 1)
+refusal s (Scan n number count) = first_refusal (wants_active s n ∷ wants_record s (number + count - 1)
     ∷ map (may_read s (Some n)) (range_with_len number count))
 refusal s (Commit n) = wants_active s n
 refusal s (Abort n) = wants_active s n
 refusal s (Get number) = first_refusal (wants_record s number ∷ may_read s None number ∷ [])
 refusal s (Set number value) = first_refusal (wants_record s number ∷ wants_short value ∷ may_write s None number ∷ [])
-refusal s Checkpoint = None
-refusal s Cache = None
-refusal s Stat = None
-refusal s Quit = None
+refusal s _ = None
 
 -- The log's budget. Where checkpoints are made, a begin and a set make one first where it is due, and the command
 -- itself does.
@@ -78,10 +74,8 @@ wants_checkpoint checkpoints s command = checkpoints && asks_for_checkpoint s co
 
 -- the state in which a command that its tests let through is carried out
 abbrev pub ready : Bool → State → Command → State
-ready checkpoints s command = record s {
-  kept =
-      if wants_checkpoint checkpoints s command then kept_by_checkpoint s else s.kept;
-}
+ready checkpoints s command =
+    record s { kept = if wants_checkpoint checkpoints s command then kept_by_checkpoint s else s.kept }
 
 -- whether the cap has no room for the log records that a command may come to need
 abbrev pub lacks_room : State → Command → Bool
@@ -129,12 +123,8 @@ effect s (Scan n number count) =
     with_session s n (option_map (having_read (range_with_len number count)) (session_at s n))
 effect s (Commit n) = making 1 (with_session (committed s (writes_of (session_at s n))) n None)
 effect s (Abort n) = making (length (writes_of (session_at s n)) + 1) (with_session s n None)
-effect s (Get number) = s
 effect s (Set number value) = making 3 (committed s ((number, Some value) ∷ []))
-effect s Checkpoint = s
-effect s Cache = s
-effect s Stat = s
-effect s Quit = s
+effect s _ = s
 
 -- What an accepted command answers.
 
@@ -157,13 +147,8 @@ answer s (Get number) listing = found (content_at s.table number)
 answer s (Set number value) listing = reply.Committed (s.commits + 1)
 answer s Checkpoint listing = reply.Checked
 answer s Cache listing = reply.Listing listing
-answer s Stat listing = reply.Stat (record {
-  commits = s.commits;
-  used = used s;
-  owed = owed s;
-  cap = s.cap;
-  active = length (active_sessions s);
-})
+answer s Stat listing = reply.Stat (
+    record { commits = s.commits; used = used s; owed = owed s; cap = s.cap; active = length (active_sessions s) })
 answer s Quit listing = reply.Bye
 
 -- The step.
@@ -174,16 +159,13 @@ pub record Outcome : Type 0 where
 
 -- a command that its tests let through
 abbrev pub carried_out : State → Command → List CacheLine → Outcome
-carried_out s command listing =
-    if lacks_room s command
-    then record { after = s; reply = full s }
+carried_out s command listing = if lacks_room s command then record { after = s; reply = full s }
     else record { after = effect s command; reply = answer s command listing }
 
 abbrev pub outcome : Bool → State → Command → List CacheLine → Option Reply → Outcome
 outcome checkpoints s command listing (Some refused) = record { after = s; reply = refused }
 outcome checkpoints s command listing None = carried_out (ready checkpoints s command) command listing
 
--- What a command answers, and the state that it leaves, where the cache has this listing. The first argument says
--- whether checkpoints are made.
+-- What a command answers, and the state that it leaves, with this listing of the cache, with checkpoints or without.
 abbrev pub step : Bool → State → Command → List CacheLine → Outcome
 step checkpoints s command listing = outcome checkpoints s command listing (refusal s command)

@@ -18,8 +18,8 @@ words_of text = slice_split (λ x. x == 32) text
 
 -- what digits alone write, where it is below a thousand million
 abbrev pub small_number : List ℕ → Option ℕ
-small_number text = if all_ascii_digits text
-    && nat_lt (digits_value 10 text) 1000000000 then Some (digits_value 10 text) else None
+small_number text =
+    if all_ascii_digits text && nat_lt (digits_value 10 text) 1000000000 then Some (digits_value 10 text) else None
 
 -- the same with no leading zero but 0 itself
 abbrev pub number_of : List ℕ → Option ℕ
@@ -28,40 +28,35 @@ number_of (x ∷ []) = small_number (x ∷ [])
 number_of (x ∷ y ∷ digits) = if x == 48 then None else small_number (x ∷ y ∷ digits)
 
 abbrev pub value_of : List ℕ → Option (List ℕ)
-value_of text = if bytes_eq text (codes "-") then Some [] else if nat_lt (length text) 2 then None else result_ok
-    (decode_of text)
+value_of text = if bytes_eq text (codes "-") then Some []
+    else if nat_lt (length text) 2 then None else result_ok (decode_of text)
 
 abbrev pub bare_command : List ℕ → Option Command
-bare_command name =
-    if bytes_eq name (codes "checkpoint") then Some Checkpoint
+bare_command name = if bytes_eq name (codes "checkpoint") then Some Checkpoint
     else if bytes_eq name (codes "cache") then Some Cache
     else if bytes_eq name (codes "stat") then Some Stat
     else if bytes_eq name (codes "quit") then Some Quit
     else None
 
 abbrev pub command_of_one : List ℕ → ℕ → Option Command
-command_of_one name number =
-    if bytes_eq name (codes "begin") then Some (Begin number)
+command_of_one name number = if bytes_eq name (codes "begin") then Some (Begin number)
     else if bytes_eq name (codes "commit") then Some (Commit number)
     else if bytes_eq name (codes "abort") then Some (Abort number)
     else if bytes_eq name (codes "get") then Some (Get number)
     else None
 
 abbrev pub command_of_two : List ℕ → ℕ → ℕ → Option Command
-command_of_two name session number =
-    if bytes_eq name (codes "read") then Some (Read session number)
+command_of_two name session number = if bytes_eq name (codes "read") then Some (Read session number)
     else if bytes_eq name (codes "erase") then Some (Erase session number)
     else None
 
 abbrev pub scan_of : ℕ → ℕ → ℕ → Option Command
-scan_of session number count = if nat_le 1 count
-    && nat_le count COUNT_MAX then Some (Scan session number count) else None
+scan_of session number count =
+    if nat_le 1 count && nat_le count COUNT_MAX then Some (Scan session number count) else None
 
 -- a name, a number, and one word more
 abbrev pub two_words : List ℕ → List ℕ → ℕ → Option Command
-two_words name text number =
-    if bytes_eq name (codes "set")
-    then option_map (Set number) (value_of text)
+two_words name text number = if bytes_eq name (codes "set") then option_map (Set number) (value_of text)
     else option_and_then (command_of_two name number) (number_of text)
 
 -- a name, two numbers, and one word more

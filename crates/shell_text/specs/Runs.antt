@@ -12,8 +12,7 @@ abbrev pub in_front : Bool → ℕ → List (List ℕ) → List (List ℕ)
 in_front ended x (line ∷ lines) = (x ∷ line) ∷ lines
 in_front ended x [] = if ended then (x ∷ []) ∷ [] else []
 
--- The lines of the octets that were heard: they are cut at newlines. Behind the last newline octets are a line where
--- the input has ended.
+-- The lines of the octets heard: cut at newlines. What is behind the last newline is a line where the input has ended.
 abbrev pub lines_of : Bool → List ℕ → List (List ℕ)
 lines_of ended [] = []
 lines_of ended (x ∷ octets) = if x == 10 then [] ∷ lines_of ended octets else in_front ended x (lines_of ended octets)
