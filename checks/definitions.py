@@ -1,16 +1,19 @@
 #!/usr/bin/env python3
-"""Prints where each definition stands: of each crate, lowest first, the files of its specs/ and what each says of itself.
+"""Prints where each definition stands: of each crate, lowest first, the files of its specs/ and what each says of
+itself.
 
     checks/definitions.py [CRATE ..]      the files of these crates, or of all, each with its first comment
     checks/definitions.py --where NAME    the places of the definitions of this name, with the comment above each
 
-Each file of specs/ begins with a comment but Lib.antt, which lists the others. One that doesn't is named on standard error, and so is a
-crate or a name that isn't there; the status is then 1."""
+Each file of specs/ begins with a comment but Lib.antt, which lists the others, and no line of specs/ or src/ has more
+than 120 columns, but where a string can't be broken. What isn't so is named on standard error, and so is a crate or a
+name that isn't there; the status is then 1."""
 import os
 import re
 import sys
 
 ROOT = os.path.dirname(os.path.dirname(os.path.realpath(__file__)))
+COLUMNS = 120
 
 
 def crates(root):
@@ -22,6 +25,11 @@ def files(root, crate):
     folder = f"{root}/crates/{crate}/specs"
     names = sorted(os.listdir(folder)) if os.path.isdir(folder) else []
     return [f"crates/{crate}/specs/{name}" for name in names if name.endswith(".antt") and name != "Lib.antt"]
+
+
+def sources(root, crate):
+    folder = f"{root}/crates/{crate}/src"
+    return [f"crates/{crate}/src/{name}" for name in sorted(os.listdir(folder)) if name.endswith(".rt")]
 
 
 def lines_of(root, path):
@@ -38,6 +46,15 @@ def comment(lines, first, step):
     return " ".join(found[::step])
 
 
+def long_lines(root, paths):
+    return [
+        f"{path}:{number + 1} has more than {COLUMNS} columns"
+        for path in paths
+        for number, line in enumerate(lines_of(root, path))
+        if len(line) > COLUMNS and '"' not in line
+    ]
+
+
 def listed(root, names):
     """The lines to print, and what is wrong."""
     told, wrong = [], [f"no crate {name}" for name in names if name not in crates(root)]
@@ -50,6 +67,7 @@ def listed(root, names):
             told.append(f"  {path}  {said}")
             if not said:
                 wrong.append(f"{path} begins with no comment")
+        wrong += long_lines(root, files(root, crate) + sources(root, crate))
     return told, wrong
 
 
