@@ -138,10 +138,6 @@ from_other {A} {B} a b pages others r works start scanned old new same asks = re
   disk = asks.disk;
 }
 
-pub from_other_err : {A B : Type 0} (stop : Stop) (pages : A → PageStore) (others : B → PageStore) (r : Rules) (works : List CacheWork) (start : Cache) (scanned : ℕ) (old new : Site) →
-    AsksFrom {T = A} (Err stop) pages r works start scanned old new → AsksFrom {T = B} (Err stop) others r works start scanned old new
-from_other_err stop pages others r works start scanned old new asks = record { machine = tt; worn = λ is. asks.worn (err_again stop (Worn Flash) is); flash = asks.flash; disk = asks.disk }
-
 pub from_other_fails : {A B : Type 0} (a : A) (stop : Stop) (pages : A → PageStore) (others : B → PageStore) (r : Rules) (works : List CacheWork) (start : Cache) (scanned : ℕ) (old new : Site) → (stop ≡ Worn Flash → ⊥) →
     AsksFrom {T = A} (Ok a) pages r works start scanned old new → AsksFrom {T = B} (Err stop) others r works start scanned old new
 from_other_fails {A} {B} a stop pages others r works start scanned old new never asks = record { machine = tt; worn = λ is. absurd (never (stop_is {U = B} stop (Worn Flash) is)); flash = asks.flash; disk = asks.disk }

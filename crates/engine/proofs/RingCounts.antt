@@ -1,5 +1,5 @@
 -- The numbers of the rings' units, over the calls of the database.
-use Rattle.std.proofs.Common.{◌≡◌, ◌+◌, ◌≤◌, Bool, true, false, List, [], Option, None, Some, sym, ap, subst, arith, ℕ}
+use Rattle.std.proofs.Common.{◌≡◌, ◌+◌, ◌≤◌, Bool, true, false, List, [], Option, None, Some, ap, subst, arith, ℕ}
 use Rattle.std.specs.Prelude.{Result, Ok, Err, if◌then◌else◌}
 use Rattle.site.specs.declared.outside.Stop.{Stop}
 use Rattle.site.specs.declared.geometry.Geometry.{Geometry}
@@ -68,10 +68,6 @@ count_then r x old mid new before middle now s u after m m' k same first second 
       masters = let more = second.masters in omega (arith, more, before_saved, is);
       saved = ok_as r _ _ (λ more. let all : hi_of master_shape now.image.log ≡ hi_of master_shape before.image.log + k = omega (arith, more, before_saved, is) in all) second.saved;
     }
-
--- what a command leaves is known
-pub count_known : {T E : Type 0} (r : Result T E) (old new : Engine) (before now : Site) (s : State) (o known : Outcome) (m : ℕ) → o ≡ known → CountsOn r old new before now s known.after m → CountsOn r old new before now s o.after m
-count_known r old new before now s o known m is first = subst (λ (x : Outcome). CountsOn r old new before now s x.after m) (sym is) first
 
 -- Nothing is called.
 

@@ -1,5 +1,5 @@
 -- What the versions on the devices show, beside the model's state.
-use Rattle.std.proofs.Common.{◌≡◌, ℕ, ◌+◌, ◌*◌, ◌/◌, ◌%◌, ◌<◌, ◌==◌, Bool, true, false, ◌&&◌, ◌||◌, cond, List, [], ◌∷◌, map, Option, Some, None, ⊎_elim, refl, sym, ap, subst, ◌∙◌, arith, true≢false}
+use Rattle.std.proofs.Common.{◌≡◌, ℕ, ◌+◌, ◌*◌, ◌/◌, ◌%◌, ◌<◌, ◌==◌, Bool, true, false, ◌&&◌, ◌||◌, cond, List, [], ◌∷◌, map, Option, Some, None, ⊎_elim, refl, sym, ap, ◌∙◌, arith, true≢false}
 use Rattle.std.specs.Prelude.{unwrap_or}
 use Rattle.std.specs.List.{list_any}
 use Rattle.std.proofs.lemmas.Option.{none-some, same_Some}
@@ -28,7 +28,7 @@ use Rattle.page_store.specs.Held.{content_by, current}
 use Rattle.engine.specs.declared.engine.Engine.{Engine}
 use Rattle.engine.specs.Fits.{Fits, SessionIs}
 use Rattle.engine.specs.Going.{sizes_of}
-use Rattle.engine.specs.SeenVersions.{IsAsSeen, WhereItFits}
+use Rattle.engine.specs.SeenVersions.{WhereItFits}
 use Rattle.engine.proofs.Actives.{some_active}
 use Rattle.engine.proofs.Meanings.{undoable, value_is, writer}
 

@@ -12,7 +12,7 @@ use Rattle.site.specs.Moments.{LeavesOnly, ChangesOnly}
 use Rattle.site.specs.Laws.{leaves_weaker, quiet_settled}
 use Rattle.record_model.specs.State.{Content}
 use Rattle.log_records.specs.declared.log_record.LogRecord.{LogRecord}
-use Rattle.log_records.specs.Spelling.{AreBlock, block_len}
+use Rattle.log_records.specs.Spelling.{AreBlock}
 use Rattle.log_records.specs.Log.{Entry, Version, log_from}
 use Rattle.image_changes.specs.Changes.{Reaches}
 use Rattle.image_changes.specs.Reached.{IsReached, IsFrontOf, LeavesFront}
@@ -47,7 +47,6 @@ pub record IsNumbered (log log' : LogStore) (lsn : ℕ) (sealing : Bool) : Type 
   pub next : log'.ring.hi ≡ (if sealing then log.ring.hi + 1 else log.ring.hi)
   pub below : lsn < end_of log'
   pub low : 2 ≤ log.used
-  pub high : log'.used ≤ block_len
 
 -- and what it has done on an honest one
 pub record IsAppended (g : Geometry) (log log' : LogStore) (list : LogList) (site new : State) (rec : LogRecord) (lsn : ℕ) (sealing : Bool) : Type 0 where
@@ -85,13 +84,6 @@ module _ (log log' : LogStore) (lsn : ℕ) where
   pub least_blocks : (sealing : Bool) → IsNumbered log log' lsn sealing → blocks_to log ≤ blocks_to log'
   least_blocks true is = let a = one_now true is in let b = is.next in let c = few_blocks (has_tail log) in omega (arith, a, b, c)
   least_blocks false is = let a = one_now false is in let b = is.next in let c = few_blocks (has_tail log) in omega (arith, a, b, c)
-
-  pub before_end : (sealing : Bool) → IsNumbered log log' lsn sealing → lsn < end_forced log'
-  before_end sealing is = let a = one_now sealing is in let b = is.below in let c = is.high in omega (arith, a, b, c)
-
-  pub in_last_block : (sealing : Bool) → IsNumbered log log' lsn sealing → 512 * log'.ring.hi ≤ lsn
-  in_last_block true is = let at = is.lsn_is in let next = is.next in omega (arith, at, next)
-  in_last_block false is = let at = is.lsn_is in let next = is.next in omega (arith, at, next)
 
 pub logged_more : (end end' : ℕ) → end ≤ end' → (frames : List Frame) → AllByRecursion (λ frame. IsLogged end frame.content) frames → AllByRecursion (λ frame. IsLogged end' frame.content) frames
 logged_more end end' more [] all = tt

@@ -129,10 +129,6 @@ works_refused other stops first = record { calls = calls_refused other first.cal
 pub works_foreign : {A B : Type 0} {a : A} {old new : LogStore} {pages pages' : PageStore} {before now : State} → Works {T = A} (Ok a) old new pages pages' before now → Works {T = B} (Err Foreign) old new pages pages' before now
 works_foreign first = works_refused (λ d same. cc) tt first
 
--- before anything is called
-pub works_at_once : {T : Type 0} {log : LogStore} {pages : PageStore} {site : State} → MayGoOn log pages site → Works {T = T} (Err Foreign) log log pages pages site site
-works_at_once going = works_foreign {A = Unit {0}} {a = tt} (works_nothing going)
-
 pub works_read : {T : Type 0} {r : Result T Stop} {log : LogStore} {pages : PageStore} {before now : State} → MayGoOn log pages before → ReadsOne r before now → Works r log log pages pages before now
 works_read {r = r} {log = log} {pages = pages} {before = before} {now = now} going read = record {
   calls = calls_read read;
@@ -174,10 +170,6 @@ logs_then {r = r} first second =
 pub logs_answered : {A B : Type 0} {a : A} {b : B} {old new : LogStore} {pages pages' : PageStore} {before now : State} → LogsNothing {T = A} (Ok a) old new pages pages' before now → LogsNothing {T = B} (Ok b) old new pages pages' before now
 logs_answered first = record { works = works_answered first.works; blocks = first.blocks; hi = first.hi; log_reads = first.log_reads }
 
-pub logs_refused : {A B : Type 0} {a : A} {stop : Stop} {old new : LogStore} {pages pages' : PageStore} {before now : State} → ((d : Dev) → stop ≢ Device d) → MayStop stop →
-    LogsNothing {T = A} (Ok a) old new pages pages' before now → LogsNothing {T = B} (Err stop) old new pages pages' before now
-logs_refused other stops first = record { works = works_refused other stops first.works; blocks = tt; hi = tt; log_reads = first.log_reads }
-
 -- The log alone, on every site.
 
 log_unchanged : (site : State) → ChangesOnly Log site site
@@ -199,10 +191,6 @@ beside_then {before = before} {between = between} {now = now} first second = rec
 
 pub beside_answered : {A B : Type 0} {a : A} {b : B} {old new : LogStore} {before now : State} → WorksBeside {T = A} (Ok a) old new before now → WorksBeside {T = B} (Ok b) old new before now
 beside_answered first = record { calls = calls_answered first.calls; going = first.going; log_going = first.log_going; kept = first.kept; geometry = first.geometry; reads = first.reads; changes = first.changes }
-
--- there is no room for it
-pub beside_foreign : {T : Type 0} {log : LogStore} {site : State} → log_held.MayGoOn log site → WorksBeside {T = T} (Err Foreign) log log site site
-beside_foreign {T = T} {site = site} going = record { calls = calls_refused {A = Unit {0}} {B = T} {a = tt} (λ d same. cc) calls_nothing; going = λ pages may. tt; log_going = going; kept = refl; geometry = refl; reads = λ d. refl; changes = λ honest. log_unchanged site }
 
 -- Log and pages, on an honest site.
 
@@ -301,21 +289,9 @@ pub keeps_redoing : PageLaws → RedoLaws → {T : Type 0} {x : T} {o : Opening}
     Keeps {T = T} (Ok x) pages.flash.geometry log log site site (LeavesOpened o site.told) 0 0
 keeps_redoing laws redo {T = T} {x = x} sizes h = keeps_opened laws redo sizes h unchanged (λ d is. no_error {T = T} {x = x} {e = Worn d} is) (no_error {T = T} {x = x} {e = Foreign})
 
--- analysis refuses the next record
-found_stops : (stop : Stop) → (stop ≡ Memory) ⊎ (stop ≡ Foreign) → MayStop stop
-found_stops stop (inl is) = subst MayStop (sym is) tt
-found_stops stop (inr is) = subst MayStop (sym is) tt
-
-found_device : (stop : Stop) → (stop ≡ Memory) ⊎ (stop ≡ Foreign) → (d : Dev) → stop ≢ Device d
-found_device stop (inl is) = λ d same. cc
-found_device stop (inr is) = λ d same. cc
-
 found_worn : (stop : Stop) → (stop ≡ Memory) ⊎ (stop ≡ Foreign) → (d : Dev) → stop ≢ Worn d
 found_worn stop (inl is) = λ d same. cc
 found_worn stop (inr is) = λ d same. cc
-
-pub logs_refused_by : {T : Type 0} {stop : Stop} {log : LogStore} {pages : PageStore} {site : State} → (stop ≡ Memory) ⊎ (stop ≡ Foreign) → MayGoOn log pages site → LogsNothing {T = T} (Err stop) log log pages pages site site
-logs_refused_by {stop = stop} stops going = logs_refused {A = Unit {0}} {a = tt} (found_device stop stops) (found_stops stop stops) (logs_nothing going)
 
 pub keeps_refused_by : PageLaws → RedoLaws → {T : Type 0} {stop : Stop} {o : Opening} {log : LogStore} {pages : PageStore} {site : State} {front : List Entry} → (stop ≡ Memory) ⊎ (stop ≡ Foreign) → log.geometry ≡ pages.flash.geometry → IsRedoing o log pages site front → stop ≢ Foreign →
     Keeps {T = T} (Err stop) pages.flash.geometry log log site site (LeavesOpened o site.told) 0 0

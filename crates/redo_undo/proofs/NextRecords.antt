@@ -1,7 +1,7 @@
 -- The next record of an opened log is redone.
-use Rattle.std.proofs.Common.{◌≡◌, ◌≢◌, ◌⊎◌, inl, inr, ℕ, ◌+◌, ◌-◌, ◌*◌, ◌/◌, ◌≤◌, ◌<◌, List, [], ◌∷◌, ◌++◌, length, map, Some, refl, sym, ap, subst, ◌∙◌, arith, true, false, Bool, append-nil}
+use Rattle.std.proofs.Common.{◌≡◌, ◌≢◌, ◌⊎◌, inl, inr, ℕ, ◌+◌, ◌-◌, ◌*◌, ◌/◌, ◌≤◌, ◌<◌, List, [], ◌∷◌, ◌++◌, length, map, Some, refl, sym, ap, subst, ◌∙◌, arith, true, false, Bool}
 use Rattle.std.specs.List.{AllByRecursion}
-use Rattle.std.proofs.lemmas.Bool.{cases_eq, lt-ltb, cond-true, cond-false}
+use Rattle.std.proofs.lemmas.Bool.{cases_eq, lt-ltb, cond-true}
 use Rattle.std.proofs.lemmas.Option.{same_Some}
 use Rattle.site.specs.State.{State, Image}
 use Rattle.log_records.specs.declared.log_record.LogRecord.{LogRecord}
@@ -39,12 +39,6 @@ filter_append test (x ∷ xs) ys = by (test x) (filter_append test xs ys)
 
 pub filter_split : (test : Entry → Bool) (front : List Entry) (e : Entry) (rest : List Entry) → test e ≡ true → filter test (front ++ e ∷ rest) ≡ filter test front ++ e ∷ filter test rest
 filter_split test front e rest here = filter_append test front (e ∷ rest) ∙ ap (λ (l : List Entry). filter test front ++ l) (cond-true (test e) (e ∷ filter test rest) (filter test rest) here)
-
-pub filter_more : (test : Entry → Bool) (front : List Entry) (e : Entry) → test e ≡ true → filter test (front ++ e ∷ []) ≡ filter test front ++ e ∷ []
-filter_more test front e here = filter_split test front e [] here
-
-pub filter_none : (test : Entry → Bool) (front : List Entry) (e : Entry) → test e ≡ false → filter test (front ++ e ∷ []) ≡ filter test front
-filter_none test front e here = filter_append test front (e ∷ []) ∙ ap (λ (l : List Entry). filter test front ++ l) (cond-false (test e) (e ∷ []) [] here) ∙ append-nil (filter test front)
 
 -- a record of an ordered log stands before the log's end
 pub order_ends : (from to : ℕ) (log : List Entry) → IsInOrder from log to → from ≤ to

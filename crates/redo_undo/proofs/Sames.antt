@@ -1,5 +1,5 @@
 -- Calls one behind the other, and a site of which only was read.
-use Rattle.std.proofs.Common.{◌≡◌, ℕ, ◌<◌, Bool, false, nat_lt, arith, append-nil, [], List, refl, sym, ap, subst, ◌∙◌}
+use Rattle.std.proofs.Common.{◌≡◌, ℕ, ◌<◌, ◌≤◌, Bool, false, nat_lt, arith, append-nil, [], List, refl, sym, ap, subst, ◌∙◌}
 use Rattle.std.specs.Prelude.{if◌then◌else◌, Option}
 use Rattle.site.specs.declared.outside.Dev.TheVariants.{Log, Flash, Disk}
 use Rattle.site.specs.declared.geometry.Geometry.{Geometry}
@@ -13,7 +13,8 @@ use Rattle.record_model.specs.State.{Content}
 use Rattle.log_records.specs.Log.{Entry, log_from}
 use Rattle.log_store.specs.declared.store.LogStore.{LogStore}
 use Rattle.log_store.specs.Held as log_held
-use Rattle.log_store.specs.Held.{HasBlocks, has_tail, end_of}
+use Rattle.log_store.specs.Held.{Finds, HasBlocks, has_tail, end_of}
+use Rattle.page_store.specs.Caching.{rules}
 use Rattle.slotted_page.specs.Layout.{lsn_of}
 use Rattle.page_store.proofs.Versions.{flash_later}
 use Rattle.page_store.specs.declared.store.PageStore.{PageStore}
@@ -27,7 +28,16 @@ use Rattle.image_meaning.specs.Beside.{AreRingsSoundUnder}
 use Rattle.redo_undo.specs.HoldingLaws.{OpenedHolds}
 use Rattle.redo_undo.specs.Laws.{LogLaws, PageLaws}
 use Rattle.redo_undo.specs.Running.{RunsOn}
-use Rattle.redo_undo.specs.Holding.{MayGoOn, Holds, ShowRecords}
+use Rattle.redo_undo.specs.Holding.{MayGoOn, Holds, HoldsIn, ShowRecords}
+
+-- The ring of blocks is found on a site on which log and pages hold together.
+pub found_now : {g : Geometry} {log : LogStore} {pages : PageStore} {site : State} {newest : Option Master} {records : List Entry}
+    {table : List Content} {commits : ℕ} → HoldsIn g log pages site newest records table commits → Finds log site
+found_now h = let ready = h.log_holds.ready.blocks in record { honest = ready.honest; form = ready.form; hi = ready.hi }
+
+-- A queue on flash has room for a group.
+pub some_group : {log : LogStore} {pages : PageStore} {site : State} → MayGoOn log pages site → 1 ≤ (rules pages).groups
+some_group going = let least = going.pages_going.flash.limits.groups in omega (arith, least)
 
 -- one call behind others
 pub and_then : (newest : Option Master) (g g' : Geometry) (old mid new : State) (table : List Content) (commits : ℕ) → g' ≡ g → LeavesOnly old mid (LeavesTableUnder newest g table commits old.told) → LeavesOnly mid new (LeavesTableUnder newest g' table commits mid.told) →

@@ -1,10 +1,9 @@
 -- Calls of a store one after the other, each known by its record.
 use Rattle.std.proofs.Common.{◌≡◌, ◌+◌, ◌≤◌, List, refl, subst, ◌∙◌, arith, ℕ}
 use Rattle.std.specs.Prelude.{Result, Ok, Err, OnOk, IsTrue}
-use Rattle.site.specs.declared.outside.Dev.{Dev}
 use Rattle.site.specs.declared.outside.Dev.TheVariants.{Log, Flash}
 use Rattle.site.specs.declared.outside.Stop.{Stop}
-use Rattle.site.specs.declared.outside.Stop.TheVariants.{Device, Worn, Memory, Foreign}
+use Rattle.site.specs.declared.outside.Stop.TheVariants.{Worn, Memory, Foreign}
 use Rattle.site.specs.declared.geometry.Geometry.{Geometry}
 use Rattle.site.specs.State.{State as Site, Snapshot, IsQuiet}
 use Rattle.site.specs.Moments.{Leaves, LeavesOnly}
@@ -18,7 +17,7 @@ use Rattle.redo_undo.specs.Holding.{IsLogWorn}
 use Rattle.redo_undo.specs.Numbers.{SkipsNone}
 use Rattle.redo_undo.proofs.RingNumbers.{skips_on, then_skips, skips_again, skips_answered, skips_refused, skips_weaker}
 use Rattle.redo_undo.specs.declared.store.Store.{Store}
-use Rattle.site.proofs.Working.{ok_as, err_again, no_error, calls_then, calls_failed, calls_answered, calls_refused}
+use Rattle.site.proofs.Working.{ok_as, err_again, no_error, calls_then, calls_answered}
 use Rattle.redo_undo.specs.Calls as calls
 use Rattle.redo_undo.specs.StoreCalls.{Works, Keeps}
 use Rattle.redo_undo.proofs.Asking.{stop_is}
@@ -45,35 +44,8 @@ works_then {r = r} {old = old} {new = new} {n = n} {n' = n'} first second =
       stops = second.stops;
     }
 
-pub works_failed : {A B : Type 0} {stop : Stop} {old new : Store} {before now : Site} {n : ℕ} → Works {T = A} (Err stop) old new before now n → Works {T = B} (Err stop) old new before now n
-works_failed first = record { calls = calls_failed first.calls; going = tt; made = tt; blocks = tt; rises = tt; kept = first.kept; sizes = first.sizes; stops = first.stops }
-
--- it stops before all that it may log is logged
-pub works_before : {A B : Type 0} {stop : Stop} {old new : Store} {before now : Site} {n k : ℕ} → Works {T = A} (Err stop) old new before now n → Works {T = B} (Err stop) old new before now k
-works_before first = record { calls = calls_failed first.calls; going = tt; made = tt; blocks = tt; rises = tt; kept = first.kept; sizes = first.sizes; stops = first.stops }
-
--- it stops behind a call that was Ok
-pub works_stopped : {A B C : Type 0} {a : A} {stop : Stop} {old mid new : Store} {before between now : Site} {n n' k : ℕ} →
-    Works {T = A} (Ok a) old mid before between n → Works {T = B} (Err stop) mid new between now n' → Works {T = C} (Err stop) old new before now k
-works_stopped first second = works_before (works_then first second)
-
 pub works_answered : {A B : Type 0} {a : A} {b : B} {old new : Store} {before now : Site} {n : ℕ} → Works {T = A} (Ok a) old new before now n → Works {T = B} (Ok b) old new before now n
 works_answered first = record { calls = calls_answered first.calls; going = first.going; made = first.made; blocks = first.blocks; rises = first.rises; kept = first.kept; sizes = first.sizes; stops = tt }
-
-pub works_no_memory : {A B : Type 0} {a : A} {old new : Store} {before now : Site} {n : ℕ} → Works {T = A} (Ok a) old new before now n → Works {T = B} (Err Memory) old new before now n
-works_no_memory {B = B} first = record {
-  calls = calls_refused {stop = Memory} (λ d is. never is) first.calls;
-  going = tt;
-  made = tt;
-  blocks = tt;
-  rises = tt;
-  kept = first.kept;
-  sizes = first.sizes;
-  stops = tt;
-}
-  where
-    never : {d : Dev} → Memory ≡ Device d → ⊥
-    never is = cc
 
 -- On an honest site.
 

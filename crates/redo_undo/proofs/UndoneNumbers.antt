@@ -41,9 +41,6 @@ module _ (o : Opening) (log : LogStore) (pages : PageStore) (site : State) (fron
   opened_end : blocks_to log ≡ kept_by o.newest + length o.blocks
   opened_end = let end = sealed_hi log (blocks_to log) h.ready.records.tail.end refl in let hi = h.ready.blocks.hi in let next = h.ready.records.blocks.next in omega (arith, end, hi, next)
 
-  opened_masters : hi_of master_shape site.image.log ≡ hi_of master_shape o.image.log
-  opened_masters = masters_same o.image site.image h.masters
-
 -- A touch while records are redone makes none, wherever it stops: no tail is sealed for it.
 module _ (laws : PageLaws) (redo : RedoLaws) (o : Opening) (log : LogStore) (pages : PageStore) (site : State) (front : List Entry) (h : IsRedoing o log pages site front) (sealing : Bool) (never : sealing ≡ false) (new : State) where
   pub skips_touch : {T E : Type 0} (r : Result T E) (log' : LogStore) (pages' : PageStore) → LeavesOnly site new (LeavesPages pages.flash.geometry (current pages site.image) sealing (record { first = kept_by o.newest; blocks = o.blocks; tail = [] }) site) →

@@ -15,6 +15,10 @@ use Rattle.site.specs.declared.outside.Stop.TheVariants.{Foreign}
 use Rattle.image_meaning.specs.Meaning.{AreOctetsSoundUnder, kept_by, saved_by}
 use Rattle.flash_cache.specs.Held.{groups_on}
 use Rattle.engine.proofs.Openings.{has_groups, first_on, there_is_newest, masters_form, kept_is, both_go_on, ready_now, err_again}
+use Rattle.std.specs.Prelude.{IsTrue}
+use Rattle.site.specs.Calls.{IsUnchanged}
+use Rattle.engine.proofs.restart.open.Given.{Over}
+use Rattle.engine.proofs.restart.open.Goals.{After-newest}
 use Rattle.engine.proofs.restart.open.Goals as goal
 
 pub returns-in-Err-start-clause-readable : goal.returns-in-Err-start-clause-readable
@@ -24,6 +28,23 @@ returns-in-Err-start-clause-readable g c honest newest blocks sound is =
     let k = c.args.geometry.now in
     let there = subst (AreOctetsSoundUnder newest k) (sym (c.start.ensures.same honest).image) sound.octets in
     c.in-Err-start.ensures.foreign (err_again c.in-Err-start.stop Foreign is) (stays_honest old mid c.start.ensures.goes honest) (first_on k mid.image) (groups_on k mid.image) (has_groups k mid.image there.groups) there.segments
+
+-- Behind all that it reads.
+module _ (g : Over) (c : After-newest g) (honest : IsTrue (g.S.Site.state c.args.site.now).honest) where
+  honest_mid : IsTrue (g.S.Site.state c.start.new.site).honest
+  honest_mid = stays_honest (g.S.Site.state c.args.site.now) (g.S.Site.state c.start.new.site) c.start.ensures.goes honest
+
+  honest_found : IsTrue (g.S.Site.state c.start-2.new.site).honest
+  honest_found = stays_honest (g.S.Site.state c.start.new.site) (g.S.Site.state c.start-2.new.site) c.start-2.ensures.goes honest_mid
+
+  unchanged : IsUnchanged (g.S.Site.state c.args.site.now) (g.S.Site.state c.newest.new.site)
+  unchanged = unchanged_in_sequence _ _ _ (c.start.ensures.same honest)
+      (unchanged_in_sequence _ _ _ (c.start-2.ensures.same honest_mid) (c.newest.ensures.same honest_found))
+
+  there : (newest : Option Master) → AreOctetsSoundUnder newest c.args.geometry.now (g.S.Site.state c.args.site.now).image →
+      AreOctetsSoundUnder newest c.args.geometry.now (g.S.Site.state c.start-2.new.site).image
+  there newest octets = subst (AreOctetsSoundUnder newest c.args.geometry.now)
+      (sym (c.start.ensures.same honest).image ∙ sym (c.start-2.ensures.same honest_mid).image) octets
 
 -- the newest master's kept block is live or the next one
 kept_lives : (newest : Option Master) (k : Geometry) (image : Image) (blocks : List (List LogRecord)) (log : LogStore) (m : Master) → IsSound newest k image blocks → m ≡ saved_by newest → log.ring.hi ≡ hi_of (log_shape k) image.log →
@@ -39,21 +60,22 @@ returns-in-Ok-keep_from-clause-ready g c honest newest blocks table commits soun
     let found = g.S.Site.state c.start-2.new.site in
     let new = g.S.Site.state c.newest.new.site in
     let k = c.args.geometry.now in
+    let s = (goal.at.returns-in-Ok-keep_from-clause-ready g c).After-newest in
     let same_first = c.start.ensures.same honest in
-    let honest_mid = stays_honest old mid c.start.ensures.goes honest in
-    let same_second = c.start-2.ensures.same honest_mid in
-    let honest_found = stays_honest mid found c.start-2.ensures.goes honest_mid in
-    let same_third = c.newest.ensures.same honest_found in
-    let there = subst (AreOctetsSoundUnder newest k) (sym same_first.image) sound.octets in
-    let there_found = subst (AreOctetsSoundUnder newest k) (sym same_second.image) there in
+    let honest_mid = honest_mid g s honest in
+    let honest_found = honest_found g s honest in
+    let there_mid = subst (AreOctetsSoundUnder newest k) (sym same_first.image) sound.octets in
+    let there_found = there g s honest newest sound.octets in
     let master = c.in-Ok-newest.master in
     let is = c.one_master.ensures.newest found.image master (saved_by newest) (c.in-Ok-newest.ensures.master honest_found) (there_is_newest newest k found.image there_found.masters) in
     let keeps = c.in-Ok-keep_from.ensures.keeps in
     let finds = subst (λ (log : LogStore). log_held.Finds log mid) (sym keeps) (record { honest = (c.in-Ok.ensures.found honest sound.held.form).honest; form = (c.in-Ok.ensures.found honest sound.held.form).form; hi = (c.in-Ok.ensures.found honest sound.held.form).hi }) in
     let held = c.in-Ok.ensures.holds honest (kept_by newest) blocks sound.held in
-    ready_now c.stays_beside.ensures.fits k c.keep_from.new.log c.in-Ok-start.pages old mid found new c.start.ensures.goes same_first c.start-2.ensures.goes same_second c.newest.ensures.goes same_third
+    ready_now c.stays_beside.ensures.fits k c.keep_from.new.log c.in-Ok-start.pages old mid found new c.start.ensures.goes same_first c.start-2.ensures.goes
+    (c.start-2.ensures.same honest_mid) c.newest.ensures.goes (c.newest.ensures.same honest_found)
     c.in-Ok-newest.masters master newest blocks table commits c.in-Ok-start.ensures.geometry c.in-Ok-start.ensures.empty (ap (λ (log : LogStore). log.kept) keeps) is
-    (c.in-Ok-start.ensures.fits honest_mid (first_on k mid.image) (groups_on k mid.image) (has_groups k mid.image there.groups) there.segments there.clean there.versions)
+    (c.in-Ok-start.ensures.fits honest_mid (first_on k mid.image) (groups_on k mid.image)
+    (has_groups k mid.image there_mid.groups) there_mid.segments there_mid.clean there_mid.versions)
     (c.in-Ok-newest.ensures.found honest_found (masters_form newest k found.image there_found.masters)) finds
     (subst (λ (log : LogStore). log_held.HasBlocks log.geometry (kept_by newest) blocks mid.image) (sym keeps) held.blocks)
     (subst (λ (log : LogStore). log_held.HasTail log.tail log.used []) (sym keeps) held.tail) sound means
@@ -78,32 +100,28 @@ returns-in-Ok-keep_from-clause-going g c = record {
 
 pub returns-in-Err-keep_from-clause-readable : goal.returns-in-Err-keep_from-clause-readable
 returns-in-Err-keep_from-clause-readable g c honest newest blocks sound is =
+    let s = (goal.at.returns-in-Err-keep_from-clause-readable g c).After-newest in
     let old = g.S.Site.state c.args.site.now in
-    let mid = g.S.Site.state c.start.new.site in
     let found = g.S.Site.state c.start-2.new.site in
     let k = c.args.geometry.now in
-    let same_first = c.start.ensures.same honest in
-    let honest_mid = stays_honest old mid c.start.ensures.goes honest in
-    let honest_found = stays_honest mid found c.start-2.ensures.goes honest_mid in
-    let there = subst (AreOctetsSoundUnder newest k) (sym (c.start-2.ensures.same honest_mid).image) (subst (AreOctetsSoundUnder newest k) (sym same_first.image) sound.octets) in
     let master = c.in-Ok-newest.master in
-    let master_is = c.one_master.ensures.newest found.image master (saved_by newest) (c.in-Ok-newest.ensures.master honest_found) (there_is_newest newest k found.image there.masters) in
-    let log = c.in-Ok.log in
-    let geometry = c.in-Ok.ensures.geometry in
+    let master_is = c.one_master.ensures.newest found.image master (saved_by newest) (c.in-Ok-newest.ensures.master (honest_found g s honest))
+    (there_is_newest newest k found.image (there g s honest newest sound.octets).masters) in
     let finds = c.in-Ok.ensures.found honest sound.held.form in
-    let hi : log.ring.hi ≡ hi_of (log_shape k) old.image.log = finds.hi ∙ ap (λ (x : Geometry). hi_of (log_shape x) mid.image.log) geometry ∙ ap (λ (i : Image). hi_of (log_shape k) i.log) same_first.image in
-    let lives = kept_lives newest k old.image blocks log master sound master_is hi c.in-Ok.ensures.kept in
+    let hi : c.in-Ok.log.ring.hi ≡ hi_of (log_shape k) old.image.log = finds.hi ∙ ap
+    (λ (x : Geometry). hi_of (log_shape x) (g.S.Site.state c.start.new.site).image.log) c.in-Ok.ensures.geometry ∙ ap (λ (i : Image). hi_of (log_shape k) i.log)
+    (c.start.ensures.same honest).image in
+    let lives = kept_lives newest k old.image blocks c.in-Ok.log master sound master_is hi c.in-Ok.ensures.kept in
     c.in-Err-keep_from.ensures.live lives.0 lives.1
 
 pub returns-in-Err-newest-clause-readable : goal.returns-in-Err-newest-clause-readable
 returns-in-Err-newest-clause-readable g c honest newest blocks sound is =
-    let mid = g.S.Site.state c.start.new.site in
+    let s = (goal.at.returns-in-Err-newest-clause-readable g c).After-newest in
     let found = g.S.Site.state c.start-2.new.site in
     let k = c.args.geometry.now in
-    let honest_mid = stays_honest (g.S.Site.state c.args.site.now) mid c.start.ensures.goes honest in
-    let honest_found = stays_honest mid found c.start-2.ensures.goes honest_mid in
-    let there = subst (AreOctetsSoundUnder newest k) (sym (c.start-2.ensures.same honest_mid).image) (subst (AreOctetsSoundUnder newest k) (sym (c.start.ensures.same honest).image) sound.octets) in
-    c.in-Err-newest.ensures.foreign (err_again c.in-Err-newest.stop Foreign is) honest_found (masters_form newest k found.image there.masters) (saved_by newest) (there_is_newest newest k found.image there.masters)
+    let masters = (there g s honest newest sound.octets).masters in
+    c.in-Err-newest.ensures.foreign (err_again c.in-Err-newest.stop Foreign is) (honest_found g s honest) (masters_form newest k found.image masters)
+    (saved_by newest) (there_is_newest newest k found.image masters)
 
 pub returns-in-Ok-keep_from-clause-cache : goal.returns-in-Ok-keep_from-clause-cache
 returns-in-Ok-keep_from-clause-cache g c honest newest blocks sound =
@@ -145,34 +163,13 @@ pub returns-in-Err-keep_from-clause-disk_reads : goal.returns-in-Err-keep_from-c
 returns-in-Err-keep_from-clause-disk_reads g c = c.newest.ensures.others Disk (λ e. cc) ∙ c.start-2.ensures.others Disk (λ e. cc) ∙ c.start.ensures.others Disk (λ e. cc)
 
 pub returns-in-Ok-keep_from-clause-same : goal.returns-in-Ok-keep_from-clause-same
-returns-in-Ok-keep_from-clause-same g c honest =
-    let old = g.S.Site.state c.args.site.now in
-    let mid = g.S.Site.state c.start.new.site in
-    let found = g.S.Site.state c.start-2.new.site in
-    let new = g.S.Site.state c.newest.new.site in
-    let honest_mid = stays_honest old mid c.start.ensures.goes honest in
-    let honest_found = stays_honest mid found c.start-2.ensures.goes honest_mid in
-    unchanged_in_sequence old mid new (c.start.ensures.same honest) (unchanged_in_sequence mid found new (c.start-2.ensures.same honest_mid) (c.newest.ensures.same honest_found))
+returns-in-Ok-keep_from-clause-same g c honest = unchanged g (goal.at.returns-in-Ok-keep_from-clause-same g c).After-newest honest
 
 pub returns-in-Err-keep_from-clause-same : goal.returns-in-Err-keep_from-clause-same
-returns-in-Err-keep_from-clause-same g c honest =
-    let old = g.S.Site.state c.args.site.now in
-    let mid = g.S.Site.state c.start.new.site in
-    let found = g.S.Site.state c.start-2.new.site in
-    let new = g.S.Site.state c.newest.new.site in
-    let honest_mid = stays_honest old mid c.start.ensures.goes honest in
-    let honest_found = stays_honest mid found c.start-2.ensures.goes honest_mid in
-    unchanged_in_sequence old mid new (c.start.ensures.same honest) (unchanged_in_sequence mid found new (c.start-2.ensures.same honest_mid) (c.newest.ensures.same honest_found))
+returns-in-Err-keep_from-clause-same g c honest = unchanged g (goal.at.returns-in-Err-keep_from-clause-same g c).After-newest honest
 
 pub returns-in-Err-newest-clause-same : goal.returns-in-Err-newest-clause-same
-returns-in-Err-newest-clause-same g c honest =
-    let old = g.S.Site.state c.args.site.now in
-    let mid = g.S.Site.state c.start.new.site in
-    let found = g.S.Site.state c.start-2.new.site in
-    let new = g.S.Site.state c.newest.new.site in
-    let honest_mid = stays_honest old mid c.start.ensures.goes honest in
-    let honest_found = stays_honest mid found c.start-2.ensures.goes honest_mid in
-    unchanged_in_sequence old mid new (c.start.ensures.same honest) (unchanged_in_sequence mid found new (c.start-2.ensures.same honest_mid) (c.newest.ensures.same honest_found))
+returns-in-Err-newest-clause-same g c honest = unchanged g (goal.at.returns-in-Err-newest-clause-same g c).After-newest honest
 
 pub returns-in-Err-keep_from-clause-goes : goal.returns-in-Err-keep_from-clause-goes
 returns-in-Err-keep_from-clause-goes g c = goes_in_sequence _ _ _ c.start.ensures.goes (goes_in_sequence _ _ _ c.start-2.ensures.goes c.newest.ensures.goes)

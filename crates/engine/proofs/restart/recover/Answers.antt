@@ -1,7 +1,17 @@
-use Rattle.std.proofs.Common.{◌≡◌, ◌∙◌, ◌++◌, Err, List, false, ap, sym, subst, arith, ◌≤◌, refl, ℕ}
+use Rattle.std.proofs.Common.{◌≡◌, ◌∙◌, ◌++◌, Err, List, [], false, ap, sym, subst, arith, ◌≤◌, refl, ℕ}
 use Rattle.site.specs.declared.geometry.Geometry.{Geometry}
 use Rattle.site.specs.declared.outside.Stop.TheVariants.{Foreign}
-use Rattle.site.specs.State.{IsQuiet}
+use Rattle.site.specs.State.{IsQuiet, State}
+use Rattle.site.specs.declared.outside.Stop.{Stop}
+use Rattle.checkpoint.specs.declared.master.Master.{Master}
+use Rattle.record_model.specs.State.{Content}
+use Rattle.log_records.specs.declared.log_record.LogRecord.{LogRecord}
+use Rattle.log_records.specs.Unfinished.{owed}
+use Rattle.log_records.specs.Sound.{Picture}
+use Rattle.redo_undo.specs.Numbers.{SkipsNone}
+use Rattle.redo_undo.specs.declared.store.Store.{Store}
+use Rattle.engine.specs.declared.restart.Restarted.{Restarted}
+use Rattle.engine.specs.Restarting.{IsReady, RestartedAs}
 use Rattle.log_store.specs.Held.{has_tail}
 use Rattle.page_store.specs.Caching.{rules}
 use Rattle.checkpoint.specs.declared.pairs.Pair.{Pair}
@@ -23,11 +33,13 @@ use Rattle.site.specs.Work.{Calls}
 use Rattle.engine.proofs.Recovers.{no_tail_still, owed_found, commits_fit, commits_found, may_be_made, restarted_as}
 use Rattle.engine.proofs.RingCounts.{opened_next, restart_failed, restart_done}
 use Rattle.redo_undo.proofs.RingNumbers.{skips_on, then_skips}
-use Rattle.std.specs.Prelude.{Ok}
+use Rattle.std.specs.Prelude.{Ok, OnOk, Option, Result}
 use Rattle.analysis.specs.Open.{owed_for}
 use Rattle.analysis.specs.Table.{listed}
 use Rattle.site.proofs.Working.{calls_then, calls_failed, calls_answered, calls_refused, err_again}
 use Rattle.redo_undo.proofs.Asking.{asks_then, asks_stopped}
+use Rattle.engine.proofs.restart.recover.Given.{Over}
+use Rattle.engine.proofs.restart.recover.Goals.{After-checkpoint}
 use Rattle.engine.proofs.restart.recover.Goals as goal
 
 pub returns-in-Err-clause-recovers : goal.returns-in-Err-clause-recovers
@@ -110,8 +122,6 @@ returns-in-Err-undo_all-clause-recovers g c newest blocks table commits h =
 pub returns-then-commits-sealed_end-clause-recovers : goal.returns-then-commits-sealed_end-clause-recovers
 returns-then-commits-sealed_end-clause-recovers g c newest blocks table commits h =
     let old = g.S.Site.state c.args.site.now in
-    let mid = g.S.Site.state c.redo.new.site in
-    let k = c.args.opened.pages.flash.geometry in
     let records = log_under newest blocks in
     let holds = c.in-Ok.ensures.holds newest blocks table commits h.master h.opened_is in
     let read = c.in-Ok.ensures.unfinished newest blocks table commits h.master h.opened_is in
@@ -123,109 +133,107 @@ returns-then-commits-sealed_end-clause-recovers g c newest blocks table commits 
     let few = commits_fit c.undo_all.new.log c.undo_all.new.pages und newest (records ++ undone.more) table commits undone.holds in
     absurd (omega (arith, found, few, c.sealed_end-2.ensures, c.undo_all.ensures.commits, c.commits-commits.ensures.commits, c.if-commits-sealed_end.true))
 
+-- two things that hold of what was answered
+on_both : {T E : Type 0} (r : Result T E) {P R Q : Type 0} → OnOk r P → OnOk r R → (P → R → Q) → OnOk r Q
+on_both (Ok x) p q f = f p q
+on_both (Err e) p q f = tt
+
+-- Behind undo a checkpoint is made, however that ends.
+module _ (g : Over) (c : After-checkpoint g) (newest : Option Master) (blocks : List (List LogRecord)) (table : List Content) (commits : ℕ)
+    (h : IsReady c.args.opened (g.S.Site.state c.args.site.now) newest blocks table commits) where
+  abbrev old : State
+  old = g.S.Site.state c.args.site.now
+
+  abbrev new : State
+  new = g.S.Site.state c.checkpoint.new.site
+
+  abbrev k : Geometry
+  k = c.args.opened.pages.flash.geometry
+
+  abbrev p : Picture
+  p = picture_under newest k old.image blocks
+
+  abbrev Behind : Result (Unit {0}) Stop → Type 0
+  Behind r = Ends r k old new (LeavesTable k table commits old.told)
+      × (IsQuiet old → SkipsNone r k c.args.opened.log c.checkpoint.new.self.log old new (owed (log_under newest blocks)) 1)
+      × Asks r ((redo_works p ++ undo_works p.log) ++ checkpoint_works) c.args.opened.pages c.checkpoint.new.self.pages old new
+      × ((x : Restarted) → x.store ≡ c.checkpoint.new.self → x.commits ≡ c.commits-commits.result → OnOk r (RestartedAs x new table commits))
+
+  behind : (r : Result (Unit {0}) Stop) → c.checkpoint.result ≡ r → Behind r
+  behind r result =
+      let mid = g.S.Site.state c.redo.new.site in
+      let records = log_under newest blocks in
+      let holds = c.in-Ok.ensures.holds newest blocks table commits h.master h.opened_is in
+      let read = c.in-Ok.ensures.unfinished newest blocks table commits h.master h.opened_is in
+      let none : has_tail c.redo.new.log ≡ false = no_tail_still c.args.opened.log c.redo.new.log c.requires.empty c.in-Ok.ensures.blocks c.in-Ok.ensures.rises in
+      let owes = owed_found c.recovery_laws.ensures.one c.recovery_laws.ensures.unfinished c.recovery_laws.ensures.owed newest k old.image blocks c.in-Ok.redone.found h.opened_is.sound read in
+      let n = owed_for (listed c.in-Ok.redone.found.table) in
+      let und = g.S.Site.state c.undo_all.new.site in
+      let calm = c.in-Ok.ensures.works.calls.stays_quiet h.opened_is.ready.blocks.honest in
+      let first : Ends {T = Redone} (Ok c.in-Ok.redone) k old mid (LeavesTable k table commits old.told) = ends_ok (λ quiet. under_leaves_for newest _ _ _ table commits _ ((c.redo.ensures.keeps newest blocks table commits h.master h.opened_is).any_moment quiet)) in
+      let undone = c.in-Ok-undo_all.ensures.undone newest records table commits none holds read in
+      let bounded = c.requires.may.going.log_going.usable.bounded in
+      let found = commits_found c.recovery_laws.ensures.commits c.args.opened old newest blocks table commits c.in-Ok.redone.found h (c.in-Ok.ensures.read newest blocks table commits h.master h.opened_is) bounded in
+      let all = records ++ undone.more in
+      let counted : c.commits-commits.result ≡ commits = c.commits-commits.ensures.commits ∙ c.undo_all.ensures.commits ∙ found in
+      let held = subst (both.Holds c.undo_all.new.log c.undo_all.new.pages und newest all table) (sym counted) undone.holds in
+      let ring = finds_kept c.args.opened.masters old mid c.requires.may.shape ((c.in-Ok.ensures.keeps newest blocks table commits h.master h.opened_is).masters refl) h.masters in
+      let stands = finds_kept c.args.opened.masters mid und c.requires.may.shape ((c.in-Ok-undo_all.ensures.keeps newest records table commits none holds read).masters refl) ring in
+      let may = may_be_made c.args.opened.masters und all c.new.result stands undone.none c.new.ensures in
+      let k' = c.undo_all.new.pages.flash.geometry in
+      let same = c.undo_all.ensures.works.geometry ∙ c.redo.ensures.works.geometry in
+      let calm_und : IsQuiet old → IsQuiet und = λ quiet. c.in-Ok-undo_all.ensures.works.calls.stays_quiet holds.log_holds.ready.blocks.honest (calm quiet) in
+      let keeps = c.checkpoint.ensures.keeps newest all table held may in
+      let second : Ends {T = Unit {0}} (Ok c.in-Ok-undo_all.field-0) c.redo.new.pages.flash.geometry mid und (LeavesTable c.redo.new.pages.flash.geometry table commits mid.told) = ends_ok (λ quiet. under_leaves_for newest _ _ _ table commits _ ((c.undo_all.ensures.keeps newest records table commits none holds read).any_moment quiet)) in
+      let third = subst (λ (i : ℕ). Ends c.checkpoint.result k' und new (LeavesTable k' table i und.told)) counted (ends_of keeps) in
+      let skips : IsQuiet old → SkipsNone c.checkpoint.result k c.args.opened.log c.checkpoint.new.self.log old new (owed records) 1 = λ quiet.
+      let mine = skips_on (Ok c.in-Ok-undo_all.field-0) c.redo.new.pages.flash.geometry k c.redo.new.log c.undo_all.new.log mid und n 0 c.redo.ensures.works.geometry ((c.in-Ok-undo_all.ensures.keeps newest records table commits none holds read).numbers (calm quiet)) in
+      let two = then_skips (Ok c.in-Ok-undo_all.field-0) c.in-Ok.redone k c.args.opened.log c.redo.new.log c.undo_all.new.log old mid und 0 0 n 0 n 0 ((c.in-Ok.ensures.keeps newest blocks table commits h.master h.opened_is).numbers quiet) mine (omega arith) (omega arith) in
+      let last = skips_on c.checkpoint.result k' k c.undo_all.new.log c.checkpoint.new.self.log und new 0 1 same (keeps.numbers (calm_und quiet)) in
+      then_skips c.checkpoint.result c.in-Ok-undo_all.field-0 k c.args.opened.log c.undo_all.new.log c.checkpoint.new.self.log old und new n 0 0 1
+      (owed records) 1 two last (omega (arith, owes)) (omega arith) in
+      let two = asks_then c.in-Ok.redone _ (redo_works p) (undo_works p.log) _ _ _ old mid und (c.in-Ok.ensures.asks newest blocks table commits h.master h.opened_is) (c.in-Ok-undo_all.ensures.asks newest records table commits none holds read) in
+      let asks = asks_then c.in-Ok-undo_all.field-0 c.checkpoint.result
+      (redo_works p ++ undo_works p.log) checkpoint_works _ _ _ old und new two c.checkpoint.ensures.asks in
+      let named = subst (λ (n : ℕ). OnOk c.checkpoint.result (HasCheckpoint c.checkpoint.new.self new all table n c.new.result)) counted
+      (c.checkpoint.ensures.checkpoint newest all table held may) in
+      let empty = subst (λ (active : List Pair). OnOk c.checkpoint.result (HasCheckpoint c.checkpoint.new.self new all table commits active)) c.new.ensures
+      named in
+      let restarted : (x : Restarted) → x.store ≡ c.checkpoint.new.self → x.commits ≡ c.commits-commits.result → OnOk c.checkpoint.result
+      (RestartedAs x new table commits) = λ x store are.
+      on_both c.checkpoint.result empty c.checkpoint.ensures.made (λ checkpoint made. restarted_as x new all table commits 0 undone.none
+      (subst (λ (y : Store). HasCheckpoint y new all table commits []) (sym store) checkpoint)
+      (let same = ap (λ (y : Store). y.made) store in omega (arith, same, made)) (are ∙ counted)) in
+      subst Behind result (ends_then calm_und same (ends_then calm c.redo.ensures.works.geometry first second) third, skips, asks, restarted)
+
 pub returns-in-Ok-checkpoint-clause-recovers : goal.returns-in-Ok-checkpoint-clause-recovers
 returns-in-Ok-checkpoint-clause-recovers g c newest blocks table commits h =
     let old = g.S.Site.state c.args.site.now in
-    let mid = g.S.Site.state c.redo.new.site in
-    let k = c.args.opened.pages.flash.geometry in
-    let p = picture_under newest k old.image blocks in
+    let s = (goal.at.returns-in-Ok-checkpoint-clause-recovers g c).After-checkpoint in
+    let behind = behind g s newest blocks table commits h (Ok c.in-Ok-checkpoint.field-0) c.in-Ok-checkpoint.is in
     let next = opened_next c.args.opened old newest blocks table commits h c.requires.may.going.sizes c.requires.empty in
-    let some : 1 ≤ (rules c.args.opened.pages).groups = (let least = c.requires.may.going.pages_going.flash.limits.groups in omega (arith, least)) in
-    let records = log_under newest blocks in
-    let holds = c.in-Ok.ensures.holds newest blocks table commits h.master h.opened_is in
-    let read = c.in-Ok.ensures.unfinished newest blocks table commits h.master h.opened_is in
-    let none : has_tail c.redo.new.log ≡ false = no_tail_still c.args.opened.log c.redo.new.log c.requires.empty c.in-Ok.ensures.blocks c.in-Ok.ensures.rises in
-    let owes = owed_found c.recovery_laws.ensures.one c.recovery_laws.ensures.unfinished c.recovery_laws.ensures.owed newest k old.image blocks c.in-Ok.redone.found h.opened_is.sound read in
-    let n = owed_for (listed c.in-Ok.redone.found.table) in
-    let und = g.S.Site.state c.undo_all.new.site in
-    let calm = c.in-Ok.ensures.works.calls.stays_quiet h.opened_is.ready.blocks.honest in
-    let first : Ends {T = Redone} (Ok c.in-Ok.redone) k old mid (LeavesTable k table commits old.told) = ends_ok (λ quiet. under_leaves_for newest _ _ _ table commits _ ((c.redo.ensures.keeps newest blocks table commits h.master h.opened_is).any_moment quiet)) in
-    let undone = c.in-Ok-undo_all.ensures.undone newest records table commits none holds read in
-    let bounded = c.requires.may.going.log_going.usable.bounded in
-    let found = commits_found c.recovery_laws.ensures.commits c.args.opened old newest blocks table commits c.in-Ok.redone.found h (c.in-Ok.ensures.read newest blocks table commits h.master h.opened_is) bounded in
-    let all = records ++ undone.more in
-    let new = g.S.Site.state c.checkpoint.new.site in
-    let counted : c.commits-commits.result ≡ commits = c.commits-commits.ensures.commits ∙ c.undo_all.ensures.commits ∙ found in
-    let held = subst (both.Holds c.undo_all.new.log c.undo_all.new.pages und newest all table) (sym counted) undone.holds in
-    let ring = finds_kept c.args.opened.masters old mid c.requires.may.shape ((c.in-Ok.ensures.keeps newest blocks table commits h.master h.opened_is).masters refl) h.masters in
-    let stands = finds_kept c.args.opened.masters mid und c.requires.may.shape ((c.in-Ok-undo_all.ensures.keeps newest records table commits none holds read).masters refl) ring in
-    let may = may_be_made c.args.opened.masters und all c.new.result stands undone.none c.new.ensures in
-    let k' = c.undo_all.new.pages.flash.geometry in
-    let same = c.undo_all.ensures.works.geometry ∙ c.redo.ensures.works.geometry in
-    let calm_und : IsQuiet old → IsQuiet und = λ quiet. c.in-Ok-undo_all.ensures.works.calls.stays_quiet holds.log_holds.ready.blocks.honest (calm quiet) in
-    let keeps = c.in-Ok-checkpoint.ensures.keeps newest all table held may in
-    let second : Ends {T = Unit {0}} (Ok c.in-Ok-undo_all.field-0) c.redo.new.pages.flash.geometry mid und (LeavesTable c.redo.new.pages.flash.geometry table commits mid.told) = ends_ok (λ quiet. under_leaves_for newest _ _ _ table commits _ ((c.undo_all.ensures.keeps newest records table commits none holds read).any_moment quiet)) in
-    let third = subst (λ (i : ℕ). Ends {T = Unit {0}} (Ok c.in-Ok-checkpoint.field-0) k' und new (LeavesTable k' table i und.told)) counted (ends_of keeps) in
     record {
-      restarted =
-          let checkpoint = subst (λ (active : List Pair). HasCheckpoint c.checkpoint.new.self new all table commits active) c.new.ensures
-          (subst (λ (n : ℕ). HasCheckpoint c.checkpoint.new.self new all table n c.new.result) counted (c.in-Ok-checkpoint.ensures.checkpoint newest all table held may)) in
-          restarted_as _ new all table commits _ undone.none checkpoint c.in-Ok-checkpoint.ensures.made counted;
-      ends = ends_answered (ends_then calm_und same (ends_then calm c.redo.ensures.works.geometry first second) third);
-      numbers = λ quiet.
-          let mine = skips_on (Ok c.in-Ok-undo_all.field-0) c.redo.new.pages.flash.geometry k c.redo.new.log c.undo_all.new.log mid und n 0 c.redo.ensures.works.geometry ((c.in-Ok-undo_all.ensures.keeps newest records table commits none holds read).numbers (calm quiet)) in
-          let two = then_skips (Ok c.in-Ok-undo_all.field-0) c.in-Ok.redone k c.args.opened.log c.redo.new.log c.undo_all.new.log old mid und 0 0 n 0 n 0 ((c.in-Ok.ensures.keeps newest blocks table commits h.master h.opened_is).numbers quiet) mine (omega arith) (omega arith) in
-          let last = skips_on (Ok c.in-Ok-checkpoint.field-0) k' k c.undo_all.new.log c.checkpoint.new.self.log und new 0 1 same (keeps.numbers (calm_und quiet)) in
-          let three = then_skips (Ok c.in-Ok-checkpoint.field-0) c.in-Ok-undo_all.field-0 k c.args.opened.log c.undo_all.new.log c.checkpoint.new.self.log old und new n 0 0 1 n 1 two last (omega arith) (omega arith) in
-          restart_done c.in-Ok-checkpoint.field-0 _ _ k records c.args.opened.log c.checkpoint.new.self.log old new n next (omega (arith, owes)) refl three;
-      asks =
-          let two = asks_then c.in-Ok.redone _ (redo_works p) (undo_works p.log) _ _ _ old mid und (c.in-Ok.ensures.asks newest blocks table commits h.master h.opened_is) (c.in-Ok-undo_all.ensures.asks newest records table commits none holds read) in
-          let all = asks_then c.in-Ok-undo_all.field-0 _ (redo_works p ++ undo_works p.log) checkpoint_works _ _ _ old und new two c.in-Ok-checkpoint.ensures.asks in
-          from_ok c.in-Ok-checkpoint.field-0 _ _ (redo_works p ++ undo_works p.log ++ checkpoint_works) _ _ _ _ _ refl (λ dev. refl) all;
-      writes =
-          let two = asks_then c.in-Ok.redone _ (redo_works p) (undo_works p.log) _ _ _ old mid und (c.in-Ok.ensures.asks newest blocks table commits h.master h.opened_is) (c.in-Ok-undo_all.ensures.asks newest records table commits none holds read) in
-          (asks_then c.in-Ok-undo_all.field-0 _ (redo_works p ++ undo_works p.log) checkpoint_works _ _ _ old und new two c.in-Ok-checkpoint.ensures.asks).stages.writes (fits_queue c.args.opened.pages old c.requires.may.going.pages_going h.opened_is.ready.pages);
+      restarted = behind.3 _ refl refl;
+      ends = ends_answered behind.0;
+      numbers = λ quiet. restart_done c.in-Ok-checkpoint.field-0 _ _ _ _ c.args.opened.log c.checkpoint.new.self.log _ _ _ next (omega arith) refl
+          (behind.1 quiet);
+      asks = from_ok c.in-Ok-checkpoint.field-0 _ _ _ _ _ _ _ _ refl (λ dev. refl) behind.2;
+      writes = behind.2.stages.writes (fits_queue c.args.opened.pages old c.requires.may.going.pages_going h.opened_is.ready.pages);
     }
 
 pub returns-clause-recovers : goal.returns-clause-recovers
 returns-clause-recovers g c newest blocks table commits h =
     let old = g.S.Site.state c.args.site.now in
-    let mid = g.S.Site.state c.redo.new.site in
-    let k = c.args.opened.pages.flash.geometry in
-    let p = picture_under newest k old.image blocks in
+    let s = (goal.at.returns-clause-recovers g c).After-checkpoint in
+    let behind = behind g s newest blocks table commits h (Err c.in-Err-checkpoint.stop) c.in-Err-checkpoint.is in
     let next = opened_next c.args.opened old newest blocks table commits h c.requires.may.going.sizes c.requires.empty in
-    let some : 1 ≤ (rules c.args.opened.pages).groups = (let least = c.requires.may.going.pages_going.flash.limits.groups in omega (arith, least)) in
-    let records = log_under newest blocks in
-    let holds = c.in-Ok.ensures.holds newest blocks table commits h.master h.opened_is in
-    let read = c.in-Ok.ensures.unfinished newest blocks table commits h.master h.opened_is in
-    let none : has_tail c.redo.new.log ≡ false = no_tail_still c.args.opened.log c.redo.new.log c.requires.empty c.in-Ok.ensures.blocks c.in-Ok.ensures.rises in
-    let owes = owed_found c.recovery_laws.ensures.one c.recovery_laws.ensures.unfinished c.recovery_laws.ensures.owed newest k old.image blocks c.in-Ok.redone.found h.opened_is.sound read in
-    let n = owed_for (listed c.in-Ok.redone.found.table) in
-    let und = g.S.Site.state c.undo_all.new.site in
-    let calm = c.in-Ok.ensures.works.calls.stays_quiet h.opened_is.ready.blocks.honest in
-    let first : Ends {T = Redone} (Ok c.in-Ok.redone) k old mid (LeavesTable k table commits old.told) = ends_ok (λ quiet. under_leaves_for newest _ _ _ table commits _ ((c.redo.ensures.keeps newest blocks table commits h.master h.opened_is).any_moment quiet)) in
-    let undone = c.in-Ok-undo_all.ensures.undone newest records table commits none holds read in
-    let bounded = c.requires.may.going.log_going.usable.bounded in
-    let found = commits_found c.recovery_laws.ensures.commits c.args.opened old newest blocks table commits c.in-Ok.redone.found h (c.in-Ok.ensures.read newest blocks table commits h.master h.opened_is) bounded in
-    let all = records ++ undone.more in
-    let new = g.S.Site.state c.checkpoint.new.site in
-    let counted : c.commits-commits.result ≡ commits = c.commits-commits.ensures.commits ∙ c.undo_all.ensures.commits ∙ found in
-    let held = subst (both.Holds c.undo_all.new.log c.undo_all.new.pages und newest all table) (sym counted) undone.holds in
-    let ring = finds_kept c.args.opened.masters old mid c.requires.may.shape ((c.in-Ok.ensures.keeps newest blocks table commits h.master h.opened_is).masters refl) h.masters in
-    let stands = finds_kept c.args.opened.masters mid und c.requires.may.shape ((c.in-Ok-undo_all.ensures.keeps newest records table commits none holds read).masters refl) ring in
-    let may = may_be_made c.args.opened.masters und all c.new.result stands undone.none c.new.ensures in
-    let k' = c.undo_all.new.pages.flash.geometry in
-    let same = c.undo_all.ensures.works.geometry ∙ c.redo.ensures.works.geometry in
-    let calm_und : IsQuiet old → IsQuiet und = λ quiet. c.in-Ok-undo_all.ensures.works.calls.stays_quiet holds.log_holds.ready.blocks.honest (calm quiet) in
-    let keeps = c.in-Err-checkpoint.ensures.keeps newest all table held may in
-    let second : Ends {T = Unit {0}} (Ok c.in-Ok-undo_all.field-0) c.redo.new.pages.flash.geometry mid und (LeavesTable c.redo.new.pages.flash.geometry table commits mid.told) = ends_ok (λ quiet. under_leaves_for newest _ _ _ table commits _ ((c.undo_all.ensures.keeps newest records table commits none holds read).any_moment quiet)) in
-    let third = subst (λ (i : ℕ). Ends {T = Unit {0}} (Err c.in-Err-checkpoint.stop) k' und new (LeavesTable k' table i und.told)) counted (ends_of keeps) in
     record {
       restarted = tt;
-      ends = ends_failed (ends_then calm_und same (ends_then calm c.redo.ensures.works.geometry first second) third);
-      numbers = λ quiet.
-          let mine = skips_on (Ok c.in-Ok-undo_all.field-0) c.redo.new.pages.flash.geometry k c.redo.new.log c.undo_all.new.log mid und n 0 c.redo.ensures.works.geometry ((c.in-Ok-undo_all.ensures.keeps newest records table commits none holds read).numbers (calm quiet)) in
-          let two = then_skips (Ok c.in-Ok-undo_all.field-0) c.in-Ok.redone k c.args.opened.log c.redo.new.log c.undo_all.new.log old mid und 0 0 n 0 n 0 ((c.in-Ok.ensures.keeps newest blocks table commits h.master h.opened_is).numbers quiet) mine (omega arith) (omega arith) in
-          let last = skips_on (Err c.in-Err-checkpoint.stop) k' k c.undo_all.new.log c.checkpoint.new.self.log und new 0 1 same (keeps.numbers (calm_und quiet)) in
-          let three = then_skips (Err c.in-Err-checkpoint.stop) c.in-Ok-undo_all.field-0 k c.args.opened.log c.undo_all.new.log c.checkpoint.new.self.log old und new n 0 0 1 n 1 two last (omega arith) (omega arith) in
-          restart_failed c.in-Err-checkpoint.stop _ k records c.args.opened.log c.checkpoint.new.self.log old new n 1 next (omega (arith, owes)) (omega arith) three;
-      asks =
-          let two = asks_then c.in-Ok.redone _ (redo_works p) (undo_works p.log) _ _ _ old mid und (c.in-Ok.ensures.asks newest blocks table commits h.master h.opened_is) (c.in-Ok-undo_all.ensures.asks newest records table commits none holds read) in
-          let all = asks_then c.in-Ok-undo_all.field-0 _ (redo_works p ++ undo_works p.log) checkpoint_works _ _ _ old und new two c.in-Err-checkpoint.ensures.asks in
-          from_err c.in-Err-checkpoint.stop _ (redo_works p ++ undo_works p.log ++ checkpoint_works) _ _ _ _ all;
-      writes =
-          let two = asks_then c.in-Ok.redone _ (redo_works p) (undo_works p.log) _ _ _ old mid und (c.in-Ok.ensures.asks newest blocks table commits h.master h.opened_is) (c.in-Ok-undo_all.ensures.asks newest records table commits none holds read) in
-          (asks_then c.in-Ok-undo_all.field-0 _ (redo_works p ++ undo_works p.log) checkpoint_works _ _ _ old und new two c.in-Err-checkpoint.ensures.asks).stages.writes (fits_queue c.args.opened.pages old c.requires.may.going.pages_going h.opened_is.ready.pages);
+      ends = ends_failed behind.0;
+      numbers = λ quiet. restart_failed c.in-Err-checkpoint.stop _ _ _ c.args.opened.log c.checkpoint.new.self.log _ _ _ 1 next (omega arith) (omega arith)
+          (behind.1 quiet);
+      asks = from_err c.in-Err-checkpoint.stop _ _ _ _ _ _ behind.2;
+      writes = behind.2.stages.writes (fits_queue c.args.opened.pages old c.requires.may.going.pages_going h.opened_is.ready.pages);
     }
 
 pub returns-in-Ok-checkpoint-clause-restarts : goal.returns-in-Ok-checkpoint-clause-restarts

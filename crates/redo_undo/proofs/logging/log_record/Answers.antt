@@ -40,7 +40,7 @@ module _ (g : Over) (c : After-append g) where
   numbered : IfOk c.append.result (λ lsn. IsNumbered c.args.log.now c.append.new.self lsn (overflows c.args.log.now c.args.rec.now))
   numbered = if_ok_three c.append.result _ (λ lsn. lsn ≡ next_lsn c.args.log.now c.args.rec.now)
       (λ lsn. (end_of c.args.log.now ≤ lsn) × (lsn < end_of c.append.new.self)) _
-      (λ lsn next lsn_is rises. record { lsn_is = lsn_is; next = next; below = rises.1; low = c.requires.going.low; high = c.append.ensures.going.high })
+      (λ lsn next lsn_is rises. record { lsn_is = lsn_is; next = next; below = rises.1; low = c.requires.going.low })
       c.append.ensures.next c.append.ensures.lsn c.append.ensures.rises
 
 module _ (g : Over) (c : After-append g) (pages : PageStore) (newest : Option Master) (records : List Entry) (table : List Content) (commits : ℕ)

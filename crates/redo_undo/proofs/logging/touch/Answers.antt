@@ -1,8 +1,9 @@
-use Rattle.std.proofs.Common.{◌≤◌, Bool, false, [], arith, ◌∙◌, inl, List}
+use Rattle.std.proofs.Common.{Bool, false, [], arith, ◌∙◌, inl, List}
 use Rattle.std.specs.Prelude.{◌≡◌, OnOk}
 use Rattle.page_store.specs.Ahead.{forces, pushed_by_touch}
 use Rattle.log_store.specs.LogList.{LogList}
 use Rattle.redo_undo.specs.Redoing.{IsRedoing, Opening}
+use Rattle.redo_undo.proofs.Sames.{some_group}
 use Rattle.redo_undo.proofs.Redoings.{never_forced, rings_given, rings_of, touch_leaves, touched}
 use Rattle.record_model.specs.Touches.{touch}
 use Rattle.page_store.proofs.StagingLaws.{stages_as}
@@ -48,7 +49,6 @@ returns g c =
     let pages = c.args.pages.now in
     let sealing : Bool = forces log (pushed_by_touch pages c.args.page) in
     let k = pages.flash.geometry in
-    let some : 1 ≤ (rules pages).groups = omega (arith, c.requires.going.pages_going.flash.limits.groups) in
     let tail = forced_tail log (pushed_by_touch pages c.args.page) in
     record {
       holds = λ newest records table commits h.
@@ -90,9 +90,9 @@ returns g c =
           let new = c.touch.new.self in
           record {
             machine = c.touch.ensures.machine;
-            worn = λ is. (let full = c.touch.ensures.worn.worn_flash is in touch_overflows (rules pages) c.args.page (cache_of pages) some full.0 (c.requires.going.pages_going.flash.next ∙ full.1));
-            reads = touch_reads (rules pages) c.args.page (cache_of pages) (g.S.Site.state c.args.site.now) (g.S.Site.state c.touch.new.site) some c.touch.ensures.flash_reads c.touch.ensures.disk_reads;
-            stages = stages_as (sym (append-nil (staged_by (rules pages) (touch c.args.page false) (cache_of pages)))) (sym (touched_next (rules pages) c.args.page false (cache_of pages) some)) c.touch.ensures.stages;
+            worn = λ is. (let full = c.touch.ensures.worn.worn_flash is in touch_overflows (rules pages) c.args.page (cache_of pages) (some_group c.requires.going) full.0 (c.requires.going.pages_going.flash.next ∙ full.1));
+            reads = touch_reads (rules pages) c.args.page (cache_of pages) (g.S.Site.state c.args.site.now) (g.S.Site.state c.touch.new.site) (some_group c.requires.going) c.touch.ensures.flash_reads c.touch.ensures.disk_reads;
+            stages = stages_as (sym (append-nil (staged_by (rules pages) (touch c.args.page false) (cache_of pages)))) (sym (touched_next (rules pages) c.args.page false (cache_of pages) (some_group c.requires.going))) c.touch.ensures.stages;
             rules_are = (λ i. rules_of (c.touch.ensures.works.size i) (c.touch.ensures.works.geometry i).groups);
           };
       front = search rules;

@@ -1,14 +1,13 @@
-use Rattle.std.proofs.Common.{◌≡◌, ◌≤◌, ◌+◌, ◌<◌, List, [], length, take, drop, suc, Err, refl, sym, subst, ◌∙◌, arith, ◌-◌, inl, ◌⊎◌, ℕ}
+use Rattle.std.proofs.Common.{◌≡◌, ◌+◌, ◌<◌, List, [], length, take, drop, suc, Err, refl, sym, subst, ◌∙◌, arith, ◌-◌, inl, ◌⊎◌, ℕ}
 use Rattle.std.specs.Prelude.{Ok, ⊤, Option}
 use Rattle.log_records.specs.Log.{log_from}
 use Rattle.checkpoint.specs.declared.master.Master.{Master}
 use Rattle.checkpoint.specs.Newest.{seen}
 use Rattle.image_meaning.specs.Meaning.{kept_by, saved_by, picture_under}
 use Rattle.analysis.specs.Read.{IsAnalysis}
-use Rattle.page_store.specs.Caching.{rules}
 use Rattle.redo_undo.specs.Redoing.{Opening, IsOpened, asked_of, HasTaken}
 use Rattle.redo_undo.proofs.LogBlocks.{block_of, log_split}
-use Rattle.redo_undo.proofs.Sames.{going_still, opened_holds}
+use Rattle.redo_undo.proofs.Sames.{going_still, opened_holds, some_group}
 use Rattle.redo_undo.proofs.Redoings.{begins, holds_all}
 use Rattle.redo_undo.proofs.TakenRecords.{IsUpTo, IsNextBlock, asks_first, up_to_none, opened_count, finds, next_block, one_more_block, all_blocks, same_stop, unfinished_by}
 use Rattle.site.specs.declared.outside.Stop.TheVariants.{Worn, Device, Foreign}
@@ -228,8 +227,8 @@ pub returns-in-Err-clause-asks : goal.returns-in-Err-clause-asks
 returns-in-Err-clause-asks g c newest blocks table commits own h =
     let site = g.S.Site.state c.args.site.now in
     let pages = c.args.pages.now in
-    let some : 1 ≤ (rules pages).groups = omega (arith, c.requires.going.pages_going.flash.limits.groups) in
-    stops_first c.in-Err.stop (asked_of (opening pages site newest blocks table commits) (log_from (kept_by newest) blocks)) pages site some
+    stops_first c.in-Err.stop (asked_of (opening pages site newest blocks table commits) (log_from (kept_by newest) blocks)) pages site
+    (some_group c.requires.going)
     (λ same. let memory = c.in-Err.ensures.stops in cc)
 
 -- A block isn't read.
@@ -240,14 +239,14 @@ returns-in-Err-read_block-clause-asks g c newest blocks table commits own h =
     let mid = g.S.Site.state c.loop-block.site in
     let read = g.S.Site.state c.read_block.new.site in
     let pages = c.loop-block.pages in
-    let some : 1 ≤ (rules c.args.pages.now).groups = omega (arith, c.requires.going.pages_going.flash.limits.groups) in
     let count = opened_count c.args.log.now c.args.pages.now old newest blocks table commits h in
     let from = c.loop-block.auto.block in
     let own_kept = h.kept in
     let inside : c.loop-block.block - kept_by newest < length blocks = omega (arith, count, c.sealed_end-block-end.ensures, c.loop-block-test.true, from, c.kept-block.ensures, own_kept) in
     stops_within (opening c.args.pages.now old newest blocks table commits) c.args.pages.now pages pages old mid read
     (log_from (kept_by newest) (take (c.loop-block.block - kept_by newest) blocks))
-    (c.loop-block.invariant.asked newest blocks table commits own h) {A = ⊤} c.in-Err-read_block.stop [] _ (log_from (kept_by newest) blocks) some
+    (c.loop-block.invariant.asked newest blocks table commits own h) {A = ⊤} c.in-Err-read_block.stop [] _ (log_from (kept_by newest) blocks)
+    (some_group c.requires.going)
     (log_split (kept_by newest) (c.loop-block.block - kept_by newest) c.loop-block.block blocks (omega (arith, from, c.kept-block.ensures, own_kept)) inside)
     (stops_reading c.in-Err-read_block.stop pages mid read c.read_block.ensures.reads.others (not_worn c.in-Err-read_block.stop c.in-Err-read_block.ensures.stops) (stages_read c.read_block.ensures.same c.read_block.ensures.goes))
 
@@ -273,13 +272,12 @@ returns-in-Err-take_block-clause-asks g c newest blocks table commits own h =
     let o : Opening = opening c.args.pages.now old newest blocks table commits in
     let s = (goal.at.returns-in-Err-take_block-clause-asks g c).In-Ok-read_block in
     let next = next g s newest blocks table commits own h in
-    let some : 1 ≤ (rules c.args.pages.now).groups = omega (arith, c.requires.going.pages_going.flash.limits.groups) in
     let place : ℕ = c.loop-block.block - kept_by newest in
     let front = log_from (kept_by newest) (take place blocks) in
     let behind = log_from (c.loop-block.block + 1) (drop (suc place) blocks) in
     stops_within o c.args.pages.now c.loop-block.pages c.take_block.new.pages old (g.S.Site.state c.read_block.new.site) (g.S.Site.state c.take_block.new.site)
     front (asked_now g s newest blocks table commits own h)
-    c.in-Err-take_block.stop _ behind (log_from (kept_by newest) blocks) some next.split
+    c.in-Err-take_block.stop _ behind (log_from (kept_by newest) blocks) (some_group c.requires.going) next.split
     (c.in-Err-take_block.ensures.takes o front behind (block_of blocks place) own next.taken next.content_is next.used_is next.split).asks
 
 pub returns-in-Err-take_block-clause-keeps : goal.returns-in-Err-take_block-clause-keeps

@@ -1,4 +1,4 @@
-use Rattle.std.proofs.Common.{◌≡◌, ◌≤◌, ◌∷◌, [], sym, ap, ◌∙◌, arith}
+use Rattle.std.proofs.Common.{◌≡◌, ◌∷◌, [], sym, ap, ◌∙◌, arith}
 use Rattle.site.specs.declared.outside.Stop.TheVariants.{Foreign}
 use Rattle.redo_undo.specs.Redoing.{touches_of}
 use Rattle.std.proofs.lemmas.Option.{none-some}
@@ -9,7 +9,7 @@ use Rattle.buffer_pool.specs.Frames.{front_of}
 use Rattle.flash_cache.specs.declared.cache.FlashCache.{FlashCache}
 use Rattle.second_chance.specs.Machine.{rules_of}
 use Rattle.page_store.specs.Held.{current}
-use Rattle.page_store.specs.Caching.{rules}
+use Rattle.redo_undo.proofs.Sames.{some_group}
 use Rattle.redo_undo.proofs.Changed.{front_is_current}
 use Rattle.redo_undo.proofs.NextRecords.{page_exists, lsn_sealed, no_change, changed, front_knows}
 use Rattle.redo_undo.proofs.RedoWorks.{stops_first, asks_no_page, stops_in_touch, asks_known, asks_redone}
@@ -57,7 +57,6 @@ returns g c =
     let e : Entry = record { lsn = c.args.lsn; rec = c.args.rec.now } in
     let first = (front_of pages.pool.frames).page in
     let content : lsn_of (current pages site.image first) ≡ lsn_of (front_of pages.pool.frames).content = ap lsn_of (front_is_current pages site.image c.in-Ok.ensures.there) in
-    let some : 1 ≤ (rules c.args.pages.now).groups = omega (arith, c.requires.going.pages_going.flash.limits.groups) in
     record {
       redoing = λ o front rest h is.
           let now = c.in-Ok.ensures.redoing o front h in
@@ -72,22 +71,21 @@ returns g c =
           (front_is_current pages site.image c.in-Ok.ensures.there) in
           asks_redone c.page_laws.ensures c.redo_laws.ensures o c.touch.new.log pages site front (c.in-Ok.ensures.redoing o front h) (record { lsn = c.args.lsn; rec = c.args.rec.now }) rest is
           c.in-Some.page on.0 on.1 on.2 c.args.pages.now (g.S.Site.state c.args.site.now) _ c.in-Ok.ensures.asks
-          (omega (arith, content, c.front_lsn.ensures, c.if-front_lsn-lsn.false)) c.change_front.new.pages some c.change_front.ensures.machine
+          (omega (arith, content, c.front_lsn.ensures, c.if-front_lsn-lsn.false)) c.change_front.new.pages
+          (some_group c.requires.going) c.change_front.ensures.machine
           (λ i. rules_of (c.change_front.ensures.size i) (c.change_front.ensures.flash i).geometry.groups) c.change_front.ensures.flash;
       logs_nothing = grind (arith, common_steps);
     }
 
 pub returns-then-page-geometry-clause-asks : goal.returns-then-page-geometry-clause-asks
 returns-then-page-geometry-clause-asks g c o front rest h is =
-    let some : 1 ≤ (rules c.args.pages.now).groups = omega (arith, c.requires.going.pages_going.flash.limits.groups) in
-    stops_first Foreign (touches_of o (record { lsn = c.args.lsn; rec = c.args.rec.now } ∷ [])) c.args.pages.now (g.S.Site.state c.args.site.now) some (λ same. cc)
+    stops_first Foreign (touches_of o (record { lsn = c.args.lsn; rec = c.args.rec.now } ∷ [])) c.args.pages.now (g.S.Site.state c.args.site.now) (some_group c.requires.going) (λ same. cc)
 
 pub returns-in-Err-clause-asks : goal.returns-in-Err-clause-asks
 returns-in-Err-clause-asks g c o front rest h is =
     let on = c.in-Some.ensures.on in
-    let some : 1 ≤ (rules c.args.pages.now).groups = omega (arith, c.requires.going.pages_going.flash.limits.groups) in
     stops_in_touch c.in-Err.stop o (record { lsn = c.args.lsn; rec = c.args.rec.now }) c.in-Some.page on.0 c.args.pages.now c.touch.new.pages (g.S.Site.state c.args.site.now) (g.S.Site.state c.touch.new.site)
-    on.1 on.2 some c.in-Err.ensures.asks
+    on.1 on.2 (some_group c.requires.going) c.in-Err.ensures.asks
 
 -- the page exists
 pub returns-then-page-geometry-clause-keeps : goal.returns-then-page-geometry-clause-keeps

@@ -1,7 +1,7 @@
-use Rattle.std.proofs.Common.{◌≤◌, ◌+◌, ◌*◌, ◌++◌, ◌∷◌, [], List, append-nil, refl, sym, subst, append_assoc, arith}
+use Rattle.std.proofs.Common.{◌+◌, ◌*◌, ◌++◌, ◌∷◌, [], List, append-nil, refl, sym, subst, append_assoc, arith}
 use Rattle.log_records.specs.Log.{Entry, entries_from}
-use Rattle.page_store.specs.Caching.{rules}
 use Rattle.redo_undo.specs.Redoing.{HasTaken}
+use Rattle.redo_undo.proofs.Sames.{some_group}
 use Rattle.redo_undo.proofs.BlockRecords.{some_octet, next_of_log, past_one, none_there, past_all}
 use Rattle.redo_undo.proofs.TakenRecords.{part_begins}
 use Rattle.redo_undo.proofs.RedoWorks.{asks_more, asks_all, stops_within}
@@ -78,13 +78,12 @@ returns-in-Err-clause-takes g c o front rest records own h block used is =
     let entries = entries_from (512 * c.args.block + 2) records in
     let next = next_of_log c.read_again.ensures.only c.args.block c.args.content.now c.args.used c.loop-at.at records a.done a.past front c.in-Ok.rec c.in-Ok.end _ rest c.loop-at-test.true c.in-Ok.ensures.found is in
     let later = next_of_log c.read_again.ensures.only c.args.block c.args.content.now c.args.used c.loop-at.at records a.done a.past [] c.in-Ok.rec c.in-Ok.end entries [] c.loop-at-test.true c.in-Ok.ensures.found (sym (append-nil entries)) in
-    let some : 1 ≤ (rules c.args.pages.now).groups = omega (arith, c.requires.going.pages_going.flash.limits.groups) in
     let takes = c.in-Err.ensures.takes o (front ++ a.done) next.0 own a.taken next.1 in
     record {
       taken = tt;
       keeps = keeps_then h.pages_are.ready.blocks.honest i.logs.works.geometry refl i.logs.works.calls (i.keeps o front rest records own h block used is) takes.keeps;
       asks = stops_within o c.args.pages.now c.loop-at.pages c.take_record.new.pages (g.S.Site.state c.args.site.now) (g.S.Site.state c.loop-at.site) (g.S.Site.state c.take_record.new.site) a.done a.asked
-          c.in-Err.stop (e ∷ []) later.0 entries some later.1 takes.asks;
+          c.in-Err.stop (e ∷ []) later.0 entries (some_group c.requires.going) later.1 takes.asks;
     }
 
 pub returns-clause-takes : goal.returns-clause-takes

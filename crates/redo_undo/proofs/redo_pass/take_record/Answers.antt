@@ -1,10 +1,10 @@
-use Rattle.std.proofs.Common.{◌≤◌, ◌∷◌, [], ◌++◌, ap, arith}
+use Rattle.std.proofs.Common.{◌∷◌, [], ◌++◌, ap, arith}
 use Rattle.std.proofs.lemmas.List.{length-append}
 use Rattle.log_records.specs.Log.{Entry}
 use Rattle.checkpoint.specs.declared.master.Master.{Master}
-use Rattle.page_store.specs.Caching.{rules}
 use Rattle.redo_undo.specs.Redoing.{asked_of}
 use Rattle.site.proofs.Working.{ok_as}
+use Rattle.redo_undo.proofs.Sames.{some_group}
 use Rattle.redo_undo.proofs.NextRecords.{may_step, known_before, no_change}
 use Rattle.redo_undo.proofs.RedoWorks.{stops_first, not_worn, asks_early, asks_late}
 use Rattle.redo_undo.proofs.TakenRecords.{analysis_to, analysis_back, step_to}
@@ -18,11 +18,11 @@ returns-in-Err-clause-takes g c o front rest own h is =
     let site = g.S.Site.state c.args.site.now in
     let to = analysis_to o c.args.master.now own front c.args.so_far.now.found h.analysis in
     let step = step_to o c.args.master.now own front e (may_step c.page_laws.ensures c.redo_laws.ensures o c.args.log.now c.args.pages.now site front h.pages_are e rest is) in
-    let some : 1 ≤ (rules c.args.pages.now).groups = omega (arith, c.requires.going.pages_going.flash.limits.groups) in
     record {
       taken = tt;
       keeps = keeps_refused_by c.page_laws.ensures c.redo_laws.ensures c.in-Err.ensures.stops c.requires.going.sizes h.pages_are (λ same. c.in-Err.ensures.readable front to step (ap Err same));
-      asks = stops_first c.in-Err.stop (asked_of o (e ∷ [])) c.args.pages.now site some (not_worn c.in-Err.stop c.in-Err.ensures.stops);
+      asks = stops_first c.in-Err.stop (asked_of o (e ∷ [])) c.args.pages.now site (some_group c.requires.going)
+          (not_worn c.in-Err.stop c.in-Err.ensures.stops);
     }
 
 pub returns-then-lsn-master-clause-takes : goal.returns-then-lsn-master-clause-takes

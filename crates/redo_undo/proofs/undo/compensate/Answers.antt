@@ -1,13 +1,13 @@
-use Rattle.std.proofs.Common.{◌∙◌, ◌+◌, ◌*◌, ◌++◌, ◌∷◌, [], ◌≤◌, ℕ, refl, arith}
+use Rattle.std.proofs.Common.{◌∙◌, ◌+◌, ◌*◌, ◌++◌, ◌∷◌, [], ℕ, refl, arith}
 use Rattle.site.specs.declared.outside.Dev.TheVariants.{Log}
 use Rattle.log_records.specs.declared.log_record.LogRecord.TheVariants.{Clr}
 use Rattle.log_records.specs.Log.{Entry}
 use Rattle.log_records.specs.Sound.{AreOrderly}
 use Rattle.redo_undo.specs.Holding.{Holds, MayGrow}
+use Rattle.redo_undo.proofs.Sames.{some_group}
 use Rattle.redo_undo.proofs.Compensations.{may_moved}
 use Rattle.redo_undo.proofs.Appended.{if_ok_one}
 use Rattle.second_chance.specs.Machine.{rules_of}
-use Rattle.page_store.specs.Caching.{rules}
 use Rattle.redo_undo.proofs.AskingUndo.{change_made, change_stopped, never_worn}
 use Rattle.redo_undo.proofs.Calling.{keeps_failed, keeps_few, keeps_then, works_then}
 use Rattle.std.proofs.lemmas.Grind.{common_steps}
@@ -25,7 +25,6 @@ returns-in-Ok g c =
     let new = g.S.Site.state c.log_change.new.site in
     let w = c.args.wanted in
     let entry : ℕ → Entry = λ (lsn : ℕ). record { lsn = lsn; rec = Clr c.args.at.now.txn c.args.at.now.last w.prev w.page w.slot w.before } in
-    let some : 1 ≤ (rules pages).groups = omega (arith, c.requires.going.pages_going.flash.limits.groups) in
     let first = c.in-Ok.ensures.logs_nothing.works in
     record {
       holds = λ newest records table commits h.
@@ -46,7 +45,7 @@ returns-in-Ok g c =
       asks =
           let mid = c.touch.new.pages in
           let new = c.log_change.new.pages in
-          change_made tt c.log_change.result c.args.wanted.page pages mid new (g.S.Site.state c.args.site.now) (g.S.Site.state c.touch.new.site) (g.S.Site.state c.log_change.new.site) some c.touch_then_change.ensures
+          change_made tt c.log_change.result c.args.wanted.page pages mid new (g.S.Site.state c.args.site.now) (g.S.Site.state c.touch.new.site) (g.S.Site.state c.log_change.new.site) (some_group c.requires.going) c.touch_then_change.ensures
           c.in-Ok.ensures.asks c.log_change.ensures.machine (λ i. rules_of (c.log_change.ensures.works.size i) (c.log_change.ensures.works.geometry i).groups) c.log_change.ensures.reads
           (never_worn c.log_change.result c.log_change.ensures.stops) c.log_change.ensures.stages;
       before = grind (arith, common_steps);
@@ -58,8 +57,7 @@ returns-in-Ok g c =
 pub returns-in-Err-clause-asks : goal.returns-in-Err-clause-asks
 returns-in-Err-clause-asks g c =
     let pages = c.args.pages.now in
-    let some : 1 ≤ (rules pages).groups = omega (arith, c.requires.going.pages_going.flash.limits.groups) in
-    change_stopped c.in-Err.stop c.args.wanted.page pages c.touch.new.pages (g.S.Site.state c.args.site.now) (g.S.Site.state c.touch.new.site) some c.in-Err.ensures.asks
+    change_stopped c.in-Err.stop c.args.wanted.page pages c.touch.new.pages (g.S.Site.state c.args.site.now) (g.S.Site.state c.touch.new.site) (some_group c.requires.going) c.in-Err.ensures.asks
 
 pub returns-in-Err-clause-keeps : goal.returns-in-Err-clause-keeps
 returns-in-Err-clause-keeps g c newest records table commits h = keeps_few (omega arith) (keeps_failed (c.in-Err.ensures.keeps newest records table commits h))

@@ -18,7 +18,7 @@ use Rattle.page_store.specs.Caching.{cache_of, next_group}
 use Rattle.page_store.specs.Staging.{Stages}
 use Rattle.redo_undo.specs.Rollback.{AreClrsOf, Compensates}
 use Rattle.redo_undo.specs.Undoing.{IsAt}
-use Rattle.redo_undo.proofs.Sames.{going_still}
+use Rattle.redo_undo.proofs.Sames.{going_still, some_group}
 use Rattle.redo_undo.proofs.Rollbacks.{none_remains, room_for_end, may_end, owes_all, rolls_back}
 use Rattle.page_store.specs.Caching.{rules}
 use Rattle.redo_undo.specs.Works.{Asks, undo_one_works}
@@ -88,9 +88,8 @@ module _ (g : Over) (c : In-Ok-undo_updates g) (newest : Option Master) (records
   asks_all r new same other stages =
       let pages = c.args.pages.now in
       let pages' = c.undo_updates.new.pages in
-      let some : 1 ≤ (rules pages).groups = omega (arith, c.requires.going.pages_going.flash.limits.groups) in
       subst (λ (t : ℕ). Asks r (undo_one_works records t) pages pages' old new) own
-      (asks_before c.in-Ok-undo_updates.at r (undo_one_works records x.txn) pages pages' old site new some same other stages
+      (asks_before c.in-Ok-undo_updates.at r (undo_one_works records x.txn) pages pages' old site new (some_group c.requires.going) same other stages
       (asks_later (Ok c.in-Ok-undo_updates.at) (undo_one_works records x.txn) pages pages' old mid site (log_alone old mid c.read_last.ensures.reads.others)
       (stages_read c.read_last.ensures.reads.same c.read_last.ensures.reads.goes)
       (c.in-Ok-undo_updates.ensures.asks newest records table commits x still unfinished at)))
@@ -199,8 +198,7 @@ pub returns-in-Err-clause-asks : goal.returns-in-Err-clause-asks
 returns-in-Err-clause-asks g c newest records table commits x h unfinished own last =
     let old = g.S.Site.state c.args.site.now in
     let mid = g.S.Site.state c.read_last.new.site in
-    let some : 1 ≤ (rules c.args.pages.now).groups = omega (arith, c.requires.going.pages_going.flash.limits.groups) in
-    asks_refused c.in-Err.stop (undo_one_works records c.args.txn) c.args.pages.now old mid some (not_worn c.in-Err.stop c.in-Err.ensures.reads.stops) (log_alone old mid c.read_last.ensures.reads.others)
+    asks_refused c.in-Err.stop (undo_one_works records c.args.txn) c.args.pages.now old mid (some_group c.requires.going) (not_worn c.in-Err.stop c.in-Err.ensures.reads.stops) (log_alone old mid c.read_last.ensures.reads.others)
     (stages_read c.in-Err.ensures.reads.same c.in-Err.ensures.reads.goes)
 
 pub returns-in-Err-undo_updates-clause-asks : goal.returns-in-Err-undo_updates-clause-asks

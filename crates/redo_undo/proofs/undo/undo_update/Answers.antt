@@ -1,9 +1,9 @@
-use Rattle.std.proofs.Common.{true≢false, Ok, Err, inr, ◌∷◌, [], ◌≤◌, refl, sym, ap, subst, ◌∙◌, arith}
+use Rattle.std.proofs.Common.{true≢false, Ok, Err, inr, ◌∷◌, [], refl, sym, ap, subst, ◌∙◌, arith}
 use Rattle.site.specs.declared.geometry.Geometry.{Geometry}
 use Rattle.site.specs.State.{Image}
 use Rattle.log_records.specs.declared.log_record.LogRecord.TheVariants.{Clr}
 use Rattle.redo_undo.specs.Undoing.{IsWanted}
-use Rattle.redo_undo.proofs.Sames.{holds_still, going_still}
+use Rattle.redo_undo.proofs.Sames.{holds_still, going_still, some_group}
 use Rattle.redo_undo.proofs.Compensations.{may_compensate, room_for_clr, owes_less, undone}
 use Rattle.site.specs.declared.outside.Stop.TheVariants.{Foreign}
 use Rattle.page_store.specs.Caching.{rules}
@@ -56,15 +56,13 @@ returns g c =
 pub returns-in-Err-clause-asks : goal.returns-in-Err-clause-asks
 returns-in-Err-clause-asks g c newest records table commits x u rest h unfinished at left =
     let pages = c.args.pages.now in
-    let some : 1 ≤ (rules pages).groups = omega (arith, c.requires.going.pages_going.flash.limits.groups) in
-    asks_refused c.in-Err.stop (works_of (u ∷ [])) pages (g.S.Site.state c.args.site.now) (g.S.Site.state c.read_update.new.site) some (not_worn c.in-Err.stop c.in-Err.ensures.reads.stops)
+    asks_refused c.in-Err.stop (works_of (u ∷ [])) pages (g.S.Site.state c.args.site.now) (g.S.Site.state c.read_update.new.site) (some_group c.requires.going) (not_worn c.in-Err.stop c.in-Err.ensures.reads.stops)
     (log_alone (g.S.Site.state c.args.site.now) (g.S.Site.state c.read_update.new.site) c.read_update.ensures.reads.others) (stages_read c.read_update.ensures.reads.same c.read_update.ensures.reads.goes)
 
 pub returns-then-not-has_room-clause-asks : goal.returns-then-not-has_room-clause-asks
 returns-then-not-has_room-clause-asks g c newest records table commits x u rest h unfinished at left =
     let pages = c.args.pages.now in
-    let some : 1 ≤ (rules pages).groups = omega (arith, c.requires.going.pages_going.flash.limits.groups) in
-    asks_refused Foreign (works_of (u ∷ [])) pages (g.S.Site.state c.args.site.now) (g.S.Site.state c.read_update.new.site) some (not_worn Foreign (inr refl))
+    asks_refused Foreign (works_of (u ∷ [])) pages (g.S.Site.state c.args.site.now) (g.S.Site.state c.read_update.new.site) (some_group c.requires.going) (not_worn Foreign (inr refl))
     (log_alone (g.S.Site.state c.args.site.now) (g.S.Site.state c.read_update.new.site) c.read_update.ensures.reads.others) (stages_read c.read_update.ensures.reads.same c.read_update.ensures.reads.goes)
 
 pub returns-in-Err-compensate-clause-asks : goal.returns-in-Err-compensate-clause-asks

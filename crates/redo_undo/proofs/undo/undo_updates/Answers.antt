@@ -1,6 +1,7 @@
-use Rattle.std.proofs.Common.{◌≡◌, ◌≤◌, List, [], ◌∷◌, ◌++◌, append-nil, refl, sym, ap, ◌∙◌, arith}
+use Rattle.std.proofs.Common.{◌≡◌, List, [], ◌∷◌, ◌++◌, append-nil, refl, sym, ap, ◌∙◌, arith}
 use Rattle.redo_undo.specs.Holding.{blocks_to}
 use Rattle.redo_undo.specs.Rollback.{left_of}
+use Rattle.redo_undo.proofs.Sames.{some_group}
 use Rattle.redo_undo.proofs.Rollbacks.{remains, none_remains}
 use Rattle.log_records.specs.Log.{Entry}
 use Rattle.log_records.specs.Unfinished.{left_open}
@@ -99,8 +100,7 @@ returns-in-Err-clause-asks g c newest records table commits x h unfinished at =
     let before = both.0 in
     let remain = remains c.page_laws.ensures c.undo_laws.ensures c.loop-at.log c.loop-at.pages mid newest records table commits x.txn (blocks_to c.args.log.now) old.log_reads c.loop-at.at before c.loop-at-test.true in
     let u = first_of (left_open (records ++ before.clrs) c.loop-at.at.txn) (omega (arith, remain, before.left.remaining_is)) in
-    let some : 1 ≤ (rules c.args.pages.now).groups = omega (arith, c.requires.going.pages_going.flash.limits.groups) in
     let left : left_open (records ++ before.clrs) x.txn ≡ u.0 ∷ u.1 = sym (ap (left_open (records ++ before.clrs)) before.same) ∙ u.2 in
     let all : left_open records x.txn ≡ both.1.done ++ u.0 ∷ u.1 = both.1.are ∙ ap (λ (l : List Entry). both.1.done ++ l) left in
-    more_work_stopped tt c.in-Err.stop (left_open records x.txn) both.1.done u.1 u.0 c.args.pages.now c.loop-at.pages c.undo_update.new.pages old mid new some all both.1.asks
+    more_work_stopped tt c.in-Err.stop (left_open records x.txn) both.1.done u.1 u.0 c.args.pages.now c.loop-at.pages c.undo_update.new.pages old mid new (some_group c.requires.going) all both.1.asks
     (c.in-Err.ensures.asks newest _ table commits (left_of c.loop-at.at before.remaining) u.0 u.1 before.holds before.left (record { txn = refl; last = refl; next = refl }) u.2)

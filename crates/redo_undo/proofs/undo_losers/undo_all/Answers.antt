@@ -1,13 +1,13 @@
-use Rattle.std.proofs.Common.{true, false, ℕ, List, ◌≡◌, ◌++◌, ◌+◌, ◌≤◌, [], ◌∙◌, arith, Ok, ◌*◌}
+use Rattle.std.proofs.Common.{true, false, ℕ, List, ◌≡◌, ◌++◌, ◌+◌, [], ◌∙◌, arith, Ok, ◌*◌}
 use Rattle.std.specs.Prelude.{⊤, IsErrOf, Option, option_map}
 use Rattle.std.specs.List.{AllByRecursion}
 use Rattle.analysis.specs.Table.{listed}
+use Rattle.redo_undo.proofs.Sames.{some_group}
 use Rattle.redo_undo.proofs.Opens.{none_listed, if_none, some_owed}
 use Rattle.image_meaning.specs.Meaning.{kept_by}
 use Rattle.redo_undo.proofs.Found.{order, all_undone, sealed_up_to, own_known}
 use Rattle.site.specs.declared.outside.Stop.TheVariants.{Worn}
 use Rattle.site.specs.declared.outside.Dev.TheVariants.{Flash, Log}
-use Rattle.page_store.specs.Caching.{rules}
 use Rattle.redo_undo.specs.Works.{undo_works}
 use Rattle.page_store.proofs.StagingLaws.{stages_ok, stages_err}
 use Rattle.redo_undo.proofs.Asking.{asks_nothing, stages_log}
@@ -138,15 +138,13 @@ returns-in-Err-undo_next-clause-log_reads g c =
 pub returns-in-Err-clause-asks : goal.returns-in-Err-clause-asks
 returns-in-Err-clause-asks g c newest records table commits none h is =
     let pages = c.args.pages.now in
-    let some : 1 ≤ (rules pages).groups = omega (arith, c.requires.going.pages_going.flash.limits.groups) in
     let old = g.S.Site.state c.args.site.now in
     let new = g.S.Site.state c.end_undone.new.site in
-    asks_refused c.in-Err.stop (undo_works records) pages old new some (not_worn_either c.in-Err.stop c.in-Err.ensures.stops) (none_read old new c.end_undone.ensures.works.reads) (stages_err (stages_log c.in-Err.ensures.works))
+    asks_refused c.in-Err.stop (undo_works records) pages old new (some_group c.requires.going) (not_worn_either c.in-Err.stop c.in-Err.ensures.stops) (none_read old new c.end_undone.ensures.works.reads) (stages_err (stages_log c.in-Err.ensures.works))
 
 pub returns-in-Err-undo_next-clause-asks : goal.returns-in-Err-undo_next-clause-asks
 returns-in-Err-undo_next-clause-asks g c newest records table commits none h is =
     let pages = c.args.pages.now in
-    let some : 1 ≤ (rules pages).groups = omega (arith, c.requires.going.pages_going.flash.limits.groups) in
     let old = g.S.Site.state c.args.site.now in
     let mid = g.S.Site.state c.loop-next.site in
     let new = g.S.Site.state c.undo_next.new.site in
@@ -155,7 +153,7 @@ returns-in-Err-undo_next-clause-asks g c newest records table commits none h is 
     let undone = before.updates.some in
     let all = records ++ undone.more in
     let last = next_is_last all c.next_undo.result c.in-Some.next c.in-Some.is (next_is g s newest records table commits none h is) in
-    updates_asked_stopped c.in-Err-undo_next.stop c.loop-next.log c.loop-next.pages c.undo_next.new.pages mid new newest records table commits c.loop-next.found c.loop-next.known pages old some before last.0 c.in-Some.next.0 c.in-Some.next.1 last.1
+    updates_asked_stopped c.in-Err-undo_next.stop c.loop-next.log c.loop-next.pages c.undo_next.new.pages mid new newest records table commits c.loop-next.found c.loop-next.known pages old (some_group c.requires.going) before last.0 c.in-Some.next.0 c.in-Some.next.1 last.1
     (c.in-Err-undo_next.ensures.asks newest all table commits last.0 undone.now last.1)
 
 pub returns-clause-asks : goal.returns-clause-asks

@@ -1,12 +1,12 @@
-use Rattle.std.proofs.Common.{◌++◌, [], ◌∷◌, ◌≤◌, inr, refl, drop, sym, subst, arith, ℕ}
+use Rattle.std.proofs.Common.{◌++◌, [], ◌∷◌, inr, refl, drop, sym, subst, arith, ℕ}
 use Rattle.analysis.specs.Open.{Open, Replaces, TakesOut}
 use Rattle.analysis.specs.Table.{listed}
 use Rattle.redo_undo.specs.UndoingAll.{Remain, HasNone}
+use Rattle.redo_undo.proofs.Sames.{some_group}
 use Rattle.redo_undo.proofs.Appended.{if_ok_one}
 use Rattle.redo_undo.proofs.Opens.{still_remain, none_remains_of, others_remain, ok_one}
 use Rattle.redo_undo.proofs.Found.{last_known}
 use Rattle.site.specs.declared.outside.Stop.TheVariants.{Foreign}
-use Rattle.page_store.specs.Caching.{rules}
 use Rattle.redo_undo.specs.UndoWorks.{works_of, IsLastAt, UndoesUpdates}
 use Rattle.page_store.proofs.StagingLaws.{stages_none}
 use Rattle.redo_undo.proofs.Asking.{stages_log}
@@ -57,8 +57,7 @@ returns-clause-updates g c newest records table commits u h last =
 pub returns-then-loser-known-clause-asks : goal.returns-then-loser-known-clause-asks
 returns-then-loser-known-clause-asks g c newest records table commits u h last =
     let pages = c.args.pages.now in
-    let some : 1 ≤ (rules pages).groups = omega (arith, c.requires.going.pages_going.flash.limits.groups) in
-    asks_refused Foreign (works_of (u ∷ [])) pages (g.S.Site.state c.args.site.now) (g.S.Site.state c.args.site.now) some (not_worn Foreign (inr refl)) (record { flash = refl; disk = refl }) (stages_none (omega arith) refl)
+    asks_refused Foreign (works_of (u ∷ [])) pages (g.S.Site.state c.args.site.now) (g.S.Site.state c.args.site.now) (some_group c.requires.going) (not_worn Foreign (inr refl)) (record { flash = refl; disk = refl }) (stages_none (omega arith) refl)
 
 pub returns-in-Err-clause-asks : goal.returns-in-Err-clause-asks
 returns-in-Err-clause-asks g c newest records table commits u h last =
@@ -71,10 +70,9 @@ returns-then-loser-gt1-clause-asks g c newest records table commits u h last =
 pub returns-clause-asks : goal.returns-clause-asks
 returns-clause-asks g c newest records table commits u h last =
     let pages = c.args.pages.now in
-    let some : 1 ≤ (rules pages).groups = omega (arith, c.requires.going.pages_going.flash.limits.groups) in
     let mid = g.S.Site.state c.undo_greatest.new.site in
     let new = g.S.Site.state c.end_one.new.site in
-    asks_before c.in-Ok.last c.end_one.result (works_of (u ∷ [])) pages c.undo_greatest.new.pages (g.S.Site.state c.args.site.now) mid new some (none_read mid new c.end_one.ensures.works.reads)
+    asks_before c.in-Ok.last c.end_one.result (works_of (u ∷ [])) pages c.undo_greatest.new.pages (g.S.Site.state c.args.site.now) mid new (some_group c.requires.going) (none_read mid new c.end_one.ensures.works.reads)
     (never_worn c.end_one.result c.end_one.ensures.stops) (stages_log c.end_one.ensures.works)
     (c.in-Ok.ensures.asks newest records table commits c.args.known u h (subst (λ (t : ℕ). IsLastAt records t c.args.next.1 u) (sym c.in-Some.ensures.named) last))
 

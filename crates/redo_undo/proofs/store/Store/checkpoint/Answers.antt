@@ -43,7 +43,6 @@ returns-in-Err-clause-keeps g c newest records table h may =
 pub returns-in-Err-flush-clause-keeps : goal.returns-in-Err-flush-clause-keeps
 returns-in-Err-flush-clause-keeps g c newest records table h may =
     let old = g.S.Site.state c.args.site.now in
-    let mid = g.S.Site.state c.force.new.site in
     let pages = c.args.self.now.pages in
     let going = c.requires.going.both in
     let honest = h.log_holds.ready.blocks.honest in

@@ -139,7 +139,6 @@ returns-in-Err-clause-keeps g c newest records table commits held may =
 pub returns-in-Err-force-clause-keeps : goal.returns-in-Err-force-clause-keeps
 returns-in-Err-force-clause-keeps g c newest records table commits held may =
     let s = (goal.at.returns-in-Err-force-clause-keeps g c).After-force in
-    let mid = g.S.Site.state c.log_record.new.site in
     let new = g.S.Site.state c.force.new.site in
     record {
       any_moment = moments g s newest records table commits held may;
@@ -153,7 +152,7 @@ returns-in-Err-force-clause-keeps g c newest records table commits held may =
           let same : c.in-Err-force.stop ≡ Worn Log = cc in
           let worn = (c.in-Err-force.ensures.worn.0 (ap Err same)).1 in
           subst (λ (x : Geometry). IsLogWorn x new.image) (sizes g s newest records table commits held may)
-          (log_at_end c.log_record.new.log mid new (last g s newest records table commits held may).ready.blocks
+          (log_at_end c.log_record.new.log (g.S.Site.state c.log_record.new.site) new (last g s newest records table commits held may).ready.blocks
           (ap g.S.Site.state (c.force.ensures.unchanged (inr worn))) worn);
       worn = λ is. absurd (never_worn_flash (Err c.in-Err-force.stop) c.in-Err-force.ensures.stops is);
       readable = appends_foreign (Err c.in-Err-force.stop) c.in-Err-force.ensures.stops;
