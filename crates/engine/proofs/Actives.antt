@@ -1,6 +1,6 @@
 -- The sessions of the model and the unfinished transactions of the log, one record further.
 use Rattle.checkpoint.specs.declared.master.Master.{Master}
-use Rattle.std.proofs.Common.{◌≡◌, ◌≢◌, ◌⊎◌, ℕ, suc, ◌+◌, ◌*◌, ◌≤◌, ◌<◌, false, List, [], ◌∷◌, ◌++◌, length, Option, None, Some, ⊎_elim, refl, sym, ap, subst, ◌∙◌, arith, get_or-set_same, get_or-set_other, length-set}
+use Rattle.std.proofs.Common.{◌≡◌, ◌≢◌, ℕ, suc, ◌+◌, ◌*◌, ◌≤◌, ◌<◌, false, List, [], ◌∷◌, ◌++◌, length, Option, None, Some, ⊎_elim, refl, sym, ap, subst, ◌∙◌, arith, get_or-set_same, get_or-set_other, length-set}
 use Rattle.std.specs.Prelude.{slice_set, slice_index_or, drop}
 use Rattle.std.proofs.lemmas.Option.{none-some, same_Some}
 use Rattle.std.proofs.lemmas.Bool.{ne_eqb, cases_eq}
@@ -82,27 +82,24 @@ begun newest records old new s n lsn made entry are small none changes owes fres
           (λ differ. subst (λ (a : Option Active). SessionIs newest s.kept (records ++ e ∷ []) a (slice_index_or (slice_set s.sessions n (Some session)) m None)) (sym (changes.others m differ))
           (subst (λ (o : Option Session). SessionIs newest s.kept (records ++ e ∷ []) (entry_of old m) o) (sym (get_or-set_other s.sessions n m (Some session) None differ))
           (others_stay newest s.kept records e (entry_of old m) (session_at s m) (λ other is. ne_eqb lsn other.begin (λ same. other_begin m other is (sym same))) (are.each m))))
-          (either m n);
+          (cases_eq m n);
       all = λ t is. ⊎_elim
           (λ (same : t ≡ lsn). (n, entry, changes.own, begin ∙ sym same))
           (λ differ. older t differ (are.all t (sym (loser_stays records e t (ne_eqb lsn t (λ same. differ (sym same)))) ∙ is)))
-          (either t lsn);
+          (cases_eq t lsn);
       owes = owed_begin records lsn fresh ∙ ap (λ (k : ℕ). k + 1) are.owes ∙ sym owes;
       differ = λ i j a b at_i at_j same. ⊎_elim
           (λ (i_is : i ≡ n). ⊎_elim
           (λ (j_is : j ≡ n). i_is ∙ sym j_is)
           (λ j_not. absurd (other_begin j b (sym (changes.others j j_not) ∙ at_j) (sym same ∙ own_begin i a i_is at_i)))
-          (either j n))
+          (cases_eq j n))
           (λ i_not. ⊎_elim
           (λ (j_is : j ≡ n). absurd (other_begin i a (sym (changes.others i i_not) ∙ at_i) (same ∙ own_begin j b j_is at_j)))
           (λ j_not. are.differ i j a b (sym (changes.others i i_not) ∙ at_i) (sym (changes.others j j_not) ∙ at_j) same)
-          (either j n))
-          (either i n);
+          (cases_eq j n))
+          (cases_eq i n);
     }
   where
-    either : (a b : ℕ) → (a ≡ b) ⊎ (a ≢ b)
-    either a b = cases_eq a b
-
     other_begin : (m : ℕ) (other : Active) → entry_of old m ≡ Some other → other.begin ≢ lsn
     other_begin m other is = let found = some_active newest records old s are m other is in not_fresh newest s.kept records other found.session lsn found.under_way fresh
 

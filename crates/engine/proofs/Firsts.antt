@@ -1,4 +1,5 @@
 -- A command before which a checkpoint is made.
+use Rattle.redo_undo.proofs.Pendings.{and_false}
 use Rattle.std.proofs.Common.{◌≤◌, ◌≡◌, ◌/◌, ◌&&◌, not, Bool, true, false, List, [], ◌∷◌, ◌++◌, Option, None, Some, refl, sym, ap, ◌∙◌, arith, ℕ}
 use Rattle.std.specs.Prelude.{IsSome, is_none, nat_le, if◌then◌else◌}
 use Rattle.record_model.specs.declared.words.Command.{Command}
@@ -57,11 +58,7 @@ touches_are s command =
 
 -- When one is made.
 
-and_false : (b : Bool) → (b && false) ≡ false
-and_false true = refl
-and_false false = refl
-
-and_true : (b : Bool) → (b && true) ≡ b
+pub and_true : (b : Bool) → (b && true) ≡ b
 and_true true = refl
 and_true false = refl
 

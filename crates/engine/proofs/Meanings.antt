@@ -1,4 +1,5 @@
 -- What the database has in memory, in the model's words.
+use Rattle.image_meaning.proofs.Versions.{length-versions}
 use Rattle.checkpoint.specs.declared.master.Master.{Master}
 use Rattle.std.proofs.Common.{◌≡◌, ℕ, zero, suc, ◌*◌, ◌<◌, ◌≤◌, ◌==◌, Bool, true, false, not, ◌&&◌, ◌||◌, cond, List, [], ◌∷◌, length, find, Option, None, Some, ⊎_elim, refl, sym, ap, subst, ◌∙◌, arith, true≢false}
 use Rattle.std.specs.Prelude.{unwrap_or}
@@ -6,8 +7,7 @@ use Rattle.std.specs.List.{list_any, range_with_len, AllByRecursion}
 use Rattle.std.proofs.lemmas.List.FromFn.{length-map-range_with_len}
 use Rattle.std.proofs.lemmas.Option.{none-some, same_Some}
 use Rattle.std.proofs.lemmas.Bool.{cases_eq, and_from, ne_eqb}
-use Rattle.site.specs.State.{State as Site, Image}
-use Rattle.site.specs.declared.geometry.Geometry.{Geometry}
+use Rattle.site.specs.State.{State as Site}
 use Rattle.record_model.specs.State.{Content, Session, State, Write, writes_of, content_at, seen, last_write}
 use Rattle.record_model.specs.State as model
 use Rattle.log_records.specs.Log.{Entry, is_closed, table_of, value_of}
@@ -24,9 +24,8 @@ use Rattle.lock_table.specs.declared.lock.Lock.{Lock}
 use Rattle.lock_table.specs.Locks as locks
 use Rattle.txn_table.specs.declared.active.Active.{Active}
 use Rattle.txn_table.specs.Entries.{IsTable, entry_of}
-use Rattle.image_meaning.specs.Meaning.{picture_under, master_of, versions_on, version_in}
+use Rattle.image_meaning.specs.Meaning.{picture_under, master_of, versions_on}
 use Rattle.image_meaning.proofs.Sames.{next_block_is}
-use Rattle.flash_cache.specs.Held.{version_on}
 use Rattle.redo_undo.specs.declared.store.Store.{Store}
 use Rattle.engine.specs.declared.engine.Engine.{Engine}
 use Rattle.engine.specs.Going.{sizes_of}
@@ -60,16 +59,12 @@ undoable store site newest records table commits h =
     let log = h.both.log_holds in
     subst IsUndoable log.runs_on.records_are (whole_is_undoable (picture_under newest (sizes_of store) site.image log.blocks) log.tail log.runs_on.carries)
 
--- each page has a version
-pub count_of_versions : (g : Geometry) (image : Image) → length (versions_on g image) ≡ g.pages
-count_of_versions g image = length-map-range_with_len (λ number. version_in (version_on g image number)) 0 g.pages
-
 pub same_size : (engine : Engine) (site : Site) (s : State) → Fits engine site s → length s.table ≡ 32 * (sizes_of engine.store).pages
 same_size engine site s fits =
     let versions = versions_on (sizes_of engine.store) site.image in
     ap length (table_is engine.store site fits.newest fits.records s.table s.commits fits.holds)
     ∙ length-map-range_with_len (value_of fits.records versions) 0 (32 * length versions)
-    ∙ ap (λ (n : ℕ). 32 * n) (count_of_versions (sizes_of engine.store) site.image)
+    ∙ ap (λ (n : ℕ). 32 * n) (length-versions (sizes_of engine.store) site.image)
 
 -- the log's end is that of its records
 pub ends_behind : (store : Store) (site : Site) (newest : Option Master) (records : List Entry) (table : List Content) (commits lsn : ℕ) (h : Holds store site newest records table commits) → end_of store.log ≤ lsn →
@@ -168,7 +163,7 @@ free newest records active s are table number none t lives = by (follow.has_writ
 pub value_is : (engine : Engine) (site : Site) (s : State) (fits : Fits engine site s) (number : ℕ) → number < 32 * (sizes_of engine.store).pages →
     content_at s.table number ≡ value_of fits.records (versions_on (sizes_of engine.store) site.image) number
 value_is engine site s fits number less =
-    let count = count_of_versions (sizes_of engine.store) site.image in
+    let count = length-versions (sizes_of engine.store) site.image in
     ap (λ (t : List Content). content_at t number) (table_is engine.store site fits.newest fits.records s.table s.commits fits.holds)
     ∙ content_of_table fits.records (versions_on (sizes_of engine.store) site.image) number (subst (λ (n : ℕ). number < 32 * n) (sym count) less)
 

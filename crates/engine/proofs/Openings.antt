@@ -1,5 +1,6 @@
 -- What a restart finds on devices.
-use Rattle.std.proofs.Common.{Option, ◌≡◌, zero, suc, ◌+◌, ◌-◌, ◌<◌, min, List, [], ◌∷◌, length, map, take, None, Some, Err, IsErrOf, refl, sym, ap, subst, ◌∙◌, arith, ℕ}
+use Rattle.sealed_ring.proofs.Alters.{length-units}
+use Rattle.std.proofs.Common.{Option, ◌≡◌, zero, suc, ◌+◌, ◌-◌, ◌<◌, min, List, [], ◌∷◌, length, map, take, None, Some, refl, sym, ap, subst, ◌∙◌, arith, ℕ}
 use Rattle.std.specs.Prelude.{if◌then◌else◌}
 use Rattle.std.specs.List.{AllByRecursion, slice_get}
 use Rattle.std.proofs.lemmas.Option.{none-some, same_Some}
@@ -12,9 +13,8 @@ use Rattle.site.specs.Calls.{Goes, IsUnchanged}
 use Rattle.site.specs.Moments.{Leaves, LeavesOnly}
 use Rattle.site.specs.Laws.{no_call, unchanged_calm, stays_honest, quiet_leaves}
 use Rattle.sealed_ring.specs.declared.ring.Ring.{Ring}
-use Rattle.sealed_ring.specs.declared.slots.Shape.{Shape}
 use Rattle.sealed_ring.specs.Ready.{Finds}
-use Rattle.sealed_ring.specs.Ring.{IsRing, hi_of, live, units_from}
+use Rattle.sealed_ring.specs.Ring.{IsRing, hi_of, live}
 use Rattle.image_changes.specs.Rings.{Masters, master_shape, group_shape, log_shape, units_on}
 use Rattle.record_model.specs.State.{Content}
 use Rattle.log_records.specs.declared.log_record.LogRecord.{LogRecord}
@@ -42,7 +42,6 @@ use Rattle.redo_undo.proofs.Opens.{all_front, all_rest}
 use Rattle.redo_undo.proofs.Sames.{only_read}
 use Rattle.redo_undo.proofs.Saved.{log_still}
 use Rattle.redo_undo.proofs.Forced.{none_now}
-use Rattle.redo_undo.proofs.TakenRecords.{same_stop}
 
 -- The queue on flash.
 
@@ -63,10 +62,6 @@ are_groups g (content ∷ contents) all frames =
       are_groups g contents all.1 (all_rest (IsFrameOf g) (frames_in content) (frames_of contents) parts),
     )
 
-so_many : (s : Shape) (c : List ℕ) (first n : ℕ) → length (units_from s c first n) ≡ n
-so_many s c first zero = refl
-so_many s c first (suc n) = ap suc (so_many s c (first + 1) n)
-
 as_many : (contents : List (List ℕ)) → length (map frames_in contents) ≡ length contents
 as_many [] = refl
 as_many (content ∷ contents) = ap suc (as_many contents)
@@ -81,7 +76,7 @@ has_groups g image is =
     let contents = (units_on s image).live in
     record {
       form = is.form;
-      next = omega (arith, so_many s image.flash (hi - (s.slots - 1)) (min hi (s.slots - 1)), as_many contents, min-le_left hi (s.slots - 1));
+      next = omega (arith, length-units s image.flash (hi - (s.slots - 1)) (min hi (s.slots - 1)), as_many contents, min-le_left hi (s.slots - 1));
       are_groups = are_groups g contents is.each is.frames;
       live = spelled contents is.each;
     }
@@ -169,10 +164,6 @@ owed_more (x ∷ table) (suc place) loser is =
     omega (arith, owed_more table place loser is, more, before)
 
 -- Results.
-
--- an error is that error, of whatever it was the result
-pub err_again : {A B E : Type 0} (x y : E) → IsErrOf {T = A} (Err x) y → IsErrOf {T = B} (Err x) y
-err_again x y is = ap Err (same_stop x y is)
 
 -- A crash while only was read leaves what stood there.
 pub stands_still : (g : Geometry) (old new : State) (table : List Content) (commits : ℕ) → IsQuiet old → IsUnchanged old new → Stands g old.image table commits → LeavesOnly old new (LeavesTable g table commits old.told)

@@ -1,8 +1,8 @@
 -- What redo, undo and a checkpoint make of an opened log.
+use Rattle.redo_undo.proofs.Touched.{tail_blocks}
 use Rattle.checkpoint.specs.declared.master.Master.{Master}
 use Rattle.checkpoint.specs.declared.pairs.Pair.{Pair}
 use Rattle.std.proofs.Common.{Option, Some, ◌≡◌, inr, ℕ, ◌+◌, ◌-◌, ◌*◌, ◌^◌, ◌≤◌, min, Bool, true, false, nat_lt, List, [], length, refl, sym, ap, subst, ◌∙◌, arith, true≢false}
-use Rattle.std.specs.Prelude.{if◌then◌else◌}
 use Rattle.std.proofs.Math.Nat.{min-eq_left}
 use Rattle.site.specs.declared.geometry.Geometry.{Geometry}
 use Rattle.site.specs.State.{State, Image}
@@ -31,9 +31,6 @@ use Rattle.engine.specs.declared.restart.Opened.{Opened}
 use Rattle.engine.specs.declared.restart.Restarted.{Restarted}
 use Rattle.redo_undo.specs.Stores.{HasCheckpoint}
 use Rattle.engine.specs.Restarting.{IsReady, RestartedAs}
-
-abbrev pub tail_blocks : Bool → ℕ
-tail_blocks b = if b then 1 else 0
 
 -- a log that has as many blocks, and had no tail, has none still
 pub no_tail_still : (log log' : LogStore) → log.used ≡ 2 → blocks_to log' ≡ blocks_to log → log.ring.hi ≤ log'.ring.hi → has_tail log' ≡ false

@@ -1,5 +1,4 @@
 -- What the model answers, test by test.
-use Rattle.std.proofs.lemmas.Option.{none-some}
 use Rattle.checkpoint.specs.declared.master.Master.{Master}
 use Rattle.std.proofs.Common.{◌≡◌, ℕ, ◌+◌, ◌*◌, ◌<◌, ◌≤◌, Bool, true, false, not, ◌&&◌, true≢false, List, [], ◌∷◌, length, sum_by, filter_map, Option, None, Some, refl, sym, ap, ◌∙◌, arith}
 use Rattle.std.specs.Prelude.{option_map, slice_index_or, nat_le, nat_lt, is_none, IsSome, if◌then◌else◌}
@@ -30,7 +29,7 @@ use Rattle.lock_table.specs.Locks as locks
 use Rattle.engine.proofs.Meanings.{same_size, busy_write_is, busy_read_is}
 use Rattle.engine.proofs.Owing.{owed_at, owed_one, owed_is}
 
-abbrev way : State → Command → Bool → Outcome
+abbrev pub way : State → Command → Bool → Outcome
 way s command b = if b then record { after = s; reply = full s } else record { after = effect s command; reply = answer s command [] }
 
 -- what a command asks of the cache, by its refusal and by the room that it lacks
@@ -158,11 +157,3 @@ pub may_read_is : {engine : Engine} {site : Site} {s : State} (own : Option ℕ)
     r ≡ option_map reply.Busy (locks.busy_read engine.locks own number) → r ≡ o → may_read s own number ≡ o
 may_read_is {engine = engine} {s = s} own number fits says is = ap (option_map reply.Busy) (sym (busy_read_is engine.locks s fits.locks_are own number)) ∙ sym
     says ∙ is
-
--- no other session has the record
-pub none_busy : (o : Option ℕ) → option_map reply.Busy o ≡ None → o ≡ None
-none_busy None is = refl
-none_busy (Some n) is = absurd (some_none is)
-  where
-    some_none : option_map reply.Busy (Some n) ≡ None → ⊥
-    some_none e = none-some (reply.Busy n) (sym e)

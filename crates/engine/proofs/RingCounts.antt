@@ -1,6 +1,8 @@
 -- The numbers of the rings' units, over the calls of the database.
+use Rattle.engine.proofs.Replies.{way}
+use Rattle.redo_undo.proofs.Touched.{tail_blocks}
 use Rattle.std.proofs.Common.{◌≡◌, ◌+◌, ◌≤◌, Bool, true, false, List, [], Option, None, Some, ap, subst, arith, ℕ}
-use Rattle.std.specs.Prelude.{Result, Ok, Err, if◌then◌else◌}
+use Rattle.std.specs.Prelude.{Result, Ok, Err}
 use Rattle.site.specs.declared.outside.Stop.{Stop}
 use Rattle.site.specs.declared.geometry.Geometry.{Geometry}
 use Rattle.site.specs.State.{State as Site, Image}
@@ -10,7 +12,7 @@ use Rattle.record_model.specs.State.{Content, State}
 use Rattle.record_model.specs.declared.words.Command.{Command}
 use Rattle.record_model.specs.declared.words.Command.TheVariants.{Begin, Write, Erase, Commit, Abort, Set}
 use Rattle.record_model.specs.declared.words.Reply.{Reply}
-use Rattle.record_model.specs.Step.{Outcome, refusal, outcome, effect, answer, full, lacks_room}
+use Rattle.record_model.specs.Step.{refusal, outcome, effect, lacks_room}
 use Rattle.log_records.specs.declared.log_record.LogRecord.{LogRecord}
 use Rattle.log_records.specs.Log.{Entry}
 use Rattle.log_records.specs.Unfinished.{owed}
@@ -26,7 +28,6 @@ use Rattle.engine.specs.Fits.{Fits, run_now}
 use Rattle.engine.specs.Going.{MayGoOn, sizes_of}
 use Rattle.engine.specs.Restarting.{IsReady}
 use Rattle.engine.specs.Numbers.{CountsOn, RestartsWithin}
-use Rattle.engine.proofs.Recovers.{tail_blocks}
 use Rattle.site.proofs.Working.{ok_as}
 use Rattle.redo_undo.proofs.Appended.{if_ok_one}
 use Rattle.redo_undo.proofs.Forced.{none_now}
@@ -91,14 +92,10 @@ effect_makes s (Abort n) = omega arith
 effect_makes s (Set number value) = omega arith
 effect_makes s _ = omega arith
 
--- what a command that its tests let through leaves, by whether it lacks room
-abbrev through : State → Command → Bool → Outcome
-through s command lacks = if lacks then record { after = s; reply = full s } else record { after = effect s command; reply = answer s command [] }
-
 pub run_makes : (s : State) (command : Command) → s.made ≤ (run_now s command).after.made
 run_makes s command = by (refusal s command)
   where
-    either : (lacks : Bool) → s.made ≤ (through s command lacks).after.made
+    either : (lacks : Bool) → s.made ≤ (way s command lacks).after.made
     either true = omega arith
     either false = effect_makes s command
 

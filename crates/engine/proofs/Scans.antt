@@ -1,4 +1,5 @@
 -- Reading several records at once.
+use Rattle.record_model.proofs.SerialLists.{set_set}
 use Rattle.std.proofs.Common.{◌≡◌, zero, suc, ◌+◌, ◌-◌, ◌*◌, ◌^◌, ◌<◌, ◌≤◌, ◌==◌, ◌&&◌, ◌||◌, Bool, true, false, not, List, [], ◌∷◌, ◌++◌, map, find, filter_map, length, Option, None, Some, refl, sym, ap, ◌∙◌, arith, add-one, get_or-set_same, ℕ, true≢false}
 use Rattle.std.specs.Prelude.{slice_set, option_map, is_some, unwrap_or}
 use Rattle.std.specs.List.{range_with_len}
@@ -103,7 +104,7 @@ past_all g limits number more = let few = limits.few_pages in omega (arith, few,
 
 -- Locks.
 
-none_more_written : (a b d : Bool) → (a || (b && (d && false))) ≡ a
+pub none_more_written : (a b d : Bool) → (a || (b && (d && false))) ≡ a
 none_more_written true b d = refl
 none_more_written false true true = refl
 none_more_written false true false = refl
@@ -146,11 +147,6 @@ read_twice : (first second : List ℕ) (o : Option Session) → option_map (havi
 read_twice first second None = refl
 read_twice first second (Some session) = ap (λ (reads : List ℕ). Some (record session { reads = reads })) (append_assoc session.reads first second)
 
-set_twice : (xs : List (Option Session)) (n : ℕ) (a b : Option Session) → slice_set (slice_set xs n a) n b ≡ slice_set xs n b
-set_twice [] n a b = refl
-set_twice (x ∷ xs) zero a b = refl
-set_twice (x ∷ xs) (suc n) a b = ap (λ (rest : List (Option Session)). x ∷ rest) (set_twice xs n a b)
-
 pub reads_more : (s : State) (n number : ℕ) (numbers : List ℕ) → n < length s.sessions → with_read (with_reads s n numbers) n number ≡ with_reads s n (numbers ++ number ∷ [])
 reads_more s n number numbers small =
     let o = session_at s n in
@@ -158,7 +154,7 @@ reads_more s n number numbers small =
     ap (λ (sessions : List (Option Session)). record s { sessions = sessions })
     (ap (λ (x : Option Session). slice_set mid n (option_map (having_read (number ∷ [])) x)) (get_or-set_same s.sessions n (option_map (having_read numbers) o) None small)
     ∙ ap (slice_set mid n) (read_twice numbers (number ∷ []) o)
-    ∙ set_twice s.sessions n (option_map (having_read numbers) o) (option_map (having_read (numbers ++ number ∷ [])) o))
+    ∙ set_set s.sessions n (option_map (having_read numbers) o) (option_map (having_read (numbers ++ number ∷ [])) o))
 
 -- it sees what it saw before it read
 pub seen_same : (s : State) (n number : ℕ) (numbers : List ℕ) → n < length s.sessions → seen (with_reads s n numbers) n number ≡ seen s n number

@@ -1,4 +1,6 @@
 -- A set: a transaction of one write, outside sessions.
+use Rattle.record_model.proofs.SerialLists.{left_of}
+use Rattle.image_meaning.proofs.Versions.{length-versions}
 use Rattle.checkpoint.specs.declared.master.Master.{Master}
 use Rattle.std.proofs.Common.{Option, ◌≡◌, ◌+◌, ◌*◌, ◌/◌, ◌%◌, ◌<◌, ◌≤◌, ◌==◌, Bool, true, false, ◌||◌, cond, List, [], ◌∷◌, ◌++◌, length, find, None, Some, refl, sym, ap, subst, ◌∙◌, arith, IsTrue, ℕ, ⊎_elim, true≢false}
 use Rattle.std.specs.Prelude.{filter_map}
@@ -35,7 +37,7 @@ use Rattle.redo_undo.specs.Stores.{Holds, MayGrow, shown_in, update_by}
 use Rattle.redo_undo.specs.StoreRollback.{ConcernsOnly}
 use Rattle.engine.specs.OneWrite.{HasOneWrite}
 use Rattle.engine.specs.Fits.{Fits, SessionsAre, LocksAre}
-use Rattle.engine.proofs.Meanings.{busy_write_is, begins_late, count_of_versions, free, fresh_behind, none_of}
+use Rattle.engine.proofs.Meanings.{busy_write_is, begins_late, free, fresh_behind, none_of}
 use Rattle.engine.proofs.Actives.{some_active, not_fresh}
 use Rattle.engine.proofs.Aborts.{others_go_on}
 use Rattle.redo_undo.proofs.StoreRollbacks.{concerns_more}
@@ -46,13 +48,9 @@ find_none : (f : ℕ → Bool) (xs : List ℕ) → AllByRecursion (λ x. f x ≡
 find_none f [] all = refl
 find_none f (x ∷ xs) all = ap (λ (b : Bool). cond b (Some x) (find f xs)) all.0 ∙ find_none f xs all.1
 
-left_of_or : (a b : Bool) → (a || b) ≡ false → a ≡ false
-left_of_or false b none = refl
-left_of_or true b none = none
-
 all_left : (f h : ℕ → Bool) (xs : List ℕ) → AllByRecursion (λ x. (f x || h x) ≡ false) xs → AllByRecursion (λ x. f x ≡ false) xs
 all_left f h [] all = tt
-all_left f h (x ∷ xs) all = (left_of_or (f x) (h x) all.0, all_left f h xs all.1)
+all_left f h (x ∷ xs) all = (left_of (f x) (h x) all.0, all_left f h xs all.1)
 
 pub unwritten : (s : State) (number : ℕ) → model.busy_write s None number ≡ None → model.busy_read s None number ≡ None
 unwritten s number none =
@@ -111,7 +109,7 @@ module _ (engine : Engine) (old : Site) (s : State) (number : ℕ) (fits : Fits 
       let before : Content = shown log versions number in
       let is = place in
       let pages = ap (λ (g : Geometry). g.pages) same in
-      let within : 32 * (number / 32) + number % 32 < 32 * length versions = omega (arith, less, is, count_of_versions (sizes_of store) site.image, pages) in
+      let within : 32 * (number / 32) + number % 32 < 32 * length versions = omega (arith, less, is, length-versions (sizes_of store) site.image, pages) in
       let free_here : IsFreeFor log txn number = free_begun fits.records txn number (free fits.newest fits.records engine.active s fits.sessions table number (unwritten s number (sym (busy_write_is engine.locks s fits.locks_are None number) ∙ unlocked))) in
       let owes = owed_update log (update_at txn lsn number before after) refl begun.lives.not_closed begun.chain in
       record {

@@ -1,4 +1,8 @@
 -- A session's read, and its write.
+use Rattle.engine.proofs.Scans.{none_more_written}
+use Rattle.redo_undo.proofs.Pendings.{or_false}
+use Rattle.engine.proofs.Firsts.{and_true}
+use Rattle.image_meaning.proofs.Versions.{length-versions}
 use Rattle.checkpoint.specs.declared.master.Master.{Master}
 use Rattle.std.proofs.Common.{◌≡◌, ℕ, ◌+◌, ◌*◌, ◌/◌, ◌%◌, ◌<◌, ◌≤◌, ◌&&◌, ◌||◌, ◌==◌, Bool, true, false, not, cond, ◌++◌, ◌∷◌, [], List, length, find, Option, None, Some, ⊎_elim, refl, sym, ap, subst, ◌∙◌, arith, IsTrue, get_or-set_same, get_or-set_other, length-set}
 use Rattle.std.specs.Prelude.{slice_set, slice_index_or, option_map}
@@ -30,7 +34,7 @@ use Rattle.engine.specs.Fits.{Fits, LocksAre, SessionIs, SessionsAre, with_write
 use Rattle.engine.proofs.Actives.{some_active}
 use Rattle.engine.proofs.Changes.{wrote_more}
 use Rattle.engine.proofs.Locks.{at_set}
-use Rattle.engine.proofs.Meanings.{busy_write_is, count_of_versions, free_for}
+use Rattle.engine.proofs.Meanings.{busy_write_is, free_for}
 use Rattle.engine.proofs.Owing.{entry_is}
 
 -- Locks.
@@ -47,21 +51,6 @@ any_more test (y ∷ xs) x = by (test y) (any_more test xs x)
     by : (b : Bool) → list_any test (xs ++ x ∷ []) ≡ (list_any test xs || test x) → (b || list_any test (xs ++ x ∷ [])) ≡ ((b || list_any test xs) || test x)
     by true rest = refl
     by false rest = rest
-
-and_true : (b : Bool) → (b && true) ≡ b
-and_true true = refl
-and_true false = refl
-
-or_false : (b : Bool) → (b || false) ≡ b
-or_false true = refl
-or_false false = refl
-
--- nothing is added
-or_none : (x a b : Bool) → (x || (a && (b && false))) ≡ x
-or_none true a b = refl
-or_none false true true = refl
-or_none false true false = refl
-or_none false false b = refl
 
 -- the session has written the record now
 pub added_write : (old new : List Lock) (s : State) (n number : ℕ) (after : Content) (session : Session) → n < length s.sessions → session_at s n ≡ Some session → AddsLock old new n number true → LocksAre old s → LocksAre new (with_write s n (number, after))
@@ -80,7 +69,7 @@ added_write old new s n number after session small is adds are = record {
       ∙ sym (ap (λ (o : Option Session). list_any (λ write. write.0 == r) (writes_of o)) (get_or-set_other s.sessions n m now None differ)))
       (cases_eq m n);
   reads = λ m r.
-      adds.reads m r ∙ or_none (locks.has_read old m r) (n == m) (number == r) ∙ are.reads m r
+      adds.reads m r ∙ none_more_written (locks.has_read old m r) (n == m) (number == r) ∙ are.reads m r
       ∙ sym (ap (λ (rs : List ℕ). list_any (λ read. read == r) rs) (at_set reads_of s.sessions n now (Some session) small is (ap (λ (o : Option Session). reads_of (option_map (having_written (number, after)) o)) is) m));
 }
   where
@@ -107,7 +96,7 @@ added_read old new s n number session small is adds are = record {
       ∙ sym (ap (λ (o : Option Session). list_any (λ read. read == r) (reads_of o)) (get_or-set_other s.sessions n m now None differ)))
       (cases_eq m n);
   written = λ m r.
-      adds.written m r ∙ or_none (locks.has_written old m r) (n == m) (number == r) ∙ are.written m r
+      adds.written m r ∙ none_more_written (locks.has_written old m r) (n == m) (number == r) ∙ are.written m r
       ∙ sym (ap (λ (ws : List Write). list_any (λ write. write.0 == r) ws) (at_set writes_of s.sessions n now (Some session) small is (ap (λ (o : Option Session). writes_of (option_map (having_read (number ∷ [])) o)) is) m));
 }
   where
@@ -155,7 +144,7 @@ may_write engine site s fits entry number lsn after table at less free room bloc
     let active = found.under_way.is_active in
     let none = may_read_too s n number (sym (busy_write_is engine.locks s fits.locks_are (Some n) number) ∙ free) in
     let only : IsFreeFor fits.records entry.begin number = free_for fits.newest fits.records engine.active s fits.sessions table n number entry at none in
-    let size = count_of_versions (sizes_of engine.store) site.image in
+    let size = length-versions (sizes_of engine.store) site.image in
     let place = page_and_slot number in
     record {
       follows = active_may_write (master_of fits.newest) versions fits.records lsn entry.begin entry.last (number / 32) (number % 32) found.session.writes before after active

@@ -9,7 +9,7 @@ use Rattle.site.specs.declared.geometry.Geometry.{Geometry}
 use Rattle.site.specs.State.{State, IsQuiet}
 use Rattle.site.specs.Calls.{Goes}
 use Rattle.site.specs.Moments.{LeavesOnly, ChangesOnly}
-use Rattle.site.specs.Laws.{leaves_weaker, quiet_settled}
+use Rattle.site.specs.Laws.{leaves_weaker}
 use Rattle.record_model.specs.State.{Content}
 use Rattle.log_records.specs.declared.log_record.LogRecord.{LogRecord}
 use Rattle.log_records.specs.Spelling.{AreBlock}
@@ -56,10 +56,6 @@ pub record IsAppended (g : Geometry) (log log' : LogStore) (list : LogList) (sit
   pub finds : log_held.Finds log' new
   pub changes : ChangesOnly Log site new
   pub goes : Goes site new
-
--- the log that was found, where nothing of its device is loose
-pub found_fits : (log : LogStore) (site : State) → IsQuiet site → log_held.Finds log site → log_held.Fits log site
-found_fits log site quiet finds = record { honest = finds.honest; settled = quiet_settled Log site quiet; form = finds.form; hi = finds.hi }
 
 few_blocks : (b : Bool) → tail_blocks b ≤ 1
 few_blocks true = omega arith

@@ -1,37 +1,18 @@
 -- The records of a block, read one after the other.
-use Rattle.std.proofs.Common.{◌≡◌, ℕ, ◌+◌, ◌*◌, ◌≤◌, ◌<◌, List, [], ◌∷◌, ◌++◌, length, take, drop, replicate, ◌-◌, refl, sym, ap, subst, ◌∙◌, append_assoc, arith}
+use Rattle.log_records.proofs.Blocks.{some_octet, spelled_next}
+use Rattle.std.proofs.Common.{◌≡◌, ℕ, ◌+◌, ◌*◌, ◌≤◌, ◌<◌, List, [], ◌∷◌, ◌++◌, length, drop, replicate, ◌-◌, refl, sym, ap, subst, ◌∙◌, append_assoc, arith}
 use Rattle.std.specs.Prelude.{flat_map}
 use Rattle.std.specs.List.{AllByRecursion}
-use Rattle.std.proofs.lemmas.List.{length-append, append-nil, drop-drop, drop_at, take_at}
+use Rattle.std.proofs.lemmas.List.{length-append, append-nil, drop-drop, drop_at}
 use Rattle.log_records.specs.declared.log_record.LogRecord.{LogRecord}
-use Rattle.log_records.specs.declared.log_record.LogRecord.TheVariants.{Begin, Update, Clr, Commit, End}
 use Rattle.log_records.specs.Log.{Entry, entries_from}
 use Rattle.log_records.specs.Laws.{OneSpelled}
 use Rattle.log_records.specs.Spelling.{spelling, block, block_len, used_by, HasForm, FitsFields, IsBlock, IsSpelledAt}
-
--- a record takes at least one octet
-pub some_octet : (rec : LogRecord) → 1 ≤ length (spelling rec)
-unfolding spelling
-some_octet Begin = omega arith
-some_octet (Update txn prev page slot before after) = omega arith
-some_octet (Clr txn prev undo_next page slot after) = omega arith
-some_octet (Commit txn number) = omega arith
-some_octet (End txn) = omega arith
 
 -- behind its first two octets a block has its records, and then zeros
 behind : (content : List ℕ) (all : List LogRecord) → IsBlock content all → drop 2 content ≡ flat_map spelling all ++ replicate (block_len - used_by all) 0
 unfolding block
 behind content all is = ap (drop 2) is.spelled
-
-spelled_next : (content : List ℕ) (used at : ℕ) (rec : LogRecord) (rest : List ℕ) → drop at content ≡ spelling rec ++ rest → at + length (spelling rec) ≤ used →
-    HasForm rec → FitsFields rec → IsSpelledAt content at used rec (at + length (spelling rec))
-spelled_next content used at rec rest e inside form fits = record {
-  text = ap (λ n. take n (drop at content)) (omega arith) ∙ ap (take (length (spelling rec))) e ∙ take_at (spelling rec) rest _ refl;
-  length_is = refl;
-  inside = inside;
-  has_form = form;
-  fits_fields = fits;
-}
 
 -- up to a place these were read, and these are left
 pub record IsPast (block : ℕ) (octets : List ℕ) (used at : ℕ) (records : List LogRecord) (done : List Entry) : Type 0 where

@@ -1,4 +1,5 @@
 -- Calls one after the other, each known by its record.
+use Rattle.redo_undo.proofs.AskingUndo.{not_worn_flash}
 use Rattle.std.proofs.Common.{◌≡◌, ◌≢◌, ◌⊎◌, inl, inr, ◌+◌, ◌≤◌, List, refl, sym, subst, ◌∙◌, arith, Option, ℕ}
 use Rattle.std.specs.Prelude.{Result, Ok, Err, OnOk, IfOk, IfErr, IsErrOf, IsTrue, ◌<◌}
 use Rattle.site.specs.declared.geometry.Geometry.{Geometry}
@@ -316,11 +317,7 @@ pub held_read : FitsBeside → {T : Type 0} {r : Result T Stop} {log : LogStore}
 held_read fits {log = log} {pages = pages} {before = before} {now = now} {newest = newest} {records = records} {table = table} {commits = commits} h read =
     holds_still fits log pages before now newest records table commits read.goes (read.same h.log_holds.ready.blocks.honest) h
 
--- an append says of the flash that it is worn, or of the log that it is Foreign, never
-appends_worn : (stop : Stop) → (stop ≡ Device Log) ⊎ (stop ≡ Worn Log) → stop ≢ Worn Flash
-appends_worn stop (inl is) = λ same. cc
-appends_worn stop (inr is) = λ same. cc
-
+-- an append says of the log that it is Foreign, never
 foreign_not : (stop : Stop) → (stop ≡ Device Log) ⊎ (stop ≡ Worn Log) → stop ≢ Foreign
 foreign_not stop (inl is) = λ same. cc
 foreign_not stop (inr is) = λ same. cc
@@ -335,7 +332,7 @@ keeps_appended {r = r} {old = old} {new = new} {pages = pages} {before = before}
   numbers = λ quiet. skips_on r old.geometry pages.flash.geometry old new before now n 0 going.sizes (beside.numbers going quiet);
   quiet = beside.quiet;
   worn_log = λ is. subst (λ (x : Geometry). IsLogWorn x now.image) going.sizes (beside.worn_log is);
-  worn = λ is. absurd (of_error r (λ stop. stop ≢ Worn Flash) (Worn Flash) (err_as r _ _ appends_worn stops) is refl);
+  worn = λ is. absurd (of_error r (λ stop. stop ≢ Worn Flash) (Worn Flash) (err_as r _ _ not_worn_flash stops) is refl);
   readable = appends_foreign r stops;
   masters = λ none. beside.masters;
 }

@@ -1,4 +1,6 @@
 -- Undoing what analysis has found, record by record.
+use Rattle.redo_undo.proofs.NextRecords.{order_ends}
+use Rattle.log_laws.proofs.Orders.{InTurn-append_all}
 use Rattle.std.proofs.Common.{◌≡◌, ℕ, ◌+◌, ◌-◌, ◌*◌, ◌≤◌, ◌<◌, ◌&&◌, ◌||◌, not, Bool, true, false, List, [], ◌∷◌, ◌++◌, length, Option, None, Some, true≢false, refl, sym, ap, subst, ◌∙◌, arith, append_assoc, append-nil}
 use Rattle.std.specs.List.{list_any}
 use Rattle.std.specs.Prelude.{if◌then◌else◌, map, filter}
@@ -9,14 +11,14 @@ use Rattle.record_model.specs.State.{Content}
 use Rattle.log_records.specs.declared.log_record.LogRecord.TheVariants.{End}
 use Rattle.log_records.specs.Log.{Entry, is_of, is_loser, is_closed, entries_of}
 use Rattle.log_records.specs.Unfinished.{left_open, owed, owed_by}
-use Rattle.log_records.specs.Sound.{AreOrderly, InTurn, IsInOrder, last_number, is_known}
+use Rattle.log_records.specs.Sound.{AreOrderly, IsInOrder, last_number, is_known}
 use Rattle.log_laws.specs.Follow.{Follows, IsUndoable}
 use Rattle.log_laws.specs.Tail.{next_lsn}
 use Rattle.log_laws.specs.Analysis.{Unfinished, IsUnfinished}
 use Rattle.log_laws.specs.UndoLaws.{next_of}
 use Rattle.log_store.specs.declared.store.LogStore.{LogStore}
 use Rattle.log_store.specs.Held.{has_tail}
-use Rattle.std.proofs.lemmas.Bool.{ltb-false}
+use Rattle.std.proofs.lemmas.Bool.{ltb-false, or_parts}
 use Rattle.page_store.specs.declared.store.PageStore.{PageStore}
 use Rattle.checkpoint.specs.declared.master.Master.{Master}
 use Rattle.image_meaning.specs.Meaning.{kept_by, picture_under, master_of, versions_on}
@@ -42,13 +44,9 @@ pub up_to_last : (from : ℕ) (xs : List Entry) (e : Entry) (to : ℕ) → IsInO
 up_to_last from [] e to order = (omega arith, tt)
 up_to_last from (x ∷ xs) e to order = (let a = last_after (x.lsn + 1) xs e to order.1 in omega (arith, a), up_to_last (x.lsn + 1) xs e to order.1)
 
-order_end : (from : ℕ) (xs : List Entry) (to : ℕ) → IsInOrder from xs to → from ≤ to
-order_end from [] to order = order
-order_end from (x ∷ xs) to order = let a = order.0 in let b = order_end (x.lsn + 1) xs to order.1 in omega (arith, a, b)
-
 below_end : (from : ℕ) (xs : List Entry) (to known : ℕ) → to ≤ known + 1 → IsInOrder from xs to → AreUpTo known xs
 below_end from [] to known less order = tt
-below_end from (x ∷ xs) to known less order = (let a = order_end (x.lsn + 1) xs to order.1 in omega (arith, a, less), below_end (x.lsn + 1) xs to known less order.1)
+below_end from (x ∷ xs) to known less order = (let a = order_ends (x.lsn + 1) to xs order.1 in omega (arith, a, less), below_end (x.lsn + 1) xs to known less order.1)
 
 last_up_to : (n known : ℕ) (test : Entry → Bool) (xs : List Entry) → n ≤ known → AreUpTo known xs → last_number n (map (λ e. e.lsn) (filter test xs)) ≤ known
 last_up_to n known test [] less all = less
@@ -80,10 +78,6 @@ none_any test (x ∷ xs) none = by (test x) none (none_any test xs)
     by : (b : Bool) → (b || list_any test xs) ≡ false → (list_any test xs ≡ false → filter test xs ≡ []) → (if b then x ∷ filter test xs else filter test xs) ≡ []
     by true is rest = absurd (true≢false is)
     by false is rest = rest is
-
-either_none : (a b : Bool) → (a || b) ≡ false → (a ≡ false) × (b ≡ false)
-either_none true b none = absurd (true≢false none)
-either_none false b none = (refl, none)
 
 module _ (found_laws : FoundLaws) (laws : UndoLaws) (log : LogStore) (pages : PageStore) (site : State) (newest : Option Master) (records : List Entry) (table : List Content) (commits : ℕ) (found : Analysis) (h : Holds log pages site newest records table commits) (is : IsTable [] records (listed found.table)) where
   pub undoable : IsUndoable records
@@ -167,7 +161,7 @@ module _ (found_laws : FoundLaws) (laws : UndoLaws) (log : LogStore) (pages : Pa
       by : (b : Bool) → list_any (is_of t) records ≡ b → list_any (is_of t) records ≡ false
       by false is_none = is_none
       by true some =
-          let parts = either_none (is_known [] records t) (is_closed records t) none in
+          let parts = or_parts (is_known [] records t) (is_closed records t) none in
           let loser : is_loser records t ≡ true = ap (λ b. b && not (is_closed records t)) some ∙ ap not parts.1 in
           let active : is_active [] records t ≡ true = found_laws.active [] records t tt ∙ found_laws.listed records t undoable loser in
           absurd (true≢false (sym active ∙ ap (λ b. b && not (is_closed records t)) parts.0))
@@ -221,10 +215,6 @@ module _ (laws : UndoLaws) (log : LogStore) (pages : PageStore) (site : State) (
 
 -- Records in turn.
 
-pub in_turn_join : (P : List Entry → Entry → Type 0) (earlier xs ys : List Entry) → InTurn P earlier xs → InTurn P (earlier ++ xs) ys → InTurn P earlier (xs ++ ys)
-in_turn_join P earlier [] ys first second = subst (λ (l : List Entry). InTurn P l ys) (append-nil earlier) second
-in_turn_join P earlier (x ∷ xs) ys first second = (first.0, in_turn_join P (earlier ++ x ∷ []) xs ys first.1 (subst (λ (l : List Entry). InTurn P l ys) (sym (append_assoc earlier (x ∷ []) xs)) second))
-
 -- nothing is undone yet
 unfoldable pub nothing_undone : (log : LogStore) (pages : PageStore) (site : State) (newest : Option Master) (records : List Entry) (table : List Content) (commits : ℕ) (found : Analysis) (known : ℕ) → IsUndoing log pages site newest records table commits found known →
     UndoesSome log pages site newest records table commits found known
@@ -244,7 +234,7 @@ more_undone log log' pages pages' site site' newest records table commits found 
     record {
       more = a.more ++ b.more;
       now = subst (λ (l : List Entry). IsUndoing log' pages' site' newest l table commits found' known') all b.now;
-      in_turn = in_turn_join IsNextUndo records a.more b.more a.in_turn b.in_turn;
+      in_turn = InTurn-append_all IsNextUndo records a.more b.more a.in_turn b.in_turn;
       count = omega (arith, a.count, b.count, length-append a.more b.more, ap owed all);
       orderly = λ was. subst AreOrderly all (b.orderly (a.orderly was));
     }

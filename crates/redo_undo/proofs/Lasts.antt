@@ -1,4 +1,5 @@
 -- The last record of an unfinished transaction.
+use Rattle.log_laws.proofs.Parts.{in_order_filter}
 use Rattle.std.proofs.Common.{◌≡◌, ℕ, ◌≤◌, ◌==◌, Bool, true, false, List, [], ◌∷◌, ◌++◌, length, None, Some, refl, sym, ap, subst, ◌∙◌, arith, ◌*◌, ◌+◌}
 use Rattle.std.specs.Prelude.{if◌then◌else◌, map, filter, find, drop, Option}
 use Rattle.site.specs.State.{State}
@@ -20,7 +21,6 @@ use Rattle.redo_undo.specs.Holding.{Holds}
 use Rattle.redo_undo.specs.Laws.{PageLaws, UndoLaws, FoundLaws}
 use Rattle.redo_undo.proofs.Compensations.{chain, found_at, entries_are}
 use Rattle.std.proofs.lemmas.Bool.{eqb-true}
-use Rattle.redo_undo.proofs.LeftUpdates.{order_filtered}
 use Rattle.redo_undo.proofs.Found.{last_after}
 
 -- what passes a test stands in the list
@@ -134,7 +134,7 @@ module _ (page_laws : PageLaws) (found_laws : FoundLaws) (laws : UndoLaws) (log 
       let own : txn_of e ≡ x.txn = eqb-true (txn_of e) x.txn split.3 in
       let ordered = subst (λ (l : List Entry). IsInOrder (512 * kept_by newest) l end) split.2 order in
       let head : first_lsn (is.front ++ e ∷ []) ≡ x.txn = ap first_lsn (sym is.are) ∙ ap first_lsn its_chain.begins in
-      let begun = after_first (512 * kept_by newest) end is.front e (subst (λ (l : List Entry). IsInOrder (512 * kept_by newest) l end) is.are (order_filtered (is_of x.txn) (512 * kept_by newest) end records order)) in
+      let begun = after_first (512 * kept_by newest) end is.front e (subst (λ (l : List Entry). IsInOrder (512 * kept_by newest) l end) is.are (in_order_filter (is_of x.txn) (512 * kept_by newest) records end order)) in
       let found = ap (find (λ v. v.lsn == x.last)) split.2 ∙ ap (λ (n : ℕ). find (λ v. v.lsn == n) (split.0 ++ e ∷ split.1)) at ∙ found_laws.by_lsn (512 * kept_by newest) end split.0 e split.1 ordered in (
         e,
         ap (at_lsn x.last) (entries_are page_laws newest pages.flash.geometry site.image h.log_holds.blocks h.log_holds.tail ∙ h.log_holds.runs_on.records_are) ∙ found_at x.last records e found,
@@ -148,7 +148,7 @@ module _ (page_laws : PageLaws) (found_laws : FoundLaws) (laws : UndoLaws) (log 
 
   -- it has begun in the kept log
   pub begin_kept : 512 * kept_by newest ≤ x.txn
-  begin_kept = (subst (λ (l : List Entry). IsInOrder (512 * kept_by newest) l end) its_chain.begins (order_filtered (is_of x.txn) (512 * kept_by newest) end records order)).0
+  begin_kept = (subst (λ (l : List Entry). IsInOrder (512 * kept_by newest) l end) its_chain.begins (in_order_filter (is_of x.txn) (512 * kept_by newest) records end order)).0
 
   pub last_kept : 512 * kept_by newest ≤ x.last
   last_kept =
@@ -157,7 +157,7 @@ module _ (page_laws : PageLaws) (found_laws : FoundLaws) (laws : UndoLaws) (log 
       let is = last.1 in
       let at : x.last ≡ e.lsn = unfinished.last_is ∙ ap last_lsn is.are ∙ last_number_end 0 is.front e in
       let head : first_lsn (is.front ++ e ∷ []) ≡ x.txn = ap first_lsn (sym is.are) ∙ ap first_lsn its_chain.begins in
-      let begun = after_first (512 * kept_by newest) end is.front e (subst (λ (l : List Entry). IsInOrder (512 * kept_by newest) l end) is.are (order_filtered (is_of x.txn) (512 * kept_by newest) end records order)) in
+      let begun = after_first (512 * kept_by newest) end is.front e (subst (λ (l : List Entry). IsInOrder (512 * kept_by newest) l end) is.are (in_order_filter (is_of x.txn) (512 * kept_by newest) records end order)) in
       omega (arith, begun, head, at, begin_kept)
 
   -- whichever record was read at its LSN

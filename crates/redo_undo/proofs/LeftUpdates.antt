@@ -1,6 +1,7 @@
 -- The Updates that a transaction leaves to be undone, as CLR after CLR takes the last of them off.
-use Rattle.std.proofs.Common.{◌≡◌, ℕ, ◌+◌, ◌≤◌, ◌<◌, Bool, true, false, List, [], ◌∷◌, ◌++◌, length, Some, true≢false, refl, sym, ap, subst, ◌∙◌, arith, ◌*◌}
-use Rattle.std.specs.Prelude.{if◌then◌else◌, filter, drop, Ok, ⊤, Option}
+use Rattle.log_laws.proofs.Parts.{in_order_filter}
+use Rattle.std.proofs.Common.{◌≡◌, ℕ, ◌+◌, ◌≤◌, ◌<◌, Bool, true, List, [], ◌∷◌, ◌++◌, length, Some, true≢false, refl, sym, ap, subst, ◌∙◌, arith, ◌*◌}
+use Rattle.std.specs.Prelude.{if◌then◌else◌, drop, Ok, ⊤, Option}
 use Rattle.std.specs.List.{AllByRecursion}
 use Rattle.std.proofs.lemmas.Bool.{eq-eqb}
 use Rattle.site.specs.State.{State}
@@ -88,21 +89,8 @@ updates_fall : (from to : ℕ) (entries updates : List Entry) → IsInOrder from
 updates_fall from to [] updates order are = are.fall
 updates_fall from to (e ∷ entries) updates order are = updates_fall (e.lsn + 1) to entries (open_by updates e e.rec) order.1 (opens_below updates e e.rec from order.0 are)
 
--- some of the records in order are in order
-pub order_from : (low from to : ℕ) (xs : List Entry) → low ≤ from → IsInOrder from xs to → IsInOrder low xs to
-order_from low from to [] less order = omega (arith, less, order)
-order_from low from to (x ∷ xs) less order = (let first = order.0 in omega (arith, less, first), order.1)
-
-pub order_filtered : (test : Entry → Bool) (from to : ℕ) (xs : List Entry) → IsInOrder from xs to → IsInOrder from (filter test xs) to
-order_filtered test from to [] order = order
-order_filtered test from to (x ∷ xs) order = by (test x) (order_filtered test (x.lsn + 1) to xs order.1)
-  where
-    by : (b : Bool) → IsInOrder (x.lsn + 1) (filter test xs) to → IsInOrder from (if b then x ∷ filter test xs else filter test xs) to
-    by true later = (order.0, later)
-    by false later = order_from from (x.lsn + 1) to (filter test xs) (let first = order.0 in omega (arith, first)) later
-
 pub left_falls : (from to : ℕ) (records : List Entry) (t : ℕ) → IsInOrder from records to → Fall (left_open records t)
-left_falls from to records t order = updates_fall from to (entries_of t records) [] (order_filtered (is_of t) from to records order) (record { below = tt; fall = tt })
+left_falls from to records t order = updates_fall from to (entries_of t records) [] (in_order_filter (is_of t) from records to order) (record { below = tt; fall = tt })
 
 -- The record where undoing goes on is the last Update that is left.
 module _ (pages_laws : PageLaws) (found_laws : FoundLaws) (laws : UndoLaws) (log : LogStore) (pages : PageStore) (site : State) (newest : Option Master) (records : List Entry) (table : List Content) (commits : ℕ) (h : Holds log pages site newest records table commits) (x : Unfinished) (unfinished : IsUnfinished records x) (u : Entry) (rest : List Entry) (left : left_open records x.txn ≡ u ∷ rest) where

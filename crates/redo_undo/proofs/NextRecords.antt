@@ -1,4 +1,5 @@
 -- The next record of an opened log is redone.
+use Rattle.log_laws.proofs.Losers.{last_number_of}
 use Rattle.std.proofs.Common.{◌≡◌, ◌≢◌, ◌⊎◌, inl, inr, ℕ, ◌+◌, ◌-◌, ◌*◌, ◌/◌, ◌≤◌, ◌<◌, List, [], ◌∷◌, ◌++◌, length, map, Some, refl, sym, ap, subst, ◌∙◌, arith, true, false, Bool}
 use Rattle.std.specs.List.{AllByRecursion}
 use Rattle.std.proofs.lemmas.Bool.{cases_eq, lt-ltb, cond-true}
@@ -59,13 +60,9 @@ last_before from to n [] e rest ordered low = low
 last_before from to n (x ∷ front) e rest ordered low =
     last_before (x.lsn + 1) to x.lsn front e rest ordered.1 (omega (arith, comes_after (x.lsn + 1) to front e rest ordered.1))
 
-last_of : (n : ℕ) (front : List Entry) (e : Entry) → last_number n (map (λ x. x.lsn) (front ++ e ∷ [])) ≡ e.lsn
-last_of n [] e = refl
-last_of n (x ∷ front) e = last_of x.lsn front e
-
 from_more : (p : Picture) (front : List Entry) (e : Entry) (page lsn : ℕ) → last_lsn front ≤ e.lsn - 1 → IsFrom p front page lsn → IsFrom p (front ++ e ∷ []) page lsn
 from_more p front e page lsn low (inl same) = inl same
-from_more p front e page lsn low (inr less) = let last : last_lsn (front ++ e ∷ []) ≡ e.lsn = last_of 0 front e in inr (omega (arith, low, less, last))
+from_more p front e page lsn low (inr less) = let last : last_lsn (front ++ e ∷ []) ≡ e.lsn = last_number_of 0 front e in inr (omega (arith, low, less, last))
 
 -- the page in front knows of a record on it
 pub front_knows : (pages : PageStore) (image : Image) (rec : LogRecord) (lsn page : ℕ) → 0 < length pages.pool.frames → (front_of pages.pool.frames).page ≡ page → IsOnPage page rec → lsn ≤ lsn_of (front_of pages.pool.frames).content →
@@ -155,7 +152,7 @@ module _ (laws : PageLaws) (redo : RedoLaws) (o : Opening) (log : LogStore) (pag
     each_page page exists (inl same) =
         let there = subst (λ n. n < o.sizes.pages) same exists in
         let set = redoes.lsn in
-        let last : last_lsn (front ++ e ∷ []) ≡ e.lsn = last_of 0 front e in
+        let last : last_lsn (front ++ e ∷ []) ≡ e.lsn = last_number_of 0 front e in
         subst (λ n. IsRedone (opened o) n (version_in (current pages' site.image n)) × AreKnown (front ++ e ∷ []) n (lsn_of (current pages' site.image n)) × IsFrom (opened o) (front ++ e ∷ []) n (lsn_of (current pages' site.image n))) (sym same) (
           redo.next (opened o) on (version_in (current pages site.image on)) (version_in (current pages' site.image on)) front rest e number h.sound is own at later (h.known on there) (h.redone on there) redoes,
           all_append (λ (x : Entry). (n : ℕ) → number_of x.rec ≡ Some n → n / 32 ≡ on → x.lsn ≤ lsn_of (current pages' site.image on)) front (e ∷ [])

@@ -1,6 +1,6 @@
 -- Lists of active transactions.
 use Rattle.std.proofs.Common.{◌≡◌, ◌≢◌, ℕ, suc, ◌+◌, ◌≤◌, ◌<◌, ◌==◌, Bool, true, false, cond, List, [], ◌∷◌, ◌++◌, length, Option, None, Some, refl, sym, ap, subst, ◌∙◌, arith}
-use Rattle.std.specs.Prelude.{slice_get, map, drop, Result, Ok, Err, OnOk, IfNone}
+use Rattle.std.specs.Prelude.{slice_get, map, drop, IfNone}
 use Rattle.std.specs.List.{AllByRecursion}
 use Rattle.std.proofs.lemmas.Bool.{ne_eqb, eq-eqb}
 use Rattle.std.proofs.lemmas.List.Sums.{sum_by-cons}
@@ -125,10 +125,6 @@ others_remain old mid new t last ascend all r out =
 pub none_listed : (table : List Open) → Remain table → AllByRecursion (λ x. x.updates ≡ []) table → table ≡ []
 none_listed [] some none = refl
 none_listed (x ∷ table) some none = let a = some.0 in let b = ap length none.0 in absurd (omega (arith, a, b))
-
-pub ok_one : {A E : Type 0} (r : Result A E) (P Z : Type 0) → (P → Z) → OnOk r P → OnOk r Z
-ok_one (Ok x) P Z f p = f p
-ok_one (Err e) P Z f p = tt
 
 pub if_none : {X : Type 0} (o : Option X) (P : Type 0) → ((x : X) → o ≡ Some x → ⊥) → IfNone o P → P
 if_none None P not_some p = p

@@ -1,4 +1,6 @@
 -- All Updates that no CLR compensates, as one after the other is compensated.
+use Rattle.log_laws.proofs.Parts.{in_order_filter}
+use Rattle.log_laws.proofs.Orders.{filter_all}
 use Rattle.std.proofs.Common.{◌≡◌, ℕ, ◌+◌, ◌≤◌, ◌<◌, ◌==◌, Bool, true, false, not, ◌&&◌, ◌||◌, List, [], ◌∷◌, ◌++◌, Option, None, Some, true≢false, refl, sym, ap, subst, ◌∙◌, arith, append-nil}
 use Rattle.std.specs.Prelude.{if◌then◌else◌, filter, reverse, drop}
 use Rattle.std.specs.List.{AllByRecursion, list_any}
@@ -14,7 +16,7 @@ use Rattle.log_records.specs.Log.{Entry, txn_of, is_of, is_update, is_closing, i
 use Rattle.log_records.specs.Unfinished.{is_clr, open_by, left_open, pending}
 use Rattle.log_records.specs.Sound.{IsInOrder}
 use Rattle.log_laws.specs.RoomLaws.{LeftPush}
-use Rattle.redo_undo.proofs.LeftUpdates.{left_after_clr, order_filtered}
+use Rattle.redo_undo.proofs.LeftUpdates.{left_after_clr}
 
 -- Lists.
 
@@ -30,11 +32,6 @@ filter_twice p q (x ∷ xs) = by (p x) (filter_twice p q xs)
         (if b && q x then x ∷ filter (λ x. p x && q x) xs else filter (λ x. p x && q x) xs) ≡ filter q (if b then x ∷ filter p xs else filter p xs)
     by true later = ap (λ (l : List Entry). if q x then x ∷ l else l) later
     by false later = later
-
--- each passes
-filter_whole : (q : Entry → Bool) (xs : List Entry) → AllByRecursion (λ x. q x ≡ true) xs → filter q xs ≡ xs
-filter_whole q [] all = refl
-filter_whole q (x ∷ xs) all = ap (λ (b : Bool). if b then x ∷ filter q xs else filter q xs) all.0 ∙ ap (λ (l : List Entry). x ∷ l) (filter_whole q xs all.1)
 
 -- without a last one there is none
 pub none_last : (xs : List Entry) → last_where (λ v. true) xs ≡ None → xs ≡ []
@@ -78,11 +75,11 @@ pending_more records c other =
     ∙ ap (λ (b : Bool). filter (waits (records ++ c ∷ [])) records ++ (if b && not (is_closed (records ++ c ∷ []) (txn_of c)) && list_any (λ u. u.lsn == c.lsn) (left_open (records ++ c ∷ []) (txn_of c)) then c ∷ [] else [])) other
     ∙ append-nil (filter (waits (records ++ c ∷ [])) records)
 
-or_false : (b : Bool) → (b || false) ≡ b
+pub or_false : (b : Bool) → (b || false) ≡ b
 or_false true = refl
 or_false false = refl
 
-and_false : (b : Bool) → (b && false) ≡ false
+pub and_false : (b : Bool) → (b && false) ≡ false
 and_false true = refl
 and_false false = refl
 
@@ -168,7 +165,7 @@ module _ (push : LeftPush) (records : List Entry) (c u : Entry) (rest : List Ent
   pending_after_clr from to order last own =
       let split = last_is (pending records) u last in
       let front = split.0 in
-      let below = (before_last from to front u (subst (λ (l : List Entry). IsInOrder from l to) split.1 (order_filtered (waits records) from to records order))).1 in
+      let below = (before_last from to front u (subst (λ (l : List Entry). IsInOrder from l to) split.1 (in_order_filter (waits records) from records to order))).1 in
       let leaves : gone u ≡ true = ap (λ (b : Bool). b && is_of (txn_of u) c) (eq-eqb u.lsn u.lsn refl) ∙ eq-eqb (txn_of c) (txn_of u) (sym own) in
       let now : pending (records ++ c ∷ []) ≡ front =
       pending_more records c (not_closing c.rec clr).1
@@ -178,7 +175,7 @@ module _ (push : LeftPush) (records : List Entry) (c u : Entry) (rest : List Ent
       ∙ filter-append (λ e. not (gone e)) front (u ∷ [])
       ∙ ap (λ (b : Bool). filter (λ e. not (gone e)) front ++ (if not b then u ∷ [] else [])) leaves
       ∙ append-nil (filter (λ e. not (gone e)) front)
-      ∙ filter_whole (λ e. not (gone e)) front (others_stay front below) in
+      ∙ filter_all (λ e. not (gone e)) front (others_stay front below) in
       split.1 ∙ ap (λ (l : List Entry). l ++ u ∷ []) (sym now)
 
 pub reversed : (xs ys : List Entry) (u : Entry) → xs ≡ ys ++ u ∷ [] → reverse xs ≡ u ∷ reverse ys

@@ -1,6 +1,7 @@
 -- What redo asks of the cache.
+use Rattle.site.proofs.Working.{ok_always}
 use Rattle.std.proofs.Common.{◌≡◌, ◌≢◌, ◌⊎◌, inl, inr, ℕ, ◌-◌, ◌/◌, ◌≤◌, ◌<◌, nat_lt, Bool, true, false, List, [], ◌∷◌, ◌++◌, Option, Some, None, append-nil, append_assoc, refl, sym, ap, subst, ◌∙◌, arith, ◌*◌}
-use Rattle.std.specs.Prelude.{if◌then◌else◌, ⊤, Result, Ok, Err, OnOk, IsErrOf, filter_map, option_map, nat_le}
+use Rattle.std.specs.Prelude.{if◌then◌else◌, ⊤, Result, Ok, Err, IsErrOf, filter_map, option_map, nat_le}
 use Rattle.std.proofs.lemmas.Bool.{le-leb, lt-ltb, le-ltb, cond-true, cond-false, lt-leb}
 use Rattle.std.proofs.lemmas.List.Elements.{filter_map-append}
 use Rattle.site.specs.declared.outside.Dev.{Dev}
@@ -51,16 +52,12 @@ asks_reading result pages old new same never still =
     let disk = same Disk (λ is. cc) in
     let none = nothing_asked pages old in
     record {
-      machine = every_ok result refl;
+      machine = ok_always result _ refl;
       worn = λ is. absurd (never is);
       reads = record { flash = omega (arith, none.reads.flash, flash); disk = omega (arith, none.reads.disk, disk) };
       rules_are = refl;
       stages = still;
     }
-  where
-    every_ok : {A : Type 0} {P : Type 0} (r : Result A Stop) → P → OnOk r P
-    every_ok (Ok x) p = p
-    every_ok (Err stop) p = tt
 
 -- Records after records.
 

@@ -1,4 +1,6 @@
 -- A master is saved over flushed pages and an empty tail.
+use Rattle.log_laws.proofs.Parts.{in_order_filter}
+use Rattle.log_records.proofs.Blocks.{some_octet}
 use Rattle.std.proofs.Common.{◌≡◌, ◌⊎◌, inl, inr, ℕ, ◌+◌, ◌-◌, ◌*◌, ◌/◌, ◌≤◌, ◌<◌, ◌==◌, ◌||◌, Bool, true, false, true≢false, cond, List, [], ◌∷◌, map, drop, Option, None, Some, refl, sym, ap, subst, ◌∙◌, arith, append-nil, length}
 use Rattle.std.specs.Prelude.{if◌then◌else◌, filter, flat_map, max, nat_le, nat_lt, slice_get, sum_by}
 use Rattle.std.specs.List.{list_any, AllByRecursion}
@@ -49,13 +51,11 @@ use Rattle.image_meaning.specs.Redone.{AreKnown, ShowsAll}
 use Rattle.redo_undo.specs.Holding.{Holds, blocks_to}
 use Rattle.redo_undo.specs.Checkpointing.{AreUnfinished, MayBeMade, begins_of, SaveLaws, KeepUnfinished, IsSaved}
 use Rattle.redo_undo.specs.Laws.{LogLaws, PageLaws, BesideLaws}
-use Rattle.redo_undo.proofs.BlockRecords.{some_octet}
 use Rattle.redo_undo.proofs.Sames.{sound_there, nothing_happens}
 use Rattle.redo_undo.proofs.Touched.{hi_is}
 use Rattle.redo_undo.proofs.Appended.{current_same, more_sealed}
 use Rattle.log_laws.specs.Follow.{IsUndoable}
 use Rattle.std.proofs.lemmas.Bool.{eqb-true, eq-eqb, cond-true, cond-false, le-leb, lt-ltb}
-use Rattle.redo_undo.proofs.LeftUpdates.{order_filtered}
 use Rattle.redo_undo.proofs.NextRecords.{order_ends}
 use Rattle.image_changes.specs.Reached.{LeavesFront}
 
@@ -173,7 +173,7 @@ all_before n from to (x ∷ xs) less order =
 -- all records of an unfinished transaction stand from its Begin on
 chain_kept : (n t from to : ℕ) (log : List Entry) → IsInOrder from log to → IsLoserChain t (entries_of t log) → 512 * n ≤ t → entries_of t (from_block n log) ≡ entries_of t log
 chain_kept n t from to log order chain late =
-    let ordered = subst (λ (l : List Entry). IsInOrder from l to) chain.begins (order_filtered (is_of t) from to log order) in
+    let ordered = subst (λ (l : List Entry). IsInOrder from l to) chain.begins (in_order_filter (is_of t) from log to order) in
     let begun : IsInOrder t (entries_of t log) to = subst (λ (l : List Entry). IsInOrder t l to) (sym chain.begins) (omega arith, ordered.1) in
     filter_swap (is_of t) (λ e. nat_le (512 * n) e.lsn) log ∙ all_from n t to (entries_of t log) late begun
 

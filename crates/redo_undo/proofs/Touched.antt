@@ -1,6 +1,7 @@
 -- Log and pages that hold together, while pages come and go.
-use Rattle.std.proofs.Common.{◌≡◌, ◌⊎◌, inl, inr, ℕ, ◌≤◌, ◌<◌, Bool, true, false, List, [], ◌∷◌, ◌++◌, refl, sym, ap, subst, ◌∙◌, arith, ◌&&◌}
-use Rattle.std.specs.Prelude.{if◌then◌else◌, Result, Ok, Err, OnOk, Option}
+use Rattle.page_store.proofs.Rounds.{and_left}
+use Rattle.std.proofs.Common.{◌≡◌, ◌⊎◌, inl, inr, ℕ, ◌≤◌, ◌<◌, Bool, true, false, List, [], ◌∷◌, ◌++◌, refl, sym, ap, subst, ◌∙◌, arith}
+use Rattle.std.specs.Prelude.{if◌then◌else◌, Option}
 use Rattle.std.proofs.lemmas.List.{length-append}
 use Rattle.site.specs.declared.geometry.Geometry.{Geometry}
 use Rattle.site.specs.State.{State, Snapshot, snapshot_of}
@@ -41,11 +42,7 @@ tail_blocks b = if b then 1 else 0
 
 -- the log is forced only where its tail has records
 pub forced_tail : (log : LogStore) (contents : List (List ℕ)) → forces log contents ≡ true → has_tail log ≡ true
-forced_tail log contents is = by (has_tail log) _ is
-  where
-    by : (b c : Bool) → (b && c) ≡ true → b ≡ true
-    by true c is = refl
-    by false c is = is
+forced_tail log contents is = and_left (has_tail log) _ is
 
 module _ (logs : LogLaws) (laws : PageLaws) (log : LogStore) (pages : PageStore) (site : State) (newest : Option Master) (records : List Entry) (table : List Content) (commits : ℕ) (h : Holds log pages site newest records table commits) where
   abbrev g : Geometry
@@ -159,7 +156,3 @@ module _ (logs : LogLaws) (laws : PageLaws) (log : LogStore) (pages : PageStore)
         }
 
 -- results
-
-pub ok_both : {A E : Type 0} (r : Result A E) (P Q Z : Type 0) → (P → Q → Z) → OnOk r P → OnOk r Q → OnOk r Z
-ok_both (Ok x) P Q Z f p q = f p q
-ok_both (Err e) P Q Z f p q = tt

@@ -1,3 +1,4 @@
+use Rattle.site.proofs.Working.{err_again}
 use Rattle.site.specs.declared.outside.Dev.TheVariants.{Flash, Disk}
 use Rattle.site.specs.State.{Image}
 use Rattle.engine.specs.Paging.{cache_on}
@@ -14,7 +15,7 @@ use Rattle.site.specs.Laws.{stays_honest, unchanged_in_sequence, goes_in_sequenc
 use Rattle.site.specs.declared.outside.Stop.TheVariants.{Foreign}
 use Rattle.image_meaning.specs.Meaning.{AreOctetsSoundUnder, kept_by, saved_by}
 use Rattle.flash_cache.specs.Held.{groups_on}
-use Rattle.engine.proofs.Openings.{has_groups, first_on, there_is_newest, masters_form, kept_is, both_go_on, ready_now, err_again}
+use Rattle.engine.proofs.Openings.{has_groups, first_on, there_is_newest, masters_form, kept_is, both_go_on, ready_now}
 use Rattle.std.specs.Prelude.{IsTrue}
 use Rattle.site.specs.Calls.{IsUnchanged}
 use Rattle.engine.proofs.restart.open.Given.{Over}

@@ -1,3 +1,4 @@
+use Rattle.redo_undo.proofs.StoreCalling.{where_two}
 use Rattle.std.proofs.Common.{◌≡◌, ◌∙◌, ◌++◌, Err, List, [], false, ap, sym, subst, arith, ◌≤◌, refl, ℕ}
 use Rattle.site.specs.declared.geometry.Geometry.{Geometry}
 use Rattle.site.specs.declared.outside.Stop.TheVariants.{Foreign}
@@ -133,11 +134,6 @@ returns-then-commits-sealed_end-clause-recovers g c newest blocks table commits 
     let few = commits_fit c.undo_all.new.log c.undo_all.new.pages und newest (records ++ undone.more) table commits undone.holds in
     absurd (omega (arith, found, few, c.sealed_end-2.ensures, c.undo_all.ensures.commits, c.commits-commits.ensures.commits, c.if-commits-sealed_end.true))
 
--- two things that hold of what was answered
-on_both : {T E : Type 0} (r : Result T E) {P R Q : Type 0} → OnOk r P → OnOk r R → (P → R → Q) → OnOk r Q
-on_both (Ok x) p q f = f p q
-on_both (Err e) p q f = tt
-
 -- Behind undo a checkpoint is made, however that ends.
 module _ (g : Over) (c : After-checkpoint g) (newest : Option Master) (blocks : List (List LogRecord)) (table : List Content) (commits : ℕ)
     (h : IsReady c.args.opened (g.S.Site.state c.args.site.now) newest blocks table commits) where
@@ -201,7 +197,7 @@ module _ (g : Over) (c : After-checkpoint g) (newest : Option Master) (blocks : 
       named in
       let restarted : (x : Restarted) → x.store ≡ c.checkpoint.new.self → x.commits ≡ c.commits-commits.result → OnOk c.checkpoint.result
       (RestartedAs x new table commits) = λ x store are.
-      on_both c.checkpoint.result empty c.checkpoint.ensures.made (λ checkpoint made. restarted_as x new all table commits 0 undone.none
+      where_two _ _ _ c.checkpoint.result empty c.checkpoint.ensures.made (λ checkpoint made. restarted_as x new all table commits 0 undone.none
       (subst (λ (y : Store). HasCheckpoint y new all table commits []) (sym store) checkpoint)
       (let same = ap (λ (y : Store). y.made) store in omega (arith, same, made)) (are ∙ counted)) in
       subst Behind result (ends_then calm_und same (ends_then calm c.redo.ensures.works.geometry first second) third, skips, asks, restarted)

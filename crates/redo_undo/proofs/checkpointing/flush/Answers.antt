@@ -1,3 +1,4 @@
+use Rattle.page_store.proofs.Bringing.{ok_two}
 use Rattle.std.proofs.Common.{append-nil, Bool, sym, subst, ◌∙◌, arith, inl, refl}
 use Rattle.record_model.specs.Touches.{flush}
 use Rattle.page_store.specs.Caching.{cache_of, rules}
@@ -11,7 +12,7 @@ use Rattle.page_store.specs.Ahead.{forces}
 use Rattle.page_store.specs.Flushing.{flushed_contents}
 use Rattle.image_meaning.specs.Meaning.{kept_by}
 use Rattle.redo_undo.specs.Holding.{HoldsIn, Holds}
-use Rattle.redo_undo.proofs.Touched.{forced_tail, leaves_table, touched_holds, ok_both}
+use Rattle.redo_undo.proofs.Touched.{forced_tail, leaves_table, touched_holds}
 use Rattle.site.proofs.Working.{ok_as}
 use Rattle.page_store.specs.Held.{current}
 use Rattle.redo_undo.proofs.LeftNumbers.{pages_skip, ready_next}
@@ -29,7 +30,7 @@ returns g c =
     record {
       holds = λ newest records table commits h.
           let list : LogList = record { first = kept_by newest; blocks = h.log_holds.blocks; tail = h.log_holds.tail } in
-          ok_both c.flush_all.result _ _ (Holds c.flush_all.new.log c.flush_all.new.self new newest records table commits)
+          ok_two c.flush_all.result _ _ (Holds c.flush_all.new.log c.flush_all.new.self new newest records table commits)
           (λ stands end. subst (λ (x : Geometry). HoldsIn x c.flush_all.new.log c.flush_all.new.self new newest records table commits) (sym c.flush_all.ensures.works.geometry)
           (touched_holds c.log_laws.ensures c.page_laws.ensures log pages site newest records table commits h c.flush_all.new.log c.flush_all.new.self new (c.flush_all.ensures.works.forces.geometry ∙ c.requires.going.sizes)
           c.flush_all.ensures.works.forces.kept stands.current (stands.ahead h.log_holds.ahead) end (stands.sealed h.log_holds.ahead) (stands.rings newest h.log_holds.rings) c.requires.going.log_going.high sealing (forced_tail log (flushed_contents pages)) stands.ready stands.leaves))

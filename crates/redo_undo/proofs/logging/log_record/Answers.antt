@@ -1,3 +1,4 @@
+use Rattle.page_store.proofs.PushLaws.{log_fits}
 use Rattle.std.proofs.Common.{List, ◌≡◌, ◌≤◌, ◌<◌, Bool, true, ◌∷◌, [], ◌++◌, ap, inr, ℕ}
 use Rattle.std.specs.Prelude.{IfOk, Option}
 use Rattle.log_records.specs.Sound.{AreOrderly}
@@ -9,7 +10,7 @@ use Rattle.log_store.specs.LogList.{LogList, changes_if}
 use Rattle.page_store.specs.Ahead.{AreSealed}
 use Rattle.image_meaning.specs.Meaning.{kept_by}
 use Rattle.redo_undo.specs.Holding.{MayGrow, HoldsLog, Holds}
-use Rattle.redo_undo.proofs.Appended.{found_fits, appended, ends_with, append_leaves, rings_now, sealed_now, versions_same, current_same, IsNumbered, IsAppended, if_ok_four, if_ok_one, if_ok_two, if_ok_three, ok_by, most_blocks}
+use Rattle.redo_undo.proofs.Appended.{appended, ends_with, append_leaves, rings_now, sealed_now, versions_same, current_same, IsNumbered, IsAppended, if_ok_four, if_ok_one, if_ok_two, if_ok_three, ok_by, most_blocks}
 use Rattle.redo_undo.specs.Committing.{EndsWith}
 use Rattle.image_meaning.specs.Beside.{AreRingsSoundUnder}
 use Rattle.checkpoint.specs.declared.master.Master.{Master}
@@ -147,10 +148,10 @@ returns-clause-keeps g c pages newest records table commits h =
     let full = c.beside_laws.ensures.full log c.args.rec.now c.requires.form in
     record {
       any_moment = λ going quiet. append_leaves c.log_laws.ensures c.page_laws.ensures c.beside_laws.ensures log pages site newest records table commits h going.sizes new sealing quiet
-          (c.append.ensures.changes ready.blocks.honest) (c.append.ensures.any_moment list (found_fits log site quiet ready.blocks) ready.records)
-          (c.append.ensures.front list (found_fits log site quiet ready.blocks) ready.records quiet) going.pages_going.own full;
+          (c.append.ensures.changes ready.blocks.honest) (c.append.ensures.any_moment list (log_fits log site quiet ready.blocks) ready.records)
+          (c.append.ensures.front list (log_fits log site quiet ready.blocks) ready.records quiet) going.pages_going.own full;
       numbers = λ going quiet. log_skips c.ring_kept.ensures c.append.result log.geometry log c.append.new.self list sealing site new 1 (ready_next pages log list site ready) full
-          (c.append.ensures.any_moment list (found_fits log site quiet ready.blocks) ready.records) (c.append.ensures.front list (found_fits log site quiet ready.blocks) ready.records quiet)
+          (c.append.ensures.any_moment list (log_fits log site quiet ready.blocks) ready.records) (c.append.ensures.front list (log_fits log site quiet ready.blocks) ready.records quiet)
           (ok_by c.append.result _ _ (λ lsn is. most_blocks log c.append.new.self lsn sealing full is) (numbered g c));
       quiet = λ quiet. quiet_stops c.append.result new site quiet (λ is. ap g.S.Site.state (c.append.ensures.unchanged (inr (c.append.ensures.worn.0 is).1))) c.append.ensures.stops;
       worn_log = λ is. (let worn = (c.append.ensures.worn.0 is).1 in log_at_end log site new ready.blocks (ap g.S.Site.state (c.append.ensures.unchanged (inr worn))) worn);

@@ -1,3 +1,4 @@
+use Rattle.page_store.proofs.Bringing.{ok_two}
 use Rattle.std.proofs.Common.{Bool, false, [], arith, ◌∙◌, inl, List}
 use Rattle.std.specs.Prelude.{◌≡◌, OnOk}
 use Rattle.page_store.specs.Ahead.{forces, pushed_by_touch}
@@ -18,7 +19,7 @@ use Rattle.site.proofs.Working.{ok_as}
 use Rattle.std.proofs.Common.{sym, subst, append-nil}
 use Rattle.site.specs.declared.geometry.Geometry.{Geometry}
 use Rattle.redo_undo.specs.Holding.{HoldsIn, Holds}
-use Rattle.redo_undo.proofs.Touched.{forced_tail, leaves_table, touched_holds, ok_both}
+use Rattle.redo_undo.proofs.Touched.{forced_tail, leaves_table, touched_holds}
 use Rattle.page_store.specs.Held.{current}
 use Rattle.redo_undo.proofs.LeftNumbers.{pages_skip, ready_next}
 use Rattle.redo_undo.proofs.logging.touch.Given.{Over}
@@ -53,7 +54,7 @@ returns g c =
     record {
       holds = λ newest records table commits h.
           let list : LogList = record { first = kept_by newest; blocks = h.log_holds.blocks; tail = h.log_holds.tail } in
-          ok_both c.touch.result _ _ (Holds c.touch.new.log c.touch.new.self new newest records table commits)
+          ok_two c.touch.result _ _ (Holds c.touch.new.log c.touch.new.self new newest records table commits)
           (λ stands end. subst (λ (x : Geometry). HoldsIn x c.touch.new.log c.touch.new.self new newest records table commits)
           (sym c.touch.ensures.works.geometry)
           (touched_holds c.log_laws.ensures c.page_laws.ensures log pages site newest records table commits h c.touch.new.log c.touch.new.self new (c.touch.ensures.works.forces.geometry ∙ c.requires.going.sizes) c.touch.ensures.works.forces.kept stands.current (stands.ahead h.log_holds.ahead) end

@@ -1,8 +1,9 @@
+use Rattle.log_records.proofs.Blocks.{some_octet}
 use Rattle.std.proofs.Common.{◌+◌, ◌*◌, ◌++◌, ◌∷◌, [], List, append-nil, refl, sym, subst, append_assoc, arith}
 use Rattle.log_records.specs.Log.{Entry, entries_from}
 use Rattle.redo_undo.specs.Redoing.{HasTaken}
 use Rattle.redo_undo.proofs.Sames.{some_group}
-use Rattle.redo_undo.proofs.BlockRecords.{some_octet, next_of_log, past_one, none_there, past_all}
+use Rattle.redo_undo.proofs.BlockRecords.{next_of_log, past_one, none_there, past_all}
 use Rattle.redo_undo.proofs.TakenRecords.{part_begins}
 use Rattle.redo_undo.proofs.RedoWorks.{asks_more, asks_all, stops_within}
 use Rattle.redo_undo.proofs.Calling.{keeps_answered, keeps_redoing, keeps_then, logs_answered, logs_nothing, logs_then}

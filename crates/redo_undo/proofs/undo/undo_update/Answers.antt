@@ -62,7 +62,8 @@ returns-in-Err-clause-asks g c newest records table commits x u rest h unfinishe
 pub returns-then-not-has_room-clause-asks : goal.returns-then-not-has_room-clause-asks
 returns-then-not-has_room-clause-asks g c newest records table commits x u rest h unfinished at left =
     let pages = c.args.pages.now in
-    asks_refused Foreign (works_of (u ∷ [])) pages (g.S.Site.state c.args.site.now) (g.S.Site.state c.read_update.new.site) (some_group c.requires.going) (not_worn Foreign (inr refl))
+    asks_refused Foreign (works_of (u ∷ [])) pages (g.S.Site.state c.args.site.now) (g.S.Site.state c.read_update.new.site)
+    (some_group c.requires.going) (not_worn Foreign (inr refl))
     (log_alone (g.S.Site.state c.args.site.now) (g.S.Site.state c.read_update.new.site) c.read_update.ensures.reads.others) (stages_read c.read_update.ensures.reads.same c.read_update.ensures.reads.goes)
 
 pub returns-in-Err-compensate-clause-asks : goal.returns-in-Err-compensate-clause-asks

@@ -4,7 +4,7 @@ use Rattle.analysis.specs.Table.{listed}
 use Rattle.redo_undo.specs.UndoingAll.{Remain, HasNone}
 use Rattle.redo_undo.proofs.Sames.{some_group}
 use Rattle.redo_undo.proofs.Appended.{if_ok_one}
-use Rattle.redo_undo.proofs.Opens.{still_remain, none_remains_of, others_remain, ok_one}
+use Rattle.redo_undo.proofs.Opens.{still_remain, none_remains_of, others_remain}
 use Rattle.redo_undo.proofs.Found.{last_known}
 use Rattle.site.specs.declared.outside.Stop.TheVariants.{Foreign}
 use Rattle.redo_undo.specs.UndoWorks.{works_of, IsLastAt, UndoesUpdates}
@@ -15,7 +15,7 @@ use Rattle.redo_undo.proofs.UndoneUpdates.{more_updates}
 use Rattle.redo_undo.proofs.Opens.{some_owed}
 use Rattle.redo_undo.proofs.Calling.{keeps_few, keeps_then, ends_stop, works_beside, works_then}
 use Rattle.site.specs.declared.outside.Dev.TheVariants.{Log}
-use Rattle.site.proofs.Working.{err_as}
+use Rattle.site.proofs.Working.{err_as, ok_as}
 use Rattle.redo_undo.proofs.undo_losers.undo_next.Goals as goal
 
 pub returns-then-loser-gt1-clause-remain : goal.returns-then-loser-gt1-clause-remain
@@ -33,7 +33,7 @@ returns-clause-remain g c =
     let old = listed c.args.found.now.table in
     let mid = listed c.undo_greatest.new.found.table in
     let new = listed c.end_one.new.found.table in
-    ok_one c.end_one.result (TakesOut mid new c.args.next.0) (Remain new)
+    ok_as c.end_one.result (TakesOut mid new c.args.next.0) (Remain new)
     (others_remain old mid new c.args.next.0 c.in-Ok.last c.undo_greatest.ensures.found.going c.requires.remain
     (subst (λ (t : ℕ). Replaces old mid t (λ (x : Open). record x { last = c.in-Ok.last; updates = drop 1 x.updates })) c.in-Some.ensures.named c.in-Ok.ensures.replaces))
     c.end_one.ensures.takes

@@ -1,14 +1,15 @@
+use Rattle.record_model.proofs.SerialLocks.{no_holder}
 use Rattle.std.proofs.Common.{◌∙◌, [], ◌∷◌, Some, refl, sym, rules}
 use Rattle.record_model.specs.declared.words.Command.TheVariants.{Read}
 use Rattle.engine.proofs.Owing.{entry_is}
 use Rattle.record_model.specs.Step.{first_refusal, may_read, wants_record}
-use Rattle.engine.proofs.Replies.{refused, carried_out, has_record, lacks_record, idle_session, is_active, has, none_busy, may_read_is}
+use Rattle.engine.proofs.Replies.{refused, carried_out, has_record, lacks_record, idle_session, is_active, has, may_read_is}
 use Rattle.engine.proofs.engine.Engine.read_refusal.Goals as goal
 
 pub returns-clause-may : goal.returns-clause-may
 returns-clause-may c =
     let own = has _ (search rules) in
-    let free = none_busy _ (sym c.read_busy.ensures ∙ c.in_default.is) in
+    let free = no_holder _ (sym c.read_busy.ensures ∙ c.in_default.is) in
     record { session = (entry_is c.args.self.now.active c.args.session own.own c.find.ensures.table own.is).small; active = search rules; shown = record { number = search rules; free = free } }
 
 pub returns-then-lacks-clause-refused : goal.returns-then-lacks-clause-refused

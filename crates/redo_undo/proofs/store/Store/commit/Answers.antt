@@ -1,3 +1,4 @@
+use Rattle.page_store.proofs.PushLaws.{log_fits}
 use Rattle.std.proofs.Common.{◌≡◌, ◌∙◌, ◌∷◌, [], ◌++◌, ◌+◌, Bool, true, nat_lt, inl, inr, Err, sym, ap, subst, arith, refl, ◌≤◌, ℕ, List}
 use Rattle.std.specs.Prelude.{if◌then◌else◌, Ok, OnOk, Option, Result}
 use Rattle.site.specs.State.{IsQuiet, State}
@@ -12,7 +13,6 @@ use Rattle.image_changes.specs.Rings.{Masters, KeepsUnits, master_shape}
 use Rattle.image_meaning.specs.Meaning.{kept_by, versions_on, master_of}
 use Rattle.image_meaning.proofs.Leaving.{under_leaves_either_for}
 use Rattle.redo_undo.specs.Holding.{IsLogWorn, blocks_to}
-use Rattle.redo_undo.proofs.Appended.{found_fits}
 use Rattle.page_store.proofs.StagingLaws.{stages_err, stages_then}
 use Rattle.redo_undo.proofs.Asking.{asks_nothing, stages_log, stages_alone}
 use Rattle.redo_undo.proofs.AskingFlush.{never_worn_flash}
@@ -74,7 +74,7 @@ module _ (g : Over) (c : After-force g) (newest : Option Master) (records : List
   calm quiet = c.in-Ok.ensures.works.calls.stays_quiet held.both.log_holds.ready.blocks.honest quiet
 
   fits : IsQuiet old → log_held.Fits log mid
-  fits quiet = found_fits log mid (calm quiet) last.ready.blocks
+  fits quiet = log_fits log mid (calm quiet) last.ready.blocks
 
   moments : IsQuiet old → LeavesOnly old new (LeavesEitherFor pages.flash.geometry table (table_with table (writes_in c.args.txn records)) commits old.told)
   moments quiet = under_leaves_either_for newest _ _ _ table _ commits _ (either_after newest pages.flash.geometry old mid new table _ commits
