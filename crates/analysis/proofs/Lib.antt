@@ -4,8 +4,8 @@ mod Records
 mod Steps
 mod Starting
 mod Reading
-mod Nexts
-mod Pending
+pub mod Nexts
+pub mod Pending
 mod Unfinished
 mod Taking
 mod Takes

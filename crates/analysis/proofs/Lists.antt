@@ -143,11 +143,6 @@ module _ (items : List Transaction) (place txn : ℕ) (at : GoesAt items place t
       (put_in left (open_of y) right (subst (λ n. AllByRecursion (λ (z : Open). z.txn < n) left) (sym is) (all_listed (take place items) txn at.before))
       (subst (λ n. AscendFrom (n + 1) right) (sym is) right_ascends) (subst (AscendFrom 0) parts ascend))))
 
--- outcomes
-pub ok_maps : {T E : Type 0} (result : Result T E) (P Q : Type 0) → (P → Q) → OnOk result P → OnOk result Q
-ok_maps (Ok x) P Q f p = f p
-ok_maps (Err e) P Q f p = tt
-
 pub err_maps : {T E : Type 0} (result : Result T E) (P Q : Type 0) → (P → Q) → OnErr result P → OnErr result Q
 err_maps (Ok x) P Q f p = tt
 err_maps (Err e) P Q f p = f p

@@ -1,18 +1,10 @@
 -- Which Update is undone next.
 use Rattle.std.proofs.Common.{◌≡◌, inl, inr, ℕ, ◌+◌, ◌<◌, ◌≤◌, List, [], ◌∷◌, ◌++◌, length, Option, Some, None, refl, sym, subst, ◌∙◌, arith}
 use Rattle.std.specs.Prelude.{slice_get, IfSome}
-use Rattle.std.specs.List.{AllByRecursion}
 use Rattle.std.proofs.lemmas.Option.{none-some, same_Some}
+use Rattle.std_lemmas.proofs.AllOf.{all_push, all_weaker}
 use Rattle.analysis.specs.Open.{Open, found_in, AscendFrom, IsTop, IsAtMost, Remains, HasLeft, OneHas, IsNext}
 use Rattle.analysis.proofs.Tables.{found_here, found_later}
-
-pub all_more : {X : Type 0} (P : X → Type 0) (xs : List X) (x : X) → AllByRecursion P xs → P x → AllByRecursion P (xs ++ x ∷ [])
-all_more P [] x h p = (p, tt)
-all_more P (y ∷ xs) x h p = (h.0, all_more P xs x h.1 p)
-
-all_weaker : {X : Type 0} (P Q : X → Type 0) → ((x : X) → P x → Q x) → (xs : List X) → AllByRecursion P xs → AllByRecursion Q xs
-all_weaker P Q f [] h = tt
-all_weaker P Q f (x ∷ xs) h = (f x h.0, all_weaker P Q f xs h.1)
 
 has_more : (table : List Open) (y : Open) (t lsn : ℕ) → OneHas table t lsn → OneHas (table ++ y ∷ []) t lsn
 has_more [] y t lsn h = absurd h
@@ -43,25 +35,25 @@ at_most_more m n less (u ∷ us) h = omega (arith, h, less)
 -- One transaction more.
 
 pub next_none : (table : List Open) (y : Open) (next : Option (ℕ × ℕ)) → slice_get y.updates 0 ≡ None → IsNext table next → IsNext (table ++ y ∷ []) next
-next_none table y None none is = all_more (λ x. x.updates ≡ []) table y is (none_first y.updates none)
-next_none table y (Some next) none is = (has_more table y next.0 next.1 is.0, all_more (λ x. IsAtMost next.1 x.updates) table y is.1 (subst (IsAtMost next.1) (sym (none_first y.updates none)) tt))
+next_none table y None none is = all_push (λ x. x.updates ≡ []) table y is (none_first y.updates none)
+next_none table y (Some next) none is = (has_more table y next.0 next.1 is.0, all_push (λ x. IsAtMost next.1 x.updates) table y is.1 (subst (IsAtMost next.1) (sym (none_first y.updates none)) tt))
 
 pub next_first : (table : List Open) (y : Open) (lsn : ℕ) → slice_get y.updates 0 ≡ Some lsn → IsNext table None → IsNext (table ++ y ∷ []) (Some (y.txn, lsn))
 next_first table y lsn some is =
     let top = top_is y.updates lsn some in (
       has_last table y lsn top,
-      all_more (λ x. IsAtMost lsn x.updates) table y (all_weaker (λ x. x.updates ≡ []) (λ x. IsAtMost lsn x.updates) (λ x empty. subst (IsAtMost lsn) (sym empty) tt) table is) (top_at_most y.updates lsn lsn top (omega arith)),
+      all_push (λ x. IsAtMost lsn x.updates) table y (all_weaker (λ x. x.updates ≡ []) (λ x. IsAtMost lsn x.updates) (λ x empty. subst (IsAtMost lsn) (sym empty) tt) table is) (top_at_most y.updates lsn lsn top (omega arith)),
     )
 
 pub next_keeps : (table : List Open) (y : Open) (lsn : ℕ) (next : ℕ × ℕ) → slice_get y.updates 0 ≡ Some lsn → lsn ≤ next.1 → IsNext table (Some next) → IsNext (table ++ y ∷ []) (Some next)
 next_keeps table y lsn next some less is =
-    (has_more table y next.0 next.1 is.0, all_more (λ x. IsAtMost next.1 x.updates) table y is.1 (top_at_most y.updates lsn next.1 (top_is y.updates lsn some) less))
+    (has_more table y next.0 next.1 is.0, all_push (λ x. IsAtMost next.1 x.updates) table y is.1 (top_at_most y.updates lsn next.1 (top_is y.updates lsn some) less))
 
 pub next_changes : (table : List Open) (y : Open) (lsn : ℕ) (next : ℕ × ℕ) → slice_get y.updates 0 ≡ Some lsn → next.1 < lsn → IsNext table (Some next) → IsNext (table ++ y ∷ []) (Some (y.txn, lsn))
 next_changes table y lsn next some less is =
     let top = top_is y.updates lsn some in (
       has_last table y lsn top,
-      all_more (λ x. IsAtMost lsn x.updates) table y (all_weaker (λ x. IsAtMost next.1 x.updates) (λ x. IsAtMost lsn x.updates) (λ x h. at_most_more next.1 lsn (omega (arith, less)) x.updates h) table is.1) (top_at_most y.updates lsn lsn top (omega arith)),
+      all_push (λ x. IsAtMost lsn x.updates) table y (all_weaker (λ x. IsAtMost next.1 x.updates) (λ x. IsAtMost lsn x.updates) (λ x h. at_most_more next.1 lsn (omega (arith, less)) x.updates h) table is.1) (top_at_most y.updates lsn lsn top (omega arith)),
     )
 
 -- The next one is found.
@@ -85,7 +77,7 @@ pub none_is : {X : Type 0} (o : Option X) → ((x : X) → o ≡ Some x → ⊥)
 none_is None h = refl
 none_is (Some x) h = absurd (h x refl)
 
-some_left : (us : List ℕ) (lsn : ℕ) → IsTop lsn us → 0 < length us
+pub some_left : (us : List ℕ) (lsn : ℕ) → IsTop lsn us → 0 < length us
 some_left [] lsn top = absurd top
 some_left (u ∷ us) lsn top = omega arith
 

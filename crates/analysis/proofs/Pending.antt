@@ -5,6 +5,8 @@ use Rattle.std.specs.Option.{option_or}
 use Rattle.std.specs.List.{AllByRecursion, list_any}
 use Rattle.std.proofs.lemmas.Bool.{cond-true, cond-false, eq-eqb, eqb-true, ne_eqb, and_parts}
 use Rattle.std.proofs.lemmas.Option.{none-some, same_Some}
+use Rattle.std_lemmas.proofs.AllOf.{all_both, all_filter_passed}
+use Rattle.std.proofs.lemmas.List.Elements.{filter-append}
 use Rattle.log_records.specs.declared.log_record.LogRecord.{LogRecord}
 use Rattle.log_records.specs.declared.log_record.LogRecord.TheVariants.{Begin, Update, Clr, Commit, End}
 use Rattle.log_records.specs.Log.{Entry, txn_of, is_of, is_update, is_closed, entries_of, last_where}
@@ -14,6 +16,7 @@ use Rattle.analysis.specs.Open.{Open, found_in, IsTop, IsAtMost, IsNext}
 use Rattle.analysis.specs.Read.{is_active, open_at, IsTable}
 use Rattle.analysis.proofs.Steps.{active_some}
 use Rattle.analysis.proofs.Nexts.{remains_is}
+use Rattle.log_records.proofs.Entries.{in_order_from}
 
 -- Lists.
 
@@ -27,14 +30,6 @@ pub all_in : (all front xs : List Entry) → all ≡ front ++ xs → AllByRecurs
 all_in all front [] is = tt
 all_in all front (x ∷ xs) is = (record { front = front; back = xs; is = is }, all_in all (front ++ x ∷ []) xs (is ∙ sym (append_assoc front (x ∷ []) xs)))
 
-pub filter_front : (test : Entry → Bool) (front ys : List Entry) → filter test (front ++ ys) ≡ filter test front ++ filter test ys
-filter_front test [] ys = refl
-filter_front test (x ∷ front) ys = by (test x) (filter_front test front ys)
-  where
-    by : (b : Bool) → filter test (front ++ ys) ≡ filter test front ++ filter test ys → cond b (x ∷ filter test (front ++ ys)) (filter test (front ++ ys)) ≡ cond b (x ∷ filter test front) (filter test front) ++ filter test ys
-    by true rest = ap (λ (l : List Entry). x ∷ l) rest
-    by false rest = rest
-
 filter_none : (test : Entry → Bool) (xs : List Entry) → AllByRecursion (λ x. test x ≡ false) xs → filter test xs ≡ []
 filter_none test [] h = refl
 filter_none test (x ∷ xs) h = cond-false (test x) (x ∷ filter test xs) (filter test xs) h.0 ∙ filter_none test xs h.1
@@ -46,25 +41,13 @@ last_more (y ∷ xs) x = ap (λ (o : Option Entry). option_or o (Some y)) (last_
 -- the last item that passes a test
 last_passes : (test : Entry → Bool) (front : List Entry) (x : Entry) (back : List Entry) → test x ≡ true → AllByRecursion (λ y. test y ≡ false) back → last_where (λ e. true) (filter test (front ++ x ∷ back)) ≡ Some x
 last_passes test front x back here none =
-    ap (last_where (λ e. true)) (filter_front test front (x ∷ back)
+    ap (last_where (λ e. true)) (filter-append test front (x ∷ back)
     ∙ ap (λ (l : List Entry). filter test front ++ l) (cond-true (test x) (x ∷ filter test back) (filter test back) here ∙ ap (λ (l : List Entry). x ∷ l) (filter_none test back none)))
     ∙ last_more (filter test front) x
-
-all_both : {X : Type 0} (P Q R : X → Type 0) → ((x : X) → P x → Q x → R x) → (xs : List X) → AllByRecursion P xs → AllByRecursion Q xs → AllByRecursion R xs
-all_both P Q R f [] p q = tt
-all_both P Q R f (x ∷ xs) p q = (f x p.0 q.0, all_both P Q R f xs p.1 q.1)
 
 all_right : {X : Type 0} (P : X → Type 0) (front : List X) (back : List X) → AllByRecursion P (front ++ back) → AllByRecursion P back
 all_right P [] back h = h
 all_right P (x ∷ front) back h = all_right P front back h.1
-
-filter_all : (P : Entry → Type 0) (test : Entry → Bool) (xs : List Entry) → AllByRecursion P xs → AllByRecursion (λ x. P x × (test x ≡ true)) (filter test xs)
-filter_all P test [] h = tt
-filter_all P test (x ∷ xs) h = by (test x) refl (filter_all P test xs h.1)
-  where
-    by : (b : Bool) → test x ≡ b → AllByRecursion (λ y. P y × (test y ≡ true)) (filter test xs) → AllByRecursion (λ y. P y × (test y ≡ true)) (cond b (x ∷ filter test xs) (filter test xs))
-    by true is rest = ((h.0, is), rest)
-    by false is rest = rest
 
 any_lsn : (n : ℕ) (us : List Entry) → list_any (λ u. u.lsn == n) us ≡ list_any (λ m. m == n) (map (λ (u : Entry). u.lsn) us)
 any_lsn n [] = refl
@@ -76,17 +59,13 @@ none_above top n less (m ∷ ms) h = ap (λ b. b || list_any (λ m. m == n) ms) 
 
 -- Order.
 
-order_lower : (m n to : ℕ) (xs : List Entry) → m ≤ n → IsInOrder n xs to → IsInOrder m xs to
-order_lower m n to [] less order = omega (arith, less, order)
-order_lower m n to (x ∷ xs) less order = (omega (arith, less, order.0), order.1)
-
 pub order_filter : (test : Entry → Bool) (from to : ℕ) (xs : List Entry) → IsInOrder from xs to → IsInOrder from (filter test xs) to
 order_filter test from to [] order = order
 order_filter test from to (x ∷ xs) order = by (test x) (order_filter test (x.lsn + 1) to xs order.1)
   where
     by : (b : Bool) → IsInOrder (x.lsn + 1) (filter test xs) to → IsInOrder from (cond b (x ∷ filter test xs) (filter test xs)) to
     by true rest = (order.0, rest)
-    by false rest = order_lower from (x.lsn + 1) to (filter test xs) (omega (arith, order.0)) rest
+    by false rest = in_order_from (x.lsn + 1) from (filter test xs) to (omega (arith, order.0)) rest
 
 pub order_above : (from to n : ℕ) (xs : List Entry) → n < from → IsInOrder from xs to → AllByRecursion (λ x. n < x.lsn) xs
 order_above from to n [] less order = tt
@@ -172,7 +151,7 @@ known_open : (k c : Bool) → (k || c) ≡ true → c ≡ false → k ≡ true
 known_open true c either open_still = refl
 known_open false c either open_still = absurd (true≢false (sym either ∙ open_still))
 
-all_found : (P : Open → Type 0) (table : List Open) (t : ℕ) (x : Open) → AllByRecursion P table → found_in table t ≡ Some x → P x
+pub all_found : (P : Open → Type 0) (table : List Open) (t : ℕ) (x : Open) → AllByRecursion P table → found_in table t ≡ Some x → P x
 all_found P [] t x h is = absurd (none-some x is)
 all_found P (y ∷ table) t x h is = by (y.txn == t) is (all_found P table t x h.1)
   where
@@ -229,7 +208,7 @@ module _ (named : List Active) (records : List Entry) (table : List Open) (is : 
     first_left : (t lsn : ℕ) → IsTop lsn (map (λ (u : Entry). u.lsn) (left_open records t)) → IsLeft t lsn
     first_left t lsn top = by (left_open records t) refl top
         (open_all (λ e. IsIn records e × (is_of t e ≡ true)) (λ e. IsIn records e × (is_of t e ≡ true) × (is_update e.rec ≡ true)) (λ e p update. (p.0, p.1, update)) [] (entries_of t records)
-        (filter_all (IsIn records) (is_of t) records (all_in records [] records refl)) tt)
+        (all_filter_passed (IsIn records) (is_of t) records (all_in records [] records refl)) tt)
       where
         by : (us : List Entry) → left_open records t ≡ us → IsTop lsn (map (λ (u : Entry). u.lsn) us) → AllByRecursion (λ e. IsIn records e × (is_of t e ≡ true) × (is_update e.rec ≡ true)) us → IsLeft t lsn
         by [] left top all = absurd top

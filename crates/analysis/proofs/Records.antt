@@ -4,6 +4,7 @@ use Rattle.std.specs.Prelude.{filter}
 use Rattle.std.specs.List.{list_any}
 use Rattle.std.proofs.lemmas.List.{map-append, append-nil}
 use Rattle.std.proofs.lemmas.Bool.{eq-eqb}
+use Rattle.std_lemmas.proofs.Bools.{or_false, or_assoc}
 use Rattle.log_records.specs.declared.log_record.LogRecord.{LogRecord}
 use Rattle.log_records.specs.declared.log_record.LogRecord.TheVariants.{Begin, Update, Clr, Commit, End}
 use Rattle.log_records.specs.Log.{Entry, txn_of, txn_by, is_of, is_closing, is_closed, entries_of}
@@ -25,14 +26,6 @@ filter_more test (x ∷ records) e = by (test x) (filter_more test records e)
         cond b (x ∷ filter test (with records e)) (filter test (with records e)) ≡ cond b (x ∷ filter test records) (filter test records) ++ cond (test e) (e ∷ []) []
     by true rest = ap (λ (l : List Entry). x ∷ l) rest
     by false rest = rest
-
-or_false : (b : Bool) → (b || false) ≡ b
-or_false true = refl
-or_false false = refl
-
-or_assoc : (a b c : Bool) → ((a || b) || c) ≡ (a || (b || c))
-or_assoc true b c = refl
-or_assoc false b c = refl
 
 any_more : (test : Entry → Bool) (records : List Entry) (e : Entry) → list_any test (with records e) ≡ (list_any test records || test e)
 any_more test [] e = or_false (test e)

@@ -1,20 +1,23 @@
 -- The table by the log alone, and what remains to be undone.
-use Rattle.std.proofs.Common.{◌≡◌, ◌⊎◌, inl, inr, ℕ, ◌*◌, ◌<◌, ◌≤◌, ◌==◌, ◌&&◌, not, Bool, true, false, cond, nat_le, List, [], ◌∷◌, ◌++◌, map, Some, None, refl, sym, ap, subst, ◌∙◌, arith, true≢false}
+use Rattle.std.proofs.Common.{◌≡◌, ◌⊎◌, inl, inr, ℕ, ◌*◌, ◌==◌, ◌&&◌, not, Bool, true, false, cond, nat_le, List, [], ◌∷◌, ◌++◌, map, Some, None, refl, sym, ap, subst, ◌∙◌, arith, true≢false}
 use Rattle.std.specs.Prelude.{filter}
 use Rattle.std.specs.List.{list_any, AllByRecursion}
-use Rattle.std.proofs.lemmas.Bool.{cond-true, cond-false, eqb-true, eq-eqb, and_parts, le-leb, leb-true}
+use Rattle.std.proofs.lemmas.Bool.{cond-true, cond-false, eq-eqb, and_parts, le-leb, leb-true, or_left, or_right, or_cases, false_from_ne_true, and_from}
+use Rattle.std_lemmas.proofs.Bools.{and_false}
+use Rattle.std_lemmas.proofs.Lists.{any_between}
+use Rattle.std.proofs.lemmas.List.Elements.{filter-append}
 use Rattle.log_records.specs.declared.log_record.LogRecord.{LogRecord}
 use Rattle.log_records.specs.declared.log_record.LogRecord.TheVariants.{Begin, Update, Clr, Commit, End}
 use Rattle.log_records.specs.Log.{Entry, txn_of, is_of, is_update, is_closing, is_closed, is_loser}
 use Rattle.log_records.specs.Unfinished.{is_begin, left_open, open_updates}
-use Rattle.log_records.specs.Sound.{Picture, IsSound, is_known, last_number, from_block}
+use Rattle.log_records.specs.Sound.{Picture, IsSound, is_known, last_number}
 use Rattle.analysis.specs.Open.{Open}
 use Rattle.analysis.specs.Read.{is_active, last_named, open_at, open_in}
 use Rattle.analysis.specs.Laws.{has_begun}
 use Rattle.analysis.specs.Taken.{is_named, is_taken, taken, TakenTable, TakenPending, AllAreTaken}
 use Rattle.analysis.proofs.Unfinished.{begins_as, table_of_unfinished}
-use Rattle.analysis.proofs.Pending.{IsIn, all_in, filter_front}
-use Rattle.analysis.proofs.Taking.{no_true, and_both, or_left, or_right, or_case, any_chosen, any_left, one_of, named_parts, in_front, open_there, active_new, begin_of}
+use Rattle.analysis.proofs.Pending.{IsIn, all_in}
+use Rattle.analysis.proofs.Taking.{any_chosen, any_left, active_new}
 use Rattle.analysis.proofs.Takes.{all_map, own_any, chain, begun, open_still, all_taken, entries_taken, taken_is_loser}
 
 -- by the log alone the active transactions are the losers
@@ -25,8 +28,8 @@ active_by_log p sound t = by (is_active [] p.log t) (is_loser p.log t) refl refl
     by true true is loser = is ∙ sym loser
     by true false is loser =
         let parts = and_parts (is_known [] p.log t) (not (is_closed p.log t)) is in
-        absurd (true≢false (sym (and_both (list_any (is_of t) p.log) (not (is_closed p.log t)) (own_any t p.log parts.0) parts.1) ∙ loser))
-    by false true is loser = absurd (true≢false (sym (and_both (is_known [] p.log t) (not (is_closed p.log t)) (begun p sound t loser) (ap not (open_still p sound t loser))) ∙ is))
+        absurd (true≢false (sym (and_from (list_any (is_of t) p.log) (not (is_closed p.log t)) (own_any t p.log parts.0) parts.1) ∙ loser))
+    by false true is loser = absurd (true≢false (sym (and_from (is_known [] p.log t) (not (is_closed p.log t)) (begun p sound t loser) (ap not (open_still p sound t loser))) ∙ is))
     by false false is loser = is ∙ sym loser
 
 -- of a loser the log says what is taken of it
@@ -78,10 +81,6 @@ at_one : (P : Entry → Type 0) (front : List Entry) (x : Entry) (back : List En
 at_one P [] x back h = h.0
 at_one P (y ∷ front) x back h = at_one P front x back h.1
 
-any_here : (q : Entry → Bool) (front : List Entry) (x : Entry) (back : List Entry) → q x ≡ true → list_any q (front ++ x ∷ back) ≡ true
-any_here q [] x back h = or_left (q x) (list_any q back) h
-any_here q (y ∷ front) x back h = or_right (q y) (list_any q (front ++ x ∷ back)) (any_here q front x back h)
-
 update_is_no_begin : (rec : LogRecord) → is_update rec ≡ true → is_begin rec ≡ false
 update_is_no_begin Begin h = absurd (true≢false (sym h))
 update_is_no_begin (Update txn prev page slot before after) h = refl
@@ -94,10 +93,6 @@ second_fails : (a c : Bool) → a ≡ true → (a && not c) ≡ false → c ≡ 
 second_fails true true is h = refl
 second_fails true false is h = absurd (true≢false h)
 second_fails false c is h = absurd (true≢false (sym is))
-
-and_false : (b : Bool) → (b && false) ≡ false
-and_false true = refl
-and_false false = refl
 
 -- nothing of a closed transaction remains
 none_of_closed : (records : List Entry) (x : Entry) → is_closed records (txn_of x) ≡ true → remains_in records x ≡ false
@@ -112,7 +107,7 @@ module _ (p : Picture) (sound : IsSound p) (x : Entry) (at : IsIn p.log x) where
     is_there = at_one (λ y. is_of (txn_of x) y ≡ true → is_taken p.master y ≡ true) at.front x at.back (subst (AllByRecursion (λ y. is_of (txn_of x) y ≡ true → is_taken p.master y ≡ true)) at.is (all_taken p sound (txn_of x) loser)) (eq-eqb (txn_of x) (txn_of x) refl)
 
     open_there_too : is_closed (taken p) (txn_of x) ≡ false
-    open_there_too = no_true (is_closed (taken p) (txn_of x)) (λ h. true≢false (sym (any_chosen (λ y. is_of (txn_of x) y && is_closing y.rec) (is_taken p.master) p.log h) ∙ open_still p sound (txn_of x) loser))
+    open_there_too = false_from_ne_true (is_closed (taken p) (txn_of x)) (λ h. true≢false (sym (any_chosen (λ y. is_of (txn_of x) y && is_closing y.rec) (is_taken p.master) p.log h) ∙ open_still p sound (txn_of x) loser))
 
     remains_same : remains_in (taken p) x ≡ remains_in p.log x
     remains_same =
@@ -123,14 +118,14 @@ module _ (p : Picture) (sound : IsSound p) (x : Entry) (at : IsIn p.log x) where
   module _ (none : is_loser p.log (txn_of x) ≡ false) where
     closed_in_log : is_closed p.log (txn_of x) ≡ true
     closed_in_log = second_fails (list_any (is_of (txn_of x)) p.log) (is_closed p.log (txn_of x))
-        (ap (list_any (is_of (txn_of x))) at.is ∙ any_here (is_of (txn_of x)) at.front x at.back (eq-eqb (txn_of x) (txn_of x) refl)) none
+        (ap (list_any (is_of (txn_of x))) at.is ∙ any_between (is_of (txn_of x)) at.front x at.back (eq-eqb (txn_of x) (txn_of x) refl)) none
 
     known_taken : is_taken p.master x ≡ true → is_update x.rec ≡ true → is_known p.master.active (taken p) (txn_of x) ≡ true
-    known_taken here update = by (or_case (nat_le (512 * p.master.redo) x.lsn) (is_named p.master.active (txn_of x)) here)
+    known_taken here update = by (or_cases (nat_le (512 * p.master.redo) x.lsn) (is_named p.master.active (txn_of x)) here)
       where
         front_taken : has_begun (filter (is_taken p.master) at.front) (txn_of x) ≡ true → has_begun (taken p) (txn_of x) ≡ true
         front_taken begins =
-            ap (λ (l : List Entry). has_begun (filter (is_taken p.master) l) (txn_of x)) at.is ∙ ap (λ (l : List Entry). has_begun l (txn_of x)) (filter_front (is_taken p.master) at.front (x ∷ at.back))
+            ap (λ (l : List Entry). has_begun (filter (is_taken p.master) l) (txn_of x)) at.is ∙ ap (λ (l : List Entry). has_begun l (txn_of x)) (filter-append (is_taken p.master) at.front (x ∷ at.back))
             ∙ any_left (begins_as (txn_of x)) (filter (is_taken p.master) at.front) (filter (is_taken p.master) (x ∷ at.back)) begins
 
         known_front : (is_named p.master.active (txn_of x) ≡ true) ⊎ (has_begun (filter (is_taken p.master) at.front) (txn_of x) ≡ true) → is_known p.master.active (taken p) (txn_of x) ≡ true
@@ -140,7 +135,7 @@ module _ (p : Picture) (sound : IsSound p) (x : Entry) (at : IsIn p.log x) where
         by : (nat_le (512 * p.master.redo) x.lsn ≡ true) ⊎ (is_named p.master.active (txn_of x) ≡ true) → is_known p.master.active (taken p) (txn_of x) ≡ true
         by (inl late) =
             let active = active_new p sound at.front x at.back at.is (leb-true (512 * p.master.redo) x.lsn late) (update_is_no_begin x.rec update) in
-            known_front (or_case (is_named p.master.active (txn_of x)) (has_begun (filter (is_taken p.master) at.front) (txn_of x))
+            known_front (or_cases (is_named p.master.active (txn_of x)) (has_begun (filter (is_taken p.master) at.front) (txn_of x))
             (and_parts (is_known p.master.active (filter (is_taken p.master) at.front) (txn_of x)) (not (is_closed (filter (is_taken p.master) at.front) (txn_of x))) active).0)
         by (inr named) = or_left (is_named p.master.active (txn_of x)) (has_begun (taken p) (txn_of x)) named
 

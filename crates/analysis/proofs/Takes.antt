@@ -2,8 +2,9 @@
 use Rattle.std.proofs.Common.{◌≡◌, ◌⊎◌, inl, inr, ℕ, ◌+◌, ◌*◌, ◌<◌, ◌≤◌, ◌==◌, ◌&&◌, ◌||◌, not, Bool, true, false, cond, nat_lt, nat_le, List, [], ◌∷◌, length, drop, Option, Some, None, refl, sym, ap, subst, ◌∙◌, arith, true≢false}
 use Rattle.std.specs.Prelude.{filter}
 use Rattle.std.specs.List.{list_any, AllByRecursion}
-use Rattle.std.proofs.lemmas.Bool.{cond-true, cond-false, eqb-true, eq-eqb, and_parts, lt-ltb, leb-true, leb-false, le-leb, cases_lt}
+use Rattle.std.proofs.lemmas.Bool.{cond-true, cond-false, eqb-true, eq-eqb, and_parts, lt-ltb, leb-true, leb-false, le-leb, cases_lt, or_left, or_right, or_cases, false_from_ne_true, and_from}
 use Rattle.std.proofs.lemmas.Option.{none-some}
+use Rattle.std_lemmas.proofs.AllOf.{all_filter_passed}
 use Rattle.log_records.specs.declared.log_record.LogRecord.{LogRecord}
 use Rattle.log_records.specs.declared.log_record.LogRecord.TheVariants.{Begin, Update, Clr, Commit, End}
 use Rattle.log_records.specs.Log.{Entry, txn_of, is_of, is_closing, is_closed, entries_of, is_loser}
@@ -14,7 +15,7 @@ use Rattle.analysis.specs.Laws.{has_begun}
 use Rattle.analysis.specs.Taken.{is_named, is_taken, taken, TakenEntries, TakenIsLoser, TakenCommits}
 use Rattle.analysis.proofs.Unfinished.{begins_as}
 use Rattle.analysis.proofs.Pending.{order_filter, order_above}
-use Rattle.analysis.proofs.Taking.{no_true, and_both, or_left, or_right, or_case, any_chosen, HasOne, one_of, filter_holds, begin_of, named_is, named_parts}
+use Rattle.analysis.proofs.Taking.{any_chosen, HasOne, one_of, begin_of, named_is, named_parts}
 
 -- Lists.
 
@@ -35,7 +36,7 @@ all_map P Q f (x ∷ xs) h = (f x h.0, all_map P Q f xs h.1)
 -- a choice that takes all that passes a test
 any_kept : (q test : Entry → Bool) (xs : List Entry) → AllByRecursion (λ x. q x ≡ true → test x ≡ true) xs → list_any q xs ≡ true → list_any q (filter test xs) ≡ true
 any_kept q test [] all h = h
-any_kept q test (x ∷ xs) all h = by (test x) refl (or_case (q x) (list_any q xs) h) (any_kept q test xs all.1)
+any_kept q test (x ∷ xs) all h = by (test x) refl (or_cases (q x) (list_any q xs) h) (any_kept q test xs all.1)
   where
     by : (b : Bool) → test x ≡ b → (q x ≡ true) ⊎ (list_any q xs ≡ true) → (list_any q xs ≡ true → list_any q (filter test xs) ≡ true) → list_any q (cond b (x ∷ filter test xs) (filter test xs)) ≡ true
     by true is (inl here) rest = or_left (q x) (list_any q (filter test xs)) here
@@ -56,7 +57,7 @@ filter_kept q test (x ∷ xs) all = by (test x) (q x) refl refl (filter_kept q t
 -- one that passes and isn't chosen
 any_lost : (P : Entry → Type 0) (q test : Entry → Bool) (xs : List Entry) → AllByRecursion P xs → list_any q xs ≡ true → list_any q (filter test xs) ≡ false → HasOne (λ x. P x × (test x ≡ false)) q
 any_lost P q test [] all h none = absurd (true≢false (sym h))
-any_lost P q test (x ∷ xs) all h none = by (test x) refl (or_case (q x) (list_any q xs) h) none (any_lost P q test xs all.1)
+any_lost P q test (x ∷ xs) all h none = by (test x) refl (or_cases (q x) (list_any q xs) h) none (any_lost P q test xs all.1)
   where
     or_false_left : (a b : Bool) → (a || b) ≡ false → a ≡ false
     or_false_left true b h = h
@@ -103,7 +104,7 @@ own_begin t x h =
 
 pub own_any : (t : ℕ) (xs : List Entry) → list_any (begins_as t) xs ≡ true → list_any (is_of t) xs ≡ true
 own_any t [] h = h
-own_any t (x ∷ xs) h = elim (or_case (begins_as t x) (list_any (begins_as t) xs) h) [ inl here ↦ or_left (is_of t x) (list_any (is_of t) xs) (own_begin t x here) | inr later ↦ or_right (is_of t x) (list_any (is_of t) xs) (own_any t xs later) ]
+own_any t (x ∷ xs) h = elim (or_cases (begins_as t x) (list_any (begins_as t) xs) h) [ inl here ↦ or_left (is_of t x) (list_any (is_of t) xs) (own_begin t x here) | inr later ↦ or_right (is_of t x) (list_any (is_of t) xs) (own_any t xs later) ]
 
 module _ (p : Picture) (sound : IsSound p) where
   abbrev m : Master
@@ -116,13 +117,13 @@ module _ (p : Picture) (sound : IsSound p) where
   old = before_block m.redo p.log
 
   still_open : (t : ℕ) → is_closed p.log t ≡ false → is_closed old t ≡ false
-  still_open t h = no_true (is_closed old t) (λ closed. true≢false (sym (any_chosen (λ x. is_of t x && is_closing x.rec) (λ x. nat_lt x.lsn redo_at) p.log closed) ∙ h))
+  still_open t h = false_from_ne_true (is_closed old t) (λ closed. true≢false (sym (any_chosen (λ x. is_of t x && is_closing x.rec) (λ x. nat_lt x.lsn redo_at) p.log closed) ∙ h))
 
   -- a transaction that began before the redo block and wasn't closed there is named
   named_if : (t : ℕ) → has_begun p.log t ≡ true → t < redo_at → is_closed old t ≡ false → is_named m.active t ≡ true
   named_if t begun less open_still =
       let all : AllByRecursion (λ x. begins_as t x ≡ true → nat_lt x.lsn redo_at ≡ true) p.log = low p.log in
-      named_is p sound t ∙ and_both (has_begun old t) (not (is_closed old t)) (any_kept (begins_as t) (λ x. nat_lt x.lsn redo_at) p.log all begun) (ap not open_still)
+      named_is p sound t ∙ and_from (has_begun old t) (not (is_closed old t)) (any_kept (begins_as t) (λ x. nat_lt x.lsn redo_at) p.log all begun) (ap not open_still)
     where
       low : (xs : List Entry) → AllByRecursion (λ x. begins_as t x ≡ true → nat_lt x.lsn redo_at ≡ true) xs
       low [] = tt
@@ -133,7 +134,7 @@ module _ (p : Picture) (sound : IsSound p) where
     parts = and_parts (list_any (is_of t) p.log) (not (is_closed p.log t)) loser
 
     pub open_still : is_closed p.log t ≡ false
-    open_still = no_true (is_closed p.log t) (λ h. true≢false (sym parts.1 ∙ ap not h))
+    open_still = false_from_ne_true (is_closed p.log t) (λ h. true≢false (sym parts.1 ∙ ap not h))
 
     pub chain : IsLoserChain t (entries_of t p.log)
     chain = sound.losers_can_be_undone t loser
@@ -163,18 +164,18 @@ module _ (p : Picture) (sound : IsSound p) where
     pub loser_active : is_active m.active (taken p) t ≡ true
     loser_active =
         let known : has_begun (taken p) t ≡ true = any_kept (begins_as t) (is_taken m) p.log (all_map (λ x. is_of t x ≡ true → is_taken m x ≡ true) (λ x. begins_as t x ≡ true → is_taken m x ≡ true) (λ x take h. take (own_begin t x h)) p.log all_taken) begun in
-        let none : is_closed (taken p) t ≡ false = no_true (is_closed (taken p) t) (λ h. true≢false (sym (any_chosen (λ x. is_of t x && is_closing x.rec) (is_taken m) p.log h) ∙ open_still)) in
-        and_both (is_known m.active (taken p) t) (not (is_closed (taken p) t)) (or_right (is_named m.active t) (has_begun (taken p) t) known) (ap not none)
+        let none : is_closed (taken p) t ≡ false = false_from_ne_true (is_closed (taken p) t) (λ h. true≢false (sym (any_chosen (λ x. is_of t x && is_closing x.rec) (is_taken m) p.log h) ∙ open_still)) in
+        and_from (is_known m.active (taken p) t) (not (is_closed (taken p) t)) (or_right (is_named m.active t) (has_begun (taken p) t) known) (ap not none)
 
   module _ (t : ℕ) (active : is_active m.active (taken p) t ≡ true) where
     known_parts : (is_known m.active (taken p) t ≡ true) × (not (is_closed (taken p) t) ≡ true)
     known_parts = and_parts (is_known m.active (taken p) t) (not (is_closed (taken p) t)) active
 
     not_closed : is_closed (taken p) t ≡ false
-    not_closed = no_true (is_closed (taken p) t) (λ h. true≢false (sym known_parts.1 ∙ ap not h))
+    not_closed = false_from_ne_true (is_closed (taken p) t) (λ h. true≢false (sym known_parts.1 ∙ ap not h))
 
     begun_there : has_begun p.log t ≡ true
-    begun_there = by (or_case (is_named m.active t) (has_begun (taken p) t) known_parts.0)
+    begun_there = by (or_cases (is_named m.active t) (has_begun (taken p) t) known_parts.0)
       where
         by : (is_named m.active t ≡ true) ⊎ (has_begun (taken p) t ≡ true) → has_begun p.log t ≡ true
         by (inl named) = any_chosen (begins_as t) (λ x. nat_lt x.lsn redo_at) p.log (named_parts p sound t named).begun
@@ -182,10 +183,10 @@ module _ (p : Picture) (sound : IsSound p) where
 
     -- where it began before the redo block it is named
     named_low : t < redo_at → is_named m.active t ≡ true
-    named_low less = by (or_case (is_named m.active t) (has_begun (taken p) t) known_parts.0)
+    named_low less = by (or_cases (is_named m.active t) (has_begun (taken p) t) known_parts.0)
       where
         begin_named : (x : Entry) → is_taken m x ≡ true → begins_as t x ≡ true → is_named m.active t ≡ true
-        begin_named x here begins = in_it (or_case (nat_le redo_at x.lsn) (is_named m.active (txn_of x)) here)
+        begin_named x here begins = in_it (or_cases (nat_le redo_at x.lsn) (is_named m.active (txn_of x)) here)
           where
             same : x.lsn ≡ t
             same = eqb-true x.lsn t (and_parts (is_begin x.rec) (x.lsn == t) begins).1
@@ -197,7 +198,7 @@ module _ (p : Picture) (sound : IsSound p) where
         by : (is_named m.active t ≡ true) ⊎ (has_begun (taken p) t ≡ true) → is_named m.active t ≡ true
         by (inl named) = named
         by (inr begins) =
-            let one = one_of (λ x. (x.lsn ≡ x.lsn) × (is_taken m x ≡ true)) (begins_as t) (taken p) (filter_holds (λ x. x.lsn ≡ x.lsn) (is_taken m) p.log (each p.log)) begins in
+            let one = one_of (λ x. (x.lsn ≡ x.lsn) × (is_taken m x ≡ true)) (begins_as t) (taken p) (all_filter_passed (λ x. x.lsn ≡ x.lsn) (is_taken m) p.log (each p.log)) begins in
             begin_named one.x one.holds.1 one.passes
           where
             each : (xs : List Entry) → AllByRecursion (λ x. x.lsn ≡ x.lsn) xs
@@ -206,17 +207,17 @@ module _ (p : Picture) (sound : IsSound p) where
 
     -- what closes it is taken
     open_in_log : is_closed p.log t ≡ false
-    open_in_log = no_true (is_closed p.log t) (λ h.
+    open_in_log = false_from_ne_true (is_closed p.log t) (λ h.
         let lost = any_lost (λ x. txn_of x ≤ x.lsn) (λ x. is_of t x && is_closing x.rec) (is_taken m) p.log sound.begun h not_closed in
         let own = eqb-true (txn_of lost.x) t (and_parts (is_of t lost.x) (is_closing lost.x.rec) lost.passes).0 in
         let above = lost.holds.0 in
-        let late : nat_le redo_at lost.x.lsn ≡ false = no_true (nat_le redo_at lost.x.lsn) (λ yes. true≢false (sym (or_left (nat_le redo_at lost.x.lsn) (is_named m.active (txn_of lost.x)) yes) ∙ lost.holds.1)) in
+        let late : nat_le redo_at lost.x.lsn ≡ false = false_from_ne_true (nat_le redo_at lost.x.lsn) (λ yes. true≢false (sym (or_left (nat_le redo_at lost.x.lsn) (is_named m.active (txn_of lost.x)) yes) ∙ lost.holds.1)) in
         let less = leb-false redo_at lost.x.lsn late in
         true≢false (sym (or_right (nat_le redo_at lost.x.lsn) (is_named m.active (txn_of lost.x)) (ap (is_named m.active) own ∙ named_low (omega (arith, own, above, less)))) ∙ lost.holds.1))
 
     pub active_loser : is_loser p.log t ≡ true
     active_loser =
-        and_both (list_any (is_of t) p.log) (not (is_closed p.log t)) (own_any t p.log begun_there) (ap not open_in_log)
+        and_from (list_any (is_of t) p.log) (not (is_closed p.log t)) (own_any t p.log begun_there) (ap not open_in_log)
 
 pub taken_entries : TakenEntries
 taken_entries p t sound loser = entries_taken p sound t loser
@@ -278,8 +279,8 @@ module _ (p : Picture) (sound : IsSound p) where
       late x none n commit = by (nat_le (512 * p.master.redo) x.lsn) refl
         where
           not_named : nat_le (512 * p.master.redo) x.lsn ≡ false → is_named p.master.active (txn_of x) ≡ false
-          not_named early = no_true (is_named p.master.active (txn_of x)) (λ named.
-              true≢false (sym (and_both (is_of (txn_of x) x) (is_closing x.rec) (eq-eqb (txn_of x) (txn_of x) refl) (commit_closes x.rec n commit))
+          not_named early = false_from_ne_true (is_named p.master.active (txn_of x)) (λ named.
+              true≢false (sym (and_from (is_of (txn_of x) x) (is_closing x.rec) (eq-eqb (txn_of x) (txn_of x) refl) (commit_closes x.rec n commit))
               ∙ none (named_parts p sound (txn_of x) named).not_closed (lt-ltb x.lsn (512 * p.master.redo) (leb-false (512 * p.master.redo) x.lsn early))))
 
           by : (b : Bool) → nat_le (512 * p.master.redo) x.lsn ≡ b → is_taken p.master x ≡ nat_le (512 * p.master.redo) x.lsn

@@ -2,7 +2,9 @@
 use Rattle.std.proofs.Common.{◌≡◌, ◌⊎◌, inl, inr, ℕ, ◌+◌, ◌*◌, ◌<◌, ◌≤◌, ◌==◌, ◌&&◌, ◌||◌, not, Bool, true, false, cond, nat_lt, nat_le, List, [], ◌∷◌, ◌++◌, length, map, refl, sym, ap, subst, ◌∙◌, arith, append_assoc, append-nil, true≢false}
 use Rattle.std.specs.Prelude.{filter}
 use Rattle.std.specs.List.{list_any, AllByRecursion}
-use Rattle.std.proofs.lemmas.Bool.{cond-true, cond-false, eqb-true, eq-eqb, and_parts, ltb-true, lt-ltb, leb-true, cases_lt}
+use Rattle.std.proofs.lemmas.Bool.{cond-true, cond-false, eqb-true, eq-eqb, and_parts, ltb-true, lt-ltb, leb-true, cases_lt, or_left, or_right, or_cases, false_from_ne_true, and_from}
+use Rattle.std_lemmas.proofs.AllOf.{all_push, all_filter_passed}
+use Rattle.std.proofs.lemmas.List.Elements.{filter-append}
 use Rattle.log_records.specs.declared.log_record.LogRecord.{LogRecord}
 use Rattle.log_records.specs.declared.log_record.LogRecord.TheVariants.{Begin, Update, Clr, Commit, End}
 use Rattle.log_records.specs.Log.{Entry, txn_of, txn_by, is_of, is_closing, is_closed, entries_of}
@@ -12,28 +14,10 @@ use Rattle.analysis.specs.Read.{is_active}
 use Rattle.analysis.specs.Laws.{has_begun, HaveBegun}
 use Rattle.analysis.specs.Taken.{is_named, is_taken, taken, Steps, StepsOn, TakenInOrder, TakenBegin}
 use Rattle.analysis.proofs.Unfinished.{begins_as, listed_is}
-use Rattle.analysis.proofs.Nexts.{all_more}
-use Rattle.analysis.proofs.Pending.{filter_front, order_filter}
+use Rattle.analysis.proofs.Pending.{order_filter}
+use Rattle.log_records.proofs.Entries.{closing_is_no_begin, in_order_least}
 
 -- Tests over lists.
-
-pub no_true : (b : Bool) → (b ≡ true → ⊥) → b ≡ false
-no_true true h = absurd (h refl)
-no_true false h = refl
-
-pub and_both : (a b : Bool) → a ≡ true → b ≡ true → (a && b) ≡ true
-and_both a b p q = ap (λ x. x && b) p ∙ q
-
-pub or_left : (a b : Bool) → a ≡ true → (a || b) ≡ true
-or_left a b p = ap (λ x. x || b) p
-
-pub or_right : (a b : Bool) → b ≡ true → (a || b) ≡ true
-or_right true b p = refl
-or_right false b p = p
-
-pub or_case : (a b : Bool) → (a || b) ≡ true → (a ≡ true) ⊎ (b ≡ true)
-or_case true b h = inl refl
-or_case false b h = inr h
 
 -- what passes a test in chosen items passes it in all
 pub any_chosen : (q test : Entry → Bool) (xs : List Entry) → list_any q (filter test xs) ≡ true → list_any q xs ≡ true
@@ -41,7 +25,7 @@ any_chosen q test [] h = h
 any_chosen q test (x ∷ xs) h = by (test x) h (any_chosen q test xs)
   where
     by : (b : Bool) → list_any q (cond b (x ∷ filter test xs) (filter test xs)) ≡ true → (list_any q (filter test xs) ≡ true → list_any q xs ≡ true) → (q x || list_any q xs) ≡ true
-    by true h rest = elim (or_case (q x) (list_any q (filter test xs)) h) [ inl here ↦ or_left (q x) (list_any q xs) here | inr later ↦ or_right (q x) (list_any q xs) (rest later) ]
+    by true h rest = elim (or_cases (q x) (list_any q (filter test xs)) h) [ inl here ↦ or_left (q x) (list_any q xs) here | inr later ↦ or_right (q x) (list_any q xs) (rest later) ]
     by false h rest = or_right (q x) (list_any q xs) (rest h)
 
 -- and in more chosen items
@@ -51,14 +35,14 @@ any_more_chosen q first second more (x ∷ xs) h = by (first x) (second x) (more
   where
     by : (a b : Bool) → (a ≡ true → b ≡ true) → list_any q (cond a (x ∷ filter first xs) (filter first xs)) ≡ true → (list_any q (filter first xs) ≡ true → list_any q (filter second xs) ≡ true) →
         list_any q (cond b (x ∷ filter second xs) (filter second xs)) ≡ true
-    by true true more h rest = elim (or_case (q x) (list_any q (filter first xs)) h) [ inl here ↦ or_left (q x) (list_any q (filter second xs)) here | inr later ↦ or_right (q x) (list_any q (filter second xs)) (rest later) ]
+    by true true more h rest = elim (or_cases (q x) (list_any q (filter first xs)) h) [ inl here ↦ or_left (q x) (list_any q (filter second xs)) here | inr later ↦ or_right (q x) (list_any q (filter second xs)) (rest later) ]
     by true false more h rest = absurd (true≢false (sym (more refl)))
     by false true more h rest = or_right (q x) (list_any q (filter second xs)) (rest h)
     by false false more h rest = rest h
 
 pub any_left : (q : Entry → Bool) (xs ys : List Entry) → list_any q xs ≡ true → list_any q (xs ++ ys) ≡ true
 any_left q [] ys h = absurd (true≢false (sym h))
-any_left q (x ∷ xs) ys h = elim (or_case (q x) (list_any q xs) h) [ inl here ↦ or_left (q x) (list_any q (xs ++ ys)) here | inr later ↦ or_right (q x) (list_any q (xs ++ ys)) (any_left q xs ys later) ]
+any_left q (x ∷ xs) ys h = elim (or_cases (q x) (list_any q xs) h) [ inl here ↦ or_left (q x) (list_any q (xs ++ ys)) here | inr later ↦ or_right (q x) (list_any q (xs ++ ys)) (any_left q xs ys later) ]
 
 -- an item that passes a test, with what holds of each
 pub record HasOne (P : Entry → Type 0) (q : Entry → Bool) : Type 0 where
@@ -68,19 +52,7 @@ pub record HasOne (P : Entry → Type 0) (q : Entry → Bool) : Type 0 where
 
 pub one_of : (P : Entry → Type 0) (q : Entry → Bool) (xs : List Entry) → AllByRecursion P xs → list_any q xs ≡ true → HasOne P q
 one_of P q [] all h = absurd (true≢false (sym h))
-one_of P q (x ∷ xs) all h = elim (or_case (q x) (list_any q xs) h) [ inl here ↦ record { x = x; holds = all.0; passes = here } | inr later ↦ one_of P q xs all.1 later ]
-
-pub filter_holds : (P : Entry → Type 0) (test : Entry → Bool) (xs : List Entry) → AllByRecursion P xs → AllByRecursion (λ x. P x × (test x ≡ true)) (filter test xs)
-filter_holds P test [] h = tt
-filter_holds P test (x ∷ xs) h = by (test x) refl (filter_holds P test xs h.1)
-  where
-    by : (b : Bool) → test x ≡ b → AllByRecursion (λ y. P y × (test y ≡ true)) (filter test xs) → AllByRecursion (λ y. P y × (test y ≡ true)) (cond b (x ∷ filter test xs) (filter test xs))
-    by true is rest = ((h.0, is), rest)
-    by false is rest = rest
-
-all_any : (xs : List Entry) → AllByRecursion (λ x. ⊥ → ⊥) xs
-all_any [] = tt
-all_any (x ∷ xs) = ((λ h. h), all_any xs)
+one_of P q (x ∷ xs) all h = elim (or_cases (q x) (list_any q xs) h) [ inl here ↦ record { x = x; holds = all.0; passes = here } | inr later ↦ one_of P q xs all.1 later ]
 
 -- A chosen item among all.
 
@@ -132,13 +104,9 @@ chosen test (x ∷ xs) earlier e rest split = by (test x) refl earlier split (λ
 
 -- Order.
 
-order_least : (n to : ℕ) (front : List Entry) (e : Entry) (back : List Entry) → IsInOrder n (front ++ e ∷ back) to → n ≤ e.lsn
-order_least n to [] e back order = order.0
-order_least n to (x ∷ front) e back order = let below = order_least (x.lsn + 1) to front e back order.1 in omega (arith, below, order.0)
-
 pub order_front : (from to : ℕ) (front : List Entry) (e : Entry) (back : List Entry) → IsInOrder from (front ++ e ∷ back) to → AllByRecursion (λ x. x.lsn < e.lsn) front
 order_front from to [] e back order = tt
-order_front from to (x ∷ front) e back order = (let below = order_least (x.lsn + 1) to front e back order.1 in omega (arith, below), order_front (x.lsn + 1) to front e back order.1)
+order_front from to (x ∷ front) e back order = (let below = in_order_least (x.lsn + 1) to front e back order.1 in omega (arith, below), order_front (x.lsn + 1) to front e back order.1)
 
 -- the records before a block, where all of them stand before it
 all_before : (n : ℕ) (xs : List Entry) → AllByRecursion (λ x. x.lsn < n) xs → filter (λ x. nat_lt x.lsn n) xs ≡ xs
@@ -158,18 +126,11 @@ begun_below n t [] h = absurd (true≢false (sym h))
 begun_below n t (x ∷ xs) h = by (nat_lt x.lsn n) refl h (begun_below n t xs)
   where
     by : (b : Bool) → nat_lt x.lsn n ≡ b → list_any (begins_as t) (cond b (x ∷ filter (λ y. nat_lt y.lsn n) xs) (filter (λ y. nat_lt y.lsn n) xs)) ≡ true → (list_any (begins_as t) (filter (λ y. nat_lt y.lsn n) xs) ≡ true → t < n) → t < n
-    by true is h rest = elim (or_case (begins_as t x) (list_any (begins_as t) (filter (λ y. nat_lt y.lsn n) xs)) h) [
+    by true is h rest = elim (or_cases (begins_as t x) (list_any (begins_as t) (filter (λ y. nat_lt y.lsn n) xs)) h) [
       | inl here ↦ let same = eqb-true x.lsn t (and_parts (is_begin x.rec) (x.lsn == t) here).1 in let less = ltb-true x.lsn n is in omega (arith, same, less)
       | inr later ↦ rest later
     ]
     by false is h rest = rest h
-
-closing_is_no_begin : (rec : LogRecord) → is_closing rec ≡ true → is_begin rec ≡ false
-closing_is_no_begin Begin h = absurd (true≢false (sym h))
-closing_is_no_begin (Update txn prev page slot before after) h = refl
-closing_is_no_begin (Clr txn prev undo_next page slot after) h = refl
-closing_is_no_begin (Commit txn number) h = refl
-closing_is_no_begin (End txn) h = refl
 
 -- a Begin is of the transaction that it begins
 pub begin_of : (rec : LogRecord) (lsn : ℕ) → is_begin rec ≡ true → txn_by lsn rec ≡ lsn
@@ -204,7 +165,7 @@ module _ (p : Picture) (sound : IsSound p) where
   pub named_parts : (t : ℕ) → is_named m.active t ≡ true → IsNamed t
   named_parts t named =
       let parts = and_parts (has_begun old t) (not (is_closed old t)) (sym (named_is t) ∙ named) in
-      record { begun = parts.0; not_closed = no_true (is_closed old t) (λ h. true≢false (sym parts.1 ∙ ap not h)); low = begun_below (512 * m.redo) t p.log parts.0 }
+      record { begun = parts.0; not_closed = false_from_ne_true (is_closed old t) (λ h. true≢false (sym parts.1 ∙ ap not h)); low = begun_below (512 * m.redo) t p.log parts.0 }
 
   -- a record in front of one that stands before the redo block stands before it too
   module _ (front : List Entry) (e : Entry) (back : List Entry) (is : p.log ≡ front ++ e ∷ back) where
@@ -219,25 +180,25 @@ module _ (p : Picture) (sound : IsSound p) where
 
     old_is : e.lsn < 512 * m.redo → old ≡ front ++ filter (λ x. nat_lt x.lsn (512 * m.redo)) (e ∷ back)
     old_is less =
-        ap (filter (λ x. nat_lt x.lsn (512 * m.redo))) is ∙ filter_front (λ x. nat_lt x.lsn (512 * m.redo)) front (e ∷ back)
+        ap (filter (λ x. nat_lt x.lsn (512 * m.redo))) is ∙ filter-append (λ x. nat_lt x.lsn (512 * m.redo)) front (e ∷ back)
         ∙ ap (λ (l : List Entry). l ++ filter (λ x. nat_lt x.lsn (512 * m.redo)) (e ∷ back)) (all_before (512 * m.redo) front (all_lower e.lsn (512 * m.redo) (omega (arith, less)) front in_front))
 
     -- none of what is taken before it closes it
     not_closed_taken : (t : ℕ) → is_closed front t ≡ false → is_closed (filter (is_taken m) front) t ≡ false
-    not_closed_taken t none = no_true (is_closed (filter (is_taken m) front) t) (λ h. true≢false (sym (any_chosen (λ x. is_of t x && is_closing x.rec) (is_taken m) front h) ∙ none))
+    not_closed_taken t none = false_from_ne_true (is_closed (filter (is_taken m) front) t) (λ h. true≢false (sym (any_chosen (λ x. is_of t x && is_closing x.rec) (is_taken m) front h) ∙ none))
 
     closed_by_old : (t : ℕ) → e.lsn < 512 * m.redo → is_closed old t ≡ false → is_closed front t ≡ false
-    closed_by_old t less none = no_true (is_closed front t) (λ h.
+    closed_by_old t less none = false_from_ne_true (is_closed front t) (λ h.
         true≢false (sym (any_left (λ x. is_of t x && is_closing x.rec) front (filter (λ x. nat_lt x.lsn (512 * m.redo)) (e ∷ back)) h) ∙ sym (ap (λ (l : List Entry). is_closed l t) (old_is less)) ∙ none))
 
     -- before the redo block
     step_old : e.lsn < 512 * m.redo → is_taken m e ≡ true → Steps m.active (filter (is_taken m) front) e
     step_old less here =
-        let named : is_named m.active (txn_of e) ≡ true = by_named (or_case (nat_le (512 * m.redo) e.lsn) (is_named m.active (txn_of e)) here) in
+        let named : is_named m.active (txn_of e) ≡ true = by_named (or_cases (nat_le (512 * m.redo) e.lsn) (is_named m.active (txn_of e)) here) in
         let none : is_closed (filter (is_taken m) front) (txn_of e) ≡ false = not_closed_taken (txn_of e) (closed_by_old (txn_of e) less (named_parts (txn_of e) named).not_closed) in
         record {
           comes = λ begin. none;
-          active = λ other. and_both (is_known m.active (filter (is_taken m) front) (txn_of e)) (not (is_closed (filter (is_taken m) front) (txn_of e)))
+          active = λ other. and_from (is_known m.active (filter (is_taken m) front) (txn_of e)) (not (is_closed (filter (is_taken m) front) (txn_of e)))
               (or_left (is_named m.active (txn_of e)) (has_begun (filter (is_taken m) front) (txn_of e)) named) (ap not none);
         }
       where
@@ -250,8 +211,8 @@ module _ (p : Picture) (sound : IsSound p) where
     active_new late other =
         let lives = open_there late other in
         let t = txn_of e in
-        let known : is_known m.active (filter (is_taken m) front) t ≡ true = by_known (or_case (is_named m.active t) (has_begun (from_block m.redo front) t) lives.known) in
-        and_both (is_known m.active (filter (is_taken m) front) t) (not (is_closed (filter (is_taken m) front) t)) known (ap not (not_closed_taken t lives.not_closed))
+        let known : is_known m.active (filter (is_taken m) front) t ≡ true = by_known (or_cases (is_named m.active t) (has_begun (from_block m.redo front) t) lives.known) in
+        and_from (is_known m.active (filter (is_taken m) front) t) (not (is_closed (filter (is_taken m) front) t)) known (ap not (not_closed_taken t lives.not_closed))
       where
         by_known : (is_named m.active (txn_of e) ≡ true) ⊎ (has_begun (from_block m.redo front) (txn_of e) ≡ true) → is_known m.active (filter (is_taken m) front) (txn_of e) ≡ true
         by_known (inl named) = or_left (is_named m.active (txn_of e)) (has_begun (filter (is_taken m) front) (txn_of e)) named
@@ -276,7 +237,7 @@ module _ (p : Picture) (sound : IsSound p) where
 
       all_in_front : (acc xs : List Entry) → InTurn (IsOfOpenTransaction m) acc (xs ++ e ∷ back) → AllByRecursion (λ y. y.lsn < e.lsn) acc → AllByRecursion (λ y. y.lsn < e.lsn) xs → AllByRecursion IsInFront xs
       all_in_front acc [] turns low h = tt
-      all_in_front acc (x ∷ xs) turns low h = (record { before = acc; low = low; lives = turns.0 }, all_in_front (acc ++ x ∷ []) xs turns.1 (all_more (λ y. y.lsn < e.lsn) acc x low h.0) h.1)
+      all_in_front acc (x ∷ xs) turns low h = (record { before = acc; low = low; lives = turns.0 }, all_in_front (acc ++ x ∷ []) xs turns.1 (all_push (λ y. y.lsn < e.lsn) acc x low h.0) h.1)
 
       not_closing : (x : Entry) → IsInFront x → is_taken m x ≡ true → (is_of e.lsn x && is_closing x.rec) ≡ true → ⊥
       not_closing x in_it here closes = by_place (cases_lt x.lsn (512 * m.redo))
@@ -299,12 +260,12 @@ module _ (p : Picture) (sound : IsSound p) where
           by_taken less (inr named) = named_so named
 
           by_place : (x.lsn < 512 * m.redo) ⊎ (512 * m.redo ≤ x.lsn) → ⊥
-          by_place (inl less) = by_taken less (or_case (nat_le (512 * m.redo) x.lsn) (is_named m.active (txn_of x)) here)
-          by_place (inr high) = by_known (or_case (is_named m.active (txn_of x)) (has_begun (from_block m.redo in_it.before) (txn_of x)) (in_it.lives high other).known)
+          by_place (inl less) = by_taken less (or_cases (nat_le (512 * m.redo) x.lsn) (is_named m.active (txn_of x)) here)
+          by_place (inr high) = by_known (or_cases (is_named m.active (txn_of x)) (has_begun (from_block m.redo in_it.before) (txn_of x)) (in_it.lives high other).known)
 
       fresh_new : is_closed (filter (is_taken m) front) e.lsn ≡ false
-      fresh_new = no_true (is_closed (filter (is_taken m) front) e.lsn) (λ h.
-          let all = filter_holds IsInFront (is_taken m) front (all_in_front [] front (subst (InTurn (IsOfOpenTransaction m) []) is sound.open_transactions) tt in_front) in
+      fresh_new = false_from_ne_true (is_closed (filter (is_taken m) front) e.lsn) (λ h.
+          let all = all_filter_passed IsInFront (is_taken m) front (all_in_front [] front (subst (InTurn (IsOfOpenTransaction m) []) is sound.open_transactions) tt in_front) in
           let one = one_of (λ x. IsInFront x × (is_taken m x ≡ true)) (λ x. is_of e.lsn x && is_closing x.rec) (filter (is_taken m) front) all h in
           not_closing one.x one.holds.0 one.holds.1 one.passes)
 
@@ -329,7 +290,7 @@ taken_in_order p sound = order_filter (is_taken p.master) (512 * p.master.kept) 
 
 begun_taken : (m : Master) (t : ℕ) → is_named m.active t ≡ true → (xs : List Entry) → has_begun xs t ≡ true → has_begun (filter (is_taken m) xs) t ≡ true
 begun_taken m t named [] h = h
-begun_taken m t named (x ∷ xs) h = by (is_taken m x) refl (or_case (begins_as t x) (list_any (begins_as t) xs) h) (begun_taken m t named xs)
+begun_taken m t named (x ∷ xs) h = by (is_taken m x) refl (or_cases (begins_as t x) (list_any (begins_as t) xs) h) (begun_taken m t named xs)
   where
     by : (b : Bool) → is_taken m x ≡ b → (begins_as t x ≡ true) ⊎ (list_any (begins_as t) xs ≡ true) → (has_begun xs t ≡ true → has_begun (filter (is_taken m) xs) t ≡ true) →
         has_begun (cond b (x ∷ filter (is_taken m) xs) (filter (is_taken m) xs)) t ≡ true

@@ -38,8 +38,8 @@ pub record IsTable (named : List Active) (records : List Entry) (table : List Op
   pub says : (t : ℕ) → found_in table t ≡ open_in named records t
 
 -- of every log: the transactions ascend
-abbrev pub MayGoOn : Analysis → Type 0
-MayGoOn a = AscendFrom 0 (listed a.table)
+abbrev pub Invariant : Analysis → Type 0
+Invariant a = AscendFrom 0 (listed a.table)
 
 -- the analysis after these records, from a master on: the active transactions, and the commits
 pub record IsAnalysis (m : Master) (records : List Entry) (a : Analysis) : Type 0 where

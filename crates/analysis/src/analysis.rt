@@ -14,7 +14,7 @@ ghost use Rattle.checkpoint.specs.Actives.{Ascend};
 ghost use Rattle.checkpoint.specs.Newest.{seen};
 ghost use Rattle.analysis.specs.Open.{Open, found_in, Replaces, TakesOut, Remains, HasLeft, owed_for};
 ghost use Rattle.analysis.specs.Table.{listed};
-ghost use Rattle.analysis.specs.Read.{is_active, loser_of, IsTable, MayGoOn, IsAnalysis, IsLoser, MayCome};
+ghost use Rattle.analysis.specs.Read.{is_active, loser_of, IsTable, Invariant, IsAnalysis, IsLoser, MayCome};
 
 use crate::table::Table;
 use checkpoint::Master;
@@ -47,7 +47,7 @@ impl Analysis {
     /// Analysis from a master on: the transactions that it names are active. It takes memory for these.
     pub fn start(alloc: Global, master: &Master) -> Result<Analysis, Stop>
         requires { Ascend master.now.active }
-        ensures going { IfOk result (λ analysis. MayGoOn analysis) }
+        ensures going { IfOk result (λ analysis. Invariant analysis) }
         ensures read { IfOk result (λ analysis. IsAnalysis (seen master.now) [] analysis) }
         ensures owed { IfOk result (λ analysis. owed_for (listed analysis.table) ≡ length master.now.active) }
         ensures ended { IfOk result (λ analysis. analysis.ended ≡ false) }
@@ -68,8 +68,8 @@ impl Analysis {
     /// comes exactly where a record other than a Begin is of a transaction that isn't active. After an error the table
     /// is as it was, and the analysis is ended.
     pub fn step(&mut self, lsn: u64, rec: &LogRecord) -> Result<(), Stop>
-        requires { MayGoOn self.old }
-        ensures going { MayGoOn self.new }
+        requires { Invariant self.old }
+        ensures going { Invariant self.new }
         ensures owed { owed_for (listed self.new.table) ≤ owed_for (listed self.old.table) + 1 }
         ensures read { (m : sound.Master) (records : List Entry) → IsAnalysis m records self.old
             → MayCome records (record { lsn = lsn; rec = rec.now })
@@ -94,8 +94,8 @@ impl Analysis {
     }
 
     fn take(&mut self, lsn: u64, rec: &LogRecord) -> Result<(), Stop>
-        requires { MayGoOn self.old }
-        ensures going { MayGoOn self.new }
+        requires { Invariant self.old }
+        ensures going { Invariant self.new }
         ensures owed { owed_for (listed self.new.table) ≤ owed_for (listed self.old.table) + 1 }
         ensures read { (m : sound.Master) (records : List Entry) → IsAnalysis m records self.old
             → MayCome records (record { lsn = lsn; rec = rec.now })
@@ -144,7 +144,7 @@ impl Analysis {
 
     /// The active transaction at a place, counted from 0, by ascending transaction.
     pub fn loser(&self, place: usize) -> Loser
-        requires going { MayGoOn self.now }
+        requires going { Invariant self.now }
         requires inside { place < length (listed self.now.table) }
         ensures loser { slice_get (map loser_of (listed self.now.table)) place ≡ Some result }
         ensures found { (x : Open) × (found_in (listed self.now.table) result.txn ≡ Some x) × (result ≡ loser_of x) }
@@ -162,7 +162,7 @@ impl Analysis {
 
     /// The transaction and the LSN of the greatest Update of an active transaction that no CLR compensates.
     pub fn next_undo(&self) -> Option<(u64, u64)>
-        requires { MayGoOn self.now }
+        requires { Invariant self.now }
         ensures remains { IfSome result (λ next. Remains (listed self.now.table) next.0 next.1) }
         ensures left { IfSome result (λ next. HasLeft (listed self.now.table) next.0) }
         ensures none { IfNone result (AllByRecursion (λ x. x.updates ≡ []) (listed self.now.table)) }
@@ -194,12 +194,12 @@ impl Analysis {
     /// The greatest Update of an active transaction has been compensated, by the CLR with this `undo_next` at the LSN
     /// `last`. What remains the table knows without it.
     pub fn compensated(&mut self, txn: u64, _undo_next: u64, last: u64)
-        requires going { MayGoOn self.old }
+        requires going { Invariant self.old }
         requires left { HasLeft (listed self.old.table) txn }
         ensures replaces { Replaces (listed self.old.table) (listed self.new.table) txn
             (λ x. record x { last = last; updates = drop 1 x.updates }) }
         ensures owed { owed_for (listed self.new.table) + 1 ≡ owed_for (listed self.old.table) }
-        ensures going { MayGoOn self.new }
+        ensures going { Invariant self.new }
         ensures read { (m : sound.Master) (records : List Entry) (prev page slot : ℕ) (after : Content)
             → IsAnalysis m records self.old
             → IsAnalysis m (records ++ record { lsn = last; rec = Clr txn prev _undo_next page slot after }
@@ -218,11 +218,11 @@ impl Analysis {
 
     /// An active transaction has come to its End.
     pub fn finished(&mut self, txn: u64)
-        requires going { MayGoOn self.old }
+        requires going { Invariant self.old }
         requires active { IsSome (found_in (listed self.old.table) txn) }
         ensures takes { TakesOut (listed self.old.table) (listed self.new.table) txn }
         ensures owed { owed_for (listed self.new.table) < owed_for (listed self.old.table) }
-        ensures going { MayGoOn self.new }
+        ensures going { Invariant self.new }
         ensures read { (m : sound.Master) (records : List Entry) (lsn : ℕ)
             → IsAnalysis m records self.old
             → IsAnalysis m (records ++ record { lsn = lsn; rec = End txn } ∷ []) self.new }

@@ -1,5 +1,5 @@
 // Logs read record by record. What is expected was worked out by hand.
-ghost use Rattle.analysis.specs.Read.{MayGoOn};
+ghost use Rattle.analysis.specs.Read.{Invariant};
 
 use crate::{Analysis, Loser};
 use checkpoint::{Master, Pairs};
@@ -101,7 +101,7 @@ fn a_master_names_active_transactions(rt: HostRuntime) -> Result<(), Fail> {
 
 // The loser at the front.
 fn first_of(analysis: &Analysis) -> Option<Loser>
-    requires { MayGoOn analysis.now }
+    requires { Invariant analysis.now }
 {
     if analysis.losers() == 0 {
         return None;

@@ -1,42 +1,32 @@
 -- What the words on a cache's entries say of the pool's frames.
-use Rattle.std.proofs.Common.{Box, Global, ◌≡◌, ℕ, suc, ◌-◌, ◌<◌, ◌==◌, not, nat_eq, Bool, true, false, cond, List, [], ◌∷◌, ◌++◌, length, take, drop, slice_get, slice_set, is_some, option_map, Option, None, Some, arith, refl, sym, ap, subst, ◌∙◌, take_all, length-append}
+use Rattle.std.proofs.Common.{◌≡◌, ℕ, suc, ◌-◌, ◌<◌, ◌==◌, not, nat_eq, Bool, true, false, cond, List, [], ◌∷◌, ◌++◌, length, take, drop, slice_get, slice_set, is_some, option_map, Option, None, Some, arith, refl, sym, ap, subst, ◌∙◌, take_all, length-append}
 use Rattle.std.specs.Map.{lookup, lookup_entry, remove_entry, set_value}
 use Rattle.std.specs.Option.{option_map_or}
-use Rattle.std.proofs.lemmas.Bool.{eqb-true, eqb-false, eq-eqb, cond-true}
+use Rattle.std.proofs.lemmas.Bool.{eqb-true, eq-eqb, cond-true}
 use Rattle.std.proofs.lemmas.Option.{none-some}
 use Rattle.std.proofs.lemmas.List.{length-map, map-append}
-use Rattle.lru.specs.LruCache.{LruCache, promoted, put_entries, last_entry}
-use Rattle.slotted_page.specs.declared.slotted.Page.{Page}
+use Rattle.std.proofs.lemmas.Map.{length-set_value}
+use Rattle.std_lemmas.proofs.Bools.{eq_turned}
+use Rattle.lru.specs.LruCache.{LruCache, put_entries, last_entry}
 use Rattle.slotted_page.specs.Layout.{IsSound, slots_of, lsn_of}
 use Rattle.buffer_pool.specs.declared.frame.Frame.{Frame}
 use Rattle.buffer_pool.specs.declared.kept.Kept.{Kept}
-use Rattle.buffer_pool.specs.Entries.{frame_in, frames_in}
+use Rattle.buffer_pool.specs.Entries.{frame_in, frames_in, framed_pages, state_in}
 use Rattle.buffer_pool.specs.Frames.{State, IsPool, AreDistinct, frame_of, without, in_front, touched, cleared, clear, front_of, ChangesFront}
-use Rattle.buffer_pool.proofs.Order.{Others, absent, others_stay, others_marked, touched-absent, distinct-touched, distinct-without, length-without, distinct-cleared, length-cleared, distinct-front}
+use Rattle.buffer_pool.proofs.Order.{Others, absent, others_stay, others_marked, distinct-without, length-without, distinct-front}
 
-abbrev Entry : Type 0
+abbrev pub Entry : Type 0
 Entry = ℕ × Kept
 
-abbrev pub state : ℕ → List Frame → State
-state n frames = record { size = n; frames = frames }
-
--- The two sides of a test in either order.
-
-turned : (a b : ℕ) → (a == b) ≡ (b == a)
-turned a b = by (a == b) (b == a) refl refl
-  where
-    by : (x y : Bool) → (a == b) ≡ x → (b == a) ≡ y → (a == b) ≡ (b == a)
-    by true true p q = p ∙ sym q
-    by true false p q = absurd (eqb-false _ _ q (sym (eqb-true _ _ p)))
-    by false true p q = absurd (eqb-false _ _ p (sym (eqb-true _ _ q)))
-    by false false p q = p ∙ sym q
+abbrev pub state : ℕ → List ℕ → List Frame → State
+state n framed frames = record { size = n; frames = frames; framed = framed }
 
 -- A page's frame.
 
 pub frame_of-lookup : (es : List Entry) (page : ℕ) → frame_of (frames_in es) page ≡ option_map (λ (kept : Kept). frame_in (page, kept)) (lookup (nat_eq page) es)
 frame_of-lookup [] page = refl
 frame_of-lookup (e ∷ es) page =
-    ap (λ b. cond b (Some (frame_in e)) (frame_of (frames_in es) page)) (turned e.0 page) ∙ by (page == e.0) refl (frame_of-lookup es page)
+    ap (λ b. cond b (Some (frame_in e)) (frame_of (frames_in es) page)) (eq_turned e.0 page) ∙ by (page == e.0) refl (frame_of-lookup es page)
   where
     by : (b : Bool) → (page == e.0) ≡ b
         → frame_of (frames_in es) page ≡ option_map (λ (kept : Kept). frame_in (page, kept)) (lookup (nat_eq page) es)
@@ -47,7 +37,7 @@ frame_of-lookup (e ∷ es) page =
 pub frame_of-lookup_entry : (es : List Entry) (page : ℕ) → frame_of (frames_in es) page ≡ option_map frame_in (lookup_entry (nat_eq page) es)
 frame_of-lookup_entry [] page = refl
 frame_of-lookup_entry (e ∷ es) page =
-    ap (λ b. cond b (Some (frame_in e)) (frame_of (frames_in es) page)) (turned e.0 page) ∙ by (page == e.0) (frame_of-lookup_entry es page)
+    ap (λ b. cond b (Some (frame_in e)) (frame_of (frames_in es) page)) (eq_turned e.0 page) ∙ by (page == e.0) (frame_of-lookup_entry es page)
   where
     by : (b : Bool) → frame_of (frames_in es) page ≡ option_map frame_in (lookup_entry (nat_eq page) es)
         → cond b (Some (frame_in e)) (frame_of (frames_in es) page) ≡ option_map frame_in (cond b (Some e) (lookup_entry (nat_eq page) es))
@@ -76,10 +66,6 @@ is_some-lookup es page = by (lookup (nat_eq page) es) ∙ sym (ap is_some (frame
     by None = refl
     by (Some kept) = refl
 
-pub is_none : {X : Type 0} (o : Option X) → is_some o ≡ false → o ≡ None
-is_none None is = refl
-is_none (Some x) is = cc
-
 not_entry : (es : List Entry) (page : ℕ) → frame_of (frames_in es) page ≡ None → lookup_entry (nat_eq page) es ≡ None
 not_entry es page none = by (lookup_entry (nat_eq page) es) (sym (frame_of-lookup_entry es page) ∙ none)
   where
@@ -97,61 +83,30 @@ frames-remove_entry (e ∷ es) page distinct = by (page == e.0) refl (frames-rem
         → frames_in (cond b es (e ∷ remove_entry (nat_eq page) es)) ≡ cond (not (e.0 == page)) (frame_in e ∷ without (frames_in es) page) (without (frames_in es) page)
     by true is rest =
         sym (others_stay page (frames_in es) (let P : ℕ → Type 0 = λ n. Others n (frames_in es) in subst P (sym (eqb-true _ _ is)) distinct.0))
-        ∙ ap (λ b. cond (not b) (frame_in e ∷ without (frames_in es) page) (without (frames_in es) page)) (sym (turned e.0 page ∙ is))
+        ∙ ap (λ b. cond (not b) (frame_in e ∷ without (frames_in es) page) (without (frames_in es) page)) (sym (eq_turned e.0 page ∙ is))
     by false is rest =
         ap (λ (xs : List Frame). frame_in e ∷ xs) rest
-        ∙ ap (λ b. cond (not b) (frame_in e ∷ without (frames_in es) page) (without (frames_in es) page)) (sym (turned e.0 page ∙ is))
+        ∙ ap (λ b. cond (not b) (frame_in e ∷ without (frames_in es) page) (without (frames_in es) page)) (sym (eq_turned e.0 page ∙ is))
 
-pub pool-remove_entry : (n : ℕ) (es : List Entry) (page : ℕ) → IsPool (state n (frames_in es)) → IsPool (state n (frames_in (remove_entry (nat_eq page) es)))
-pool-remove_entry n es page pool = let P : List Frame → Type 0 = λ xs. IsPool (state n xs) in
+pub pool-remove_entry : (n : ℕ) (es : List Entry) (page : ℕ) → IsPool (state_in n es) → IsPool (state_in n (remove_entry (nat_eq page) es))
+pool-remove_entry n es page pool = let P : List Frame → Type 0 = λ xs. IsPool (state n (framed_pages (remove_entry (nat_eq page) es)) xs) in
     subst P (sym (frames-remove_entry es page pool.distinct)) (record {
       few = omega (arith, length-without (frames_in es) page, pool.few);
       distinct = distinct-without (frames_in es) page pool.distinct;
     })
 
+pub none_removed : (es : List Entry) (page : ℕ) → lookup (nat_eq page) es ≡ None → remove_entry (nat_eq page) es ≡ es
+none_removed [] page none = refl
+none_removed (e ∷ es) page none = by (page == e.0) none (none_removed es page)
+  where
+    by : (b : Bool) → cond b (Some e.1) (lookup (nat_eq page) es) ≡ None → (lookup (nat_eq page) es ≡ None → remove_entry (nat_eq page) es ≡ es) → cond b es (e ∷ remove_entry (nat_eq page) es) ≡ e ∷ es
+    by true is rest = absurd (none-some e.1 (sym is))
+    by false is rest = ap (λ (xs : List Entry). e ∷ xs) (rest is)
+
 -- An entry comes to the front.
-
-pub frames-promoted : (es : List Entry) (page : ℕ) → AreDistinct (frames_in es) → frames_in (promoted (nat_eq page) es) ≡ touched (frames_in es) page
-frames-promoted es page distinct = by (lookup_entry (nat_eq page) es) refl
-  where
-    by : (o : Option Entry) → lookup_entry (nat_eq page) es ≡ o
-        → frames_in (option_map_or (λ e. e ∷ remove_entry (nat_eq page) es) o es) ≡ touched (frames_in es) page
-    by None is = sym (touched-absent (frames_in es) page (frame_of-lookup_entry es page ∙ ap (option_map frame_in) is))
-    by (Some e) is =
-        ap (λ (xs : List Frame). frame_in e ∷ xs) (frames-remove_entry es page distinct)
-        ∙ ap (λ o. in_front o (without (frames_in es) page)) (sym (frame_of-lookup_entry es page ∙ ap (option_map frame_in) is))
-
-length_removed : (es : List Entry) (test : ℕ → Bool) (e : Entry) → lookup_entry test es ≡ Some e → suc (length (remove_entry test es)) ≡ length es
-length_removed [] test e is = absurd (none-some e is)
-length_removed (f ∷ es) test e is = by (test f.0) is (length_removed es test e)
-  where
-    by : (b : Bool) → cond b (Some f) (lookup_entry test es) ≡ Some e
-        → (lookup_entry test es ≡ Some e → suc (length (remove_entry test es)) ≡ length es)
-        → suc (length (cond b es (f ∷ remove_entry test es))) ≡ length (f ∷ es)
-    by true is rest = omega arith
-    by false is rest = omega (arith, rest is)
-
-length_promoted : (es : List Entry) (test : ℕ → Bool) → length (promoted test es) ≡ length es
-length_promoted es test = by (lookup_entry test es) refl
-  where
-    by : (o : Option Entry) → lookup_entry test es ≡ o → length (option_map_or (λ e. e ∷ remove_entry test es) o es) ≡ length es
-    by None is = refl
-    by (Some e) is = omega (arith, length_removed es test e is)
 
 pub length_frames : (es : List Entry) → length (frames_in es) ≡ length es
 length_frames es = length-map es frame_in
-
-pub pool-promoted : (n : ℕ) (es : List Entry) (page : ℕ) → IsPool (state n (frames_in es)) → IsPool (state n (frames_in (promoted (nat_eq page) es)))
-pool-promoted n es page pool = record {
-  few = omega (
-    arith,
-    length_frames es,
-    length_frames (promoted (nat_eq page) es),
-    length_promoted es (nat_eq page),
-    pool.few,
-  );
-  distinct = subst AreDistinct (sym (frames-promoted es page pool.distinct)) (distinct-touched (frames_in es) page pool.distinct);
-}
 
 pub front-promoted : (es : List Entry) (page : ℕ) → AreDistinct (frames_in es) → is_some (frame_of (frames_in es) page) ≡ true
     → frame_of (frames_in es) page ≡ Some (front_of (touched (frames_in es) page))
@@ -177,12 +132,12 @@ frames-put c page kept none room =
     ∙ ap (λ (es : List Entry). (page, kept) ∷ es) (take_all (c.cap - 1) c.entries (omega (arith, room)))
 
 pub pool-put : (n : ℕ) (es : List Entry) (page : ℕ) (kept : Kept) → frame_of (frames_in es) page ≡ None → length (frames_in es) < n
-    → IsPool (state n (frames_in es)) → IsPool (state n (frames_in ((page, kept) ∷ es)))
+    → IsPool (state_in n es) → IsPool (state_in n ((page, kept) ∷ es))
 pool-put n es page kept none room pool = record { few = omega (arith, room); distinct = (absent (frames_in es) page none, pool.distinct) }
 
 -- The last entry.
 
-split_last : (es : List Entry) (e : Entry) → last_entry es ≡ Some e → es ≡ take (length es - 1) es ++ e ∷ []
+pub split_last : (es : List Entry) (e : Entry) → last_entry es ≡ Some e → es ≡ take (length es - 1) es ++ e ∷ []
 split_last [] e is = absurd (none-some e is)
 split_last (f ∷ []) e is = let same : f ≡ e = cc in ap (λ (x : Entry). x ∷ []) same
 split_last (f ∷ g ∷ es) e is =
@@ -193,15 +148,7 @@ split_last (f ∷ g ∷ es) e is =
 pub frames-last : (es : List Entry) (e : Entry) → last_entry es ≡ Some e → frames_in es ≡ frames_in (take (length es - 1) es) ++ frame_in e ∷ []
 frames-last es e is = ap frames_in (split_last es e is) ∙ map-append frame_in (take (length es - 1) es) (e ∷ [])
 
-pub none_last : (es : List Entry) → last_entry es ≡ None → es ≡ []
-none_last [] is = refl
-none_last (f ∷ []) is = absurd (none-some f (sym is))
-none_last (f ∷ g ∷ es) is =
-    let more : length (f ∷ g ∷ es) - 1 ≡ suc (length (g ∷ es) - 1) = omega arith in
-    let rest : g ∷ es ≡ [] = none_last (g ∷ es) (sym (ap (slice_get (f ∷ g ∷ es)) more) ∙ is) in
-    absurd (let n : length (g ∷ es) ≡ 0 = ap length rest in omega (arith, n))
-
-pub pool-last : (n : ℕ) (es : List Entry) (e : Entry) → last_entry es ≡ Some e → IsPool (state n (frames_in es)) → IsPool (state n (frames_in (take (length es - 1) es)))
+pub pool-last : (n : ℕ) (es : List Entry) (e : Entry) → last_entry es ≡ Some e → IsPool (state_in n es) → IsPool (state_in n (take (length es - 1) es))
 pool-last n es e is pool =
     let split : frames_in es ≡ frames_in (take (length es - 1) es) ++ frame_in e ∷ [] = frames-last es e is in
     let split_es : es ≡ take (length es - 1) es ++ e ∷ [] = split_last es e is in
@@ -210,35 +157,63 @@ pool-last n es e is pool =
       distinct = distinct-front (frames_in (take (length es - 1) es)) (frame_in e ∷ []) (subst AreDistinct split pool.distinct);
     }
 
--- A mark that is cleared.
+-- What is kept of a page is another.
 
-abbrev pub clear_kept : Kept → Kept
-clear_kept kept = record { changed = false; content = kept.content }
+-- with the same marks for the pool
+pub frames-kept : (es : List Entry) (page : ℕ) (kept now : Kept) → now.changed ≡ kept.changed → now.content ≡ kept.content → lookup (nat_eq page) es ≡ Some kept
+    → frames_in (set_value (nat_eq page) es now) ≡ frames_in es
+frames-kept [] page kept now changed content is = refl
+frames-kept (e ∷ es) page kept now changed content is = by (nat_eq page e.0) is (frames-kept es page kept now changed content)
+  where
+    by : (b : Bool) → cond b (Some e.1) (lookup (nat_eq page) es) ≡ Some kept
+        → (lookup (nat_eq page) es ≡ Some kept → frames_in (set_value (nat_eq page) es now) ≡ frames_in es)
+        → frames_in (cond b ((e.0, now) ∷ es) (e ∷ set_value (nat_eq page) es now)) ≡ frames_in (e ∷ es)
+    by true is rest =
+        let same : e.1 ≡ kept = cc in
+        (λ i. let f : Frame = record { page = e.0; changed = changed i; content = (content i).value } in f ∷ frames_in es)
+        ∙ ap (λ (k : Kept). frame_in (e.0, k) ∷ frames_in es) (sym same)
+    by false is rest = ap (λ (xs : List Frame). frame_in e ∷ xs) (rest is)
 
-pub frames-cleared : (es : List Entry) (page : ℕ) (kept : Kept) → AreDistinct (frames_in es) → lookup (nat_eq page) es ≡ Some kept
-    → frames_in (set_value (nat_eq page) es (clear_kept kept)) ≡ cleared (frames_in es) page
-frames-cleared [] page kept distinct is = refl
-frames-cleared (e ∷ es) page kept distinct is = by (page == e.0) refl is (frames-cleared es page kept distinct.1)
+-- no longer marked as changed
+pub frames-cleared : (es : List Entry) (page : ℕ) (kept now : Kept) → now.changed ≡ false → now.content ≡ kept.content → AreDistinct (frames_in es) → lookup (nat_eq page) es ≡ Some kept
+    → frames_in (set_value (nat_eq page) es now) ≡ cleared (frames_in es) page
+frames-cleared [] page kept now changed content distinct is = refl
+frames-cleared (e ∷ es) page kept now changed content distinct is = by (page == e.0) refl is (frames-cleared es page kept now changed content distinct.1)
   where
     by : (b : Bool) → (page == e.0) ≡ b → cond b (Some e.1) (lookup (nat_eq page) es) ≡ Some kept
-        → (lookup (nat_eq page) es ≡ Some kept → frames_in (set_value (nat_eq page) es (clear_kept kept)) ≡ cleared (frames_in es) page)
-        → frames_in (cond b ((e.0, clear_kept kept) ∷ es) (e ∷ set_value (nat_eq page) es (clear_kept kept))) ≡ cond (e.0 == page) (clear (frame_in e)) (frame_in e) ∷ cleared (frames_in es) page
+        → (lookup (nat_eq page) es ≡ Some kept → frames_in (set_value (nat_eq page) es now) ≡ cleared (frames_in es) page)
+        → frames_in (cond b ((e.0, now) ∷ es) (e ∷ set_value (nat_eq page) es now)) ≡ cond (e.0 == page) (clear (frame_in e)) (frame_in e) ∷ cleared (frames_in es) page
     by true at is rest =
         let same : e.1 ≡ kept = cc in
-        ap (λ (k : Kept). frame_in (e.0, clear_kept k) ∷ frames_in es) (sym same)
+        (λ i. let f : Frame = record { page = e.0; changed = changed i; content = (content i).value } in f ∷ frames_in es)
+        ∙ ap (λ (k : Kept). clear (frame_in (e.0, k)) ∷ frames_in es) (sym same)
         ∙ ap (λ (xs : List Frame). clear (frame_in e) ∷ xs) (sym (others_marked page (frames_in es) (let P : ℕ → Type 0 = λ n. Others n (frames_in es) in subst P (sym (eqb-true _ _ at)) distinct.0)))
-        ∙ ap (λ b. cond b (clear (frame_in e)) (frame_in e) ∷ cleared (frames_in es) page) (sym (turned e.0 page ∙ at))
+        ∙ ap (λ b. cond b (clear (frame_in e)) (frame_in e) ∷ cleared (frames_in es) page) (sym (eq_turned e.0 page ∙ at))
     by false at is rest =
         ap (λ (xs : List Frame). frame_in e ∷ xs) (rest is)
-        ∙ ap (λ b. cond b (clear (frame_in e)) (frame_in e) ∷ cleared (frames_in es) page) (sym (turned e.0 page ∙ at))
+        ∙ ap (λ b. cond b (clear (frame_in e)) (frame_in e) ∷ cleared (frames_in es) page) (sym (eq_turned e.0 page ∙ at))
 
-pub pool-cleared : (n : ℕ) (es : List Entry) (page : ℕ) (kept : Kept) → lookup (nat_eq page) es ≡ Some kept → IsPool (state n (frames_in es))
-    → IsPool (state n (frames_in (set_value (nat_eq page) es (clear_kept kept))))
-pool-cleared n es page kept is pool = let P : List Frame → Type 0 = λ xs. IsPool (state n xs) in
-    subst P (sym (frames-cleared es page kept pool.distinct is)) (record {
-      few = omega (arith, length-cleared (frames_in es) page, pool.few);
-      distinct = distinct-cleared (frames_in es) page pool.distinct;
-    })
+pub pool-kept : (n : ℕ) (es : List Entry) (page : ℕ) (now : Kept) → IsPool (state_in n es) → IsPool (state_in n (set_value (nat_eq page) es now))
+pool-kept n es page now pool = record {
+  few = omega (arith, length_frames es, length_frames (set_value (nat_eq page) es now), length-set_value (nat_eq page) es now, pool.few);
+  distinct = distinct-kept es pool.distinct;
+}
+  where
+    others-kept : (n : ℕ) (es : List Entry) → Others n (frames_in es) → Others n (frames_in (set_value (nat_eq page) es now))
+    others-kept n [] all = tt
+    others-kept n (e ∷ es) all = by (nat_eq page e.0) (others-kept n es all.1)
+      where
+        by : (b : Bool) → Others n (frames_in (set_value (nat_eq page) es now)) → Others n (frames_in (cond b ((e.0, now) ∷ es) (e ∷ set_value (nat_eq page) es now)))
+        by true rest = all
+        by false rest = (all.0, rest)
+
+    distinct-kept : (es : List Entry) → AreDistinct (frames_in es) → AreDistinct (frames_in (set_value (nat_eq page) es now))
+    distinct-kept [] all = tt
+    distinct-kept (e ∷ es) all = by (nat_eq page e.0) (distinct-kept es all.1)
+      where
+        by : (b : Bool) → AreDistinct (frames_in (set_value (nat_eq page) es now)) → AreDistinct (frames_in (cond b ((e.0, now) ∷ es) (e ∷ set_value (nat_eq page) es now)))
+        by true rest = all
+        by false rest = (others-kept e.0 es all.0, rest)
 
 -- The entry in front.
 
@@ -266,28 +241,17 @@ set-first (f ∷ es) e w is =
     let same : f ≡ e = cc in
     cond-true _ ((f.0, w) ∷ es) (f ∷ set_value (nat_eq e.0) es w) (eq-eqb e.0 f.0 (ap (λ (x : Entry). x.0) (sym same))) ∙ ap (λ (x : Entry). (x.0, w) ∷ es) same
 
-pub pool-first : (n : ℕ) (es : List Entry) (e : Entry) (w : Kept) → slice_get es 0 ≡ Some e → IsPool (state n (frames_in es))
-    → IsPool (state n (frames_in (set_value (nat_eq e.0) es w)))
-pool-first n [] e w is pool = absurd (none-some e is)
-pool-first n (f ∷ es) e w is pool =
-    let same : f ≡ e = cc in
-    let P : List Entry → Type 0 = λ xs. IsPool (state n (frames_in xs)) in
-    subst P (sym (set-first (f ∷ es) e w is)) (record {
-      few = omega (arith, pool.few);
-      distinct = ((let Q : ℕ → Type 0 = λ k. Others k (frames_in es) in subst Q (ap (λ (x : Entry). x.0) same) pool.distinct.0), pool.distinct.1);
-    })
-
 -- the entry in front has another value
-pub changes_front : (es : List Entry) (e : Entry) (new : Box Page Global) (slot : ℕ) (content : Option (List ℕ)) (lsn : ℕ) → slice_get es 0 ≡ Some e
-    → IsSound new.value → slots_of new.value ≡ slice_set (slots_of (front_of (frames_in es)).content) slot content → lsn_of new.value ≡ lsn
-    → ChangesFront (frames_in es) (frames_in (set_value (nat_eq e.0) es (record { changed = true; content = new }))) slot content lsn
-changes_front [] e new slot content lsn is sound slots at = absurd (none-some e is)
-changes_front (f ∷ es) e new slot content lsn is sound slots at =
+pub changes_front : (es : List Entry) (e : Entry) (now : Kept) (slot : ℕ) (content : Option (List ℕ)) (lsn : ℕ) → slice_get es 0 ≡ Some e
+    → now.changed ≡ true → IsSound now.content.value → slots_of now.content.value ≡ slice_set (slots_of (front_of (frames_in es)).content) slot content → lsn_of now.content.value ≡ lsn
+    → ChangesFront (frames_in es) (frames_in (set_value (nat_eq e.0) es now)) slot content lsn
+changes_front [] e now slot content lsn is changed sound slots at = absurd (none-some e is)
+changes_front (f ∷ es) e now slot content lsn is changed sound slots at =
     let same : f ≡ e = cc in
     let P : List Entry → Type 0 = λ xs. ChangesFront (frames_in (f ∷ es)) (frames_in xs) slot content lsn in
-    subst P (sym (set-first (f ∷ es) e (record { changed = true; content = new }) is)) (record {
+    subst P (sym (set-first (f ∷ es) e now is)) (record {
       page = ap (λ (x : Entry). x.0) (sym same);
-      changed = refl;
+      changed = changed;
       sound = sound;
       slots = slots;
       set_lsn = at;
@@ -296,7 +260,7 @@ changes_front (f ∷ es) e new slot content lsn is sound slots at =
     })
 
 -- what the page in front holds
-pub front_content : (pool : State) (n : ℕ) (es : List Entry) (e : Entry) (kept : Kept) → state n (frames_in es) ≡ pool → slice_get es 0 ≡ Some e
+pub front_content : (pool : State) (n : ℕ) (es : List Entry) (e : Entry) (kept : Kept) → state_in n es ≡ pool → slice_get es 0 ≡ Some e
     → Some kept ≡ lookup (nat_eq e.0) es → (front_of pool.frames).content ≡ kept.content.value
 front_content pool n es e kept view is there =
     let both : Some kept ≡ Some e.1 = there ∙ lookup-first es e is in

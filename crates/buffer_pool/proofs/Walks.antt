@@ -13,7 +13,7 @@ if_changed frame = cond frame.changed (frame ∷ []) []
 abbrev changed_frames : List Frame → List Frame
 changed_frames frames = filter (λ f. f.changed) (reverse frames)
 
-changed_more : (frame : Frame) (frames : List Frame) → changed_frames (frame ∷ frames) ≡ changed_frames frames ++ if_changed frame
+pub changed_more : (frame : Frame) (frames : List Frame) → changed_frames (frame ∷ frames) ≡ changed_frames frames ++ if_changed frame
 changed_more frame frames = ap (filter (λ f. f.changed)) (reverse-append (frame ∷ []) frames) ∙ filter-append (λ f. f.changed) (reverse frames) (frame ∷ [])
 
 one_at_most : (frame : Frame) → length (if_changed frame) ≤ 1

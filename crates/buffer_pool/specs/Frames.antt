@@ -1,7 +1,7 @@
 -- The pool: a list of frames, the one that was touched last in front.
 use Rattle.std.specs.Prelude.{◌≡◌, ◌≢◌, ℕ, ◌≤◌, ◌==◌, not, Bool, true, false, List, [], ◌∷◌, length, map, filter, find}
-use Rattle.std.specs.Prelude.{take, drop, reverse, slice_index_or, slice_set, Option, Some, None, if◌then◌else◌}
-use Rattle.std.specs.List.{AllByRecursion}
+use Rattle.std.specs.Prelude.{◌||◌, take, drop, reverse, slice_index_or, slice_set, Option, Some, None, if◌then◌else◌}
+use Rattle.std.specs.List.{AllByRecursion, list_any}
 use Rattle.slotted_page.specs.Layout.{IsSound, lsn_of, slots_of}
 use Rattle.buffer_pool.specs.declared.frame.Frame.{Frame}
 
@@ -10,10 +10,12 @@ abbrev pub AreDistinct : List Frame → Type 0
 AreDistinct [] = Unit {0}
 AreDistinct (frame ∷ frames) = AllByRecursion (λ other. frame.page ≢ other.page) frames × AreDistinct frames
 
--- a pool, with how many frames it may have
+-- a pool, with how many frames it may have, and those of its pages that have a frame in the queue on flash, as it was
+-- told
 pub record State : Type 0 where
   pub size : ℕ
   pub frames : List Frame
+  pub framed : List ℕ
 
 pub record IsPool (pool : State) : Type 0 where
   pub few : length pool.frames ≤ pool.size
@@ -48,6 +50,24 @@ cleared frames page = map (cleared_at page) frames
 -- the frames that were changed, the coldest in front, so many at most
 abbrev pub coldest_changed : ℕ → List Frame → List Frame
 coldest_changed most frames = take most (filter (λ frame. frame.changed) (reverse frames))
+
+-- whether a page has a frame in the queue, as the pool was told
+abbrev pub is_framed : State → ℕ → Bool
+is_framed pool page = list_any (λ other. other == page) pool.framed
+
+-- Of each page the same is known as before, or of one page this and of the others the same.
+abbrev pub KnowsSame : State → State → Type 0
+KnowsSame old new = (n : ℕ) → is_framed new n ≡ is_framed old n
+
+abbrev pub Knows : ℕ → Bool → State → State → Type 0
+Knows page framed old new = (n : ℕ) → is_framed new n ≡ (if n == page then framed else is_framed old n)
+
+-- the frames that are changed or have no frame in the queue, the coldest in front, so many at most
+abbrev pub is_movable : State → Frame → Bool
+is_movable pool frame = frame.changed || not (is_framed pool frame.page)
+
+abbrev pub coldest_movable : ℕ → State → List Frame
+coldest_movable most pool = take most (filter (is_movable pool) (reverse pool.frames))
 
 -- what a listing tells of a frame
 abbrev pub mark_of : Frame → ℕ × Bool

@@ -2,6 +2,7 @@
 #![tactic(auto)]
 
 mod frame;
+mod index;
 mod kept;
 mod laws;
 mod pool;

@@ -1,10 +1,11 @@
 ghost use Rattle.std.specs.Prelude.{◌≡◌, ◌<◌, ◌≤◌, ◌==◌, ◌↔◌, ◌∷◌, ◌++◌, [], ℕ, List, length, map, IsTrue, true, false};
 ghost use Rattle.std.specs.Prelude.{Some, None, IsSome, IsNone, is_some, if◌then◌else◌, IfOk, IfErr, IfSome, IfNone};
 ghost use Rattle.std.specs.Prelude.{OnOk, OnErr, OnSome, slice_get, option_map, option_copied};
-ghost use Rattle.slotted_page.specs.Layout.{slots_of, content_length, IsSound, Fits};
+ghost use Rattle.slotted_page.specs.Layout.{slots_of, content_length, IsSound, Matches};
 ghost use Rattle.buffer_pool.specs.Frames.{IsPool, frame_of, without, touched, cleared, mark_of, front_of};
-ghost use Rattle.buffer_pool.specs.Frames.{coldest_changed, ChangesFront};
+ghost use Rattle.buffer_pool.specs.Frames.{coldest_changed, coldest_movable, KnowsSame, Knows, ChangesFront};
 
+use crate::index::Index;
 use crate::kept::Kept;
 use byte_fields::VALUE_MAX;
 use lru::LruCache;
@@ -20,19 +21,22 @@ use std::num::NonZeroUsize;
 pub struct Pool {
     size: u32,
     pages: LruCache<u32, Kept>,
+    index: Index,
 }
 
 impl Model for Pool {
     ghost use Rattle.std.specs.Prelude.{◌≡◌};
     ghost use Rattle.buffer_pool.specs.Frames.{State, IsPool};
-    ghost use Rattle.buffer_pool.specs.Entries.{frames_in};
+    ghost use Rattle.buffer_pool.specs.Entries.{state_in};
+    ghost use Rattle.buffer_pool.specs.Listing.{IsIndex};
 
     ghost Value = { State };
 
-    ghost view = { λ p. record { size = p.size; frames = frames_in p.pages.entries } };
+    ghost view = { λ p. state_in p.size p.pages.entries };
 
     ghost invariant = { λ p. (p.pages.cap ≡ p.size)
-        × IsPool (record { size = p.size; frames = frames_in p.pages.entries }) };
+        × IsPool (state_in p.size p.pages.entries)
+        × IsIndex p.index p.pages.entries };
 }
 
 // Adds a page to others where it is wanted.
@@ -46,12 +50,28 @@ fn add_if(pages: &mut Vec<u32>, page: u32, wanted: bool) -> Result<(), Stop>
     Ok(())
 }
 
+// Adds a page to others where it is wanted, and whether it was changed.
+fn add_mark_if(
+    marks: &mut Vec<(u32, bool)>,
+    page: u32,
+    changed: bool,
+    wanted: bool,
+) -> Result<(), Stop>
+    ensures ok { OnOk result (marks.new.items ≡ marks.old.items ++ (if wanted then (page, changed) ∷ [] else [])) }
+    ensures memory { IfErr result (λ stop. stop ≡ Stop.Memory) }
+{
+    if wanted {
+        marks.push((page, changed))?;
+    }
+    Ok(())
+}
+
 impl Pool {
     /// An empty pool with room for so many pages, 1 to 4,096.
     pub fn new(alloc: Global, size: u32) -> Result<Pool, Stop>
         requires least { 1 ≤ size }
         requires most { size ≤ 4096 }
-        ensures empty { IfOk result (λ pool. pool ≡ record { size = size; frames = [] }) }
+        ensures empty { IfOk result (λ pool. pool ≡ record { size = size; frames = []; framed = [] }) }
         ensures memory { IfErr result (λ stop. stop ≡ Stop.Memory) }
     {
         let Some(most) = NonZeroUsize::new(size as usize) else {
@@ -60,6 +80,7 @@ impl Pool {
         Ok(Pool {
             size,
             pages: LruCache::sparse(alloc, most)?,
+            index: Index::new(alloc),
         })
     }
 
@@ -89,34 +110,47 @@ impl Pool {
     /// Brings a page to the front. It says false exactly where the page isn't there, and then nothing changed.
     pub fn touch(&mut self, page: u32) -> bool
         ensures found { result ≡ is_some (frame_of self.old.frames page) }
-        ensures after { self.new ≡ record self.old { frames = touched self.old.frames page } }
+        ensures after { self.new
+            ≡ record self.old { frames = touched self.old.frames page; framed = self.new.framed } }
+        ensures framed { KnowsSame self.old self.new }
         ensures pool { IsPool self.new }
         ensures front { IsTrue result → frame_of self.old.frames page ≡ Some (front_of self.new.frames) }
         ensures there { IsTrue result → 0 < length self.new.frames }
         ensures absent { result ≡ false → frame_of self.old.frames page ≡ None }
         ensures same { result ≡ false → self.new ≡ self.old }
     {
-        self.pages.promote(&page)
+        let Some(kept) = self.pages.get_mut(&page) else {
+            return false;
+        };
+        let listed = kept.is_listed();
+        self.index.strike(kept.stamp, listed);
+        kept.stamp = self.index.add(page, kept.changed, listed);
+        true
     }
 
-    /// Puts a page that isn't there in front, unchanged. The pool isn't full. Where memory is wanting it stays as it
-    /// was.
-    pub fn put(&mut self, page: u32, content: Page) -> Result<(), Stop>
+    /// Puts a page that isn't there in front, unchanged, and with a frame in the queue on flash or without one. The
+    /// pool isn't full. Where memory is wanting it stays as it was.
+    pub fn put(&mut self, page: u32, content: Page, framed: bool) -> Result<(), Stop>
         requires absent { frame_of self.old.frames page ≡ None }
         requires room { length self.old.frames < self.old.size }
         ensures ok { OnOk result (self.new
             ≡ record self.old {
               frames = record { page = page; changed = false; content = content }
                   ∷ self.old.frames;
+              framed = self.new.framed;
             }) }
+        ensures framed { OnOk result (Knows page framed self.old self.new) }
         ensures memory { IfErr result (λ stop. stop ≡ Stop.Memory) }
         ensures err { OnErr result (self.new ≡ self.old) }
     {
         let kept = Kept {
             changed: false,
+            framed,
+            stamp: self.index.next,
             content: Box::new(*self.pages.allocator(), content)?,
         };
         self.pages.put(page, kept)?;
+        self.index.add(page, false, !framed);
         Ok(())
     }
 
@@ -137,9 +171,10 @@ impl Pool {
         requires sound { IsSound (front_of self.old.frames).content }
         requires slot { slot < 32 }
         requires short { content_length (option_copied value) ≤ VALUE_MAX }
-        requires fits { Fits (slots_of (front_of self.old.frames).content) slot (option_copied value) }
+        requires fits { Matches (slots_of (front_of self.old.frames).content) slot (option_copied value) }
         ensures front { ChangesFront self.old.frames self.new.frames slot (option_copied value.entry) lsn }
         ensures size { self.new.size ≡ self.old.size }
+        ensures framed { KnowsSame self.old self.new }
     {
         let Some((page, _)) = self.pages.peek_mru() else {
             unreachable!();
@@ -149,18 +184,27 @@ impl Pool {
             unreachable!();
         };
         kept.content.set(slot, value, lsn);
+        if kept.changed {
+            return;
+        }
+        let before = kept.is_listed();
+        self.index.strike(kept.stamp, before);
         kept.changed = true;
+        self.index.list(kept.stamp, page, true, true);
     }
 
     /// Takes out the page that was touched longest ago: its number, whether it was changed, and what it holds.
     pub fn take_coldest(&mut self) -> Option<(u32, bool, Page)>
         ensures some { IfSome result (λ taken. self.old.frames
             ≡ self.new.frames ++ record { page = taken.0; changed = taken.1; content = taken.2 } ∷ []) }
+        ensures framed { IfSome result (λ taken. Knows taken.0 false self.old self.new) }
         ensures none { IfNone result (self.old.frames ≡ []) }
         ensures same { IfNone result (self.new ≡ self.old) }
         ensures size { self.new.size ≡ self.old.size }
     {
         let (page, kept) = self.pages.pop_lru()?;
+        let listed = kept.is_listed();
+        self.index.strike(kept.stamp, listed);
         Some((page, kept.changed, Box::into_inner(kept.content)))
     }
 
@@ -171,22 +215,49 @@ impl Pool {
             ≡ Some (record { page = page; changed = taken.0; content = taken.1 })) }
         ensures none { IfNone result (frame_of self.old.frames page ≡ None) }
         ensures same { IfNone result (self.new ≡ self.old) }
-        ensures after { self.new ≡ record self.old { frames = without self.old.frames page } }
+        ensures after { self.new
+            ≡ record self.old { frames = without self.old.frames page; framed = self.new.framed } }
+        ensures framed { Knows page false self.old self.new }
     {
         let kept = self.pages.pop(&page)?;
+        let listed = kept.is_listed();
+        self.index.strike(kept.stamp, listed);
         Some((kept.changed, Box::into_inner(kept.content)))
     }
 
     /// A page that is there is no longer marked as changed. The order stays.
     pub fn clear_changed(&mut self, page: u32)
         requires { IsSome (frame_of self.old.frames page) }
-        ensures after { self.new ≡ record self.old { frames = cleared self.old.frames page } }
+        ensures after { self.new
+            ≡ record self.old { frames = cleared self.old.frames page; framed = self.new.framed } }
+        ensures framed { KnowsSame self.old self.new }
         ensures pool { IsPool self.new }
     {
         let Some(kept) = self.pages.peek_mut(&page) else {
             unreachable!();
         };
+        let before = kept.is_listed();
+        self.index.strike(kept.stamp, before);
         kept.changed = false;
+        let after = kept.is_listed();
+        self.index.list(kept.stamp, page, false, after);
+    }
+
+    /// Tells whether a page has a frame in the queue on flash; of a page that isn't there nothing is kept. The order
+    /// stays.
+    pub fn set_framed(&mut self, page: u32, framed: bool)
+        ensures kept { self.new ≡ record self.old { framed = self.new.framed } }
+        ensures framed { IsSome (frame_of self.old.frames page) → Knows page framed self.old self.new }
+        ensures absent { frame_of self.old.frames page ≡ None → self.new ≡ self.old }
+    {
+        let Some(kept) = self.pages.peek_mut(&page) else {
+            return;
+        };
+        let before = kept.is_listed();
+        self.index.strike(kept.stamp, before);
+        kept.framed = framed;
+        let after = kept.is_listed();
+        self.index.list(kept.stamp, page, kept.changed, after);
     }
 
     /// What a page holds; none exactly where it isn't there. The order stays.
@@ -238,5 +309,34 @@ impl Pool {
             add_if(&mut pages, *page, kept.changed)?;
         }
         Ok(pages)
+    }
+
+    // The pages that are listed, found without the index.
+    fn walk_to_listed(&self, alloc: Global, most: usize) -> Result<Vec<(u32, bool)>, Stop>
+        ensures marks { IfOk result (λ marks. marks.items ≡ map mark_of (coldest_movable most self.now)) }
+        ensures memory { IfErr result (λ stop. stop ≡ Stop.Memory) }
+    {
+        let mut marks = Vec::new(alloc);
+        let mut warmer = self.pages.iter();
+        while let Some((page, kept)) = warmer.next_back() {
+            if marks.len() == most {
+                return Ok(marks);
+            }
+            add_mark_if(&mut marks, *page, kept.changed, kept.is_listed())?;
+        }
+        Ok(marks)
+    }
+
+    /// The pages that were changed or have no frame in the queue on flash, the one that was touched longest ago in
+    /// front, so many at most, and whether each was changed. The pool is walked only where memory was wanting once for
+    /// the index of these pages.
+    pub fn coldest_movable(&self, alloc: Global, most: usize) -> Result<Vec<(u32, bool)>, Stop>
+        ensures marks { IfOk result (λ marks. marks.items ≡ map mark_of (coldest_movable most self.now)) }
+        ensures memory { IfErr result (λ stop. stop ≡ Stop.Memory) }
+    {
+        if self.index.whole {
+            return self.index.coldest(alloc, most);
+        }
+        self.walk_to_listed(alloc, most)
     }
 }

@@ -18,7 +18,7 @@ fn put(pool: &mut Pool, page: u32, octet: u8) -> Result<bool, Stop> {
     match pool.page(page) {
         Some(_) => Ok(false),
         None => {
-            pool.put(page, page_of(octet))?;
+            pool.put(page, page_of(octet), true)?;
             Ok(true)
         }
     }
@@ -166,5 +166,40 @@ fn a_refused_put_leaves_the_pool_as_it_was(rt: HostRuntime) -> Result<(), Fail> 
         }
         assert!(rt; is_count(&pool, page + 1));
     }
+    Ok(())
+}
+
+// Pages that are unchanged and have a frame in the queue may not be taken: they aren't listed. A page comes to the list
+// where it is changed, or has no frame any more, by its last touch: the one that was touched longest ago in front.
+#[test]
+fn movable_pages_are_listed_by_their_last_touch(rt: HostRuntime) -> Result<(), Fail> {
+    let mut pool = Pool::new(rt.alloc(), 4)?;
+    assert!(rt; put(&mut pool, 0, 0)?);
+    assert!(rt; put(&mut pool, 1, 0)?);
+    assert!(rt; put(&mut pool, 2, 0)?);
+    assert!(rt; change(&mut pool));
+    assert!(rt; put(&mut pool, 3, 0)?);
+    pool.set_framed(0, false);
+    pool.set_framed(9, false);
+    assert!(rt; pool.touch(1));
+    assert_eq!(rt;
+        pool.coldest_movable(rt.alloc(), 4)?.as_slice(),
+        [(0u32, false), (2, true)].as_slice()
+    );
+    assert_eq!(rt;
+        pool.coldest_movable(rt.alloc(), 1)?.as_slice(),
+        [(0u32, false)].as_slice()
+    );
+    assert!(rt; pool.touch(0));
+    assert!(rt; change(&mut pool));
+    clear_changed(&mut pool, 2);
+    pool.set_framed(1, false);
+    assert_eq!(rt;
+        pool.coldest_movable(rt.alloc(), 4)?.as_slice(),
+        [(1u32, false), (0, true)].as_slice()
+    );
+    pool.set_framed(1, true);
+    assert!(rt; pool.take_page(0).is_some());
+    assert!(rt; pool.coldest_movable(rt.alloc(), 4)?.is_empty());
     Ok(())
 }

@@ -1,10 +1,11 @@
 -- The rule on the eight heads of a group.
-use Rattle.std.proofs.Common.{◌≡◌, ℕ, zero, suc, ◌+◌, ◌-◌, ◌<◌, ◌≤◌, Bool, true, false, IsTrue, List, [], ◌∷◌, ◌++◌, length, get_or, take, drop, replicate, inl, inr, cond, true≢false, refl, ap, sym, subst, ◌∙◌, arith}
+use Rattle.std.proofs.Common.{◌≡◌, ℕ, zero, suc, ◌+◌, ◌-◌, ◌<◌, ◌≤◌, Bool, true, false, IsTrue, List, [], ◌∷◌, length, get_or, take, drop, replicate, inl, inr, cond, true≢false, refl, ap, sym, subst, ◌∙◌, arith}
 use Rattle.std.specs.Prelude.{◌↔◌}
 use Rattle.std.specs.List.{AllByRecursion}
 use Rattle.std.proofs.lemmas.List.Sums.{prefix_len_passes}
 use Rattle.std.proofs.lemmas.Bool.{cases_lt}
 use Rattle.std.proofs.lemmas.List.{length-drop, get_or-drop, get_or-replicate, take-append-drop}
+use Rattle.std_lemmas.proofs.AllOf.{all_append}
 use Rattle.byte_fields.specs.declared.frame_head.FrameHead.{FrameHead}
 use Rattle.byte_fields.specs.FrameHeads.{blank, present_in_front, HasForm, AreGroupHeads}
 
@@ -26,10 +27,6 @@ is_group heads eight some others = record {
 pub others_blank : (heads : List FrameHead) → AreGroupHeads heads → AllByRecursion (λ head. head ≡ blank) (drop (present_in_front heads) heads)
 others_blank heads are = subst (AllByRecursion (λ head. head ≡ blank)) (sym are.others) (all_are_blank (8 - present_in_front heads))
 
-all_both : {X : Type 0} (P : X → Type 0) (xs ys : List X) → AllByRecursion P xs → AllByRecursion P ys → AllByRecursion P (xs ++ ys)
-all_both P [] ys h k = k
-all_both P (x ∷ xs) ys h k = (h.0, all_both P xs ys h.1 k)
-
 front_present : (heads : List FrameHead) → AllByRecursion HasForm (take (present_in_front heads) heads)
 front_present [] = tt
 front_present (head ∷ heads) =
@@ -49,7 +46,7 @@ pub have_form : (heads : List FrameHead) → AreGroupHeads heads → AllByRecurs
 have_form heads are =
     let n = present_in_front heads in
     subst (AllByRecursion HasForm) (take-append-drop n heads)
-    (all_both HasForm (take n heads) (drop n heads) (front_present heads) (blank_form (drop n heads) (others_blank heads are)))
+    (all_append HasForm (take n heads) (drop n heads) (front_present heads) (blank_form (drop n heads) (others_blank heads are)))
 
 behind_front : (heads : List FrameHead) (i : ℕ) → AreGroupHeads heads → i < 8 → present_in_front heads ≤ i → get_or heads i blank ≡ blank
 behind_front heads i are less behind =

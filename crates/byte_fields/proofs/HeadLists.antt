@@ -4,6 +4,7 @@ use Rattle.std.specs.List.{AllByRecursion}
 use Rattle.std.proofs.lemmas.List.{take_at, drop_at, drop-drop, drop-take, take-take, take_more, length-take-le, append-nil, same_lists, get_or_default}
 use Rattle.std.proofs.lemmas.Grind.{flat_map-append}
 use Rattle.std.proofs.Math.Seq.{take-add}
+use Rattle.std_lemmas.proofs.AllOf.{all_push}
 use Rattle.byte_fields.specs.declared.frame_head.FrameHead.{FrameHead}
 use Rattle.byte_fields.specs.FrameHeads.{blank, spelling, spelling_of_all, HasForm, FitsFields, IsHeadAt, AreHeads}
 use Rattle.byte_fields.specs.Writes.{Writes}
@@ -13,10 +14,6 @@ use Rattle.byte_fields.proofs.HeadParts.{length_spelling, one_head}
 pub length_all : (heads : List FrameHead) → length (spelling_of_all heads) ≡ 16 * length heads
 length_all [] = refl
 length_all (head ∷ heads) = omega (arith, length-append (spelling head) (spelling_of_all heads), length_spelling head, length_all heads)
-
-pub all_more : {X : Type 0} (P : X → Type 0) (xs : List X) (x : X) → AllByRecursion P xs → P x → AllByRecursion P (xs ++ x ∷ [])
-all_more P [] x h p = (p, tt)
-all_more P (y ∷ xs) x h p = (h.0, all_more P xs x h.1 p)
 
 pub spelling_more : (heads : List FrameHead) (head : FrameHead) → spelling_of_all (heads ++ head ∷ []) ≡ spelling_of_all heads ++ spelling head
 spelling_more heads head = flat_map-append spelling heads (head ∷ []) ∙ ap (λ (t : List ℕ). spelling_of_all heads ++ t) (append-nil (spelling head))
@@ -33,8 +30,8 @@ heads_more octets heads head at are is here =
           ∙ ap (λ (t : List ℕ). t ++ take 16 (drop (16 * length heads) octets)) are.text
           ∙ ap (λ n. spelling_of_all heads ++ take 16 (drop n octets)) (sym here)
           ∙ ap (λ (t : List ℕ). spelling_of_all heads ++ t) is.text ∙ sym (spelling_more heads head);
-      have_form = all_more HasForm heads head are.have_form is.has_form;
-      fit_fields = all_more FitsFields heads head are.fit_fields is.fits_fields;
+      have_form = all_push HasForm heads head are.have_form is.has_form;
+      fit_fields = all_push FitsFields heads head are.fit_fields is.fits_fields;
     }
 
 -- the first of heads, and those behind it
@@ -79,11 +76,6 @@ written_heads old new heads writes form fits = record {
   fit_fields = fits;
 }
 
-pub all_at : {X : Type 0} (P : X → Type 0) (xs : List X) (i : ℕ) (d : X) → AllByRecursion P xs → i < length xs → P (get_or xs i d)
-all_at P [] i d h less = absurd (omega (arith, less))
-all_at P (x ∷ xs) zero d h less = h.0
-all_at P (x ∷ xs) (suc i) d h less = all_at P xs i d h.1 (omega arith)
-
 -- one head more that is written
 pub writes_more : (old mid new : List ℕ) (heads : List FrameHead) (i : ℕ) → i < length heads → Writes old mid 0 (spelling_of_all (take i heads)) →
     Writes mid new (16 * i) (spelling (get_or heads i blank)) → Writes old new 0 (spelling_of_all (take (i + 1) heads))
@@ -93,4 +85,4 @@ writes_more old mid new heads i less before writes =
     (writes_then before writes size)
 
 pub fit_more : (heads : List FrameHead) (i : ℕ) → i < length heads → AllByRecursion FitsFields (take i heads) → FitsFields (get_or heads i blank) → AllByRecursion FitsFields (take (i + 1) heads)
-fit_more heads i less before fits = subst (AllByRecursion FitsFields) (sym (take_more heads i blank less)) (all_more FitsFields (take i heads) (get_or heads i blank) before fits)
+fit_more heads i less before fits = subst (AllByRecursion FitsFields) (sym (take_more heads i blank less)) (all_push FitsFields (take i heads) (get_or heads i blank) before fits)

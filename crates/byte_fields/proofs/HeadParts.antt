@@ -1,6 +1,5 @@
 -- The parts of a head, and that they are the head.
-use Rattle.std.proofs.Common.{◌≡◌, ℕ, ◌+◌, ◌<◌, ◌≤◌, Bool, true, false, List, [], ◌∷◌, ◌++◌, length, get_or, take, drop, refl, ap, sym, ◌∙◌, arith, inr, Result, Ok, Err}
-use Rattle.std.specs.Prelude.{IfErr, OnErr}
+use Rattle.std.proofs.Common.{◌≡◌, ℕ, ◌+◌, ◌<◌, ◌≤◌, Bool, true, false, List, [], ◌∷◌, ◌++◌, length, get_or, take, drop, refl, ap, sym, ◌∙◌, arith, inr}
 use Rattle.std.specs.Int.{w16, w32, w64, from_be_bytes, to_be_bytes}
 use Rattle.std.proofs.lemmas.List.{length-drop, length-take, get_or-take, get_or-drop, drop-drop}
 use Rattle.std.proofs.Math.Seq.{take-add}
@@ -96,14 +95,6 @@ written_head old new at head writes form fits = record {
   has_form = form;
   fits_fields = fits;
 }
-
-pub if_err : {X E : Type 0} (r : Result X E) (P : Type 0) → P → IfErr r (λ e. P)
-if_err (Ok x) P p = tt
-if_err (Err e) P p = p
-
-pub on_err : {X E : Type 0} (r : Result X E) (P : Type 0) → P → OnErr r P
-on_err (Ok x) P p = tt
-on_err (Err e) P p = p
 
 -- the numbers in the two halves of a head's octets
 abbrev pub front_half : List ℕ → ℕ → ℕ

@@ -2,6 +2,7 @@
 use Rattle.std.proofs.Common.{◌≡◌, ℕ, ◌+◌, ◌<◌, ◌≤◌, List, ◌++◌, length, get_or, take, drop, refl, ap, sym, ◌∙◌, append_assoc, arith, inl, inr, length-append}
 use Rattle.std.proofs.lemmas.Bool.{cases_lt}
 use Rattle.std.proofs.lemmas.List.{take_at, drop_at, drop-drop, drop-take, take-take, length-take, length-take-le, length-drop, get_or-take, get_or-drop, get_or_past}
+use Rattle.std_lemmas.proofs.Lists.{length_front}
 use Rattle.byte_fields.specs.Writes.{Writes}
 
 abbrev pub IsBytes : List ℕ → Type 0
@@ -16,9 +17,6 @@ IsBytes-take n octets h i =
       | inl lt ↦ rw (get_or-take n octets i 0 lt) (h i)
       | inr le ↦ rw (get_or_past (take n octets) i 0 (omega (arith, length-take n octets))) (omega arith)
     ]
-
-length_front : (a x : List ℕ) (at : ℕ) → at ≤ length a → length (take at a ++ x) ≡ at + length x
-length_front a x at h = length-append (take at a) x ∙ ap (λ n. n + length x) (length-take-le at a h)
 
 -- a text, and another one behind it
 pub writes_then : {a b c x y : List ℕ} {from mid : ℕ} → Writes a b from x → Writes b c mid y → mid ≡ from + length x → Writes a c from (x ++ y)

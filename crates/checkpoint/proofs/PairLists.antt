@@ -6,19 +6,17 @@ use Rattle.std.proofs.lemmas.List.{take_at, drop_at, drop-drop, drop-take, take-
 use Rattle.std.proofs.lemmas.Grind.{flat_map-append}
 use Rattle.std.proofs.lemmas.Nat.{be_bytes_8, from_be_bytes-to_be_bytes_8}
 use Rattle.std.proofs.Math.Seq.{take-add}
+use Rattle.std_lemmas.proofs.AllOf.{all_push}
 use Rattle.byte_fields.specs.Writes.{Writes}
 use Rattle.checkpoint.specs.declared.pairs.Pair.{Pair}
 use Rattle.checkpoint.specs.Units.{number_at, pairs_in}
 use Rattle.checkpoint.specs.Actives.{pair_spelling, spelling_of_all, FitsFields, ArePairs}
-use Rattle.checkpoint.proofs.Texts.{IsBytes, IsBytes-drop, IsBytes-take, writes_then, length-written}
+use Rattle.checkpoint.proofs.Texts.{IsBytes, IsBytes-drop, IsBytes-take, length-written}
+use Rattle.byte_fields.proofs.Texts.{writes_then}
 
 pub length_all : (pairs : List Pair) → length (spelling_of_all pairs) ≡ 16 * length pairs
 length_all [] = refl
 length_all (p ∷ pairs) = omega (arith, length-append (pair_spelling p) (spelling_of_all pairs), length_all pairs)
-
-pub all_more : {X : Type 0} (P : X → Type 0) (xs : List X) (x : X) → AllByRecursion P xs → P x → AllByRecursion P (xs ++ x ∷ [])
-all_more P [] x h p = (p, tt)
-all_more P (y ∷ xs) x h p = (h.0, all_more P xs x h.1 p)
 
 pub spelling_more : (pairs : List Pair) (p : Pair) → spelling_of_all (pairs ++ p ∷ []) ≡ spelling_of_all pairs ++ pair_spelling p
 spelling_more pairs p = flat_map-append pair_spelling pairs (p ∷ []) ∙ ap (λ (t : List ℕ). spelling_of_all pairs ++ t) (append-nil (pair_spelling p))
@@ -39,7 +37,7 @@ pairs_more octets pairs p at are fits bytes here room begin last =
     record {
       text = ap (λ n. take n octets) size ∙ take-add at 16 octets ∙ ap (λ n. take n octets ++ take 16 (drop at octets)) here
           ∙ ap (λ (t : List ℕ). t ++ take 16 (drop at octets)) are.text ∙ ap (λ (t : List ℕ). spelling_of_all pairs ++ t) two ∙ sym (spelling_more pairs p);
-      fit = all_more FitsFields pairs p are.fit fits;
+      fit = all_push FitsFields pairs p are.fit fits;
     }
 
 first_pair : (octets : List ℕ) (p : Pair) (pairs : List Pair) → ArePairs octets (p ∷ pairs) → take 16 octets ≡ pair_spelling p
@@ -92,4 +90,4 @@ writes_more old content mid new pairs i at p less is here few size before first 
 
 pub fit_more : (pairs : List Pair) (i : ℕ) (p : Pair) → i < length pairs → get_or pairs i p ≡ p → AllByRecursion FitsFields (take i pairs) → FitsFields p → AllByRecursion FitsFields (take (i + 1) pairs)
 fit_more pairs i p less is before fits =
-    subst (AllByRecursion FitsFields) (sym (take_more pairs i p less ∙ ap (λ (x : Pair). take i pairs ++ x ∷ []) is)) (all_more FitsFields (take i pairs) p before fits)
+    subst (AllByRecursion FitsFields) (sym (take_more pairs i p less ∙ ap (λ (x : Pair). take i pairs ++ x ∷ []) is)) (all_push FitsFields (take i pairs) p before fits)

@@ -4,8 +4,8 @@ use Rattle.std.specs.Prelude.{OnOk}
 use Rattle.site.specs.declared.outside.Dev.TheVariants.{Log}
 use Rattle.site.specs.declared.geometry.Geometry.{Geometry}
 use Rattle.site.specs.Geometry.{HasLimits, HasLengths}
-use Rattle.site.specs.State.{State, Image, Snapshot, IsQuiet}
-use Rattle.site.specs.Calls.{Goes}
+use Rattle.site.specs.State.{State, Snapshot, IsQuiet}
+use Rattle.site.specs.Calls.{Preserves}
 use Rattle.site.specs.Moments.{LeavesOnly, OnlyDevice}
 use Rattle.site.specs.Laws.{leaves_weaker, leaves_others_too}
 use Rattle.sealed_ring.specs.declared.slots.Shape.{Shape}
@@ -23,18 +23,11 @@ use Rattle.checkpoint.specs.Newest.{HasMaster}
 use Rattle.checkpoint.specs.Saved.{LeavesMaster}
 use Rattle.checkpoint.proofs.UnitParts.{length-unit}
 use Rattle.checkpoint.proofs.Standing.{appended_is, same_units}
-
-pub ok_maps : {T E : Type 0} (result : Result T E) (P Q : Type 0) → (P → Q) → OnOk result P → OnOk result Q
-ok_maps (Ok x) P Q f p = f p
-ok_maps (Err e) P Q f p = tt
+use Rattle.image_changes.proofs.Sequence.{reads_itself}
 
 pub ok_three : {T E : Type 0} (result : Result T E) (P Q R S : Type 0) → (P → Q → R → S) → OnOk result P → OnOk result Q → OnOk result R → OnOk result S
 ok_three (Ok x) P Q R S f p q r = f p q r
 ok_three (Err e) P Q R S f p q r = tt
-
--- an image reads as itself
-itself : (g : Geometry) (image : Image) → ReadsAs g image image
-itself g image = record { sizes = λ dev. refl; rings = λ ring. record { units = refl; form = λ form. form }; disk = refl }
 
 module _ (ring : Ring) (old new : State) (content : List ℕ) (m : Master) (shape : ring.shape ≡ master_shape) (is : IsUnit content m) where
   pub stands_as : units_of ring.shape (region ring.shape new) ≡ appended ring.shape (units_of ring.shape (region ring.shape old)) content →
@@ -78,14 +71,14 @@ module _ (ring : Ring) (old new : State) (content : List ℕ) (m : Master) (shap
           reached : (snapshot : Snapshot) → KeepsOrAppends g Masters (unit m) old snapshot → ReadsAs g old.image snapshot.image ⊎ Appends g Masters (unit m) old.image snapshot.image →
               IsReached g (IsFrontOf (AppendsMaster (unit m) ∷ [])) old snapshot
           reached snapshot k (inl reads) = record { told = k.told; changes = []; made = (AppendsMaster (unit m) ∷ [], refl); reaches = reads }
-          reached snapshot k (inr appends) = record { told = k.told; changes = AppendsMaster (unit m) ∷ []; made = ([], refl); reaches = (snapshot.image, appends, itself g snapshot.image) }
+          reached snapshot k (inr appends) = record { told = k.told; changes = AppendsMaster (unit m) ∷ []; made = ([], refl); reaches = (snapshot.image, appends, reads_itself g snapshot.image) }
 
-  pub saved_reaches : (g : Geometry) → HasLimits g → HasLengths g old.image → OnlyDevice ring.shape.dev old new → Goes old new → (ring' : Ring) → ring'.shape ≡ ring.shape → IsReady ring' new →
+  pub saved_reaches : (g : Geometry) → HasLimits g → HasLengths g old.image → OnlyDevice ring.shape.dev old new → Preserves old new → (ring' : Ring) → ring'.shape ≡ ring.shape → IsReady ring' new →
       SameOutside ring.shape (region ring.shape old) (region ring.shape new) → units_of ring.shape (region ring.shape new) ≡ appended ring.shape (units_of ring.shape (region ring.shape old)) content →
       Reaches g (AppendsMaster (unit m) ∷ []) old.image new.image
   saved_reaches g limits lengths only goes ring' same ready outside stands = (
     new.image,
     append_done g Masters (unit m) old new limits lengths (length-unit m is.few) (goes.sizes Log) (subst (λ (s : Shape). IsRing s (region s new)) (same ∙ shape) ready.form)
         (beside_as outside) (subst (λ (s : Shape). OnlyDevice s.dev old new) shape only) (stands_as stands),
-    itself g new.image,
+    reads_itself g new.image,
   )

@@ -8,7 +8,7 @@ use Rattle.site.specs.Calls.{IsUnchanged}
 use Rattle.sealed_ring.specs.declared.slots.Shape.{Shape}
 use Rattle.sealed_ring.specs.declared.ring.Ring.{Ring}
 use Rattle.sealed_ring.specs.Ring.{IsRing, Units, units_from, units_of, unit_at, last_of, appended, hi_of}
-use Rattle.sealed_ring.specs.Ready.{region, units_in, Fits, Finds, IsReady}
+use Rattle.sealed_ring.specs.Ready.{region, units_in, Matches, Finds, IsReady}
 use Rattle.sealed_ring.proofs.Units.{live_count}
 use Rattle.image_changes.specs.Rings.{master_shape, units_on}
 use Rattle.checkpoint.specs.declared.master.Master.{Master}
@@ -68,20 +68,20 @@ newest_read image hi read is some reads =
     newest_at units.live k size ∙ ap Some (sym (reads ∙ take_all 503 (get_or units.live k []) (short master_shape image.log _ _ k)))
 
 -- so it is of a ring
-pub ring_newest : (ring : Ring) (site : State) (hi : ℕ) (into : List ℕ) → ring.shape ≡ master_shape → Fits ring site → hi ≡ ring.hi → 0 < hi →
+pub ring_newest : (ring : Ring) (site : State) (hi : ℕ) (into : List ℕ) → ring.shape ≡ master_shape → Matches ring site → hi ≡ ring.hi → 0 < hi →
     drop 8 into ≡ take 503 (unit_at ring.shape (units_in ring.shape site) (hi - 1)) → newest_of (units_on master_shape site.image).live ≡ Some (take 503 (drop 8 into))
 ring_newest ring site hi into shape fits same some reads =
     newest_read site.image hi (take 503 (drop 8 into)) (same ∙ fits ∙ ap (λ (s : Shape). hi_of s (region s site)) shape) some
     (ap (take 503) (reads ∙ ap (λ (s : Shape). take 503 (unit_at s (units_in s site) (hi - 1))) shape) ∙ take-take 503 503 (unit_at master_shape (units_in master_shape site) (hi - 1)) (omega arith))
 
 -- a ring that was found, and nothing changed since
-pub finds_still : (ring : Ring) (old mid new : State) → ring.shape ≡ master_shape → IsUnchanged old mid → IsUnchanged mid new → IsRing master_shape old.image.log → Fits ring mid → Finds ring new
+pub finds_still : (ring : Ring) (old mid new : State) → ring.shape ≡ master_shape → IsUnchanged old mid → IsUnchanged mid new → IsRing master_shape old.image.log → Matches ring mid → Finds ring new
 finds_still ring old mid new shape first second form fits = record {
   form = subst (λ (s : Shape). IsRing s (region s new)) (sym shape) (subst (λ (image : Image). IsRing master_shape image.log) (sym (second.image ∙ first.image)) form);
   hi = fits ∙ ap (λ (image : Image). hi_of ring.shape (content_of ring.shape.dev image)) (sym second.image);
 }
 
-pub ready_still : (ring : Ring) (old mid new : State) → ring.shape ≡ master_shape → IsUnchanged old mid → IsUnchanged mid new → IsSettled Log old → IsRing master_shape old.image.log → Fits ring mid → IsReady ring new
+pub ready_still : (ring : Ring) (old mid new : State) → ring.shape ≡ master_shape → IsUnchanged old mid → IsUnchanged mid new → IsSettled Log old → IsRing master_shape old.image.log → Matches ring mid → IsReady ring new
 ready_still ring old mid new shape first second settled form fits =
     let finds = finds_still ring old mid new shape first second form fits in
     record {

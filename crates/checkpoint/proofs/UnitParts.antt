@@ -2,7 +2,7 @@
 use Rattle.std.proofs.Common.{◌≡◌, ℕ, zero, suc, ◌+◌, ◌-◌, ◌*◌, ◌<◌, ◌≤◌, List, [], ◌∷◌, ◌++◌, length, get_or, take, drop, replicate, set, refl, ap, sym, subst, ◌∙◌, arith, length-append, zero-add}
 use Rattle.std.specs.List.{AllByRecursion}
 use Rattle.std.specs.Int.{w64, to_be_bytes}
-use Rattle.std.proofs.lemmas.List.{get_or-drop, take_all, take_at, drop_at, drop-drop, take-append-drop, length-drop, take-set, drop-set, length-replicate, drop-replicate}
+use Rattle.std.proofs.lemmas.List.{get_or-drop, take_at, drop_at, drop-drop, take-append-drop, length-drop, take-set, drop-set, length-replicate, drop-replicate}
 use Rattle.std.proofs.lemmas.Nat.{from_be_bytes-to_be_bytes_8}
 use Rattle.std.proofs.Math.Seq.{take-add}
 use Rattle.byte_fields.specs.Writes.{Writes}
@@ -124,7 +124,3 @@ unfolding unit
 length-unit m few =
     let zeros = 503 - length (spelling m) in
     omega (arith, length-append (spelling m) (replicate zeros 0), length-replicate {A = ℕ} zeros 0, length-spelling m, few)
-
--- the rest of a list
-pub to_the_end : (octets : List ℕ) (k : ℕ) → take (length octets - k) (drop k octets) ≡ drop k octets
-to_the_end octets k = take_all (length octets - k) (drop k octets) (omega (arith, length-drop k octets))

@@ -6,11 +6,11 @@ ghost use Rattle.site.specs.declared.outside.Stop.{Stop};
 ghost use Rattle.site.specs.declared.geometry.Geometry.{Geometry};
 ghost use Rattle.site.specs.Geometry.{HasLimits, HasLengths};
 ghost use Rattle.site.specs.State.{reads_of, IsSettled, IsQuiet};
-ghost use Rattle.site.specs.Calls.{Goes, SameReads, IsUnchanged};
+ghost use Rattle.site.specs.Calls.{Preserves, SameReads, IsUnchanged};
 ghost use Rattle.site.specs.Faults.{WorkFaults};
 ghost use Rattle.site.specs.Moments.{LeavesOnly};
 ghost use Rattle.sealed_ring.specs.Ring.{IsRing, SameOutside, appended};
-ghost use Rattle.sealed_ring.specs.Ready.{FaultRose, IsUsable, Fits, Finds, IsReady, ChangesOnly};
+ghost use Rattle.sealed_ring.specs.Ready.{FaultRose, IsUsable, Matches, Finds, IsReady, ChangesOnly};
 ghost use Rattle.image_changes.specs.Rings.{master_shape, units_on};
 ghost use Rattle.image_changes.specs.Changes.{AppendsMaster, Reaches};
 ghost use Rattle.image_changes.specs.Reached.{LeavesFront};
@@ -44,13 +44,13 @@ fn master_on<S: Site>(site: &mut S, ring: &Ring) -> Result<Master, Stop>
     requires usable { IsUsable ring.now (S.state site.old) }
     requires shape { ring.now.shape ≡ master_shape }
 
-    ensures master { IsTrue (S.state site.old).honest → Fits ring.now (S.state site.old)
+    ensures master { IsTrue (S.state site.old).honest → Matches ring.now (S.state site.old)
         → IfOk result (λ master. HasMaster (S.state site.old).image master) }
     ensures ascend { IfOk result (λ master. Ascend master.active) }
     ensures few { IfOk result (λ master. length master.active ≤ 8) }
     ensures same { IsTrue (S.state site.old).honest
         → IsUnchanged (S.state site.old) (S.state site.new) }
-    ensures goes { Goes (S.state site.old) (S.state site.new) }
+    ensures goes { Preserves (S.state site.old) (S.state site.new) }
     ensures faults { WorkFaults result (S.state site.old) (S.state site.new) }
     ensures reads { reads_of Dev.Log (S.state site.new) ≤ reads_of Dev.Log (S.state site.old) + 1 }
     ensures others { (d : Dev) → d ≢ Dev.Log
@@ -98,7 +98,7 @@ pub fn newest<S: Site>(site: &mut S) -> Result<(Ring, Master), Stop>
     ensures ended { IfOk result (λ found. found.0.ended ≡ false) }
     ensures ascend { IfOk result (λ found. Ascend found.1.active) }
     ensures few { IfOk result (λ found. length found.1.active ≤ 8) }
-    ensures goes { Goes (S.state site.old) (S.state site.new) }
+    ensures goes { Preserves (S.state site.old) (S.state site.new) }
     ensures faults { WorkFaults result (S.state site.old) (S.state site.new) }
     ensures reads { reads_of Dev.Log (S.state site.new) ≤ reads_of Dev.Log (S.state site.old) + 5 }
     ensures others { (d : Dev) → d ≢ Dev.Log
@@ -160,7 +160,7 @@ pub fn save<S: Site>(site: &mut S, ring: &mut Ring, master: &Master) -> Result<(
     ensures err { OnErr result (ring.new ≡ record ring.old { ended = true }) }
     ensures shape { ring.new.shape ≡ master_shape }
     ensures usable { IsUsable ring.new (S.state site.new) }
-    ensures goes { Goes (S.state site.old) (S.state site.new) }
+    ensures goes { Preserves (S.state site.old) (S.state site.new) }
     ensures faults { WorkFaults result (S.state site.old) (S.state site.new) }
     ensures reads { SameReads (S.state site.old) (S.state site.new) }
 

@@ -3,7 +3,7 @@ ghost use Rattle.std.specs.Prelude.{◌≡◌, ◌≢◌, ◌+◌, ◌*◌, ◌�
 ghost use Rattle.site.specs.declared.outside.Dev.{Dev};
 ghost use Rattle.site.specs.declared.outside.Stop.{Stop};
 ghost use Rattle.site.specs.State.{reads_of, now_of, MayLeave, IsSettled};
-ghost use Rattle.site.specs.Calls.{Goes, SameReads, FaultRose, IsUnchanged, Lies, Adds};
+ghost use Rattle.site.specs.Calls.{Preserves, SameReads, FaultRose, IsUnchanged, Lies, Adds};
 ghost use Rattle.site.specs.Faults.{WorkFaults};
 ghost use Rattle.site.specs.Moments.{LeavesOnly, ChangesOnly};
 ghost use Rattle.disk_pages.specs.Pages.{LiesOn, page_on, within_page};
@@ -29,7 +29,7 @@ pub fn read_page<S: Site>(site: &mut S, page: u32, into: &mut [u8]) -> Result<()
         → OnOk result (into.new ≡ page_on page (S.state site.old).image.disk) }
     ensures same { IsTrue (S.state site.old).honest
         → IsUnchanged (S.state site.old) (S.state site.new) }
-    ensures goes { Goes (S.state site.old) (S.state site.new) }
+    ensures goes { Preserves (S.state site.old) (S.state site.new) }
     ensures faults { WorkFaults result (S.state site.old) (S.state site.new) }
     ensures reads { (S.state site.new).disk_reads ≤ (S.state site.old).disk_reads + 1 }
     ensures others { (d : Dev) → d ≢ Dev.Disk
@@ -60,7 +60,7 @@ pub fn write_page<S: Site>(site: &mut S, page: u32, from: &[u8]) -> Result<(), S
         → OnOk result (Adds (within_page page (S.state site.old)) (S.state site.old) (S.state site.new)) }
     ensures changes { IsTrue (S.state site.old).honest
         → ChangesOnly Dev.Disk (S.state site.old) (S.state site.new) }
-    ensures goes { Goes (S.state site.old) (S.state site.new) }
+    ensures goes { Preserves (S.state site.old) (S.state site.new) }
     ensures faults { WorkFaults result (S.state site.old) (S.state site.new) }
     ensures reads { SameReads (S.state site.old) (S.state site.new) }
 
@@ -88,7 +88,7 @@ pub fn sync_disk<S: Site>(site: &mut S) -> Result<(), Stop>
         → OnOk result (Adds (now_of (S.state site.old)) (S.state site.old) (S.state site.new)) }
     ensures changes { IsTrue (S.state site.old).honest
         → ChangesOnly Dev.Disk (S.state site.old) (S.state site.new) }
-    ensures goes { Goes (S.state site.old) (S.state site.new) }
+    ensures goes { Preserves (S.state site.old) (S.state site.new) }
     ensures faults { WorkFaults result (S.state site.old) (S.state site.new) }
     ensures reads { SameReads (S.state site.old) (S.state site.new) }
 

@@ -17,9 +17,9 @@ use Rattle.txn_table.specs.Entries.{IsTable, entry_of, ChangesOnly}
 use Rattle.txn_table.specs.Entries as entries
 use Rattle.redo_undo.specs.declared.store.Store.{Store}
 use Rattle.engine.specs.declared.engine.Engine.{Engine}
-use Rattle.redo_undo.specs.Stores.{Holds}
+use Rattle.redo_undo.specs.Stores.{Represents}
 use Rattle.redo_undo.specs.StoreRollback.{ConcernsOnly, RollsBack}
-use Rattle.engine.specs.Fits.{Fits, SessionIs, SessionsAre}
+use Rattle.engine.specs.Representation.{Matches, SessionIs, SessionsAre}
 use Rattle.engine.proofs.Owing.{entry_is}
 use Rattle.engine.proofs.Locks.{released}
 use Rattle.engine.proofs.Actives.{some_active}
@@ -39,13 +39,12 @@ others_go_on newest kept txn before now concerns (Some entry) (Some session) oth
 pub dropped : (newest : Option Master) (records log : List Entry) (old new : List Active) (s : State) (n : ℕ) (entry : Active) → SessionsAre newest records old s → n < 8 → entry_of old n ≡ Some entry → ChangesOnly old new n None → entries.owed new + (entry.writes + 1) ≡ entries.owed old →
     ConcernsOnly newest entry.begin records log → is_loser log entry.begin ≡ false → owed log + (entry.writes + 1) ≡ owed records → SessionsAre newest log new (with_session s n None)
 dropped newest records log old new s n entry are small at changes owes concerns closed less =
-    let count = are.count in
     record {
       count = length-set s.sessions n None ∙ are.count;
       each = λ m. ⊎_elim
           (λ (same : m ≡ n). subst (λ (k : ℕ). SessionIs newest s.kept log (entry_of new k) (slice_index_or (slice_set s.sessions n None) k None)) (sym same)
           (subst (λ (a : Option Active). SessionIs newest s.kept log a (slice_index_or (slice_set s.sessions n None) n None)) (sym changes.own)
-          (subst (λ (o : Option Session). SessionIs newest s.kept log None o) (sym (get_or-set_same s.sessions n None None (omega (arith, small, count)))) tt)))
+          (subst (λ (o : Option Session). SessionIs newest s.kept log None o) (sym (get_or-set_same s.sessions n None None (omega (arith, small, are.count)))) tt)))
           (λ differ. subst (λ (a : Option Active). SessionIs newest s.kept log a (slice_index_or (slice_set s.sessions n None) m None)) (sym (changes.others m differ))
           (subst (λ (o : Option Session). SessionIs newest s.kept log (entry_of old m) o) (sym (get_or-set_other s.sessions n m None None differ))
           (others_go_on newest s.kept entry.begin records log concerns (entry_of old m) (session_at s m) (λ other is same. differ (are.differ m n other entry is at same)) (are.each m))))
@@ -68,21 +67,20 @@ dropped newest records log old new s n entry are small at changes owes concerns 
     older t ne found = (found.0, found.1, changes.others found.0 (λ same. ne (sym found.3 ∙ ap (λ (x : Active). x.begin) (same_Some found.1 entry (sym found.2 ∙ ap (entry_of old) same ∙ at)))) ∙ found.2, found.3)
 
 -- so many writes the session has
-pub count_is : (engine : Engine) (site : Site) (s : State) (entry : Active) (fits : Fits engine site s) → entry_of engine.active entry.session ≡ Some entry → length (writes_of (session_at s entry.session)) ≡ entry.writes
+pub count_is : (engine : Engine) (site : Site) (s : State) (entry : Active) (fits : Matches engine site s) → entry_of engine.active entry.session ≡ Some entry → length (writes_of (session_at s entry.session)) ≡ entry.writes
 count_is engine site s entry fits at =
     let found = some_active fits.newest fits.records engine.active s fits.sessions entry.session entry at in
     ap (λ (o : Option Session). length (writes_of o)) found.is ∙ sym found.under_way.count
 
-pub aborted_fits : (engine mid last : Engine) (old new : Site) (s : State) (entry : Active) (fits : Fits engine old s) → IsTable engine.active → entry_of engine.active entry.session ≡ Some entry → IsTrue new.honest →
+pub aborted_fits : (engine mid last : Engine) (old new : Site) (s : State) (entry : Active) (fits : Matches engine old s) → IsTable engine.active → entry_of engine.active entry.session ≡ Some entry → IsTrue new.honest →
     RollsBack mid.store new fits.newest fits.records s.table s.commits entry.begin entry.writes →
     mid ≡ record engine { store = mid.store } → mid.store.made ≡ engine.store.made + (entry.writes + 1) →
     ReleasesAll mid.locks last.locks entry.session → ChangesOnly mid.active last.active entry.session None → entries.owed last.active + (entry.writes + 1) ≡ entries.owed mid.active →
     last.store ≡ mid.store → last.commits ≡ mid.commits → last.cap ≡ mid.cap →
-    Fits last new (effect s (command.Abort entry.session))
+    Matches last new (effect s (command.Abort entry.session))
 aborted_fits engine mid last old new s entry fits table at honest back rest made releases changes owed_is store_is commits_is cap_is =
     let n = entry.session in
     let small = (entry_is engine.active n entry table at).small in
-    let count = fits.sessions.count in
     let made_last : last.store.made ≡ engine.store.made + (entry.writes + 1) = ap (λ (j : Store). j.made) store_is ∙ made in
     let done : SessionsAre fits.newest back.log last.active (with_session s n None) =
     dropped fits.newest fits.records back.log engine.active last.active s n entry fits.sessions small at
@@ -92,12 +90,12 @@ aborted_fits engine mid last old new s entry fits table at honest back rest made
       honest = honest;
       newest = fits.newest;
       records = back.log;
-      holds = subst (λ (j : Store). Holds j new fits.newest back.log s.table s.commits) (sym store_is) back.holds;
+      holds = subst (λ (j : Store). Represents j new fits.newest back.log s.table s.commits) (sym store_is) back.holds;
       counts = record {
         commits = commits_is ∙ ap (λ (x : Engine). x.commits) rest ∙ fits.counts.commits;
         made = omega (arith, made_last, fits.counts.made, count_is engine old s entry fits at);
         cap = cap_is ∙ ap (λ (x : Engine). x.cap) rest ∙ fits.counts.cap;
       };
       sessions = record { count = done.count; each = done.each; all = done.all; owes = done.owes; differ = done.differ };
-      locks_are = released engine.locks last.locks s (effect s (command.Abort n)) n (omega (arith, small, count)) refl (subst (λ (l : List Lock). ReleasesAll l last.locks n) (ap (λ (x : Engine). x.locks) rest) releases) fits.locks_are;
+      locks_are = released engine.locks last.locks s (effect s (command.Abort n)) n (omega (arith, small, fits.sessions.count)) refl (subst (λ (l : List Lock). ReleasesAll l last.locks n) (ap (λ (x : Engine). x.locks) rest) releases) fits.locks_are;
     }

@@ -16,7 +16,7 @@ use Rattle.txn_table.specs.declared.active.Active.{Active}
 use Rattle.txn_table.specs.Entries.{entry_of, ChangesOnly}
 use Rattle.txn_table.specs.Entries as entries
 use Rattle.image_meaning.specs.Meaning.{master_of}
-use Rattle.engine.specs.Fits.{IsUnderWay, SessionIs, SessionsAre}
+use Rattle.engine.specs.Representation.{IsUnderWay, SessionIs, SessionsAre}
 
 -- what is active in one is in the other
 pub none_active : (newest : Option Master) (records : List Entry) (active : List Active) (s : State) → SessionsAre newest records active s → (n : ℕ) → entry_of active n ≡ None → session_at s n ≡ None
@@ -67,13 +67,12 @@ pub begun : (newest : Option Master) (records : List Entry) (old new : List Acti
 begun newest records old new s n lsn made entry are small none changes owes fresh late begin last born writes =
     let e : Entry = record { lsn = lsn; rec = Begin } in
     let session : Session = record { born = s.made; writes = []; reads = [] } in
-    let count = are.count in
     record {
       count = length-set s.sessions n (Some session) ∙ are.count;
       each = λ m. ⊎_elim
           (λ (same : m ≡ n). subst (λ (k : ℕ). SessionIs newest s.kept (records ++ e ∷ []) (entry_of new k) (slice_index_or (slice_set s.sessions n (Some session)) k None)) (sym same)
           (subst (λ (a : Option Active). SessionIs newest s.kept (records ++ e ∷ []) a (slice_index_or (slice_set s.sessions n (Some session)) n None)) (sym changes.own)
-          (subst (λ (o : Option Session). SessionIs newest s.kept (records ++ e ∷ []) (Some entry) o) (sym (get_or-set_same s.sessions n (Some session) None (omega (arith, small, count))))
+          (subst (λ (o : Option Session). SessionIs newest s.kept (records ++ e ∷ []) (Some entry) o) (sym (get_or-set_same s.sessions n (Some session) None (omega (arith, small, are.count))))
           (record {
             is_active = subst (λ (t : ℕ). IsActive (master_of newest) (records ++ e ∷ []) t entry.last []) (sym begin) (subst (λ (l : ℕ). IsActive (master_of newest) (records ++ e ∷ []) lsn l []) (sym last) (active_begun (master_of newest) records lsn fresh late));
             born = born;

@@ -22,10 +22,10 @@ use Rattle.engine.proofs.Scans.{range_more, range_at}
 use Rattle.second_chance.specs.Machine.{Rules, Cache, after_works, staged_by_works}
 use Rattle.page_store.specs.declared.store.PageStore.{PageStore}
 use Rattle.page_store.specs.Caching.{cache_of, rules, with_change, next_group}
-use Rattle.redo_undo.specs.Works.{one_touch, Asks, NumbersRise, one_change}
+use Rattle.redo_undo.specs.MachineSteps.{one_touch, StepsMachine, NumbersRise, one_change}
 use Rattle.redo_undo.specs.declared.store.Store.{Store}
 use Rattle.engine.specs.declared.engine.Engine.{Engine}
-use Rattle.engine.specs.Going.{MayGoOn}
+use Rattle.engine.specs.Invariant.{Invariant}
 use Rattle.engine.specs.Paging.{AsksFrom, WritesFrom, cache_on}
 use Rattle.page_store.specs.Staging.{HasQueueOn, Stages, WritesOnly}
 use Rattle.site.proofs.Working.{err_again, no_error}
@@ -35,9 +35,9 @@ use Rattle.redo_undo.proofs.AskingUndo.{change_made}
 use Rattle.page_store.specs.Laws.{TouchThenChange}
 
 -- A page that is touched, and then changed.
-pub change_ok : {A B : Type 0} (a : A) (b : B) (page : ℕ) (old mid new : PageStore) (before between now : Site) → 1 ≤ (rules old).groups → TouchThenChange → Asks {T = A} (Ok a) (one_touch page) old mid before between →
+pub change_ok : {A B : Type 0} (a : A) (b : B) (page : ℕ) (old mid new : PageStore) (before between now : Site) → 1 ≤ (rules old).groups → TouchThenChange → StepsMachine {T = A} (Ok a) (one_touch page) old mid before between →
     cache_of new ≡ with_change (cache_of mid) → rules new ≡ rules mid → SameReads between now → Stages {T = B} (Ok b) [] (next_group (cache_of mid)) mid new between now →
-    Asks {T = B} (Ok b) (one_change page) old new before now
+    StepsMachine {T = B} (Ok b) (one_change page) old new before now
 change_ok {A} {B} a b page old mid new before between now some law asks changed same read still = change_made a (Ok b) page old mid new before between now some law asks changed same read (no_error {T = B} {x = b} {e = Worn Flash}) still
 
 -- What is asked of each call.
@@ -49,21 +49,21 @@ memory_only stop is worn = cc
 pub store_has_group : {store : Store} {site : Site} → MayWork store site → 1 ≤ (rules store.pages).groups
 store_has_group may = let least = may.both.pages_going.flash.limits.groups in omega (arith, least)
 
-pub has_group : {engine : Engine} {site : Site} → MayGoOn engine site → 1 ≤ (rules engine.store.pages).groups
+pub has_group : {engine : Engine} {site : Site} → Invariant engine site → 1 ≤ (rules engine.store.pages).groups
 has_group may = store_has_group may.store
 
 -- Records that are read one after the other.
 
 pub scan_more : {A B : Type 0} (a : A) (result : Result B Stop) (number offset : ℕ) (old mid new : PageStore) (before between now : Site) →
-    Asks {T = A} (Ok a) (map read_touch (range_with_len number offset)) old mid before between → Asks result (one_touch ((number + offset) / 32)) mid new between now →
-    Asks result (map read_touch (range_with_len number (offset + 1))) old new before now
+    StepsMachine {T = A} (Ok a) (map read_touch (range_with_len number offset)) old mid before between → StepsMachine result (one_touch ((number + offset) / 32)) mid new between now →
+    StepsMachine result (map read_touch (range_with_len number (offset + 1))) old new before now
 scan_more a result number offset old mid new before between now one two =
     asks_same result _ _ old new before now (ap (map read_touch) (range_more number offset) ∙ map-append read_touch (range_with_len number offset) ((number + offset) ∷ []))
     (asks_then a result (map read_touch (range_with_len number offset)) (one_touch ((number + offset) / 32)) old mid new before between now one two)
 
 -- it stops before all of them are read
 pub scan_stops : {A B : Type 0} (stop : Stop) (number offset count : ℕ) (old new : PageStore) (before now : Site) → 1 ≤ (rules old).groups → offset < count →
-    Asks {T = A} (Err stop) (map read_touch (range_with_len number (offset + 1))) old new before now → Asks {T = B} (Err stop) (map read_touch (range_with_len number count)) old new before now
+    StepsMachine {T = A} (Err stop) (map read_touch (range_with_len number (offset + 1))) old new before now → StepsMachine {T = B} (Err stop) (map read_touch (range_with_len number count)) old new before now
 scan_stops {A} {B} stop number offset count old new before now some less asks =
     let rest = range_with_len (number + offset + 1) (count - offset - 1) in
     let all : range_with_len number count ≡ range_with_len number (offset + 1) ++ rest =
@@ -75,7 +75,7 @@ scan_stops {A} {B} stop number offset count old new before now some less asks =
 
 -- a call that opens pages was Ok
 pub from_ok : {A B : Type 0} (a : A) (x : B) (pages : B → PageStore) (works : List CacheWork) (old new : PageStore) (before between now : Site) → pages x ≡ new → SameReads between now →
-    Asks {T = A} (Ok a) works old new before between → AsksFrom {T = B} (Ok x) pages (rules old) works (cache_of old) 0 before now
+    StepsMachine {T = A} (Ok a) works old new before between → AsksFrom {T = B} (Ok x) pages (rules old) works (cache_of old) 0 before now
 from_ok {A} {B} a x pages works old new before between now same still asks = record {
   machine = (ap cache_of same ∙ asks.machine, ap rules same ∙ asks.rules_are);
   worn = λ is. absurd (no_error {T = B} {x = x} {e = Worn Flash} is);
@@ -85,7 +85,7 @@ from_ok {A} {B} a x pages works old new before between now same still asks = rec
 
 -- it stopped
 pub from_err : {A B : Type 0} (stop : Stop) (pages : B → PageStore) (works : List CacheWork) (old new : PageStore) (before now : Site) →
-    Asks {T = A} (Err stop) works old new before now → AsksFrom {T = B} (Err stop) pages (rules old) works (cache_of old) 0 before now
+    StepsMachine {T = A} (Err stop) works old new before now → AsksFrom {T = B} (Err stop) pages (rules old) works (cache_of old) 0 before now
 from_err stop pages works old new before now asks = record {
   machine = tt;
   worn = λ is. asks.worn (err_again stop (Worn Flash) is);
@@ -94,15 +94,15 @@ from_err stop pages works old new before now asks = record {
 }
 
 -- what is written however it ends
-pub writes_stopped : {A : Type 0} (stop : Stop) (first later : List CacheWork) (old new : PageStore) (before now : Site) → 1 ≤ (rules old).groups → Asks {T = A} (Err stop) first old new before now → HasQueueOn old before → IsQuiet before →
+pub writes_stopped : {A : Type 0} (stop : Stop) (first later : List CacheWork) (old new : PageStore) (before now : Site) → 1 ≤ (rules old).groups → StepsMachine {T = A} (Err stop) first old new before now → HasQueueOn old before → IsQuiet before →
     WritesFrom old.flash.geometry (rules old) (first ++ later) (cache_of old) before now
 writes_stopped {A} stop first later old new before now some asks has quiet = (asks_stopped {A = A} {B = A} stop first later old new before now some asks).stages.writes has quiet
 
 -- it stopped before all of the work was done
 pub from_stopped : {A B : Type 0} (stop : Stop) (pages : B → PageStore) (first later : List CacheWork) (old new : PageStore) (before now : Site) → 1 ≤ (rules old).groups →
-    Asks {T = A} (Err stop) first old new before now → AsksFrom {T = B} (Err stop) pages (rules old) (first ++ later) (cache_of old) 0 before now
+    StepsMachine {T = A} (Err stop) first old new before now → AsksFrom {T = B} (Err stop) pages (rules old) (first ++ later) (cache_of old) 0 before now
 from_stopped {A} {B} stop pages first later old new before now some asks =
-    let all : Asks {T = B} (Err stop) (first ++ later) old new before now = asks_stopped stop first later old new before now some asks in
+    let all : StepsMachine {T = B} (Err stop) (first ++ later) old new before now = asks_stopped stop first later old new before now some asks in
     from_err stop pages (first ++ later) old new before now all
 
 -- the queue was found before

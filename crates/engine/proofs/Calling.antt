@@ -2,55 +2,56 @@
 use Rattle.std.proofs.Common.{◌≡◌, inl, inr, ◌+◌, ◌≤◌, List, [], ◌∷◌, Bool, true, false, refl, sym, subst, ap, ◌∙◌, arith, ⊎_elim, ℕ}
 use Rattle.std.specs.Prelude.{Result, Ok, Err, OnOk, IfOk, IsErrOf, IsTrue, if◌then◌else◌}
 use Rattle.site.specs.declared.outside.Dev.{Dev}
-use Rattle.site.specs.declared.outside.Dev.TheVariants.{Log, Flash}
+use Rattle.site.specs.declared.outside.Dev.TheVariants.{Flash}
 use Rattle.site.specs.declared.outside.Stop.{Stop}
-use Rattle.site.specs.declared.outside.Stop.TheVariants.{Device, Worn, Memory, Foreign}
+use Rattle.site.specs.declared.outside.Stop.TheVariants.{Device, Worn, Memory}
 use Rattle.site.specs.declared.geometry.Geometry.{Geometry}
 use Rattle.site.specs.State.{State as Site, Snapshot, IsQuiet}
-use Rattle.site.specs.Moments.{Leaves, LeavesOnly}
-use Rattle.site.specs.Calls.{Goes, FaultRose, IsUnchanged}
+use Rattle.site.specs.Moments.{LeavesOnly}
+use Rattle.site.specs.Calls.{Preserves, FaultRose, IsUnchanged}
 use Rattle.site.specs.Faults.{Faults, faults_in, after_work, WorkFaults}
-use Rattle.site.specs.Laws.{in_sequence, holds_now, leaves_weaker, stays_honest, fault_since, goes_in_sequence}
+use Rattle.site.specs.Laws.{holds_now, leaves_weaker, stays_honest, fault_since, goes_in_sequence}
 use Rattle.record_model.specs.State.{Content, State, Write, table_with}
 use Rattle.record_model.specs.Step.{Outcome, makes_checkpoint, making, committed}
 use Rattle.record_model.specs.Touches.{CacheWork, command_touches}
 use Rattle.record_model.specs.declared.words.Command.{Command}
 use Rattle.record_model.specs.declared.words.Reply.{Reply}
-use Rattle.flash_cache.specs.Held.{IsWorn}
 use Rattle.image_meaning.specs.Moments as moments
 use Rattle.page_store.specs.declared.store.PageStore.{PageStore}
 use Rattle.page_store.specs.Stopping.{MayStop}
-use Rattle.redo_undo.specs.Holding.{IsLogWorn}
 use Rattle.redo_undo.specs.HoldingLaws.{HoldsMoment}
 use Rattle.image_meaning.proofs.Leaving.{under_leaves_for}
-use Rattle.redo_undo.specs.Works.{Asks, checkpoint_works}
-use Rattle.redo_undo.specs.declared.store.Store.{Store}
+use Rattle.redo_undo.specs.MachineSteps.{StepsMachine, checkpoint_works}
+use Rattle.log_store.specs.Representation.{end_of}
+use Rattle.txn_table.specs.declared.active.Active.{Active}
+use Rattle.txn_table.specs.Entries.{IsTable, entry_of, owed}
 use Rattle.engine.specs.declared.engine.Engine.{Engine}
-use Rattle.engine.specs.Going.{MayGoOn, sizes_of}
-use Rattle.engine.specs.Fits.{Fits, run, run_now, checkpointed_if, with_write}
+use Rattle.engine.proofs.DistinctBegins.{AreApart}
+use Rattle.engine.specs.Invariant.{Invariant, sizes_of}
+use Rattle.engine.specs.Representation.{Matches, run, run_now, checkpointed_if, with_write}
 use Rattle.engine.specs.Image.{Stands}
 use Rattle.engine.specs.Leaves.{LeavesTable, LeavesEither}
 use Rattle.engine.specs.Numbers.{checkpoints_by, CountsOn}
-use Rattle.engine.specs.Calls.{Ends, Serves, Does, Answers}
+use Rattle.engine.specs.Calls.{Ends, KeepsEngine, Does, Answers}
 use Rattle.engine.proofs.Moments.{and_then}
 use Rattle.engine.proofs.Asking.{has_group}
 use Rattle.engine.proofs.RingCounts.{counts, count_failed, count_answered, count_refused, count_then, run_makes, count_nothing}
 use Rattle.engine.proofs.Firsts.{step_where, touches_where}
-use Rattle.site.proofs.Working.{err_again, no_error, calls_nothing, calls_then, calls_failed, calls_answered, calls_refused}
+use Rattle.site.proofs.Working.{no_error, calls_nothing, calls_then, calls_failed, calls_answered, calls_refused}
 use Rattle.site.specs.Work.{Calls}
-use Rattle.redo_undo.specs.StoreCalls.{Works, Keeps}
-use Rattle.redo_undo.proofs.Asking.{stop_is}
+use Rattle.redo_undo.specs.StoreCalls.{KeepsInvariant, Keeps}
+use Rattle.redo_undo.proofs.Endings.{ends_behind, ends_failed, ends_leaving, ends_no_memory, ends_ok, leaves_late}
 use Rattle.page_store.proofs.StagingLaws.{stages_none}
 use Rattle.redo_undo.proofs.Asking.{asks_nothing, asks_same, asks_then, asks_stopped}
 
 -- On every site.
 
 -- where a call stops, an honest site is as it was
-pub calls_stopped : {T : Type 0} {stop : Stop} {before now : Site} → Goes before now → (IsTrue before.honest → IsUnchanged before now) → ((d : Dev) → IsErrOf {T = T} (Err stop) (Device d) → FaultRose d before now) → WorkFaults {T = T} (Err stop) before now → Calls {T = T} (Err stop) before now
+pub calls_stopped : {T : Type 0} {stop : Stop} {before now : Site} → Preserves before now → (IsTrue before.honest → IsUnchanged before now) → ((d : Dev) → IsErrOf {T = T} (Err stop) (Device d) → FaultRose d before now) → WorkFaults {T = T} (Err stop) before now → Calls {T = T} (Err stop) before now
 calls_stopped goes same device faults = record { goes = goes; left = λ honest. (same honest).left; stays_quiet = λ honest quiet. tt; device = device; faults = faults }
 
 -- a call behind one that left an honest site as it was
-pub calls_behind : {T : Type 0} {r : Result T Stop} {before between now : Site} → Goes before between → (IsTrue before.honest → IsUnchanged before between) → faults_in between ≡ faults_in before → Calls r between now → Calls r before now
+pub calls_behind : {T : Type 0} {r : Result T Stop} {before between now : Site} → Preserves before between → (IsTrue before.honest → IsUnchanged before between) → faults_in between ≡ faults_in before → Calls r between now → Calls r before now
 calls_behind {r = r} {before = before} {between = between} {now = now} goes same faults second = record {
   goes = goes_in_sequence before between now goes second.goes;
   left = λ honest. second.left (stays_honest before between goes honest) ∙ (same honest).left;
@@ -65,41 +66,11 @@ calls_behind {r = r} {before = before} {between = between} {now = now} goes same
 
 -- How a call ends on an honest site.
 
-pub ends_ok : {T : Type 0} {x : T} {g : Geometry} {before now : Site} {P : Snapshot → Type 0} → (IsQuiet before → LeavesOnly before now P) → Ends {T = T} (Ok x) g before now P
-ends_ok {T = T} {x = x} moments = record {
-  any_moment = moments;
-  quiet = λ quiet. tt;
-  worn_log = λ is. absurd (no_error {T = T} {x = x} {e = Worn Log} is);
-  worn = λ is. absurd (no_error {T = T} {x = x} {e = Worn Flash} is);
-  readable = no_error {T = T} {x = x} {e = Foreign};
-}
-
-pub ends_failed : {A B : Type 0} {stop : Stop} {g : Geometry} {before now : Site} {P : Snapshot → Type 0} → Ends {T = A} (Err stop) g before now P → Ends {T = B} (Err stop) g before now P
-ends_failed {stop = stop} first = record {
-  any_moment = first.any_moment;
-  quiet = first.quiet;
-  worn_log = λ is. first.worn_log (err_again stop (Worn Log) is);
-  worn = λ is. first.worn (err_again stop (Worn Flash) is);
-  readable = λ is. first.readable (err_again stop Foreign is);
-}
-
-pub ends_answered : {A B : Type 0} {a : A} {b : B} {g : Geometry} {before now : Site} {P : Snapshot → Type 0} → Ends {T = A} (Ok a) g before now P → Ends {T = B} (Ok b) g before now P
-ends_answered first = ends_ok first.any_moment
-
 -- a call behind one that left the table
 pub ends_then : {A B : Type 0} {a : A} {r : Result B Stop} {g g' : Geometry} {before between now : Site} {table : List Content} {commits : ℕ} → (IsQuiet before → IsQuiet between) → g' ≡ g →
     Ends {T = A} (Ok a) g before between (LeavesTable g table commits before.told) → Ends r g' between now (LeavesTable g' table commits between.told) → Ends r g before now (LeavesTable g table commits before.told)
-ends_then {g = g} {g' = g'} {before = before} {between = between} {now = now} {table = table} {commits = commits} calm same first second = record {
-  any_moment = λ quiet. and_then g g' before between now table commits same (first.any_moment quiet) (second.any_moment (calm quiet));
-  quiet = λ quiet. second.quiet (calm quiet);
-  worn_log = λ is. subst (λ (x : Geometry). IsLogWorn x now.image) same (second.worn_log is);
-  worn = λ is. subst (λ (x : Geometry). IsWorn x now.image) same (second.worn is);
-  readable = second.readable;
-}
-
--- what log and pages keep
-pub ends_of : {T : Type 0} {r : Result T Stop} {old new : Store} {before now : Site} {P : Snapshot → Type 0} {n m : ℕ} → Keeps r old new before now P n m → Ends r (sizes_of old) before now P
-ends_of keeps = record { any_moment = keeps.any_moment; quiet = keeps.quiet; worn_log = keeps.worn_log; worn = keeps.worn; readable = keeps.readable }
+ends_then {g = g} {g' = g'} {before = before} {between = between} {now = now} {table = table} {commits = commits} calm same first second =
+    ends_behind calm same (λ quiet. and_then g g' before between now table commits same (first.any_moment quiet)) second
 
 -- what the table of before stands for, and of a commit
 
@@ -108,56 +79,57 @@ early g s after so_far snapshot q = record { told = q.told; stands = inl q.stand
 
 -- The database.
 
-pub serves_of : {T : Type 0} {r : Result T Stop} {old new : Engine} {before now : Site} {n : ℕ} → Works r old.store new.store before now n → OnOk r (MayGoOn new now) → Serves r old new before now
+pub serves_of : {T : Type 0} {r : Result T Stop} {old new : Engine} {before now : Site} {n : ℕ} → KeepsInvariant r old.store new.store before now n → OnOk r (Invariant new now) → KeepsEngine r old new before now
 serves_of works going = record { calls = works.calls; going = going; sizes = works.sizes; stops = works.stops }
 
-pub serves_then : {A B : Type 0} {a : A} {r : Result B Stop} {old mid new : Engine} {before between now : Site} → Serves {T = A} (Ok a) old mid before between → Serves r mid new between now → Serves r old new before now
+-- the sessions stay as they were, and there is room for the records that it makes
+pub serves_still : {T : Type 0} {a : T} {old new : Engine} {before now : Site} {n : ℕ} → Invariant old before → KeepsInvariant {T = T} (Ok a) old.store new.store before now n → new.ended ≡ old.ended → new.cap ≡ old.cap → new.active ≡ old.active →
+    old.store.made + owed old.active + n ≤ old.cap → new.commits ≤ end_of new.store.log → KeepsEngine {T = T} (Ok a) old new before now
+serves_still going works ended cap active few commits =
+    let owes = ap owed active in
+    let made = works.made in
+    let blocks = works.blocks in
+    serves_of works (record {
+      store = works.going;
+      going = ended ∙ going.going;
+      cap = ap (λ (k : ℕ). k + 1) cap ∙ going.cap ∙ sym (ap (λ (x : Geometry). x.blocks) works.sizes);
+      table = subst IsTable (sym active) going.table;
+      room = omega (arith, blocks, works.kept, owes, cap, few, going.store.blocks);
+      since = λ m other at. let before = going.since m other (sym (ap (λ (xs : List Active). entry_of xs m) active) ∙ at) in omega (arith, before, blocks, made);
+      bounded = omega (arith, made, owes, few, going.cap, going.store.both.pages_going.flash.limits.few_blocks);
+      budget = omega (arith, made, owes, few, cap);
+      commits = commits;
+      lasts = λ m other at. let before = going.lasts m other (sym (ap (λ (xs : List Active). entry_of xs m) active) ∙ at) in (before.0, omega (arith, before.1, works.rises));
+      differ = subst AreApart (sym active) going.differ;
+    })
+
+pub serves_then : {A B : Type 0} {a : A} {r : Result B Stop} {old mid new : Engine} {before between now : Site} → KeepsEngine {T = A} (Ok a) old mid before between → KeepsEngine r mid new between now → KeepsEngine r old new before now
 serves_then first second = record { calls = calls_then first.calls second.calls; going = second.going; sizes = second.sizes ∙ first.sizes; stops = second.stops }
 
-pub serves_failed : {A B : Type 0} {stop : Stop} {old new : Engine} {before now : Site} → Serves {T = A} (Err stop) old new before now → Serves {T = B} (Err stop) old new before now
+pub serves_failed : {A B : Type 0} {stop : Stop} {old new : Engine} {before now : Site} → KeepsEngine {T = A} (Err stop) old new before now → KeepsEngine {T = B} (Err stop) old new before now
 serves_failed first = record { calls = calls_failed first.calls; going = tt; sizes = first.sizes; stops = first.stops }
 
-pub serves_answered : {A B : Type 0} {a : A} {b : B} {old new : Engine} {before now : Site} → Serves {T = A} (Ok a) old new before now → Serves {T = B} (Ok b) old new before now
+pub serves_answered : {A B : Type 0} {a : A} {b : B} {old new : Engine} {before now : Site} → KeepsEngine {T = A} (Ok a) old new before now → KeepsEngine {T = B} (Ok b) old new before now
 serves_answered first = record { calls = calls_answered first.calls; going = first.going; sizes = first.sizes; stops = tt }
 
-pub serves_nothing : {T : Type 0} {x : T} {engine : Engine} {site : Site} → MayGoOn engine site → Serves {T = T} (Ok x) engine engine site site
+pub serves_nothing : {T : Type 0} {x : T} {engine : Engine} {site : Site} → Invariant engine site → KeepsEngine {T = T} (Ok x) engine engine site site
 serves_nothing going = record { calls = calls_nothing; going = going; sizes = refl; stops = tt }
 
 -- what log and pages keep, as what the database does
-pub does_of : {T : Type 0} {r : Result T Stop} {old new : Engine} {before now : Site} {s after : State} {P : Snapshot → Type 0} {n m : ℕ} → s.made + n ≤ after.made → OnOk r (Fits new now after) →
+pub does_of : {T : Type 0} {r : Result T Stop} {old new : Engine} {before now : Site} {s after : State} {P : Snapshot → Type 0} {n m : ℕ} → s.made + n ≤ after.made → OnOk r (Matches new now after) →
     Keeps r old.store new.store before now P n m → Does r old new before now s after P m
 does_of {r = r} {old = old} {new = new} {before = before} {now = now} {s = s} {after = after} {n = n} {m = m} few fits keeps = record {
   after_fits = fits;
-  any_moment = keeps.any_moment;
+  ends = keeps.ends;
   numbers = λ quiet. counts r old new before now s after n m (keeps.numbers quiet) few;
-  quiet = keeps.quiet;
-  worn_log = keeps.worn_log;
-  worn = keeps.worn;
-  foreign = keeps.readable;
 }
 
-pub does_ok : {T : Type 0} {x : T} {old new : Engine} {before now : Site} {s after : State} {P : Snapshot → Type 0} {m : ℕ} → Fits new now after → (IsQuiet before → LeavesOnly before now P) →
+pub does_ok : {T : Type 0} {x : T} {old new : Engine} {before now : Site} {s after : State} {P : Snapshot → Type 0} {m : ℕ} → Matches new now after → (IsQuiet before → LeavesOnly before now P) →
     (IsQuiet before → CountsOn {T = T} {E = Stop} (Ok x) old new before now s after m) → Does {T = T} (Ok x) old new before now s after P m
-does_ok {T = T} {x = x} fits moments numbers = record {
-  after_fits = fits;
-  any_moment = moments;
-  numbers = numbers;
-  quiet = λ quiet. tt;
-  worn_log = λ is. absurd (no_error {T = T} {x = x} {e = Worn Log} is);
-  worn = λ is. absurd (no_error {T = T} {x = x} {e = Worn Flash} is);
-  foreign = no_error {T = T} {x = x} {e = Foreign};
-}
+does_ok fits moments numbers = record { after_fits = fits; ends = ends_ok moments; numbers = numbers }
 
 pub does_weaker : {T : Type 0} {r : Result T Stop} {old new : Engine} {before now : Site} {s after : State} {P R : Snapshot → Type 0} {m : ℕ} → ((x : Snapshot) → P x → R x) → Does r old new before now s after P m → Does r old new before now s after R m
-does_weaker {before = before} {now = now} {P = P} {R = R} more first = record {
-  after_fits = first.after_fits;
-  any_moment = λ quiet. leaves_weaker before now P R more (first.any_moment quiet);
-  numbers = first.numbers;
-  quiet = first.quiet;
-  worn_log = first.worn_log;
-  worn = first.worn;
-  foreign = first.foreign;
-}
+does_weaker {before = before} {now = now} {P = P} {R = R} more first = record { after_fits = first.after_fits; ends = ends_leaving (leaves_weaker before now P R more) first.ends; numbers = first.numbers }
 
 -- another value of its caller
 pub does_answered : {A B : Type 0} {a : A} {b : B} {old new : Engine} {before now : Site} {s after : State} {P : Snapshot → Type 0} {m : ℕ} → Does {T = A} (Ok a) old new before now s after P m → Does {T = B} (Ok b) old new before now s after P m
@@ -168,35 +140,25 @@ does_answered {A = A} {B = B} {a = a} {b = b} {old = old} {new = new} {before = 
 pub does_failed : {A B : Type 0} {stop : Stop} {old new new' : Engine} {before now : Site} {s after after' : State} {P : Snapshot → Type 0} {m : ℕ} → after.made ≤ after'.made → Does {T = A} (Err stop) old new before now s after P m → Does {T = B} (Err stop) old new' before now s after' P m
 does_failed {A = A} {B = B} {stop = stop} {old = old} {new = new} {new' = new'} {before = before} {now = now} {s = s} {after = after} {after' = after'} {m = m} few first = record {
   after_fits = tt;
-  any_moment = first.any_moment;
+  ends = ends_failed first.ends;
   numbers = λ quiet. count_failed {T = B} {A = A} stop old new new' before now s after after' m few (first.numbers quiet);
-  quiet = first.quiet;
-  worn_log = λ is. first.worn_log (err_again stop (Worn Log) is);
-  worn = λ is. first.worn (err_again stop (Worn Flash) is);
-  foreign = λ is. first.foreign (err_again stop Foreign is);
 }
 
 -- a call behind one that was Ok
 pub does_then : {A B : Type 0} {a : A} {r : Result B Stop} {old mid new : Engine} {before between now : Site} {s u after : State} {P Q R : Snapshot → Type 0} {m m' k : ℕ} → IsTrue before.honest → m + m' ≡ k →
     ((x : Snapshot) → P x → R x) → (LeavesOnly before between P → (x : Snapshot) → Q x → R x) →
-    Serves {T = A} (Ok a) old mid before between → Does {T = A} (Ok a) old mid before between s u P m → Does r mid new between now u after Q m' → Does r old new before now s after R k
+    KeepsEngine {T = A} (Ok a) old mid before between → Does {T = A} (Ok a) old mid before between s u P m → Does r mid new between now u after Q m' → Does r old new before now s after R k
 does_then {a = a} {r = r} {old = old} {mid = mid} {new = new} {before = before} {between = between} {now = now} {s = s} {u = u} {after = after} {P = P} {Q = Q} {R = R} {m = m} {m' = m'} {k = k} honest sum early late serves first second = record {
   after_fits = second.after_fits;
-  any_moment = λ quiet.
-      let begun = first.any_moment quiet in
-      in_sequence before between now (Leaves R) (leaves_weaker before between P R early begun) (leaves_weaker between now Q R (late begun) (second.any_moment (serves.calls.stays_quiet honest quiet)));
+  ends = ends_behind (serves.calls.stays_quiet honest) serves.sizes (λ quiet. leaves_late early late (first.any_moment quiet)) second.ends;
   numbers = λ quiet. count_then r a old mid new before between now s u after m m' k serves.sizes (first.numbers quiet) (second.numbers (serves.calls.stays_quiet honest quiet)) sum;
-  quiet = λ quiet. second.quiet (serves.calls.stays_quiet honest quiet);
-  worn_log = λ is. subst (λ (g : Geometry). IsLogWorn g now.image) serves.sizes (second.worn_log is);
-  worn = λ is. subst (λ (g : Geometry). IsWorn g now.image) serves.sizes (second.worn is);
-  foreign = second.foreign;
 }
 
 -- Commands.
 
 -- what is carried out is what the model says
 pub answered_as : (P : Outcome → Snapshot → Type 0) → {r : Result Reply Stop} {old new : Engine} {before now : Site} {s : State} {o known : Outcome} {works other : List CacheWork} {m : ℕ} → (o ≡ known) × (works ≡ other) →
-    Does r old new before now s known.after (P known) m → IfOk r (λ reply. reply ≡ known.reply) → Asks r other old.store.pages new.store.pages before now → Answers r old new before now s o works (P o) m
+    Does r old new before now s known.after (P known) m → IfOk r (λ reply. reply ≡ known.reply) → StepsMachine r other old.store.pages new.store.pages before now → Answers r old new before now s o works (P o) m
 answered_as P {r = r} {old = old} {new = new} {before = before} {now = now} {s = s} {o = o} {works = works} {other = other} {m = m} is does reply asks = record {
   reply = subst (λ (x : Outcome). IfOk r (λ (y : Reply). y ≡ x.reply)) (sym is.0) reply;
   asks = asks_same r works other old.store.pages new.store.pages before now is.1 asks;
@@ -205,19 +167,19 @@ answered_as P {r = r} {old = old} {new = new} {before = before} {now = now} {s =
 
 -- that leaves the table
 pub answered : {r : Result Reply Stop} {old new : Engine} {before now : Site} {s : State} {o known : Outcome} {works other : List CacheWork} {P : Snapshot → Type 0} {m : ℕ} → (o ≡ known) × (works ≡ other) →
-    Does r old new before now s known.after P m → IfOk r (λ reply. reply ≡ known.reply) → Asks r other old.store.pages new.store.pages before now → Answers r old new before now s o works P m
+    Does r old new before now s known.after P m → IfOk r (λ reply. reply ≡ known.reply) → StepsMachine r other old.store.pages new.store.pages before now → Answers r old new before now s o works P m
 answered {P = P} is does reply asks = answered_as (λ o. P) is does reply asks
 
 -- nothing is asked
-pub asks_rest : {T : Type 0} {x : T} {pages : PageStore} {site : Site} → Asks {T = T} (Ok x) [] pages pages site site
+pub asks_rest : {T : Type 0} {x : T} {pages : PageStore} {site : Site} → StepsMachine {T = T} (Ok x) [] pages pages site site
 asks_rest {T = T} {x = x} {pages = pages} {site = site} = asks_nothing {T = T} (Ok x) pages site site (λ dev. refl) (no_error {T = T} {x = x} {e = Worn Flash}) (stages_none (omega arith) refl)
 
 -- a command that is refused, or only answers: nothing is called
-pub does_nothing : {T : Type 0} {x : T} {engine : Engine} {site : Site} {s : State} {P : Snapshot → Type 0} → Fits engine site s → MayGoOn engine site → (IsQuiet site → LeavesOnly site site P) → Does {T = T} (Ok x) engine engine site site s s P 0
+pub does_nothing : {T : Type 0} {x : T} {engine : Engine} {site : Site} {s : State} {P : Snapshot → Type 0} → Matches engine site s → Invariant engine site → (IsQuiet site → LeavesOnly site site P) → Does {T = T} (Ok x) engine engine site site s s P 0
 does_nothing {T = T} {x = x} {engine = engine} {site = site} {s = s} fits going still = does_ok fits still (λ quiet. count_nothing {T = T} {E = Stop} (Ok x) engine site s s fits going (omega arith))
 
 -- what stands already stands
-pub still : HoldsMoment → {engine : Engine} {site : Site} {s : State} → (fits : Fits engine site s) → MayGoOn engine site → IsQuiet site → LeavesOnly site site (LeavesTable (sizes_of engine.store) s.table s.commits site.told)
+pub still : HoldsMoment → {engine : Engine} {site : Site} {s : State} → (fits : Matches engine site s) → Invariant engine site → IsQuiet site → LeavesOnly site site (LeavesTable (sizes_of engine.store) s.table s.commits site.told)
 still law {engine = engine} {site = site} {s = s} fits going quiet =
     under_leaves_for fits.newest _ _ _ s.table s.commits _ (law engine.store.log engine.store.pages site fits.newest fits.records s.table s.commits going.store.both.sizes fits.holds.both quiet)
 
@@ -225,8 +187,8 @@ still law {engine = engine} {site = site} {s = s} fits going quiet =
 module _ {s : State} (command : Command) {wanted : Bool} (known : wanted ≡ makes_checkpoint true s command) (R : Outcome → Snapshot → Type 0) where
   pub first_then : {A : Type 0} {a : A} {r : Result Reply Stop} {old mid new : Engine} {before between now : Site} {P Q : Snapshot → Type 0} → IsTrue before.honest →
       ((x : Snapshot) → P x → R (run_now (checkpointed_if wanted s) command) x) → (LeavesOnly before between P → (x : Snapshot) → Q x → R (run_now (checkpointed_if wanted s) command) x) →
-      Serves {T = A} (Ok a) old mid before between → Does {T = A} (Ok a) old mid before between s (checkpointed_if wanted s) P (if wanted then 1 else 0) →
-      Asks {T = A} (Ok a) (if wanted then checkpoint_works else []) old.store.pages mid.store.pages before between →
+      KeepsEngine {T = A} (Ok a) old mid before between → Does {T = A} (Ok a) old mid before between s (checkpointed_if wanted s) P (if wanted then 1 else 0) →
+      StepsMachine {T = A} (Ok a) (if wanted then checkpoint_works else []) old.store.pages mid.store.pages before between →
       Answers r mid new between now (checkpointed_if wanted s) (run_now (checkpointed_if wanted s) command) (command_touches false (checkpointed_if wanted s) command) Q 0 →
       Answers r old new before now s (run s command) (command_touches true s command) (R (run s command)) (checkpoints_by s command)
   first_then {a = a} {r = r} {old = old} {mid = mid} {new = new} {before = before} {between = between} {now = now} honest early late serves does asks second =
@@ -235,8 +197,8 @@ module _ {s : State} (command : Command) {wanted : Bool} (known : wanted ≡ mak
       (asks_then a r (if wanted then checkpoint_works else []) (command_touches false (checkpointed_if wanted s) command) old.store.pages mid.store.pages new.store.pages before between now asks second.asks))
 
   -- it fails
-  pub first_failed : {A : Type 0} {stop : Stop} {old mid : Engine} {before now : Site} {P : Snapshot → Type 0} → MayGoOn old before → ((x : Snapshot) → P x → R (run_now (checkpointed_if wanted s) command) x) →
-      Does {T = A} (Err stop) old mid before now s (checkpointed_if wanted s) P (if wanted then 1 else 0) → Asks {T = A} (Err stop) (if wanted then checkpoint_works else []) old.store.pages mid.store.pages before now →
+  pub first_failed : {A : Type 0} {stop : Stop} {old mid : Engine} {before now : Site} {P : Snapshot → Type 0} → Invariant old before → ((x : Snapshot) → P x → R (run_now (checkpointed_if wanted s) command) x) →
+      Does {T = A} (Err stop) old mid before now s (checkpointed_if wanted s) P (if wanted then 1 else 0) → StepsMachine {T = A} (Err stop) (if wanted then checkpoint_works else []) old.store.pages mid.store.pages before now →
       Answers (Err stop) old mid before now s (run s command) (command_touches true s command) (R (run s command)) (checkpoints_by s command)
   first_failed {A = A} {stop = stop} {old = old} {mid = mid} {before = before} {now = now} going early does asks =
       subst (λ (b : Bool). Answers (Err stop) old mid before now s (run s command) (command_touches true s command) (R (run s command)) (if b then 1 else 0)) known
@@ -273,28 +235,15 @@ calls_no_memory {stop = stop} memory first = calls_refused {stop = stop} (λ d i
     never : {d : Dev} → Memory ≡ Device d → ⊥
     never is = cc
 
-pub ends_no_memory : {A B : Type 0} {a : A} {stop : Stop} {g : Geometry} {before now : Site} {P : Snapshot → Type 0} → stop ≡ Memory → IsTrue before.honest → Calls {T = A} (Ok a) before now → Ends {T = A} (Ok a) g before now P → Ends {T = B} (Err stop) g before now P
-ends_no_memory {B = B} {stop = stop} memory honest calls first = record {
-  any_moment = first.any_moment;
-  quiet = λ quiet other. calls.stays_quiet honest quiet;
-  worn_log = λ is. (let never : Memory ≡ Worn Log = sym memory ∙ stop_is {U = B} stop (Worn Log) is in absurd cc);
-  worn = λ is. (let never : Memory ≡ Worn Flash = sym memory ∙ stop_is {U = B} stop (Worn Flash) is in absurd cc);
-  readable = λ is. (let never : Memory ≡ Foreign = sym memory ∙ stop_is {U = B} stop Foreign is in cc);
-}
-
-pub serves_no_memory : {A B : Type 0} {a : A} {stop : Stop} {old new : Engine} {before now : Site} → stop ≡ Memory → Serves {T = A} (Ok a) old new before now → Serves {T = B} (Err stop) old new before now
+pub serves_no_memory : {A B : Type 0} {a : A} {stop : Stop} {old new : Engine} {before now : Site} → stop ≡ Memory → KeepsEngine {T = A} (Ok a) old new before now → KeepsEngine {T = B} (Err stop) old new before now
 serves_no_memory memory first = record { calls = calls_no_memory memory first.calls; going = tt; sizes = first.sizes; stops = subst MayStop (sym memory) tt }
 
 pub does_no_memory : {A B : Type 0} {a : A} {stop : Stop} {old new : Engine} {before now : Site} {s after after' : State} {P : Snapshot → Type 0} {m : ℕ} → stop ≡ Memory → IsTrue before.honest → after.made ≤ after'.made →
-    Serves {T = A} (Ok a) old new before now → Does {T = A} (Ok a) old new before now s after P m → Does {T = B} (Err stop) old new before now s after' P m
+    KeepsEngine {T = A} (Ok a) old new before now → Does {T = A} (Ok a) old new before now s after P m → Does {T = B} (Err stop) old new before now s after' P m
 does_no_memory {A = A} {B = B} {a = a} {stop = stop} {old = old} {new = new} {before = before} {now = now} {s = s} {after = after} {after' = after'} {m = m} memory honest few serves first = record {
   after_fits = tt;
-  any_moment = first.any_moment;
+  ends = ends_no_memory memory (serves.calls.stays_quiet honest) first.ends;
   numbers = λ quiet. count_failed {T = B} {A = B} stop old new new before now s after after' m few (count_refused {T = B} {A = A} a stop old new new before now s after m (first.numbers quiet));
-  quiet = λ quiet other. serves.calls.stays_quiet honest quiet;
-  worn_log = λ is. (let never : Memory ≡ Worn Log = sym memory ∙ stop_is {U = B} stop (Worn Log) is in absurd cc);
-  worn = λ is. (let never : Memory ≡ Worn Flash = sym memory ∙ stop_is {U = B} stop (Worn Flash) is in absurd cc);
-  foreign = λ is. (let never : Memory ≡ Foreign = sym memory ∙ stop_is {U = B} stop Foreign is in cc);
 }
 
 -- Leaves of the tower.

@@ -16,7 +16,7 @@ use Rattle.txn_table.specs.declared.active.Active.{Active}
 use Rattle.txn_table.specs.Entries.{entry_of, ChangesOnly, after_write}
 use Rattle.txn_table.specs.Entries as entries
 use Rattle.image_meaning.specs.Meaning.{master_of}
-use Rattle.engine.specs.Fits.{SessionIs, SessionsAre}
+use Rattle.engine.specs.Representation.{SessionIs, SessionsAre}
 use Rattle.engine.proofs.Actives.{some_active, others_stay}
 
 -- another session's transaction is another one
@@ -31,7 +31,6 @@ wrote_more newest records old new s n lsn page slot entry before after are small
     let found = some_active newest records old s are n entry at in
     let session = found.session in
     let write : Write = (32 * page + slot, after) in
-    let count = are.count in
     let now : Option Session = option_map (having_written write) (session_at s n) in
     let is_now : now ≡ Some (having_written write session) = ap (option_map (having_written write)) found.is in
     let under = found.under_way in
@@ -40,7 +39,7 @@ wrote_more newest records old new s n lsn page slot entry before after are small
       each = λ m. ⊎_elim
           (λ (same : m ≡ n). subst (λ (k : ℕ). SessionIs newest s.kept (records ++ e ∷ []) (entry_of new k) (slice_index_or (slice_set s.sessions n now) k None)) (sym same)
           (subst (λ (a : Option Active). SessionIs newest s.kept (records ++ e ∷ []) a (slice_index_or (slice_set s.sessions n now) n None)) (sym changes.own)
-          (subst (λ (o : Option Session). SessionIs newest s.kept (records ++ e ∷ []) (Some (after_write entry lsn)) o) (sym (get_or-set_same s.sessions n now None (omega (arith, small, count)) ∙ is_now))
+          (subst (λ (o : Option Session). SessionIs newest s.kept (records ++ e ∷ []) (Some (after_write entry lsn)) o) (sym (get_or-set_same s.sessions n now None (omega (arith, small, are.count)) ∙ is_now))
           (record {
             is_active = active_writes (master_of newest) records lsn entry.begin entry.last page slot session.writes before after under.is_active;
             born = under.born;
@@ -77,13 +76,12 @@ closed newest records old new s n entry e are small at changes owes closing own 
     let under = found.under_way in
     let active : IsActive (master_of newest) records (txn_of e) entry.last session.writes = subst (λ (t : ℕ). IsActive (master_of newest) records t entry.last session.writes) (sym own) under.is_active in
     let part = active_owes (master_of newest) records (txn_of e) entry.last session.writes active in
-    let count = are.count in
     record {
       count = length-set s.sessions n None ∙ are.count;
       each = λ m. ⊎_elim
           (λ (same : m ≡ n). subst (λ (k : ℕ). SessionIs newest s.kept (records ++ e ∷ []) (entry_of new k) (slice_index_or (slice_set s.sessions n None) k None)) (sym same)
           (subst (λ (a : Option Active). SessionIs newest s.kept (records ++ e ∷ []) a (slice_index_or (slice_set s.sessions n None) n None)) (sym changes.own)
-          (subst (λ (o : Option Session). SessionIs newest s.kept (records ++ e ∷ []) None o) (sym (get_or-set_same s.sessions n None None (omega (arith, small, count)))) tt)))
+          (subst (λ (o : Option Session). SessionIs newest s.kept (records ++ e ∷ []) None o) (sym (get_or-set_same s.sessions n None None (omega (arith, small, are.count)))) tt)))
           (λ differ. subst (λ (a : Option Active). SessionIs newest s.kept (records ++ e ∷ []) a (slice_index_or (slice_set s.sessions n None) m None)) (sym (changes.others m differ))
           (subst (λ (o : Option Session). SessionIs newest s.kept (records ++ e ∷ []) (entry_of old m) o) (sym (get_or-set_other s.sessions n m None None differ))
           (others_stay newest s.kept records e (entry_of old m) (session_at s m) (λ other is. ne_eqb (txn_of e) other.begin (λ same. other_txn newest records old s are n m entry other at is differ (sym own ∙ same))) (are.each m))))

@@ -15,16 +15,16 @@ use Rattle.checkpoint.specs.declared.pairs.Pair.{Pair}
 use Rattle.image_meaning.specs.Meaning.{master_of}
 use Rattle.redo_undo.specs.Checkpointing.{AreUnfinished, MayBeMade, KeepUnfinished}
 use Rattle.redo_undo.specs.SessionLaws.{ActiveOutlives}
-use Rattle.log_store.specs.Held.{end_of}
+use Rattle.log_store.specs.Representation.{end_of}
 use Rattle.txn_table.specs.declared.active.Active.{Active}
 use Rattle.txn_table.specs.Entries.{IsTable, entry_of, counted_from}
 use Rattle.txn_table.specs.Entries as entries
 use Rattle.txn_table.proofs.BySession.{entry_of-Contains, entry_of-at}
 use Rattle.redo_undo.specs.Holding.{blocks_to}
 use Rattle.engine.specs.declared.engine.Engine.{Engine}
-use Rattle.engine.specs.Going.{MayGoOn, sizes_of}
+use Rattle.engine.specs.Invariant.{Invariant, sizes_of}
 use Rattle.redo_undo.specs.Stores.{MayWork, HasCheckpoint}
-use Rattle.engine.specs.Fits.{Fits, LocksAre, SessionIs, SessionsAre, checkpointed_if}
+use Rattle.engine.specs.Representation.{Matches, LocksAre, SessionIs, SessionsAre, checkpointed_if}
 use Rattle.engine.proofs.Actives.{some_active}
 use Rattle.engine.proofs.Namings.{no_active, pair_of, pairs_of}
 use Rattle.engine.proofs.Keeping.{LetsGo, kept_is}
@@ -68,7 +68,7 @@ are_unfinished newest records active s are table = record {
     same_place (x ∷ xs) zero d own less is = is
     same_place (x ∷ xs) (suc k) d own less is = same_place xs k d own (omega (arith, less)) is
 
-pub may_be_made : (engine : Engine) (site : Site) (s : State) (fits : Fits engine site s) → IsTable engine.active → MayBeMade engine.store.masters site fits.records (pairs_of engine.active)
+pub may_be_made : (engine : Engine) (site : Site) (s : State) (fits : Matches engine site s) → IsTable engine.active → MayBeMade engine.store.masters site fits.records (pairs_of engine.active)
 may_be_made engine site s fits table = record {
   ring = fits.holds.masters;
   unfinished = are_unfinished fits.newest fits.records engine.active s fits.sessions table;
@@ -94,9 +94,9 @@ abbrev AreCounted : ℕ → List Active → List Active → Type 0
 AreCounted first old new = (n : ℕ) → entry_of new n ≡ option_map (counted_from first) (entry_of old n)
 
 -- the database may go on
-pub goes_on : (old new : Engine) (site site' : Site) (first : ℕ) → MayGoOn old site → LetsGo old first → MayWork new.store site' → new.ended ≡ false → new.cap ≡ old.cap → sizes_of new.store ≡ sizes_of old.store → IsTable new.active →
+pub goes_on : (old new : Engine) (site site' : Site) (first : ℕ) → Invariant old site → LetsGo old first → MayWork new.store site' → new.ended ≡ false → new.cap ≡ old.cap → sizes_of new.store ≡ sizes_of old.store → IsTable new.active →
     AreCounted first old.active new.active → entries.owed new.active ≡ entries.owed old.active → new.store.made + first ≡ old.store.made → blocks_to new.store.log ≡ blocks_to old.store.log → old.store.log.kept ≤ new.store.log.kept →
-    end_of old.store.log ≤ end_of new.store.log → new.commits ≡ old.commits → MayGoOn new site'
+    end_of old.store.log ≤ end_of new.store.log → new.commits ≡ old.commits → Invariant new site'
 goes_on old new site site' first going go works ended cap sizes table counted owed made blocks kept end commits = record {
   store = works;
   going = ended;
@@ -158,9 +158,9 @@ sessions_outlive outlives newest master records active new s first are table nam
       count = is.count;
     }
 
-pub fits_after : ActiveOutlives → (old new : Engine) (site site' : Site) (s : State) (first : ℕ) (fits : Fits old site s) → IsTable old.active → LetsGo old first → IsTrue site'.honest →
+pub fits_after : ActiveOutlives → (old new : Engine) (site site' : Site) (s : State) (first : ℕ) (fits : Matches old site s) → IsTable old.active → LetsGo old first → IsTrue site'.honest →
     HasCheckpoint new.store site' fits.records s.table s.commits (pairs_of old.active) → AreCounted first old.active new.active → entries.owed new.active ≡ entries.owed old.active → new.store.made + first ≡ old.store.made → new.commits ≡ old.commits → new.cap ≡ old.cap →
-    new.locks ≡ old.locks → Fits new site' (checkpointed_if true s)
+    new.locks ≡ old.locks → Matches new site' (checkpointed_if true s)
 fits_after outlives old new site site' s first fits table go honest has counted owed made commits cap locks =
     let kept = kept_is old first fits.newest fits.records s fits.sessions fits.counts.made go in
     let held = subst (λ ls. LocksAre ls s) (sym locks) fits.locks_are in

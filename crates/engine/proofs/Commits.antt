@@ -15,11 +15,11 @@ use Rattle.txn_table.specs.Entries as entries
 use Rattle.image_meaning.specs.Moments as moments
 use Rattle.redo_undo.specs.Committing.{MayCommit}
 use Rattle.redo_undo.specs.declared.store.Store.{Store}
-use Rattle.engine.specs.Going.{sizes_of}
+use Rattle.engine.specs.Invariant.{sizes_of}
 use Rattle.engine.specs.declared.engine.Engine.{Engine}
 use Rattle.engine.specs.Image.{Stands}
-use Rattle.redo_undo.specs.Stores.{Holds}
-use Rattle.engine.specs.Fits.{Fits, SessionsAre}
+use Rattle.redo_undo.specs.Stores.{Represents}
+use Rattle.engine.specs.Representation.{Matches, SessionsAre}
 use Rattle.engine.specs.Leaves.{LeavesEither}
 use Rattle.engine.proofs.Owing.{entry_is}
 use Rattle.engine.proofs.Locks.{released}
@@ -27,18 +27,18 @@ use Rattle.engine.proofs.Changes.{closed}
 use Rattle.engine.proofs.Actives.{some_active}
 
 -- a session's transaction may be committed
-pub may_commit : (engine : Engine) (site : Site) (s : State) (entry : Active) (fits : Fits engine site s) → entry_of engine.active entry.session ≡ Some entry → MayCommit fits.newest fits.records entry.begin (engine.commits + 1) s.commits
+pub may_commit : (engine : Engine) (site : Site) (s : State) (entry : Active) (fits : Matches engine site s) → entry_of engine.active entry.session ≡ Some entry → MayCommit fits.newest fits.records entry.begin (engine.commits + 1) s.commits
 may_commit engine site s entry fits at =
     let found = some_active fits.newest fits.records engine.active s fits.sessions entry.session entry at in
     record { begun = found.under_way.is_active.lives; chain = found.under_way.is_active.chain; number_is = ap (λ (n : ℕ). n + 1) fits.counts.commits }
 
 -- its writes are the session's
-pub writes_are : (engine : Engine) (site : Site) (s : State) (entry : Active) (fits : Fits engine site s) → entry_of engine.active entry.session ≡ Some entry → writes_in entry.begin fits.records ≡ writes_of (session_at s entry.session)
+pub writes_are : (engine : Engine) (site : Site) (s : State) (entry : Active) (fits : Matches engine site s) → entry_of engine.active entry.session ≡ Some entry → writes_in entry.begin fits.records ≡ writes_of (session_at s entry.session)
 writes_are engine site s entry fits at =
     let found = some_active fits.newest fits.records engine.active s fits.sessions entry.session entry at in
     sym (ap writes_of found.is ∙ found.under_way.is_active.writes_are)
 
-pub commits_either : (engine : Engine) {old : Site} (s : State) (entry : Active) (fits : Fits engine old s) → entry_of engine.active entry.session ≡ Some entry → (snapshot : Snapshot) →
+pub commits_either : (engine : Engine) {old : Site} (s : State) (entry : Active) (fits : Matches engine old s) → entry_of engine.active entry.session ≡ Some entry → (snapshot : Snapshot) →
     moments.LeavesEitherFor (sizes_of engine.store) s.table (table_with s.table (writes_in entry.begin fits.records)) s.commits old.told snapshot → LeavesEither (sizes_of engine.store) s (effect s (command.Commit entry.session)) old.told snapshot
 commits_either engine {old = old} s entry fits at snapshot q =
     let g = sizes_of engine.store in
@@ -47,17 +47,16 @@ commits_either engine {old = old} s entry fits at snapshot q =
       stands = ⊎_elim (λ before. inl before) (λ after. inr (subst (λ (ws : List Write). Stands g snapshot.image (table_with s.table ws) (s.commits + 1)) (writes_are engine old s entry fits at) after)) q.stands;
     }
 
-pub committed_fits : (engine mid last : Engine) (old new : Site) (s : State) (entry : Active) (lsn : ℕ) (fits : Fits engine old s) → IsTable engine.active → entry_of engine.active entry.session ≡ Some entry → IsTrue new.honest →
-    Holds mid.store new fits.newest (fits.records ++ record { lsn = lsn; rec = Commit entry.begin (engine.commits + 1) } ∷ []) (table_with s.table (writes_in entry.begin fits.records)) (s.commits + 1) →
+pub committed_fits : (engine mid last : Engine) (old new : Site) (s : State) (entry : Active) (lsn : ℕ) (fits : Matches engine old s) → IsTable engine.active → entry_of engine.active entry.session ≡ Some entry → IsTrue new.honest →
+    Represents mid.store new fits.newest (fits.records ++ record { lsn = lsn; rec = Commit entry.begin (engine.commits + 1) } ∷ []) (table_with s.table (writes_in entry.begin fits.records)) (s.commits + 1) →
     mid ≡ record engine { store = mid.store; commits = mid.commits } → mid.commits ≡ engine.commits + 1 → mid.store.made ≡ engine.store.made + 1 →
     ReleasesAll mid.locks last.locks entry.session → ChangesOnly mid.active last.active entry.session None → entries.owed last.active + (entry.writes + 1) ≡ entries.owed mid.active →
     last.store ≡ mid.store → last.commits ≡ mid.commits → last.cap ≡ mid.cap →
-    Fits last new (effect s (command.Commit entry.session))
+    Matches last new (effect s (command.Commit entry.session))
 committed_fits engine mid last old new s entry lsn fits table at honest holds rest commits made releases changes owed store_is commits_is cap_is =
     let n = entry.session in
     let e : Entry = record { lsn = lsn; rec = Commit entry.begin (engine.commits + 1) } in
     let small = (entry_is engine.active n entry table at).small in
-    let count = fits.sessions.count in
     let done : SessionsAre fits.newest (fits.records ++ e ∷ []) last.active (with_session s n None) =
     closed fits.newest fits.records engine.active last.active s n entry e fits.sessions small at
     (subst (λ (a : List Active). ChangesOnly a last.active n None) (ap (λ (x : Engine). x.active) rest) changes) (owed ∙ ap (λ (x : Engine). entries.owed x.active) rest) refl refl in
@@ -65,13 +64,13 @@ committed_fits engine mid last old new s entry lsn fits table at honest holds re
       honest = honest;
       newest = fits.newest;
       records = fits.records ++ e ∷ [];
-      holds = subst (λ (j : Store). Holds j new fits.newest (fits.records ++ e ∷ []) (table_with s.table (writes_of (session_at s n))) (s.commits + 1)) (sym store_is)
-          (subst (λ (ws : List Write). Holds mid.store new fits.newest (fits.records ++ e ∷ []) (table_with s.table ws) (s.commits + 1)) (writes_are engine old s entry fits at) holds);
+      holds = subst (λ (j : Store). Represents j new fits.newest (fits.records ++ e ∷ []) (table_with s.table (writes_of (session_at s n))) (s.commits + 1)) (sym store_is)
+          (subst (λ (ws : List Write). Represents mid.store new fits.newest (fits.records ++ e ∷ []) (table_with s.table ws) (s.commits + 1)) (writes_are engine old s entry fits at) holds);
       counts = record {
         commits = commits_is ∙ commits ∙ ap (λ (k : ℕ). k + 1) fits.counts.commits;
         made = let store_made = ap (λ (j : Store). j.made) store_is in let before = fits.counts.made in omega (arith, store_made, made, before);
         cap = cap_is ∙ ap (λ (x : Engine). x.cap) rest ∙ fits.counts.cap;
       };
       sessions = record { count = done.count; each = done.each; all = done.all; owes = done.owes; differ = done.differ };
-      locks_are = released engine.locks last.locks s (effect s (command.Commit n)) n (omega (arith, small, count)) refl (subst (λ (l : List Lock). ReleasesAll l last.locks n) (ap (λ (x : Engine). x.locks) rest) releases) fits.locks_are;
+      locks_are = released engine.locks last.locks s (effect s (command.Commit n)) n (omega (arith, small, fits.sessions.count)) refl (subst (λ (l : List Lock). ReleasesAll l last.locks n) (ap (λ (x : Engine). x.locks) rest) releases) fits.locks_are;
     }

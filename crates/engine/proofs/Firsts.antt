@@ -1,6 +1,6 @@
 -- A command before which a checkpoint is made.
-use Rattle.redo_undo.proofs.Pendings.{and_false}
 use Rattle.std.proofs.Common.{◌≤◌, ◌≡◌, ◌/◌, ◌&&◌, not, Bool, true, false, List, [], ◌∷◌, ◌++◌, Option, None, Some, refl, sym, ap, ◌∙◌, arith, ℕ}
+use Rattle.std.proofs.Math.Bool.{and-true, and-false}
 use Rattle.std.specs.Prelude.{IsSome, is_none, nat_le, if◌then◌else◌}
 use Rattle.record_model.specs.declared.words.Command.{Command}
 use Rattle.record_model.specs.declared.words.Command.TheVariants.{Begin, Read, Abort}
@@ -9,10 +9,10 @@ use Rattle.record_model.specs.State.{State, used, kept_by_checkpoint, is_due}
 use Rattle.record_model.specs.Step.{refusal, outcome, step, carried_out, lacks_room, asks_for_checkpoint, makes_checkpoint, is_accepted}
 use Rattle.record_model.specs.Touches.{CacheWork, flush, command_touches, record_touches}
 use Rattle.second_chance.specs.Machine.{Rules, Cache}
-use Rattle.redo_undo.specs.Works.{checkpoint_works, Overflows, OverflowsWithMore}
+use Rattle.redo_undo.specs.MachineSteps.{checkpoint_works, Overflows, OverflowsWithMore}
 use Rattle.site.specs.State.{State as Site}
 use Rattle.engine.specs.declared.engine.Engine.{Engine}
-use Rattle.engine.specs.Fits.{Fits, checkpointed_if}
+use Rattle.engine.specs.Representation.{Matches, checkpointed_if}
 
 abbrev with_kept : State → ℕ → State
 with_kept s k = record s { kept = k }
@@ -58,21 +58,17 @@ touches_are s command =
 
 -- When one is made.
 
-pub and_true : (b : Bool) → (b && true) ≡ b
-and_true true = refl
-and_true false = refl
-
 pub none_made : (s : State) (command : Command) (r : Reply) → refusal s command ≡ Some r → makes_checkpoint true s command ≡ false
-none_made s command r is = ap (λ (o : Option Reply). asks_for_checkpoint s command && is_none o) is ∙ and_false (asks_for_checkpoint s command)
+none_made s command r is = ap (λ (o : Option Reply). asks_for_checkpoint s command && is_none o) is ∙ and-false (asks_for_checkpoint s command)
 
 pub made_as_asked : (s : State) (command : Command) → refusal s command ≡ None → makes_checkpoint true s command ≡ asks_for_checkpoint s command
-made_as_asked s command is = ap (λ (o : Option Reply). asks_for_checkpoint s command && is_none o) is ∙ and_true (asks_for_checkpoint s command)
+made_as_asked s command is = ap (λ (o : Option Reply). asks_for_checkpoint s command && is_none o) is ∙ and-true (asks_for_checkpoint s command)
 
 pub some_reply : (o : Option Reply) → IsSome o → (r : Reply) × (o ≡ Some r)
 some_reply None some = cc
 some_reply (Some r) some = (r, refl)
 
-pub due_is : (engine : Engine) (site : Site) (s : State) → Fits engine site s → nat_le (engine.cap / 2) engine.store.made ≡ is_due s
+pub due_is : (engine : Engine) (site : Site) (s : State) → Matches engine site s → nat_le (engine.cap / 2) engine.store.made ≡ is_due s
 due_is engine site s fits =
     let used_is : engine.store.made ≡ used s = omega (arith, fits.counts.made) in
     λ i. nat_le (fits.counts.cap i / 2) (used_is i)

@@ -17,8 +17,8 @@ use Rattle.txn_table.proofs.Counting.{all_from_least}
 use Rattle.txn_table.proofs.BySession.{entry_of-Contains, entry_of-at}
 use Rattle.site.specs.State.{State as Site}
 use Rattle.engine.specs.declared.engine.Engine.{Engine}
-use Rattle.engine.specs.Going.{MayGoOn}
-use Rattle.engine.specs.Fits.{SessionIs, SessionsAre}
+use Rattle.engine.specs.Invariant.{Invariant}
+use Rattle.engine.specs.Representation.{SessionIs, SessionsAre}
 use Rattle.engine.proofs.Actives.{some_active}
 use Rattle.engine.proofs.Namings.{no_active, pairs_of}
 
@@ -98,7 +98,7 @@ first_of : (first : Active) (later : List Active) → entry_of (first ∷ later)
 first_of first later = cond-true _ _ (entry_of later first.session) (eq-eqb first.session first.session refl)
 
 -- each session began in a block of the log, and after no more records than were made
-pub began : (engine : Engine) (site : Site) (n : ℕ) (entry : Active) → MayGoOn engine site → entry_of engine.active n ≡ Some entry
+pub began : (engine : Engine) (site : Site) (n : ℕ) (entry : Active) → Invariant engine site → entry_of engine.active n ≡ Some entry
     → (entry.begin / 512 ≤ blocks_to engine.store.log) × (entry.born ≤ engine.store.made)
 began engine site n entry going is =
     let lasts = going.lasts n entry is in
@@ -134,7 +134,7 @@ enough_in [] blocks made first less since early = omega (arith, less)
 enough_in (entry ∷ later) blocks made first less since early =
     omega (arith, since entry.session entry (first_of entry later), early entry.session entry (first_of entry later))
 
-lets_go_with : (engine : Engine) (site : Site) (first : ℕ) → MayGoOn engine site → All (λ entry. first ≤ entry.born) engine.active → first ≤ engine.store.made → (first ≡ engine.store.made) ⊎ IsOldest engine.active first → LetsGo engine first
+lets_go_with : (engine : Engine) (site : Site) (first : ℕ) → Invariant engine site → All (λ entry. first ≤ entry.born) engine.active → first ≤ engine.store.made → (first ≡ engine.store.made) ⊎ IsOldest engine.active first → LetsGo engine first
 lets_go_with engine site first going early made oldest = record {
   early = early;
   of_each = λ n entry is. each_after engine.active first n entry early is;
@@ -144,7 +144,7 @@ lets_go_with engine site first going early made oldest = record {
   enough = enough_in engine.active (blocks_to engine.store.log) engine.store.made first made going.since (λ n entry is. each_after engine.active first n entry early is);
 }
 
-pub lets_go : (engine : Engine) (site : Site) (found : Option ℕ) → MayGoOn engine site → IsLeast (map (λ entry. entry.born) engine.active) found → LetsGo engine (unwrap_or found engine.store.made)
+pub lets_go : (engine : Engine) (site : Site) (found : Option ℕ) → Invariant engine site → IsLeast (map (λ entry. entry.born) engine.active) found → LetsGo engine (unwrap_or found engine.store.made)
 lets_go engine site None going is =
     lets_go_with engine site engine.store.made going (subst (λ (xs : List Active). All (λ entry. engine.store.made ≤ entry.born) xs) (sym (no_pairs engine.active is)) (λ k d less. absurd (omega (arith, less)))) (omega arith) (inl refl)
 lets_go engine site (Some born) going is =

@@ -1,6 +1,6 @@
 pub mod Aborts
 pub mod Actives
-pub mod Apart
+pub mod DistinctBegins
 pub mod Changes
 pub mod Calling
 pub mod Checkpoints

@@ -7,7 +7,7 @@ use Rattle.record_model.specs.State.{Session, State, Write, session_at, writes_o
 use Rattle.lock_table.specs.declared.lock.Lock.{Lock}
 use Rattle.lock_table.specs.Locks.{ReleasesAll}
 use Rattle.lock_table.specs.Locks as locks
-use Rattle.engine.specs.Fits.{LocksAre}
+use Rattle.engine.specs.Representation.{LocksAre}
 
 pub locks_stay : (held : List Lock) (s s' : State) → ((n : ℕ) → writes_of (session_at s' n) ≡ writes_of (session_at s n)) → ((n : ℕ) → reads_of (session_at s' n) ≡ reads_of (session_at s n)) → LocksAre held s → LocksAre held s'
 locks_stay held s s' writes reads are = record {

@@ -19,18 +19,18 @@ use Rattle.log_laws.proofs.Orderly as orderly
 use Rattle.log_laws.proofs.Tails.{tail_without_commit, whole_is_undoable, whole_in_order}
 use Rattle.log_laws.proofs.Tables.{content_of_table}
 use Rattle.log_laws.proofs.Shown.{shown_is_seen, shown_is_value, writer_is_loser}
-use Rattle.log_store.specs.Held.{end_of}
+use Rattle.log_store.specs.Representation.{end_of}
 use Rattle.lock_table.specs.declared.lock.Lock.{Lock}
 use Rattle.lock_table.specs.Locks as locks
 use Rattle.txn_table.specs.declared.active.Active.{Active}
 use Rattle.txn_table.specs.Entries.{IsTable, entry_of}
 use Rattle.image_meaning.specs.Meaning.{picture_under, master_of, versions_on}
-use Rattle.image_meaning.proofs.Sames.{next_block_is}
+use Rattle.image_meaning.proofs.UnchangedImages.{next_block_is}
 use Rattle.redo_undo.specs.declared.store.Store.{Store}
 use Rattle.engine.specs.declared.engine.Engine.{Engine}
-use Rattle.engine.specs.Going.{sizes_of}
-use Rattle.redo_undo.specs.Stores.{Holds, shown_in}
-use Rattle.engine.specs.Fits.{Fits, SessionsAre, LocksAre}
+use Rattle.engine.specs.Invariant.{sizes_of}
+use Rattle.redo_undo.specs.Stores.{Represents, shown_in}
+use Rattle.engine.specs.Representation.{Matches, SessionsAre, LocksAre}
 use Rattle.engine.proofs.Actives.{some_active}
 use Rattle.engine.proofs.Owing.{entry_is}
 
@@ -47,19 +47,19 @@ busy_write_is held s are (Some own) number = λ i. find (λ n. not (own == n) &&
 -- The table.
 
 -- what is sealed and what isn't stand for the same table
-pub table_is : (store : Store) (site : Site) (newest : Option Master) (records : List Entry) (table : List Content) (commits : ℕ) (h : Holds store site newest records table commits) → table ≡ table_of records (versions_on (sizes_of store) site.image)
+pub table_is : (store : Store) (site : Site) (newest : Option Master) (records : List Entry) (table : List Content) (commits : ℕ) (h : Represents store site newest records table commits) → table ≡ table_of records (versions_on (sizes_of store) site.image)
 table_is store site newest records table commits h =
     let log = h.both.log_holds in
     let p = picture_under newest (sizes_of store) site.image log.blocks in
     log.runs_on.means.table_is ∙ sym (tail_without_commit p log.tail log.runs_on.carries log.runs_on.no_commit)
     ∙ ap (λ (l : List Entry). table_of l (versions_on (sizes_of store) site.image)) log.runs_on.records_are
 
-pub undoable : (store : Store) (site : Site) (newest : Option Master) (records : List Entry) (table : List Content) (commits : ℕ) (h : Holds store site newest records table commits) → IsUndoable records
+pub undoable : (store : Store) (site : Site) (newest : Option Master) (records : List Entry) (table : List Content) (commits : ℕ) (h : Represents store site newest records table commits) → IsUndoable records
 undoable store site newest records table commits h =
     let log = h.both.log_holds in
     subst IsUndoable log.runs_on.records_are (whole_is_undoable (picture_under newest (sizes_of store) site.image log.blocks) log.tail log.runs_on.carries)
 
-pub same_size : (engine : Engine) (site : Site) (s : State) → Fits engine site s → length s.table ≡ 32 * (sizes_of engine.store).pages
+pub same_size : (engine : Engine) (site : Site) (s : State) → Matches engine site s → length s.table ≡ 32 * (sizes_of engine.store).pages
 same_size engine site s fits =
     let versions = versions_on (sizes_of engine.store) site.image in
     ap length (table_is engine.store site fits.newest fits.records s.table s.commits fits.holds)
@@ -67,7 +67,7 @@ same_size engine site s fits =
     ∙ ap (λ (n : ℕ). 32 * n) (length-versions (sizes_of engine.store) site.image)
 
 -- the log's end is that of its records
-pub ends_behind : (store : Store) (site : Site) (newest : Option Master) (records : List Entry) (table : List Content) (commits lsn : ℕ) (h : Holds store site newest records table commits) → end_of store.log ≤ lsn →
+pub ends_behind : (store : Store) (site : Site) (newest : Option Master) (records : List Entry) (table : List Content) (commits lsn : ℕ) (h : Represents store site newest records table commits) → end_of store.log ≤ lsn →
     let log = h.both.log_holds in let p = picture_under newest (sizes_of store) site.image log.blocks in (next_lsn p log.tail ≤ lsn) × (512 * p.hi ≤ lsn)
 ends_behind store site newest records table commits lsn h behind =
     let log = h.both.log_holds in
@@ -77,7 +77,7 @@ ends_behind store site newest records table commits lsn h behind =
     (omega (arith, hi, next, log.ready.records.tail.end, behind, last), omega (arith, hi, next, behind, last))
 
 -- a record behind the last one begins a new transaction
-pub fresh_behind : (store : Store) (site : Site) (newest : Option Master) (records : List Entry) (table : List Content) (commits lsn : ℕ) (h : Holds store site newest records table commits) → end_of store.log ≤ lsn → IsFresh lsn records
+pub fresh_behind : (store : Store) (site : Site) (newest : Option Master) (records : List Entry) (table : List Content) (commits lsn : ℕ) (h : Represents store site newest records table commits) → end_of store.log ≤ lsn → IsFresh lsn records
 fresh_behind store site newest records table commits lsn h behind =
     let log = h.both.log_holds in
     let p = picture_under newest (sizes_of store) site.image log.blocks in
@@ -86,7 +86,7 @@ fresh_behind store site newest records table commits lsn h behind =
     (subst AreOrderly (sym log.runs_on.records_are) h.orderly) (ends_behind store site newest records table commits lsn h behind).0)
 
 -- which redo doesn't leave out
-pub begins_late : (store : Store) (site : Site) (newest : Option Master) (records : List Entry) (table : List Content) (commits lsn : ℕ) (h : Holds store site newest records table commits) → end_of store.log ≤ lsn → 512 * (master_of newest).redo ≤ lsn
+pub begins_late : (store : Store) (site : Site) (newest : Option Master) (records : List Entry) (table : List Content) (commits lsn : ℕ) (h : Represents store site newest records table commits) → end_of store.log ≤ lsn → 512 * (master_of newest).redo ≤ lsn
 begins_late store site newest records table commits lsn h behind =
     omega (arith, h.both.log_holds.runs_on.carries.sound.redo_before_end, (ends_behind store site newest records table commits lsn h behind).1)
 
@@ -160,7 +160,7 @@ free newest records active s are table number none t lives = by (follow.has_writ
 
 -- What a record has.
 
-pub value_is : (engine : Engine) (site : Site) (s : State) (fits : Fits engine site s) (number : ℕ) → number < 32 * (sizes_of engine.store).pages →
+pub value_is : (engine : Engine) (site : Site) (s : State) (fits : Matches engine site s) (number : ℕ) → number < 32 * (sizes_of engine.store).pages →
     content_at s.table number ≡ value_of fits.records (versions_on (sizes_of engine.store) site.image) number
 value_is engine site s fits number less =
     let count = length-versions (sizes_of engine.store) site.image in
@@ -168,7 +168,7 @@ value_is engine site s fits number less =
     ∙ content_of_table fits.records (versions_on (sizes_of engine.store) site.image) number (subst (λ (n : ℕ). number < 32 * n) (sym count) less)
 
 -- a session sees what is shown, where it may read it
-pub seen_is : (engine : Engine) (site : Site) (s : State) (fits : Fits engine site s) (n number : ℕ) (own : Active) → IsTable engine.active → number < 32 * (sizes_of engine.store).pages → entry_of engine.active n ≡ Some own → model.busy_read s (Some n) number ≡ None →
+pub seen_is : (engine : Engine) (site : Site) (s : State) (fits : Matches engine site s) (n number : ℕ) (own : Active) → IsTable engine.active → number < 32 * (sizes_of engine.store).pages → entry_of engine.active n ≡ Some own → model.busy_read s (Some n) number ≡ None →
     seen s n number ≡ shown_in engine.store site fits.records number
 seen_is engine site s fits n number own table less at none =
     let versions = versions_on (sizes_of engine.store) site.image in
@@ -180,7 +180,7 @@ seen_is engine site s fits n number own table less at none =
     ∙ sym (shown_is_seen fits.records versions own.begin number (undoable engine.store site fits.newest fits.records s.table s.commits fits.holds) under.lives.not_closed (free_for fits.newest fits.records engine.active s fits.sessions table n number own at none))
 
 -- so does one outside sessions
-pub got_is : (engine : Engine) (site : Site) (s : State) (fits : Fits engine site s) (number : ℕ) → IsTable engine.active → number < 32 * (sizes_of engine.store).pages → model.busy_read s None number ≡ None →
+pub got_is : (engine : Engine) (site : Site) (s : State) (fits : Matches engine site s) (number : ℕ) → IsTable engine.active → number < 32 * (sizes_of engine.store).pages → model.busy_read s None number ≡ None →
     content_at s.table number ≡ shown_in engine.store site fits.records number
 got_is engine site s fits number table less none =
     value_is engine site s fits number less

@@ -2,7 +2,7 @@
 use Rattle.std.proofs.Common.{◌≡◌, ◌≢◌, ℕ, zero, suc, ◌+◌, ◌==◌, ◌<◌, ◌≤◌, Bool, true, false, cond, List, [], ◌∷◌, ◌++◌, length, map, take, get_or, slice_get, Some, option_map, refl, sym, ap, ◌∙◌, arith}
 use Rattle.std.proofs.lemmas.List.{get_or-map, length-map, map-append}
 use Rattle.std.proofs.lemmas.List.Elements.{All-from_recursion}
-use Rattle.page_store.proofs.Lines.{taken_more}
+use Rattle.std_lemmas.proofs.Lists.{take_next}
 use Rattle.checkpoint.specs.declared.pairs.Pair.{Pair}
 use Rattle.checkpoint.specs.Actives.{Ascend, no_pair}
 use Rattle.txn_table.specs.declared.active.Active.{Active}
@@ -18,7 +18,7 @@ pairs_of entries = map pair_of entries
 -- one entry more is named
 pub one_more : (entries : List Active) (place : ℕ) (entry : Active) → slice_get entries place ≡ Some entry
     → pairs_of (take place entries) ++ pair_of entry ∷ [] ≡ pairs_of (take (place + 1) entries)
-one_more entries place entry at = sym (ap pairs_of (taken_more entries place entry at) ∙ map-append pair_of (take place entries) (entry ∷ []))
+one_more entries place entry at = sym (ap pairs_of (take_next entries place entry at) ∙ map-append pair_of (take place entries) (entry ∷ []))
 
 pub length-named : (entries : List Active) (place : ℕ) → place ≤ length entries → length (pairs_of (take place entries)) ≡ place
 length-named entries zero less = refl

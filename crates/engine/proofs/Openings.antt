@@ -1,4 +1,6 @@
 -- What a restart finds on devices.
+use Rattle.image_meaning.proofs.Reading.{spelled_again, each_has}
+use Rattle.std_lemmas.proofs.AllOf.{all_left, all_right}
 use Rattle.sealed_ring.proofs.Alters.{length-units}
 use Rattle.std.proofs.Common.{Option, ◌≡◌, zero, suc, ◌+◌, ◌-◌, ◌<◌, min, List, [], ◌∷◌, length, map, take, None, Some, refl, sym, ap, subst, ◌∙◌, arith, ℕ}
 use Rattle.std.specs.Prelude.{if◌then◌else◌}
@@ -9,7 +11,7 @@ use Rattle.std.proofs.lemmas.List.Concat.{flat_map-cons}
 use Rattle.std.proofs.lemmas.List.Sums.{sum_by-cons}
 use Rattle.site.specs.declared.geometry.Geometry.{Geometry}
 use Rattle.site.specs.State.{State, Image, IsQuiet}
-use Rattle.site.specs.Calls.{Goes, IsUnchanged}
+use Rattle.site.specs.Calls.{Preserves, IsUnchanged}
 use Rattle.site.specs.Moments.{Leaves, LeavesOnly}
 use Rattle.site.specs.Laws.{no_call, unchanged_calm, stays_honest, quiet_leaves}
 use Rattle.sealed_ring.specs.declared.ring.Ring.{Ring}
@@ -26,20 +28,19 @@ use Rattle.analysis.specs.Open.{Open, owed_one, owed_for}
 use Rattle.analysis.specs.Read.{loser_of}
 use Rattle.frame_group.specs.Groups.{Frame, group, frames_in, IsGroup}
 use Rattle.frame_group.specs.Versions.{frames_of}
-use Rattle.flash_cache.specs.Held.{HasFrames, HasGroups, groups_on}
+use Rattle.flash_cache.specs.Representation.{HasFrames, HasGroups, groups_on}
 use Rattle.log_store.specs.declared.store.LogStore.{LogStore}
-use Rattle.log_store.specs.Held as log_held
-use Rattle.log_store.specs.Held.{has_tail}
+use Rattle.log_store.specs.Representation as log_store
+use Rattle.log_store.specs.Representation.{has_tail}
 use Rattle.page_store.specs.declared.store.PageStore.{PageStore}
-use Rattle.page_store.specs.Held as page_held
+use Rattle.page_store.specs.Representation as page_store
 use Rattle.page_store.specs.Laws.{FitsBeside, GoesOnBeside}
 use Rattle.image_meaning.specs.Meaning.{IsUnused, IsFrameOf, AreGroups, HasNewest, saved_by, kept_by, picture_under}
 use Rattle.redo_undo.specs.Holding as both
 use Rattle.engine.specs.Image.{IsSound, Stands}
 use Rattle.engine.specs.Leaves.{LeavesTable}
 use Rattle.engine.specs.Restarting.{IsReady}
-use Rattle.redo_undo.proofs.Opens.{all_front, all_rest}
-use Rattle.redo_undo.proofs.Sames.{only_read}
+use Rattle.redo_undo.proofs.CallsInSequence.{only_read}
 use Rattle.redo_undo.proofs.Saved.{log_still}
 use Rattle.redo_undo.proofs.Forced.{none_now}
 
@@ -48,19 +49,6 @@ use Rattle.redo_undo.proofs.Forced.{none_now}
 each_exists : (g : Geometry) (frames : List Frame) → AllByRecursion (IsFrameOf g) frames → AllByRecursion (λ frame. frame.page < g.pages) frames
 each_exists g [] all = tt
 each_exists g (frame ∷ frames) all = (all.0.exists, each_exists g frames all.1)
-
-spelled : (contents : List (List ℕ)) → AllByRecursion (λ content. IsGroup content (frames_in content)) contents → contents ≡ map group (map frames_in contents)
-spelled [] all = refl
-spelled (content ∷ contents) all = λ i. all.0.spelled i ∷ spelled contents all.1 i
-
-are_groups : (g : Geometry) (contents : List (List ℕ)) → AllByRecursion (λ content. IsGroup content (frames_in content)) contents → AllByRecursion (IsFrameOf g) (frames_of contents) →
-    AllByRecursion (λ frames. HasFrames g frames (group frames)) (map frames_in contents)
-are_groups g [] all frames = tt
-are_groups g (content ∷ contents) all frames =
-    let parts = subst (AllByRecursion (IsFrameOf g)) (flat_map-cons frames_in content contents) frames in (
-      record { is_group = subst (λ (x : List ℕ). IsGroup x (frames_in content)) all.0.spelled all.0; exist = each_exists g (frames_in content) (all_front (IsFrameOf g) (frames_in content) (frames_of contents) parts) },
-      are_groups g contents all.1 (all_rest (IsFrameOf g) (frames_in content) (frames_of contents) parts),
-    )
 
 as_many : (contents : List (List ℕ)) → length (map frames_in contents) ≡ length contents
 as_many [] = refl
@@ -77,8 +65,8 @@ has_groups g image is =
     record {
       form = is.form;
       next = omega (arith, length-units s image.flash (hi - (s.slots - 1)) (min hi (s.slots - 1)), as_many contents, min-le_left hi (s.slots - 1));
-      are_groups = are_groups g contents is.each is.frames;
-      live = spelled contents is.each;
+      are_groups = each_has g contents is.each is.frames;
+      live = spelled_again contents is.each;
     }
 
 -- The newest master.
@@ -102,7 +90,7 @@ kept_is (Some m) = refl
 -- Calls that only read.
 
 -- where nothing of the log is unsealed and no more blocks than can be live are there, log and pages may go on
-pub both_go_on : GoesOnBeside → (log : LogStore) (pages : PageStore) (a b c : State) → Goes a b → Goes b c → log_held.MayGoOn log a → page_held.MayGoOn pages b → log.geometry ≡ pages.flash.geometry → log.used ≡ 2 → both.MayGoOn log pages c
+pub both_go_on : GoesOnBeside → (log : LogStore) (pages : PageStore) (a b c : State) → Preserves a b → Preserves b c → log_store.Invariant log a → page_store.Invariant pages b → log.geometry ≡ pages.flash.geometry → log.used ≡ 2 → both.Invariant log pages c
 both_go_on law log pages a b c first second log_may pages_may sizes empty = record {
   log_going = log_still log b c second (log_still log a b first log_may);
   pages_going = law pages b c second pages_may;
@@ -113,8 +101,8 @@ both_go_on law log pages a b c first second log_may pages_may sizes empty = reco
 }
 
 -- what was found there fits
-module _ (law : FitsBeside) (g : Geometry) (log : LogStore) (pages : PageStore) (a b c d : State) (first : Goes a b) (same_first : IsUnchanged a b) (second : Goes b c) (same_second : IsUnchanged b c) (third : Goes c d) (same_third : IsUnchanged c d) where
-  log_found : log_held.Finds log b → log_held.Finds log d
+module _ (law : FitsBeside) (g : Geometry) (log : LogStore) (pages : PageStore) (a b c d : State) (first : Preserves a b) (same_first : IsUnchanged a b) (second : Preserves b c) (same_second : IsUnchanged b c) (third : Preserves c d) (same_third : IsUnchanged c d) where
+  log_found : log_store.Finds log b → log_store.Finds log d
   log_found finds =
       let same : d.image ≡ b.image = same_third.image ∙ same_second.image in
       record {
@@ -123,8 +111,8 @@ module _ (law : FitsBeside) (g : Geometry) (log : LogStore) (pages : PageStore) 
         hi = subst (λ (i : Image). log.ring.hi ≡ hi_of (log_shape log.geometry) i.log) (sym same) finds.hi;
       }
 
-  pub ready_now : (masters : Ring) (m : Master) (newest : Option Master) (blocks : List (List LogRecord)) (table : List Content) (commits : ℕ) → pages.flash.geometry ≡ g → pages.pool.frames ≡ [] → log.kept ≡ m.kept → m ≡ saved_by newest → page_held.Fits pages c → Finds masters d → log_held.Finds log b →
-      log_held.HasBlocks log.geometry (kept_by newest) blocks b.image → log_held.HasTail log.tail log.used [] → IsSound newest g a.image blocks → Means (picture_under newest g a.image blocks) table commits →
+  pub ready_now : (masters : Ring) (m : Master) (newest : Option Master) (blocks : List (List LogRecord)) (table : List Content) (commits : ℕ) → pages.flash.geometry ≡ g → pages.pool.frames ≡ [] → log.kept ≡ m.kept → m ≡ saved_by newest → page_store.Matches pages c → Finds masters d → log_store.Finds log b →
+      log_store.HasBlocks log.geometry (kept_by newest) blocks b.image → log_store.HasTail log.tail log.used [] → IsSound newest g a.image blocks → Means (picture_under newest g a.image blocks) table commits →
       IsReady (record { log = log; pages = pages; masters = masters; master = m }) d newest blocks table commits
   ready_now masters m newest blocks table commits sizes empty keeps is fits ring finds held tail sound means =
       let back : d.image ≡ b.image = same_third.image ∙ same_second.image in
@@ -140,7 +128,7 @@ module _ (law : FitsBeside) (g : Geometry) (log : LogStore) (pages : PageStore) 
             blocks = log_found finds;
             records = record {
               kept = omega (arith, kept);
-              blocks = subst (λ (i : Image). log_held.HasBlocks log.geometry (kept_by newest) blocks i) (sym back) held;
+              blocks = subst (λ (i : Image). log_store.HasBlocks log.geometry (kept_by newest) blocks i) (sym back) held;
               tail = tail;
             };
           };

@@ -9,8 +9,8 @@ use Rattle.frame_group.specs.Laws.{FramesAreIn}
 use Rattle.second_chance.specs.declared.frame.Frame.{Frame as Known}
 use Rattle.second_chance.specs.Machine.{unread}
 use Rattle.second_chance.specs.Queue.{frame_of as known_of}
-use Rattle.flash_cache.specs.Held.{AllTogether, HasFrames, Shows}
-use Rattle.engine.specs.Going.{sizes_of}
+use Rattle.flash_cache.specs.Representation.{AllTogether, HasFrames, Shows}
+use Rattle.engine.specs.Invariant.{sizes_of}
 use Rattle.engine.specs.Listings.{QueueIsOnFlash}
 
 frames_are : FramesAreIn → (g : Geometry) (groups : List (List Frame)) → AllByRecursion (λ frames. HasFrames g frames (group frames)) groups → map frames_in (map group groups) ≡ groups
@@ -39,8 +39,7 @@ on_flash law engine site s fits =
     let has = pages.holds.has in
     let directory = engine.store.pages.flash.directory in
     let frames : map frames_in (units_on (group_shape g) site.image).live ≡ pages.groups = ap (map frames_in) has.live ∙ frames_are law g pages.groups has.are_groups in
-    let next = has.next in
     let long = ap length frames in
-    let first : hi_of (group_shape g) site.image.flash - length (map frames_in (units_on (group_shape g) site.image).live) ≡ directory.first = omega (arith, next, long) in
+    let first : hi_of (group_shape g) site.image.flash - length (map frames_in (units_on (group_shape g) site.image).live) ≡ directory.first = omega (arith, has.next, long) in
     let groups : map (map unread_of) (map frames_in (units_on (group_shape g) site.image).live) ≡ map (map unread) directory.groups = ap (map (map unread_of)) frames ∙ groups_shown directory.groups pages.groups pages.holds.shown in
     λ i. record { pool = []; queue = record { first = first i; groups = groups i } }

@@ -20,12 +20,12 @@ use Rattle.analysis.specs.Read.{IsTable, IsAnalysis}
 use Rattle.analysis.specs.Taken.{taken, TakenCommits}
 use Rattle.analysis.specs.Laws.{OneTable, TableOfUnfinished, OwedOfUnfinished}
 use Rattle.log_store.specs.declared.store.LogStore.{LogStore}
-use Rattle.log_store.specs.Held.{has_tail}
+use Rattle.log_store.specs.Representation.{has_tail}
 use Rattle.image_meaning.specs.Meaning.{picture_under, next_block_under, master_of}
-use Rattle.image_meaning.proofs.Sames.{next_block_is}
+use Rattle.image_meaning.proofs.UnchangedImages.{next_block_is}
 use Rattle.engine.specs.Image.{IsSound, log_under}
 use Rattle.page_store.specs.declared.store.PageStore.{PageStore}
-use Rattle.redo_undo.specs.Holding.{Holds, blocks_to}
+use Rattle.redo_undo.specs.Holding.{Represents, blocks_to}
 use Rattle.redo_undo.specs.Checkpointing.{MayBeMade}
 use Rattle.engine.specs.declared.restart.Opened.{Opened}
 use Rattle.engine.specs.declared.restart.Restarted.{Restarted}
@@ -65,7 +65,7 @@ few_commits opened site newest blocks table commits h =
     omega (arith, h.opened_is.means.count_is, h.opened_is.sound.records.commits.fit, next_of opened site newest blocks table commits h)
 
 -- so it is of a log and pages that hold together
-pub commits_fit : (log : LogStore) (pages : PageStore) (site : State) (newest : Option Master) (records : List Entry) (table : List Content) (commits : ℕ) → Holds log pages site newest records table commits → commits ≤ log.ring.hi
+pub commits_fit : (log : LogStore) (pages : PageStore) (site : State) (newest : Option Master) (records : List Entry) (table : List Content) (commits : ℕ) → Represents log pages site newest records table commits → commits ≤ log.ring.hi
 commits_fit log pages site newest records table commits h =
     let held = h.log_holds in
     let last = next_block_is newest held.blocks in

@@ -22,8 +22,8 @@ use Rattle.txn_table.specs.declared.active.Active.{Active}
 use Rattle.txn_table.specs.Entries.{IsTable, entry_of}
 use Rattle.txn_table.specs.Entries as entries
 use Rattle.engine.specs.declared.engine.Engine.{Engine}
-use Rattle.engine.specs.Going.{sizes_of}
-use Rattle.engine.specs.Fits.{Fits, SessionIs, IsFull, IsRefusedWith, IsCarriedOut}
+use Rattle.engine.specs.Invariant.{sizes_of}
+use Rattle.engine.specs.Representation.{Matches, SessionIs, IsFull, IsRefusedWith, IsCarriedOut}
 use Rattle.engine.proofs.Actives.{some_active, none_active}
 use Rattle.lock_table.specs.Locks as locks
 use Rattle.engine.proofs.Meanings.{same_size, busy_write_is, busy_read_is}
@@ -74,21 +74,21 @@ unfolding total
 of_eight (a ∷ b ∷ c ∷ d ∷ e ∷ x ∷ y ∷ z ∷ []) f is says = omega (arith, says 0, says 1, says 2, says 3, says 4, says 5, says 6, says 7)
 of_eight _ f is says = absurd (omega (arith, is))
 
-pub owed_same : (engine : Engine) (site : Site) (s : State) → Fits engine site s → IsTable engine.active → entries.owed engine.active ≡ model.owed s
+pub owed_same : (engine : Engine) (site : Site) (s : State) → Matches engine site s → IsTable engine.active → entries.owed engine.active ≡ model.owed s
 owed_same engine site s fits table =
     owed_is engine.active table
     ∙ of_eight s.sessions (owed_at engine.active) fits.sessions.count (λ n. each_owes fits.newest s.kept fits.records (entry_of engine.active n) (session_at s n) (fits.sessions.each n))
     ∙ sym (total_is s.sessions)
 
 -- the reply where there is no room
-pub full_is : {engine : Engine} {site : Site} {s : State} (more : ℕ) (r : Reply) → Fits engine site s → IsTable engine.active → IsFull engine more r → (r ≡ full s) × (nat_lt s.cap (used s + model.owed s + more) ≡ true)
+pub full_is : {engine : Engine} {site : Site} {s : State} (more : ℕ) (r : Reply) → Matches engine site s → IsTable engine.active → IsFull engine more r → (r ≡ full s) × (nat_lt s.cap (used s + model.owed s + more) ≡ true)
 full_is {engine = engine} {site = site} {s = s} more r fits table is =
     let owed = owed_same engine site s fits table in
     let cap = fits.counts.cap in
     let used_is : engine.store.made ≡ used s = omega (arith, fits.counts.made) in
     (is.full_is ∙ (λ i. reply.Full (used_is i) (owed i) (cap i)), lt-ltb s.cap (used s + model.owed s + more) (omega (arith, is.no_room, owed, used_is, cap)))
 
-pub full_refused : {engine : Engine} {site : Site} {s : State} (command : Command) (more : ℕ) {r : Reply} → Fits engine site s → IsTable engine.active →
+pub full_refused : {engine : Engine} {site : Site} {s : State} (command : Command) (more : ℕ) {r : Reply} → Matches engine site s → IsTable engine.active →
     IsFull engine more r →
     lacks_room s command ≡ nat_lt s.cap (used s + model.owed s + more) → refusal s command ≡ None → IsRefusedWith s command r
 full_refused {s = s} command more fits table is lacks none =
@@ -96,7 +96,7 @@ full_refused {s = s} command more fits table is lacks none =
     let r = no_room s command none (lacks ∙ both.1) in
     (r.0 ∙ ap (λ (x : Reply). let o : Outcome = record { after = s; reply = x } in o) (sym both.0), r.1)
 
-pub has_room : {engine : Engine} {site : Site} {s : State} (more : ℕ) → Fits engine site s → IsTable engine.active → engine.store.made + entries.owed engine.active + more ≤ engine.cap → nat_lt s.cap (used s + model.owed s + more) ≡ false
+pub has_room : {engine : Engine} {site : Site} {s : State} (more : ℕ) → Matches engine site s → IsTable engine.active → engine.store.made + entries.owed engine.active + more ≤ engine.cap → nat_lt s.cap (used s + model.owed s + more) ≡ false
 has_room {engine = engine} {site = site} {s = s} more fits table room =
     le-ltb s.cap (used s + model.owed s + more) (omega (arith, room, owed_same engine site s fits table, fits.counts.made, fits.counts.cap))
 
@@ -105,12 +105,12 @@ has_room {engine = engine} {site = site} {s = s} more fits table room =
 pub wants_active_is : (s : State) (n : ℕ) (session : Session) → session_at s n ≡ Some session → wants_active s n ≡ None
 wants_active_is s n session is = λ i. refuse_if (is_none (is i)) (reply.Refused BadSession)
 
-pub has_record : {engine : Engine} {site : Site} {s : State} (number : ℕ) → Fits engine site s → number < 32 * (sizes_of engine.store).pages → wants_record s number ≡ None
+pub has_record : {engine : Engine} {site : Site} {s : State} (number : ℕ) → Matches engine site s → number < 32 * (sizes_of engine.store).pages → wants_record s number ≡ None
 has_record {engine = engine} {site = site} {s = s} number fits less =
     let below : nat_le (length s.table) number ≡ false = lt-leb (length s.table) number (omega (arith, less, same_size engine site s fits)) in
     λ i. refuse_if (below i) (reply.Refused NoRecord)
 
-pub lacks_record : {engine : Engine} {site : Site} {s : State} (number : ℕ) → Fits engine site s → 32 * (sizes_of engine.store).pages ≤ number → wants_record s number ≡ Some (reply.Refused NoRecord)
+pub lacks_record : {engine : Engine} {site : Site} {s : State} (number : ℕ) → Matches engine site s → 32 * (sizes_of engine.store).pages ≤ number → wants_record s number ≡ Some (reply.Refused NoRecord)
 lacks_record {engine = engine} {site = site} {s = s} number fits more =
     let from : nat_le (length s.table) number ≡ true = le-leb (length s.table) number (omega (arith, more, same_size engine site s fits)) in
     λ i. refuse_if (from i) (reply.Refused NoRecord)
@@ -130,30 +130,30 @@ pub has : (o : Option Active) → IsSome o → Has o
 has (Some own) some = record { own = own; is = refl }
 has None some = absurd (true≢false (sym some))
 
-pub is_active : {engine : Engine} {site : Site} {s : State} (n : ℕ) → Fits engine site s → IsSome (entry_of engine.active n) → wants_active s n ≡ None
+pub is_active : {engine : Engine} {site : Site} {s : State} (n : ℕ) → Matches engine site s → IsSome (entry_of engine.active n) → wants_active s n ≡ None
 is_active {engine = engine} {s = s} n fits some =
     let own = has (entry_of engine.active n) some in
     let session = some_active fits.newest fits.records engine.active s fits.sessions n own.own own.is in
     wants_active_is s n session.session session.is
 
 -- a session that isn't active
-pub idle_session : {engine : Engine} {site : Site} {s : State} (n : ℕ) → Fits engine site s → entry_of engine.active n ≡ None →
+pub idle_session : {engine : Engine} {site : Site} {s : State} (n : ℕ) → Matches engine site s → entry_of engine.active n ≡ None →
     wants_active s n ≡ Some (reply.Refused BadSession)
 idle_session {engine = engine} {s = s} n fits none =
     let idle : session_at s n ≡ None = none_active fits.newest fits.records engine.active s fits.sessions n none in
     λ i. refuse_if (is_none (idle i)) (reply.Refused BadSession)
 
-pub refused_session : (engine : Engine) (site : Site) (s : State) (command : Command) (n : ℕ) → Fits engine site s → entry_of engine.active n ≡ None → refusal s command ≡ wants_active s n →
+pub refused_session : (engine : Engine) (site : Site) (s : State) (command : Command) (n : ℕ) → Matches engine site s → entry_of engine.active n ≡ None → refusal s command ≡ wants_active s n →
     IsRefusedWith s command (reply.Refused BadSession)
 refused_session engine site s command n fits none test = refused s command (reply.Refused BadSession) (test ∙ idle_session n fits none)
 
 -- whether another session has the record, as the locks say it
-pub may_write_is : {engine : Engine} {site : Site} {s : State} (own : Option ℕ) (number : ℕ) {r o : Option Reply} → Fits engine site s →
+pub may_write_is : {engine : Engine} {site : Site} {s : State} (own : Option ℕ) (number : ℕ) {r o : Option Reply} → Matches engine site s →
     r ≡ option_map reply.Busy (locks.busy_write engine.locks own number) → r ≡ o → may_write s own number ≡ o
 may_write_is {engine = engine} {s = s} own number fits says is = ap (option_map reply.Busy) (sym (busy_write_is engine.locks s fits.locks_are own number))
     ∙ sym says ∙ is
 
-pub may_read_is : {engine : Engine} {site : Site} {s : State} (own : Option ℕ) (number : ℕ) {r o : Option Reply} → Fits engine site s →
+pub may_read_is : {engine : Engine} {site : Site} {s : State} (own : Option ℕ) (number : ℕ) {r o : Option Reply} → Matches engine site s →
     r ≡ option_map reply.Busy (locks.busy_read engine.locks own number) → r ≡ o → may_read s own number ≡ o
 may_read_is {engine = engine} {s = s} own number fits says is = ap (option_map reply.Busy) (sym (busy_read_is engine.locks s fits.locks_are own number)) ∙ sym
     says ∙ is

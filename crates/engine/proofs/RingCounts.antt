@@ -1,4 +1,5 @@
 -- The numbers of the rings' units, over the calls of the database.
+use Rattle.record_model.proofs.StepLaws.{effect_makes}
 use Rattle.engine.proofs.Replies.{way}
 use Rattle.redo_undo.proofs.Touched.{tail_blocks}
 use Rattle.std.proofs.Common.{◌≡◌, ◌+◌, ◌≤◌, Bool, true, false, List, [], Option, None, Some, ap, subst, arith, ℕ}
@@ -17,15 +18,15 @@ use Rattle.log_records.specs.declared.log_record.LogRecord.{LogRecord}
 use Rattle.log_records.specs.Log.{Entry}
 use Rattle.log_records.specs.Unfinished.{owed}
 use Rattle.log_store.specs.declared.store.LogStore.{LogStore}
-use Rattle.log_store.specs.Held.{has_tail}
+use Rattle.log_store.specs.Representation.{has_tail}
 use Rattle.checkpoint.specs.declared.master.Master.{Master}
 use Rattle.redo_undo.specs.Holding.{blocks_to}
 use Rattle.redo_undo.specs.Numbers.{SkipsNone}
 use Rattle.redo_undo.proofs.RingNumbers.{skips_nothing, hi_on}
 use Rattle.engine.specs.declared.engine.Engine.{Engine}
 use Rattle.engine.specs.declared.restart.Opened.{Opened}
-use Rattle.engine.specs.Fits.{Fits, run_now}
-use Rattle.engine.specs.Going.{MayGoOn, sizes_of}
+use Rattle.engine.specs.Representation.{Matches, run_now}
+use Rattle.engine.specs.Invariant.{Invariant, sizes_of}
 use Rattle.engine.specs.Restarting.{IsReady}
 use Rattle.engine.specs.Numbers.{CountsOn, RestartsWithin}
 use Rattle.site.proofs.Working.{ok_as}
@@ -73,24 +74,14 @@ count_then r x old mid new before middle now s u after m m' k same first second 
 -- Nothing is called.
 
 -- the ring's next number is the one that stands there
-next_there : (engine : Engine) (site : Site) (s : State) → Fits engine site s → MayGoOn engine site → engine.store.log.ring.hi ≡ hi_of (log_shape (sizes_of engine.store)) site.image.log
+next_there : (engine : Engine) (site : Site) (s : State) → Matches engine site s → Invariant engine site → engine.store.log.ring.hi ≡ hi_of (log_shape (sizes_of engine.store)) site.image.log
 next_there engine site s fits going = hi_on engine.store.log.geometry (sizes_of engine.store) engine.store.log site.image going.store.both.sizes fits.holds.both.log_holds.ready.blocks.hi
 
-pub count_nothing : {T E : Type 0} (r : Result T E) (engine : Engine) (site : Site) (s after : State) → Fits engine site s → MayGoOn engine site → s.made ≤ after.made → CountsOn r engine engine site site s after 0
+pub count_nothing : {T E : Type 0} (r : Result T E) (engine : Engine) (site : Site) (s after : State) → Matches engine site s → Invariant engine site → s.made ≤ after.made → CountsOn r engine engine site site s after 0
 count_nothing r engine site s after fits going few =
     counts r engine engine site site s after 0 0 (skips_nothing r (sizes_of engine.store) engine.store.log site 0 (next_there engine site s fits going)) (omega (arith, few))
 
 -- A checkpoint comes first.
-
--- no command lets the count of records fall
-effect_makes : (s : State) (command : Command) → s.made ≤ (effect s command).made
-effect_makes s (Begin n) = omega arith
-effect_makes s (Write n number value) = omega arith
-effect_makes s (Erase n number) = omega arith
-effect_makes s (Commit n) = omega arith
-effect_makes s (Abort n) = omega arith
-effect_makes s (Set number value) = omega arith
-effect_makes s _ = omega arith
 
 pub run_makes : (s : State) (command : Command) → s.made ≤ (run_now s command).after.made
 run_makes s command = by (refusal s command)

@@ -13,7 +13,7 @@ use Rattle.record_model.specs.State.{Content, Session, State, session_at, writes
 use Rattle.record_model.specs.Step.{first_refusal, item, having_read, may_read}
 use Rattle.lock_table.specs.declared.lock.Lock.{Lock}
 use Rattle.lock_table.specs.Locks.{AddsLock, has_written, busy_read}
-use Rattle.engine.specs.Fits.{LocksAre, with_read, with_reads}
+use Rattle.engine.specs.Representation.{LocksAre, with_read, with_reads}
 use Rattle.engine.specs.Scans.{first_busy, items_seen, items_of}
 use Rattle.engine.proofs.Meanings.{busy_read_is}
 

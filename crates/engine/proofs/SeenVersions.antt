@@ -19,15 +19,15 @@ use Rattle.txn_table.specs.Entries.{entry_of}
 use Rattle.buffer_pool.specs.declared.frame.Frame.{Frame}
 use Rattle.buffer_pool.specs.Frames.{frame_of}
 use Rattle.second_chance.specs.Machine.{is_changed}
-use Rattle.flash_cache.specs.Held.{version_on}
+use Rattle.flash_cache.specs.Representation.{version_on}
 use Rattle.image_meaning.specs.Meaning.{version_in, versions_on}
 use Rattle.image_meaning.proofs.Versions.{version_is as version_at_is}
 use Rattle.page_store.specs.declared.store.PageStore.{PageStore}
 use Rattle.page_store.specs.Caching.{cache_of, pool_page}
-use Rattle.page_store.specs.Held.{content_by, current}
+use Rattle.page_store.specs.Representation.{content_by, current}
 use Rattle.engine.specs.declared.engine.Engine.{Engine}
-use Rattle.engine.specs.Fits.{Fits, SessionIs}
-use Rattle.engine.specs.Going.{sizes_of}
+use Rattle.engine.specs.Representation.{Matches, SessionIs}
+use Rattle.engine.specs.Invariant.{sizes_of}
 use Rattle.engine.specs.SeenVersions.{WhereItFits}
 use Rattle.engine.proofs.Actives.{some_active}
 use Rattle.engine.proofs.Meanings.{undoable, value_is, writer}
@@ -55,7 +55,7 @@ entry_with newest kept records number None (Some session) is written = absurd is
 entry_with newest kept records number (Some entry) None is written = absurd is
 entry_with newest kept records number (Some entry) (Some session) is written = (entry, refl)
 
-module _ (engine : Engine) (site : Site) (s : State) (fits : Fits engine site s) (number : ℕ) (less : number < 32 * (sizes_of engine.store).pages) where
+module _ (engine : Engine) (site : Site) (s : State) (fits : Matches engine site s) (number : ℕ) (less : number < 32 * (sizes_of engine.store).pages) where
   abbrev versions : List Version
   versions = versions_on (sizes_of engine.store) site.image
 

@@ -23,7 +23,7 @@ use Rattle.log_laws.proofs.Losers.{entries_other, active_begun, active_may_write
 use Rattle.log_laws.proofs.Values.{closed_same}
 use Rattle.lock_table.specs.declared.lock.Lock.{Lock}
 use Rattle.lock_table.specs.Locks as locks
-use Rattle.log_store.specs.Held.{end_of}
+use Rattle.log_store.specs.Representation.{end_of}
 use Rattle.txn_table.specs.declared.active.Active.{Active}
 use Rattle.txn_table.specs.Entries.{IsTable, entry_of}
 use Rattle.txn_table.specs.Entries as entries
@@ -32,11 +32,11 @@ use Rattle.redo_undo.specs.Holding.{blocks_to}
 use Rattle.redo_undo.specs.Committing.{MayCommit}
 use Rattle.redo_undo.specs.declared.store.Store.{Store}
 use Rattle.engine.specs.declared.engine.Engine.{Engine}
-use Rattle.engine.specs.Going.{sizes_of}
-use Rattle.redo_undo.specs.Stores.{Holds, MayGrow, shown_in, update_by}
+use Rattle.engine.specs.Invariant.{sizes_of}
+use Rattle.redo_undo.specs.Stores.{Represents, MayGrow, shown_in, update_by}
 use Rattle.redo_undo.specs.StoreRollback.{ConcernsOnly}
 use Rattle.engine.specs.OneWrite.{HasOneWrite}
-use Rattle.engine.specs.Fits.{Fits, SessionsAre, LocksAre}
+use Rattle.engine.specs.Representation.{Matches, SessionsAre, LocksAre}
 use Rattle.engine.proofs.Meanings.{busy_write_is, begins_late, free, fresh_behind, none_of}
 use Rattle.engine.proofs.Actives.{some_active, not_fresh}
 use Rattle.engine.proofs.Aborts.{others_go_on}
@@ -78,7 +78,7 @@ abbrev pub update_at : ℕ → ℕ → ℕ → Content → Content → Entry
 update_at txn lsn number before after = record { lsn = lsn; rec = update_by txn txn number before after }
 
 -- a new transaction's Begin may be logged where there is room for more
-pub may_begin : (engine : Engine) (old : Site) (s : State) (fits : Fits engine old s) (txn : ℕ) → end_of engine.store.log ≤ txn → engine.store.made + entries.owed engine.active + 2 ≤ engine.cap → blocks_to engine.store.log ≤ engine.store.log.kept + engine.store.made → engine.cap + 1 ≡ (sizes_of engine.store).blocks →
+pub may_begin : (engine : Engine) (old : Site) (s : State) (fits : Matches engine old s) (txn : ℕ) → end_of engine.store.log ≤ txn → engine.store.made + entries.owed engine.active + 2 ≤ engine.cap → blocks_to engine.store.log ≤ engine.store.log.kept + engine.store.made → engine.cap + 1 ≡ (sizes_of engine.store).blocks →
     MayGrow engine.store old fits.newest fits.records (begin_at txn)
 may_begin engine old s fits txn behind room blocks cap =
     let fresh = fresh_behind engine.store old fits.newest fits.records s.table s.commits txn fits.holds behind in
@@ -88,7 +88,7 @@ may_begin engine old s fits txn behind room blocks cap =
       room = omega (arith, owed_begin fits.records txn fresh, fits.sessions.owes, room, blocks, cap);
     }
 
-module _ (engine : Engine) (old : Site) (s : State) (number : ℕ) (fits : Fits engine old s) (table : IsTable engine.active) (less : number < 32 * (sizes_of engine.store).pages)
+module _ (engine : Engine) (old : Site) (s : State) (number : ℕ) (fits : Matches engine old s) (table : IsTable engine.active) (less : number < 32 * (sizes_of engine.store).pages)
     (room : engine.store.made + entries.owed engine.active + 4 ≤ engine.cap) (blocks : blocks_to engine.store.log ≤ engine.store.log.kept + engine.store.made) (cap : engine.cap + 1 ≡ (sizes_of engine.store).blocks)
     (unlocked : locks.busy_write engine.locks None number ≡ None) (txn : ℕ) (behind : end_of engine.store.log ≤ txn) where
   fresh : IsFresh txn fits.records
@@ -120,7 +120,7 @@ module _ (engine : Engine) (old : Site) (s : State) (number : ℕ) (fits : Fits 
 
   -- both are logged
   pub one_write : (store : Store) (site : Site) (lsn : ℕ) (before after : Content) →
-      Holds store site fits.newest ((fits.records ++ begin_at txn ∷ []) ++ update_at txn lsn number before after ∷ []) s.table s.commits → HasOneWrite store site fits.newest fits.records s.table s.commits txn number after
+      Represents store site fits.newest ((fits.records ++ begin_at txn ∷ []) ++ update_at txn lsn number before after ∷ []) s.table s.commits → HasOneWrite store site fits.newest fits.records s.table s.commits txn number after
   one_write store site lsn before after holds =
       let log = fits.records ++ begin_at txn ∷ [] in
       let e = update_at txn lsn number before after in
@@ -153,26 +153,25 @@ pub may_commit_one : (store : Store) (site : Site) (newest : Option Master) (rec
 may_commit_one store site newest records table commits txn number next after w is = record { begun = w.active.lives; chain = w.active.chain; number_is = ap (λ (n : ℕ). n + 1) is }
 
 -- It is committed.
-pub set_fits : (engine one last : Engine) (old between new : Site) (s : State) (number txn lsn : ℕ) (after : Content) (fits : Fits engine old s) (w : HasOneWrite one.store between fits.newest fits.records s.table s.commits txn number after) → IsTrue new.honest →
-    Holds last.store new fits.newest (w.log ++ record { lsn = lsn; rec = Commit txn (one.commits + 1) } ∷ []) (table_with s.table (writes_in txn w.log)) (s.commits + 1) →
+pub set_fits : (engine one last : Engine) (old between new : Site) (s : State) (number txn lsn : ℕ) (after : Content) (fits : Matches engine old s) (w : HasOneWrite one.store between fits.newest fits.records s.table s.commits txn number after) → IsTrue new.honest →
+    Represents last.store new fits.newest (w.log ++ record { lsn = lsn; rec = Commit txn (one.commits + 1) } ∷ []) (table_with s.table (writes_in txn w.log)) (s.commits + 1) →
     one ≡ record engine { store = one.store } → last ≡ record one { store = last.store; commits = last.commits } → last.commits ≡ one.commits + 1 →
     one.store.made ≡ engine.store.made + 2 → last.store.made ≡ one.store.made + 1 →
-    Fits last new (making 3 (committed s ((number, after) ∷ [])))
+    Matches last new (making 3 (committed s ((number, after) ∷ [])))
 set_fits engine one last old between new s number txn lsn after fits w honest holds rest_one rest_last commits made_one made_last =
     let e : Entry = record { lsn = lsn; rec = Commit txn (one.commits + 1) } in
     let log = w.log ++ e ∷ [] in
     let owes_two = active_owes (master_of fits.newest) w.log txn w.last ((number, after) ∷ []) w.active in
     let owes = owed_closing w.log e refl w.active.lives.not_closed w.active.chain in
-    let before = w.owes in
     let engine_is : last ≡ record engine { store = last.store; commits = last.commits } = rest_last ∙ ap (λ (x : Engine). record x { store = last.store; commits = last.commits }) rest_one in
-    let done = unconcerned fits.newest fits.records log engine.active s txn fits.sessions w.fresh (concerns_more fits.newest txn fits.records w.log e refl w.concerns) (loser_is_closed w.log e refl) (omega (arith, owes, owes_two, before)) in
+    let done = unconcerned fits.newest fits.records log engine.active s txn fits.sessions w.fresh (concerns_more fits.newest txn fits.records w.log e refl w.concerns) (loser_is_closed w.log e refl) (omega (arith, owes, owes_two, w.owes)) in
     let kept = subst (λ (a : List Active). SessionsAre fits.newest log a s) (sym (ap (λ (x : Engine). x.active) engine_is)) done in
     let held = subst (λ (l : List Lock). LocksAre l s) (sym (ap (λ (x : Engine). x.locks) engine_is)) fits.locks_are in
     record {
       honest = honest;
       newest = fits.newest;
       records = log;
-      holds = subst (λ (ws : List Write). Holds last.store new fits.newest log (table_with s.table ws) (s.commits + 1)) (sym w.active.writes_are) holds;
+      holds = subst (λ (ws : List Write). Represents last.store new fits.newest log (table_with s.table ws) (s.commits + 1)) (sym w.active.writes_are) holds;
       counts = record {
         commits = commits ∙ ap (λ (n : ℕ). n + 1) (ap (λ (x : Engine). x.commits) rest_one ∙ fits.counts.commits);
         made = omega (arith, made_last, made_one, fits.counts.made);

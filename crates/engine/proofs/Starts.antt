@@ -16,9 +16,9 @@ use Rattle.redo_undo.specs.declared.store.Store.{Store}
 use Rattle.engine.specs.declared.engine.Engine.{Engine}
 use Rattle.engine.specs.declared.restart.Restarted.{Restarted}
 use Rattle.engine.specs.Image.{Opens}
-use Rattle.redo_undo.specs.Stores.{Holds}
+use Rattle.redo_undo.specs.Stores.{Represents}
 use Rattle.engine.specs.Restarting.{RestartedAs}
-use Rattle.engine.specs.Fits.{Fits, SessionIs, SessionsAre, LocksAre}
+use Rattle.engine.specs.Representation.{Matches, SessionIs, SessionsAre, LocksAre}
 
 -- nobody is at work when it begins
 nobody : (n : ℕ) (sessions : List (Option Session)) → sessions ≡ replicate 8 None → slice_index_or sessions n None ≡ None
@@ -50,7 +50,7 @@ unlocked s is = record {
 
 -- the database stands for the state that the run opens with
 pub started : OwedNone → (g : Geometry) (image : Image) (site : Site) (s : State) (restarted : Restarted) (engine : Engine) → IsTrue site.honest → (opening : Opens g image s) → RestartedAs restarted site s.table s.commits → restarted.blocks ≡ g.blocks →
-    engine.store ≡ restarted.store → engine.commits ≡ restarted.commits → engine.cap ≡ restarted.blocks - 1 → engine.active ≡ [] → engine.locks ≡ [] → Fits engine site s
+    engine.store ≡ restarted.store → engine.commits ≡ restarted.commits → engine.cap ≡ restarted.blocks - 1 → engine.active ≡ [] → engine.locks ≡ [] → Matches engine site s
 started law g image site s restarted engine honest opening done blocks store_is commits_is cap_is active_is locks_is =
     let sessions_are : s.sessions ≡ replicate 8 None = ap (λ (x : State). x.sessions) opening.state in
     let sessions = subst (λ (a : List Active). SessionsAre done.newest done.records a s) (sym active_is) (idle done.newest done.records s done.finished (law done.records done.finished) sessions_are) in
@@ -58,7 +58,7 @@ started law g image site s restarted engine honest opening done blocks store_is 
       honest = honest;
       newest = done.newest;
       records = done.records;
-      holds = subst (λ (j : Store). Holds j site done.newest done.records s.table s.commits) (sym store_is) done.holds;
+      holds = subst (λ (j : Store). Represents j site done.newest done.records s.table s.commits) (sym store_is) done.holds;
       counts = record {
         commits = commits_is ∙ done.commits_are;
         made =

@@ -12,7 +12,7 @@ use Rattle.txn_table.specs.declared.active.Active.{Active}
 use Rattle.txn_table.specs.Entries.{IsTable, entry_of}
 use Rattle.txn_table.proofs.BySession.{sum-by_session}
 use Rattle.engine.specs.declared.engine.Engine.{Engine}
-use Rattle.engine.specs.Fits.{Fits, SessionIs}
+use Rattle.engine.specs.Representation.{Matches, SessionIs}
 
 abbrev one_of : Option Session → ℕ
 one_of o = option_map_or (λ (session : Session). 1) o 0
@@ -42,7 +42,7 @@ unfolding ones
 of_eight (a ∷ b ∷ c ∷ d ∷ e ∷ x ∷ y ∷ z ∷ []) f is says = omega (arith, says 0, says 1, says 2, says 3, says 4, says 5, says 6, says 7)
 of_eight _ f is says = absurd (omega (arith, is))
 
-pub active_same : (engine : Engine) (site : Site) (s : State) → Fits engine site s → IsTable engine.active → length engine.active ≡ length (active_sessions s)
+pub active_same : (engine : Engine) (site : Site) (s : State) → Matches engine site s → IsTable engine.active → length engine.active ≡ length (active_sessions s)
 active_same engine site s fits table =
     sym (length_is engine.active)
     ∙ sum-by_session (λ entry. 1) engine.active table

@@ -1,7 +1,6 @@
 -- A session's read, and its write.
 use Rattle.engine.proofs.Scans.{none_more_written}
-use Rattle.redo_undo.proofs.Pendings.{or_false}
-use Rattle.engine.proofs.Firsts.{and_true}
+use Rattle.std.proofs.Math.Bool.{or-false, and-true}
 use Rattle.image_meaning.proofs.Versions.{length-versions}
 use Rattle.checkpoint.specs.declared.master.Master.{Master}
 use Rattle.std.proofs.Common.{◌≡◌, ℕ, ◌+◌, ◌*◌, ◌/◌, ◌%◌, ◌<◌, ◌≤◌, ◌&&◌, ◌||◌, ◌==◌, Bool, true, false, not, cond, ◌++◌, ◌∷◌, [], List, length, find, Option, None, Some, ⊎_elim, refl, sym, ap, subst, ◌∙◌, arith, IsTrue, get_or-set_same, get_or-set_other, length-set}
@@ -28,9 +27,9 @@ use Rattle.engine.specs.declared.engine.Engine.{Engine}
 use Rattle.image_meaning.specs.Meaning.{master_of, versions_on}
 use Rattle.redo_undo.specs.Holding.{blocks_to}
 use Rattle.redo_undo.specs.declared.store.Store.{Store}
-use Rattle.engine.specs.Going.{sizes_of}
-use Rattle.redo_undo.specs.Stores.{Holds, MayGrow, shown_in, update_by}
-use Rattle.engine.specs.Fits.{Fits, LocksAre, SessionIs, SessionsAre, with_write, with_read}
+use Rattle.engine.specs.Invariant.{sizes_of}
+use Rattle.redo_undo.specs.Stores.{Represents, MayGrow, shown_in, update_by}
+use Rattle.engine.specs.Representation.{Matches, LocksAre, SessionIs, SessionsAre, with_write, with_read}
 use Rattle.engine.proofs.Actives.{some_active}
 use Rattle.engine.proofs.Changes.{wrote_more}
 use Rattle.engine.proofs.Locks.{at_set}
@@ -58,14 +57,14 @@ added_write old new s n number after session small is adds are = record {
   written = λ m r. ⊎_elim
       (λ (same : m ≡ n).
       adds.written m r
-      ∙ (λ i. are.written m r i || (eq-eqb n m (sym same) i && and_true (number == r) i))
+      ∙ (λ i. are.written m r i || (eq-eqb n m (sym same) i && and-true (number == r) i))
       ∙ ap (λ (o : Option Session). list_any (λ write. write.0 == r) (writes_of o) || (number == r)) (ap (session_at s) same ∙ is)
       ∙ sym (any_more (λ (write : Write). write.0 == r) session.writes (number, after))
       ∙ sym (ap (λ (o : Option Session). list_any (λ write. write.0 == r) (writes_of o)) (own m same)))
       (λ differ.
       adds.written m r
       ∙ (λ i. are.written m r i || (ne_eqb n m (λ e. differ (sym e)) i && (number == r && true)))
-      ∙ or_false (model.has_written s m r)
+      ∙ or-false (model.has_written s m r)
       ∙ sym (ap (λ (o : Option Session). list_any (λ write. write.0 == r) (writes_of o)) (get_or-set_other s.sessions n m now None differ)))
       (cases_eq m n);
   reads = λ m r.
@@ -85,14 +84,14 @@ added_read old new s n number session small is adds are = record {
   reads = λ m r. ⊎_elim
       (λ (same : m ≡ n).
       adds.reads m r
-      ∙ (λ i. are.reads m r i || (eq-eqb n m (sym same) i && and_true (number == r) i))
+      ∙ (λ i. are.reads m r i || (eq-eqb n m (sym same) i && and-true (number == r) i))
       ∙ ap (λ (o : Option Session). list_any (λ read. read == r) (reads_of o) || (number == r)) (ap (session_at s) same ∙ is)
       ∙ sym (any_more (λ (read : ℕ). read == r) session.reads number)
       ∙ sym (ap (λ (o : Option Session). list_any (λ read. read == r) (reads_of o)) (own m same)))
       (λ differ.
       adds.reads m r
       ∙ (λ i. are.reads m r i || (ne_eqb n m (λ e. differ (sym e)) i && (number == r && true)))
-      ∙ or_false (model.has_read s m r)
+      ∙ or-false (model.has_read s m r)
       ∙ sym (ap (λ (o : Option Session). list_any (λ read. read == r) (reads_of o)) (get_or-set_other s.sessions n m now None differ)))
       (cases_eq m n);
   written = λ m r.
@@ -132,7 +131,7 @@ may_read_too s n number = find_less (λ m. not (n == m) && model.has_written s m
 
 -- A write.
 
-pub may_write : (engine : Engine) (site : Site) (s : State) (fits : Fits engine site s) (entry : Active) (number lsn : ℕ) (after : Content) → IsTable engine.active → entry_of engine.active entry.session ≡ Some entry → number < 32 * (sizes_of engine.store).pages →
+pub may_write : (engine : Engine) (site : Site) (s : State) (fits : Matches engine site s) (entry : Active) (number lsn : ℕ) (after : Content) → IsTable engine.active → entry_of engine.active entry.session ≡ Some entry → number < 32 * (sizes_of engine.store).pages →
     locks.busy_write engine.locks (Some entry.session) number ≡ None → engine.store.made + entries.owed engine.active + 2 ≤ engine.cap → blocks_to engine.store.log ≤ engine.store.log.kept + engine.store.made → engine.cap + 1 ≡ (sizes_of engine.store).blocks →
     MayGrow engine.store site fits.newest fits.records (record { lsn = lsn; rec = update_by entry.begin entry.last number (shown_in engine.store site fits.records number) after })
 may_write engine site s fits entry number lsn after table at less free room blocks cap =
@@ -153,11 +152,11 @@ may_write engine site s fits entry number lsn after table at less free room bloc
       room = omega (arith, owed_update fits.records e refl active.lives.not_closed active.chain, fits.sessions.owes, room, blocks, cap);
     }
 
-pub write_fits : (engine last : Engine) (old new : Site) (s : State) (entry : Active) (number lsn : ℕ) (before after : Content) (fits : Fits engine old s) → IsTable engine.active → entry_of engine.active entry.session ≡ Some entry → IsTrue new.honest →
-    Holds last.store new fits.newest (fits.records ++ record { lsn = lsn; rec = update_by entry.begin entry.last number before after } ∷ []) s.table s.commits →
+pub write_fits : (engine last : Engine) (old new : Site) (s : State) (entry : Active) (number lsn : ℕ) (before after : Content) (fits : Matches engine old s) → IsTable engine.active → entry_of engine.active entry.session ≡ Some entry → IsTrue new.honest →
+    Represents last.store new fits.newest (fits.records ++ record { lsn = lsn; rec = update_by entry.begin entry.last number before after } ∷ []) s.table s.commits →
     last.store.made ≡ engine.store.made + 1 → last.commits ≡ engine.commits → last.cap ≡ engine.cap →
     AddsLock engine.locks last.locks entry.session number true → ChangesOnly engine.active last.active entry.session (Some (after_write entry lsn)) → entries.owed last.active ≡ entries.owed engine.active + 1 →
-    Fits last new (with_write s entry.session (number, after))
+    Matches last new (with_write s entry.session (number, after))
 write_fits engine last old new s entry number lsn before after fits table at honest holds made commits cap adds changes owes =
     let n = entry.session in
     let e : Entry = record { lsn = lsn; rec = update_by entry.begin entry.last number before after } in
@@ -183,14 +182,13 @@ pub read_more : (newest : Option Master) (records : List Entry) (active : List A
 read_more newest records active s n number entry are small at =
     let found = some_active newest records active s are n entry at in
     let under = found.under_way in
-    let count = are.count in
     let now : Option Session = option_map (having_read (number ∷ [])) (session_at s n) in
     record {
       count = length-set s.sessions n now ∙ are.count;
       each = λ m. ⊎_elim
           (λ (same : m ≡ n). subst (λ (k : ℕ). SessionIs newest s.kept records (entry_of active k) (slice_index_or (slice_set s.sessions n now) k None)) (sym same)
           (subst (λ (a : Option Active). SessionIs newest s.kept records a (slice_index_or (slice_set s.sessions n now) n None)) (sym at)
-          (subst (λ (o : Option Session). SessionIs newest s.kept records (Some entry) o) (sym (get_or-set_same s.sessions n now None (omega (arith, small, count)) ∙ ap (option_map (having_read (number ∷ []))) found.is))
+          (subst (λ (o : Option Session). SessionIs newest s.kept records (Some entry) o) (sym (get_or-set_same s.sessions n now None (omega (arith, small, are.count)) ∙ ap (option_map (having_read (number ∷ []))) found.is))
           (record { is_active = under.is_active; born = under.born; count = under.count }))))
           (λ differ. subst (λ (o : Option Session). SessionIs newest s.kept records (entry_of active m) o) (sym (get_or-set_other s.sessions n m now None differ)) (are.each m))
           (cases_eq m n);
@@ -200,7 +198,7 @@ read_more newest records active s n number entry are small at =
     }
 
 -- A page was touched.
-abbrev pub touched_fits : (engine : Engine) (store : Store) (old new : Site) (s : State) (fits : Fits engine old s) → IsTrue new.honest → Holds store new fits.newest fits.records s.table s.commits → store.made ≡ engine.store.made → Fits (record engine { store = store }) new s
+abbrev pub touched_fits : (engine : Engine) (store : Store) (old new : Site) (s : State) (fits : Matches engine old s) → IsTrue new.honest → Represents store new fits.newest fits.records s.table s.commits → store.made ≡ engine.store.made → Matches (record engine { store = store }) new s
 touched_fits engine store old new s fits honest holds made = record {
   honest = honest;
   newest = fits.newest;
@@ -211,8 +209,8 @@ touched_fits engine store old new s fits honest holds made = record {
   locks_are = fits.locks_are;
 }
 
-pub read_fits : (engine : Engine) (held : _) (site : Site) (s : State) (n number : ℕ) (entry : Active) (fits : Fits engine site s) → IsTable engine.active → entry_of engine.active n ≡ Some entry → AddsLock engine.locks held n number false →
-    Fits (record engine { locks = held }) site (with_read s n number)
+pub read_fits : (engine : Engine) (held : _) (site : Site) (s : State) (n number : ℕ) (entry : Active) (fits : Matches engine site s) → IsTable engine.active → entry_of engine.active n ≡ Some entry → AddsLock engine.locks held n number false →
+    Matches (record engine { locks = held }) site (with_read s n number)
 read_fits engine held site s n number entry fits table at adds =
     let found = some_active fits.newest fits.records engine.active s fits.sessions n entry at in
     let small = (entry_is engine.active n entry table at).small in

@@ -1,13 +1,13 @@
 pub mod Calls
-pub mod Fits
-pub mod Going
 pub mod Image
+pub mod Invariant
 pub mod Leaves
 pub mod Listings
 pub mod Numbers
 pub mod OneWrite
 pub mod Paging
 pub mod Permits
+pub mod Representation
 pub mod Restarting
 pub mod Scans
 pub mod SeenVersions

@@ -14,8 +14,8 @@ use Rattle.log_records.specs.Unfinished as unfinished
 use Rattle.log_store.specs.declared.store.LogStore.{LogStore}
 use Rattle.redo_undo.specs.Holding.{blocks_to}
 use Rattle.engine.specs.declared.engine.Engine.{Engine}
-use Rattle.engine.specs.Going.{MayGoOn, sizes_of}
-use Rattle.engine.specs.Fits.{Fits}
+use Rattle.engine.specs.Invariant.{Invariant, sizes_of}
+use Rattle.engine.specs.Representation.{Matches}
 
 -- how many checkpoints a command makes
 abbrev pub checkpoints_by : State → Command → ℕ
@@ -44,5 +44,5 @@ pub record RestartsWithin {T : Type 0} (result : Result T Stop) (log_of : T
 
 -- where nothing is called, nothing is counted
 abbrev pub RestCountsNothing : Type 0
-RestCountsNothing = (result : Result Reply Stop) (engine : Engine) (site : Site) (s : State) → Fits engine site s
-    → MayGoOn engine site → CountsOn result engine engine site site s s 0
+RestCountsNothing = (result : Result Reply Stop) (engine : Engine) (site : Site) (s : State) → Matches engine site s
+    → Invariant engine site → CountsOn result engine engine site site s s 0

@@ -8,7 +8,7 @@ use Rattle.log_laws.specs.Follow.{IsActive, IsFresh}
 use Rattle.checkpoint.specs.declared.master.Master.{Master}
 use Rattle.image_meaning.specs.Meaning.{master_of}
 use Rattle.redo_undo.specs.declared.store.Store.{Store}
-use Rattle.redo_undo.specs.Stores.{Holds}
+use Rattle.redo_undo.specs.Stores.{Represents}
 use Rattle.redo_undo.specs.StoreRollback.{ConcernsOnly}
 
 -- Behind these records a new transaction has written one record of the table, and isn't committed yet.
@@ -17,7 +17,7 @@ pub record HasOneWrite (store : Store) (site : State) (newest : Option Master) (
   pub log : List Entry
   pub fresh : IsFresh txn records
   pub concerns : ConcernsOnly newest txn records log
-  pub holds : Holds store site newest log table commits
+  pub holds : Represents store site newest log table commits
   pub last : ℕ
   pub active : IsActive (master_of newest) log txn last ((number, after) ∷ [])
   pub owes : owed log ≡ owed records + 2

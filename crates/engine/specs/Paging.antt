@@ -10,14 +10,15 @@ use Rattle.record_model.specs.Touches.{CacheWork}
 use Rattle.log_records.specs.Sound.{Picture}
 use Rattle.frame_group.specs.Groups.{frames_in}
 use Rattle.second_chance.specs.Queue.{Queue}
-use Rattle.flash_cache.specs.Held.{queue_of}
+use Rattle.flash_cache.specs.Representation.{queue_of}
 use Rattle.sealed_ring.specs.Ring.{hi_of}
 use Rattle.second_chance.specs.Machine.{Rules, Cache, after_works, staged_by_works}
 use Rattle.page_store.specs.declared.store.PageStore.{PageStore}
 use Rattle.page_store.specs.Caching.{cache_of, rules}
 use Rattle.page_store.specs.Staging.{WritesOnly}
 use Rattle.site.specs.Moments.{LeavesOnly}
-use Rattle.redo_undo.specs.Works.{redo_works, undo_works, checkpoint_works, next_group, Overflows, finds_in, misses_in}
+use Rattle.redo_undo.specs.MachineSteps.{redo_works, undo_works, checkpoint_works, next_group, Overflows, finds_in}
+use Rattle.redo_undo.specs.MachineSteps.{misses_in}
 
 -- the queue on flash: the live groups, none of their frames referenced
 abbrev pub queue_on : Geometry → Image → Queue

@@ -4,7 +4,7 @@ use Rattle.std.specs.List.{range_with_len}
 use Rattle.lock_table.specs.Locks.{busy_read, busy_write}
 use Rattle.txn_table.specs.Entries.{entry_of, owed}
 use Rattle.engine.specs.declared.engine.Engine.{Engine}
-use Rattle.engine.specs.Going.{sizes_of}
+use Rattle.engine.specs.Invariant.{sizes_of}
 use Rattle.engine.specs.Scans.{first_busy}
 
 -- the record exists, and no other session has written it

@@ -10,7 +10,7 @@ use Rattle.log_records.specs.Log.{Entry, is_loser}
 use Rattle.checkpoint.specs.Actives.{Ascend}
 use Rattle.checkpoint.specs.declared.master.Master.{Master}
 use Rattle.image_meaning.specs.Meaning.{saved_by, picture_under}
-use Rattle.log_store.specs.Held.{end_of}
+use Rattle.log_store.specs.Representation.{end_of}
 use Rattle.page_store.specs.Stopping.{MayStop}
 use Rattle.page_store.specs.Caching.{cache_of, rules}
 use Rattle.redo_undo.specs.Holding as both
@@ -18,8 +18,8 @@ use Rattle.redo_undo.specs.Holding.{blocks_to}
 use Rattle.redo_undo.specs.Redoing.{IsOpened}
 use Rattle.engine.specs.declared.restart.Opened.{Opened}
 use Rattle.engine.specs.declared.restart.Restarted.{Restarted}
-use Rattle.engine.specs.Going.{sizes_of}
-use Rattle.redo_undo.specs.Stores.{MayWork, Holds}
+use Rattle.engine.specs.Invariant.{sizes_of}
+use Rattle.redo_undo.specs.Stores.{MayWork, Represents}
 use Rattle.engine.specs.Image.{log_under}
 use Rattle.engine.specs.Leaves.{LeavesTable}
 use Rattle.engine.specs.Calls.{Ends}
@@ -31,7 +31,7 @@ use Rattle.analysis.specs.Taken.{TakenCommits}
 
 -- of every site: what was opened may be recovered
 pub record MayRecover (opened : Opened) (site : State) : Type 0 where
-  pub going : both.MayGoOn opened.log opened.pages site
+  pub going : both.Invariant opened.log opened.pages site
   pub ascend : Ascend opened.master.active
   pub few : length opened.master.active ≤ 8
   pub masters : IsUsable opened.masters site
@@ -49,7 +49,7 @@ pub record IsReady (opened : Opened) (site : State) (newest : Option Master) (bl
 pub record RestartedAs (restarted : Restarted) (site : State) (table : List Content) (commits : ℕ) : Type 0 where
   pub newest : Option Master
   pub records : List Entry
-  pub holds : Holds restarted.store site newest records table commits
+  pub holds : Represents restarted.store site newest records table commits
   pub finished : (t : ℕ) → is_loser records t ≡ false
   pub made : restarted.store.made ≡ 0
   pub commits_are : restarted.commits ≡ commits

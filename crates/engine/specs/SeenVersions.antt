@@ -8,8 +8,8 @@ use Rattle.second_chance.specs.Machine.{PoolPage, is_changed}
 use Rattle.image_meaning.specs.Meaning.{versions_on}
 use Rattle.page_store.specs.Caching.{cache_of}
 use Rattle.engine.specs.declared.engine.Engine.{Engine}
-use Rattle.engine.specs.Fits.{Fits}
-use Rattle.engine.specs.Going.{sizes_of}
+use Rattle.engine.specs.Representation.{Matches}
+use Rattle.engine.specs.Invariant.{sizes_of}
 
 -- A slot has what is seen of a record: by the session that has written it, or in the table where none has.
 pub record IsAsSeen (s : State) (number : ℕ) (slot : Content) : Type 0 where
@@ -23,5 +23,5 @@ VersionsAreSeen g pool image s = (number : ℕ) → number < 32 * g.pages → is
 
 -- so it is wherever the database stands for a state
 abbrev pub WhereItFits : Type 0
-WhereItFits = (engine : Engine) (site : Site) (s : State) → Fits engine site s →
+WhereItFits = (engine : Engine) (site : Site) (s : State) → Matches engine site s →
     VersionsAreSeen (sizes_of engine.store) (cache_of engine.store.pages).pool site.image s

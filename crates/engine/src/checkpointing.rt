@@ -7,13 +7,13 @@ ghost use Rattle.record_model.specs.declared.words.Command.{Command};
 ghost use Rattle.record_model.specs.declared.words.Reply.{Reply};
 ghost use Rattle.record_model.specs.State.{State};
 ghost use Rattle.record_model.specs.Step.{makes_checkpoint};
-ghost use Rattle.engine.specs.Going.{MayGoOn, sizes_of};
-ghost use Rattle.engine.specs.Fits.{Fits, run, checkpointed_if};
+ghost use Rattle.engine.specs.Invariant.{Invariant, sizes_of};
+ghost use Rattle.engine.specs.Representation.{Matches, run, checkpointed_if};
 ghost use Rattle.engine.specs.Leaves.{LeavesTable};
 ghost use Rattle.record_model.specs.Touches.{command_touches};
-ghost use Rattle.redo_undo.specs.Works.{Asks, Overflows, checkpoint_works};
+ghost use Rattle.redo_undo.specs.MachineSteps.{StepsMachine, Overflows, checkpoint_works};
 ghost use Rattle.page_store.specs.Caching.{cache_of, rules};
-ghost use Rattle.engine.specs.Calls.{Serves, Does, Answers};
+ghost use Rattle.engine.specs.Calls.{KeepsEngine, Does, Answers};
 ghost use Rattle.engine.specs.Numbers.{checkpoints_by};
 
 use crate::engine::{Engine, SESSIONS};
@@ -27,7 +27,7 @@ impl Engine {
     /// Whether a session's begin makes a checkpoint first: it may begin, but for the log's room, and a checkpoint is
     /// due.
     pub(crate) fn wants_checkpoint_to_begin(&self, session: u32) -> bool
-        ensures { (s : State) (site : Site) → Fits self.now site s
+        ensures { (s : State) (site : Site) → Matches self.now site s
             → result ≡ makes_checkpoint true s (Command.Begin session) }
     {
         if session >= SESSIONS {
@@ -41,8 +41,8 @@ impl Engine {
 
     /// Whether a set makes a checkpoint first: it isn't refused, but for the log's room, and a checkpoint is due.
     pub fn wants_checkpoint_to_set(&self, number: u32, value: &Octets) -> bool
-        requires going { (site : Site) × MayGoOn self.now site }
-        ensures { (s : State) (site : Site) → Fits self.now site s
+        requires going { (site : Site) × Invariant self.now site }
+        ensures { (s : State) (site : Site) → Matches self.now site s
             → result ≡ makes_checkpoint true s (Command.Set number value.now) }
     {
         if self.store.lacks(number) {
@@ -60,16 +60,16 @@ impl Engine {
     // Makes a checkpoint: the active sessions' transactions are named, and the records that none of them needs count no
     // more.
     fn carry_out_checkpoint<S: Site>(&mut self, site: &mut S) -> Result<(), Stop>
-        requires going { MayGoOn self.old (S.state site.old) }
+        requires going { Invariant self.old (S.state site.old) }
 
         // Of an honest site that the database fits.
-        ensures does { (s : State) → Fits self.old (S.state site.old) s
+        ensures does { (s : State) → Matches self.old (S.state site.old) s
             → Does result self.old self.new (S.state site.old) (S.state site.new) s (checkpointed_if true s)
             (LeavesTable (sizes_of self.old.store) s.table s.commits (S.state site.old).told) 1 }
 
         // Of every site.
-        ensures serves { Serves result self.old self.new (S.state site.old) (S.state site.new) }
-        ensures asks { Asks result checkpoint_works self.old.store.pages self.new.store.pages
+        ensures serves { KeepsEngine result self.old self.new (S.state site.old) (S.state site.new) }
+        ensures asks { StepsMachine result checkpoint_works self.old.store.pages self.new.store.pages
             (S.state site.old) (S.state site.new) }
     {
         sessions_outlive();
@@ -86,19 +86,19 @@ impl Engine {
 
     /// Makes a checkpoint where one is wanted.
     pub(crate) fn checkpoint_if<S: Site>(&mut self, site: &mut S, wanted: bool) -> Result<(), Stop>
-        requires going { MayGoOn self.old (S.state site.old) }
+        requires going { Invariant self.old (S.state site.old) }
 
         // Of an honest site that the database fits.
-        ensures does { (s : State) → Fits self.old (S.state site.old) s
+        ensures does { (s : State) → Matches self.old (S.state site.old) s
             → Does result self.old self.new (S.state site.old) (S.state site.new) s (checkpointed_if wanted s)
             (LeavesTable (sizes_of self.old.store) s.table s.commits (S.state site.old).told)
             (if wanted then 1 else 0) }
 
         // Of every site.
-        ensures serves { Serves result self.old self.new (S.state site.old) (S.state site.new) }
+        ensures serves { KeepsEngine result self.old self.new (S.state site.old) (S.state site.new) }
         ensures ended { OnErr result (self.new.ended ≡ true) }
-        ensures asks { Asks result (if wanted then checkpoint_works else []) self.old.store.pages self.new.store.pages
-            (S.state site.old) (S.state site.new) }
+        ensures asks { StepsMachine result (if wanted then checkpoint_works else []) self.old.store.pages
+            self.new.store.pages (S.state site.old) (S.state site.new) }
     {
         hold_together();
         if !wanted {
@@ -117,17 +117,17 @@ impl Engine {
     /// and a master is saved that names the active sessions' transactions. Then the log may write over the blocks that
     /// none of them needs.
     pub fn checkpoint<S: Site>(&mut self, site: &mut S) -> Result<Reply, Stop>
-        requires going { MayGoOn self.old (S.state site.old) }
+        requires going { Invariant self.old (S.state site.old) }
 
         // Of an honest site that the database fits.
-        ensures answers { (s : State) → Fits self.old (S.state site.old) s
+        ensures answers { (s : State) → Matches self.old (S.state site.old) s
             → Answers result self.old self.new (S.state site.old) (S.state site.new) s (run s Command.Checkpoint)
             (command_touches true s Command.Checkpoint)
             (LeavesTable (sizes_of self.old.store) s.table s.commits (S.state site.old).told)
             (checkpoints_by s Command.Checkpoint) }
 
         // Of every site.
-        ensures serves { Serves result self.old self.new (S.state site.old) (S.state site.new) }
+        ensures serves { KeepsEngine result self.old self.new (S.state site.old) (S.state site.new) }
         ensures ended { OnErr result (self.new.ended ≡ true) }
         ensures worn_flash { IsErrOf result (Stop.Worn Dev.Flash)
             → Overflows (rules self.old.store.pages) checkpoint_works (cache_of self.old.store.pages) }

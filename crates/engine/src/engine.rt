@@ -12,11 +12,11 @@ ghost use Rattle.log_records.specs.declared.log_record.LogRecord.{LogRecord};
 ghost use Rattle.lock_table.specs.Locks.{busy_read, busy_write};
 ghost use Rattle.txn_table.specs.Entries.{owed};
 ghost use Rattle.page_store.specs.Stopping.{MayStop};
-ghost use Rattle.engine.specs.Going.{MayGoOn, sizes_of};
+ghost use Rattle.engine.specs.Invariant.{Invariant, sizes_of};
 ghost use Rattle.engine.specs.Image.{log_under, IsSound, Stands, Opens};
-ghost use Rattle.engine.specs.Fits.{Fits, run, IsFull};
+ghost use Rattle.engine.specs.Representation.{Matches, run, IsFull};
 ghost use Rattle.engine.specs.Leaves.{LeavesTable, HasNoSizes, IsRefused};
-ghost use Rattle.flash_cache.specs.Held.{start_reads};
+ghost use Rattle.flash_cache.specs.Representation.{start_reads};
 ghost use Rattle.engine.specs.Paging.{AsksFrom, cache_on, restart_works};
 ghost use Rattle.second_chance.specs.Machine.{rules_of};
 ghost use Rattle.checkpoint.specs.declared.master.Master.{Master};
@@ -62,7 +62,7 @@ impl Engine {
         // Of an honest site whose image is sound.
         ensures opens { IsTrue (S.state site.old).honest
             → (g : Geometry) (s : State) → Opens g (S.state site.old).image s
-            → IfOk result (λ engine. Fits engine (S.state site.new) s × (sizes_of engine.store ≡ g)) }
+            → IfOk result (λ engine. Matches engine (S.state site.new) s × (sizes_of engine.store ≡ g)) }
         ensures ends { IsTrue (S.state site.old).honest
             → (g : Geometry) (table : List Content) (commits : ℕ)
             → Stands g (S.state site.old).image table commits
@@ -89,7 +89,7 @@ impl Engine {
 
         // Of every site.
         ensures calls { Calls result (S.state site.old) (S.state site.new) }
-        ensures going { IfOk result (λ engine. MayGoOn engine (S.state site.new)) }
+        ensures going { IfOk result (λ engine. Invariant engine (S.state site.new)) }
         ensures pool { IfOk result (λ engine. engine.store.pages.pool.size ≡ pool) }
         ensures refuses { HasNoSizes (S.state site.old) → IsRefused result site.old site.new }
         ensures stops { IfErr result (λ stop. MayStop stop) }
@@ -117,7 +117,7 @@ impl Engine {
     /// The number of commits that the devices hold.
     pub fn commits(&self) -> u64
         ensures count { result ≡ self.now.commits }
-        ensures model { (s : State) (site : Site) → Fits self.now site s → result ≡ s.commits }
+        ensures model { (s : State) (site : Site) → Matches self.now site s → result ≡ s.commits }
     {
         self.commits
     }
@@ -178,7 +178,7 @@ impl Engine {
     /// The listing of the page cache: the frames of its queue, the oldest group first, and then the pages in memory. It
     /// changes nothing.
     pub fn cache(&self) -> Result<Reply, Stop>
-        requires going { (site : Site) × MayGoOn self.now site }
+        requires going { (site : Site) × Invariant self.now site }
         ensures listing { IfOk result (λ reply. reply ≡ Reply.Listing (listing_of self.now)) }
         ensures model { (s : State) → IfOk result (λ reply. step true s Command.Cache (listing_of self.now)
             ≡ record { after = s; reply = reply }) }
@@ -192,7 +192,7 @@ impl Engine {
 
     /// The counts of the database.
     pub fn stat(&self) -> Reply
-        ensures { (s : State) (site : Site) → Fits self.now site s → result ≡ (run s Command.Stat).reply }
+        ensures { (s : State) (site : Site) → Matches self.now site s → result ≡ (run s Command.Stat).reply }
     {
         Reply::Stat(Stat {
             commits: self.commits,

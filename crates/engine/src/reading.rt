@@ -11,15 +11,15 @@ ghost use Rattle.record_model.specs.declared.words.Reply.{Reply};
 ghost use Rattle.record_model.specs.State.{State, seen, content_at};
 ghost use Rattle.record_model.specs.Step.{found};
 ghost use Rattle.lock_table.specs.Locks.{AddsLock};
-ghost use Rattle.engine.specs.Going.{MayGoOn, sizes_of};
+ghost use Rattle.engine.specs.Invariant.{Invariant, sizes_of};
 ghost use Rattle.engine.specs.Permits.{MayShow, MayRead, MayScan};
-ghost use Rattle.engine.specs.Fits.{Fits, run, with_read, with_reads, Refuses, Accepts};
+ghost use Rattle.engine.specs.Representation.{Matches, run, with_read, with_reads, Refuses, Accepts};
 ghost use Rattle.engine.specs.Leaves.{LeavesTable};
 ghost use Rattle.record_model.specs.Touches.{command_touches, read_touch};
-ghost use Rattle.redo_undo.specs.Works.{Asks, Overflows, one_touch};
+ghost use Rattle.redo_undo.specs.MachineSteps.{StepsMachine, Overflows, one_touch};
 ghost use Rattle.page_store.specs.Caching.{cache_of, rules};
 ghost use Rattle.engine.specs.Scans.{first_busy, items_seen};
-ghost use Rattle.engine.specs.Calls.{Serves, Does, Answers};
+ghost use Rattle.engine.specs.Calls.{KeepsEngine, Does, Answers};
 ghost use Rattle.engine.specs.Numbers.{checkpoints_by};
 
 use crate::engine::Engine;
@@ -32,7 +32,7 @@ use site::{Site, Stop};
 impl Engine {
     // Why a session can't read a record, if it can't.
     fn read_refusal(&self, session: u32, number: u32) -> Option<Reply>
-        requires going { (site : Site) × MayGoOn self.now site }
+        requires going { (site : Site) × Invariant self.now site }
         ensures refused { IfSome result (λ reply. Refuses self.now (Command.Read session number) reply) }
         ensures accepted { IfNone result (Accepts self.now (Command.Read session number)) }
         ensures may { IfNone result (MayRead self.now session number) }
@@ -51,17 +51,17 @@ impl Engine {
 
     /// What a session sees at a record.
     pub fn read<S: Site>(&mut self, site: &mut S, session: u32, number: u32) -> Result<Reply, Stop>
-        requires going { MayGoOn self.old (S.state site.old) }
+        requires going { Invariant self.old (S.state site.old) }
 
         // Of an honest site that the database fits.
-        ensures answers { (s : State) → Fits self.old (S.state site.old) s
+        ensures answers { (s : State) → Matches self.old (S.state site.old) s
             → Answers result self.old self.new (S.state site.old) (S.state site.new) s
             (run s (Command.Read session number)) (command_touches true s (Command.Read session number))
             (LeavesTable (sizes_of self.old.store) s.table s.commits (S.state site.old).told)
             (checkpoints_by s (Command.Read session number)) }
 
         // Of every site.
-        ensures serves { Serves result self.old self.new (S.state site.old) (S.state site.new) }
+        ensures serves { KeepsEngine result self.old self.new (S.state site.old) (S.state site.new) }
         ensures ended { OnErr result (self.new.ended ≡ true) }
         ensures worn_flash { IsErrOf result (Stop.Worn Dev.Flash)
             → Overflows (rules self.old.store.pages) (one_touch (number / 32)) (cache_of self.old.store.pages) }
@@ -86,19 +86,19 @@ impl Engine {
         session: u32,
         number: u32,
     ) -> Result<Option<Octets>, Stop>
-        requires going { MayGoOn self.old (S.state site.old) }
+        requires going { Invariant self.old (S.state site.old) }
         requires may { MayRead self.old session number }
 
         // Of an honest site that the database fits.
-        ensures content { (s : State) → Fits self.old (S.state site.old) s
+        ensures content { (s : State) → Matches self.old (S.state site.old) s
             → IfOk result (λ content. content ≡ seen s session number) }
-        ensures does { (s : State) → Fits self.old (S.state site.old) s
+        ensures does { (s : State) → Matches self.old (S.state site.old) s
             → Does result self.old self.new (S.state site.old) (S.state site.new) s (with_read s session number)
             (LeavesTable (sizes_of self.old.store) s.table s.commits (S.state site.old).told) 0 }
 
         // Of every site.
-        ensures serves { Serves result self.old self.new (S.state site.old) (S.state site.new) }
-        ensures asks { Asks result (one_touch (number / 32)) self.old.store.pages self.new.store.pages
+        ensures serves { KeepsEngine result self.old self.new (S.state site.old) (S.state site.new) }
+        ensures asks { StepsMachine result (one_touch (number / 32)) self.old.store.pages self.new.store.pages
             (S.state site.old) (S.state site.new) }
         ensures locks { OnOk result (AddsLock self.old.locks self.new.locks session number false) }
         ensures active { self.new.active ≡ self.old.active }
@@ -116,7 +116,7 @@ impl Engine {
 
     // Why a session can't read so many records from a number on, if it can't.
     fn scan_refusal(&self, session: u32, number: u32, count: u32) -> Option<Reply>
-        requires going { (site : Site) × MayGoOn self.now site }
+        requires going { (site : Site) × Invariant self.now site }
         ensures refused { IfSome result (λ reply. Refuses self.now (Command.Scan session number count) reply) }
         ensures accepted { IfNone result (Accepts self.now (Command.Scan session number count)) }
         ensures may { IfNone result (MayScan self.now session number count) }
@@ -144,17 +144,17 @@ impl Engine {
         number: u32,
         count: u32,
     ) -> Result<Reply, Stop>
-        requires going { MayGoOn self.old (S.state site.old) }
+        requires going { Invariant self.old (S.state site.old) }
 
         // Of an honest site that the database fits.
-        ensures answers { (s : State) → Fits self.old (S.state site.old) s
+        ensures answers { (s : State) → Matches self.old (S.state site.old) s
             → Answers result self.old self.new (S.state site.old) (S.state site.new) s
             (run s (Command.Scan session number count)) (command_touches true s (Command.Scan session number count))
             (LeavesTable (sizes_of self.old.store) s.table s.commits (S.state site.old).told)
             (checkpoints_by s (Command.Scan session number count)) }
 
         // Of every site.
-        ensures serves { Serves result self.old self.new (S.state site.old) (S.state site.new) }
+        ensures serves { KeepsEngine result self.old self.new (S.state site.old) (S.state site.new) }
         ensures ended { OnErr result (self.new.ended ≡ true) }
         ensures worn_flash { IsErrOf result (Stop.Worn Dev.Flash)
             → Overflows (rules self.old.store.pages) (map read_touch (range_with_len number count))
@@ -181,20 +181,20 @@ impl Engine {
         number: u32,
         count: u32,
     ) -> Result<Items, Stop>
-        requires going { MayGoOn self.old (S.state site.old) }
+        requires going { Invariant self.old (S.state site.old) }
         requires may { MayScan self.old session number count }
 
         // Of an honest site that the database fits.
-        ensures items { (s : State) → Fits self.old (S.state site.old) s
+        ensures items { (s : State) → Matches self.old (S.state site.old) s
             → IfOk result (λ items. items ≡ items_seen s session (range_with_len number count)) }
-        ensures does { (s : State) → Fits self.old (S.state site.old) s
+        ensures does { (s : State) → Matches self.old (S.state site.old) s
             → Does result self.old self.new (S.state site.old) (S.state site.new) s
             (with_reads s session (range_with_len number count))
             (LeavesTable (sizes_of self.old.store) s.table s.commits (S.state site.old).told) 0 }
 
         // Of every site.
-        ensures serves { Serves result self.old self.new (S.state site.old) (S.state site.new) }
-        ensures asks { Asks result (map read_touch (range_with_len number count)) self.old.store.pages
+        ensures serves { KeepsEngine result self.old self.new (S.state site.old) (S.state site.new) }
+        ensures asks { StepsMachine result (map read_touch (range_with_len number count)) self.old.store.pages
             self.new.store.pages
             (S.state site.old) (S.state site.new) }
     {
@@ -215,7 +215,7 @@ impl Engine {
 
     // Why a record can't be shown, if it can't.
     fn get_refusal(&self, number: u32) -> Option<Reply>
-        requires going { (site : Site) × MayGoOn self.now site }
+        requires going { (site : Site) × Invariant self.now site }
         ensures refused { IfSome result (λ reply. Refuses self.now (Command.Get number) reply) }
         ensures accepted { IfNone result (Accepts self.now (Command.Get number)) }
         ensures may { IfNone result (MayShow self.now None number) }
@@ -231,17 +231,17 @@ impl Engine {
 
     /// What a record has in the table.
     pub fn get<S: Site>(&mut self, site: &mut S, number: u32) -> Result<Reply, Stop>
-        requires going { MayGoOn self.old (S.state site.old) }
+        requires going { Invariant self.old (S.state site.old) }
 
         // Of an honest site that the database fits.
-        ensures answers { (s : State) → Fits self.old (S.state site.old) s
+        ensures answers { (s : State) → Matches self.old (S.state site.old) s
             → Answers result self.old self.new (S.state site.old) (S.state site.new) s (run s (Command.Get number))
             (command_touches true s (Command.Get number))
             (LeavesTable (sizes_of self.old.store) s.table s.commits (S.state site.old).told)
             (checkpoints_by s (Command.Get number)) }
 
         // Of every site.
-        ensures serves { Serves result self.old self.new (S.state site.old) (S.state site.new) }
+        ensures serves { KeepsEngine result self.old self.new (S.state site.old) (S.state site.new) }
         ensures ended { OnErr result (self.new.ended ≡ true) }
         ensures worn_flash { IsErrOf result (Stop.Worn Dev.Flash)
             → Overflows (rules self.old.store.pages) (one_touch (number / 32)) (cache_of self.old.store.pages) }
@@ -261,19 +261,19 @@ impl Engine {
 
     // Shows a record outside sessions.
     fn carry_out_get<S: Site>(&mut self, site: &mut S, number: u32) -> Result<Reply, Stop>
-        requires going { MayGoOn self.old (S.state site.old) }
+        requires going { Invariant self.old (S.state site.old) }
         requires may { MayShow self.old None number }
 
         // Of an honest site that the database fits.
-        ensures reply { (s : State) → Fits self.old (S.state site.old) s
+        ensures reply { (s : State) → Matches self.old (S.state site.old) s
             → IfOk result (λ reply. reply ≡ found (content_at s.table number)) }
-        ensures does { (s : State) → Fits self.old (S.state site.old) s
+        ensures does { (s : State) → Matches self.old (S.state site.old) s
             → Does result self.old self.new (S.state site.old) (S.state site.new) s s
             (LeavesTable (sizes_of self.old.store) s.table s.commits (S.state site.old).told) 0 }
 
         // Of every site.
-        ensures serves { Serves result self.old self.new (S.state site.old) (S.state site.new) }
-        ensures asks { Asks result (one_touch (number / 32)) self.old.store.pages self.new.store.pages
+        ensures serves { KeepsEngine result self.old self.new (S.state site.old) (S.state site.new) }
+        ensures asks { StepsMachine result (one_touch (number / 32)) self.old.store.pages self.new.store.pages
             (S.state site.old) (S.state site.new) }
     {
         match self.store.touch(site, number) {

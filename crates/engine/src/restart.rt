@@ -5,24 +5,24 @@ ghost use Rattle.site.specs.declared.outside.Stop.{Stop};
 ghost use Rattle.site.specs.declared.geometry.Geometry.{Geometry};
 ghost use Rattle.site.specs.Geometry.{HasLimits, HasLengths};
 ghost use Rattle.site.specs.State.{State, IsQuiet};
-ghost use Rattle.site.specs.Calls.{Goes, IsUnchanged, FaultRose};
+ghost use Rattle.site.specs.Calls.{Preserves, IsUnchanged, FaultRose};
 ghost use Rattle.site.specs.Faults.{WorkFaults};
 ghost use Rattle.record_model.specs.State.{Content};
 ghost use Rattle.log_records.specs.declared.log_record.LogRecord.{LogRecord};
 ghost use Rattle.log_records.specs.Sound.{Means};
-ghost use Rattle.log_store.specs.Held as log_held;
+ghost use Rattle.log_store.specs.Representation as log_store;
 ghost use Rattle.checkpoint.specs.declared.master.Master.{Master};
 ghost use Rattle.analysis.specs.Open.{owed_for};
 ghost use Rattle.analysis.specs.Table.{listed};
 ghost use Rattle.analysis.specs.Read as analysis;
 ghost use Rattle.page_store.specs.Stopping.{MayStop};
 ghost use Rattle.image_meaning.specs.Meaning.{picture_under};
-ghost use Rattle.engine.specs.Going.{sizes_of};
+ghost use Rattle.engine.specs.Invariant.{sizes_of};
 ghost use Rattle.engine.specs.Image.{log_under, IsSound, Stands};
 ghost use Rattle.engine.specs.Leaves.{HasNoSizes, IsRefused, LeavesTable};
 ghost use Rattle.engine.specs.Restarting.{RecoveryLaws, MayRecover, IsReady, RestartedAs, Restarts, Recovers};
 ghost use Rattle.engine.specs.Calls.{Ends};
-ghost use Rattle.flash_cache.specs.Held.{start_reads};
+ghost use Rattle.flash_cache.specs.Representation.{start_reads};
 ghost use Rattle.engine.specs.Paging.{AsksFrom, cache_on, restart_works};
 ghost use Rattle.engine.specs.Numbers.{RestartsWithin};
 ghost use Rattle.page_store.specs.Caching.{cache_of};
@@ -77,7 +77,7 @@ fn geometry_of<S: Site>(site: &S) -> Result<Geometry, Stop>
 fn keep_from(log: &mut LogStore, block: u64) -> Result<(), Stop>
     requires bounded { log.old.ring.hi ≤ 2 ^ 40 }
     ensures keeps { OnOk result (log.new ≡ record log.old { kept = block }) }
-    ensures going { (site : State) → log_held.MayGoOn log.old site → OnOk result (log_held.MayGoOn log.new site) }
+    ensures going { (site : State) → log_store.Invariant log.old site → OnOk result (log_store.Invariant log.new site) }
     ensures live { log.old.kept ≤ block → block ≤ log.old.ring.hi → IfErr result (λ stop. ⊥) }
     ensures stops { IfErr result (λ stop. stop ≡ Stop.Foreign) }
 {
@@ -126,7 +126,7 @@ fn open<S: Site>(
     ensures sizes { IfOk result (λ opened. opened.pages.flash.geometry ≡ geometry.now) }
     ensures pool { IfOk result (λ opened. opened.pages.pool.size ≡ pool) }
     ensures empty { IfOk result (λ opened. opened.log.used ≡ 2) }
-    ensures goes { Goes (S.state site.old) (S.state site.new) }
+    ensures goes { Preserves (S.state site.old) (S.state site.new) }
     ensures faults { WorkFaults result (S.state site.old) (S.state site.new) }
 
     // When each answer comes.
@@ -161,7 +161,7 @@ fn open<S: Site>(
 
 // What undoing all unfinished transactions takes: a record for each Update that isn't compensated, and an End for each.
 fn owed(found: &Analysis) -> u64
-    requires going { analysis.MayGoOn found.now }
+    requires going { analysis.Invariant found.now }
     requires bounded { owed_for (listed found.now.table) ≤ 2 ^ 41 }
     ensures { result ≡ owed_for (listed found.now.table) }
 {

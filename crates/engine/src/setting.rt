@@ -11,17 +11,17 @@ ghost use Rattle.record_model.specs.State.{State};
 ghost use Rattle.byte_fields.specs.declared.TheConstants.{VALUE_MAX};
 ghost use Rattle.record_model.specs.Step.{making, committed};
 ghost use Rattle.log_records.specs.Spelling.{IsShort};
-ghost use Rattle.engine.specs.Going.{MayGoOn, sizes_of};
+ghost use Rattle.engine.specs.Invariant.{Invariant, sizes_of};
 ghost use Rattle.engine.specs.Permits.{MayWrite};
 ghost use Rattle.engine.specs.OneWrite.{HasOneWrite};
-ghost use Rattle.engine.specs.Fits.{Fits, run, run_now, Refuses, Accepts};
+ghost use Rattle.engine.specs.Representation.{Matches, run, run_now, Refuses, Accepts};
 ghost use Rattle.engine.specs.Leaves.{LeavesTable, LeavesEither};
 ghost use Rattle.record_model.specs.Touches.{command_touches};
-ghost use Rattle.redo_undo.specs.Works.{Asks, Overflows, one_change, checkpoint_works};
+ghost use Rattle.redo_undo.specs.MachineSteps.{StepsMachine, Overflows, one_change, checkpoint_works};
 ghost use Rattle.page_store.specs.Caching.{cache_of, rules};
-ghost use Rattle.engine.specs.Calls.{Serves, Does, Answers};
+ghost use Rattle.engine.specs.Calls.{KeepsEngine, Does, Answers};
 ghost use Rattle.engine.specs.Numbers.{checkpoints_by};
-ghost use Rattle.redo_undo.specs.StoreCalls.{Works, Keeps};
+ghost use Rattle.redo_undo.specs.StoreCalls.{KeepsInvariant, Keeps};
 
 use crate::engine::Engine;
 use crate::values::{is_long, value_of};
@@ -39,22 +39,22 @@ impl Engine {
         number: u32,
         after: &Option<Octets>,
     ) -> Result<u64, Stop>
-        requires going { MayGoOn self.old (S.state site.old) }
+        requires going { Invariant self.old (S.state site.old) }
         requires short { IsShort after.now }
         requires may { MayWrite self.old None number 4 }
 
         // Of an honest site that the database fits.
-        ensures logged { (s : State) (fits : Fits self.old (S.state site.old) s)
+        ensures logged { (s : State) (fits : Matches self.old (S.state site.old) s)
             → IfOk result (λ txn. HasOneWrite self.new.store (S.state site.new) fits.newest
             fits.records s.table s.commits txn number after.now) }
-        ensures keeps { (s : State) → Fits self.old (S.state site.old) s
+        ensures keeps { (s : State) → Matches self.old (S.state site.old) s
             → Keeps result self.old.store self.new.store (S.state site.old) (S.state site.new)
             (LeavesTable (sizes_of self.old.store) s.table s.commits (S.state site.old).told) 2 0 }
 
         // Of every site.
-        ensures works { Works result self.old.store self.new.store (S.state site.old) (S.state site.new) 2 }
+        ensures works { KeepsInvariant result self.old.store self.new.store (S.state site.old) (S.state site.new) 2 }
         ensures rest { self.new ≡ record self.old { store = self.new.store } }
-        ensures asks { Asks result (one_change (number / 32)) self.old.store.pages self.new.store.pages
+        ensures asks { StepsMachine result (one_change (number / 32)) self.old.store.pages self.new.store.pages
             (S.state site.old) (S.state site.new) }
     {
         touch_then_change();
@@ -79,22 +79,22 @@ impl Engine {
         number: u32,
         after: &Option<Octets>,
     ) -> Result<Reply, Stop>
-        requires going { MayGoOn self.old (S.state site.old) }
+        requires going { Invariant self.old (S.state site.old) }
         requires short { IsShort after.now }
         requires may { MayWrite self.old None number 4 }
 
         // Of an honest site that the database fits.
-        ensures reply { (s : State) → Fits self.old (S.state site.old) s
+        ensures reply { (s : State) → Matches self.old (S.state site.old) s
             → IfOk result (λ reply. reply ≡ Reply.Committed (s.commits + 1)) }
-        ensures does { (s : State) → Fits self.old (S.state site.old) s
+        ensures does { (s : State) → Matches self.old (S.state site.old) s
             → Does result self.old self.new (S.state site.old) (S.state site.new) s
             (making 3 (committed s ((number, after.now) ∷ [])))
             (LeavesEither (sizes_of self.old.store) s (making 3 (committed s ((number, after.now) ∷ [])))
             (S.state site.old).told) 0 }
 
         // Of every site.
-        ensures serves { Serves result self.old self.new (S.state site.old) (S.state site.new) }
-        ensures asks { Asks result (one_change (number / 32)) self.old.store.pages self.new.store.pages
+        ensures serves { KeepsEngine result self.old self.new (S.state site.old) (S.state site.new) }
+        ensures asks { StepsMachine result (one_change (number / 32)) self.old.store.pages self.new.store.pages
             (S.state site.old) (S.state site.new) }
     {
         let txn = match self.log_set(site, number, after) {
@@ -109,7 +109,7 @@ impl Engine {
 
     // Why a record can't be set, if it can't.
     fn set_refusal(&self, number: u32, value: &Octets) -> Option<Reply>
-        requires going { (site : Site) × MayGoOn self.now site }
+        requires going { (site : Site) × Invariant self.now site }
         ensures refused { IfSome result (λ reply. Refuses self.now (Command.Set number value.now) reply) }
         ensures accepted { IfNone result (Accepts self.now (Command.Set number value.now)) }
         ensures short { IfNone result (length value.now ≤ VALUE_MAX) }
@@ -132,10 +132,10 @@ impl Engine {
 
     // Sets a record: a transaction of one write, outside sessions, where no checkpoint comes first.
     fn set_now<S: Site>(&mut self, site: &mut S, number: u32, value: &Octets) -> Result<Reply, Stop>
-        requires going { MayGoOn self.old (S.state site.old) }
+        requires going { Invariant self.old (S.state site.old) }
 
         // Of an honest site that the database fits.
-        ensures answers { (s : State) → Fits self.old (S.state site.old) s
+        ensures answers { (s : State) → Matches self.old (S.state site.old) s
             → Answers result self.old self.new (S.state site.old) (S.state site.new) s
             (run_now s (Command.Set number value.now))
             (command_touches false s (Command.Set number value.now))
@@ -143,7 +143,7 @@ impl Engine {
             (S.state site.old).told) 0 }
 
         // Of every site.
-        ensures serves { Serves result self.old self.new (S.state site.old) (S.state site.new) }
+        ensures serves { KeepsEngine result self.old self.new (S.state site.old) (S.state site.new) }
         ensures ended { OnErr result (self.new.ended ≡ true) }
         ensures worn_flash { IsErrOf result (Stop.Worn Dev.Flash)
             → Overflows (rules self.old.store.pages) (one_change (number / 32)) (cache_of self.old.store.pages) }
@@ -164,10 +164,10 @@ impl Engine {
 
     /// Sets a record: a transaction of one write, outside sessions. Where a checkpoint is due it comes first.
     pub fn set<S: Site>(&mut self, site: &mut S, number: u32, value: &Octets) -> Result<Reply, Stop>
-        requires going { MayGoOn self.old (S.state site.old) }
+        requires going { Invariant self.old (S.state site.old) }
 
         // Of an honest site that the database fits.
-        ensures answers { (s : State) → Fits self.old (S.state site.old) s
+        ensures answers { (s : State) → Matches self.old (S.state site.old) s
             → Answers result self.old self.new (S.state site.old) (S.state site.new) s
             (run s (Command.Set number value.now))
             (command_touches true s (Command.Set number value.now))
@@ -175,7 +175,7 @@ impl Engine {
             (S.state site.old).told) (checkpoints_by s (Command.Set number value.now)) }
 
         // Of every site.
-        ensures serves { Serves result self.old self.new (S.state site.old) (S.state site.new) }
+        ensures serves { KeepsEngine result self.old self.new (S.state site.old) (S.state site.new) }
         ensures ended { OnErr result (self.new.ended ≡ true) }
         ensures worn_flash { IsErrOf result (Stop.Worn Dev.Flash)
             → Overflows (rules self.old.store.pages) (one_change (number / 32)) (cache_of self.old.store.pages)

@@ -1,7 +1,7 @@
 // The database over a site in memory. What is expected was worked out by hand.
 ghost use Rattle.site.specs.MemState.{state_of};
 ghost use Rattle.std.specs.Prelude.{OnOk, ◌<◌, length};
-ghost use Rattle.engine.specs.Going.{MayGoOn};
+ghost use Rattle.engine.specs.Invariant.{Invariant};
 
 use crate::Engine;
 use record_model::{Command, Octets, Reply, Stat, Why};
@@ -105,8 +105,8 @@ fn same(reply: &Reply, wanted: &Reply) -> bool {
 
 // Carries out a command.
 fn call(engine: &mut Engine, site: &mut MemSite, command: &Command) -> Result<Reply, Stop>
-    requires going { MayGoOn engine.old (state_of site.old) }
-    ensures going { OnOk result (MayGoOn engine.new (state_of site.new)) }
+    requires going { Invariant engine.old (state_of site.old) }
+    ensures going { OnOk result (Invariant engine.new (state_of site.new)) }
 {
     match command {
         Command::Begin { session } => engine.begin(site, *session),
@@ -128,8 +128,8 @@ fn call(engine: &mut Engine, site: &mut MemSite, command: &Command) -> Result<Re
 
 // Carries out commands, and answers how many of them got the replies that are wanted, up to the first one that didn't.
 fn play(engine: &mut Engine, site: &mut MemSite, script: &[(Command, Reply)]) -> Result<usize, Stop>
-    requires going { MayGoOn engine.old (state_of site.old) }
-    ensures going { OnOk result (MayGoOn engine.new (state_of site.new)) }
+    requires going { Invariant engine.old (state_of site.old) }
+    ensures going { OnOk result (Invariant engine.new (state_of site.new)) }
 {
     for (place, (command, wanted)) in script.iter().enumerate() {
         let reply = call(engine, site, command)?;
@@ -420,9 +420,9 @@ fn first_of_page(site: &MemSite) -> Option<usize> {
 
 // Sets an octet of the flash while the database goes on.
 fn put(engine: &Engine, site: &mut MemSite, place: u64, octet: u8) -> Result<(), Failed>
-    requires going { MayGoOn engine.now (state_of site.old) }
+    requires going { Invariant engine.now (state_of site.old) }
     requires inside { place < length (state_of site.old).image.flash }
-    ensures going { OnOk result (MayGoOn engine.now (state_of site.new)) }
+    ensures going { OnOk result (Invariant engine.now (state_of site.new)) }
 {
     site.sync(Dev::Flash)?;
     site.poke(Dev::Flash, place, octet);

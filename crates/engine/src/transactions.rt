@@ -13,22 +13,22 @@ ghost use Rattle.log_records.specs.declared.log_record.LogRecord.{LogRecord};
 ghost use Rattle.log_records.specs.Log.{Entry};
 ghost use Rattle.log_laws.specs.Follow.{writes_in};
 ghost use Rattle.txn_table.specs.Entries.{entry_of, owed};
-ghost use Rattle.log_store.specs.Held.{end_of};
+ghost use Rattle.log_store.specs.Representation.{end_of};
 ghost use Rattle.image_meaning.specs.Moments as moments;
 ghost use Rattle.redo_undo.specs.Committing.{MayCommit};
-ghost use Rattle.engine.specs.Going.{MayGoOn, sizes_of};
+ghost use Rattle.engine.specs.Invariant.{Invariant, sizes_of};
 ghost use Rattle.engine.specs.Permits.{MayBegin};
 ghost use Rattle.redo_undo.specs.Stores.{MayLog};
-ghost use Rattle.redo_undo.specs.Stores.{Holds};
-ghost use Rattle.engine.specs.Fits.{Fits, run, run_now, Refuses, Accepts};
+ghost use Rattle.redo_undo.specs.Stores.{Represents};
+ghost use Rattle.engine.specs.Representation.{Matches, run, run_now, Refuses, Accepts};
 ghost use Rattle.engine.specs.Leaves.{LeavesTable, LeavesEither};
 ghost use Rattle.record_model.specs.Touches.{command_touches, write_touch};
-ghost use Rattle.redo_undo.specs.Works.{Asks, Overflows, checkpoint_works};
+ghost use Rattle.redo_undo.specs.MachineSteps.{StepsMachine, Overflows, checkpoint_works};
 ghost use Rattle.page_store.specs.Caching.{cache_of, rules};
 ghost use Rattle.checkpoint.specs.declared.master.Master.{Master};
-ghost use Rattle.engine.specs.Calls.{Serves, Does, Answers};
+ghost use Rattle.engine.specs.Calls.{KeepsEngine, Does, Answers};
 ghost use Rattle.engine.specs.Numbers.{checkpoints_by};
-ghost use Rattle.redo_undo.specs.StoreCalls.{Works, Keeps};
+ghost use Rattle.redo_undo.specs.StoreCalls.{KeepsInvariant, Keeps};
 
 use crate::engine::{Engine, SESSIONS};
 use crate::sessions;
@@ -40,7 +40,7 @@ use txn_table::Active;
 impl Engine {
     // Why a session can't begin, if it can't.
     fn begin_refusal(&self, session: u32) -> Option<Reply>
-        requires going { (site : Site) × MayGoOn self.now site }
+        requires going { (site : Site) × Invariant self.now site }
         ensures refused { IfSome result (λ reply. Refuses self.now (Command.Begin session) reply) }
         ensures accepted { IfNone result (Accepts self.now (Command.Begin session)) }
         ensures may { IfNone result (MayBegin self.now session) }
@@ -59,16 +59,16 @@ impl Engine {
 
     // A session begins, where no checkpoint comes first.
     fn begin_now<S: Site>(&mut self, site: &mut S, session: u32) -> Result<Reply, Stop>
-        requires going { MayGoOn self.old (S.state site.old) }
+        requires going { Invariant self.old (S.state site.old) }
 
         // Of an honest site that the database fits.
-        ensures answers { (s : State) → Fits self.old (S.state site.old) s
+        ensures answers { (s : State) → Matches self.old (S.state site.old) s
             → Answers result self.old self.new (S.state site.old) (S.state site.new) s
             (run_now s (Command.Begin session)) (command_touches false s (Command.Begin session))
             (LeavesTable (sizes_of self.old.store) s.table s.commits (S.state site.old).told) 0 }
 
         // Of every site.
-        ensures serves { Serves result self.old self.new (S.state site.old) (S.state site.new) }
+        ensures serves { KeepsEngine result self.old self.new (S.state site.old) (S.state site.new) }
         ensures ended { OnErr result (self.new.ended ≡ true) }
         ensures stops { IfErr result (λ stop. (stop ≡ Stop.Device Dev.Log) ⊎ (stop ≡ Stop.Worn Dev.Log)) }
     {
@@ -87,17 +87,17 @@ impl Engine {
 
     /// A session begins. Where a checkpoint is due it comes first.
     pub fn begin<S: Site>(&mut self, site: &mut S, session: u32) -> Result<Reply, Stop>
-        requires going { MayGoOn self.old (S.state site.old) }
+        requires going { Invariant self.old (S.state site.old) }
 
         // Of an honest site that the database fits.
-        ensures answers { (s : State) → Fits self.old (S.state site.old) s
+        ensures answers { (s : State) → Matches self.old (S.state site.old) s
             → Answers result self.old self.new (S.state site.old) (S.state site.new) s (run s (Command.Begin session))
             (command_touches true s (Command.Begin session))
             (LeavesTable (sizes_of self.old.store) s.table s.commits (S.state site.old).told)
             (checkpoints_by s (Command.Begin session)) }
 
         // Of every site.
-        ensures serves { Serves result self.old self.new (S.state site.old) (S.state site.new) }
+        ensures serves { KeepsEngine result self.old self.new (S.state site.old) (S.state site.new) }
         ensures ended { OnErr result (self.new.ended ≡ true) }
         ensures worn_flash { IsErrOf result (Stop.Worn Dev.Flash)
             → Overflows (rules self.old.store.pages) checkpoint_works (cache_of self.old.store.pages) }
@@ -111,18 +111,18 @@ impl Engine {
 
     // A session that may begins.
     fn carry_out_begin<S: Site>(&mut self, site: &mut S, session: u32) -> Result<Reply, Stop>
-        requires going { MayGoOn self.old (S.state site.old) }
+        requires going { Invariant self.old (S.state site.old) }
         requires may { MayBegin self.old session }
 
         // Of an honest site that the database fits.
         ensures done { IfOk result (λ reply. reply ≡ Reply.Done) }
-        ensures does { (s : State) → Fits self.old (S.state site.old) s
+        ensures does { (s : State) → Matches self.old (S.state site.old) s
             → Does result self.old self.new (S.state site.old) (S.state site.new) s (effect s (Command.Begin session))
             (LeavesTable (sizes_of self.old.store) s.table s.commits (S.state site.old).told) 0 }
 
         // Of every site.
-        ensures serves { Serves result self.old self.new (S.state site.old) (S.state site.new) }
-        ensures asks { Asks result ([]) self.old.store.pages self.new.store.pages
+        ensures serves { KeepsEngine result self.old self.new (S.state site.old) (S.state site.new) }
+        ensures asks { StepsMachine result ([]) self.old.store.pages self.new.store.pages
             (S.state site.old) (S.state site.new) }
         ensures stops { IfErr result (λ stop. (stop ≡ Stop.Device Dev.Log) ⊎ (stop ≡ Stop.Worn Dev.Log)) }
     {
@@ -151,25 +151,25 @@ impl Engine {
 
         // Of an honest site whose log and pages hold these records.
         ensures holds { (newest : Option Master) (records : List Entry) (table : List Content) (commits : ℕ)
-            → Holds self.old.store (S.state site.old) newest records table commits
+            → Represents self.old.store (S.state site.old) newest records table commits
             → MayCommit newest records txn (self.old.commits + 1) commits
-            → OnOk result ((lsn : ℕ) × Holds self.new.store (S.state site.new) newest
+            → OnOk result ((lsn : ℕ) × Represents self.new.store (S.state site.new) newest
             (records ++ record { lsn = lsn; rec = LogRecord.Commit txn (self.old.commits + 1) } ∷ [])
             (table_with table (writes_in txn records)) (commits + 1)) }
         ensures keeps { (newest : Option Master) (records : List Entry) (table : List Content) (commits : ℕ)
-            → Holds self.old.store (S.state site.old) newest records table commits
+            → Represents self.old.store (S.state site.old) newest records table commits
             → MayCommit newest records txn (self.old.commits + 1) commits
             → Keeps result self.old.store self.new.store (S.state site.old) (S.state site.new)
             (moments.LeavesEitherFor (sizes_of self.old.store) table (table_with table (writes_in txn records)) commits
             (S.state site.old).told) 1 0 }
 
         // Of every site.
-        ensures works { Works result self.old.store self.new.store (S.state site.old) (S.state site.new) 1 }
+        ensures works { KeepsInvariant result self.old.store self.new.store (S.state site.old) (S.state site.new) 1 }
         ensures reply { IfOk result (λ reply. reply ≡ Reply.Committed (self.old.commits + 1)) }
         ensures rest { self.new ≡ record self.old { store = self.new.store; commits = self.new.commits } }
         ensures commits { OnOk result (self.new.commits ≡ self.old.commits + 1) }
         ensures rises { OnOk result (end_of self.old.store.log < end_of self.new.store.log) }
-        ensures asks { Asks result ([]) self.old.store.pages self.new.store.pages
+        ensures asks { StepsMachine result ([]) self.old.store.pages self.new.store.pages
             (S.state site.old) (S.state site.new) }
         ensures stops { IfErr result (λ stop. (stop ≡ Stop.Device Dev.Log) ⊎ (stop ≡ Stop.Worn Dev.Log)) }
     {
@@ -185,21 +185,21 @@ impl Engine {
 
     // Commits a session's transaction, and ends the session.
     fn carry_out_commit<S: Site>(&mut self, site: &mut S, entry: Active) -> Result<Reply, Stop>
-        requires going { MayGoOn self.old (S.state site.old) }
+        requires going { Invariant self.old (S.state site.old) }
         requires active { entry_of self.old.active entry.session ≡ Some entry }
 
         // Of an honest site that the database fits.
-        ensures done { (s : State) → Fits self.old (S.state site.old) s
+        ensures done { (s : State) → Matches self.old (S.state site.old) s
             → IfOk result (λ reply. reply ≡ Reply.Committed (s.commits + 1)) }
-        ensures does { (s : State) → Fits self.old (S.state site.old) s
+        ensures does { (s : State) → Matches self.old (S.state site.old) s
             → Does result self.old self.new (S.state site.old) (S.state site.new) s
             (effect s (Command.Commit entry.session))
             (LeavesEither (sizes_of self.old.store) s (effect s (Command.Commit entry.session))
             (S.state site.old).told) 0 }
 
         // Of every site.
-        ensures serves { Serves result self.old self.new (S.state site.old) (S.state site.new) }
-        ensures asks { Asks result ([]) self.old.store.pages self.new.store.pages
+        ensures serves { KeepsEngine result self.old self.new (S.state site.old) (S.state site.new) }
+        ensures asks { StepsMachine result ([]) self.old.store.pages self.new.store.pages
             (S.state site.old) (S.state site.new) }
         ensures stops { IfErr result (λ stop. (stop ≡ Stop.Device Dev.Log) ⊎ (stop ≡ Stop.Worn Dev.Log)) }
     {
@@ -215,17 +215,17 @@ impl Engine {
 
     /// A session's writes enter the table, and it ends.
     pub fn commit<S: Site>(&mut self, site: &mut S, session: u32) -> Result<Reply, Stop>
-        requires going { MayGoOn self.old (S.state site.old) }
+        requires going { Invariant self.old (S.state site.old) }
 
         // Of an honest site that the database fits.
-        ensures answers { (s : State) → Fits self.old (S.state site.old) s
+        ensures answers { (s : State) → Matches self.old (S.state site.old) s
             → Answers result self.old self.new (S.state site.old) (S.state site.new) s (run s (Command.Commit session))
             (command_touches true s (Command.Commit session))
             (LeavesEither (sizes_of self.old.store) s (run s (Command.Commit session)).after (S.state site.old).told)
             (checkpoints_by s (Command.Commit session)) }
 
         // Of every site.
-        ensures serves { Serves result self.old self.new (S.state site.old) (S.state site.new) }
+        ensures serves { KeepsEngine result self.old self.new (S.state site.old) (S.state site.new) }
         ensures ended { OnErr result (self.new.ended ≡ true) }
         ensures stops { IfErr result (λ stop. (stop ≡ Stop.Device Dev.Log) ⊎ (stop ≡ Stop.Worn Dev.Log)) }
     {
@@ -244,21 +244,22 @@ impl Engine {
 
     // Undoes a session's transaction, and ends the session.
     fn carry_out_abort<S: Site>(&mut self, site: &mut S, entry: Active) -> Result<Reply, Stop>
-        requires going { MayGoOn self.old (S.state site.old) }
+        requires going { Invariant self.old (S.state site.old) }
         requires active { entry_of self.old.active entry.session ≡ Some entry }
 
         // Of an honest site that the database fits.
         ensures done { IfOk result (λ reply. reply ≡ Reply.Aborted) }
-        ensures does { (s : State) → Fits self.old (S.state site.old) s
+        ensures does { (s : State) → Matches self.old (S.state site.old) s
             → Does result self.old self.new (S.state site.old) (S.state site.new) s
             (effect s (Command.Abort entry.session))
             (LeavesTable (sizes_of self.old.store) s.table s.commits (S.state site.old).told) 0 }
-        ensures asks { (s : State) → Fits self.old (S.state site.old) s
-            → Asks result (map (λ write. write_touch write.0) (reverse (writes_of (session_at s entry.session))))
+        ensures asks { (s : State) → Matches self.old (S.state site.old) s
+            → StepsMachine result
+            (map (λ write. write_touch write.0) (reverse (writes_of (session_at s entry.session))))
             self.old.store.pages self.new.store.pages (S.state site.old) (S.state site.new) }
 
         // Of every site.
-        ensures serves { Serves result self.old self.new (S.state site.old) (S.state site.new) }
+        ensures serves { KeepsEngine result self.old self.new (S.state site.old) (S.state site.new) }
     {
         let owed = self.active.owed() - (entry.writes + 1);
         match self.store.roll_back(site, entry, owed) {
@@ -273,17 +274,17 @@ impl Engine {
 
     /// A session's writes are dropped, and it ends.
     pub fn abort<S: Site>(&mut self, site: &mut S, session: u32) -> Result<Reply, Stop>
-        requires going { MayGoOn self.old (S.state site.old) }
+        requires going { Invariant self.old (S.state site.old) }
 
         // Of an honest site that the database fits.
-        ensures answers { (s : State) → Fits self.old (S.state site.old) s
+        ensures answers { (s : State) → Matches self.old (S.state site.old) s
             → Answers result self.old self.new (S.state site.old) (S.state site.new) s (run s (Command.Abort session))
             (command_touches true s (Command.Abort session))
             (LeavesTable (sizes_of self.old.store) s.table s.commits (S.state site.old).told)
             (checkpoints_by s (Command.Abort session)) }
 
         // Of every site.
-        ensures serves { Serves result self.old self.new (S.state site.old) (S.state site.new) }
+        ensures serves { KeepsEngine result self.old self.new (S.state site.old) (S.state site.new) }
         ensures ended { OnErr result (self.new.ended ≡ true) }
     {
         hold_together();

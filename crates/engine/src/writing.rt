@@ -11,14 +11,14 @@ ghost use Rattle.record_model.specs.State.{State};
 ghost use Rattle.byte_fields.specs.declared.TheConstants.{VALUE_MAX};
 ghost use Rattle.log_records.specs.Spelling.{IsShort};
 ghost use Rattle.txn_table.specs.Entries.{entry_of};
-ghost use Rattle.engine.specs.Going.{MayGoOn, sizes_of};
+ghost use Rattle.engine.specs.Invariant.{Invariant, sizes_of};
 ghost use Rattle.engine.specs.Permits.{MayWrite};
-ghost use Rattle.engine.specs.Fits.{Fits, run, with_write, Refuses, Accepts};
+ghost use Rattle.engine.specs.Representation.{Matches, run, with_write, Refuses, Accepts};
 ghost use Rattle.engine.specs.Leaves.{LeavesTable};
 ghost use Rattle.record_model.specs.Touches.{command_touches};
-ghost use Rattle.redo_undo.specs.Works.{Asks, Overflows, one_change};
+ghost use Rattle.redo_undo.specs.MachineSteps.{StepsMachine, Overflows, one_change};
 ghost use Rattle.page_store.specs.Caching.{cache_of, rules};
-ghost use Rattle.engine.specs.Calls.{Serves, Does, Answers};
+ghost use Rattle.engine.specs.Calls.{KeepsEngine, Does, Answers};
 ghost use Rattle.engine.specs.Numbers.{checkpoints_by};
 
 use crate::engine::Engine;
@@ -39,21 +39,21 @@ impl Engine {
         number: u32,
         after: &Option<Octets>,
     ) -> Result<Reply, Stop>
-        requires going { MayGoOn self.old (S.state site.old) }
+        requires going { Invariant self.old (S.state site.old) }
         requires active { entry_of self.old.active entry.session ≡ Some entry }
         requires short { IsShort after.now }
         requires may { MayWrite self.old (Some entry.session) number 2 }
 
         // Of an honest site that the database fits.
         ensures done { IfOk result (λ reply. reply ≡ Reply.Done) }
-        ensures does { (s : State) → Fits self.old (S.state site.old) s
+        ensures does { (s : State) → Matches self.old (S.state site.old) s
             → Does result self.old self.new (S.state site.old) (S.state site.new) s
             (with_write s entry.session (number, after.now))
             (LeavesTable (sizes_of self.old.store) s.table s.commits (S.state site.old).told) 0 }
 
         // Of every site.
-        ensures serves { Serves result self.old self.new (S.state site.old) (S.state site.new) }
-        ensures asks { Asks result (one_change (number / 32)) self.old.store.pages self.new.store.pages
+        ensures serves { KeepsEngine result self.old self.new (S.state site.old) (S.state site.new) }
+        ensures asks { StepsMachine result (one_change (number / 32)) self.old.store.pages self.new.store.pages
             (S.state site.old) (S.state site.new) }
     {
         touch_then_change();
@@ -90,7 +90,7 @@ impl Engine {
 
     // Why a session can't write a value, if it can't.
     fn write_refusal(&self, session: u32, number: u32, value: &Octets) -> Option<Reply>
-        requires going { (site : Site) × MayGoOn self.now site }
+        requires going { (site : Site) × Invariant self.now site }
         ensures refused { IfSome result (λ reply. Refuses self.now (Command.Write session number value.now) reply) }
         ensures accepted { IfNone result (Accepts self.now (Command.Write session number value.now)) }
         ensures active { IfNone result (IsSome (entry_of self.now.active session)) }
@@ -123,10 +123,10 @@ impl Engine {
         number: u32,
         value: &Octets,
     ) -> Result<Reply, Stop>
-        requires going { MayGoOn self.old (S.state site.old) }
+        requires going { Invariant self.old (S.state site.old) }
 
         // Of an honest site that the database fits.
-        ensures answers { (s : State) → Fits self.old (S.state site.old) s
+        ensures answers { (s : State) → Matches self.old (S.state site.old) s
             → Answers result self.old self.new (S.state site.old) (S.state site.new) s
             (run s (Command.Write session number value.now))
             (command_touches true s (Command.Write session number value.now))
@@ -134,7 +134,7 @@ impl Engine {
             (checkpoints_by s (Command.Write session number value.now)) }
 
         // Of every site.
-        ensures serves { Serves result self.old self.new (S.state site.old) (S.state site.new) }
+        ensures serves { KeepsEngine result self.old self.new (S.state site.old) (S.state site.new) }
         ensures ended { OnErr result (self.new.ended ≡ true) }
         ensures worn_flash { IsErrOf result (Stop.Worn Dev.Flash)
             → Overflows (rules self.old.store.pages) (one_change (number / 32)) (cache_of self.old.store.pages) }
@@ -156,7 +156,7 @@ impl Engine {
 
     // Why a session can't take a value away, if it can't.
     fn erase_refusal(&self, session: u32, number: u32) -> Option<Reply>
-        requires going { (site : Site) × MayGoOn self.now site }
+        requires going { (site : Site) × Invariant self.now site }
         ensures refused { IfSome result (λ reply. Refuses self.now (Command.Erase session number) reply) }
         ensures accepted { IfNone result (Accepts self.now (Command.Erase session number)) }
         ensures active { IfNone result (IsSome (entry_of self.now.active session)) }
@@ -179,17 +179,17 @@ impl Engine {
 
     /// A session takes the value of a record away. Nobody else sees it before the session commits.
     pub fn erase<S: Site>(&mut self, site: &mut S, session: u32, number: u32) -> Result<Reply, Stop>
-        requires going { MayGoOn self.old (S.state site.old) }
+        requires going { Invariant self.old (S.state site.old) }
 
         // Of an honest site that the database fits.
-        ensures answers { (s : State) → Fits self.old (S.state site.old) s
+        ensures answers { (s : State) → Matches self.old (S.state site.old) s
             → Answers result self.old self.new (S.state site.old) (S.state site.new) s
             (run s (Command.Erase session number)) (command_touches true s (Command.Erase session number))
             (LeavesTable (sizes_of self.old.store) s.table s.commits (S.state site.old).told)
             (checkpoints_by s (Command.Erase session number)) }
 
         // Of every site.
-        ensures serves { Serves result self.old self.new (S.state site.old) (S.state site.new) }
+        ensures serves { KeepsEngine result self.old self.new (S.state site.old) (S.state site.new) }
         ensures ended { OnErr result (self.new.ended ≡ true) }
         ensures worn_flash { IsErrOf result (Stop.Worn Dev.Flash)
             → Overflows (rules self.old.store.pages) (one_change (number / 32)) (cache_of self.old.store.pages) }

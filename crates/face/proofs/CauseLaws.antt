@@ -4,10 +4,10 @@ use Rattle.site.specs.declared.outside.Dev.{Dev}
 use Rattle.site.specs.declared.outside.Dev.TheVariants.{Log, Flash, Disk}
 use Rattle.site.specs.declared.outside.Stop.TheVariants.{Device, Memory, Worn, Foreign}
 use Rattle.site.specs.State.{Input, State, faults_of}
-use Rattle.site.specs.Calls.{Goes}
+use Rattle.site.specs.Calls.{Preserves}
 use Rattle.site.specs.Laws.{rose_then}
 use Rattle.site.specs.Telling.{SameDevices}
-use Rattle.flash_cache.specs.Held.{IsWorn}
+use Rattle.flash_cache.specs.Representation.{IsWorn}
 use Rattle.redo_undo.specs.Holding.{IsLogWorn}
 use Rattle.face.specs.declared.halt.Halt.{Halt}
 use Rattle.face.specs.declared.halt.Halt.TheVariants as halt
@@ -15,7 +15,7 @@ use Rattle.face.specs.Texts.{status_of}
 use Rattle.face.specs.Causes.{HasCause, HasCauses, IsWornOut}
 
 -- a cause holds still when a line was told
-pub cause_then : (h : Halt) (a b c : State) → HasCause h a b → Goes b c → (IsTrue a.honest → SameDevices b c) → HasCause h a c
+pub cause_then : (h : Halt) (a b c : State) → HasCause h a b → Preserves b c → (IsTrue a.honest → SameDevices b c) → HasCause h a c
 cause_then (halt.Stop (Device dev)) a b c cause goes same = rose_then (faults_of dev a) (faults_of dev b) (faults_of dev c) cause (goes.faults dev)
 cause_then (halt.Stop Memory) a b c cause goes same = cause
 cause_then (halt.Stop (Worn Log)) a b c cause goes same = λ honest g table commits stands. subst (IsLogWorn g) (sym (same honest).image) (cause honest g table commits stands)

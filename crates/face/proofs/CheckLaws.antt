@@ -7,7 +7,7 @@ use Rattle.site.specs.declared.outside.Failed.{Failed as CallFailed}
 use Rattle.site.specs.declared.outside.Stop.{Stop}
 use Rattle.site.specs.declared.outside.Stop.TheVariants.{Device, Memory, Worn, Foreign}
 use Rattle.site.specs.State.{State, Image, faults_of}
-use Rattle.site.specs.Calls.{Goes, IsUnchanged, Rose}
+use Rattle.site.specs.Calls.{Preserves, IsUnchanged, Rose}
 use Rattle.site.specs.Laws.{stays_honest, unchanged_devices, devices_in_sequence}
 use Rattle.site.specs.Work.{IsOutside}
 use Rattle.log_records.specs.Log.{table_of}
@@ -15,7 +15,7 @@ use Rattle.image_check.specs.declared.verdict.Verdict.{Verdict}
 use Rattle.image_check.specs.declared.place.Place.TheVariants.{Lengths}
 use Rattle.image_check.specs.declared.verdict.Verdict.TheVariants.{Sound, Unsound}
 use Rattle.image_check.specs.Judgement.{IsVerdictOn}
-use Rattle.image_check.specs.Verdict.{FailsFirst, Reading, Rule, picture_of}
+use Rattle.image_check.specs.Verdict.{FailsFirst, picture_of}
 use Rattle.image_check.specs.Laws.{SoundFailsNone, SoundStands, StandingIsSound}
 use Rattle.engine.specs.Leaves.{HasNoSizes}
 use Rattle.face.specs.declared.halt.Halt.TheVariants as halt
@@ -28,9 +28,10 @@ use Rattle.face.proofs.Endings.{ends_with, only_tells}
 use Rattle.face.proofs.Firsts.{first_done}
 use Rattle.face.proofs.Meanings.{opens_where_it_stands, stands_by}
 use Rattle.face.proofs.NewLaws.{moments}
+use Rattle.image_check.proofs.Readings.{rule_past}
 
 -- the line comes after calls that only read
-pub checked : {T : Type 0} (old mid new : State) (line : List ℕ) (status : ℕ) (result : Result T CallFailed) → Goes old mid → (IsTrue old.honest → IsUnchanged old mid) → Tells line mid new result
+pub checked : {T : Type 0} (old mid new : State) (line : List ℕ) (status : ℕ) (result : Result T CallFailed) → Preserves old mid → (IsTrue old.honest → IsUnchanged old mid) → Tells line mid new result
     → IsAnswer status line old new → (IsTrue old.honest → (status ≡ 0) ⊎ (status ≡ 11) → new.told ≡ mid.told ++ line) → Check old new status
 checked old mid new line status result goes same tells answer whole = record {
   line = line;
@@ -43,19 +44,6 @@ checked old mid new line status result goes same tells answer whole = record {
 
 -- The rule that fails is one of the eleven.
 
-no_rule : (i : ℕ) (r : Reading) (image : Image) → 12 ≤ i → Rule i r image
-no_rule i r image past = record {
-  third = λ e. absurd (omega (arith, past, e));
-  fourth = λ e. absurd (omega (arith, past, e));
-  fifth = λ e. absurd (omega (arith, past, e));
-  sixth = λ e. absurd (omega (arith, past, e));
-  seventh = λ e. absurd (omega (arith, past, e));
-  eighth = λ e. absurd (omega (arith, past, e));
-  ninth = λ e. absurd (omega (arith, past, e));
-  tenth = λ e. absurd (omega (arith, past, e));
-  eleventh = λ e. absurd (omega (arith, past, e));
-}
-
 numbered : (i : ℕ) (image : Image) → FailsFirst i image → (1 ≤ i) × (i ≤ 11)
 numbered zero image fails = absurd fails
 numbered (suc zero) image fails = (omega arith, omega arith)
@@ -64,7 +52,7 @@ numbered (suc (suc (suc i))) image fails =
     let k : ℕ = suc (suc (suc i)) in
     elim (cases_lt k 12) [
       | inl below ↦ (omega arith, omega (arith, below))
-      | inr past ↦ absurd (fails.3 (no_rule k fails.0 image past))
+      | inr past ↦ absurd (fails.3 (rule_past k fails.0 image past))
     ]
 
 -- What a verdict says.

@@ -1,5 +1,5 @@
 -- What words are that `clap` has read.
-use Rattle.std.proofs.Common.{◌≡◌, ◌||◌, ◌++◌, ◌∙◌, ap, refl, sym, subst, inl, inr, ◌⊎◌, ℕ, Bool, true, false, List, [], ◌∷◌, codes, fold, arith, append_assoc}
+use Rattle.std.proofs.Common.{◌≡◌, ◌++◌, ◌∙◌, ap, refl, sym, subst, inl, inr, ◌⊎◌, ℕ, Bool, true, false, List, [], ◌∷◌, codes, fold, arith, append_assoc}
 use Rattle.std.specs.Prelude.{Option, Some, None, option_map}
 use Rattle.std.specs.Str.{bytes_eq}
 use Rattle.std.specs.List.{list_any}
@@ -14,6 +14,8 @@ use Rattle.clap.proofs.OnLiterals.{clap_on_literals}
 use Rattle.face.specs.Words.{is_dashed}
 use Rattle.std.proofs.Common.{length}
 use Rattle.std.specs.Prelude.{decimal}
+use Rattle.std.proofs.lemmas.Bool.{or_parts}
+use Rattle.std.proofs.lemmas.Option.{same_Some}
 use Rattle.clap.specs.Words.{first_value, rows_of, subcommand_name_of, subcommand_rows_of}
 use Rattle.clap.specs.declared.parser.matches.ArgMatches.{ArgMatches}
 use Rattle.clap.specs.declared.parser.matches.ArgMatches.TheViews.{out-ArgMatches}
@@ -77,13 +79,6 @@ pub record IsTrialLine (words : List Text) (rows : List Row) : Type 0 where
 -- the words are `check` alone
 abbrev IsCheckLine : List Text → List Row → Type 0
 IsCheckLine words rows = IsCheck words
-
-neither : (a b : Bool) → (a || b) ≡ false → (a ≡ false) × (b ≡ false)
-neither true b e = let bad : true ≡ false = e in cc
-neither false b e = (refl, e)
-
-only : {X : Type 0} (a b : X) → Some a ≡ Some b → a ≡ b
-only a b e = cc
 
 -- a word without a dash is a text
 pub long : (w : Text) → is_dashed w ≡ false → long_of w ≡ None
@@ -186,9 +181,9 @@ run_more t u rest a b none =
 
 run_line : (rest : List Text) (rows : List Row) → list_any is_dashed rest ≡ false → fault_of program (codes "run" ∷ rest) ≡ [] → subcommand_of program (codes "run" ∷ rest) ≡ Some (codes "run", rows) → IsRunLine (codes "run" ∷ rest) rows
 run_line [] rows plain none same = absurd (run_none none)
-run_line (t ∷ []) rows plain none same = record { text = t; words_are = refl; pool = only _ _ (ap (option_map (λ p. first_of (codes "pool") p.1)) (sym same) ∙ run_one t (neither _ _ plain).0) }
+run_line (t ∷ []) rows plain none same = record { text = t; words_are = refl; pool = same_Some _ _ (ap (option_map (λ p. first_of (codes "pool") p.1)) (sym same) ∙ run_one t (or_parts _ _ plain).0) }
 run_line (t ∷ u ∷ rest) rows plain none same =
-    absurd (run_more t u rest (neither _ _ plain).0 (neither _ _ (neither (is_dashed t) _ plain).1).0 (below (codes "run") (t ∷ u ∷ rest) (stop_run (t ∷ u ∷ rest)) none))
+    absurd (run_more t u rest (or_parts _ _ plain).0 (or_parts _ _ (or_parts (is_dashed t) _ plain).1).0 (below (codes "run") (t ∷ u ∷ rest) (stop_run (t ∷ u ∷ rest)) none))
 
 -- what `new` takes
 new_none : fault_of program (codes "new" ∷ []) ≡ [] → ⊥
@@ -225,19 +220,19 @@ new_three t u v a b c = rw (dashes t a, long t a, short t a, dashes u b, long u 
 
 new_line : (rest : List Text) (rows : List Row) → list_any is_dashed rest ≡ false → fault_of program (codes "new" ∷ rest) ≡ [] → subcommand_of program (codes "new" ∷ rest) ≡ Some (codes "new", rows) → IsNewLine (codes "new" ∷ rest) rows
 new_line [] rows plain none same = absurd (new_none none)
-new_line (t ∷ []) rows plain none same = absurd (new_one t (neither _ _ plain).0 none)
-new_line (t ∷ u ∷ []) rows plain none same = absurd (new_two t u (neither _ _ plain).0 (neither _ _ (neither (is_dashed t) _ plain).1).0 none)
+new_line (t ∷ []) rows plain none same = absurd (new_one t (or_parts _ _ plain).0 none)
+new_line (t ∷ u ∷ []) rows plain none same = absurd (new_two t u (or_parts _ _ plain).0 (or_parts _ _ (or_parts (is_dashed t) _ plain).1).0 none)
 new_line (t ∷ u ∷ v ∷ []) rows plain none same =
-    let p = neither (is_dashed t) (list_any is_dashed (u ∷ v ∷ [])) plain in
-    let q = neither (is_dashed u) (list_any is_dashed (v ∷ [])) p.1 in
-    let r = neither (is_dashed v) false q.1 in
-    let three = only _ _ (ap texts_in (sym same) ∙ new_three t u v p.0 q.0 r.0) in
+    let p = or_parts (is_dashed t) (list_any is_dashed (u ∷ v ∷ [])) plain in
+    let q = or_parts (is_dashed u) (list_any is_dashed (v ∷ [])) p.1 in
+    let r = or_parts (is_dashed v) false q.1 in
+    let three = same_Some _ _ (ap texts_in (sym same) ∙ new_three t u v p.0 q.0 r.0) in
     record { pages = t; groups = u; blocks = v; words_are = refl; pages_are = ap (λ x. x.0) three; groups_are = ap (λ x. x.1) three; blocks_are = ap (λ x. x.2) three }
 new_line (t ∷ u ∷ v ∷ w ∷ rest) rows plain none same =
-    let p = neither (is_dashed t) (list_any is_dashed (u ∷ v ∷ w ∷ rest)) plain in
-    let q = neither (is_dashed u) (list_any is_dashed (v ∷ w ∷ rest)) p.1 in
-    let r = neither (is_dashed v) (list_any is_dashed (w ∷ rest)) q.1 in
-    let s = neither (is_dashed w) (list_any is_dashed rest) r.1 in
+    let p = or_parts (is_dashed t) (list_any is_dashed (u ∷ v ∷ w ∷ rest)) plain in
+    let q = or_parts (is_dashed u) (list_any is_dashed (v ∷ w ∷ rest)) p.1 in
+    let r = or_parts (is_dashed v) (list_any is_dashed (w ∷ rest)) q.1 in
+    let s = or_parts (is_dashed w) (list_any is_dashed rest) r.1 in
     absurd (new_more t u v w rest p.0 q.0 r.0 s.0 (below (codes "new") (t ∷ u ∷ v ∷ w ∷ rest) (stop_new (t ∷ u ∷ v ∷ w ∷ rest)) none))
 
 -- what `load` takes
@@ -275,19 +270,19 @@ load_three t u v a b c = rw (dashes t a, long t a, short t a, dashes u b, long u
 
 load_line : (rest : List Text) (rows : List Row) → list_any is_dashed rest ≡ false → fault_of program (codes "load" ∷ rest) ≡ [] → subcommand_of program (codes "load" ∷ rest) ≡ Some (codes "load", rows) → IsLoadLine (codes "load" ∷ rest) rows
 load_line [] rows plain none same = absurd (load_none none)
-load_line (t ∷ []) rows plain none same = absurd (load_one t (neither _ _ plain).0 none)
-load_line (t ∷ u ∷ []) rows plain none same = absurd (load_two t u (neither _ _ plain).0 (neither _ _ (neither (is_dashed t) _ plain).1).0 none)
+load_line (t ∷ []) rows plain none same = absurd (load_one t (or_parts _ _ plain).0 none)
+load_line (t ∷ u ∷ []) rows plain none same = absurd (load_two t u (or_parts _ _ plain).0 (or_parts _ _ (or_parts (is_dashed t) _ plain).1).0 none)
 load_line (t ∷ u ∷ v ∷ []) rows plain none same =
-    let p = neither (is_dashed t) (list_any is_dashed (u ∷ v ∷ [])) plain in
-    let q = neither (is_dashed u) (list_any is_dashed (v ∷ [])) p.1 in
-    let r = neither (is_dashed v) false q.1 in
-    let three = only _ _ (ap load_texts_in (sym same) ∙ load_three t u v p.0 q.0 r.0) in
+    let p = or_parts (is_dashed t) (list_any is_dashed (u ∷ v ∷ [])) plain in
+    let q = or_parts (is_dashed u) (list_any is_dashed (v ∷ [])) p.1 in
+    let r = or_parts (is_dashed v) false q.1 in
+    let three = same_Some _ _ (ap load_texts_in (sym same) ∙ load_three t u v p.0 q.0 r.0) in
     record { count = t; seed = u; pool = v; words_are = refl; count_is = ap (λ x. x.0) three; seed_is = ap (λ x. x.1) three; pool_is = ap (λ x. x.2) three }
 load_line (t ∷ u ∷ v ∷ w ∷ rest) rows plain none same =
-    let p = neither (is_dashed t) (list_any is_dashed (u ∷ v ∷ w ∷ rest)) plain in
-    let q = neither (is_dashed u) (list_any is_dashed (v ∷ w ∷ rest)) p.1 in
-    let r = neither (is_dashed v) (list_any is_dashed (w ∷ rest)) q.1 in
-    let s = neither (is_dashed w) (list_any is_dashed rest) r.1 in
+    let p = or_parts (is_dashed t) (list_any is_dashed (u ∷ v ∷ w ∷ rest)) plain in
+    let q = or_parts (is_dashed u) (list_any is_dashed (v ∷ w ∷ rest)) p.1 in
+    let r = or_parts (is_dashed v) (list_any is_dashed (w ∷ rest)) q.1 in
+    let s = or_parts (is_dashed w) (list_any is_dashed rest) r.1 in
     absurd (load_more t u v w rest p.0 q.0 r.0 s.0 (below (codes "load") (t ∷ u ∷ v ∷ w ∷ rest) (stop_load (t ∷ u ∷ v ∷ w ∷ rest)) none))
 
 -- what `simulate` takes
@@ -318,16 +313,16 @@ simulate_two t u a b = rw (dashes t a, long t a, short t a, dashes u b, long u b
 
 simulate_line : (rest : List Text) (rows : List Row) → list_any is_dashed rest ≡ false → fault_of program (codes "simulate" ∷ rest) ≡ [] → subcommand_of program (codes "simulate" ∷ rest) ≡ Some (codes "simulate", rows) → IsSimulateLine (codes "simulate" ∷ rest) rows
 simulate_line [] rows plain none same = absurd (simulate_none none)
-simulate_line (t ∷ []) rows plain none same = absurd (simulate_one t (neither _ _ plain).0 none)
+simulate_line (t ∷ []) rows plain none same = absurd (simulate_one t (or_parts _ _ plain).0 none)
 simulate_line (t ∷ u ∷ []) rows plain none same =
-    let p = neither (is_dashed t) (list_any is_dashed (u ∷ [])) plain in
-    let q = neither (is_dashed u) false p.1 in
-    let two = only _ _ (ap simulate_texts_in (sym same) ∙ simulate_two t u p.0 q.0) in
+    let p = or_parts (is_dashed t) (list_any is_dashed (u ∷ [])) plain in
+    let q = or_parts (is_dashed u) false p.1 in
+    let two = same_Some _ _ (ap simulate_texts_in (sym same) ∙ simulate_two t u p.0 q.0) in
     record { groups = t; pool = u; words_are = refl; groups_are = ap (λ x. x.0) two; pool_is = ap (λ x. x.1) two }
 simulate_line (t ∷ u ∷ v ∷ rest) rows plain none same =
-    let p = neither (is_dashed t) (list_any is_dashed (u ∷ v ∷ rest)) plain in
-    let q = neither (is_dashed u) (list_any is_dashed (v ∷ rest)) p.1 in
-    let r = neither (is_dashed v) (list_any is_dashed rest) q.1 in
+    let p = or_parts (is_dashed t) (list_any is_dashed (u ∷ v ∷ rest)) plain in
+    let q = or_parts (is_dashed u) (list_any is_dashed (v ∷ rest)) p.1 in
+    let r = or_parts (is_dashed v) (list_any is_dashed rest) q.1 in
     absurd (simulate_more t u v rest p.0 q.0 r.0 (below (codes "simulate") (t ∷ u ∷ v ∷ rest) (stop_simulate (t ∷ u ∷ v ∷ rest)) none))
 
 -- what `trial` takes
@@ -372,26 +367,26 @@ trial_four t u v w a b c d = rw (dashes t a, long t a, short t a, dashes u b, lo
 
 trial_line : (rest : List Text) (rows : List Row) → list_any is_dashed rest ≡ false → fault_of program (codes "trial" ∷ rest) ≡ [] → subcommand_of program (codes "trial" ∷ rest) ≡ Some (codes "trial", rows) → IsTrialLine (codes "trial" ∷ rest) rows
 trial_line [] rows plain none same = absurd (trial_none none)
-trial_line (t ∷ []) rows plain none same = absurd (trial_one t (neither _ _ plain).0 none)
-trial_line (t ∷ u ∷ []) rows plain none same = absurd (trial_two t u (neither _ _ plain).0 (neither _ _ (neither (is_dashed t) _ plain).1).0 none)
+trial_line (t ∷ []) rows plain none same = absurd (trial_one t (or_parts _ _ plain).0 none)
+trial_line (t ∷ u ∷ []) rows plain none same = absurd (trial_two t u (or_parts _ _ plain).0 (or_parts _ _ (or_parts (is_dashed t) _ plain).1).0 none)
 trial_line (t ∷ u ∷ v ∷ []) rows plain none same =
-    let p = neither (is_dashed t) (list_any is_dashed (u ∷ v ∷ [])) plain in
-    let q = neither (is_dashed u) (list_any is_dashed (v ∷ [])) p.1 in
-    let r = neither (is_dashed v) false q.1 in
+    let p = or_parts (is_dashed t) (list_any is_dashed (u ∷ v ∷ [])) plain in
+    let q = or_parts (is_dashed u) (list_any is_dashed (v ∷ [])) p.1 in
+    let r = or_parts (is_dashed v) false q.1 in
     absurd (trial_three t u v p.0 q.0 r.0 none)
 trial_line (t ∷ u ∷ v ∷ w ∷ []) rows plain none same =
-    let p = neither (is_dashed t) (list_any is_dashed (u ∷ v ∷ w ∷ [])) plain in
-    let q = neither (is_dashed u) (list_any is_dashed (v ∷ w ∷ [])) p.1 in
-    let r = neither (is_dashed v) (list_any is_dashed (w ∷ [])) q.1 in
-    let s = neither (is_dashed w) false r.1 in
-    let four = only _ _ (ap trial_texts_in (sym same) ∙ trial_four t u v w p.0 q.0 r.0 s.0) in
+    let p = or_parts (is_dashed t) (list_any is_dashed (u ∷ v ∷ w ∷ [])) plain in
+    let q = or_parts (is_dashed u) (list_any is_dashed (v ∷ w ∷ [])) p.1 in
+    let r = or_parts (is_dashed v) (list_any is_dashed (w ∷ [])) q.1 in
+    let s = or_parts (is_dashed w) false r.1 in
+    let four = same_Some _ _ (ap trial_texts_in (sym same) ∙ trial_four t u v w p.0 q.0 r.0 s.0) in
     record { pages = t; groups = u; blocks = v; pool = w; words_are = refl; pages_are = ap (λ x. x.0) four; groups_are = ap (λ x. x.1) four; blocks_are = ap (λ x. x.2) four; pool_is = ap (λ x. x.3) four }
 trial_line (t ∷ u ∷ v ∷ w ∷ x ∷ rest) rows plain none same =
-    let p = neither (is_dashed t) (list_any is_dashed (u ∷ v ∷ w ∷ x ∷ rest)) plain in
-    let q = neither (is_dashed u) (list_any is_dashed (v ∷ w ∷ x ∷ rest)) p.1 in
-    let r = neither (is_dashed v) (list_any is_dashed (w ∷ x ∷ rest)) q.1 in
-    let s = neither (is_dashed w) (list_any is_dashed (x ∷ rest)) r.1 in
-    let y = neither (is_dashed x) (list_any is_dashed rest) s.1 in
+    let p = or_parts (is_dashed t) (list_any is_dashed (u ∷ v ∷ w ∷ x ∷ rest)) plain in
+    let q = or_parts (is_dashed u) (list_any is_dashed (v ∷ w ∷ x ∷ rest)) p.1 in
+    let r = or_parts (is_dashed v) (list_any is_dashed (w ∷ x ∷ rest)) q.1 in
+    let s = or_parts (is_dashed w) (list_any is_dashed (x ∷ rest)) r.1 in
+    let y = or_parts (is_dashed x) (list_any is_dashed rest) s.1 in
     absurd (trial_more t u v w x rest p.0 q.0 r.0 s.0 y.0 (below (codes "trial") (t ∷ u ∷ v ∷ w ∷ x ∷ rest) (stop_trial (t ∷ u ∷ v ∷ w ∷ x ∷ rest)) none))
 
 -- what `check` takes
@@ -404,7 +399,7 @@ check_more t rest a none =
 
 check_line : (rest : List Text) (rows : List Row) → list_any is_dashed rest ≡ false → fault_of program (codes "check" ∷ rest) ≡ [] → subcommand_of program (codes "check" ∷ rest) ≡ Some (codes "check", rows) → IsCheckLine (codes "check" ∷ rest) rows
 check_line [] rows plain none same = refl
-check_line (t ∷ rest) rows plain none same = absurd (check_more t rest (neither (is_dashed t) (list_any is_dashed rest) plain).0 (below (codes "check") (t ∷ rest) (stop_check (t ∷ rest)) none))
+check_line (t ∷ rest) rows plain none same = absurd (check_more t rest (or_parts (is_dashed t) (list_any is_dashed rest) plain).0 (below (codes "check") (t ∷ rest) (stop_check (t ∷ rest)) none))
 
 -- the first word names a subcommand, and it is that one which is found
 abbrev IsName : Text → Type 0
@@ -467,10 +462,10 @@ no_words a rows same = cc
 -- the words behind the first one, which is the name that was found
 module _ (w : Text) (rest : List Text) (rows : List Row) (plain : list_any is_dashed (w ∷ rest) ≡ false) (none : fault_of program (w ∷ rest) ≡ []) (name : Text) (same : subcommand_of program (w ∷ rest) ≡ Some (name, rows)) where
   is_it : w ≡ name
-  is_it = only _ _ (sym (own_name w rest (names_one w rest (neither (is_dashed w) _ plain).0 none)) ∙ ap name_in same)
+  is_it = same_Some _ _ (sym (own_name w rest (names_one w rest (or_parts (is_dashed w) _ plain).0 none)) ∙ ap name_in same)
 
   behind : (Line : List Text → List Row → Type 0) → (list_any is_dashed rest ≡ false → fault_of program (name ∷ rest) ≡ [] → subcommand_of program (name ∷ rest) ≡ Some (name, rows) → Line (name ∷ rest) rows) → Line (w ∷ rest) rows
-  behind Line line = subst (λ (v : Text). Line (v ∷ rest) rows) (sym is_it) (line (neither (is_dashed w) _ plain).1 (ap (λ (v : Text). fault_of program (v ∷ rest)) (sym is_it) ∙ none) (ap (λ (v : Text). subcommand_of program (v ∷ rest)) (sym is_it) ∙ same))
+  behind Line line = subst (λ (v : Text). Line (v ∷ rest) rows) (sym is_it) (line (or_parts (is_dashed w) _ plain).1 (ap (λ (v : Text). fault_of program (v ∷ rest)) (sym is_it) ∙ none) (ap (λ (v : Text). subcommand_of program (v ∷ rest)) (sym is_it) ∙ same))
 
 pub run_lines : (words : List Text) (rows : List Row) → list_any is_dashed words ≡ false → fault_of program words ≡ [] → subcommand_of program words ≡ Some (codes "run", rows) → IsRunLine words rows
 run_lines [] rows plain none same = absurd (no_words _ rows same)
@@ -500,7 +495,7 @@ check_lines (w ∷ rest) rows plain none same = behind w rest rows plain none (c
 
 both : {A B : Type 0} (o : Option (A × B)) (a : A) (b : B) → option_map (λ p. p.0) o ≡ Some a → option_map (λ p. p.1) o ≡ Some b → o ≡ Some (a, b)
 both None a b e f = let bad : None ≡ Some a = e in cc
-both (Some (x, y)) a b e f = λ i. Some (only x a e i, only y b f i)
+both (Some (x, y)) a b e f = λ i. Some (same_Some x a e i, same_Some y b f i)
 
 compose : {X Y Z : Type 0} (f : X → Y) (g : Y → Z) (o : Option X) → option_map g (option_map f o) ≡ option_map (λ x. g (f x)) o
 compose f g None = refl
@@ -516,7 +511,7 @@ check_right words m read is = go (subcommand_rows_of m) refl
     go : (o : Option (Text × List Row)) → subcommand_rows_of m ≡ o → IsCheck words
     go None e = let bad : None ≡ Some (codes "check") = sym (ap name_in e) ∙ has_name m ∙ is in cc
     go (Some (name, rows)) e =
-        let same : name ≡ codes "check" = only _ _ (sym (ap name_in e) ∙ has_name m ∙ is) in
+        let same : name ≡ codes "check" = same_Some _ _ (sym (ap name_in e) ∙ has_name m ∙ is) in
         check_lines words rows read.plain read.faultless (sym read.rows ∙ e ∙ ap (λ (t : Text). Some (t, rows)) same)
 
 module _ (words : List Text) (m : ArgMatches) (found : Found) (read : IsReadFrom words m) (rows : option_map (λ p. p.1) (subcommand_rows_of m) ≡ Some (rows_of found)) where
@@ -524,7 +519,7 @@ module _ (words : List Text) (m : ArgMatches) (found : Found) (read : IsReadFrom
   its name is = sym read.rows ∙ both _ name (rows_of found) (has_name m ∙ is) rows
 
   text_is : (id a b : Text) → first_of id (rows_of found) ≡ Some a → first_value found id ≡ Some b → a ≡ b
-  text_is id a b e f = only a b (sym e ∙ sym (first_value-rows found id) ∙ f)
+  text_is id a b e f = same_Some a b (sym e ∙ sym (first_value-rows found id) ∙ f)
 
   module _ (is : subcommand_name_of m ≡ Some (codes "run")) where
     run_read : IsRunLine words (rows_of found)

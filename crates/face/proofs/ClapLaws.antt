@@ -6,7 +6,7 @@ use Rattle.clap.specs.Lexer.{long_of, long_of_rest, short_of, short_of_rest, str
 use Rattle.clap.specs.Walk.{Text}
 use Rattle.clap.specs.Words.{takes, subcommand_of}
 use Rattle.clap.proofs.OnLiterals.{clap_on_literals}
-use Rattle.std.proofs.Common.{◌<◌, ◌^◌, ◌||◌, map, slice_index_or, arith, subst, inl, inr}
+use Rattle.std.proofs.Common.{◌<◌, ◌^◌, slice_index_or, arith, subst, inl, inr}
 use Rattle.std.proofs.lemmas.Fmt.{decimal_is_IsNumeral}
 use Rattle.std.proofs.lemmas.Str.Parse.{digit_from_value}
 use Rattle.std.proofs.lemmas.Bool.{ne_eqb}
@@ -15,6 +15,7 @@ use Rattle.std.specs.declared.string.String.{String}
 use Rattle.std.specs.declared.alloc.Global.{Global}
 use Rattle.std.specs.List.{list_any}
 use Rattle.std.specs.Str.Parse.{IsNumeral}
+use Rattle.std_lemmas.proofs.Lists.{any_map}
 use Rattle.face.specs.Words.{HasCacheLimits, HasLoadLimits, HasTrialLimits, IsRight, HasDash, is_dashed, words_of}
 use Rattle.face.specs.declared.request.Load.{Load}
 use Rattle.face.specs.declared.request.Simulation.{Simulation}
@@ -255,12 +256,8 @@ differ_trial_load e = let bad : 116 ≡ 108 = ap (λ (l : Text). slice_index_or 
 pub differ_trial_simulate : codes "trial" ≡ codes "simulate" → ⊥
 differ_trial_simulate e = let bad : 116 ≡ 115 = ap (λ (l : Text). slice_index_or l 0 0) e in absurd (omega (arith, bad))
 
-any_of : {X Y : Type 0} (p : Y → Bool) (f : X → Y) (xs : List X) → list_any p (map f xs) ≡ list_any (λ x. p (f x)) xs
-any_of p f [] = refl
-any_of p f (x ∷ xs) = ap (λ (b : Bool). p (f x) || b) (any_of p f xs)
-
 pub dash_is : (words : List (String Global)) (found : Bool) → found ≡ list_any (λ word. is_dashed (string_bytes word)) words → list_any is_dashed (words_of words) ≡ found
-dash_is words found is = any_of is_dashed string_bytes words ∙ sym is
+dash_is words found is = any_map is_dashed string_bytes words ∙ sym is
 
 pub no_dash : (words : List (String Global)) (found : Bool) → found ≡ list_any (λ word. is_dashed (string_bytes word)) words → found ≡ false → HasDash (words_of words) → ⊥
 no_dash words found is none dash = let bad : true ≡ false = sym dash ∙ dash_is words found is ∙ none in cc

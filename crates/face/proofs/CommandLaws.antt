@@ -11,11 +11,11 @@ use Rattle.site.specs.Calls.{FaultRose}
 use Rattle.record_model.specs.State.{State, Content}
 use Rattle.page_store.specs.Stopping.{MayStop}
 use Rattle.engine.specs.declared.engine.Engine.{Engine}
-use Rattle.engine.specs.Going.{sizes_of}
-use Rattle.flash_cache.specs.Held.{IsWorn}
+use Rattle.engine.specs.Invariant.{sizes_of}
+use Rattle.flash_cache.specs.Representation.{IsWorn}
 use Rattle.redo_undo.specs.Holding.{IsLogWorn}
 use Rattle.engine.specs.Image.{Stands}
-use Rattle.engine.specs.Fits.{Fits}
+use Rattle.engine.specs.Representation.{Matches}
 use Rattle.face.specs.declared.halt.Halt.TheVariants as halt
 use Rattle.engine.specs.Calls.{Ends}
 use Rattle.engine.specs.Leaves.{LeavesTable}
@@ -23,8 +23,8 @@ use Rattle.face.specs.Causes.{FailsBy, HasCause}
 
 -- why a command fails
 pub fails_by : {T : Type 0} (result : Result T Stop) (engine : Engine) (old new : Site) → IfErr result MayStop → ((d : Dev) → IsErrOf result (Device d) → FaultRose d old new)
-    → ((s : State) → Fits engine old s → IsErrOf result (Worn Log) → IsLogWorn (sizes_of engine.store) new.image) → ((s : State) → Fits engine old s → IsErrOf result (Worn Flash) → IsWorn (sizes_of engine.store) new.image)
-    → (IsErrOf result Foreign → (s : State) → Fits engine old s → ⊥) → IfErr result (λ stop. FailsBy stop engine old new)
+    → ((s : State) → Matches engine old s → IsErrOf result (Worn Log) → IsLogWorn (sizes_of engine.store) new.image) → ((s : State) → Matches engine old s → IsErrOf result (Worn Flash) → IsWorn (sizes_of engine.store) new.image)
+    → (IsErrOf result Foreign → (s : State) → Matches engine old s → ⊥) → IfErr result (λ stop. FailsBy stop engine old new)
 fails_by (Ok done) engine old new stops rose log flash foreign = tt
 fails_by (Err (Device dev)) engine old new stops rose log flash foreign = rose dev refl
 fails_by (Err Memory) engine old new stops rose log flash foreign = tt
@@ -35,7 +35,7 @@ fails_by (Err Foreign) engine old new stops rose log flash foreign = foreign ref
 
 -- a command that makes no call on pages
 pub log_fails : {T : Type 0} (result : Result T Stop) (engine : Engine) (old new : Site) → IfErr result (λ stop. (stop ≡ Device Log) ⊎ (stop ≡ Worn Log)) → ((d : Dev) → IsErrOf result (Device d) → FaultRose d old new)
-    → ((s : State) → Fits engine old s → IsErrOf result (Worn Log) → IsLogWorn (sizes_of engine.store) new.image) → IfErr result (λ stop. FailsBy stop engine old new)
+    → ((s : State) → Matches engine old s → IsErrOf result (Worn Log) → IsLogWorn (sizes_of engine.store) new.image) → IfErr result (λ stop. FailsBy stop engine old new)
 log_fails (Ok done) engine old new stops rose log = tt
 log_fails (Err stop) engine old new stops rose log =
     ⊎_elim (λ device. subst (λ (x : Stop). FailsBy x engine old new) (sym device) (rose Log (ap Err device))) (λ worn. subst (λ (x : Stop). FailsBy x engine old new) (sym worn) (λ s fits. log s fits (ap Err worn))) stops

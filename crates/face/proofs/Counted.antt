@@ -1,6 +1,8 @@
 -- How many numbers a run gives to the rings on the log's device, line by line.
 use Rattle.std.proofs.Common.{◌≡◌, ℕ, suc, ◌+◌, ◌≤◌, Bool, true, false, List, [], ◌∷◌, ◌++◌, take, drop, refl, sym, ◌∙◌, ap, subst, arith}
-use Rattle.std.specs.Prelude.{Result, Ok, Err, OnOk, Some, None, if◌then◌else◌}
+use Rattle.std.specs.Prelude.{Result, Ok, Err, Some, None, if◌then◌else◌}
+use Rattle.std_lemmas.proofs.Results.{on_ok}
+use Rattle.std.proofs.lemmas.Result.{on_ok_weaker}
 use Rattle.site.specs.declared.geometry.Geometry.{Geometry}
 use Rattle.site.specs.declared.outside.Stop.{Stop}
 use Rattle.site.specs.State.{State as Site, Image}
@@ -16,8 +18,8 @@ use Rattle.log_records.specs.Unfinished.{owed}
 use Rattle.log_store.specs.declared.store.LogStore.{LogStore}
 use Rattle.redo_undo.specs.Holding.{blocks_to}
 use Rattle.engine.specs.declared.engine.Engine.{Engine}
-use Rattle.engine.specs.Fits.{Fits}
-use Rattle.engine.specs.Going.{MayGoOn, sizes_of}
+use Rattle.engine.specs.Representation.{Matches}
+use Rattle.engine.specs.Invariant.{Invariant, sizes_of}
 use Rattle.engine.specs.Image.{log_under}
 use Rattle.engine.specs.Numbers.{CountsOn, RestartsWithin}
 use Rattle.face.specs.Going.{IsCounted}
@@ -28,19 +30,11 @@ use Rattle.face.specs.Workload.{checkpoints_in, makes_one}
 use Rattle.engine.specs.Numbers.{RestCountsNothing}
 use Rattle.face.proofs.Pagings.{after_same, same_after}
 use Rattle.face.proofs.Runs.{state_next, turn_at, turns_next}
-use Rattle.face.proofs.Stated.{after_cons, count_join, count_one}
+use Rattle.face.proofs.LinesBeforeQuit.{after_cons, count_join, count_one}
 use Rattle.face.proofs.Fronts.{lines_first}
 use Rattle.face.proofs.Turns.{left_are}
 
 -- Calls.
-
-ok_as : {T E : Type 0} (r : Result T E) (P Q : Type 0) → (P → Q) → OnOk r P → OnOk r Q
-ok_as (Ok x) P Q f p = f p
-ok_as (Err e) P Q f p = tt
-
-ok_always : {T E : Type 0} (r : Result T E) (P : Type 0) → P → OnOk r P
-ok_always (Ok x) P p = p
-ok_always (Err e) P p = tt
 
 -- a call that was Ok, and whatever its caller answers where the image stays as it is
 pub counts_then : {A B E F : Type 0} (x : A) (r : Result B F) (old new : Engine) (before mid now : Site) (s after : State) (n : ℕ) → now.image ≡ mid.image → CountsOn {T = A} {E = E} (Ok x) old new before mid s after n → CountsOn r old new before now s after n
@@ -48,10 +42,10 @@ counts_then x r old new before mid now s after n same c =
     let blocks : hi_of (log_shape (sizes_of old.store)) now.image.log ≡ hi_of (log_shape (sizes_of old.store)) mid.image.log = ap (λ (i : Image). hi_of (log_shape (sizes_of old.store)) i.log) same in
     let masters : hi_of master_shape now.image.log ≡ hi_of master_shape mid.image.log = ap (λ (i : Image). hi_of master_shape i.log) same in
     record {
-      log = ok_always r _ c.log;
+      log = on_ok r _ c.log;
       blocks = let few = c.blocks in omega (arith, few, blocks);
       masters = let few = c.masters in omega (arith, few, masters);
-      saved = ok_always r _ (masters ∙ c.saved);
+      saved = on_ok r _ (masters ∙ c.saved);
     }
 
 -- the error of a call is one of its caller
@@ -65,18 +59,18 @@ counts_join x r a b c before mid now s t u n m sizes first second =
     let log = first.log in
     let saved = first.saved in
     record {
-      log = ok_as r _ _ (λ more. omega (arith, more, log)) second.log;
+      log = on_ok_weaker r (λ more. omega (arith, more, log)) second.log;
       blocks = let more = second.blocks in omega (arith, more, log, shape);
       masters = let more = second.masters in omega (arith, more, saved);
-      saved = ok_as r _ _ (λ more. let all : hi_of master_shape now.image.log ≡ hi_of master_shape before.image.log + (n + m) = omega (arith, more, saved) in all) second.saved;
+      saved = on_ok_weaker r (λ more. let all : hi_of master_shape now.image.log ≡ hi_of master_shape before.image.log + (n + m) = omega (arith, more, saved) in all) second.saved;
     }
 
 -- no call
-pub counts_none : {T F : Type 0} (r : Result T F) (engine : Engine) (site : Site) (s : State) → RestCountsNothing → Fits engine site s → MayGoOn engine site → CountsOn r engine engine site site s s 0
+pub counts_none : {T F : Type 0} (r : Result T F) (engine : Engine) (site : Site) (s : State) → RestCountsNothing → Matches engine site s → Invariant engine site → CountsOn r engine engine site site s s 0
 counts_none r engine site s rest fits going = counts_then {E = Stop} reply.Done r engine engine site site site s s 0 refl (rest (Ok reply.Done) engine site s fits going)
 
 -- a line that asks for no call
-pub counts_idle : (r : Result Reply Stop) (line : Line) (engine : Engine) (site : Site) (s : State) → RestCountsNothing → Fits engine site s → MayGoOn engine site → (step s line []).after ≡ s → line_checkpoints s line ≡ 0 → CountsOn r engine engine site site s (step s line []).after (line_checkpoints s line)
+pub counts_idle : (r : Result Reply Stop) (line : Line) (engine : Engine) (site : Site) (s : State) → RestCountsNothing → Matches engine site s → Invariant engine site → (step s line []).after ≡ s → line_checkpoints s line ≡ 0 → CountsOn r engine engine site site s (step s line []).after (line_checkpoints s line)
 counts_idle r line engine site s rest fits going stays none =
     subst (λ (n : ℕ). CountsOn r engine engine site site s (step s line []).after n) (sym none) (subst (λ (a : State). CountsOn r engine engine site site s a 0) (sym stays) (rest r engine site s fits going))
 

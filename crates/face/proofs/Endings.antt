@@ -3,7 +3,7 @@ use Rattle.std.proofs.Common.{◌≡◌, inl, inr, ℕ, List, [], ◌++◌, leng
 use Rattle.std.specs.Prelude.{Err, Ok, Result, OnErr, OnOk, flat_map}
 use Rattle.std.proofs.lemmas.List.{append-nil, take_all}
 use Rattle.site.specs.State.{State}
-use Rattle.site.specs.Calls.{Goes, Rose}
+use Rattle.site.specs.Calls.{Preserves, Rose}
 use Rattle.site.specs.Moments.{EachMoment}
 use Rattle.site.specs.Telling.{TellsPart}
 use Rattle.site.specs.Laws.{goes_nowhere, rose_since}
@@ -18,7 +18,7 @@ use Rattle.face.specs.Texts.{fault_line, status_of}
 use Rattle.face.specs.Words.{OnlyTells, RefusesDevices, foreign_fault}
 
 -- told by one call, behind calls that told `before`
-pub ends_with : {T : Type 0} (before line : List ℕ) (old mid new : State) (result : Result T Failed) → Goes old mid → IsTrue mid.honest → mid.told ≡ before → Tells line mid new result → EndsWith before line old new
+pub ends_with : {T : Type 0} (before line : List ℕ) (old mid new : State) (result : Result T Failed) → Preserves old mid → IsTrue mid.honest → mid.told ≡ before → Tells line mid new result → EndsWith before line old new
 ends_with before line old mid new result goes honest is tells = by result (tells.told honest) tells.cause
   where
     moments : EachMoment mid new (TellsPart line mid)
@@ -68,7 +68,7 @@ ends_whole texts old new told = (
 )
 
 -- the line of a halt, over every honest site
-pub tells_fault : {T : Type 0} (h : Halt) (status : ℕ) (old mid new : State) (result : Result T Failed) → status ≡ status_of h → HasCause h old new → Goes old mid → IsTrue mid.honest → Tells (fault_line h) mid new result → TellsFault status old new
+pub tells_fault : {T : Type 0} (h : Halt) (status : ℕ) (old mid new : State) (result : Result T Failed) → status ≡ status_of h → HasCause h old new → Preserves old mid → IsTrue mid.honest → Tells (fault_line h) mid new result → TellsFault status old new
 tells_fault h status old mid new result is cause goes honest tells = (fault_line h, inr (h, is, refl, cause), mid.told, ends_with mid.told (fault_line h) old mid new result goes honest refl tells)
 
 pub tells_none : (old new : State) → TellsFault 0 old new

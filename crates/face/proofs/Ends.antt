@@ -4,14 +4,14 @@ use Rattle.std.specs.Prelude.{Ok, Err, true, false, Bool}
 use Rattle.std.proofs.lemmas.List.{append-nil}
 use Rattle.site.specs.State.{Input, State as Site, Image, faults_of}
 use Rattle.site.specs.declared.geometry.Geometry.{Geometry}
-use Rattle.site.specs.Calls.{Goes, Rose}
+use Rattle.site.specs.Calls.{Preserves, Rose}
 use Rattle.site.specs.Laws.{holds_now, rose_since}
 use Rattle.site.specs.declared.outside.Stop.TheVariants.{Device, Memory, Worn, Foreign}
 use Rattle.record_model.specs.State.{Content, State}
 use Rattle.engine.specs.Image.{Stands}
-use Rattle.engine.specs.Fits.{Fits}
-use Rattle.engine.specs.Going.{sizes_of}
-use Rattle.flash_cache.specs.Held.{IsWorn}
+use Rattle.engine.specs.Representation.{Matches}
+use Rattle.engine.specs.Invariant.{sizes_of}
+use Rattle.flash_cache.specs.Representation.{IsWorn}
 use Rattle.redo_undo.specs.Holding.{IsLogWorn}
 use Rattle.record_model.specs.Run.{Line, is_quit}
 use Rattle.face.specs.declared.halt.Halt.{Halt}
@@ -25,10 +25,10 @@ use Rattle.face.specs.Lines.{HasEnded, to_hear, total, IsSource, HearsLine, Hear
 use Rattle.site.specs.declared.outside.Dev.TheVariants.{Log, Flash, Disk}
 use Rattle.face.specs.Range.{AsksNoMore, HasBegun, IsLeft, LeavesItsQueue, LeavesVersions, ListsTheMachine, NeverWears, SkipsNoNumber, WearsOut}
 use Rattle.face.specs.Run.{Run, first_lines}
-use Rattle.face.specs.Working.{AnswersFirst, HasHeard, Stops, StopsTaking, Works}
+use Rattle.face.specs.Working.{AnswersFirst, HasHeard, Stops, StopsTaking, RunOutcome}
 use Rattle.face.specs.Going.{Going}
 use Rattle.face.proofs.Cuts.{Cut, has_heard_all, input_failed, over_limit, taken_by, heard_line, quit_is_last}
-use Rattle.face.proofs.Works.{begun_before, stopped, ended}
+use Rattle.face.proofs.RunsSoFar.{begun_before, stopped, ended}
 use Rattle.face.proofs.Demanded.{demands_err, demands_ok}
 use Rattle.face.proofs.Lefts.{left_first}
 use Rattle.face.proofs.Listed.{no_turn}
@@ -47,7 +47,7 @@ lists_nothing pool run image newest blocks sound before later t is = absurd (no_
 
 -- before the first line
 pub never_opened : {T : Type 0} (pool : ℕ) (run : Run) (old new : Site) (h : Halt) → Stops run 0 old new h → (h ≢ halt.Input) × (h ≢ halt.Limit) → new.input ≡ old.input → (h ≡ halt.Stop (Worn Flash) → WearsOut pool (first_lines run 0) old.image) → SkipsNoNumber (first_lines run 0) old.image new.image → AsksNoMore pool (first_lines run 0) old new →
-    Works {T = T} pool run old new (Err h)
+    RunOutcome {T = T} pool run old new (Err h)
 never_opened pool run old new h stops ne left worn numbers reads = record {
   heard = 0;
   octets = [];
@@ -72,7 +72,7 @@ never_opened pool run old new h stops ne left worn numbers reads = record {
 
 module _ (pool : ℕ) (run : Run) (old mid new : Site) (engine : Engine) (source : Source) (i : ℕ) (cut : Cut old.input.left source mid i) (is_source : IsSource source) (going : Going run old new engine i) (listed : ListsTheMachine pool (first_lines run i) old.image) (reads : AsksNoMore pool (first_lines run i) old new) (answers : AnswersFirst run i old new) where
   -- taking failed within a line
-  pub taking_failed : {T : Type 0} (h : Halt) → (h ≡ halt.Input) ⊎ (h ≡ halt.Limit) → IsCutOff h source.ended (total source mid) (to_hear source mid) new.input.left → SkipsNoNumber (first_lines run i) old.image new.image → Works {T = T} pool run old new (Err h)
+  pub taking_failed : {T : Type 0} (h : Halt) → (h ≡ halt.Input) ⊎ (h ≡ halt.Limit) → IsCutOff h source.ended (total source mid) (to_hear source mid) new.input.left → SkipsNoNumber (first_lines run i) old.image new.image → RunOutcome {T = T} pool run old new (Err h)
   taking_failed (halt.Stop stop) which off numbers = ⊎_elim (λ e. absurd cc) (λ e. absurd cc) which
   taking_failed halt.Output which off numbers = ⊎_elim (λ e. absurd cc) (λ e. absurd cc) which
   taking_failed halt.Input which off numbers =
@@ -106,7 +106,7 @@ module _ (pool : ℕ) (run : Run) (old mid new : Site) (engine : Engine) (source
 
   -- there are no more lines
   pub finished : {T : Type 0} (x : T) → to_hear source mid ≡ [] → new.input.left ≡ [] → NeverWears pool (first_lines run i) old.image → LeavesItsQueue pool (first_lines run i) old.image new.image → LeavesVersions pool (first_lines run i) old.image new.image → SkipsNoNumber (first_lines run i) old.image new.image →
-      Works pool run old new (Ok x)
+      RunOutcome pool run old new (Ok x)
   finished x none left room queue versions numbers =
       let f = has_heard_all old.input.left source mid i cut is_source old new refl none left in
       record {
@@ -128,7 +128,7 @@ module _ (pool : ℕ) (run : Run) (old mid next new : Site) (source source' : So
   has_heard_it = heard_line old.input.left source mid i cut is_source source' next line h last is' old new refl left
 
   -- a line's answer failed
-  pub answer_failed : {T : Type 0} (fault : Halt) → Stops run (suc i) old new fault → HasBegun run (suc i) [] old new → (fault ≢ halt.Input) × (fault ≢ halt.Limit) → (fault ≡ halt.Stop (Worn Flash) → WearsOut pool (first_lines run (suc i)) old.image) → SkipsNoNumber (first_lines run (suc i)) old.image new.image → Works {T = T} pool run old new (Err fault)
+  pub answer_failed : {T : Type 0} (fault : Halt) → Stops run (suc i) old new fault → HasBegun run (suc i) [] old new → (fault ≢ halt.Input) × (fault ≢ halt.Limit) → (fault ≡ halt.Stop (Worn Flash) → WearsOut pool (first_lines run (suc i)) old.image) → SkipsNoNumber (first_lines run (suc i)) old.image new.image → RunOutcome {T = T} pool run old new (Err fault)
   answer_failed fault stops begun ne worn numbers = record {
     heard = suc i;
     octets = taken_by old.input.left source mid i cut is_source source' next line h last is';
@@ -144,7 +144,7 @@ module _ (pool : ℕ) (run : Run) (old mid next new : Site) (source source' : So
 
   -- a quit was answered
   pub quitted : {T : Type 0} (x : T) (engine : Engine) → is_quit line ≡ true → Going run old new engine (suc i) → NeverWears pool (first_lines run (suc i)) old.image → LeavesItsQueue pool (first_lines run (suc i)) old.image new.image → LeavesVersions pool (first_lines run (suc i)) old.image new.image → SkipsNoNumber (first_lines run (suc i)) old.image new.image →
-      Works pool run old new (Ok x)
+      RunOutcome pool run old new (Ok x)
   quitted x engine quits going room queue versions numbers =
       let all = quit_is_last old.input.left source mid i cut is_source source' next line h last is' quits in
       record {
@@ -183,8 +183,8 @@ answer_takes_nothing halt.Output engine old new fails = (λ e. cc, λ e. cc)
 answer_takes_nothing halt.Limit engine old new fails = absurd fails
 
 -- nothing is foreign where the run began over a sound image
-pub answer_cause : (h : Halt) (engine : Engine) (old mid new : Site) → AnswerFailsBy h engine mid new → Goes old mid
-    → (IsTrue old.honest → (g : Geometry) (table : List Content) (commits : ℕ) → Stands g old.image table commits → ((s : State) × Fits engine mid s) × (sizes_of engine.store ≡ g)) → HasCause h old new
+pub answer_cause : (h : Halt) (engine : Engine) (old mid new : Site) → AnswerFailsBy h engine mid new → Preserves old mid
+    → (IsTrue old.honest → (g : Geometry) (table : List Content) (commits : ℕ) → Stands g old.image table commits → ((s : State) × Matches engine mid s) × (sizes_of engine.store ≡ g)) → HasCause h old new
 answer_cause (halt.Stop (Device dev)) engine old mid new fails goes fits = rose_since (faults_of dev old) (faults_of dev mid) (faults_of dev new) (goes.faults dev) fails
 answer_cause (halt.Stop Memory) engine old mid new fails goes fits = fails
 answer_cause (halt.Stop (Worn Log)) engine old mid new fails goes fits = λ honest g table commits stands.

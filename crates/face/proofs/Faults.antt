@@ -1,9 +1,9 @@
 -- A run that halts, and its fault line.
 use Rattle.std.proofs.Common.{◌≡◌, ◌≢◌, ◌⊎◌, inl, inr, ⊎_elim, ℕ, suc, ◌+◌, ◌≤◌, Bool, true, false, List, [], ◌∷◌, ◌++◌, length, take, drop, refl, sym, ◌∙◌, ap, subst, arith, append_assoc, length-append, take-append-drop}
 use Rattle.std.specs.Prelude.{Err, Ok, Result, IsErrOf, IsTrue, count_by, flat_map, map}
-use Rattle.std.proofs.lemmas.List.{append-nil, length-take, take_all, take_at}
+use Rattle.std.proofs.lemmas.List.{append-nil, length-take, take_all, take_at, take-take}
 use Rattle.site.specs.State.{Input, State as Site, Snapshot}
-use Rattle.site.specs.Calls.{Goes}
+use Rattle.site.specs.Calls.{Preserves}
 use Rattle.site.specs.Moments.{Leaves, LeavesOnly, EachMoment}
 use Rattle.site.specs.Laws.{in_sequence, leaves_weaker, stays_honest, told_is, tell_leaves}
 use Rattle.site.specs.Telling.{TellsPart}
@@ -22,12 +22,12 @@ use Rattle.shell_text.specs.Texts.{open_text, reply_text}
 use Rattle.engine.specs.Image.{Stands}
 use Rattle.site.specs.declared.outside.Dev.TheVariants.{Log, Flash, Disk}
 use Rattle.redo_undo.specs.Holding.{IsLogWorn}
-use Rattle.redo_undo.specs.Works.{OverflowsWithMore}
+use Rattle.redo_undo.specs.MachineSteps.{OverflowsWithMore}
 use Rattle.face.specs.Causes.{HasCause, HasCauses, NoFaultRose, EndsInTime}
 use Rattle.face.proofs.LogRoom.{never_at_end}
 use Rattle.face.specs.Lines.{commands_of, up_to_quit, answered_of, limit}
 use Rattle.face.specs.Run.{Run, answered, first_lines, Begins}
-use Rattle.face.specs.Working.{Demands, HasHeard, HasTakenAll, IsBetween, StandsNear, StopsTaking, Works}
+use Rattle.face.specs.Working.{Demands, HasHeard, HasTakenAll, IsBetween, StandsNear, StopsTaking, RunOutcome}
 use Rattle.face.proofs.Waits.{answers_still}
 use Rattle.face.specs.Range.{HasLogRoom, IsLeft, IsWhole, ListsTheMachine, NeverWears, WearsOut}
 use Rattle.face.specs.Range.{first_texts, run_of, run_text, texts}
@@ -37,7 +37,7 @@ use Rattle.face.proofs.Demanded.{asked_done, asked_halted, demands_failed}
 use Rattle.face.proofs.Pagings.{wears_out_all}
 use Rattle.face.specs.TopCall.{RunContract}
 use Rattle.face.specs.Headline.{Durability, IsGood, IsToldWhole, Headline, TellsFault}
-use Rattle.face.proofs.Fronts.{begun_same, first_commands, first_same, lines_first, no_quits, take_within, told_first, told_same, up_append, waits_same, whole_turns}
+use Rattle.face.proofs.Fronts.{begun_same, first_commands, first_same, lines_first, no_quits, told_first, told_same, up_append, waits_same, whole_turns}
 use Rattle.face.proofs.Lefts.{left_whole}
 use Rattle.face.proofs.Runs.{texts_count}
 use Rattle.face.proofs.Meanings.{stands_by}
@@ -183,7 +183,7 @@ module _ (pool : ℕ) (g : Geometry) (opening : State) (listings : List (List Ca
   over_by halt.Limit heard octets mid s e = (s.1, s.0.no_quit)
 
   -- the texts before the fault line are whole
-  ends_behind : {T U : Type 0} (mid new : Site) (h : Halt) (result : Result U Failed) (works : Works {T = T} pool run old mid (Err h)) → Goes old mid → IsTrue mid.honest → Tells (fault_line h) mid new result → h ≢ halt.Output
+  ends_behind : {T U : Type 0} (mid new : Site) (h : Halt) (result : Result U Failed) (works : RunOutcome {T = T} pool run old mid (Err h)) → Preserves old mid → IsTrue mid.honest → Tells (fault_line h) mid new result → h ≢ halt.Output
       → EndsBehind (texts (run_of g opening works.ended works.octets listings)) (fault_line h) old new
   ends_behind mid new h result works goes honest tells ne =
       let b = works.stops.0.between ne in
@@ -198,7 +198,7 @@ module _ (pool : ℕ) (g : Geometry) (opening : State) (listings : List (List Ca
       let first : first_texts (first_lines run works.heard) b.whole ≡ first_texts own b.whole = told_first run works.heard b.whole few ∙ sym (told_same run lines works.heard heard.same b.whole few) in
       (b.whole, ends_with (old.told ++ first_texts own b.whole) (fault_line h) old mid new result goes honest (b.told ∙ ap (λ (l : List ℕ). old.told ++ l) first) tells)
 
-  pub halted : {T U : Type 0} → Serial → (mid new : Site) (h : Halt) → IsGood g opening old → Works {T = T} pool run old mid (Err h) → Goes old mid → (result : Result U Failed) → Tells (fault_line h) mid new result → HasCause h old new → (status : ℕ) → status ≡ status_of h → Headline pool g opening old new status
+  pub halted : {T U : Type 0} → Serial → (mid new : Site) (h : Halt) → IsGood g opening old → RunOutcome {T = T} pool run old mid (Err h) → Preserves old mid → (result : Result U Failed) → Tells (fault_line h) mid new result → HasCause h old new → (status : ℕ) → status ≡ status_of h → Headline pool g opening old new status
   halted {T} law mid new h good works goes result told cause status is =
       let honest = stays_honest old mid goes good.honest in
       let tells = told.any_moment honest in
@@ -242,7 +242,7 @@ module _ (pool : ℕ) (g : Geometry) (opening : State) (listings : List (List Ca
         };
       }
 
-  pub finished : {T : Type 0} → Serial → (new : Site) (x : T) → IsGood g opening old → Works pool run old new (Ok x) → Headline pool g opening old new 0
+  pub finished : {T : Type 0} → Serial → (new : Site) (x : T) → IsGood g opening old → RunOutcome pool run old new (Ok x) → Headline pool g opening old new 0
   finished law new x good works =
       let heard = works.has_heard in
       let lines = commands_of works.ended works.octets in
@@ -292,7 +292,7 @@ not_over n left octets rest is (inl few) many none = let long = ap length is ∙
 not_over n left octets rest is (inr quit) many none = true_not_false (sym quit ∙ ap (λ (l : List ℕ). list_any is_quit (commands_of false l)) same ∙ none)
   where
     front : take n (octets ++ rest) ≡ take n octets
-    front = sym (take_within n (length octets) (octets ++ rest) (omega (arith, many))) ∙ ap (take n) (take_at octets rest (length octets) refl)
+    front = sym (take-take n (length octets) (octets ++ rest) (omega (arith, many))) ∙ ap (take n) (take_at octets rest (length octets) refl)
 
     same : take n left ≡ take n octets
     same = ap (take n) is ∙ front

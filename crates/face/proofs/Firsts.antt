@@ -1,6 +1,6 @@
 -- The first failed call decides the status.
 use Rattle.std.proofs.Common.{◌≡◌, ◌≢◌, ◌⊎◌, inl, inr, refl, arith, ℕ}
-use Rattle.std.specs.Prelude.{Result, Ok, Err}
+use Rattle.std.specs.Prelude.{Result, Err}
 use Rattle.site.specs.State.{State}
 use Rattle.site.specs.Faults.{Faults, faults_in, with_output_fault, after_work, TellFaults}
 use Rattle.site.specs.declared.outside.Failed.{Failed}
@@ -14,6 +14,7 @@ use Rattle.trace_report.specs.Contract.{FirstFails}
 use Rattle.face.specs.Texts.{status_of}
 use Rattle.face.specs.Causes.{AfterFirst, FirstDecides, SameFaults, after_halt}
 use Rattle.face.specs.New.{TestFaults, unfit_status}
+use Rattle.site.proofs.Working.{tell_faults_cases}
 
 -- no call failed
 pub first_none : (old new : State) → SameFaults old new → FirstDecides 0 old new
@@ -22,11 +23,6 @@ first_none old new same = record { after = faults_in old; first = inr (inr (inr 
 -- nor where the status is another one that speaks of no failed call
 pub first_done : (status : ℕ) (old new : State) → (status ≢ 3) × (status ≢ 5) × (status ≢ 6) → SameFaults old new → FirstDecides status old new
 first_done status old new ne same = record { after = faults_in old; first = inr (inr (inr (ne.0, ne.1, ne.2, refl))); line = inl same }
-
--- the telling of the line
-line_told : {T : Type 0} (result : Result T Failed) (mid new : State) → TellFaults result mid new → (faults_in new ≡ faults_in mid) ⊎ (faults_in new ≡ with_output_fault (faults_in mid))
-line_told (Ok x) mid new tells = inl tells
-line_told (Err e) mid new tells = inr tells
 
 halt_first : (h : Halt) (status : ℕ) (before after : Faults) → status ≡ status_of h → after ≡ after_halt h before → AfterFirst status before after
 halt_first (halt.Stop (Device dev)) status before after is same = inl (is, dev, same)
@@ -46,7 +42,7 @@ work_halts T Foreign f = refl
 
 -- a run halts, and its line is told
 pub first_halted : {T : Type 0} (h : Halt) (status : ℕ) (old mid new : State) (result : Result T Failed) → status ≡ status_of h → faults_in mid ≡ after_halt h (faults_in old) → TellFaults result mid new → FirstDecides status old new
-first_halted h status old mid new result is same tells = record { after = faults_in mid; first = halt_first h status (faults_in old) (faults_in mid) is same; line = line_told result mid new tells }
+first_halted h status old mid new result is same tells = record { after = faults_in mid; first = halt_first h status (faults_in old) (faults_in mid) is same; line = tell_faults_cases result mid new tells }
 
 -- a simulation
 pub first_simulated : (status : ℕ) (old new : State) → FirstFails status old new → (status ≡ 0) ⊎ ((status ≡ 4) ⊎ ((status ≡ 5) ⊎ ((status ≡ 6) ⊎ (status ≡ 16)))) → FirstDecides status old new
@@ -61,7 +57,7 @@ first_simulated status old new fails others = record { after = fails.after; firs
 
 -- nothing is done but that a line is told
 pub first_line : {T : Type 0} (status : ℕ) (old new : State) (result : Result T Failed) → (status ≢ 3) × (status ≢ 5) × (status ≢ 6) → TellFaults result old new → FirstDecides status old new
-first_line status old new result ne tells = record { after = faults_in old; first = inr (inr (inr (ne.0, ne.1, ne.2, refl))); line = line_told result old new tells }
+first_line status old new result ne tells = record { after = faults_in old; first = inr (inr (inr (ne.0, ne.1, ne.2, refl))); line = tell_faults_cases result old new tells }
 
 -- a reply can't be told
 pub first_untold : (old new : State) → faults_in new ≡ with_output_fault (faults_in old) → FirstDecides 6 old new
@@ -74,4 +70,4 @@ unfit_first T (unfit.Failed dev) status old mid is same = inl (is, dev, same)
 unfit_first T (unfit.NotBlank dev place) status old mid is same = inr (inr (inr (λ e. omega (arith, is, e), λ e. omega (arith, is, e), λ e. omega (arith, is, e), same)))
 
 pub first_unfit : (T : Type 0) {U : Type 0} (u : Unfit) (status : ℕ) (old mid new : State) (result : Result U Failed) → status ≡ unfit_status u → TestFaults {T = T} (Err u) old mid → TellFaults result mid new → FirstDecides status old new
-first_unfit T u status old mid new result is tests tells = record { after = faults_in mid; first = unfit_first T u status old mid is tests; line = line_told result mid new tells }
+first_unfit T u status old mid new result is tests tells = record { after = faults_in mid; first = unfit_first T u status old mid is tests; line = tell_faults_cases result mid new tells }

@@ -3,7 +3,7 @@ use Rattle.std.proofs.Common.{◌≡◌, ℕ, zero, suc, ◌+◌, ◌≤◌, ◌
 use Rattle.std.specs.Prelude.{flat_map, map, if◌then◌else◌, ◌||◌, ◌==◌}
 use Rattle.std.specs.List.{AllByRecursion, list_any}
 use Rattle.std.proofs.lemmas.Bool.{or_right}
-use Rattle.std.proofs.lemmas.List.{append-nil, take-map, take_all}
+use Rattle.std.proofs.lemmas.List.{append-nil, take-map, take_all, take-take}
 use Rattle.site.specs.State.{State as Site}
 use Rattle.site.specs.declared.outside.Take.{Take}
 use Rattle.record_model.specs.Run.{Line, Turn, is_quit, left_by, replies}
@@ -16,12 +16,6 @@ use Rattle.face.specs.Run.{Run, answered, after_lines, first_lines, state_at, tu
 use Rattle.face.specs.Waiting.{IsAnswered, NobodyWaits}
 use Rattle.face.specs.Working.{AnswersFirst, IsEarly}
 use Rattle.face.proofs.Turns.{first_answered, first_turns, left_are, turns_count}
-
-pub take_within : {X : Type 0} (w n : ℕ) (xs : List X) → w ≤ n → take w (take n xs) ≡ take w xs
-take_within zero n xs le = refl
-take_within (suc w) zero xs le = absurd (omega (arith, le))
-take_within (suc w) (suc n) [] le = refl
-take_within (suc w) (suc n) (x ∷ xs) le = ap (λ l. x ∷ l) (take_within w n xs (omega (arith, le)))
 
 pub get_within : {X : Type 0} (i n : ℕ) (xs : List X) (d : X) → i < n → get_or (take n xs) i d ≡ get_or xs i d
 get_within i zero xs d less = absurd (omega (arith, less))
@@ -43,13 +37,13 @@ module _ (run : Run) (n : ℕ) where
       ∙ ap (λ (l : List (List ℕ)). open_text run.opening.commits ∷ l) (sym (take-map reply_text n (replies (turns_of run)) ∙ ap (map reply_text) (take-map (λ (t : Turn). t.reply) n (turns_of run))))
 
   pub told_first : (w : ℕ) → w ≤ n + 1 → first_texts (first_lines run n) w ≡ first_texts run w
-  told_first w le = ap (flat_map (λ (x : List ℕ). x)) (ap (take w) texts_first ∙ take_within w (suc n) (texts run) (omega (arith, le)))
+  told_first w le = ap (flat_map (λ (x : List ℕ). x)) (ap (take w) texts_first ∙ take-take w (suc n) (texts run) (omega (arith, le)))
 
   pub text_first : (w : ℕ) → w ≤ n → text_at (first_lines run n) w ≡ text_at run w
   text_first w le = ap (λ (l : List (List ℕ)). get_or l w []) texts_first ∙ get_within w (suc n) (texts run) [] (omega (arith, le))
 
   pub state_first : (w : ℕ) → w ≤ n → state_at (first_lines run n) w ≡ state_at run w
-  state_first w le = ap (λ (l : List Line). after_lines run.opening l run.listings) (ap (take w) lines_first ∙ take_within w n (answered run) le)
+  state_first w le = ap (λ (l : List Line). after_lines run.opening l run.listings) (ap (take w) lines_first ∙ take-take w n (answered run) le)
 
   -- the state after them, by their turns
   pub state_by_turns : state_at run n ≡ left_by run.opening (turns_of (first_lines run n))

@@ -1,5 +1,5 @@
 -- The octets of a line, one after the other.
-use Rattle.std.proofs.Common.{◌≡◌, ◌≢◌, ⊎_elim, ℕ, suc, zero, get_or, drop, ◌-◌, ◌+◌, ◌≤◌, ◌<◌, List, [], ◌∷◌, ◌++◌, length, take, refl, sym, ◌∙◌, ap, subst, arith, append_assoc, length-append, add-one}
+use Rattle.std.proofs.Common.{◌≡◌, ◌≢◌, ⊎_elim, ℕ, suc, drop, ◌-◌, ◌+◌, ◌≤◌, ◌<◌, List, [], ◌∷◌, ◌++◌, length, take, refl, sym, ◌∙◌, ap, subst, arith, append_assoc, length-append}
 use Rattle.std.specs.Prelude.{min, map, Bool, Option, Some, None, slice_set, nat_lt, if◌then◌else◌, false, true}
 use Rattle.std.specs.List.{AllByRecursion}
 use Rattle.std.proofs.lemmas.List.{append-nil, take_more_set, length-take}
@@ -123,19 +123,6 @@ cut_off halt was all here before mid left line len heard h same ends going = rec
 
 pub hears_then : (a b c : State) → HearsOnly a b → HearsOnly b c → HearsOnly a c
 hears_then a b c f s = record { image = s.image ∙ f.image; loose = s.loose ∙ f.loose; told = s.told ∙ f.told; past = s.past ∙ f.past; reads = λ dev. s.reads dev ∙ f.reads dev }
-
--- the octets that were taken
-
-first_of : (buffer : List ℕ) (from to : ℕ) → from < to → to ≤ length buffer → take (to - from) (drop from buffer) ≡ get_or buffer from 0 ∷ take (to - suc from) (drop (suc from) buffer)
-first_of [] from to less fits = absurd (omega (arith, less, fits))
-first_of (x ∷ buffer) zero to less fits = let some : to - 0 ≡ suc (to - 1) = omega (arith, less) in ap (λ (n : ℕ). take n (x ∷ buffer)) some
-first_of (x ∷ buffer) (suc from) to less fits =
-    let one : to - suc from ≡ (to - 1) - from = omega arith in
-    let two : (to - 1) - suc from ≡ to - suc (suc from) = omega arith in
-    ap (λ (n : ℕ). take n (drop from buffer)) one ∙ first_of buffer from (to - 1) (omega (arith, less)) (omega (arith, fits)) ∙ ap (λ (n : ℕ). get_or buffer from 0 ∷ take n (drop (suc from) buffer)) two
-
-pub octet_first : (buffer : List ℕ) (from to : ℕ) → from < to → to ≤ length buffer → take (to - from) (drop from buffer) ≡ get_or buffer from 0 ∷ take (to - (from + 1)) (drop (from + 1) buffer)
-octet_first buffer from to less fits = first_of buffer from to less fits ∙ ap (λ (n : ℕ). get_or buffer from 0 ∷ take (to - n) (drop n buffer)) (sym (add-one from))
 
 -- no more octets are heard than were taken
 pub over : (source source' : Source) (old new : State) (line : List ℕ) (len heard : ℕ) → IsSource source → IsSource source' → HeardSoFar (to_hear source old) (to_hear source' new) line len heard → total source' new ≡ total source old → heard ≤ limit

@@ -1,6 +1,6 @@
 -- What a crash may leave of the first lines of a run, one line after the other.
 use Rattle.std.proofs.Common.{◌≡◌, inl, inr, ⊎_elim, ℕ, zero, suc, ◌+◌, ◌≤◌, List, [], ◌∷◌, ◌++◌, length, take, drop, refl, sym, ◌∙◌, ap, subst, arith, append_assoc, take-append-drop}
-use Rattle.std.proofs.lemmas.List.{append-nil, length-take-le, take_all}
+use Rattle.std.proofs.lemmas.List.{append-nil, length-take-le, take_all, take-take}
 use Rattle.std.proofs.lemmas.Bool.{cases_lt}
 use Rattle.site.specs.State.{State as Site, Image, Snapshot}
 use Rattle.site.specs.Moments.{Leaves, LeavesOnly}
@@ -13,7 +13,7 @@ use Rattle.shell_text.specs.Texts.{open_text, reply_text}
 use Rattle.face.specs.Range.{IsLeft, IsToldOf, first_texts, text_at, texts}
 use Rattle.face.specs.Run.{Run, answered, first_lines, step, state_at, listing_at, IsFront, LeavesAnswer, StandsAt, StandsFor}
 use Rattle.face.specs.Working.{StandsNear}
-use Rattle.face.proofs.Fronts.{lines_first, state_first, take_within, text_first, told_first}
+use Rattle.face.proofs.Fronts.{lines_first, state_first, text_first, told_first}
 use Rattle.face.proofs.Longer.{left_all, run_with}
 use Rattle.face.proofs.Ranges.{IsFault, IsPart, is_left, near_after, near_before}
 use Rattle.face.proofs.Runs.{below, state_next, text_next, texts_count, told_more}
@@ -22,7 +22,7 @@ use Rattle.face.proofs.Runs.{below, state_next, text_next, texts_count, told_mor
 pub left_more : (run : Run) (i n : ℕ) (so_far fault : List ℕ) (s : Snapshot) → i ≤ n → IsFault fault → IsLeft (first_lines run i) so_far fault s → IsLeft (first_lines run n) so_far fault s
 left_more run i n so_far fault s le is_fault l =
     let more = drop i (take n run.lines) in
-    let same : take i run.lines ++ more ≡ take n run.lines = ap (λ (x : List Line). x ++ more) (sym (take_within i n run.lines le)) ∙ take-append-drop i (take n run.lines) in
+    let same : take i run.lines ++ more ≡ take n run.lines = ap (λ (x : List Line). x ++ more) (sym (take-take i n run.lines le)) ∙ take-append-drop i (take n run.lines) in
     subst (λ (x : List Line). IsLeft (run_with run.geometry run.opening run.listings x) so_far fault s) same (left_all run.geometry run.opening run.listings (take i run.lines) more so_far fault s is_fault l)
 
 -- and of all

@@ -4,7 +4,6 @@ mod ClapInverse
 mod ClapLaws
 mod CommandLaws
 mod Counted
-mod Courses
 mod Cuts
 mod Demanded
 mod Endings
@@ -14,9 +13,11 @@ mod Firsts
 mod Fronts
 mod Heard
 mod Lefts
+mod LinesBeforeQuit
 mod Listed
 mod Lives
 mod Livings
+mod LoadCounts
 mod LoadFaults
 mod Loadings
 mod LogRoom
@@ -30,14 +31,13 @@ mod Quiet
 mod Ranges
 mod Replies
 mod Runs
+mod RunsSoFar
 mod SerialRuns
-mod Stated
-mod Tallies
 mod Trials
 mod Turns
+mod UntoldLines
 mod Waits
 mod WordLaws
 mod WordLists
-mod Works
 mod Writings
 mod Zeros

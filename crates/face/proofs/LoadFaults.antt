@@ -5,14 +5,14 @@ use Rattle.std.proofs.lemmas.List.{append-nil, take_all}
 use Rattle.site.specs.declared.geometry.Geometry.{Geometry}
 use Rattle.site.specs.declared.outside.Stop.TheVariants.{Device, Memory, Worn, Foreign}
 use Rattle.site.specs.State.{State as Site, Snapshot, now_of}
-use Rattle.site.specs.Calls.{Goes, SameReads}
+use Rattle.site.specs.Calls.{Preserves, SameReads}
 use Rattle.site.specs.Moments.{EachMoment, Leaves, LeavesOnly}
 use Rattle.site.specs.Laws.{image_is, in_sequence, leaves_weaker, stays_honest, tell_leaves, told_is}
 use Rattle.site.specs.Telling.{SameDevices, TellsPart}
 use Rattle.site.specs.declared.outside.Failed.{Failed}
 use Rattle.record_model.specs.State.{State}
 use Rattle.record_model.specs.Run.{commit_marks, commits_among}
-use Rattle.redo_undo.specs.Works.{OverflowsWithMore}
+use Rattle.redo_undo.specs.MachineSteps.{OverflowsWithMore}
 use Rattle.face.specs.declared.halt.Halt.{Halt}
 use Rattle.face.specs.declared.halt.Halt.TheVariants as halt
 use Rattle.face.specs.declared.request.Load.{Load}
@@ -185,13 +185,13 @@ module _ (load : Load) (g : Geometry) (opening : State) (old : Site) (good : IsG
   summary' = summary_text run' load
 
   -- the texts before the fault line are whole
-  load_ends : {U : Type 0} (mid new : Site) (h : Halt) (result : Result U Failed) → LoadStops run' summary' old mid h → Goes old mid → IsTrue mid.honest → Tells (fault_line h) mid new result → h ≢ halt.Output → EndsBehind (load_texts run' load) (fault_line h) old new
+  load_ends : {U : Type 0} (mid new : Site) (h : Halt) (result : Result U Failed) → LoadStops run' summary' old mid h → Preserves old mid → IsTrue mid.honest → Tells (fault_line h) mid new result → h ≢ halt.Output → EndsBehind (load_texts run' load) (fault_line h) old new
   load_ends mid new h result stops goes honest tells ne = ⊎_elim
       (λ u. (0, ends_with (old.told ++ []) (fault_line h) old mid new result goes honest (u.told ∙ sym (append-nil old.told)) tells))
       (λ o. (1, ends_with (old.told ++ (opening_text run' ++ [])) (fault_line h) old mid new result goes honest (o.told ∙ ap (λ (l : List ℕ). old.told ++ l) (sym (append-nil (opening_text run')))) tells))
       (stops.between ne)
 
-  pub load_halted : {T U : Type 0} (mid new : Site) (h : Halt) → LoadWorks {T = T} load.pool run' summary' old mid (Err h) → Goes old mid → (result : Result U Failed) → Tells (fault_line h) mid new result → HasCause h old new → (status : ℕ) → status ≡ status_of h → LoadHeadline load g opening old new status
+  pub load_halted : {T U : Type 0} (mid new : Site) (h : Halt) → LoadWorks {T = T} load.pool run' summary' old mid (Err h) → Preserves old mid → (result : Result U Failed) → Tells (fault_line h) mid new result → HasCause h old new → (status : ℕ) → status ≡ status_of h → LoadHeadline load g opening old new status
   load_halted {T} mid new h works goes result told cause status is =
       let honest = stays_honest old mid goes good.honest in
       let tells = told.any_moment honest in

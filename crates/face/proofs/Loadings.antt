@@ -1,9 +1,9 @@
 -- What a load leaves: while it opens, while its lines are carried out, and when they are done.
-use Rattle.flash_cache.specs.Held.{start_reads}
+use Rattle.flash_cache.specs.Representation.{start_reads}
 use Rattle.std.proofs.Common.{◌≡◌, ◌⊎◌, inl, inr, ⊎_elim, ℕ, zero, suc, ◌+◌, ◌-◌, ◌*◌, ◌<◌, ◌≤◌, ◌^◌, Bool, true, List, [], ◌++◌, length, take, drop, refl, sym, ◌∙◌, ap, subst, arith, take-append-drop}
 use Rattle.std.specs.Prelude.{Option, Result, Ok, Err, IsErrOf, count_by}
 use Rattle.std.proofs.lemmas.Bool.{cases_lt}
-use Rattle.std.proofs.lemmas.List.{append-nil, length-take-le, take_all}
+use Rattle.std.proofs.lemmas.List.{append-nil, length-take-le, take_all, take-take}
 use Rattle.site.specs.declared.geometry.Geometry.{Geometry}
 use Rattle.site.specs.declared.outside.Dev.TheVariants.{Flash}
 use Rattle.site.specs.declared.outside.Stop.TheVariants.{Worn}
@@ -20,9 +20,9 @@ use Rattle.second_chance.specs.Machine.{Cache, Rules, after_works, opened, rules
 use Rattle.page_store.specs.Caching.{cache_of, rules}
 use Rattle.engine.specs.Paging.{WritesFrom}
 use Rattle.face.proofs.Writings.{engine_queue, writes_then}
-use Rattle.redo_undo.specs.Works.{next_group, ReadsAddUp, ReadsFor, WorksAddUp}
+use Rattle.redo_undo.specs.MachineSteps.{next_group, ReadsAddUp, ReadsFor, WorksAddUp}
 use Rattle.engine.specs.declared.engine.Engine.{Engine}
-use Rattle.engine.specs.Going.{MayGoOn, sizes_of}
+use Rattle.engine.specs.Invariant.{Invariant, sizes_of}
 use Rattle.engine.specs.Image.{IsSound, log_under}
 use Rattle.engine.specs.Listings.{QueueIsOnFlash}
 use Rattle.engine.specs.SeenVersions.{VersionsAreSeen, WhereItFits}
@@ -40,14 +40,14 @@ use Rattle.face.specs.Texts.{status_of}
 use Rattle.face.specs.Workload.{get_line, load_run, numbers_of, opening_text, set_line, set_lines, get_lines}
 use Rattle.face.proofs.Counted.{skips_course}
 use Rattle.face.proofs.Logs.{fits_stands}
-use Rattle.face.proofs.Courses.{carries_all, leaves_first}
-use Rattle.face.proofs.Fronts.{state_by_turns, take_within}
+use Rattle.face.proofs.UntoldLines.{carries_all, leaves_first}
+use Rattle.face.proofs.Fronts.{state_by_turns}
 use Rattle.face.proofs.Lefts.{left_first, left_none, none_among}
 use Rattle.face.proofs.Demanded.{demands_err, demands_ok}
 use Rattle.face.proofs.Pagings.{first_ask}
 use Rattle.face.proofs.Ranges.{all_among, stands_after}
-use Rattle.face.proofs.Stated.{NoneQuits, all_answered, count_join, none_quits_join, none_quits_map}
-use Rattle.face.proofs.Tallies.{get_goes, set_goes}
+use Rattle.face.proofs.LinesBeforeQuit.{NoneQuits, all_answered, count_join, none_quits_join, none_quits_map}
+use Rattle.face.proofs.LoadCounts.{get_goes, set_goes}
 use Rattle.face.proofs.Turns.{turns_count}
 
 -- no more commits among some turns than among all
@@ -59,7 +59,7 @@ few_among i marks =
 
 -- the more turns, the more commits
 more_among : (i j : ℕ) (marks : List Bool) → i ≤ j → commits_among i marks ≤ commits_among j marks
-more_among i j marks le = subst (λ (l : List Bool). count_by (λ (mark : Bool). mark) l ≤ commits_among j marks) (take_within i j marks le) (few_among i (take j marks))
+more_among i j marks le = subst (λ (l : List Bool). count_by (λ (mark : Bool). mark) l ≤ commits_among j marks) (take-take i j marks le) (few_among i (take j marks))
 
 module _ (g : Geometry) (opening : State) (load : Load) where
   abbrev run : Run
@@ -154,7 +154,7 @@ module _ (g : Geometry) (opening : State) (load : Load) where
     module _ (add : WorksAddUp) (reads_add : ReadsAddUp) (mid new : Site) (before after : Engine) (going : Going opening_run old mid before 0)
         (paged : (newest : Option Master) (blocks : List (List LogRecord)) → IsSound newest g old.image blocks → IsPaged load.pool opening_run newest old.image blocks before 0)
         (counted : (newest : Option Master) (blocks : List (List LogRecord)) → IsSound newest g old.image blocks → IsCounted opening_run (log_under newest blocks) old.image mid.image before 0)
-        (read : AsksNoMore load.pool (first_lines opening_run 0) old mid) (goes_on : MayGoOn before mid)
+        (read : AsksNoMore load.pool (first_lines opening_run 0) old mid) (goes_on : Invariant before mid)
         (left : mid.input ≡ old.input) where
       told_mid : mid.told ≡ old.told ++ opening_text run
       told_mid = going.told ∙ ap (λ (l : List ℕ). old.told ++ l) (append-nil (opening_text run))
@@ -192,7 +192,7 @@ module _ (g : Geometry) (opening : State) (load : Load) where
         last_lines done few =
             let long = length-take-le some.begun run.lines some.few in
             ⊎_elim
-            (λ less. (done, omega (arith, few, long), take_within done some.begun run.lines (omega (arith, less))))
+            (λ less. (done, omega (arith, few, long), take-take done some.begun run.lines (omega (arith, less))))
             (λ most. (some.begun, omega arith, take_all done first (omega (arith, long, most))))
             (cases_lt done some.begun)
 

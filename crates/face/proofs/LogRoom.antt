@@ -20,24 +20,10 @@ use Rattle.face.specs.Run.{Run, after_lines, answered, checkpoints_of, first_lin
 use Rattle.face.specs.Workload.{checkpoints_in}
 use Rattle.face.proofs.Counted.{checkpoints_are, checkpoints_join, made_all, made_are, turns_make}
 use Rattle.face.proofs.Pagings.{same_after, taken_first}
-use Rattle.face.proofs.Stated.{after_join}
+use Rattle.face.proofs.LinesBeforeQuit.{after_join}
+use Rattle.record_model.proofs.StepLaws.{effect_makes}
 
 -- No line takes a log record back.
-
-effect_makes : (s : State) (command : Command) → s.made ≤ (effect s command).made
-effect_makes s (command.Begin n) = omega arith
-effect_makes s (command.Read n number) = omega arith
-effect_makes s (command.Write n number value) = omega arith
-effect_makes s (command.Erase n number) = omega arith
-effect_makes s (command.Scan n number count) = omega arith
-effect_makes s (command.Commit n) = omega arith
-effect_makes s (command.Abort n) = omega arith
-effect_makes s (command.Get number) = omega arith
-effect_makes s (command.Set number value) = omega arith
-effect_makes s command.Checkpoint = omega arith
-effect_makes s command.Cache = omega arith
-effect_makes s command.Stat = omega arith
-effect_makes s command.Quit = omega arith
 
 -- what is left of a command that its tests let through
 abbrev chosen : State → Command → List CacheLine → Bool → Outcome

@@ -4,7 +4,7 @@ use Rattle.site.specs.declared.outside.Dev.TheVariants.{Log, Flash, Disk}
 use Rattle.site.specs.declared.geometry.Geometry.{Geometry}
 use Rattle.site.specs.Geometry.{HasLengths}
 use Rattle.site.specs.State.{State as Site, Image, content_of}
-use Rattle.site.specs.Calls.{Goes}
+use Rattle.site.specs.Calls.{Preserves}
 use Rattle.site.specs.Laws.{stays_honest}
 use Rattle.sealed_ring.specs.declared.ring.Ring.{Ring}
 use Rattle.sealed_ring.specs.Ring.{FitsIn, IsRing, hi_of}
@@ -17,35 +17,35 @@ use Rattle.slotted_page.specs.Layout as page
 use Rattle.buffer_pool.specs.declared.frame.Frame.{Frame}
 use Rattle.buffer_pool.specs.Frames.{frame_of}
 use Rattle.log_store.specs.declared.store.LogStore.{LogStore}
-use Rattle.log_store.specs.Held as log_held
-use Rattle.log_store.specs.Held.{end_of, HasBlocks}
-use Rattle.flash_cache.specs.Held as flash_held
-use Rattle.flash_cache.specs.Held.{version_on, IsCleanOn}
+use Rattle.log_store.specs.Representation as log_store
+use Rattle.log_store.specs.Representation.{end_of, HasBlocks}
+use Rattle.flash_cache.specs.Representation as flash_cache
+use Rattle.flash_cache.specs.Representation.{version_on, IsCleanOn}
 use Rattle.checkpoint.specs.declared.master.Master.{Master}
 use Rattle.page_store.specs.declared.store.PageStore.{PageStore}
-use Rattle.page_store.specs.Held as page_held
-use Rattle.page_store.specs.Held.{current}
+use Rattle.page_store.specs.Representation as page_store
+use Rattle.page_store.specs.Representation.{current}
 use Rattle.page_store.proofs.Versions.{pages_later}
 use Rattle.page_store.specs.Ahead.{IsAhead}
 use Rattle.image_meaning.specs.Meaning.{kept_by, picture_under}
 use Rattle.image_meaning.specs.Beside.{AreRingsSoundUnder}
 use Rattle.redo_undo.specs.Running.{RunsOn}
-use Rattle.redo_undo.specs.Holding.{HoldsLog, HoldsIn, ShowRecords}
+use Rattle.redo_undo.specs.Holding.{RepresentsLog, RepresentsIn, ShowRecords}
 use Rattle.engine.specs.declared.engine.Engine.{Engine}
-use Rattle.engine.specs.Going.{MayGoOn, sizes_of}
-use Rattle.engine.specs.Fits.{Fits}
+use Rattle.engine.specs.Invariant.{Invariant, sizes_of}
+use Rattle.engine.specs.Representation.{Matches}
 use Rattle.face.specs.Run.{StandsFor}
 
 -- the lengths are kept
-lengths_stay : (g : Geometry) (a b : Site) → HasLengths g a.image → Goes a b → HasLengths g b.image
+lengths_stay : (g : Geometry) (a b : Site) → HasLengths g a.image → Preserves a b → HasLengths g b.image
 lengths_stay g a b lengths goes = record { log = goes.sizes Log ∙ lengths.log; flash = goes.sizes Flash ∙ lengths.flash; disk = goes.sizes Disk ∙ lengths.disk }
 
 -- a ring may be used as before
-ring_goes_on : (ring : Ring) (a b : Site) → IsUsable ring a → Goes a b → IsUsable ring b
+ring_goes_on : (ring : Ring) (a b : Site) → IsUsable ring a → Preserves a b → IsUsable ring b
 ring_goes_on ring a b usable goes = record { fits = subst (FitsIn ring.shape) (sym (goes.sizes ring.shape.dev)) usable.fits; bounded = usable.bounded }
 
 -- a log goes on after calls that keep the lengths
-log_goes_on : (log : LogStore) (a b : Site) → log_held.MayGoOn log a → Goes a b → log_held.MayGoOn log b
+log_goes_on : (log : LogStore) (a b : Site) → log_store.Invariant log a → Preserves a b → log_store.Invariant log b
 log_goes_on log a b going goes = record {
   limits = going.limits;
   lengths = lengths_stay log.geometry a b going.lengths goes;
@@ -58,7 +58,7 @@ log_goes_on log a b going goes = record {
 }
 
 -- and the database
-pub goes_on : (engine : Engine) (a b : Site) → MayGoOn engine a → Goes a b → MayGoOn engine b
+pub goes_on : (engine : Engine) (a b : Site) → Invariant engine a → Preserves a b → Invariant engine b
 goes_on engine a b go goes =
     let both = go.store.both in
     record {
@@ -86,13 +86,13 @@ goes_on engine a b go goes =
       differ = go.differ;
     }
 
-module _ (a b : Site) (goes : Goes a b) (image : b.image ≡ a.image) where
+module _ (a b : Site) (goes : Preserves a b) (image : b.image ≡ a.image) where
   -- what is said of the image alone
   same : (P : Image → Type 0) → P a.image → P b.image
   same P p = subst P (sym image) p
 
   -- the pages fit it
-  pages_fit : (pages : PageStore) → page_held.Fits pages a → page_held.Fits pages b
+  pages_fit : (pages : PageStore) → page_store.Matches pages a → page_store.Matches pages b
   pages_fit pages f =
       let g = pages.flash.geometry in
       record {
@@ -104,15 +104,15 @@ module _ (a b : Site) (goes : Goes a b) (image : b.image ≡ a.image) where
           segments_hi = same (λ x. pages.flash.segments.hi ≡ hi_of (segment_shape g) x.flash) f.flash.segments_hi;
         };
         groups = f.groups;
-        holds = same (λ x. flash_held.Holds pages.flash x f.groups) f.holds;
+        holds = same (λ x. flash_cache.Represents pages.flash x f.groups) f.holds;
         clean = same (λ x. IsCleanOn g x) f.clean;
         sound = same (λ x. (number : ℕ) → number < g.pages → page.IsSound (version_on g x number)) f.sound;
         unchanged = same (λ x. (number : ℕ) (frame : Frame) → frame_of pages.pool.frames number ≡ Some frame → frame.changed ≡ false → frame.content ≡ version_on g x number) f.unchanged;
       }
 
   -- log and pages hold together
-  log_holds : (g : Geometry) (log : LogStore) (pages : PageStore) (newest : Option Master) (records : List Entry) (table : List Content) (commits : ℕ) → HoldsLog g log pages a newest records table commits →
-      HoldsLog g log pages b newest records table commits
+  log_holds : (g : Geometry) (log : LogStore) (pages : PageStore) (newest : Option Master) (records : List Entry) (table : List Content) (commits : ℕ) → RepresentsLog g log pages a newest records table commits →
+      RepresentsLog g log pages b newest records table commits
   log_holds g log pages newest records table commits h = record {
     kept = h.kept;
     blocks = h.blocks;
@@ -124,7 +124,7 @@ module _ (a b : Site) (goes : Goes a b) (image : b.image ≡ a.image) where
         form = same (λ x. IsRing (log_shape log.geometry) x.log) h.ready.blocks.form;
         hi = same (λ x. log.ring.hi ≡ hi_of (log_shape log.geometry) x.log) h.ready.blocks.hi;
       };
-      records = same (λ x. log_held.Holds log x (record { first = kept_by newest; blocks = h.blocks; tail = h.tail })) h.ready.records;
+      records = same (λ x. log_store.Represents log x (record { first = kept_by newest; blocks = h.blocks; tail = h.tail })) h.ready.records;
     };
     rings = same (AreRingsSoundUnder newest g) h.rings;
     runs_on = same (λ x. RunsOn (picture_under newest g x h.blocks) h.tail records table commits) h.runs_on;
@@ -132,7 +132,7 @@ module _ (a b : Site) (goes : Goes a b) (image : b.image ≡ a.image) where
     room = h.room;
   }
 
-  hold : (g : Geometry) (log : LogStore) (pages : PageStore) (newest : Option Master) (records : List Entry) (table : List Content) (commits : ℕ) → HoldsIn g log pages a newest records table commits → HoldsIn g log pages b newest records table commits
+  hold : (g : Geometry) (log : LogStore) (pages : PageStore) (newest : Option Master) (records : List Entry) (table : List Content) (commits : ℕ) → RepresentsIn g log pages a newest records table commits → RepresentsIn g log pages b newest records table commits
   hold g log pages newest records table commits h = record {
     log_holds = log_holds g log pages newest records table commits h.log_holds;
     shows = same (λ x. ShowRecords g pages x records) h.shows;
@@ -144,7 +144,7 @@ module _ (a b : Site) (goes : Goes a b) (image : b.image ≡ a.image) where
   finds ring f = record { form = same (λ x. IsRing ring.shape (content_of ring.shape.dev x)) f.form; hi = same (λ x. ring.hi ≡ hi_of ring.shape (content_of ring.shape.dev x)) f.hi }
 
 -- it stands for the same state
-pub still_fits : (engine : Engine) (a b : Site) (s : State) → Fits engine a s → Goes a b → b.image ≡ a.image → Fits engine b s
+pub still_fits : (engine : Engine) (a b : Site) (s : State) → Matches engine a s → Preserves a b → b.image ≡ a.image → Matches engine b s
 still_fits engine a b s fits goes image = record {
   honest = stays_honest a b goes fits.honest;
   newest = fits.newest;
@@ -160,7 +160,7 @@ still_fits engine a b s fits goes image = record {
 }
 
 -- the devices stand for the table and the count of this state
-pub fits_stands : (engine : Engine) (site : Site) (s : State) → engine.store.log.geometry ≡ sizes_of engine.store → Fits engine site s → StandsFor (sizes_of engine.store) site.image s
+pub fits_stands : (engine : Engine) (site : Site) (s : State) → engine.store.log.geometry ≡ sizes_of engine.store → Matches engine site s → StandsFor (sizes_of engine.store) site.image s
 fits_stands engine site s sizes fits =
     let h = fits.holds.both.log_holds in
     record {

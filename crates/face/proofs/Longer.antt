@@ -2,10 +2,11 @@
 use Rattle.std.proofs.Common.{◌≡◌, ◌⊎◌, inl, inr, ⊎_elim, ℕ, zero, suc, ◌+◌, ◌-◌, ◌≤◌, ◌<◌, Bool, true, false, List, [], ◌∷◌, ◌++◌, length, map, take, drop, get_or, refl, sym, ◌∙◌, ap, subst, arith, append_assoc, length-append, take-append-drop}
 use Rattle.std.specs.Prelude.{flat_map, filter, count_by, nat_eq, slice_index_or, if◌then◌else◌, ◌||◌}
 use Rattle.std.specs.List.{list_any, starts_with}
-use Rattle.std.proofs.lemmas.List.{append-nil, get_or_append_left, get_or-append_right, length-map, length-take-le, map-append, take_all, take_at}
+use Rattle.std.proofs.lemmas.List.{append-nil, get_or_append_left, get_or-append_right, length-map, length-take-le, map-append, take_all, take_at, take-append-le}
 use Rattle.std.proofs.lemmas.List.Elements.{filter-append}
 use Rattle.std.proofs.lemmas.List.Sums.{length-filter}
 use Rattle.std.proofs.lemmas.Grind.{flat_map-append}
+use Rattle.std.proofs.lemmas.Bool.{cases_lt}
 use Rattle.site.specs.State.{Snapshot}
 use Rattle.site.specs.declared.geometry.Geometry.{Geometry}
 use Rattle.record_model.specs.declared.words.CacheLine.{CacheLine}
@@ -16,7 +17,7 @@ use Rattle.shell_text.specs.Texts.{open_text, reply_text}
 use Rattle.face.specs.Lines.{HeardAll, commands_of}
 use Rattle.face.specs.Range.{IsLeft, IsToldOf, first_texts, run_of, run_text, texts}
 use Rattle.face.specs.Run.{IsFront, Run, turns_of}
-use Rattle.face.proofs.Fronts.{first_commands, take_within}
+use Rattle.face.proofs.Fronts.{first_commands}
 use Rattle.face.proofs.Ranges.{IsFault, IsPart, Plain, begins_not, counts, not_in_fault, plain_replies, plain_texts}
 
 -- Turns.
@@ -43,9 +44,6 @@ turns_quit s (x ∷ xs) more ls is =
     quit_turn (is_quit x) (list_any is_quit xs) first _ _ is (turns_quit first.after xs more (later_listings x ls))
 
 -- Fronts of lists.
-
-take_front : {X : Type 0} (w : ℕ) (a b : List X) → w ≤ length a → take w (a ++ b) ≡ take w a
-take_front w a b few = sym (take_within w (length a) (a ++ b) few) ∙ ap (take w) (take_at a b (length a) refl)
 
 pub front_more : (told all more : List ℕ) → IsFront told all → IsFront told (all ++ more)
 front_more told all more front =
@@ -99,12 +97,6 @@ record FrontParts (xs : List (List ℕ)) (told : List ℕ) : Type 0 where
   within : whole < length xs → IsPart rest (get_or xs whole [])
   behind : whole ≡ length xs → rest ≡ []
 
-within_or : (a b : ℕ) → (a < b) ⊎ (b ≤ a)
-within_or zero zero = inr (omega arith)
-within_or zero (suc b) = inl (omega arith)
-within_or (suc a) zero = inr (omega arith)
-within_or (suc a) (suc b) = ⊎_elim (λ less. inl (omega (arith, less))) (λ le. inr (omega (arith, le))) (within_or a b)
-
 take_behind : (x rest : List ℕ) (k : ℕ) → length x ≤ k → take k (x ++ rest) ≡ x ++ take (k - length x) rest
 take_behind [] rest k le = ap (λ (n : ℕ). take n rest) (let same : k ≡ k - 0 = omega arith in same)
 take_behind (y ∷ x) rest zero le = absurd (omega (arith, le))
@@ -114,14 +106,14 @@ take_behind (y ∷ x) rest (suc k) le =
 
 front_parts : (xs : List (List ℕ)) (k : ℕ) → FrontParts xs (take k (flat_map (λ (x : List ℕ). x) xs))
 front_parts [] k = record { whole = 0; few = omega arith; rest = []; told_is = take_all k [] (omega arith); within = λ less. absurd (omega (arith, less)); behind = λ e. refl }
-front_parts (x ∷ xs) k = by (within_or k (length x)) (front_parts xs (k - length x))
+front_parts (x ∷ xs) k = by (cases_lt k (length x)) (front_parts xs (k - length x))
   where
     by : (k < length x) ⊎ (length x ≤ k) → FrontParts xs (take (k - length x) (flat_map (λ (x : List ℕ). x) xs)) → FrontParts (x ∷ xs) (take k (flat_map (λ (x : List ℕ). x) (x ∷ xs)))
     by (inl less) rest = record {
       whole = 0;
       few = omega arith;
       rest = take k x;
-      told_is = take_front k x (flat_map (λ (x : List ℕ). x) xs) (omega (arith, less));
+      told_is = take-append-le k x (flat_map (λ (x : List ℕ). x) xs) (omega (arith, less));
       within = λ some. (k, less, refl);
       behind = λ e. absurd (omega (arith, e));
     }
@@ -175,13 +167,13 @@ counted_more : (xs ys : List (List ℕ)) (told : List ℕ) (p : Parts xs told) �
 counted_more xs ys told p plain =
     let few = p.few in
     let long = length-append xs ys in
-    ap (λ (l : List ℕ). whole_texts l (xs ++ ys)) (p.told_is ∙ ap (λ (l : List (List ℕ)). flat_map (λ (x : List ℕ). x) l ++ p.rest) (sym (take_front p.whole xs ys few)))
+    ap (λ (l : List ℕ). whole_texts l (xs ++ ys)) (p.told_is ∙ ap (λ (l : List (List ℕ)). flat_map (λ (x : List ℕ). x) l ++ p.rest) (sym (take-append-le p.whole xs ys few)))
     ∙ counts (xs ++ ys) p.whole p.rest (omega (arith, few, long)) (λ less. ⊎_elim
     (λ inside. ap (starts_with nat_eq p.rest) (get_or_append_left xs ys [] p.whole inside) ∙ p.within inside)
     (λ beyond.
     let end : p.whole ≡ length xs = omega (arith, few, beyond) in
     let there : get_or (xs ++ ys) p.whole [] ≡ get_or ys (p.whole - length xs) [] = get_or-append_right xs ys (length xs) p.whole [] refl beyond in
-    ap (starts_with nat_eq p.rest) there ∙ p.behind end _ (plain (p.whole - length xs) (omega (arith, less, long, beyond)))) (within_or p.whole (length xs)))
+    ap (starts_with nat_eq p.rest) there ∙ p.behind end _ (plain (p.whole - length xs) (omega (arith, less, long, beyond)))) (cases_lt p.whole (length xs)))
 
 abbrev pub run_with : Geometry → State → List (List CacheLine) → List Line → Run
 run_with g opening listings lines = record { geometry = g; opening = opening; lines = lines; listings = listings }
@@ -222,7 +214,7 @@ module _ (g : Geometry) (opening : State) (listings : List (List CacheLine)) (xs
   told_all fault told (inr behind) =
       let few = behind.1 in
       let long = ap length texts_split ∙ length-append (texts first) (map reply_text (replies later)) in
-      let same : first_texts all behind.0 ≡ first_texts first behind.0 = ap (λ (l : List (List ℕ)). flat_map (λ (x : List ℕ). x) (take behind.0 l)) texts_split ∙ ap (flat_map (λ (x : List ℕ). x)) (take_front behind.0 (texts first) (map reply_text (replies later)) few) in
+      let same : first_texts all behind.0 ≡ first_texts first behind.0 = ap (λ (l : List (List ℕ)). flat_map (λ (x : List ℕ). x) (take behind.0 l)) texts_split ∙ ap (flat_map (λ (x : List ℕ). x)) (take-append-le behind.0 (texts first) (map reply_text (replies later)) few) in
       inr (behind.0, omega (arith, few, long), behind.2, behind.3 ∙ ap (λ (l : List ℕ). l ++ behind.2) (sym same), behind.4)
 
   module _ (fault told : List ℕ) (is_fault : IsFault fault) (is_told : IsToldOf first fault told) where
@@ -248,7 +240,7 @@ module _ (g : Geometry) (opening : State) (listings : List (List CacheLine)) (xs
         let low : commits_among (p.whole - 1) marks ≤ k = subst (λ (n : ℕ). commits_among (n - 1) marks ≤ k) one r.at_least in
         let high : k ≤ commits_among p.whole marks = subst (λ (n : ℕ). k ≤ commits_among n marks) one r.at_most in
         let same : commits_among (p.whole - 1) (commit_marks (turns_of all)) ≡ commits_among (p.whole - 1) marks =
-        ap (λ (l : List Bool). count_by (λ (mark : Bool). mark) (take (p.whole - 1) l)) marks_split ∙ ap (count_by (λ (mark : Bool). mark)) (take_front (p.whole - 1) marks others before) in
+        ap (λ (l : List Bool). count_by (λ (mark : Bool). mark) (take (p.whole - 1) l)) marks_split ∙ ap (count_by (λ (mark : Bool). mark)) (take-append-le (p.whole - 1) marks others before) in
         let up : commits_among p.whole marks ≤ commits_among p.whole (commit_marks (turns_of all)) =
         let fewer = among_more p.whole marks others in
         let here = among_is p.whole marks in

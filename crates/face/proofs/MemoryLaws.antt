@@ -14,9 +14,9 @@ use Rattle.face.specs.TopCall.{LoadContract, NewContract, RunContract}
 use Rattle.face.specs.Headline.{IsGood, Headline}
 use Rattle.face.specs.Tells.{Tells}
 use Rattle.face.specs.Run.{Run, first_lines}
-use Rattle.face.specs.Working.{Works}
+use Rattle.face.specs.Working.{RunOutcome}
 use Rattle.face.proofs.Pagings.{none_read}
-use Rattle.redo_undo.specs.Works.{NumbersRise, OverflowsWithMore}
+use Rattle.redo_undo.specs.MachineSteps.{NumbersRise, OverflowsWithMore}
 use Rattle.face.specs.New.{New, NewCauses}
 use Rattle.face.specs.Words.{LacksMemory, memory_fault}
 use Rattle.face.specs.Range.{AsksNoMore, run_of}
@@ -29,7 +29,7 @@ use Rattle.face.proofs.LoadFaults.{load_contract, load_halted, stopped_before}
 use Rattle.face.proofs.Loadings.{load_never_opened}
 use Rattle.face.proofs.CauseLaws.{status_causes}
 use Rattle.face.proofs.Ends.{never_opened}
-use Rattle.face.proofs.Works.{not_opened}
+use Rattle.face.proofs.RunsSoFar.{not_opened}
 use Rattle.face.proofs.Faults.{halted, run_contract}
 use Rattle.face.proofs.Meanings.{stands_by}
 use Rattle.engine.specs.Image.{Stands}
@@ -56,7 +56,7 @@ pub lacked_headline : Serial → NumbersRise → (pool : ℕ) (g : Geometry) (op
 lacked_headline law rise pool g opening old new result good tells =
     let run = run_of g opening true old.input.left [] in
     let stops = not_opened run old old (still g opening old good) lacks (λ ne. good.quiet) in
-    let works : Works {T = ℕ} pool run old old (Err lacks) = never_opened pool run old old lacks stops (λ e. cc, λ e. cc) refl (λ e. cc) (counts_nothing run old.image) (reads_nothing rise pool run old good.quiet) in
+    let works : RunOutcome {T = ℕ} pool run old old (Err lacks) = never_opened pool run old old lacks stops (λ e. cc, λ e. cc) refl (λ e. cc) (counts_nothing run old.image) (reads_nothing rise pool run old good.quiet) in
     halted pool g opening [] old law old new lacks good works (goes_nowhere old) result tells tt 4 refl
 
 -- the same of a load

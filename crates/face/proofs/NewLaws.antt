@@ -5,7 +5,7 @@ use Rattle.site.specs.declared.geometry.Geometry.{Geometry}
 use Rattle.site.specs.declared.outside.Failed.{Failed as CallFailed}
 use Rattle.site.specs.State.{State, Moment}
 use Rattle.site.specs.Geometry.{HasLengths}
-use Rattle.site.specs.Calls.{Goes, IsUnchanged, SameReads}
+use Rattle.site.specs.Calls.{Preserves, IsUnchanged, SameReads}
 use Rattle.site.specs.Moments.{EachMoment}
 use Rattle.site.specs.Telling.{TellsPart}
 use Rattle.site.specs.Laws.{stays_honest, no_call, in_sequence, each_weaker, unchanged_calm, unchanged_devices, devices_in_sequence}
@@ -31,7 +31,7 @@ moments line old mid new same told =
     (each_weaker mid new (TellsPart line mid) (TellsPart line old) (part_of line old mid same) told)
 
 -- after an error of telling nothing is said of all of the line
-pub answered : {T : Type 0} (g : Geometry) (old mid new : State) (line : List ℕ) (status : ℕ) (result : Result T CallFailed) → Goes old mid → (IsTrue old.honest → IsUnchanged old mid) → ((HasLengths g old.image → ⊥) → SameReads old mid) → Tells line mid new result
+pub answered : {T : Type 0} (g : Geometry) (old mid new : State) (line : List ℕ) (status : ℕ) (result : Result T CallFailed) → Preserves old mid → (IsTrue old.honest → IsUnchanged old mid) → ((HasLengths g old.image → ⊥) → SameReads old mid) → Tells line mid new result
     → IsAnswer g status line old new → (IsTrue old.honest → status ≡ 0 → new.told ≡ mid.told ++ line) → New g old new status
 answered g old mid new line status result goes same unread tells answer ready = record {
   line = line;
@@ -44,7 +44,7 @@ answered g old mid new line status result goes same unread tells answer ready = 
 }
 
 -- what was found stays so while the line is told
-pub unfit_stays : (unfit : Unfit) (g : Geometry) (old mid new : State) → IsUnfit unfit g old mid → Goes mid new → IsUnfit unfit g old new
+pub unfit_stays : (unfit : Unfit) (g : Geometry) (old mid new : State) → IsUnfit unfit g old mid → Preserves mid new → IsUnfit unfit g old new
 unfit_stays Foreign g old mid new why goes = why
 unfit_stays (Failed dev) g old mid new why goes = (why.0, le_trans why.1 (goes.faults dev))
 unfit_stays (NotBlank dev place) g old mid new why goes = why

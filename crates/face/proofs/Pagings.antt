@@ -1,5 +1,5 @@
 -- What a run asks of the page cache, line by line.
-use Rattle.flash_cache.specs.Held.{start_reads}
+use Rattle.flash_cache.specs.Representation.{start_reads}
 use Rattle.std.proofs.Common.{◌≡◌, ℕ, suc, ◌+◌, ◌^◌, ◌<◌, ◌≤◌, Bool, true, false, List, [], ◌∷◌, ◌++◌, length, take, drop, arith, refl, sym, ap, subst, ◌∙◌, append_assoc, take-append-drop, ◌-◌, IsTrue}
 use Rattle.std.specs.Prelude.{Result, Ok, Err, Option, Some, None, IfErr, IsErrOf, if◌then◌else◌}
 use Rattle.std.proofs.lemmas.List.{append-nil}
@@ -29,10 +29,10 @@ use Rattle.page_store.proofs.StagingLaws.{stages_none}
 use Rattle.engine.proofs.Asking.{still_writes}
 use Rattle.face.specs.Lines.{HearsOnly}
 use Rattle.face.proofs.Writings.{writes_told, writes_heard, writes_then}
-use Rattle.redo_undo.specs.Works.{next_group, Overflows, Asks, NumbersRise, ReadsAddUp, ReadsFor, WorksAddUp, OverflowsWithMore}
+use Rattle.redo_undo.specs.MachineSteps.{next_group, Overflows, StepsMachine, NumbersRise, ReadsAddUp, ReadsFor, WorksAddUp, OverflowsWithMore}
 use Rattle.engine.specs.declared.engine.Engine.{Engine}
-use Rattle.engine.specs.Fits.{Fits}
-use Rattle.engine.specs.Going.{MayGoOn, sizes_of}
+use Rattle.engine.specs.Representation.{Matches}
+use Rattle.engine.specs.Invariant.{Invariant, sizes_of}
 use Rattle.engine.specs.Listings.{QueueIsOnFlash}
 use Rattle.engine.specs.SeenVersions.{VersionsAreSeen, WhereItFits}
 use Rattle.engine.specs.Image.{IsSound}
@@ -41,10 +41,10 @@ use Rattle.face.specs.declared.halt.Halt.TheVariants as halt
 use Rattle.face.specs.Lines.{commands_of, up_to_quit}
 use Rattle.face.proofs.Fronts.{first_commands, state_by_turns, turns_first, whole_turns}
 use Rattle.face.proofs.Runs.{turn_at, turns_next}
-use Rattle.face.proofs.Stated.{works_join}
+use Rattle.face.proofs.LinesBeforeQuit.{works_join}
 use Rattle.face.proofs.Turns.{first_answered}
 use Rattle.site.specs.declared.geometry.Geometry.{Geometry}
-use Rattle.face.specs.Going.{IsPaged, Serves}
+use Rattle.face.specs.Going.{IsPaged, LineStepsMachine}
 use Rattle.face.specs.Range.{run_of, works_by, cache_by, LeavesItsQueue, LeavesVersions, WearsOut, NeverWears}
 use Rattle.face.specs.Run.{Run, answered, first_lines, step, after_lines, state_at, works_of, AsksFew, turns_of}
 use Rattle.face.specs.Working.{asked_after}
@@ -191,7 +191,7 @@ module _ (pool : ℕ) (run : Run) (newest : Option Master) (image : Image) (bloc
         ∙ ap (λ (w : List CacheWork). after_works r w (cache_on run.geometry image)) (sym (asked_next run newest image blocks i line rest is))
 
     -- it is answered
-    pub next_paged : {T : Type 0} (x : T) (engine' : Engine) (before now : Site) → Serves {T = T} (Ok x) (line_touches true (state_at run i) line) engine.store.pages engine'.store.pages before now → IsPaged pool run newest image blocks engine' (suc i)
+    pub next_paged : {T : Type 0} (x : T) (engine' : Engine) (before now : Site) → LineStepsMachine {T = T} (Ok x) (line_touches true (state_at run i) line) engine.store.pages engine'.store.pages before now → IsPaged pool run newest image blocks engine' (suc i)
     next_paged x engine' before now serves = record { machine = serves.machine ∙ next_is; rules_are = serves.rules_are ∙ paged.rules_are }
 
     -- however that ends, no more is read than it asks for
@@ -220,20 +220,20 @@ module _ (pool : ℕ) (run : Run) (newest : Option Master) (image : Image) (bloc
     next_worn over = subst (λ (c : Cache). 2 ^ 40 < next_group c) next_is over
 
   -- the ring has what was asked for
-  pub paged_room : (engine : Engine) (site : Site) (i : ℕ) → IsPaged pool run newest image blocks engine i → MayGoOn engine site → next_group (after_works r (asked_after run newest image blocks i) (cache_on run.geometry image)) ≤ 2 ^ 40
+  pub paged_room : (engine : Engine) (site : Site) (i : ℕ) → IsPaged pool run newest image blocks engine i → Invariant engine site → next_group (after_works r (asked_after run newest image blocks i) (cache_on run.geometry image)) ≤ 2 ^ 40
   paged_room engine site i paged may =
       let next = may.store.both.pages_going.flash.next in
       let bounded = may.store.both.pages_going.flash.rings.groups_usable.bounded in
       subst (λ (c : Cache). next_group c ≤ 2 ^ 40) paged.machine (omega (arith, next, bounded))
 
   -- its queue is on flash
-  pub paged_queue : QueueIsOnFlash → (engine : Engine) (site : Site) (s : State) (i : ℕ) → Fits engine site s → sizes_of engine.store ≡ run.geometry → IsPaged pool run newest image blocks engine i →
+  pub paged_queue : QueueIsOnFlash → (engine : Engine) (site : Site) (s : State) (i : ℕ) → Matches engine site s → sizes_of engine.store ≡ run.geometry → IsPaged pool run newest image blocks engine i →
       cache_on run.geometry site.image ≡ opened (after_works r (asked_after run newest image blocks i) (cache_on run.geometry image)).queue
   paged_queue law engine site s i fits sizes paged =
       ap (λ (g : Geometry). cache_on g site.image) (sym sizes) ∙ law engine site s fits ∙ ap (λ (c : Cache). opened c.queue) paged.machine
 
   -- and the versions show what is seen
-  pub paged_versions : WhereItFits → (engine : Engine) (site : Site) (i : ℕ) → Fits engine site (state_at run i) → sizes_of engine.store ≡ run.geometry → IsPaged pool run newest image blocks engine i →
+  pub paged_versions : WhereItFits → (engine : Engine) (site : Site) (i : ℕ) → Matches engine site (state_at run i) → sizes_of engine.store ≡ run.geometry → IsPaged pool run newest image blocks engine i →
       VersionsAreSeen run.geometry (after_works r (asked_after run newest image blocks i) (cache_on run.geometry image)).pool site.image (left_by run.opening (turns_of (first_lines run i)))
   paged_versions law engine site i fits sizes paged =
       subst (VersionsAreSeen run.geometry (after_works r (asked_after run newest image blocks i) (cache_on run.geometry image)).pool site.image) (state_by_turns run i)
@@ -241,16 +241,16 @@ module _ (pool : ℕ) (run : Run) (newest : Option Master) (image : Image) (bloc
       (subst (λ (c : Cache). VersionsAreSeen (sizes_of engine.store) c.pool site.image (state_at run i)) paged.machine (law engine site (state_at run i) fits)))
 
 -- a line that asks for nothing
-pub idle_asks : {T : Type 0} (x : T) (pages : PageStore) (now : Site) → Asks {T = T} (Ok x) [] pages pages now now
+pub idle_asks : {T : Type 0} (x : T) (pages : PageStore) (now : Site) → StepsMachine {T = T} (Ok x) [] pages pages now now
 idle_asks {T} x pages now = record { machine = refl; worn = λ is. absurd (no_error is); reads = record { flash = omega arith; disk = omega arith }; rules_are = refl; stages = stages_none (omega arith) refl }
   where
     no_error : IsErrOf {T = T} {E = Stop} (Ok x) (Worn Flash) → ⊥
     no_error is = cc
 
-pub idle_line : {T : Type 0} (x : T) (works : List CacheWork) (pages : PageStore) (now : Site) → works ≡ [] → Asks {T = T} (Ok x) works pages pages now now
-idle_line {T} x works pages now none = subst (λ (w : List CacheWork). Asks {T = T} (Ok x) w pages pages now now) (sym none) (idle_asks x pages now)
+pub idle_line : {T : Type 0} (x : T) (works : List CacheWork) (pages : PageStore) (now : Site) → works ≡ [] → StepsMachine {T = T} (Ok x) works pages pages now now
+idle_line {T} x works pages now none = subst (λ (w : List CacheWork). StepsMachine {T = T} (Ok x) w pages pages now now) (sym none) (idle_asks x pages now)
 
-pub idle_stops : {T : Type 0} (stop : Stop) (pages : PageStore) (now : Site) → stop ≡ Memory → Asks {T = T} (Err stop) [] pages pages now now
+pub idle_stops : {T : Type 0} (stop : Stop) (pages : PageStore) (now : Site) → stop ≡ Memory → StepsMachine {T = T} (Err stop) [] pages pages now now
 idle_stops {T} stop pages now memory = record { machine = tt; worn = λ is. absurd (other (same is)); reads = record { flash = omega arith; disk = omega arith }; rules_are = refl; stages = stages_none (omega arith) refl }
   where
     same : IsErrOf {T = T} (Err stop) (Worn Flash) → stop ≡ Worn Flash
@@ -259,24 +259,24 @@ idle_stops {T} stop pages now memory = record { machine = tt; worn = λ is. absu
     other : stop ≡ Worn Flash → ⊥
     other is = cc
 
-pub listing_asks : {T : Type 0} (result : Result T Stop) (pages : PageStore) (now : Site) → IfErr result (λ stop. stop ≡ Memory) → Asks result [] pages pages now now
+pub listing_asks : {T : Type 0} (result : Result T Stop) (pages : PageStore) (now : Site) → IfErr result (λ stop. stop ≡ Memory) → StepsMachine result [] pages pages now now
 listing_asks (Ok x) pages now stops = idle_asks x pages now
 listing_asks (Err stop) pages now stops = idle_stops stop pages now stops
 
 -- a call of the engine, as a line is served
-pub serves_ok : {A B : Type 0} (a : A) (b : B) (works : List CacheWork) (old new : PageStore) (before mid now : Site) → SameReads mid now → {piece : List ℕ} → (IsTrue before.honest → EachMoment mid now (TellsPart piece mid)) → Asks {T = A} (Ok a) works old new before mid → Serves {T = B} (Ok b) works old new before now
+pub serves_ok : {A B : Type 0} (a : A) (b : B) (works : List CacheWork) (old new : PageStore) (before mid now : Site) → SameReads mid now → {piece : List ℕ} → (IsTrue before.honest → EachMoment mid now (TellsPart piece mid)) → StepsMachine {T = A} (Ok a) works old new before mid → LineStepsMachine {T = B} (Ok b) works old new before now
 serves_ok {A} {B} a b works old new before mid now same {piece} tells asks = record { machine = asks.machine; worn = λ is. absurd (no_error is); reads = reads_still (rules old) works (cache_of old) before mid now same asks.reads; rules_are = asks.rules_are; writes = λ has quiet. writes_told old.flash.geometry (rules old) works (cache_of old) piece before mid now (asks.stages.writes has quiet) (tells has.fits.honest); geometry = asks.stages.sizes }
   where
     no_error : IsErrOf {T = B} (Ok b) (halt.Stop (Worn Flash)) → ⊥
     no_error is = cc
 
-pub serves_err : {A B : Type 0} (stop : Stop) (works : List CacheWork) (old new : PageStore) (before now : Site) → Asks {T = A} (Err stop) works old new before now → Serves {T = B} (Err (halt.Stop stop)) works old new before now
+pub serves_err : {A B : Type 0} (stop : Stop) (works : List CacheWork) (old new : PageStore) (before now : Site) → StepsMachine {T = A} (Err stop) works old new before now → LineStepsMachine {T = B} (Err (halt.Stop stop)) works old new before now
 serves_err {A} {B} stop works old new before now asks = record { machine = tt; worn = λ is. asks.worn (ap Err (same is)); reads = asks.reads; rules_are = asks.rules_are; writes = asks.stages.writes; geometry = asks.stages.sizes }
   where
     same : IsErrOf {T = B} (Err (halt.Stop stop)) (halt.Stop (Worn Flash)) → stop ≡ Worn Flash
     same is = cc
 
-pub serves_lost : {A B : Type 0} (a : A) (works : List CacheWork) (old new : PageStore) (before mid now : Site) → SameReads mid now → {piece : List ℕ} → (IsTrue before.honest → EachMoment mid now (TellsPart piece mid)) → Asks {T = A} (Ok a) works old new before mid → Serves {T = B} (Err halt.Output) works old new before now
+pub serves_lost : {A B : Type 0} (a : A) (works : List CacheWork) (old new : PageStore) (before mid now : Site) → SameReads mid now → {piece : List ℕ} → (IsTrue before.honest → EachMoment mid now (TellsPart piece mid)) → StepsMachine {T = A} (Ok a) works old new before mid → LineStepsMachine {T = B} (Err halt.Output) works old new before now
 serves_lost {A} {B} a works old new before mid now same {piece} tells asks = record { machine = tt; worn = λ is. absurd (no_error is); reads = reads_still (rules old) works (cache_of old) before mid now same asks.reads; rules_are = asks.rules_are; writes = λ has quiet. writes_told old.flash.geometry (rules old) works (cache_of old) piece before mid now (asks.stages.writes has quiet) (tells has.fits.honest); geometry = asks.stages.sizes }
   where
     no_error : IsErrOf {T = B} (Err halt.Output) (halt.Stop (Worn Flash)) → ⊥

@@ -5,6 +5,7 @@ use Rattle.std.specs.List.{starts_with}
 use Rattle.std.proofs.lemmas.List.{drop_at, length-take-le, take_all, take_at}
 use Rattle.std.proofs.lemmas.Slice.Eq.{starts_is}
 use Rattle.std.proofs.lemmas.Bool.Decides.{Decides-eqb}
+use Rattle.std.proofs.lemmas.Bool.{false_from_ne_true}
 use Rattle.site.specs.State.{Snapshot, Image}
 use Rattle.site.specs.declared.outside.Stop.TheVariants.{Device, Memory, Worn, Foreign}
 use Rattle.record_model.specs.State.{Content, State}
@@ -36,16 +37,12 @@ IsPart rest text = (k : ℕ) × (k < length text) × (rest ≡ take k text)
 abbrev pub IsFault : List ℕ → Type 0
 IsFault fault = (fault ≡ []) ⊎ ((h : Halt) × (fault ≡ fault_line h))
 
-not_true : (b : Bool) → (b ≡ true → ⊥) → b ≡ false
-not_true true never = absurd (never refl)
-not_true false never = refl
-
 begins : (text rest : List ℕ) → starts_with nat_eq (text ++ rest) text ≡ true
 begins text rest = (starts_is Decides-eqb (text ++ rest) text (starts_with nat_eq (text ++ rest) text) refl).1 rest refl
 
 -- a list that no list goes on to doesn't begin so
 pub begins_not : (told text : List ℕ) → ((rest : List ℕ) → told ≡ text ++ rest → ⊥) → starts_with nat_eq told text ≡ false
-begins_not told text none = not_true (starts_with nat_eq told text) (λ yes. none (drop (length text) told) ((starts_is Decides-eqb told text (starts_with nat_eq told text) refl).0 yes))
+begins_not told text none = false_from_ne_true (starts_with nat_eq told text) (λ yes. none (drop (length text) told) ((starts_is Decides-eqb told text (starts_with nat_eq told text) refl).0 yes))
 
 -- the whole texts are counted
 pub counts : (xs : List (List ℕ)) (w : ℕ) (rest : List ℕ) → w ≤ length xs → (w < length xs → starts_with nat_eq rest (get_or xs w []) ≡ false) → whole_texts (flat_map (λ (x : List ℕ). x) (take w xs) ++ rest) xs ≡ w

@@ -3,7 +3,7 @@ use Rattle.std.proofs.Common.{◌≡◌, ◌≢◌, ◌⊎◌, inl, inr, ⊎_eli
 use Rattle.std.specs.Prelude.{Option, Some, None, min, Result, Ok, Err, OnErr, slice_get, slice_range}
 use Rattle.std.proofs.lemmas.List.{append-nil, take_all, take_at}
 use Rattle.site.specs.State.{Input, State as Site, Image, MayLeave, no_loose, now_of}
-use Rattle.site.specs.Calls.{Goes, Rose}
+use Rattle.site.specs.Calls.{Preserves, Rose}
 use Rattle.site.specs.Crash.{image_left, started}
 use Rattle.site.specs.Laws.{calm, each_weaker, goes_nowhere, in_sequence, no_call, now_leaves, now_same, rose_then}
 use Rattle.site.specs.MemState.{limits_of, lives_of, state_of}
@@ -268,7 +268,7 @@ numbers_unbegun g inner is = ap (λ (l : List ℕ). l ++ (limits_of inner).chang
 
 -- A trial as a whole.
 
-module _ {T : Type 0} (g : Geometry) (script : List ℕ) (old mid new : Site) (numbers : List ℕ) (status : ℕ) (result : Result T Failed) (goes : Goes old mid) (honest : IsTrue mid.honest) where
+module _ {T : Type 0} (g : Geometry) (script : List ℕ) (old mid new : Site) (numbers : List ℕ) (status : ℕ) (result : Result T Failed) (goes : Preserves old mid) (honest : IsTrue mid.honest) where
   told_first : (h : Halt) → status ≡ status_of h → (status_of h ≢ 0) → (status_of h ≢ 6) → ((status_of h ≡ 5) ⊎ (status_of h ≡ 7) → numbers ≡ 0 ∷ []) → IsGivenUp g script old mid numbers → Tells (fault_line h) mid new result → Lives g script old new status numbers
   told_first h is nonzero nonsix none u tells = record {
     all = λ e. absurd (nonzero (sym is ∙ e));
@@ -327,7 +327,7 @@ pub record TrialHalts (h : Halt) (old mid : Site) : Type 0 where
   pub few : h ≡ halt.Output → IsTrue old.honest → length old.input.left ≤ script_limit
   pub limit : h ≡ halt.Limit → IsTrue old.honest → length old.input.left ≡ script_limit + 1 + length mid.input.left
 
-pub caused_by : (h : Halt) (status : ℕ) (old mid new : Site) → status ≡ status_of h → TrialHalts h old mid → Goes mid new → (IsTrue old.honest → new.input ≡ mid.input) → TrialCauses old new status
+pub caused_by : (h : Halt) (status : ℕ) (old mid new : Site) → status ≡ status_of h → TrialHalts h old mid → Preserves mid new → (IsTrue old.honest → new.input ≡ mid.input) → TrialCauses old new status
 caused_by h status old mid new is t goes left = ⊎_elim memory (⊎_elim input (⊎_elim output limit)) t.is
   where
     memory : h ≡ halt.Stop Memory → TrialCauses old new status

@@ -2,7 +2,7 @@
 use Rattle.std.proofs.Common.{◌≡◌, ◌≢◌, ℕ, ◌+◌, ◌≤◌, Bool, true, false, List, [], ◌∷◌, ◌++◌, length, take, refl, sym, ◌∙◌, ap, subst, arith, append_assoc, length-append}
 use Rattle.std.specs.Prelude.{Ok, if◌then◌else◌}
 use Rattle.std.proofs.lemmas.List.{append-nil, length-take}
-use Rattle.log_laws.proofs.Lists.{all_append, all_weaker}
+use Rattle.std_lemmas.proofs.AllOf.{all_append, all_weaker}
 use Rattle.site.specs.State.{Input, State as Site}
 use Rattle.site.specs.Calls.{Took}
 use Rattle.site.specs.declared.outside.Take.{Take}

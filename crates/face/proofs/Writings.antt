@@ -14,13 +14,13 @@ use Rattle.page_store.proofs.StagingLaws.{among_first, written_weaker, written_t
 use Rattle.page_store.specs.declared.store.PageStore.{PageStore}
 use Rattle.redo_undo.proofs.Costs.{works_add_up, staged_add_up, more_next}
 use Rattle.engine.specs.declared.engine.Engine.{Engine}
-use Rattle.engine.specs.Fits.{Fits}
-use Rattle.engine.specs.Going.{MayGoOn}
+use Rattle.engine.specs.Representation.{Matches}
+use Rattle.engine.specs.Invariant.{Invariant}
 use Rattle.engine.specs.Paging.{WritesFrom}
 use Rattle.face.specs.Lines.{HearsOnly}
 
 -- the queue of a database that fits is the one on flash
-pub engine_queue : (engine : Engine) (site : Site) (s : State) → MayGoOn engine site → Fits engine site s → HasQueueOn engine.store.pages site
+pub engine_queue : (engine : Engine) (site : Site) (s : State) → Invariant engine site → Matches engine site s → HasQueueOn engine.store.pages site
 engine_queue engine site s may fits = fits_queue engine.store.pages site may.store.both.pages_going fits.holds.both.log_holds.ready.pages
 
 -- behind it something is told

@@ -1,6 +1,5 @@
 -- Octets that are zero, and the first that isn't.
-use Rattle.std.proofs.Common.{◌≡◌, zero, suc, inl, inr, ◌+◌, ◌-◌, ◌≤◌, ◌<◌, ℕ, List, length, take, drop, get_or, sym, ◌∙◌, ap, subst, arith}
-use Rattle.std.specs.Prelude.{◌⊎◌}
+use Rattle.std.proofs.Common.{◌≡◌, zero, ◌+◌, ◌-◌, ◌≤◌, ◌<◌, ℕ, List, length, take, drop, get_or, sym, ◌∙◌, ap, subst, arith}
 use Rattle.std.proofs.lemmas.List.{get_or-take, get_or-drop}
 use Rattle.face.specs.New.{AreZero, IsFirst}
 
@@ -22,12 +21,3 @@ first_read content into at place is first =
       nonzero = λ zero. first.nonzero (at_place content into at place is inside ∙ zero);
       zeros = zeros_read content into at place is (omega (arith, inside)) first.zeros;
     }
-
-below_or_not : (a b : ℕ) → (a < b) ⊎ (b ≤ a)
-below_or_not zero zero = inr (omega arith)
-below_or_not zero (suc b) = inl (omega arith)
-below_or_not (suc a) zero = inr (omega arith)
-below_or_not (suc a) (suc b) = elim (below_or_not a b) [
-  | inl less ↦ inl (omega (arith, less))
-  | inr more ↦ inr (omega (arith, more))
-]

@@ -15,9 +15,9 @@ use Rattle.face.specs.declared.halt.Halt.{Halt}
 use Rattle.face.specs.declared.halt.Halt.TheVariants as halt
 use Rattle.engine.specs.declared.engine.Engine.{Engine}
 use Rattle.engine.specs.Image.{Stands}
-use Rattle.engine.specs.Fits.{Fits}
-use Rattle.engine.specs.Going.{sizes_of}
-use Rattle.flash_cache.specs.Held.{IsWorn}
+use Rattle.engine.specs.Representation.{Matches}
+use Rattle.engine.specs.Invariant.{sizes_of}
+use Rattle.flash_cache.specs.Representation.{IsWorn}
 use Rattle.redo_undo.specs.Holding.{IsLogWorn}
 use Rattle.std.specs.List.{list_any}
 use Rattle.record_model.specs.Run.{is_quit}
@@ -50,9 +50,9 @@ abbrev pub FailsBy : Stop → Engine → State → State → Type 0
 FailsBy (Device dev) engine old new = Rose (faults_of dev old) (faults_of dev new)
 FailsBy Memory engine old new = ⊤
 FailsBy (Worn Disk) engine old new = ⊥
-FailsBy (Worn dev) engine old new = (s : model.State) → Fits engine old s →
+FailsBy (Worn dev) engine old new = (s : model.State) → Matches engine old s →
     IsWornAt dev (sizes_of engine.store) new.image
-FailsBy Foreign engine old new = (s : model.State) → Fits engine old s → ⊥
+FailsBy Foreign engine old new = (s : model.State) → Matches engine old s → ⊥
 
 -- why the answer to a line fails
 abbrev pub AnswerFailsBy : Halt → Engine → State → State → Type 0
@@ -128,6 +128,6 @@ EndsInTime site = (length site.input.left ≤ limit)
     ⊎ (list_any is_quit (commands_of false (take limit site.input.left)) ≡ true)
 
 -- devices without sizes are refused, and nothing was done
-abbrev pub Halts : {T : Type 0} → Result T Halt → State → State → Type 0
-Halts (Ok done) old new = ⊥
-Halts (Err h) old new = (h ≡ halt.Stop Foreign) × (new ≡ old)
+abbrev pub RefusesAsForeign : {T : Type 0} → Result T Halt → State → State → Type 0
+RefusesAsForeign (Ok done) old new = ⊥
+RefusesAsForeign (Err h) old new = (h ≡ halt.Stop Foreign) × (new ≡ old)

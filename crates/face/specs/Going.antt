@@ -4,8 +4,8 @@ use Rattle.site.specs.State.{State as Site, Image, IsQuiet, no_loose}
 use Rattle.site.specs.Moments.{LeavesOnly}
 use Rattle.record_model.specs.declared.words.CacheLine.{CacheLine}
 use Rattle.engine.specs.declared.engine.Engine.{Engine}
-use Rattle.engine.specs.Fits.{Fits}
-use Rattle.engine.specs.Going.{sizes_of}
+use Rattle.engine.specs.Representation.{Matches}
+use Rattle.engine.specs.Invariant.{sizes_of}
 use Rattle.site.specs.declared.outside.Dev.TheVariants.{Flash}
 use Rattle.site.specs.declared.outside.Stop.TheVariants.{Worn}
 use Rattle.record_model.specs.Touches.{CacheWork}
@@ -14,7 +14,7 @@ use Rattle.checkpoint.specs.declared.master.Master.{Master}
 use Rattle.second_chance.specs.Machine.{rules_of, after_works}
 use Rattle.page_store.specs.declared.store.PageStore.{PageStore}
 use Rattle.page_store.specs.Caching.{cache_of, rules}
-use Rattle.redo_undo.specs.Works.{Overflows, ReadsFor}
+use Rattle.redo_undo.specs.MachineSteps.{Overflows, ReadsFor}
 use Rattle.engine.specs.Paging.{WritesFrom, cache_on}
 use Rattle.page_store.specs.Staging.{HasQueueOn}
 use Rattle.face.specs.declared.halt.Halt.{Halt}
@@ -30,7 +30,7 @@ use Rattle.face.specs.Working.{AnswersFirst, asked_after}
 
 -- so many lines of the run were answered
 pub record Going (run : Run) (entry now : Site) (engine : Engine) (lines : ℕ) : Type 0 where
-  pub fits : Fits engine now (state_at run lines)
+  pub fits : Matches engine now (state_at run lines)
   pub quiet : now.loose ≡ no_loose
   pub geometry : sizes_of engine.store ≡ run.geometry
   -- the log has the same sizes
@@ -68,7 +68,7 @@ pub record IsCounted (run : Run) (records : List Entry) (old now : Image) (engin
   pub numbers : GivesNumbers (first_lines run lines) records old now
 
 -- A line asks for this work, and no more is read and written than it needs.
-pub record Serves {T : Type 0} (result : Result T Halt) (works : List CacheWork) (old new : PageStore)
+pub record LineStepsMachine {T : Type 0} (result : Result T Halt) (works : List CacheWork) (old new : PageStore)
     (before now : Site) : Type 0 where
   pub machine : OnOk result (cache_of new ≡ after_works (rules old) works (cache_of old))
   pub worn : IsErrOf result (Stop (Worn Flash)) → Overflows (rules old) works (cache_of old)

@@ -2,7 +2,7 @@
 use Rattle.std.specs.Prelude.{◌≡◌, ◌≢◌, ◌⊎◌, ℕ, ◌+◌, ◌-◌, ◌≤◌, List, [], ◌++◌, length, take, IsTrue, Result, IfErr}
 use Rattle.std.specs.Prelude.{OnOk}
 use Rattle.site.specs.State.{State as Site, Snapshot, MayLeave, now_of, IsQuiet, no_loose}
-use Rattle.site.specs.Calls.{Goes}
+use Rattle.site.specs.Calls.{Preserves}
 use Rattle.site.specs.Moments.{LeavesOnly}
 use Rattle.site.specs.declared.geometry.Geometry.{Geometry}
 use Rattle.site.specs.declared.outside.Dev.{Dev}
@@ -10,13 +10,13 @@ use Rattle.site.specs.declared.outside.Stop.TheVariants.{Device}
 use Rattle.record_model.specs.State.{State}
 use Rattle.record_model.specs.Run.{Line, Turn, commit_marks, commits_among}
 use Rattle.engine.specs.declared.engine.Engine.{Engine}
-use Rattle.engine.specs.Fits.{Fits}
-use Rattle.engine.specs.Going.{MayGoOn, sizes_of}
+use Rattle.engine.specs.Representation.{Matches}
+use Rattle.engine.specs.Invariant.{Invariant, sizes_of}
 use Rattle.face.specs.declared.halt.Halt.{Halt}
 use Rattle.face.specs.declared.halt.Halt.TheVariants.{Stop, Output}
 use Rattle.face.specs.declared.request.Load.{Load}
 use Rattle.face.specs.Causes.{AnswerFailsBy}
-use Rattle.face.specs.Going.{Serves}
+use Rattle.face.specs.Going.{LineStepsMachine}
 use Rattle.face.specs.Headline.{IsFaultOf, Resources}
 use Rattle.face.specs.Tells.{EndsBehind}
 use Rattle.face.specs.Range.{all_commits, StandsAfter}
@@ -145,24 +145,24 @@ pub record LeavesSome (g : Geometry) (s : State) (lines : List Line) (so_far : L
 pub record CarriesOut {T : Type 0} (result : Result T Halt) (lines : List Line) (before after : Engine) (old new : Site)
     : Type 0 where
   -- of an honest site that the database fits
-  pub any_moment : (s : State) → Fits before old s → IsQuiet old →
+  pub any_moment : (s : State) → Matches before old s → IsQuiet old →
       LeavesOnly old new (LeavesSome (sizes_of before.store) s lines old.told)
-  pub last : (s : State) → Fits before old s → IsQuiet old → (snapshot : Snapshot) → MayLeave (now_of new) snapshot →
+  pub last : (s : State) → Matches before old s → IsQuiet old → (snapshot : Snapshot) → MayLeave (now_of new) snapshot →
       (done : ℕ) × (length lines ≤ done + 1)
       × StandsFor (sizes_of before.store) snapshot.image (after_lines s (take done lines) [])
-  pub fits : (s : State) → Fits before old s → OnOk result (Fits after new (after_lines s lines []))
-  pub serves : (s : State) → Fits before old s →
-      Serves result (works_of s lines) before.store.pages after.store.pages old new
-  pub numbers : (s : State) → Fits before old s → IsQuiet old →
+  pub fits : (s : State) → Matches before old s → OnOk result (Matches after new (after_lines s lines []))
+  pub serves : (s : State) → Matches before old s →
+      LineStepsMachine result (works_of s lines) before.store.pages after.store.pages old new
+  pub numbers : (s : State) → Matches before old s → IsQuiet old →
       CountsOn result before after old new s (after_lines s lines []) (checkpoints_of s lines)
   pub left : IsTrue old.honest → new.input ≡ old.input
   pub stays_quiet : IsTrue old.honest → IsQuiet old → OnOk result (IsQuiet new)
-  pub quiet : (s : State) → Fits before old s → IsQuiet old →
+  pub quiet : (s : State) → Matches before old s → IsQuiet old →
       IfErr result (λ halt. ((d : Dev) → halt ≢ Stop (Device d)) → IsQuiet new)
   -- of every site
-  pub going : OnOk result (MayGoOn after new)
+  pub going : OnOk result (Invariant after new)
   pub cause : IfErr result (λ halt. AnswerFailsBy halt before old new)
-  pub goes : Goes old new
+  pub goes : Preserves old new
   pub sizes : sizes_of after.store ≡ sizes_of before.store
 
 -- All of the lines are carried out, or where it fails the first ones.

@@ -13,7 +13,7 @@ use Rattle.log_records.specs.declared.log_record.LogRecord.{LogRecord}
 use Rattle.checkpoint.specs.declared.master.Master.{Master}
 use Rattle.image_meaning.specs.Meaning.{picture_under}
 use Rattle.second_chance.specs.Machine.{Cache, rules_of, after_works, listing, opened}
-use Rattle.redo_undo.specs.Works.{next_group}
+use Rattle.redo_undo.specs.MachineSteps.{next_group}
 use Rattle.engine.specs.Paging.{restart_works, cache_on}
 use Rattle.engine.specs.Image.{IsSound, Stands, log_under}
 use Rattle.engine.specs.SeenVersions.{VersionsAreSeen}

@@ -1,7 +1,7 @@
 -- What telling a line does.
 use Rattle.std.specs.Prelude.{◌≡◌, List, ℕ, ◌++◌, take, flat_map, IsTrue, Result, OnOk, OnErr}
 use Rattle.site.specs.State.{State}
-use Rattle.site.specs.Calls.{Goes, SameReads, Rose}
+use Rattle.site.specs.Calls.{Preserves, SameReads, Rose}
 use Rattle.site.specs.Faults.{TellFaults}
 use Rattle.site.specs.Moments.{EachMoment}
 use Rattle.site.specs.Telling.{TellsPart, SameDevices}
@@ -14,7 +14,7 @@ pub record Tells {T : Type 0} (line : List ℕ) (old new : State) (result : Resu
   pub devices : IsTrue old.honest → SameDevices old new
   pub cause : OnErr result (Rose old.output_faults new.output_faults)
   pub reads : SameReads old new
-  pub goes : Goes old new
+  pub goes : Preserves old new
   pub faults : TellFaults result old new
 
 -- Behind what was told before, this line comes last: all of it where no tell has failed, and else a front of it.

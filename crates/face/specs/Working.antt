@@ -84,7 +84,7 @@ pub record Demands {T : Type 0} (pool : ℕ) (run : Run) (old new : Site) (resul
   pub reads : AsksNoMore pool run old new
 
 -- what comes of a run before its fault line
-pub record Works {T : Type 0} (pool : ℕ) (run : Run) (old new : Site) (result : Result T Halt) : Type 0 where
+pub record RunOutcome {T : Type 0} (pool : ℕ) (run : Run) (old new : Site) (result : Result T Halt) : Type 0 where
   pub heard : ℕ
   pub octets : List ℕ
   pub ended : Bool

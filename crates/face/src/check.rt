@@ -1,6 +1,6 @@
 // The work of `check`: whether the devices are sound, or which is the first rule that fails.
 ghost use Rattle.std.specs.Prelude.{◌≡◌, IsTrue, IfOk, Ok};
-ghost use Rattle.site.specs.Calls.{Goes};
+ghost use Rattle.site.specs.Calls.{Preserves};
 ghost use Rattle.site.specs.Work.{OnlyReads};
 ghost use Rattle.image_check.specs.Judgement.{IsVerdictOn};
 ghost use Rattle.image_check.specs.declared.place.Place.{Place};
@@ -47,7 +47,7 @@ fn judge<S: Site>(alloc: Global, site: &mut S) -> Result<Verdict, Stop>
 /// 11 where they aren't sound. Devices without sizes fail the first rule.
 pub fn check<S: Site>(alloc: Global, site: &mut S) -> u8
     ensures check { CheckContract (S.state site.old) (S.state site.new) result }
-    ensures goes { Goes (S.state site.old) (S.state site.new) }
+    ensures goes { Preserves (S.state site.old) (S.state site.new) }
     ensures faults { result ≡ 0 → SameFaults (S.state site.old) (S.state site.new) }
     ensures first { FirstDecides result (S.state site.old) (S.state site.new) }
 {

@@ -4,20 +4,20 @@ ghost use Rattle.site.specs.Faults.{WorkFaults};
 ghost use Rattle.site.specs.declared.outside.Dev.{Dev};
 ghost use Rattle.site.specs.declared.outside.Stop.{Stop};
 ghost use Rattle.site.specs.State.{IsQuiet};
-ghost use Rattle.site.specs.Calls.{Goes};
+ghost use Rattle.site.specs.Calls.{Preserves};
 ghost use Rattle.site.specs.Moments.{LeavesOnly};
 ghost use Rattle.record_model.specs.declared.words.CacheLine.{CacheLine};
 ghost use Rattle.record_model.specs.State.{State};
 ghost use Rattle.record_model.specs.Run.{is_cache};
-ghost use Rattle.engine.specs.Going.{MayGoOn, sizes_of};
-ghost use Rattle.engine.specs.Fits.{Fits};
+ghost use Rattle.engine.specs.Invariant.{Invariant, sizes_of};
+ghost use Rattle.engine.specs.Representation.{Matches};
 ghost use Rattle.engine.specs.Leaves.{LeavesEither};
 ghost use Rattle.engine.specs.Listings.{listing_of};
 ghost use Rattle.engine.specs.Numbers.{CountsOn};
 ghost use Rattle.face.specs.Causes.{FailsBy};
 ghost use Rattle.face.specs.Run.{step, IsAsked, line_checkpoints};
 ghost use Rattle.record_model.specs.Touches.{line_touches};
-ghost use Rattle.redo_undo.specs.Works.{Asks};
+ghost use Rattle.redo_undo.specs.MachineSteps.{StepsMachine};
 
 use engine::{Engine, rest_counts_nothing};
 use record_model::{Command, Reply, Why};
@@ -29,22 +29,22 @@ fn carry_out_plain<S: Site>(
     site: &mut S,
     line: Option<Command>,
 ) -> Result<Reply, Stop>
-    requires going { MayGoOn engine.old (S.state site.old) }
+    requires going { Invariant engine.old (S.state site.old) }
     requires plain { is_cache line ≡ false }
 
     // Of an honest site that the database fits.
-    ensures reply { (s : State) → Fits engine.old (S.state site.old) s
+    ensures reply { (s : State) → Matches engine.old (S.state site.old) s
         → IfOk result (λ reply. reply ≡ (step s line []).reply) }
-    ensures after { (s : State) → Fits engine.old (S.state site.old) s
-        → OnOk result (Fits engine.new (S.state site.new) (step s line []).after) }
-    ensures any_moment { (s : State) → Fits engine.old (S.state site.old) s
+    ensures after { (s : State) → Matches engine.old (S.state site.old) s
+        → OnOk result (Matches engine.new (S.state site.new) (step s line []).after) }
+    ensures any_moment { (s : State) → Matches engine.old (S.state site.old) s
         → IsQuiet (S.state site.old)
         → LeavesOnly (S.state site.old) (S.state site.new)
         (LeavesEither (sizes_of engine.old.store) s (step s line []).after (S.state site.old).told) }
-    ensures asks { (s : State) → Fits engine.old (S.state site.old) s
-        → Asks result (line_touches true s line) engine.old.store.pages engine.new.store.pages
+    ensures asks { (s : State) → Matches engine.old (S.state site.old) s
+        → StepsMachine result (line_touches true s line) engine.old.store.pages engine.new.store.pages
         (S.state site.old) (S.state site.new) }
-    ensures numbers { (s : State) → Fits engine.old (S.state site.old) s
+    ensures numbers { (s : State) → Matches engine.old (S.state site.old) s
         → IsQuiet (S.state site.old)
         → CountsOn result engine.old engine.new (S.state site.old) (S.state site.new)
         s (step s line []).after (line_checkpoints s line) }
@@ -53,15 +53,15 @@ fn carry_out_plain<S: Site>(
     ensures stays_quiet { IsTrue (S.state site.old).honest → IsQuiet (S.state site.old)
         → OnOk result (IsQuiet (S.state site.new)) }
     // Where no device failed, nothing is loose after an error either.
-    ensures quiet { (s : State) → Fits engine.old (S.state site.old) s
+    ensures quiet { (s : State) → Matches engine.old (S.state site.old) s
         → IsQuiet (S.state site.old)
         → IfErr result (λ stop. ((d : Dev) → stop ≢ Stop.Device d) → IsQuiet (S.state site.new)) }
 
     // Of every site.
-    ensures going { OnOk result (MayGoOn engine.new (S.state site.new)) }
+    ensures going { OnOk result (Invariant engine.new (S.state site.new)) }
     ensures cause { IfErr result (λ stop. FailsBy stop engine.old (S.state site.old) (S.state site.new)) }
     ensures sizes { sizes_of engine.new.store ≡ sizes_of engine.old.store }
-    ensures goes { Goes (S.state site.old) (S.state site.new) }
+    ensures goes { Preserves (S.state site.old) (S.state site.new) }
     ensures faults { WorkFaults result (S.state site.old) (S.state site.new) }
 {
     rest_counts_nothing();
@@ -106,24 +106,24 @@ pub fn carry_out<S: Site>(
     site: &mut S,
     line: Option<Command>,
 ) -> Result<Reply, Stop>
-    requires going { MayGoOn engine.old (S.state site.old) }
+    requires going { Invariant engine.old (S.state site.old) }
 
     // Of an honest site that the database fits.
     ensures reply { (s : State) (listing : List CacheLine) → IsAsked line (listing_of engine.old) listing
-        → Fits engine.old (S.state site.old) s
+        → Matches engine.old (S.state site.old) s
         → IfOk result (λ reply. reply ≡ (step s line listing).reply) }
     ensures after { (s : State) (listing : List CacheLine) → IsAsked line (listing_of engine.old) listing
-        → Fits engine.old (S.state site.old) s
-        → OnOk result (Fits engine.new (S.state site.new) (step s line listing).after) }
+        → Matches engine.old (S.state site.old) s
+        → OnOk result (Matches engine.new (S.state site.new) (step s line listing).after) }
     ensures any_moment { (s : State) (listing : List CacheLine) → IsAsked line (listing_of engine.old) listing
-        → Fits engine.old (S.state site.old) s
+        → Matches engine.old (S.state site.old) s
         → IsQuiet (S.state site.old)
         → LeavesOnly (S.state site.old) (S.state site.new)
         (LeavesEither (sizes_of engine.old.store) s (step s line listing).after (S.state site.old).told) }
-    ensures asks { (s : State) → Fits engine.old (S.state site.old) s
-        → Asks result (line_touches true s line) engine.old.store.pages engine.new.store.pages
+    ensures asks { (s : State) → Matches engine.old (S.state site.old) s
+        → StepsMachine result (line_touches true s line) engine.old.store.pages engine.new.store.pages
         (S.state site.old) (S.state site.new) }
-    ensures numbers { (s : State) → Fits engine.old (S.state site.old) s
+    ensures numbers { (s : State) → Matches engine.old (S.state site.old) s
         → IsQuiet (S.state site.old)
         → CountsOn result engine.old engine.new (S.state site.old) (S.state site.new)
         s (step s line []).after (line_checkpoints s line) }
@@ -132,15 +132,15 @@ pub fn carry_out<S: Site>(
     ensures stays_quiet { IsTrue (S.state site.old).honest → IsQuiet (S.state site.old)
         → OnOk result (IsQuiet (S.state site.new)) }
     // Where no device failed, nothing is loose after an error either.
-    ensures quiet { (s : State) → Fits engine.old (S.state site.old) s
+    ensures quiet { (s : State) → Matches engine.old (S.state site.old) s
         → IsQuiet (S.state site.old)
         → IfErr result (λ stop. ((d : Dev) → stop ≢ Stop.Device d) → IsQuiet (S.state site.new)) }
 
     // Of every site.
-    ensures going { OnOk result (MayGoOn engine.new (S.state site.new)) }
+    ensures going { OnOk result (Invariant engine.new (S.state site.new)) }
     ensures cause { IfErr result (λ stop. FailsBy stop engine.old (S.state site.old) (S.state site.new)) }
     ensures sizes { sizes_of engine.new.store ≡ sizes_of engine.old.store }
-    ensures goes { Goes (S.state site.old) (S.state site.new) }
+    ensures goes { Preserves (S.state site.old) (S.state site.new) }
     ensures faults { WorkFaults result (S.state site.old) (S.state site.new) }
 {
     rest_counts_nothing();

@@ -1,7 +1,7 @@
 // A stated workload: its sets, the gets on the same records, and its summary.
 ghost use Rattle.std.specs.Prelude.{◌≡◌, ◌≢◌, ◌*◌, true, false, [], ◌∷◌, IfOk, IfErr, if◌then◌else◌, OnOk};
 ghost use Rattle.face.specs.Causes.{FirstDecides, RunFaults, SameFaults};
-ghost use Rattle.site.specs.Calls.{Goes};
+ghost use Rattle.site.specs.Calls.{Preserves};
 ghost use Rattle.site.specs.declared.geometry.Geometry.{Geometry};
 ghost use Rattle.site.specs.declared.outside.Dev.{Dev};
 ghost use Rattle.site.specs.declared.outside.Stop.{Stop};
@@ -9,10 +9,10 @@ ghost use Rattle.face.specs.declared.halt.Halt.{Halt};
 ghost use Rattle.record_model.specs.State.{State};
 ghost use Rattle.record_model.specs.Run as model;
 ghost use Rattle.record_model.specs.Run.{is_cache};
-ghost use Rattle.engine.specs.Fits.{Fits};
-ghost use Rattle.engine.specs.Going.{MayGoOn, sizes_of};
+ghost use Rattle.engine.specs.Representation.{Matches};
+ghost use Rattle.engine.specs.Invariant.{Invariant, sizes_of};
 ghost use Rattle.engine.specs.Leaves.{HasNoSizes};
-ghost use Rattle.face.specs.Causes.{HasCause, Halts};
+ghost use Rattle.face.specs.Causes.{HasCause, RefusesAsForeign};
 ghost use Rattle.face.specs.TopCall.{LoadContract};
 ghost use Rattle.face.specs.Run.{step};
 ghost use Rattle.face.specs.Headline.{IsGood};
@@ -51,7 +51,7 @@ struct Counts {
 
 // How many pages the disk has.
 fn pages_of<S: Site>(engine: &Engine, site: &S) -> u32
-    requires going { MayGoOn engine.now (S.state site.now) }
+    requires going { Invariant engine.now (S.state site.now) }
     ensures pages { result ≡ (sizes_of engine.now.store).pages }
     ensures some { result ≢ 0 }
 {
@@ -89,10 +89,10 @@ fn carry_on<S: Site>(
     site: &mut S,
     line: Option<Command>,
 ) -> Result<Reply, Halt>
-    requires going { MayGoOn engine.old (S.state site.old) }
+    requires going { Invariant engine.old (S.state site.old) }
     requires plain { is_cache line ≡ false }
     ensures course { CarriesOut result (line ∷ []) engine.old engine.new (S.state site.old) (S.state site.new) }
-    ensures reply { (s : State) → Fits engine.old (S.state site.old) s
+    ensures reply { (s : State) → Matches engine.old (S.state site.old) s
         → IfOk result (λ reply. reply ≡ (step s line []).reply) }
     ensures faults { RunFaults result (S.state site.old) (S.state site.new) }
 {
@@ -110,11 +110,11 @@ fn make_sets<S: Site>(
     load: &Load,
     pages: u32,
 ) -> Result<Made, Halt>
-    requires going { MayGoOn engine.old (S.state site.old) }
+    requires going { Invariant engine.old (S.state site.old) }
     requires pages { pages ≢ 0 }
     ensures course { CarriesFirst result (set_lines (32 * pages) load.now.seed load.now.count)
         engine.old engine.new (S.state site.old) (S.state site.new) }
-    ensures made { (s : State) → Fits engine.old (S.state site.old) s → IfOk result (λ made.
+    ensures made { (s : State) → Matches engine.old (S.state site.old) s → IfOk result (λ made.
         HasMade (model.turns true s (set_lines (32 * pages) load.now.seed load.now.count) [])
         made.committed made.checkpoints) }
     ensures faults { RunFaults result (S.state site.old) (S.state site.new) }
@@ -148,11 +148,11 @@ fn make_gets<S: Site>(
     load: &Load,
     pages: u32,
 ) -> Result<u32, Halt>
-    requires going { MayGoOn engine.old (S.state site.old) }
+    requires going { Invariant engine.old (S.state site.old) }
     requires pages { pages ≢ 0 }
     ensures course { CarriesFirst result (get_lines (32 * pages) load.now.seed load.now.count)
         engine.old engine.new (S.state site.old) (S.state site.new) }
-    ensures count { (s : State) → Fits engine.old (S.state site.old) s → IfOk result (λ count.
+    ensures count { (s : State) → Matches engine.old (S.state site.old) s → IfOk result (λ count.
         count ≡ found_in (model.turns true s (get_lines (32 * pages) load.now.seed load.now.count) [])) }
     ensures faults { RunFaults result (S.state site.old) (S.state site.new) }
 {
@@ -197,8 +197,8 @@ fn work<S: Site>(alloc: Global, load: &Load, site: &mut S) -> Result<Counts, Hal
         HasCounted (load_run g opening load.now) counts.committed counts.checkpoints counts.found) }
     ensures halts { IfErr result (λ halt. (halt ≢ Halt.Input) × (halt ≢ Halt.Limit)) }
     ensures cause { IfErr result (λ halt. HasCause halt (S.state site.old) (S.state site.new)) }
-    ensures refuses { HasNoSizes (S.state site.old) → Halts result (S.state site.old) (S.state site.new) }
-    ensures goes { Goes (S.state site.old) (S.state site.new) }
+    ensures refuses { HasNoSizes (S.state site.old) → RefusesAsForeign result (S.state site.old) (S.state site.new) }
+    ensures goes { Preserves (S.state site.old) (S.state site.new) }
     ensures faults { RunFaults result (S.state site.old) (S.state site.new) }
 {
     works_add_up();
@@ -231,8 +231,8 @@ fn load_and_tell<S: Site>(alloc: Global, load: &Load, site: &mut S) -> Result<()
         (S.state site.old) (S.state site.new) result }
     ensures halts { IfErr result (λ halt. (halt ≢ Halt.Input) × (halt ≢ Halt.Limit)) }
     ensures cause { IfErr result (λ halt. HasCause halt (S.state site.old) (S.state site.new)) }
-    ensures refuses { HasNoSizes (S.state site.old) → Halts result (S.state site.old) (S.state site.new) }
-    ensures goes { Goes (S.state site.old) (S.state site.new) }
+    ensures refuses { HasNoSizes (S.state site.old) → RefusesAsForeign result (S.state site.old) (S.state site.new) }
+    ensures goes { Preserves (S.state site.old) (S.state site.new) }
     ensures faults { RunFaults result (S.state site.old) (S.state site.new) }
 {
     let counts = match work(alloc, load, site) {
@@ -256,7 +256,7 @@ pub fn serve_load<S: Site>(alloc: Global, load: &Load, site: &mut S) -> u8
     // Devices without sizes have status 9.
     ensures sizes { HasNoSizes (S.state site.old)
         → RefusesDevices result (S.state site.old) (S.state site.new) }
-    ensures goes { Goes (S.state site.old) (S.state site.new) }
+    ensures goes { Preserves (S.state site.old) (S.state site.new) }
     ensures faults { result ≡ 0 → SameFaults (S.state site.old) (S.state site.new) }
     ensures first { FirstDecides result (S.state site.old) (S.state site.new) }
 {

@@ -1,7 +1,7 @@
 // How a run or a load begins.
 ghost use Rattle.std.specs.Prelude.{◌≡◌, ◌≢◌, ◌≤◌, ℕ, List, Option, IsTrue, IfOk, IfErr, IsErrOf, OnOk};
 ghost use Rattle.face.specs.Causes.{RunFaults};
-ghost use Rattle.site.specs.Calls.{Goes};
+ghost use Rattle.site.specs.Calls.{Preserves};
 ghost use Rattle.face.specs.declared.halt.Halt.{Halt};
 ghost use Rattle.site.specs.declared.geometry.Geometry.{Geometry};
 ghost use Rattle.record_model.specs.State.{State, Content};
@@ -10,10 +10,10 @@ ghost use Rattle.site.specs.declared.outside.Dev.{Dev};
 ghost use Rattle.site.specs.declared.outside.Stop.{Stop};
 ghost use Rattle.checkpoint.specs.declared.master.Master.{Master};
 ghost use Rattle.log_records.specs.declared.log_record.LogRecord.{LogRecord};
-ghost use Rattle.engine.specs.Fits.{Fits};
-ghost use Rattle.engine.specs.Going.{MayGoOn, sizes_of};
+ghost use Rattle.engine.specs.Representation.{Matches};
+ghost use Rattle.engine.specs.Invariant.{Invariant, sizes_of};
 ghost use Rattle.engine.specs.Leaves.{HasNoSizes};
-ghost use Rattle.face.specs.Causes.{HasCause, Halts};
+ghost use Rattle.face.specs.Causes.{HasCause, RefusesAsForeign};
 ghost use Rattle.face.specs.Range.{AsksNoMore, SkipsNoNumber, WearsOut};
 ghost use Rattle.face.specs.Run.{Run, Begins, first_lines};
 ghost use Rattle.face.specs.Working.{Stops};
@@ -33,7 +33,7 @@ pub fn open<S: Site>(alloc: Global, pool: u32, site: &mut S) -> Result<Engine, H
     // The same, whatever is loose at entry.
     ensures fits { IsTrue (S.state site.old).honest → (g : Geometry) (table : List Content) (commits : ℕ)
         → Stands g (S.state site.old).image table commits → IfOk result (λ engine. ((s : State)
-        × Fits engine (S.state site.new) s) × (sizes_of engine.store ≡ g)) }
+        × Matches engine (S.state site.new) s) × (sizes_of engine.store ≡ g)) }
     ensures stops { (run : Run) → Begins run (S.state site.old)
         → IfErr result (λ halt. Stops run 0 (S.state site.old) (S.state site.new) halt) }
     // The page cache has done the restart's work.
@@ -54,11 +54,11 @@ pub fn open<S: Site>(alloc: Global, pool: u32, site: &mut S) -> Result<Engine, H
     ensures numbers { (run : Run) → Begins run (S.state site.old)
         → SkipsNoNumber (first_lines run 0) (S.state site.old).image (S.state site.new).image }
     ensures left { IsTrue (S.state site.old).honest → (S.state site.new).input ≡ (S.state site.old).input }
-    ensures goes_on { IfOk result (λ engine. MayGoOn engine (S.state site.new)) }
+    ensures goes_on { IfOk result (λ engine. Invariant engine (S.state site.new)) }
     ensures halts { IfErr result (λ halt. (halt ≢ Halt.Input) × (halt ≢ Halt.Limit)) }
     ensures cause { IfErr result (λ halt. HasCause halt (S.state site.old) (S.state site.new)) }
-    ensures refuses { HasNoSizes (S.state site.old) → Halts result (S.state site.old) (S.state site.new) }
-    ensures goes { Goes (S.state site.old) (S.state site.new) }
+    ensures refuses { HasNoSizes (S.state site.old) → RefusesAsForeign result (S.state site.old) (S.state site.new) }
+    ensures goes { Preserves (S.state site.old) (S.state site.new) }
     ensures faults { RunFaults result (S.state site.old) (S.state site.new) }
 {
     let engine = match Engine::start(alloc, site, pool) {

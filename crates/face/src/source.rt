@@ -2,7 +2,7 @@
 ghost use Rattle.std.specs.Prelude.{◌≡◌, ◌⊎◌, ◌+◌, ◌^◌, ◌≤◌, ◌<◌, ◌≢◌, IsTrue, IfOk, IfErr, OnOk, OnErr, Err, None};
 ghost use Rattle.std.specs.Prelude.{false, true, [], ◌∷◌, length, take, nat_lt, min, slice_set, if◌then◌else◌};
 ghost use Rattle.face.specs.Causes.{RunFaults};
-ghost use Rattle.site.specs.Calls.{Goes, Rose};
+ghost use Rattle.site.specs.Calls.{Preserves, Rose};
 ghost use Rattle.face.specs.Lines.{to_hear, total, IsSource, HasEnded, HearsOnly, HearsOctet, Hears, CutsOff, IsCutOff};
 ghost use Rattle.face.specs.Lines.{TakesWithin};
 ghost use Rattle.shell_text.specs.Reading.{line_of};
@@ -71,7 +71,7 @@ impl Source {
             → IfErr result (λ halt. CutsOff halt (total self.old (S.state site.old)) (S.state site.old).input.left
             (S.state site.new).input.left) }
         ensures halts { IfErr result (λ halt. (halt ≡ Halt.Input) ⊎ (halt ≡ Halt.Limit)) }
-        ensures goes { Goes (S.state site.old) (S.state site.new) }
+        ensures goes { Preserves (S.state site.old) (S.state site.new) }
         ensures input { result ≡ Err Halt.Input → Rose (S.state site.old).input_faults (S.state site.new).input_faults }
         ensures faults { RunFaults result (S.state site.old) (S.state site.new) }
     {
@@ -105,7 +105,7 @@ impl Source {
         ensures same { IsTrue (S.state site.old).honest → HearsOnly (S.state site.old) (S.state site.new) }
         ensures takes { IsTrue (S.state site.old).honest → TakesWithin self.old (S.state site.old) (S.state site.new) }
         ensures halts { IfErr result (λ halt. (halt ≡ Halt.Input) ⊎ (halt ≡ Halt.Limit)) }
-        ensures goes { Goes (S.state site.old) (S.state site.new) }
+        ensures goes { Preserves (S.state site.old) (S.state site.new) }
         ensures input { result ≡ Err Halt.Input → Rose (S.state site.old).input_faults (S.state site.new).input_faults }
         ensures faults { RunFaults result (S.state site.old) (S.state site.new) }
     {
@@ -147,7 +147,7 @@ impl Source {
         ensures same { IsTrue (S.state site.old).honest → HearsOnly (S.state site.old) (S.state site.new) }
         ensures takes { IsTrue (S.state site.old).honest → TakesWithin self.old (S.state site.old) (S.state site.new) }
         ensures halts { IfErr result (λ halt. (halt ≡ Halt.Input) ⊎ (halt ≡ Halt.Limit)) }
-        ensures goes { Goes (S.state site.old) (S.state site.new) }
+        ensures goes { Preserves (S.state site.old) (S.state site.new) }
         ensures input { result ≡ Err Halt.Input → Rose (S.state site.old).input_faults (S.state site.new).input_faults }
         ensures faults { RunFaults result (S.state site.old) (S.state site.new) }
     {
@@ -181,7 +181,7 @@ impl Source {
         ensures takes { IsTrue (S.state site.old).honest → HasEnded self.old (S.state site.old)
             → TakesWithin self.old (S.state site.old) (S.state site.new) }
         ensures halts { IfErr result (λ halt. (halt ≡ Halt.Input) ⊎ (halt ≡ Halt.Limit)) }
-        ensures goes { Goes (S.state site.old) (S.state site.new) }
+        ensures goes { Preserves (S.state site.old) (S.state site.new) }
         ensures input { result ≡ Err Halt.Input → Rose (S.state site.old).input_faults (S.state site.new).input_faults }
         ensures faults { RunFaults result (S.state site.old) (S.state site.new) }
     {

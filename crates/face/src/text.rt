@@ -1,7 +1,7 @@
 // Replies are told.
 ghost use Rattle.std.specs.Prelude.{◌≡◌, ◌++◌, IsTrue, OnOk, OnErr};
 ghost use Rattle.site.specs.Faults.{TellFaults};
-ghost use Rattle.site.specs.Calls.{Goes, Rose, SameReads};
+ghost use Rattle.site.specs.Calls.{Preserves, Rose, SameReads};
 ghost use Rattle.site.specs.Moments.{EachMoment};
 ghost use Rattle.site.specs.Telling.{TellsPart, SameDevices};
 ghost use Rattle.shell_text.specs.Texts.{reply_text};
@@ -19,7 +19,7 @@ pub fn tell_reply<S: Site>(site: &mut S, reply: &Reply) -> Result<(), Failed>
         → OnOk result ((S.state site.new).told ≡ (S.state site.old).told ++ reply_text reply.now) }
     ensures same { IsTrue (S.state site.old).honest → SameDevices (S.state site.old) (S.state site.new) }
     ensures reads { SameReads (S.state site.old) (S.state site.new) }
-    ensures goes { Goes (S.state site.old) (S.state site.new) }
+    ensures goes { Preserves (S.state site.old) (S.state site.new) }
     ensures cause { OnErr result (Rose (S.state site.old).output_faults (S.state site.new).output_faults) }
     ensures faults { TellFaults result (S.state site.old) (S.state site.new) }
 {

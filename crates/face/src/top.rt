@@ -1,16 +1,16 @@
 // The top call, and the work of `run`.
 ghost use Rattle.std.specs.Prelude.{◌≡◌, ◌⊎◌, ◌≤◌, ◌∷◌, [], ℕ, List, Option, IfErr, OnOk};
 ghost use Rattle.face.specs.Causes.{FirstDecides, RunFaults, SameFaults};
-ghost use Rattle.site.specs.Calls.{Goes};
+ghost use Rattle.site.specs.Calls.{Preserves};
 ghost use Rattle.face.specs.declared.halt.Halt.{Halt};
 ghost use Rattle.site.specs.declared.geometry.Geometry.{Geometry};
 ghost use Rattle.record_model.specs.declared.words.CacheLine.{CacheLine};
 ghost use Rattle.record_model.specs.Run.{is_quit};
 ghost use Rattle.engine.specs.Leaves.{HasNoSizes};
-ghost use Rattle.face.specs.Causes.{HasCause, Halts};
+ghost use Rattle.face.specs.Causes.{HasCause, RefusesAsForeign};
 ghost use Rattle.face.specs.TopCall.{LoadContract, NewContract, RunContract};
 ghost use Rattle.face.specs.Run.{Run, Begins};
-ghost use Rattle.face.specs.Working.{Works};
+ghost use Rattle.face.specs.Working.{RunOutcome};
 ghost use Rattle.face.specs.declared.request.Load.{Load};
 ghost use Rattle.face.specs.declared.request.Simulation.{Simulation};
 ghost use Rattle.face.specs.declared.request.TrialSizes.{TrialSizes};
@@ -53,10 +53,10 @@ fn work<S: Site>(alloc: Global, pool: u32, site: &mut S) -> Result<(), Halt>
     requires pool { (1 ≤ pool) × (pool ≤ 4096) }
     ensures works { (listings : List (List CacheLine))
         × ((run : Run) → Begins run (S.state site.old) → run.listings ≡ listings
-        → Works pool run (S.state site.old) (S.state site.new) result) }
+        → RunOutcome pool run (S.state site.old) (S.state site.new) result) }
     ensures cause { IfErr result (λ halt. HasCause halt (S.state site.old) (S.state site.new)) }
-    ensures refuses { HasNoSizes (S.state site.old) → Halts result (S.state site.old) (S.state site.new) }
-    ensures goes { Goes (S.state site.old) (S.state site.new) }
+    ensures refuses { HasNoSizes (S.state site.old) → RefusesAsForeign result (S.state site.old) (S.state site.new) }
+    ensures goes { Preserves (S.state site.old) (S.state site.new) }
     ensures faults { RunFaults result (S.state site.old) (S.state site.new) }
 {
     works_add_up();
@@ -102,7 +102,7 @@ pub fn serve<S: Site>(alloc: Global, pool: u32, site: &mut S) -> u8
     // Devices without sizes have status 9.
     ensures sizes { HasNoSizes (S.state site.old)
         → RefusesDevices result (S.state site.old) (S.state site.new) }
-    ensures goes { Goes (S.state site.old) (S.state site.new) }
+    ensures goes { Preserves (S.state site.old) (S.state site.new) }
     ensures faults { result ≡ 0 → SameFaults (S.state site.old) (S.state site.new) }
     ensures first { FirstDecides result (S.state site.old) (S.state site.new) }
 {
@@ -128,7 +128,7 @@ fn lack_memory<S: Site>(site: &mut S) -> u8
     ensures check { CheckContract (S.state site.old) (S.state site.new) result }
     ensures lacks { LacksMemory result (S.state site.old) (S.state site.new) }
     ensures first { FirstDecides result (S.state site.old) (S.state site.new) }
-    ensures goes { Goes (S.state site.old) (S.state site.new) }
+    ensures goes { Preserves (S.state site.old) (S.state site.new) }
 {
     works_add_up();
     serial_order();
@@ -141,7 +141,7 @@ fn serve_trial<S: Site>(alloc: Global, sizes: &TrialSizes, site: &mut S) -> u8
     requires limits { HasTrialLimits sizes.now }
     ensures trial { (numbers : List ℕ)
         × TrialContract sizes.now.geometry (S.state site.old) (S.state site.new) result numbers }
-    ensures goes { Goes (S.state site.old) (S.state site.new) }
+    ensures goes { Preserves (S.state site.old) (S.state site.new) }
     ensures faults { result ≡ 0 → SameFaults (S.state site.old) (S.state site.new) }
     ensures first { FirstDecides result (S.state site.old) (S.state site.new) }
 {
@@ -192,7 +192,7 @@ pub fn face<S: Site>(alloc: Global, words: &[String], site: &mut S) -> u8
     ensures dashed { HasDash (words_of words.now) → result ≡ 2 }
     // The first failed call decides the status.
     ensures first { FirstDecides result (S.state site.old) (S.state site.new) }
-    ensures goes { Goes (S.state site.old) (S.state site.new) }
+    ensures goes { Preserves (S.state site.old) (S.state site.new) }
     ensures faults { result ≡ 0 → SameFaults (S.state site.old) (S.state site.new) }
 {
     match read_words(alloc, words) {

@@ -4,7 +4,7 @@ use Rattle.std.specs.Prelude.{length}
 use Rattle.site.specs.declared.outside.Dev.{Dev}
 use Rattle.site.specs.declared.outside.Dev.TheVariants.{Log, Flash, Disk}
 use Rattle.site.specs.State.{content_of, faults_of, reads_of}
-use Rattle.site.specs.Calls.{Goes}
+use Rattle.site.specs.Calls.{Preserves}
 use Rattle.file_site.specs.Counting.{state_of, tally_of, with_tally, Grows}
 use Rattle.file_site.specs.declared.book.Tally.{Tally}
 use Rattle.file_site.specs.declared.book.Book.{Book}
@@ -41,7 +41,7 @@ streams Disk book tally = (refl, refl)
 at_most : (a b : ℕ) → b ≡ a → a ≤ b
 at_most a b same = omega arith
 
-pub goes_at : (dev : Dev) (book : Book) (tally : Tally) → Grows (tally_of dev book) tally → Goes (state_of book) (state_of (with_tally dev tally book))
+pub goes_at : (dev : Dev) (book : Book) (tally : Tally) → Grows (tally_of dev book) tally → Preserves (state_of book) (state_of (with_tally dev tally book))
 goes_at dev book tally grows = record {
   honest = same_honest dev book tally;
   kept = refl;

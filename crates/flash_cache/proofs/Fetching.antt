@@ -1,11 +1,9 @@
 -- The last frame of a page, where the directory says that it stands.
 use Rattle.std.proofs.Common.{◌≡◌, ℕ, ◌+◌, ◌*◌, ◌<◌, true, false, List, [], length, get_or, map, take, drop, Option, Some, None, option_map, arith, refl, sym, ap, subst, ◌∙◌}
 use Rattle.std.proofs.lemmas.Option.{none-some, same_Some}
-use Rattle.site.specs.declared.outside.Dev.TheVariants.{Log, Flash, Disk}
 use Rattle.site.specs.declared.geometry.Geometry.{Geometry}
-use Rattle.site.specs.Geometry.{HasLengths}
 use Rattle.site.specs.State.{State, Image}
-use Rattle.site.specs.Calls.{Goes}
+use Rattle.site.specs.Calls.{Preserves}
 use Rattle.frame_group.specs.Groups.{Frame, group}
 use Rattle.frame_group.specs.Versions.{frames_of, last_frame, version_by}
 use Rattle.frame_group.proofs.Pages.{pages_stand}
@@ -13,12 +11,14 @@ use Rattle.second_chance.specs.Queue.{Queue, with_read}
 use Rattle.flash_directory.specs.declared.place.Place.{Place}
 use Rattle.flash_directory.specs.Heads.{last_place, newest}
 use Rattle.flash_directory.proofs.Newest.{placed, last_among-place, place_bound, last_bound}
-use Rattle.flash_directory.proofs.Reading.{length-groups_read, sizes_read}
+use Rattle.flash_directory.proofs.Reading.{sizes_read}
 use Rattle.flash_cache.specs.declared.cache.FlashCache.{FlashCache}
-use Rattle.flash_cache.specs.Held.{HasGroups, AreSaved, Holds, MayGoOn, group_on, disk_on, version_on, AllTogether, Shows}
+use Rattle.flash_cache.specs.Representation.{HasGroups, AreSaved, Represents, Invariant, group_on, disk_on, version_on, AllTogether, Shows}
 use Rattle.flash_cache.proofs.Queues.{last_of_groups, frames_of_groups, has_at, groups_shown, exist_read, together_length, together_at}
 use Rattle.tail_rebuild.proofs.Standing.{stands}
 use Rattle.flash_cache.proofs.Standing.{rings_later}
+use Rattle.site.proofs.Working.{lengths_later}
+use Rattle.second_chance.proofs.Unread.{length-groups_read}
 
 -- where the newest frame of a page stands
 pub record IsAt (queue : Queue) (page : ℕ) (place : Place) (k : ℕ) : Type 0 where
@@ -64,13 +64,10 @@ module _ (g : Geometry) (queue : Queue) (groups : List (List Frame)) (image : Im
 
 -- the cache after a read
 
-pub lengths_later : (g : Geometry) (old new : State) → Goes old new → HasLengths g old.image → HasLengths g new.image
-lengths_later g old new goes lengths = record { log = goes.sizes Log ∙ lengths.log; flash = goes.sizes Flash ∙ lengths.flash; disk = goes.sizes Disk ∙ lengths.disk }
-
-pub goes_on_marked : (cache : FlashCache) (page : ℕ) (queue : Queue) (old new : State) → MayGoOn cache old → Goes old new → queue ≡ with_read page cache.directory → MayGoOn (record cache { directory = queue }) new
+pub goes_on_marked : (cache : FlashCache) (page : ℕ) (queue : Queue) (old new : State) → Invariant cache old → Preserves old new → queue ≡ with_read page cache.directory → Invariant (record cache { directory = queue }) new
 goes_on_marked cache page queue old new going goes is =
     let many = length-groups_read page cache.directory.groups in
-    subst (λ (q : Queue). MayGoOn (record cache { directory = q }) new) (sym is) (record {
+    subst (λ (q : Queue). Invariant (record cache { directory = q }) new) (sym is) (record {
       limits = going.limits;
       lengths = lengths_later cache.geometry old new goes going.lengths;
       rings = rings_later cache.geometry cache.ring cache.segments old new goes going.rings;
@@ -80,7 +77,7 @@ goes_on_marked cache page queue old new going goes is =
       exist = exist_read cache.geometry.pages page cache.directory.groups going.exist;
     })
 
-pub goes_on_ended : (cache : FlashCache) (old new : State) → MayGoOn cache old → Goes old new → MayGoOn (record cache { ended = true }) new
+pub goes_on_ended : (cache : FlashCache) (old new : State) → Invariant cache old → Preserves old new → Invariant (record cache { ended = true }) new
 goes_on_ended cache old new going goes = record {
   limits = going.limits;
   lengths = lengths_later cache.geometry old new goes going.lengths;
@@ -91,9 +88,9 @@ goes_on_ended cache old new going goes = record {
   exist = going.exist;
 }
 
-pub holds_marked : (cache : FlashCache) (page : ℕ) (queue : Queue) (old new : Image) (groups : List (List Frame)) → Holds cache old groups → new ≡ old → queue ≡ with_read page cache.directory → Holds (record cache { directory = queue }) new groups
+pub holds_marked : (cache : FlashCache) (page : ℕ) (queue : Queue) (old new : Image) (groups : List (List Frame)) → Represents cache old groups → new ≡ old → queue ≡ with_read page cache.directory → Represents (record cache { directory = queue }) new groups
 holds_marked cache page queue old new groups holds same is =
-    subst (λ (q : Queue). Holds (record cache { directory = q }) new groups) (sym is) (record {
+    subst (λ (q : Queue). Represents (record cache { directory = q }) new groups) (sym is) (record {
       has = subst (HasGroups cache.geometry cache.directory.first groups) (sym same) holds.has;
       saved = subst (AreSaved cache.geometry groups) (sym same) holds.saved;
       shown = groups_shown page cache.directory.groups groups holds.shown;

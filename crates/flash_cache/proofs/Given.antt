@@ -1,6 +1,6 @@
 -- The frames given, one by one.
-use Rattle.std.proofs.Common.{◌≡◌, ℕ, zero, suc, ◌<◌, Bool, false, List, [], ◌∷◌, ◌++◌, length, get_or, map, take, drop, arith, refl, ap}
-use Rattle.std.specs.List.{AllByRecursion}
+use Rattle.std.proofs.Common.{◌≡◌, ℕ, zero, suc, ◌<◌, Bool, false, List, [], ◌∷◌, ◌++◌, length, get_or, map, take, arith, refl, ap}
+pub use Rattle.std_lemmas.proofs.AllOf.{all_append}
 use Rattle.slotted_page.specs.Layout.{lsn_of as page_lsn}
 use Rattle.second_chance.specs.declared.frame.Frame.{Frame as Known}
 use Rattle.second_chance.specs.Queue.{frame_of as known_of}
@@ -49,21 +49,3 @@ known_of_given (p ∷ pages) [] contents marks lists = absurd (omega (arith, mar
 known_of_given (p ∷ pages) (c ∷ changed) [] marks lists = absurd (omega (arith, lists))
 known_of_given (p ∷ pages) (c ∷ changed) (o ∷ contents) marks lists =
     ap (λ (l : List Known). known_of p c ∷ l) (known_of_given pages changed contents (omega (arith, marks)) (omega (arith, lists)))
-
--- what holds of all holds of all with one more, and of all but the first
-
-pub all_more : {X : Type 0} (P : X → Type 0) (xs : List X) (x : X) → AllByRecursion P xs → P x → AllByRecursion P (xs ++ x ∷ [])
-all_more P [] x all p = (p, tt)
-all_more P (y ∷ xs) x all p = (all.0, all_more P xs x all.1 p)
-
-pub all_behind : {X : Type 0} (P : X → Type 0) (xs : List X) → AllByRecursion P xs → AllByRecursion P (drop 1 xs)
-all_behind P [] all = tt
-all_behind P (x ∷ xs) all = all.1
-
-pub all_append : {X : Type 0} (P : X → Type 0) (xs ys : List X) → AllByRecursion P xs → AllByRecursion P ys → AllByRecursion P (xs ++ ys)
-all_append P [] ys all others = others
-all_append P (x ∷ xs) ys all others = (all.0, all_append P xs ys all.1 others)
-
-pub same_map : {X Y : Type 0} (f g : X → Y) (xs : List X) → AllByRecursion (λ x. f x ≡ g x) xs → map f xs ≡ map g xs
-same_map f g [] all = refl
-same_map f g (x ∷ xs) all = λ i. all.0 i ∷ same_map f g xs all.1 i

@@ -1,13 +1,14 @@
 -- The heads of frames, and the frames that heads and contents make.
 use Rattle.std.proofs.Common.{◌≡◌, ℕ, zero, suc, ◌-◌, ◌<◌, ◌≤◌, Bool, List, [], ◌∷◌, ◌++◌, length, get_or, map, replicate, arith, refl, sym, ap, ◌∙◌, length-append}
 use Rattle.std.specs.Prelude.{slice_set}
-use Rattle.std.proofs.lemmas.List.{map-append, length-replicate}
+use Rattle.std.proofs.lemmas.List.{map-append}
 use Rattle.byte_fields.specs.declared.frame_head.FrameHead.{FrameHead}
 use Rattle.byte_fields.specs.FrameHeads.{blank}
 use Rattle.frame_group.specs.Groups.{Frame, head_of, frame_of, heads_of}
 use Rattle.flash_cache.specs.Leaving.{frames_with}
 use Rattle.flash_cache.specs.Pushed.{no_frame, frames_given}
 use Rattle.flash_cache.proofs.Standing.{length-mapped}
+use Rattle.frame_group.proofs.Front.{length_heads}
 
 -- one head more
 
@@ -70,13 +71,6 @@ heads_make pages changed contents heads marks lists is =
 
 -- heads that are those of the frames that they make: their frame at a place, and its head
 
-frames_few : (frames : List Frame) → length frames ≤ 8 → length (heads_of frames) ≡ 8
-frames_few frames few =
-    let a = length-append (map head_of frames) (replicate (8 - length frames) blank) in
-    let b = length-mapped head_of frames in
-    let e = length-replicate (8 - length frames) blank in
-    omega (arith, a, b, e, few)
-
 pub record IsWith (heads : List FrameHead) (contents : List (List ℕ)) (n : ℕ) : Type 0 where
   pub long : length (frames_with heads contents) ≡ length contents
   pub head : get_or heads n blank ≡ head_of (get_or (frames_with heads contents) n no_frame)
@@ -90,13 +84,13 @@ with_few (h ∷ heads) (o ∷ contents) few = let rest = with_few heads contents
 pub is_with_all : (heads : List FrameHead) (contents : List (List ℕ)) → length contents ≤ 8 → heads ≡ heads_of (frames_with heads contents) → length (frames_with heads contents) ≡ length contents
 is_with_all heads contents few is =
     let low = with_few heads contents few in
-    let eight = ap length is ∙ frames_few (frames_with heads contents) (omega (arith, low, few)) in
+    let eight = ap length is ∙ length_heads (frames_with heads contents) (omega (arith, low, few)) in
     length-with heads contents (omega (arith, eight, few))
 
 pub is_with : (heads : List FrameHead) (contents : List (List ℕ)) (n : ℕ) → length contents ≤ 8 → heads ≡ heads_of (frames_with heads contents) → n < length contents → IsWith heads contents n
 is_with heads contents n few is lt =
     let long = is_with_all heads contents few is in
-    let eight = ap length is ∙ frames_few (frames_with heads contents) (omega (arith, long, few)) in
+    let eight = ap length is ∙ length_heads (frames_with heads contents) (omega (arith, long, few)) in
     record {
       long = long;
       head = ap (λ (l : List FrameHead). get_or l n blank) is ∙ head_at (frames_with heads contents) n blank no_frame (omega (arith, lt, long));

@@ -17,13 +17,12 @@ use Rattle.frame_group.specs.Versions.{frames_of, last_frame, version, version_b
 use Rattle.second_chance.specs.declared.frame.Frame.{Frame as Known}
 use Rattle.second_chance.specs.Queue.{group_marks, front_marks, pushed}
 use Rattle.second_chance.specs.Plans.{Placed, chances_of, staged_of}
-use Rattle.second_chance.proofs.Apart.{staged_stand_in}
+use Rattle.second_chance.proofs.DistinctStaged.{staged_stand_in}
 use Rattle.byte_fields.specs.FrameHeads.{spelling_of_all}
 use Rattle.tail_rebuild.specs.Saving.{segment_of, changes_of_save}
 use Rattle.flash_cache.specs.declared.cache.FlashCache.{FlashCache}
-use Rattle.flash_cache.specs.Held.{HasGroups, HasFrames, AllTogether, Shows, frames_on}
+use Rattle.flash_cache.specs.Representation.{HasGroups, HasFrames, AllTogether, Shows, frames_on}
 use Rattle.flash_cache.specs.Pushed.{no_frame, front_leaves, chance_given}
-use Rattle.flash_cache.proofs.Given.{all_more, same_map}
 use Rattle.flash_cache.proofs.Queues.{joined, frames_of_groups, together_length}
 use Rattle.flash_cache.proofs.Pushing.{leaves_when, stays_when}
 use Rattle.flash_cache.proofs.Standing.{length-mapped}
@@ -32,6 +31,8 @@ use Rattle.flash_cache.proofs.PushedVersions.{IsBeside, AreStaged, some_is_some}
 use Rattle.flash_cache.specs.Leaving.{no_mark}
 use Rattle.frame_group.proofs.LastFrames.{last_of_both, last_is_of_page}
 use Rattle.std.specs.Option.{option_or}
+use Rattle.std_lemmas.proofs.AllOf.{all_left, all_push}
+use Rattle.std_lemmas.proofs.Lists.{map_same}
 
 -- changes before a group is appended: these pages are rewritten, or a segment is appended
 abbrev IsBefore : List ℕ → Change → Type 0
@@ -48,16 +49,8 @@ pub saving_only : (due : Bool) (groups : List (List Frame)) (pages : List ℕ) �
 saving_only true groups pages = (inr (spelling_of_all (segment_of groups), refl), tt)
 saving_only false groups pages = tt
 
-pub all_front : {X : Type 0} (P : X → Type 0) (xs ys : List X) → AllByRecursion P (xs ++ ys) → AllByRecursion P xs
-all_front P [] ys all = tt
-all_front P (x ∷ xs) ys all = (all.0, all_front P xs ys all.1)
-
-pub all_joined : {X : Type 0} (P : X → Type 0) (xs ys : List X) → AllByRecursion P xs → AllByRecursion P ys → AllByRecursion P (xs ++ ys)
-all_joined P [] ys all more = more
-all_joined P (x ∷ xs) ys all more = (all.0, all_joined P xs ys all.1 more)
-
 pub front_only : (pages : List ℕ) (all changes : List Change) → OnlyBefore pages all → IsFrontOf all changes → OnlyBefore pages changes
-front_only pages all changes only is = all_front (IsBefore pages) changes is.0 (subst (OnlyBefore pages) is.1 only)
+front_only pages all changes only is = all_left (IsBefore pages) changes is.0 (subst (OnlyBefore pages) is.1 only)
 
 pub made_as : (g : Geometry) (change as' : Change) (a b : Image) → change ≡ as' → Makes g change a b → Makes g as' a b
 made_as g change as' a b is makes = let P : Change → Type 0 = λ (c : Change). Makes g c a b in subst P is makes
@@ -152,7 +145,7 @@ module _ (g : Geometry) (first : ℕ) (groups : List (List Frame)) (frames : Lis
   grown_behind few = record {
     form = grown.form;
     next = next_is first groups (let n = length-append groups (frames ∷ []) in omega (arith, n));
-    are_groups = all_more (λ fs. HasFrames g fs (group fs)) groups frames has.are_groups own;
+    are_groups = all_push (λ fs. HasFrames g fs (group fs)) groups frames has.are_groups own;
     live = live_is ∙ ap (λ (n : ℕ). drop n (map group groups ++ group frames ∷ [])) (let n = long in let none : length (map group groups ++ group frames ∷ []) - (g.groups - 1) ≡ 0 = omega (arith, n, few) in none)
         ∙ sym (map-append group groups (frames ∷ []));
   }
@@ -163,7 +156,7 @@ grown_full g first [] frames old new has own grown full some = absurd (omega (ar
 grown_full g first (x ∷ groups) frames old new has own grown full some = record {
   form = grown.form;
   next = next_is g first (x ∷ groups) frames old new has own grown (first + 1) groups (let n = length-append groups (frames ∷ []) in omega (arith, n));
-  are_groups = all_more (λ fs. HasFrames g fs (group fs)) groups frames has.are_groups.1 own;
+  are_groups = all_push (λ fs. HasFrames g fs (group fs)) groups frames has.are_groups.1 own;
   live = live_is g first (x ∷ groups) frames old new has own grown
       ∙ ap (λ (n : ℕ). drop n (map group (x ∷ groups) ++ group frames ∷ [])) (let n = long g first (x ∷ groups) frames old new has own grown in let one : length (map group (x ∷ groups) ++ group frames ∷ []) - (g.groups - 1) ≡ 1 = omega (arith, n, full) in one)
       ∙ sym (map-append group groups (frames ∷ []));
@@ -272,7 +265,7 @@ module _ (given : Bool) (known : List Known) (later : List (List Known)) (frames
 
   chances_are : (versions disk : ℕ → List ℕ) → ((page : ℕ) → versions page ≡ version disk (frames ++ joined rest) page) → map (chance_given versions) again ≡ frames_at frames again
   chances_are versions disk are =
-      same_map (chance_given versions) (λ (f : Placed). get_or frames f.0 no_frame) again
+      map_same (chance_given versions) (λ (f : Placed). get_or frames f.0 no_frame) again
       (recursion_from_All (λ (f : Placed). chance_given versions f ≡ get_or frames f.0 no_frame) again (λ j d lt. chance_is versions disk (get_or again j d) (each_chance known later frames rest shown others given j d lt) are))
 
 pub are_staged : (given b : Bool) (known : List (List Known)) (groups : List (List Frame)) → AllTogether (AllTogether Shows) known groups

@@ -2,6 +2,7 @@
 use Rattle.std.proofs.Common.{◌≡◌, ◌≢◌, inl, inr, ℕ, ◌<◌, ◌≤◌, Bool, true, false, cond, List, [], ◌∷◌, ◌++◌, length, get_or, map, drop, Option, Some, None, arith, refl, sym, ap, subst, ◌∙◌, append_assoc}
 use Rattle.std.specs.List.{AllPairs, Contains}
 use Rattle.std.proofs.lemmas.List.{get_or_default}
+use Rattle.std_lemmas.proofs.AllOf.{all_append}
 use Rattle.site.specs.declared.geometry.Geometry.{Geometry}
 use Rattle.site.specs.State.{State, Image, Snapshot}
 use Rattle.site.specs.Moments.{LeavesOnly}
@@ -17,7 +18,7 @@ use Rattle.second_chance.specs.Plans.{Placed, chances_given}
 use Rattle.second_chance.specs.Machine.{chance_frame}
 use Rattle.tail_rebuild.specs.Saving.{is_due, changes_of_save}
 use Rattle.flash_cache.specs.declared.cache.FlashCache.{FlashCache}
-use Rattle.flash_cache.specs.Held.{MayGoOn, Fits, HasGroups, HasFrames, AreSaved, Holds, AllTogether, Shows, frames_on, disk_on, version_on, IsCleanOn}
+use Rattle.flash_cache.specs.Representation.{Invariant, Matches, HasGroups, HasFrames, AreSaved, Represents, AllTogether, Shows, frames_on, disk_on, version_on, IsCleanOn}
 use Rattle.flash_cache.specs.Kept.{KeepsVersions, GivesVersions, LeavesVersions, AreCleanGiven, LeavesClean}
 use Rattle.flash_cache.specs.Laws.{UnframedIsDisk}
 use Rattle.flash_cache.specs.Pushed.{no_frame, front_leaves, staged_pages, staged_contents, chance_marks, chance_given, frames_given, known_given, frames_pushed, known_pushed, pushed_groups, pushed_queue, changes_of_push, changes_before, changes_of_group, LeavesPushBehind}
@@ -25,7 +26,7 @@ use Rattle.flash_cache.proofs.Given.{length-given, given_at}
 use Rattle.flash_cache.proofs.Queues.{joined}
 use Rattle.flash_cache.proofs.StagedFrames.{frames_at, not_in_groups}
 use Rattle.flash_cache.proofs.PushedVersions.{AreStaged, page_beside, unframed, staged_versions, staged_clean, dropped_version, dropped_clean}
-use Rattle.flash_cache.proofs.PushedImages.{OnlyBefore, Keeps, Grown, front_of, rest_of, joined_parts, joined_more, frames_are, kept_groups, grown_groups, last_stands, are_staged, chances_stored, keeps_by, grown_by, front_only, all_joined, staging_only, saving_only}
+use Rattle.flash_cache.proofs.PushedImages.{OnlyBefore, Keeps, Grown, front_of, rest_of, joined_parts, joined_more, frames_are, kept_groups, grown_groups, last_stands, are_staged, chances_stored, keeps_by, grown_by, front_only, staging_only, saving_only}
 use Rattle.flash_cache.proofs.Segments.{groups_are, saved_front, saved_behind, with_pushed}
 
 -- a page without a frame
@@ -57,7 +58,7 @@ module _ (pages : List ℕ) (changed : List Bool) (contents : List (List ℕ)) (
       let low : j < length pages = omega (arith, below, long) in
       out (j, low, get_or_default pages j page 0 low ∙ sym (ap (λ (f : Frame). f.page) (at j low)) ∙ same))
 
-module _ (cache : FlashCache) (groups : List (List Frame)) (old : Image) (few : length cache.directory.groups < cache.geometry.groups) (room : 8 ≤ cache.geometry.groups) (holds : Holds cache old groups) where
+module _ (cache : FlashCache) (groups : List (List Frame)) (old : Image) (few : length cache.directory.groups < cache.geometry.groups) (room : 8 ≤ cache.geometry.groups) (holds : Represents cache old groups) where
   abbrev g : Geometry
   g = cache.geometry
 
@@ -198,10 +199,10 @@ chances_shown : (versions : ℕ → List ℕ) (marks : List Placed) → AllToget
 chances_shown versions [] = tt
 chances_shown versions (f ∷ marks) = (record { page = refl; dirty = refl }, chances_shown versions marks)
 
-holds_pushed : (cache : FlashCache) (groups : List (List Frame)) (old : Image) (pages : List ℕ) (changed : List Bool) (contents : List (List ℕ)) (later : FlashCache) (new : Image) → Holds cache old groups
+holds_pushed : (cache : FlashCache) (groups : List (List Frame)) (old : Image) (pages : List ℕ) (changed : List Bool) (contents : List (List ℕ)) (later : FlashCache) (new : Image) → Represents cache old groups
     → length changed ≡ length pages → length contents ≡ length pages → later.geometry ≡ cache.geometry → later.directory ≡ pushed_queue cache (known_pushed cache pages changed)
     → HasGroups cache.geometry (pushed_queue cache (known_pushed cache pages changed)).first (pushed_groups cache groups (frames_pushed cache old pages changed contents)) new
-    → AreSaved cache.geometry (pushed_groups cache groups (frames_pushed cache old pages changed contents)) new → Holds later new (pushed_groups cache groups (frames_pushed cache old pages changed contents))
+    → AreSaved cache.geometry (pushed_groups cache groups (frames_pushed cache old pages changed contents)) new → Represents later new (pushed_groups cache groups (frames_pushed cache old pages changed contents))
 holds_pushed cache groups old pages changed contents later new holds marks lists geometry queue has saved =
     let pushed : List (List Frame) = pushed_groups cache groups (frames_pushed cache old pages changed contents) in
     record {
@@ -215,7 +216,7 @@ holds_pushed cache groups old pages changed contents later new holds marks lists
     }
 
 -- of each snapshot, and behind the push
-module _ (cache : FlashCache) (groups : List (List Frame)) (old : State) (going : MayGoOn cache old) (fits : Fits cache old) (holds : Holds cache old.image groups)
+module _ (cache : FlashCache) (groups : List (List Frame)) (old : State) (going : Invariant cache old) (fits : Matches cache old) (holds : Represents cache old.image groups)
     (pages : List ℕ) (changed : List Bool) (contents : List (List ℕ)) (marks : length changed ≡ length pages) (lists : length contents ≡ length pages) (differ : AllPairs (λ a b. a ≢ b) pages)
     (own : HasFrames cache.geometry (frames_pushed cache old.image pages changed contents) (group (frames_pushed cache old.image pages changed contents))) where
   abbrev pushed_frames : List Frame
@@ -247,7 +248,7 @@ module _ (cache : FlashCache) (groups : List (List Frame)) (old : State) (going 
   as_saved P is = subst (λ (gs : List (List Frame)). P (changes_of_save due gs)) (groups_are cache.geometry cache.directory.first groups old.image holds.has) is
 
   only : OnlyBefore (staged_pages cache) (before ++ changes_of (staged_pages cache))
-  only = all_joined _ before (changes_of (staged_pages cache)) (saving_only due groups (staged_pages cache)) (staging_only (staged_pages cache))
+  only = all_append _ before (changes_of (staged_pages cache)) (saving_only due groups (staged_pages cache)) (staging_only (staged_pages cache))
 
   kept_by : (s : Snapshot) (changes : List Change) → IsFrontOf (before ++ changes_of (staged_pages cache)) changes → Reaches cache.geometry changes old.image s.image → Keeps cache.geometry (staged_pages cache) old.image s.image
   kept_by s changes front reaches = keeps_by cache.geometry (staged_pages cache) changes old.image s.image (front_only (staged_pages cache) (before ++ changes_of (staged_pages cache)) changes only front) reaches
@@ -297,7 +298,7 @@ module _ (cache : FlashCache) (groups : List (List Frame)) (old : State) (going 
     pub clean_behind : IsCleanOn cache.geometry old.image → AreCleanGiven cache pages changed contents old.image → IsCleanOn cache.geometry new
     clean_behind clean given = gives_clean cache groups old.image few room holds pages changed contents marks lists differ own new staged (made_by new made) clean given
 
-    pub holds_behind : cache'.geometry ≡ cache.geometry → Holds cache' new (pushed_groups cache groups pushed_frames)
+    pub holds_behind : cache'.geometry ≡ cache.geometry → Represents cache' new (pushed_groups cache groups pushed_frames)
     holds_behind geometry =
         holds_pushed cache groups old.image pages changed contents cache' new holds marks lists geometry queue
         (has_then cache groups old.image few room holds pages changed contents marks lists differ own new staged (made_by new made)) (saved_then new made)

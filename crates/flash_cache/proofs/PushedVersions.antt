@@ -18,21 +18,21 @@ pub record IsBeside (pages : List ℕ) (old new : List ℕ) : Type 0 where
 
 -- so is each other page, whether it lies on the disk or not
 
-within_disk : (page : ℕ) (disk : List ℕ) (k : ℕ) → k < length (page_on page disk) → (k < 4096) × (4096 * page + k < length disk)
+pub within_disk : (page : ℕ) (disk : List ℕ) (k : ℕ) → k < length (page_on page disk) → (k < 4096) × (4096 * page + k < length disk)
 within_disk page disk k lt = let a = length-take 4096 (drop (4096 * page) disk) in let b = length-drop (4096 * page) disk in (omega (arith, lt, a), omega (arith, lt, a, b))
 
-octet_is : (page : ℕ) (disk : List ℕ) (k d : ℕ) → k < length (page_on page disk) → get_or (page_on page disk) k d ≡ get_or disk (4096 * page + k) 0
+pub octet_is : (page : ℕ) (disk : List ℕ) (k d : ℕ) → k < length (page_on page disk) → get_or (page_on page disk) k d ≡ get_or disk (4096 * page + k) 0
 octet_is page disk k d lt =
     let w = within_disk page disk k lt in
     get_or-take 4096 (drop (4096 * page) disk) k d w.0 ∙ get_or-drop (4096 * page) disk k d ∙ get_or_default disk (4096 * page + k) d 0 w.1
 
-size_is : (page : ℕ) (old new : List ℕ) → length new ≡ length old → length (page_on page new) ≡ length (page_on page old)
+pub size_is : (page : ℕ) (old new : List ℕ) → length new ≡ length old → length (page_on page new) ≡ length (page_on page old)
 size_is page old new size =
     let a = length-take 4096 (drop (4096 * page) new) in let b = length-drop (4096 * page) new in
     let c = length-take 4096 (drop (4096 * page) old) in let e = length-drop (4096 * page) old in
     omega (arith, a, b, c, e, size)
 
-apart : (page other place : ℕ) → other ≢ page → 4096 * page ≤ place → place < 4096 * page + 4096 → IsBesidePage other place
+pub apart : (page other place : ℕ) → other ≢ page → 4096 * page ≤ place → place < 4096 * page + 4096 → IsBesidePage other place
 apart page other place ne from below = elim (cases_order page other) [
   | inl same ↦ absurd (ne (sym same))
   | inr rest ↦ elim rest [

@@ -4,9 +4,10 @@ use Rattle.std.specs.Prelude.{IsTrue, ◌↔◌}
 use Rattle.std.specs.List.{AllByRecursion}
 use Rattle.std.proofs.lemmas.Bool.{leb-true, leb-false, le-leb, eqb-false}
 use Rattle.std.proofs.lemmas.List.{length-append}
+use Rattle.std_lemmas.proofs.AllOf.{all_push, all_drop}
 use Rattle.site.specs.declared.outside.Dev.TheVariants.{Flash}
 use Rattle.site.specs.State.{State}
-use Rattle.site.specs.Calls.{Goes}
+use Rattle.site.specs.Calls.{Preserves}
 use Rattle.site.specs.Moments.{OnlyDevice}
 use Rattle.sealed_ring.specs.declared.slots.Shape.{Shape}
 use Rattle.sealed_ring.specs.declared.ring.Ring.{Ring}
@@ -23,15 +24,15 @@ use Rattle.flash_directory.specs.Heads.{frames_in}
 use Rattle.flash_directory.proofs.Opened.{size_of_heads}
 use Rattle.tail_rebuild.specs.Saving.{is_due}
 use Rattle.flash_cache.specs.declared.cache.FlashCache.{FlashCache}
-use Rattle.flash_cache.specs.Held.{MayGoOn, Fits, PagesExist}
+use Rattle.flash_cache.specs.Representation.{Invariant, Matches, PagesExist}
 use Rattle.flash_cache.specs.Pushed.{front_leaves, pushed_queue}
-use Rattle.flash_cache.proofs.Given.{all_more, all_behind}
-use Rattle.flash_cache.proofs.Standing.{usable_later, rings_later, exist_in}
-use Rattle.flash_cache.proofs.Fetching.{lengths_later}
+use Rattle.flash_cache.proofs.Standing.{rings_later, exist_in}
+use Rattle.site.proofs.Working.{lengths_later}
+use Rattle.sealed_ring.proofs.Stays.{usable_later}
 
 -- nothing but counts of the ring's device changed, as far as the cache knows
-pub goes_on_same : (cache : FlashCache) (ring : Ring) (queue : Queue) (old new : State) → MayGoOn cache old → Goes old new → ring.shape ≡ cache.ring.shape → ring.hi ≡ cache.ring.hi → queue ≡ cache.directory
-    → MayGoOn (record cache { ring = ring; directory = queue }) new
+pub goes_on_same : (cache : FlashCache) (ring : Ring) (queue : Queue) (old new : State) → Invariant cache old → Preserves old new → ring.shape ≡ cache.ring.shape → ring.hi ≡ cache.ring.hi → queue ≡ cache.directory
+    → Invariant (record cache { ring = ring; directory = queue }) new
 goes_on_same cache ring queue old new going goes shape hi is =
     let rings = rings_later cache.geometry cache.ring cache.segments old new goes going.rings in
     let usable = rings.groups_usable in
@@ -39,7 +40,7 @@ goes_on_same cache ring queue old new going goes shape hi is =
     let next = going.next in
     let low = rings.low in
     let high = rings.high in
-    subst (λ (q : Queue). MayGoOn (record cache { ring = ring; directory = q }) new) (sym is) (record {
+    subst (λ (q : Queue). Invariant (record cache { ring = ring; directory = q }) new) (sym is) (record {
       limits = going.limits;
       lengths = lengths_later cache.geometry old new goes going.lengths;
       rings = record {
@@ -95,22 +96,22 @@ module _ (cache : FlashCache) (group : List Known) (few : length cache.directory
   pushed_few false is = let less = stays_when cache is in let long = length-append cache.directory.groups (group ∷ []) in omega (arith, long, less)
 
   pub pushed_all : (P : List Known → Type 0) (b : Bool) → AllByRecursion P cache.directory.groups → P group → AllByRecursion P (queue b).groups
-  pushed_all P true all own = all_more P (drop 1 cache.directory.groups) group (all_behind P cache.directory.groups all) own
-  pushed_all P false all own = all_more P cache.directory.groups group all own
+  pushed_all P true all own = all_push P (drop 1 cache.directory.groups) group (all_drop P 1 cache.directory.groups all) own
+  pushed_all P false all own = all_push P cache.directory.groups group all own
 
 -- where no segment is due there is room for a group behind the segments
 pub none_is_due : (cache : FlashCache) → is_due cache.ring.hi cache.segments.hi ≡ false → cache.ring.hi ≤ 4 * cache.segments.hi + 4 → cache.ring.hi < 4 * cache.segments.hi + 4
 none_is_due cache none high = let other = eqb-false cache.ring.hi (4 * cache.segments.hi + 4) none in omega (arith, high, other)
 
-pub goes_on_pushed : (cache : FlashCache) (heads : List FrameHead) (ring : Ring) (queue : Queue) (old new : State) → MayGoOn cache old → Goes old new → AreGroupHeads heads → PagesExist cache.geometry.pages heads
+pub goes_on_pushed : (cache : FlashCache) (heads : List FrameHead) (ring : Ring) (queue : Queue) (old new : State) → Invariant cache old → Preserves old new → AreGroupHeads heads → PagesExist cache.geometry.pages heads
     → ring.shape ≡ cache.ring.shape → ring.hi ≡ cache.ring.hi + 1 → IsUsable ring new → queue ≡ pushed_queue cache (frames_in heads)
-    → is_due cache.ring.hi cache.segments.hi ≡ false → MayGoOn (record cache { ring = ring; directory = queue }) new
+    → is_due cache.ring.hi cache.segments.hi ≡ false → Invariant (record cache { ring = ring; directory = queue }) new
 goes_on_pushed cache heads ring queue old new going goes are exist shape hi usable is none =
     let group = frames_in heads in
     let room = going.limits.groups in
     let next = going.next in
     let then = pushed_next cache group going.few room (front_leaves cache) refl in
-    subst (λ (q : Queue). MayGoOn (record cache { ring = ring; directory = q }) new) (sym is) (record {
+    subst (λ (q : Queue). Invariant (record cache { ring = ring; directory = q }) new) (sym is) (record {
       limits = going.limits;
       lengths = lengths_later cache.geometry old new goes going.lengths;
       rings = record {
@@ -129,14 +130,14 @@ goes_on_pushed cache heads ring queue old new going goes are exist shape hi usab
 
 -- the ring of a cache that fits
 
-pub ring_found : (cache : FlashCache) (site : State) → cache.ring.shape ≡ group_shape cache.geometry → Fits cache site → Finds cache.ring site
+pub ring_found : (cache : FlashCache) (site : State) → cache.ring.shape ≡ group_shape cache.geometry → Matches cache site → Finds cache.ring site
 ring_found cache site shape fits = record {
   form = subst (λ (s : Shape). IsRing s (region s site)) (sym shape) fits.form;
   hi = fits.hi ∙ ap (λ (s : Shape). hi_of s (region s site)) (sym shape);
 }
 
 -- what an append to it has done
-pub append_is : (cache : FlashCache) (ring : Ring) (content : List ℕ) (old new : State) → MayGoOn cache old → length content ≡ 32896 → Goes old new → ring.shape ≡ cache.ring.shape → IsReady ring new
+pub append_is : (cache : FlashCache) (ring : Ring) (content : List ℕ) (old new : State) → Invariant cache old → length content ≡ 32896 → Preserves old new → ring.shape ≡ cache.ring.shape → IsReady ring new
     → SameOutside cache.ring.shape (region cache.ring.shape old) (region cache.ring.shape new) → OnlyDevice cache.ring.shape.dev old new
     → units_in cache.ring.shape new ≡ appended cache.ring.shape (units_in cache.ring.shape old) content
     → Appends cache.geometry Groups content old.image new.image
@@ -150,7 +151,7 @@ append_is cache ring content old new going room goes same ready outside only mor
 
 -- the cache fits again behind it
 pub fits_again : (cache : FlashCache) (ring : Ring) (queue : Queue) (content : List ℕ) (old new : State) → ring.shape ≡ group_shape cache.geometry → IsTrue new.honest → IsReady ring new
-    → Appends cache.geometry Groups content old.image new.image → Fits cache old → Fits (record cache { ring = ring; directory = queue }) new
+    → Appends cache.geometry Groups content old.image new.image → Matches cache old → Matches (record cache { ring = ring; directory = queue }) new
 fits_again cache ring queue content old new shape honest ready appends fits =
     let segments = appends.others Segments (λ same. cc) in
     record {

@@ -1,7 +1,7 @@
 -- The directory's frames and those on flash.
 use Rattle.std.proofs.Common.{◌≡◌, ℕ, zero, suc, ◌+◌, ◌<◌, ◌==◌, Bool, true, false, cond, List, [], ◌∷◌, ◌++◌, length, get_or, map, Option, Some, None, option_map, add-one, arith, refl, sym, ap, ◌∙◌}
 use Rattle.std.specs.Option.{option_or}
-use Rattle.std.specs.Prelude.{flat_map, Result, Ok, Err, OnOk, IsErrOf}
+use Rattle.std.specs.Prelude.{flat_map, Result, Err, IsErrOf}
 use Rattle.std.specs.List.{AllByRecursion}
 use Rattle.frame_group.specs.Groups.{Frame, group, frames_in}
 use Rattle.frame_group.specs.Versions.{frames_of, last_frame}
@@ -10,7 +10,7 @@ use Rattle.frame_group.proofs.Contents.{frames_are_in}
 use Rattle.second_chance.specs.declared.frame.Frame.{Frame as Known}
 use Rattle.second_chance.specs.Queue.{group_read, groups_read}
 use Rattle.flash_directory.specs.Heads.{last_in, last_place, in_first, in_next}
-use Rattle.flash_cache.specs.Held.{Shows, AllTogether, HasFrames}
+use Rattle.flash_cache.specs.Representation.{Shows, AllTogether, HasFrames}
 use Rattle.site.specs.declared.geometry.Geometry.{Geometry}
 
 -- the last frame of a page in a group
@@ -120,8 +120,3 @@ group_at (frames ∷ groups) (suc k) lt = group_at groups k (omega (arith, lt))
 -- an error is that error, of whatever it was the result
 pub err_again : {T U E : Type 0} (a b : E) → IsErrOf {T = T} (Err a) b → IsErrOf {T = U} (Err a) b
 err_again {T} {U} {E} a b is = let same : a ≡ b = cc in ap {A = E} {B = Result U E} (λ (e : E). Err e) same
-
--- what holds anyway holds where it succeeds
-pub on_ok : {T E : Type 0} (r : Result T E) (P : Type 0) → P → OnOk r P
-on_ok (Ok x) P p = p
-on_ok (Err e) P p = tt

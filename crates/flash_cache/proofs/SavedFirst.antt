@@ -4,7 +4,7 @@ use Rattle.site.specs.declared.geometry.Geometry.{Geometry}
 use Rattle.std.specs.Prelude.{Ok, IsTrue}
 use Rattle.site.specs.declared.outside.Dev.TheVariants.{Flash}
 use Rattle.site.specs.State.{State, Image, Snapshot, IsQuiet}
-use Rattle.site.specs.Calls.{Goes}
+use Rattle.site.specs.Calls.{Preserves}
 use Rattle.site.specs.Moments.{Leaves, LeavesOnly, ChangesOnly}
 use Rattle.site.specs.Laws.{in_sequence, leaves_weaker}
 use Rattle.sealed_ring.specs.declared.slots.Shape.{Shape}
@@ -23,15 +23,15 @@ use Rattle.frame_group.specs.Versions.{frames_of, version}
 use Rattle.tail_rebuild.specs.Rebuilt.{AreRings}
 use Rattle.tail_rebuild.specs.Saving.{is_due, changes_of_save, Stands, Saves}
 use Rattle.flash_cache.specs.declared.cache.FlashCache.{FlashCache}
-use Rattle.flash_cache.specs.Held.{MayGoOn, Fits, Holds, frames_on, version_on}
+use Rattle.flash_cache.specs.Representation.{Invariant, Matches, Represents, frames_on, version_on}
 use Rattle.flash_cache.specs.Pushed.{staged_pages, staged_contents, chance_marks, chance_given, frames_given, frames_pushed, changes_of_push, changes_before, changes_of_group, LeavesPush, LeavesPushBehind}
-use Rattle.flash_cache.proofs.Fetching.{lengths_later}
 use Rattle.flash_cache.proofs.Segments.{groups_are}
 use Rattle.flash_cache.proofs.PushedImages.{keeps_by, saving_only}
+use Rattle.site.proofs.Working.{lengths_later}
 
 -- What stands before the save, and the cache behind it.
 
-pub stands_there : (cache : FlashCache) (groups : List (List Frame)) (site : State) → MayGoOn cache site → Fits cache site → (holds : Holds cache site.image groups)
+pub stands_there : (cache : FlashCache) (groups : List (List Frame)) (site : State) → Invariant cache site → Matches cache site → (holds : Represents cache site.image groups)
     → Stands cache.geometry cache.ring cache.segments cache.directory.first groups holds.saved.segments site
 stands_there cache groups site going fits holds = record {
   honest = fits.honest;
@@ -41,7 +41,7 @@ stands_there cache groups site going fits holds = record {
   holds = holds.saved.follow;
 }
 
-pub goes_on_saved : (cache : FlashCache) (segments : Ring) (ended : Bool) (old mid : State) → MayGoOn cache old → Goes old mid → AreRings cache.geometry cache.ring segments mid → MayGoOn (record cache { segments = segments; ended = ended }) mid
+pub goes_on_saved : (cache : FlashCache) (segments : Ring) (ended : Bool) (old mid : State) → Invariant cache old → Preserves old mid → AreRings cache.geometry cache.ring segments mid → Invariant (record cache { segments = segments; ended = ended }) mid
 goes_on_saved cache segments ended old mid going goes rings = record {
   limits = going.limits;
   lengths = lengths_later cache.geometry old mid goes going.lengths;
@@ -54,7 +54,7 @@ goes_on_saved cache segments ended old mid going goes rings = record {
 
 module _ (cache : FlashCache) (groups : List (List Frame)) (saved : List (List FrameHead)) (segments : Ring) (mid : State) (rings : AreRings cache.geometry cache.ring segments mid)
     (stands : Stands cache.geometry cache.ring segments cache.directory.first groups saved mid) where
-  pub fits_saved : Fits (record cache { segments = segments }) mid
+  pub fits_saved : Matches (record cache { segments = segments }) mid
   fits_saved = record {
     honest = stands.honest;
     form = stands.has.form;
@@ -63,18 +63,18 @@ module _ (cache : FlashCache) (groups : List (List Frame)) (saved : List (List F
     segments_hi = stands.segments_fit ∙ ap (λ (s : Shape). hi_of s (region s mid)) rings.segments_shape;
   }
 
-  pub holds_saved : (old : Image) → Holds cache old groups → Holds (record cache { segments = segments }) mid.image groups
+  pub holds_saved : (old : Image) → Represents cache old groups → Represents (record cache { segments = segments }) mid.image groups
   holds_saved old holds = record { has = stands.has; saved = record { segments = saved; follow = stands.holds }; shown = holds.shown }
 
 -- the cache fits behind it, whatever groups stand there
 
-pub segments_found : (cache : FlashCache) (site : State) → cache.segments.shape ≡ segment_shape cache.geometry → Fits cache site → Finds cache.segments site
+pub segments_found : (cache : FlashCache) (site : State) → cache.segments.shape ≡ segment_shape cache.geometry → Matches cache site → Finds cache.segments site
 segments_found cache site shape fits = record {
   form = subst (λ (s : Shape). IsRing s (region s site)) (sym shape) fits.segments_form;
   hi = fits.segments_hi ∙ ap (λ (s : Shape). hi_of s (region s site)) (sym shape);
 }
 
-pub fits_behind : (cache : FlashCache) (segments : Ring) (mid : State) → AreRings cache.geometry cache.ring segments mid → IsTrue mid.honest → Finds cache.ring mid → Finds segments mid → Fits (record cache { segments = segments }) mid
+pub fits_behind : (cache : FlashCache) (segments : Ring) (mid : State) → AreRings cache.geometry cache.ring segments mid → IsTrue mid.honest → Finds cache.ring mid → Finds segments mid → Matches (record cache { segments = segments }) mid
 fits_behind cache segments mid rings honest groups_found found = record {
   honest = honest;
   form = subst (λ (s : Shape). IsRing s (region s mid)) rings.groups_shape groups_found.form;
@@ -138,13 +138,13 @@ module _ (g : Geometry) (before : List Change) (pages : List ℕ) (contents : Li
 
 -- what stands behind the save
 pub record IsBehind (cache : FlashCache) (groups : List (List Frame)) (segments : Ring) (old mid : State) : Type 0 where
-  pub fits : Fits (record cache { segments = segments }) mid
-  pub holds : Holds (record cache { segments = segments }) mid.image groups
+  pub fits : Matches (record cache { segments = segments }) mid
+  pub holds : Represents (record cache { segments = segments }) mid.image groups
   pub front : IsQuiet old → LeavesFront cache.geometry (changes_of_save (is_due cache.ring.hi cache.segments.hi) groups) old mid
   pub reaches : Reaches cache.geometry (changes_of_save (is_due cache.ring.hi cache.segments.hi) groups) old.image mid.image
   pub told : mid.told ≡ old.told
 
-pub is_behind : (cache : FlashCache) (groups : List (List Frame)) (segments : Ring) (old mid : State) (holds : Holds cache old.image groups) → AreRings cache.geometry cache.ring segments mid → ChangesOnly Flash old mid
+pub is_behind : (cache : FlashCache) (groups : List (List Frame)) (segments : Ring) (old mid : State) (holds : Represents cache old.image groups) → AreRings cache.geometry cache.ring segments mid → ChangesOnly Flash old mid
     → Saves cache.geometry cache.ring cache.segments segments cache.directory.first groups holds.saved.segments old mid (Ok tt) → IsBehind cache groups segments old mid
 is_behind cache groups segments old mid holds rings changes saves = record {
   fits = fits_saved cache groups _ segments mid rings saves.stands;
@@ -154,7 +154,7 @@ is_behind cache groups segments old mid holds rings changes saves = record {
   told = changes.only.now.told;
 }
 
-module _ (cache : FlashCache) (groups : List (List Frame)) (segments : Ring) (old mid : State) (holds : Holds cache old.image groups) (b : IsBehind cache groups segments old mid)
+module _ (cache : FlashCache) (groups : List (List Frame)) (segments : Ring) (old mid : State) (holds : Represents cache old.image groups) (b : IsBehind cache groups segments old mid)
     (pages : List ℕ) (changed : List Bool) (contents : List (List ℕ)) where
   abbrev due : Bool
   due = is_due cache.ring.hi cache.segments.hi
@@ -187,7 +187,7 @@ module _ (cache : FlashCache) (groups : List (List Frame)) (segments : Ring) (ol
   staged_behind new staged = subst (λ (d : List ℕ). HasStaged (staged_pages cache) (staged_contents cache groups) d new.disk) (disk_saved cache.geometry due groups old.image mid.image b.reaches) staged
 
 -- where the save fails
-pub failed_moment : (cache : FlashCache) (groups : List (List Frame)) (old new : State) (group : List ℕ) (holds : Holds cache old.image groups)
+pub failed_moment : (cache : FlashCache) (groups : List (List Frame)) (old new : State) (group : List ℕ) (holds : Represents cache old.image groups)
     → LeavesFront cache.geometry (changes_of_save (is_due cache.ring.hi cache.segments.hi) groups) old new
     → LeavesOnly old new (LeavesPushBehind cache.geometry (changes_before cache old.image) (staged_pages cache) (staged_contents cache groups) group old)
 failed_moment cache groups old new group holds front =

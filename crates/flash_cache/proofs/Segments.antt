@@ -2,6 +2,7 @@
 use Rattle.std.proofs.Common.{◌≡◌, ℕ, ◌+◌, ◌-◌, ◌*◌, ◌<◌, ◌≤◌, Bool, true, false, cond, List, [], ◌∷◌, ◌++◌, length, map, drop, arith, refl, sym, ap, subst, ◌∙◌}
 use Rattle.std.specs.List.{AllByRecursion}
 use Rattle.std.proofs.lemmas.Bool.{eqb-true, eqb-false}
+use Rattle.std_lemmas.proofs.AllOf.{all_left}
 use Rattle.site.specs.declared.geometry.Geometry.{Geometry}
 use Rattle.site.specs.Geometry.{HasLimits}
 use Rattle.site.specs.State.{Image}
@@ -10,7 +11,7 @@ use Rattle.byte_fields.specs.FrameHeads.{spelling_of_all}
 use Rattle.image_changes.specs.Rings.{Groups, Segments, group_shape, segment_shape, KeepsUnits}
 use Rattle.image_changes.specs.Changes.{Change, RewritesPages, AppendsGroup, AppendsSegment, ReadsAs, Appends, Reaches}
 use Rattle.image_changes.specs.Reached.{IsFrontOf}
-use Rattle.image_changes.proofs.Sequence.{reads_itself}
+use Rattle.image_changes.proofs.Sequence.{reaches_parts}
 use Rattle.stage_out.specs.Staged.{changes_of}
 use Rattle.frame_group.specs.Groups.{Frame, group, frames_in}
 use Rattle.frame_group.proofs.Contents.{frames_are_in}
@@ -18,25 +19,20 @@ use Rattle.tail_rebuild.specs.Laws.{with_group}
 use Rattle.tail_rebuild.specs.Saving.{is_due, segment_of, changes_of_save}
 use Rattle.tail_rebuild.proofs.Following.{groups_again, saved_again, segment_saved, group_pushed}
 use Rattle.flash_cache.specs.declared.cache.FlashCache.{FlashCache}
-use Rattle.flash_cache.specs.Held.{HasFrames, HasGroups, AreSaved, AllTogether, Shows, groups_on}
+use Rattle.flash_cache.specs.Representation.{HasFrames, HasGroups, AreSaved, AllTogether, Shows, groups_on}
 use Rattle.flash_cache.specs.Pushed.{front_leaves, pushed_groups, changes_of_push}
 use Rattle.flash_cache.proofs.Queues.{together_length}
 use Rattle.flash_cache.proofs.Pushing.{leaves_when, stays_when}
-use Rattle.flash_cache.proofs.PushedImages.{all_front, made_as}
+use Rattle.flash_cache.proofs.PushedImages.{made_as}
 
 -- the groups that stand there are those that are read off the image
 
-read_off : (g : Geometry) (groups : List (List Frame)) → AllByRecursion (λ frames. HasFrames g frames (group frames)) groups → map frames_in (map group groups) ≡ groups
+pub read_off : (g : Geometry) (groups : List (List Frame)) → AllByRecursion (λ frames. HasFrames g frames (group frames)) groups → map frames_in (map group groups) ≡ groups
 read_off g [] all = refl
 read_off g (frames ∷ groups) all = λ i. frames_are_in (group frames) frames all.0.is_group i ∷ read_off g groups all.1 i
 
 pub groups_are : (g : Geometry) (first : ℕ) (groups : List (List Frame)) (image : Image) → HasGroups g first groups image → groups_on g image ≡ groups
 groups_are g first groups image has = ap (map frames_in) has.live ∙ read_off g groups has.are_groups
-
--- an image is reached by lists of changes one after the other
-parts : (g : Geometry) (xs ys : List Change) (a c : Image) → Reaches g (xs ++ ys) a c → (b : Image) × Reaches g xs a b × Reaches g ys b c
-parts g [] ys a c reaches = (a, reads_itself g a, reaches)
-parts g (x ∷ xs) ys a c reaches = let rest = parts g xs ys reaches.0 c reaches.2 in (rest.0, (reaches.0, reaches.1, rest.1), rest.2)
 
 -- the two rings of the flash have the same units
 record SameUnits (g : Geometry) (old new : Image) : Type 0 where
@@ -64,7 +60,7 @@ stages [] = tt
 stages (page ∷ pages) = (refl, tt)
 
 front_stages : (pages : List ℕ) (changes : List Change) → IsFrontOf (changes_of pages) changes → AllByRecursion (λ change. change ≡ RewritesPages pages) changes
-front_stages pages changes is = all_front (λ change. change ≡ RewritesPages pages) changes is.0 (subst (AllByRecursion (λ change. change ≡ RewritesPages pages)) is.1 (stages pages))
+front_stages pages changes is = all_left (λ change. change ≡ RewritesPages pages) changes is.0 (subst (AllByRecursion (λ change. change ≡ RewritesPages pages)) is.1 (stages pages))
 
 first_same : (x y : Change) (xs ys : List Change) → x ∷ xs ≡ y ∷ ys → y ≡ x
 first_same x y xs ys same = cc
@@ -130,8 +126,8 @@ module _ (g : Geometry) (limits : HasLimits g) (first : ℕ) (groups : List (Lis
   pub saved_behind : (pages : List ℕ) (frames : List Frame) (new : Image) (b : Bool) → is_due h k ≡ b → HasFrames g frames (group frames) → Reaches g (changes_of_save b groups ++ changes_of_push pages (group frames)) old new
       → AreSaved g (with_group g groups frames) new
   saved_behind pages frames new b is own reaches =
-      let save = parts g (changes_of_save b groups) (changes_of_push pages (group frames)) old new reaches in
-      let stage = parts g (changes_of pages) (AppendsGroup (group frames) ∷ []) save.0 new save.2 in
+      let save = reaches_parts g (changes_of_save b groups) (changes_of_push pages (group frames)) old new reaches in
+      let stage = reaches_parts g (changes_of pages) (AppendsGroup (group frames) ∷ []) save.0 new save.2 in
       let staged : Image = stage.0 in
       let stands = stays_with_room g first groups save.0 staged (staged_same g pages (changes_of pages) save.0 staged (stages pages) stage.1) (behind_save save.0 b is save.1) in
       let appended : Image = stage.2.0 in

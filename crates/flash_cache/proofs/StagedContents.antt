@@ -4,6 +4,8 @@ use Rattle.std.specs.List.{All, AllByRecursion}
 use Rattle.std.proofs.lemmas.List.Elements.{recursion_from_All, All-from_recursion}
 use Rattle.std.proofs.lemmas.List.{map-append, length-append}
 use Rattle.std.proofs.lemmas.Option.{slice_get_within}
+use Rattle.std_lemmas.proofs.AllOf.{all_append}
+use Rattle.std_lemmas.proofs.Lists.{map_map}
 use Rattle.site.specs.declared.geometry.Geometry.{Geometry}
 use Rattle.site.specs.State.{State}
 use Rattle.sealed_ring.specs.declared.slots.Shape.{Shape}
@@ -19,11 +21,11 @@ use Rattle.second_chance.specs.Machine.{chance_frame}
 use Rattle.byte_fields.specs.declared.frame_head.Mark.{Mark}
 use Rattle.flash_directory.specs.Heads.{frames_in}
 use Rattle.flash_cache.specs.declared.cache.FlashCache.{FlashCache}
-use Rattle.flash_cache.specs.Held.{MayGoOn, Holds, HasFrames, AllTogether, Shows, version_on}
+use Rattle.flash_cache.specs.Representation.{Invariant, Represents, HasFrames, AllTogether, Shows, version_on}
 use Rattle.flash_cache.specs.declared.leaving.FrontFrames.{FrontFrames}
 use Rattle.flash_cache.specs.Leaving.{page_at, AreAt, again}
 use Rattle.flash_cache.specs.Pushed.{no_frame, staged_marks, staged_pages, chance_marks, chance_given, pages_pushed, frames_given, known_given, frames_pushed, known_pushed}
-use Rattle.flash_cache.proofs.Given.{length-given, known_of_given, all_append}
+use Rattle.flash_cache.proofs.Given.{length-given, known_of_given}
 use Rattle.flash_cache.proofs.StagedFrames.{frames_at}
 use Rattle.flash_cache.proofs.PushedOutcome.{stored}
 use Rattle.flash_cache.proofs.Queues.{together_length, has_at}
@@ -56,7 +58,7 @@ contents_of : (unit : List ℕ) (frames : List Frame) (xs : List Placed) → ((i
 contents_of unit frames [] each all = refl
 contents_of unit frames (f ∷ xs) each all = λ i. each f.0 all.0 i ∷ contents_of unit frames xs each all.1 i
 
-module _ (cache : FlashCache) (site : State) (groups : List (List Frame)) (going : MayGoOn cache site) (holds : Holds cache site.image groups) where
+module _ (cache : FlashCache) (site : State) (groups : List (List Frame)) (going : Invariant cache site) (holds : Represents cache site.image groups) where
   abbrev unit : List ℕ
   unit = unit_at cache.ring.shape (units_in cache.ring.shape site) cache.directory.first
 
@@ -89,10 +91,6 @@ pub pages_are : (cache : FlashCache) (places : List ℕ) (staged : FrontFrames) 
 pages_are cache places staged are is = are.pages ∙ read_at (λ (m : Mark). m.page) cache.directory.groups (staged_marks cache) places (staged_numbered cache) is
 
 -- the second chances, as they were read
-
-map_map : {X Y Z : Type 0} (g : Y → Z) (f : X → Y) (xs : List X) → map g (map f xs) ≡ map (λ x. g (f x)) xs
-map_map g f [] = refl
-map_map g f (x ∷ xs) = ap (λ l. g (f x) ∷ l) (map_map g f xs)
 
 of_marks : (versions : ℕ → List ℕ) (marks : List Placed) → frames_given (map (λ f. f.1.page) marks) (map (λ f. f.1.dirty) marks) (map (λ f. versions f.1.page) marks) ≡ map (chance_given versions) marks
 of_marks versions [] = refl
@@ -138,7 +136,7 @@ module _ (cache : FlashCache) (places : List ℕ) (chances : FrontFrames) (are :
       (subst (All (λ (page : ℕ). page < cache.geometry.pages)) (sym chance_pages) (marks_exist cache.geometry.pages cache.directory.groups (chance_marks cache) (chances_numbered cache) exist))
 
   -- where groups stand on flash, they are the second chances of the push
-  pub again_is : (site : State) (groups : List (List Frame)) → MayGoOn cache site → Holds cache site.image groups
+  pub again_is : (site : State) (groups : List (List Frame)) → Invariant cache site → Represents cache site.image groups
       → chances.contents.items ≡ map (page_at (unit_at cache.ring.shape (units_in cache.ring.shape site) cache.directory.first)) places
       → again chances ≡ map (chance_given (version_on cache.geometry site.image)) (chance_marks cache)
   again_is site groups going holds read =
@@ -193,7 +191,7 @@ all_at : (P : Frame → Type 0) (frames : List Frame) (marks : List Placed) → 
 all_at P frames [] all low = tt
 all_at P frames (f ∷ marks) all low = (All-from_recursion P frames all f.0 no_frame low.0, all_at P frames marks all low.1)
 
-pub pushed_has : (cache : FlashCache) (site : State) (groups : List (List Frame)) → MayGoOn cache site → Holds cache site.image groups
+pub pushed_has : (cache : FlashCache) (site : State) (groups : List (List Frame)) → Invariant cache site → Represents cache site.image groups
     → (pages : List ℕ) (changed : List Bool) (contents : List (List ℕ)) → length changed ≡ length pages → length contents ≡ length pages → 1 ≤ length (pages_pushed cache pages) → length (pages_pushed cache pages) ≤ 8
     → All (λ page. page < cache.geometry.pages) pages → AllByRecursion IsFrame (frames_given pages changed contents)
     → HasFrames cache.geometry (frames_pushed cache site.image pages changed contents) (group (frames_pushed cache site.image pages changed contents))

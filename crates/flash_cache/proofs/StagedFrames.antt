@@ -5,6 +5,7 @@ use Rattle.std.specs.Option.{option_or}
 use Rattle.std.proofs.lemmas.Bool.{and_parts, eqb-true, eq-eqb, ne_eqb}
 use Rattle.std.proofs.lemmas.List.{get_or-take, length-take}
 use Rattle.std.proofs.lemmas.Option.{none-some, same_Some, cond_some}
+use Rattle.std_lemmas.proofs.Options.{none_if_no_some}
 use Rattle.frame_group.specs.Groups.{Frame}
 use Rattle.frame_group.specs.Versions.{last_frame}
 use Rattle.frame_group.proofs.LastFrames.{last_of_both, last_is_of_page}
@@ -12,7 +13,7 @@ use Rattle.second_chance.specs.declared.frame.Frame.{Frame as Known}
 use Rattle.second_chance.specs.Queue.{in_group, in_groups, is_last, mark_of, group_marks}
 use Rattle.byte_fields.specs.declared.frame_head.Mark.{Mark}
 use Rattle.second_chance.specs.Plans.{Placed, chances_of, staged_of, is_among}
-use Rattle.flash_cache.specs.Held.{AllTogether, Shows}
+use Rattle.flash_cache.specs.Representation.{AllTogether, Shows}
 use Rattle.flash_cache.specs.Pushed.{no_frame}
 use Rattle.flash_cache.proofs.Queues.{joined}
 
@@ -45,12 +46,8 @@ in_groups_is (k ∷ ks) (f ∷ fs) page shown =
     by (Some x) None = refl
     by (Some x) (Some y) = refl
 
-pub none_is : {A : Type 0} (o : Option A) → is_some o ≡ false → o ≡ None
-none_is None is = refl
-none_is (Some x) is = absurd (true≢false is)
-
 pub not_in_groups : (known : List (List Known)) (groups : List (List Frame)) (page : ℕ) → AllTogether (AllTogether Shows) known groups → in_groups known page ≡ false → last_frame page (joined groups) ≡ None
-not_in_groups known groups page shown out = none_is (last_frame page (joined groups)) (sym (in_groups_is known groups page shown) ∙ out)
+not_in_groups known groups page shown out = none_if_no_some (last_frame page (joined groups)) (sym (in_groups_is known groups page shown) ∙ out)
 
 -- the frames from a place on whose marks pass a test
 
@@ -96,7 +93,7 @@ each_from test takes n (k ∷ ks) (f ∷ fs) later j d shown lt = by (test own_m
     own : test own_mark ≡ true → StandsFrom n (f ∷ fs) later own_mark
     own is =
         let out = either_false (in_group ks k.page) (in_groups later k.page) (takes own_mark is) in
-        let none : last_frame k.page fs ≡ None = none_is (last_frame k.page fs) (sym (in_group_is ks fs k.page shown.1) ∙ out.0) in
+        let none : last_frame k.page fs ≡ None = none_if_no_some (last_frame k.page fs) (sym (in_group_is ks fs k.page shown.1) ∙ out.0) in
         let same : (f.page == k.page) ≡ true = eq-eqb f.page k.page (sym shown.0.page) in
         record {
           i = zero;

@@ -9,7 +9,7 @@ use Rattle.second_chance.specs.declared.frame.Frame.{Frame as Known}
 use Rattle.second_chance.specs.Queue.{group_marks, front_marks}
 use Rattle.second_chance.specs.Plans.{Placed, chances_given, staged_of}
 use Rattle.second_chance.specs.Machine.{rules_of, leaving}
-use Rattle.second_chance.proofs.Apart.{staged_stand_in, staged_apart}
+use Rattle.second_chance.proofs.DistinctStaged.{staged_stand_in, staged_apart}
 use Rattle.second_chance.proofs.Chances.{chances_stand_in, chances_are_not_staged}
 use Rattle.flash_cache.specs.declared.cache.FlashCache.{FlashCache}
 use Rattle.flash_cache.specs.Leaving.{no_mark, mark_at}

@@ -5,7 +5,7 @@ use Rattle.std.specs.List.{AllByRecursion}
 use Rattle.site.specs.declared.outside.Dev.{Dev}
 use Rattle.site.specs.declared.outside.Dev.TheVariants.{Log, Flash, Disk}
 use Rattle.site.specs.State.{State, Image, Moment, Snapshot, IsQuiet}
-use Rattle.site.specs.Calls.{Goes, IsUnchanged}
+use Rattle.site.specs.Calls.{Preserves, IsUnchanged}
 use Rattle.site.specs.Moments.{Leaves, LeavesOnly, EachMoment, ChangesOnly, SameAt, Untouched}
 use Rattle.site.specs.Laws.{others_untouched, untouched_in_sequence, stays_honest, no_call, unchanged_calm, quiet_leaves, leaves_weaker}
 use Rattle.sealed_ring.specs.Ring.{IsRing, hi_of}
@@ -16,15 +16,15 @@ use Rattle.image_changes.proofs.Sequence.{changes_add_up, reads_itself}
 use Rattle.stage_out.specs.Staged.{HasStaged, changes_of}
 use Rattle.site.specs.declared.geometry.Geometry.{Geometry}
 use Rattle.flash_cache.specs.declared.cache.FlashCache.{FlashCache}
-use Rattle.flash_cache.specs.Held.{MayGoOn, Fits}
+use Rattle.flash_cache.specs.Representation.{Invariant, Matches}
 use Rattle.flash_cache.specs.Pushed.{ChangesPages, LeavesPush, changes_of_push}
 use Rattle.flash_cache.proofs.Pushing.{goes_on_same}
 
-pub goes_on_later : (cache : FlashCache) (old new : State) → MayGoOn cache old → Goes old new → MayGoOn cache new
+pub goes_on_later : (cache : FlashCache) (old new : State) → Invariant cache old → Preserves old new → Invariant cache new
 goes_on_later cache old new going goes = goes_on_same cache cache.ring cache.directory old new going goes refl refl refl
 
 -- where the flash has what it had, the cache fits on
-pub fits_same : (cache : FlashCache) (old new : State) → new.image.flash ≡ old.image.flash → IsTrue new.honest → Fits cache old → Fits cache new
+pub fits_same : (cache : FlashCache) (old new : State) → new.image.flash ≡ old.image.flash → IsTrue new.honest → Matches cache old → Matches cache new
 fits_same cache old new flash honest fits = record {
   honest = honest;
   form = subst (IsRing (group_shape cache.geometry)) (sym flash) fits.form;
@@ -33,7 +33,7 @@ fits_same cache old new flash honest fits = record {
   segments_hi = fits.segments_hi ∙ ap (hi_of (segment_shape cache.geometry)) (sym flash);
 }
 
-pub fits_on : (cache : FlashCache) (old mid : State) → Fits cache old → Goes old mid → ChangesOnly Disk old mid → Fits cache mid
+pub fits_on : (cache : FlashCache) (old mid : State) → Matches cache old → Preserves old mid → ChangesOnly Disk old mid → Matches cache mid
 fits_on cache old mid fits goes changes = fits_same cache old mid (changes.only.now.content Flash (λ h. cc)) (stays_honest old mid goes fits.honest) fits
 
 -- the log's device stays as it is
@@ -50,7 +50,7 @@ all_made g pages group old mid new made more = changes_add_up g (changes_of page
 
 -- Calls that only read come first.
 
-pub fits_read : (cache : FlashCache) (old mid : State) → Fits cache old → Goes old mid → IsUnchanged old mid → Fits cache mid
+pub fits_read : (cache : FlashCache) (old mid : State) → Matches cache old → Preserves old mid → IsUnchanged old mid → Matches cache mid
 fits_read cache old mid fits goes same = fits_same cache old mid (ap (λ (i : Image). i.flash) same.image) (stays_honest old mid goes fits.honest) fits
 
 pub read_untouched : (d : Dev) (old new : State) → IsUnchanged old new → Untouched d old new

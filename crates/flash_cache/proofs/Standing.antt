@@ -3,10 +3,8 @@ use Rattle.std.proofs.Common.{◌≡◌, ℕ, zero, suc, ◌+◌, ◌-◌, ◌<�
 use Rattle.std.specs.List.{All, AllByRecursion, take_while, prefix_len}
 use Rattle.site.specs.declared.geometry.Geometry.{Geometry}
 use Rattle.site.specs.State.{State}
-use Rattle.site.specs.Calls.{Goes}
+use Rattle.site.specs.Calls.{Preserves}
 use Rattle.sealed_ring.specs.declared.ring.Ring.{Ring}
-use Rattle.sealed_ring.specs.Ring.{FitsIn}
-use Rattle.sealed_ring.specs.Ready.{IsUsable}
 use Rattle.byte_fields.specs.declared.frame_head.FrameHead.{FrameHead}
 use Rattle.byte_fields.specs.FrameHeads.{blank, AreGroupHeads}
 use Rattle.frame_group.specs.Groups.{Frame, head_of, heads_of}
@@ -15,14 +13,11 @@ use Rattle.second_chance.specs.Queue.{frame_of as known_of}
 use Rattle.flash_directory.specs.Heads.{frames_in}
 use Rattle.flash_directory.proofs.Opened.{size_of_heads}
 use Rattle.tail_rebuild.specs.Rebuilt.{AreRings}
-use Rattle.flash_cache.specs.Held.{AllTogether, Shows, PagesExist}
-
--- a ring may be used after any calls
-pub usable_later : (ring : Ring) (old new : State) → Goes old new → IsUsable ring old → IsUsable ring new
-usable_later ring old new goes usable = record { fits = subst (FitsIn ring.shape) (sym (goes.sizes ring.shape.dev)) usable.fits; bounded = usable.bounded }
+use Rattle.flash_cache.specs.Representation.{AllTogether, Shows, PagesExist}
+use Rattle.sealed_ring.proofs.Stays.{usable_later}
 
 -- and so may both rings
-pub rings_later : (g : Geometry) (ring segments : Ring) (old new : State) → Goes old new → AreRings g ring segments old → AreRings g ring segments new
+pub rings_later : (g : Geometry) (ring segments : Ring) (old new : State) → Preserves old new → AreRings g ring segments old → AreRings g ring segments new
 rings_later g ring segments old new goes rings = record {
   groups_usable = usable_later ring old new goes rings.groups_usable;
   segments_usable = usable_later segments old new goes rings.segments_usable;

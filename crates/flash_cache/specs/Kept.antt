@@ -5,7 +5,7 @@ use Rattle.site.specs.State.{State, Image, Snapshot}
 use Rattle.frame_group.specs.Groups.{Frame}
 use Rattle.second_chance.specs.Queue.{has_frame}
 use Rattle.flash_cache.specs.declared.cache.FlashCache.{FlashCache}
-use Rattle.flash_cache.specs.Held.{HasGroups, AreSaved, version_on, disk_on, IsCleanOn}
+use Rattle.flash_cache.specs.Representation.{HasGroups, AreSaved, version_on, disk_on, IsCleanOn}
 use Rattle.flash_cache.specs.Pushed.{frames_pushed, known_pushed, pushed_groups, pushed_queue}
 
 -- an image has these live groups, from a number on, and segments that follow them, and each page has the version that

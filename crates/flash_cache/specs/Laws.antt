@@ -8,7 +8,7 @@ use Rattle.image_changes.specs.Reached.{LeavesFront}
 use Rattle.frame_group.specs.Groups.{Frame}
 use Rattle.second_chance.specs.Queue.{has_frame}
 use Rattle.flash_cache.specs.declared.cache.FlashCache.{FlashCache}
-use Rattle.flash_cache.specs.Held.{Holds, version_on, disk_on}
+use Rattle.flash_cache.specs.Representation.{Represents, version_on, disk_on}
 use Rattle.flash_cache.specs.Pushed.{changes_of_push, LeavesPushBehind}
 
 -- at each moment of a push the first of its changes were made
@@ -20,5 +20,6 @@ PushesMakeFronts =
 
 -- a page that has no frame in the queue has its disk page as its version
 abbrev pub UnframedIsDisk : Type 0
-UnframedIsDisk = (cache : FlashCache) (image : Image) (groups : List (List Frame)) (page : ℕ) → Holds cache image groups
-    → has_frame cache.directory page ≡ false → version_on cache.geometry image page ≡ disk_on image page
+UnframedIsDisk = (cache : FlashCache) (image : Image) (groups : List (List Frame)) (page : ℕ)
+    → Represents cache image groups → has_frame cache.directory page ≡ false
+    → version_on cache.geometry image page ≡ disk_on image page

@@ -1,6 +1,6 @@
-pub mod Held
 pub mod Kept
 pub mod Laws
 pub mod Leaving
 pub mod Pushed
+pub mod Representation
 pub mod Trying

@@ -15,7 +15,7 @@ use Rattle.second_chance.specs.Plans.{Placed, chances_of, staged_of, chances_giv
 use Rattle.second_chance.specs.Machine.{rules_of, is_full, leaving, chance_frame}
 use Rattle.tail_rebuild.specs.Saving.{is_due, changes_of_save}
 use Rattle.flash_cache.specs.declared.cache.FlashCache.{FlashCache}
-use Rattle.flash_cache.specs.Held.{version_on, groups_on}
+use Rattle.flash_cache.specs.Representation.{version_on, groups_on}
 
 -- whether the front group leaves with a push: the queue has as many groups as can be
 abbrev pub front_leaves : FlashCache → Bool

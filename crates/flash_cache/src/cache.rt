@@ -7,7 +7,7 @@ ghost use Rattle.site.specs.declared.outside.Dev.{Dev};
 ghost use Rattle.site.specs.declared.outside.Stop.{Stop};
 ghost use Rattle.site.specs.Geometry.{HasLimits, HasLengths};
 ghost use Rattle.site.specs.State.{reads_of, IsSettled, IsQuiet};
-ghost use Rattle.site.specs.Calls.{Goes, SameReads, FaultRose, IsUnchanged};
+ghost use Rattle.site.specs.Calls.{Preserves, SameReads, FaultRose, IsUnchanged};
 ghost use Rattle.site.specs.Faults.{WorkFaults};
 ghost use Rattle.site.specs.Moments.{LeavesOnly, ChangesOnly, Untouched};
 ghost use Rattle.sealed_ring.specs.Ready.{LeavesOldOrNew};
@@ -22,8 +22,9 @@ ghost use Rattle.second_chance.specs.Queue.{has_frame, with_read, marks, front_m
 ghost use Rattle.second_chance.specs.Machine.{rules_of, leaving};
 ghost use Rattle.stage_out.specs.Staged.{HasStaged};
 ghost use Rattle.flash_directory.specs.Heads.{frames_in};
-ghost use Rattle.flash_cache.specs.Held.{MayGoOn, Fits, IsWorn, HasGroups, HasFrames, AreSaved, Holds, queue_of};
-ghost use Rattle.flash_cache.specs.Held.{version_on, PagesExist, IsCleanOn, start_reads};
+ghost use Rattle.flash_cache.specs.Representation.{Invariant, Matches, IsWorn, HasGroups, HasFrames, AreSaved};
+ghost use Rattle.flash_cache.specs.Representation.{Represents, queue_of, version_on};
+ghost use Rattle.flash_cache.specs.Representation.{PagesExist, IsCleanOn, start_reads};
 ghost use Rattle.flash_cache.specs.Pushed.{staged_marks, staged_pages, staged_contents, chance_marks, pages_pushed};
 ghost use Rattle.flash_cache.specs.Pushed.{frames_given, frames_pushed, known_pushed, pushed_groups, pushed_queue};
 ghost use Rattle.flash_cache.specs.Pushed.{changes_of_push, changes_before, changes_of_group, LeavesPush};
@@ -73,7 +74,7 @@ impl FlashCache {
         ensures fits { IsTrue (S.state site.old).honest → (first : ℕ) (groups : List (List Frame))
             → HasGroups geometry.now first groups (S.state site.old).image
             → AreSaved geometry.now groups (S.state site.old).image
-            → IfOk result (λ cache. Fits cache (S.state site.new)) }
+            → IfOk result (λ cache. Matches cache (S.state site.new)) }
         ensures queue { IsTrue (S.state site.old).honest → (first : ℕ) (groups : List (List Frame))
             → HasGroups geometry.now first groups (S.state site.old).image
             → AreSaved geometry.now groups (S.state site.old).image
@@ -81,19 +82,19 @@ impl FlashCache {
         ensures holds { IsTrue (S.state site.old).honest → (first : ℕ) (groups : List (List Frame))
             → HasGroups geometry.now first groups (S.state site.old).image
             → AreSaved geometry.now groups (S.state site.old).image
-            → IfOk result (λ cache. Holds cache (S.state site.new).image groups) }
+            → IfOk result (λ cache. Represents cache (S.state site.new).image groups) }
         ensures foreign { IsErrOf result Stop.Foreign → IsTrue (S.state site.old).honest
             → (first : ℕ) (groups : List (List Frame))
             → HasGroups geometry.now first groups (S.state site.old).image
             → AreSaved geometry.now groups (S.state site.old).image → ⊥ }
 
         // Of every site.
-        ensures going { IfOk result (λ cache. MayGoOn cache (S.state site.new)) }
+        ensures going { IfOk result (λ cache. Invariant cache (S.state site.new)) }
         ensures geometry { IfOk result (λ cache. cache.geometry ≡ geometry.now) }
         ensures ended { IfOk result (λ cache. cache.ended ≡ false) }
         ensures same { IsTrue (S.state site.old).honest
             → IsUnchanged (S.state site.old) (S.state site.new) }
-        ensures goes { Goes (S.state site.old) (S.state site.new) }
+        ensures goes { Preserves (S.state site.old) (S.state site.new) }
         ensures faults { WorkFaults result (S.state site.old) (S.state site.new) }
         ensures reads { (S.state site.new).flash_reads
             ≤ (S.state site.old).flash_reads + start_reads geometry.now }
@@ -135,10 +136,10 @@ impl FlashCache {
     /// Reads the last frame of a page, by one read of one page, and marks it as referenced. It answers false where the
     /// page has no frame; then nothing changes.
     pub fn fetch<S: Site>(&mut self, site: &mut S, page: u32, into: &mut Page) -> Result<bool, Stop>
-        requires { MayGoOn self.old (S.state site.old) }
+        requires { Invariant self.old (S.state site.old) }
 
         ensures fetched { (groups : List (List Frame))
-            → Fits self.old (S.state site.old) → Holds self.old (S.state site.old).image groups
+            → Matches self.old (S.state site.old) → Represents self.old (S.state site.old).image groups
             → IfOk result (λ found. found ≡ true
             → into.new ≡ version_on self.old.geometry (S.state site.old).image page) }
         ensures found { IfOk result (λ found. found ≡ has_frame self.old.directory page) }
@@ -146,16 +147,16 @@ impl FlashCache {
             → (site.new ≡ site.old) × (self.new ≡ self.old) × (into.new ≡ into.old) }
         ensures marked { has_frame self.old.directory page ≡ true
             → OnOk result (self.new ≡ record self.old { directory = with_read page self.old.directory }) }
-        ensures going { MayGoOn self.new (S.state site.new) }
-        ensures fits { Fits self.old (S.state site.old) → OnOk result (Fits self.new (S.state site.new)) }
+        ensures going { Invariant self.new (S.state site.new) }
+        ensures fits { Matches self.old (S.state site.old) → OnOk result (Matches self.new (S.state site.new)) }
         ensures holds { (groups : List (List Frame))
-            → Fits self.old (S.state site.old) → Holds self.old (S.state site.old).image groups
-            → OnOk result (Holds self.new (S.state site.new).image groups) }
+            → Matches self.old (S.state site.old) → Represents self.old (S.state site.old).image groups
+            → OnOk result (Represents self.new (S.state site.new).image groups) }
         ensures err { OnErr result (self.new ≡ record self.old { ended = true }) }
         ensures geometry { self.new.geometry ≡ self.old.geometry }
         ensures same { IsTrue (S.state site.old).honest
             → IsUnchanged (S.state site.old) (S.state site.new) }
-        ensures goes { Goes (S.state site.old) (S.state site.new) }
+        ensures goes { Preserves (S.state site.old) (S.state site.new) }
         ensures faults { WorkFaults result (S.state site.old) (S.state site.new) }
         ensures reads { (S.state site.new).flash_reads ≤ (S.state site.old).flash_reads + 1 }
         ensures others { (d : Dev) → d ≢ Dev.Flash
@@ -203,7 +204,7 @@ impl FlashCache {
         changed: &[bool],
         contents: &[Page],
     ) -> Result<(), Stop>
-        requires going { MayGoOn self.old (S.state site.old) }
+        requires going { Invariant self.old (S.state site.old) }
         requires chances { plan.now.chances ≡ map (λ f. f.0) (chance_marks self.old) }
         requires staged { plan.now.staged ≡ map (λ f. f.0) (staged_marks self.old) }
         requires marks { length changed.now ≡ length pages.now }
@@ -215,7 +216,7 @@ impl FlashCache {
 
         // The devices, of an honest site that the cache fits and whose groups it holds.
         ensures any_moment { (groups : List (List Frame))
-            → Fits self.old (S.state site.old) → Holds self.old (S.state site.old).image groups
+            → Matches self.old (S.state site.old) → Represents self.old (S.state site.old).image groups
             → IsQuiet (S.state site.old)
             → LeavesOnly (S.state site.old) (S.state site.new) (LeavesPushBehind self.old.geometry
             (changes_before self.old (S.state site.old).image)
@@ -223,21 +224,21 @@ impl FlashCache {
             (group (frames_pushed self.old (S.state site.old).image
             pages.now changed.now contents.now)) (S.state site.old)) }
         ensures front { (groups : List (List Frame))
-            → Fits self.old (S.state site.old) → Holds self.old (S.state site.old).image groups
+            → Matches self.old (S.state site.old) → Represents self.old (S.state site.old).image groups
             → IsQuiet (S.state site.old) → LeavesFront self.old.geometry
             (changes_of_group self.old (S.state site.old).image pages.now changed.now contents.now)
             (S.state site.old) (S.state site.new) }
         ensures reaches { (groups : List (List Frame))
-            → Fits self.old (S.state site.old) → Holds self.old (S.state site.old).image groups
+            → Matches self.old (S.state site.old) → Represents self.old (S.state site.old).image groups
             → OnOk result (Reaches self.old.geometry
             (changes_of_group self.old (S.state site.old).image pages.now changed.now contents.now)
             (S.state site.old).image (S.state site.new).image) }
         ensures staged { (groups : List (List Frame))
-            → Fits self.old (S.state site.old) → Holds self.old (S.state site.old).image groups
+            → Matches self.old (S.state site.old) → Represents self.old (S.state site.old).image groups
             → OnOk result (HasStaged (staged_pages self.old) (staged_contents self.old groups)
             (S.state site.old).image.disk (S.state site.new).image.disk) }
         ensures frames { (groups : List (List Frame))
-            → Fits self.old (S.state site.old) → Holds self.old (S.state site.old).image groups
+            → Matches self.old (S.state site.old) → Represents self.old (S.state site.old).image groups
             → let frames = frames_pushed self.old (S.state site.old).image pages.now changed.now contents.now in
             HasFrames self.old.geometry frames (group frames) }
         ensures changes { IsTrue (S.state site.old).honest
@@ -247,24 +248,24 @@ impl FlashCache {
 
         // What that means for the pages, where valid clean frames equal their disk pages.
         ensures versions { (groups : List (List Frame))
-            → Fits self.old (S.state site.old) → Holds self.old (S.state site.old).image groups
+            → Matches self.old (S.state site.old) → Represents self.old (S.state site.old).image groups
             → IsQuiet (S.state site.old) → IsCleanOn self.old.geometry (S.state site.old).image
             → LeavesOnly (S.state site.old) (S.state site.new)
             (LeavesVersions self.old groups pages.now changed.now contents.now (S.state site.old)) }
         ensures gives { (groups : List (List Frame))
-            → Fits self.old (S.state site.old) → Holds self.old (S.state site.old).image groups
+            → Matches self.old (S.state site.old) → Represents self.old (S.state site.old).image groups
             → IsCleanOn self.old.geometry (S.state site.old).image
             → OnOk result (GivesVersions self.old.geometry self.new.directory.first
             (pushed_groups self.old groups
             (frames_pushed self.old (S.state site.old).image pages.now changed.now contents.now))
             pages.now contents.now (S.state site.old).image (S.state site.new).image) }
         ensures clean_moment { (groups : List (List Frame))
-            → Fits self.old (S.state site.old) → Holds self.old (S.state site.old).image groups
+            → Matches self.old (S.state site.old) → Represents self.old (S.state site.old).image groups
             → IsQuiet (S.state site.old) → IsCleanOn self.old.geometry (S.state site.old).image
             → AreCleanGiven self.old pages.now changed.now contents.now (S.state site.old).image
             → LeavesOnly (S.state site.old) (S.state site.new) (LeavesClean self.old.geometry) }
         ensures clean { (groups : List (List Frame))
-            → Fits self.old (S.state site.old) → Holds self.old (S.state site.old).image groups
+            → Matches self.old (S.state site.old) → Represents self.old (S.state site.old).image groups
             → IsCleanOn self.old.geometry (S.state site.old).image
             → AreCleanGiven self.old pages.now changed.now contents.now (S.state site.old).image
             → OnOk result (IsCleanOn self.old.geometry (S.state site.new).image) }
@@ -273,23 +274,23 @@ impl FlashCache {
         ensures directory { OnOk result (self.new.directory
             ≡ pushed_queue self.old (known_pushed self.old pages.now changed.now)) }
         ensures holds { (groups : List (List Frame))
-            → Fits self.old (S.state site.old) → Holds self.old (S.state site.old).image groups
-            → OnOk result (Holds self.new (S.state site.new).image
+            → Matches self.old (S.state site.old) → Represents self.old (S.state site.old).image groups
+            → OnOk result (Represents self.new (S.state site.new).image
             (pushed_groups self.old groups
             (frames_pushed self.old (S.state site.old).image pages.now changed.now contents.now))) }
-        ensures fits { Fits self.old (S.state site.old) → OnOk result (Fits self.new (S.state site.new)) }
+        ensures fits { Matches self.old (S.state site.old) → OnOk result (Matches self.new (S.state site.new)) }
         ensures quiet { IsTrue (S.state site.old).honest → IsQuiet (S.state site.old)
             → OnOk result (IsQuiet (S.state site.new)) }
         ensures quiet_err { IsTrue (S.state site.old).honest → IsQuiet (S.state site.old)
             → IfErr result (λ stop. ((d : Dev) → stop ≢ Stop.Device d) → IsQuiet (S.state site.new)) }
 
         // Of every site.
-        ensures going { MayGoOn self.new (S.state site.new) }
+        ensures going { Invariant self.new (S.state site.new) }
         ensures geometry { self.new.geometry ≡ self.old.geometry }
         ensures ended { OnOk result (self.new.ended ≡ self.old.ended) }
         ensures err { OnErr result (self.new.ended ≡ true) }
         ensures kept { OnErr result (self.new.directory ≡ self.old.directory) }
-        ensures goes { Goes (S.state site.old) (S.state site.new) }
+        ensures goes { Preserves (S.state site.old) (S.state site.new) }
         ensures faults { WorkFaults result (S.state site.old) (S.state site.new) }
         ensures reads { (S.state site.new).flash_reads ≤ (S.state site.old).flash_reads + 12 }
         ensures others { (d : Dev) → d ≢ Dev.Flash
@@ -297,13 +298,13 @@ impl FlashCache {
 
         // When each answer comes.
         ensures worn { IsErrOf result (Stop.Worn Dev.Flash) → self.old.ring.hi ≡ 2 ^ 40 }
-        ensures worn_end { Fits self.old (S.state site.old) → IsErrOf result (Stop.Worn Dev.Flash)
+        ensures worn_end { Matches self.old (S.state site.old) → IsErrOf result (Stop.Worn Dev.Flash)
             → IsWorn self.old.geometry (S.state site.new).image }
         ensures never_past { self.old.ring.hi ≡ 2 ^ 40 → OnOk result ⊥ }
         ensures device { (d : Dev) → IsErrOf result (Stop.Device d)
             → FaultRose d (S.state site.old) (S.state site.new) }
         ensures foreign { (groups : List (List Frame))
-            → Fits self.old (S.state site.old) → Holds self.old (S.state site.old).image groups
+            → Matches self.old (S.state site.old) → Represents self.old (S.state site.old).image groups
             → IsErrOf result Stop.Foreign → ⊥ }
         ensures stops { IfErr result (λ stop. (stop ≡ Stop.Device Dev.Flash)
             ⊎ ((stop ≡ Stop.Device Dev.Disk)
@@ -330,7 +331,7 @@ impl FlashCache {
 
     // The same where no segment is due, but that an error doesn't end the cache.
     fn push<S: Site>(&mut self, site: &mut S, plan: &Plan, given: &Given) -> Result<(), Stop>
-        requires going { MayGoOn self.old (S.state site.old) }
+        requires going { Invariant self.old (S.state site.old) }
         requires none_due { is_due self.old.ring.hi self.old.segments.hi ≡ false }
         requires chances { plan.now.chances ≡ map (λ f. f.0) (chance_marks self.old) }
         requires staged { plan.now.staged ≡ map (λ f. f.0) (staged_marks self.old) }
@@ -345,24 +346,24 @@ impl FlashCache {
             given.now.contents.now) }
 
         ensures any_moment { (groups : List (List Frame))
-            → Fits self.old (S.state site.old) → Holds self.old (S.state site.old).image groups
+            → Matches self.old (S.state site.old) → Represents self.old (S.state site.old).image groups
             → IsQuiet (S.state site.old)
             → LeavesOnly (S.state site.old) (S.state site.new) (LeavesPush self.old.geometry
             (staged_pages self.old) (staged_contents self.old groups)
             (group (frames_pushed self.old (S.state site.old).image
             given.now.pages.now given.now.changed.now given.now.contents.now)) (S.state site.old)) }
         ensures reaches { (groups : List (List Frame))
-            → Fits self.old (S.state site.old) → Holds self.old (S.state site.old).image groups
+            → Matches self.old (S.state site.old) → Represents self.old (S.state site.old).image groups
             → OnOk result (Reaches self.old.geometry (changes_of_push (staged_pages self.old)
             (group (frames_pushed self.old (S.state site.old).image
             given.now.pages.now given.now.changed.now given.now.contents.now)))
             (S.state site.old).image (S.state site.new).image) }
         ensures staged { (groups : List (List Frame))
-            → Fits self.old (S.state site.old) → Holds self.old (S.state site.old).image groups
+            → Matches self.old (S.state site.old) → Represents self.old (S.state site.old).image groups
             → OnOk result (HasStaged (staged_pages self.old) (staged_contents self.old groups)
             (S.state site.old).image.disk (S.state site.new).image.disk) }
         ensures frames { (groups : List (List Frame))
-            → Fits self.old (S.state site.old) → Holds self.old (S.state site.old).image groups
+            → Matches self.old (S.state site.old) → Represents self.old (S.state site.old).image groups
             → let frames = frames_pushed self.old (S.state site.old).image
             given.now.pages.now given.now.changed.now given.now.contents.now in
             HasFrames self.old.geometry frames (group frames) }
@@ -370,7 +371,7 @@ impl FlashCache {
             → ChangesPages (S.state site.old) (S.state site.new) }
         ensures alone { IsTrue (S.state site.old).honest → staged_pages self.old ≡ []
             → Untouched Dev.Disk (S.state site.old) (S.state site.new) }
-        ensures fits { Fits self.old (S.state site.old) → OnOk result (Fits self.new (S.state site.new)) }
+        ensures fits { Matches self.old (S.state site.old) → OnOk result (Matches self.new (S.state site.new)) }
         ensures quiet { IsTrue (S.state site.old).honest → IsQuiet (S.state site.old)
             → OnOk result (IsQuiet (S.state site.new)) }
         ensures quiet_err { IsTrue (S.state site.old).honest → IsQuiet (S.state site.old)
@@ -380,10 +381,10 @@ impl FlashCache {
         ensures directory { OnOk result (self.new.directory
             ≡ pushed_queue self.old (known_pushed self.old given.now.pages.now given.now.changed.now)) }
         ensures kept { OnErr result (self.new.directory ≡ self.old.directory) }
-        ensures going { MayGoOn self.new (S.state site.new) }
+        ensures going { Invariant self.new (S.state site.new) }
         ensures geometry { self.new.geometry ≡ self.old.geometry }
         ensures ended { self.new.ended ≡ self.old.ended }
-        ensures goes { Goes (S.state site.old) (S.state site.new) }
+        ensures goes { Preserves (S.state site.old) (S.state site.new) }
         ensures faults { WorkFaults result (S.state site.old) (S.state site.new) }
         ensures reads { (S.state site.new).flash_reads ≤ (S.state site.old).flash_reads + 8 }
         ensures others { (d : Dev) → d ≢ Dev.Flash
@@ -391,7 +392,7 @@ impl FlashCache {
 
         // When each answer comes.
         ensures worn { IsErrOf result (Stop.Worn Dev.Flash) → self.old.ring.hi ≡ 2 ^ 40 }
-        ensures worn_end { Fits self.old (S.state site.old) → IsErrOf result (Stop.Worn Dev.Flash)
+        ensures worn_end { Matches self.old (S.state site.old) → IsErrOf result (Stop.Worn Dev.Flash)
             → IsWorn self.old.geometry (S.state site.new).image }
         ensures never_past { self.old.ring.hi ≡ 2 ^ 40 → OnOk result ⊥ }
         ensures device { (d : Dev) → IsErrOf result (Stop.Device d)
@@ -427,7 +428,7 @@ impl FlashCache {
         content: &[u8],
         heads: &[FrameHead; 8],
     ) -> Result<(), Stop>
-        requires going { MayGoOn self.old (S.state site.old) }
+        requires going { Invariant self.old (S.state site.old) }
         requires none_due { is_due self.old.ring.hi self.old.segments.hi ≡ false }
         requires lists { length octets.now ≡ length staged.now }
         requires once { AllPairs (λ a b. a ≢ b) staged.now }
@@ -436,19 +437,19 @@ impl FlashCache {
         requires heads { AreGroupHeads heads.now }
         requires exist { PagesExist self.old.geometry.pages heads.now }
 
-        ensures any_moment { Fits self.old (S.state site.old) → IsQuiet (S.state site.old)
+        ensures any_moment { Matches self.old (S.state site.old) → IsQuiet (S.state site.old)
             → LeavesOnly (S.state site.old) (S.state site.new) (LeavesPush self.old.geometry
             staged.now octets.now content.now (S.state site.old)) }
-        ensures reaches { Fits self.old (S.state site.old)
+        ensures reaches { Matches self.old (S.state site.old)
             → OnOk result (Reaches self.old.geometry (changes_of_push staged.now content.now)
             (S.state site.old).image (S.state site.new).image) }
-        ensures staged { Fits self.old (S.state site.old) → OnOk result (HasStaged staged.now octets.now
+        ensures staged { Matches self.old (S.state site.old) → OnOk result (HasStaged staged.now octets.now
             (S.state site.old).image.disk (S.state site.new).image.disk) }
         ensures changes { IsTrue (S.state site.old).honest
             → ChangesPages (S.state site.old) (S.state site.new) }
         ensures alone { IsTrue (S.state site.old).honest → staged.now ≡ []
             → Untouched Dev.Disk (S.state site.old) (S.state site.new) }
-        ensures fits { Fits self.old (S.state site.old) → OnOk result (Fits self.new (S.state site.new)) }
+        ensures fits { Matches self.old (S.state site.old) → OnOk result (Matches self.new (S.state site.new)) }
         ensures quiet { IsTrue (S.state site.old).honest → IsQuiet (S.state site.old)
             → OnOk result (IsQuiet (S.state site.new)) }
         ensures quiet_err { IsTrue (S.state site.old).honest → IsQuiet (S.state site.old)
@@ -457,16 +458,16 @@ impl FlashCache {
         // Of every site.
         ensures ok { OnOk result (self.new.directory ≡ pushed_queue self.old (frames_in heads.now)) }
         ensures kept { OnErr result (self.new.directory ≡ self.old.directory) }
-        ensures going { MayGoOn self.new (S.state site.new) }
+        ensures going { Invariant self.new (S.state site.new) }
         ensures geometry { self.new.geometry ≡ self.old.geometry }
         ensures ended { self.new.ended ≡ self.old.ended }
-        ensures goes { Goes (S.state site.old) (S.state site.new) }
+        ensures goes { Preserves (S.state site.old) (S.state site.new) }
         ensures faults { WorkFaults result (S.state site.old) (S.state site.new) }
         ensures reads { SameReads (S.state site.old) (S.state site.new) }
 
         // When each answer comes.
         ensures worn { IsErrOf result (Stop.Worn Dev.Flash) → self.old.ring.hi ≡ 2 ^ 40 }
-        ensures worn_end { Fits self.old (S.state site.old) → IsErrOf result (Stop.Worn Dev.Flash)
+        ensures worn_end { Matches self.old (S.state site.old) → IsErrOf result (Stop.Worn Dev.Flash)
             → IsWorn self.old.geometry (S.state site.new).image }
         ensures never_past { self.old.ring.hi ≡ 2 ^ 40 → OnOk result ⊥ }
         ensures device { (d : Dev) → IsErrOf result (Stop.Device d)
@@ -488,20 +489,20 @@ impl FlashCache {
         content: &[u8],
         heads: &[FrameHead; 8],
     ) -> Result<(), Stop>
-        requires going { MayGoOn self.old (S.state site.old) }
+        requires going { Invariant self.old (S.state site.old) }
         requires none_due { is_due self.old.ring.hi self.old.segments.hi ≡ false }
         requires room { length content.now ≡ 32896 }
         requires heads { AreGroupHeads heads.now }
         requires exist { PagesExist self.old.geometry.pages heads.now }
 
-        ensures any_moment { Fits self.old (S.state site.old) → IsSettled Dev.Flash (S.state site.old)
+        ensures any_moment { Matches self.old (S.state site.old) → IsSettled Dev.Flash (S.state site.old)
             → LeavesOnly (S.state site.old) (S.state site.new) (LeavesOldOrNew
             (group_shape self.old.geometry) (S.state site.old).image.flash content.now) }
         ensures changes { IsTrue (S.state site.old).honest
             → ChangesOnly Dev.Flash (S.state site.old) (S.state site.new) }
-        ensures appends { Fits self.old (S.state site.old) → OnOk result (Appends self.old.geometry
+        ensures appends { Matches self.old (S.state site.old) → OnOk result (Appends self.old.geometry
             GroupRing content.now (S.state site.old).image (S.state site.new).image) }
-        ensures fits { Fits self.old (S.state site.old) → OnOk result (Fits self.new (S.state site.new)) }
+        ensures fits { Matches self.old (S.state site.old) → OnOk result (Matches self.new (S.state site.new)) }
         ensures quiet { IsTrue (S.state site.old).honest → IsQuiet (S.state site.old)
             → OnOk result (IsQuiet (S.state site.new)) }
         ensures quiet_err { IsTrue (S.state site.old).honest → IsQuiet (S.state site.old)
@@ -510,16 +511,16 @@ impl FlashCache {
         // Of every site.
         ensures ok { OnOk result (self.new.directory ≡ pushed_queue self.old (frames_in heads.now)) }
         ensures kept { OnErr result (self.new.directory ≡ self.old.directory) }
-        ensures going { MayGoOn self.new (S.state site.new) }
+        ensures going { Invariant self.new (S.state site.new) }
         ensures geometry { self.new.geometry ≡ self.old.geometry }
         ensures ended { self.new.ended ≡ self.old.ended }
-        ensures goes { Goes (S.state site.old) (S.state site.new) }
+        ensures goes { Preserves (S.state site.old) (S.state site.new) }
         ensures faults { WorkFaults result (S.state site.old) (S.state site.new) }
         ensures reads { SameReads (S.state site.old) (S.state site.new) }
 
         // When each answer comes.
         ensures worn { IsErrOf result (Stop.Worn Dev.Flash) → self.old.ring.hi ≡ 2 ^ 40 }
-        ensures worn_end { Fits self.old (S.state site.old) → IsErrOf result (Stop.Worn Dev.Flash)
+        ensures worn_end { Matches self.old (S.state site.old) → IsErrOf result (Stop.Worn Dev.Flash)
             → IsWorn self.old.geometry (S.state site.new).image }
         ensures never_past { self.old.ring.hi ≡ 2 ^ 40 → OnOk result ⊥ }
         ensures device { IsErrOf result (Stop.Device Dev.Flash)

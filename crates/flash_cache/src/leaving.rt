@@ -5,10 +5,10 @@ ghost use Rattle.std.specs.List.{All};
 ghost use Rattle.site.specs.declared.outside.Dev.{Dev};
 ghost use Rattle.site.specs.declared.outside.Stop.{Stop};
 ghost use Rattle.site.specs.State.{reads_of};
-ghost use Rattle.site.specs.Calls.{Goes, FaultRose, IsUnchanged};
+ghost use Rattle.site.specs.Calls.{Preserves, FaultRose, IsUnchanged};
 ghost use Rattle.site.specs.Faults.{WorkFaults};
 ghost use Rattle.sealed_ring.specs.Ring.{IsLive, unit_at};
-ghost use Rattle.sealed_ring.specs.Ready.{units_in, IsUsable, Fits as RingFits};
+ghost use Rattle.sealed_ring.specs.Ready.{units_in, IsUsable, Matches as RingFits};
 ghost use Rattle.second_chance.specs.Queue.{front_marks};
 ghost use Rattle.flash_cache.specs.Leaving.{mark_at, page_at, AreAt};
 
@@ -66,7 +66,7 @@ pub fn frames_leaving<S: Site>(
         (units_in ring.now.shape (S.state site.old)) directory.now.first)) plan.now.chances) }
     ensures same { IsTrue (S.state site.old).honest
         → IsUnchanged (S.state site.old) (S.state site.new) }
-    ensures goes { Goes (S.state site.old) (S.state site.new) }
+    ensures goes { Preserves (S.state site.old) (S.state site.new) }
     ensures faults { WorkFaults result (S.state site.old) (S.state site.new) }
     ensures reads { (S.state site.new).flash_reads
         ≤ (S.state site.old).flash_reads + length plan.now.staged + length plan.now.chances }
@@ -109,7 +109,7 @@ fn frames_at<S: Site>(
         (units_in ring.now.shape (S.state site.old)) directory.now.first)) places.now) }
     ensures same { IsTrue (S.state site.old).honest
         → IsUnchanged (S.state site.old) (S.state site.new) }
-    ensures goes { Goes (S.state site.old) (S.state site.new) }
+    ensures goes { Preserves (S.state site.old) (S.state site.new) }
     ensures faults { WorkFaults result (S.state site.old) (S.state site.new) }
     ensures reads { (S.state site.new).flash_reads
         ≤ (S.state site.old).flash_reads + length places.now }
@@ -182,7 +182,7 @@ fn contents_at<S: Site>(
     ensures count { IfOk result (λ list. length list.items ≡ length places.now) }
     ensures same { IsTrue (S.state site.old).honest
         → IsUnchanged (S.state site.old) (S.state site.new) }
-    ensures goes { Goes (S.state site.old) (S.state site.new) }
+    ensures goes { Preserves (S.state site.old) (S.state site.new) }
     ensures faults { WorkFaults result (S.state site.old) (S.state site.new) }
     ensures reads { (S.state site.new).flash_reads
         ≤ (S.state site.old).flash_reads + length places.now }
@@ -218,7 +218,7 @@ fn read_frame<S: Site>(site: &mut S, ring: &Ring, group: u64, place: u32) -> Res
         (unit_at ring.now.shape (units_in ring.now.shape (S.state site.old)) group) place) }
     ensures same { IsTrue (S.state site.old).honest
         → IsUnchanged (S.state site.old) (S.state site.new) }
-    ensures goes { Goes (S.state site.old) (S.state site.new) }
+    ensures goes { Preserves (S.state site.old) (S.state site.new) }
     ensures faults { WorkFaults result (S.state site.old) (S.state site.new) }
     ensures reads { (S.state site.new).flash_reads ≤ (S.state site.old).flash_reads + 1 }
     ensures others { (d : Dev) → d ≢ Dev.Flash

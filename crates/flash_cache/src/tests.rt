@@ -1,7 +1,7 @@
 // Queues on a site in memory.
 ghost use Rattle.std.specs.Prelude.{◌≡◌, ◌≢◌, ◌<◌, ◌≤◌, length, AllPairs, IfOk};
 ghost use Rattle.std.specs.List.{All};
-ghost use Rattle.flash_cache.specs.Held.{MayGoOn};
+ghost use Rattle.flash_cache.specs.Representation.{Invariant};
 ghost use Rattle.flash_cache.specs.Trying.{IsSmall, small};
 ghost use Rattle.site.specs.Geometry.{HasLengths};
 ghost use Rattle.site.specs.MemState.{state_of};
@@ -157,14 +157,14 @@ fn push(
     changed: &[bool],
     contents: &[Page],
 ) -> Result<(), Stop>
-    requires going { MayGoOn cache.old (state_of site.old) }
+    requires going { Invariant cache.old (state_of site.old) }
     requires marks { length changed.now ≡ length pages.now }
     requires lists { length contents.now ≡ length pages.now }
     requires some { 1 ≤ length pages.now }
     requires exist { All (λ page. page < cache.old.geometry.pages) pages.now }
     requires apart { AllPairs (λ a b. a ≢ b) pages.now }
 
-    ensures going { MayGoOn cache.new (state_of site.new) }
+    ensures going { Invariant cache.new (state_of site.new) }
     ensures geometry { cache.new.geometry ≡ cache.old.geometry }
 {
     let mut marks = [NO_MARK; 8];
@@ -186,11 +186,11 @@ fn push_one(
     changed: bool,
     octet: u8,
 ) -> Result<(), Stop>
-    requires going { MayGoOn cache.old (state_of site.old) }
+    requires going { Invariant cache.old (state_of site.old) }
     requires geometry { cache.old.geometry ≡ small }
     requires page { page < 16 }
 
-    ensures going { MayGoOn cache.new (state_of site.new) }
+    ensures going { Invariant cache.new (state_of site.new) }
     ensures geometry { cache.new.geometry ≡ small }
 {
     push(cache, site, &[page], &[changed], &[filled(octet)])
@@ -198,11 +198,11 @@ fn push_one(
 
 // Pushes pages one by one, each dirty and with its number as each octet.
 fn push_run(cache: &mut FlashCache, site: &mut MemSite, from: u32, end: u32) -> Result<(), Stop>
-    requires going { MayGoOn cache.old (state_of site.old) }
+    requires going { Invariant cache.old (state_of site.old) }
     requires geometry { cache.old.geometry ≡ small }
     requires end { end ≤ 16 }
 
-    ensures going { MayGoOn cache.new (state_of site.new) }
+    ensures going { Invariant cache.new (state_of site.new) }
     ensures geometry { cache.new.geometry ≡ small }
 {
     for page in from..end {
@@ -213,7 +213,7 @@ fn push_run(cache: &mut FlashCache, site: &mut MemSite, from: u32, end: u32) -> 
 
 // A full queue of seven groups. Each has one page, 3 to 9, which is dirty, and all of whose octets are its number.
 fn full_queue(alloc: Global) -> Result<(FlashCache, MemSite), Stop>
-    ensures going { IfOk result (λ both. MayGoOn both.0 (state_of both.1)) }
+    ensures going { IfOk result (λ both. Invariant both.0 (state_of both.1)) }
     ensures geometry { IfOk result (λ both. both.0.geometry ≡ small) }
 {
     let mut site = MemSite::new(alloc, &SMALL)?;
@@ -229,11 +229,11 @@ fn has_version(
     page: u32,
     octet: u8,
 ) -> Result<bool, Stop>
-    requires going { MayGoOn cache.old (state_of site.old) }
+    requires going { Invariant cache.old (state_of site.old) }
     requires geometry { cache.old.geometry ≡ small }
     requires page { page < 16 }
 
-    ensures going { MayGoOn cache.new (state_of site.new) }
+    ensures going { Invariant cache.new (state_of site.new) }
     ensures geometry { cache.new.geometry ≡ small }
 {
     let mut found = Page::empty();
@@ -247,10 +247,10 @@ fn has_version(
 
 // Whether the version of each page 3 to 9 has its number as each octet.
 fn have_versions(cache: &mut FlashCache, site: &mut MemSite) -> Result<bool, Stop>
-    requires going { MayGoOn cache.old (state_of site.old) }
+    requires going { Invariant cache.old (state_of site.old) }
     requires geometry { cache.old.geometry ≡ small }
 
-    ensures going { MayGoOn cache.new (state_of site.new) }
+    ensures going { Invariant cache.new (state_of site.new) }
     ensures geometry { cache.new.geometry ≡ small }
 {
     for page in 3..10 {

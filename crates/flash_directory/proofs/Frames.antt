@@ -5,7 +5,7 @@ use Rattle.std.specs.List.{refill}
 use Rattle.std.specs.Option.{option_or}
 use Rattle.std.proofs.Math.Seq.{drop-cons}
 use Rattle.std.proofs.Math.ListN.{length-set}
-use Rattle.std.proofs.lemmas.List.{take_all}
+use Rattle.std.proofs.lemmas.List.{take_all, drop_all}
 use Rattle.std.proofs.lemmas.List.Sums.{take_while-cons}
 use Rattle.byte_fields.specs.declared.frame_head.FrameHead.{FrameHead}
 use Rattle.second_chance.specs.declared.frame.Frame.{Frame}
@@ -32,12 +32,6 @@ pub frames_end : (heads : List FrameHead) (so_far : List Frame) (i : ℕ) (d : F
     → frames_in heads ≡ so_far ++ frames_in (drop i heads) → (get_or heads i d).present ≡ false → so_far ≡ frames_in heads
 frames_end heads so_far i d less is absent =
     sym (is ∙ ap (λ l. so_far ++ frames_in l) (drop-cons heads i d less) ∙ ap (λ l. so_far ++ l) (frames_in-cons false (get_or heads i d) (drop (suc i) heads) absent) ∙ append-nil so_far)
-
-drop_all : {X : Type 0} (i : ℕ) (xs : List X) → length xs ≤ i → drop i xs ≡ []
-drop_all zero [] all = refl
-drop_all (suc i) [] all = refl
-drop_all zero (x ∷ xs) all = absurd (omega (arith, all))
-drop_all (suc i) (x ∷ xs) all = drop_all i xs (omega (arith, all))
 
 pub frames_all : (heads : List FrameHead) (so_far : List Frame) (i : ℕ) → length heads ≤ i
     → frames_in heads ≡ so_far ++ frames_in (drop i heads) → so_far ≡ frames_in heads

@@ -3,6 +3,8 @@ use Rattle.std.proofs.Common.{◌≡◌, ℕ, zero, suc, ◌+◌, ◌-◌, ◌<�
 use Rattle.std.specs.Option.{option_or}
 use Rattle.std.proofs.lemmas.Option.{none-some, same_Some}
 use Rattle.std.proofs.lemmas.Bool.{eq-eqb, ne_eqb, cond-true, true≢false}
+use Rattle.std_lemmas.proofs.Options.{option_or_none, none_if_no_some, some_mapped}
+use Rattle.std_lemmas.proofs.Bools.{same_bools}
 use Rattle.second_chance.specs.declared.frame.Frame.{Frame}
 use Rattle.second_chance.specs.Queue.{Queue, in_group, in_groups, is_last, groups_read, group_read}
 use Rattle.flash_directory.specs.declared.place.Place.{Place}
@@ -35,10 +37,6 @@ from_first number (Some q) p is =
 pub not_before : (number : ℕ) (groups : List (List Frame)) (page : ℕ) (p : Place) → last_among number groups page ≡ Some p → number ≤ p.group
 not_before number groups page p is = from_first number (last_place groups page) p (sym (last_among-place number groups page) ∙ is)
 
-some_mapped : {X Y : Type 0} (f : X → Y) (o : Option X) → is_some (option_map f o) ≡ is_some o
-some_mapped f None = refl
-some_mapped f (Some x) = refl
-
 pub some_newest : (q : Queue) (page : ℕ) → is_some (newest q page) ≡ in_groups q.groups page
 some_newest q page = ap is_some (last_among-place q.first q.groups page) ∙ some_mapped (placed q.first) (last_place q.groups page) ∙ some_last_place q.groups page
 
@@ -55,13 +53,9 @@ or_or : {X : Type 0} (a b c : Option X) → option_or a (option_or b c) ≡ opti
 or_or None b c = refl
 or_or (Some x) b c = refl
 
-or_none : {X : Type 0} (o : Option X) → option_or o None ≡ o
-or_none None = refl
-or_none (Some x) = refl
-
 pub newest_pushed : (number : ℕ) (groups : List (List Frame)) (group : List Frame) (page : ℕ)
     → last_among number (groups ++ group ∷ []) page ≡ newer (number + length groups) group page (last_among number groups page)
-newest_pushed number [] group page = ap (λ n. option_map (place_in n) (last_in 0 group page)) here ∙ sym (or_none _)
+newest_pushed number [] group page = ap (λ n. option_map (place_in n) (last_in 0 group page)) here ∙ sym (option_or_none _)
   where
     here : number ≡ number + 0
     here = omega arith
@@ -137,10 +131,6 @@ last_there n (frame ∷ frames) (suc j) d page less is none =
     ap (λ o. option_or o (cond (frame.page == page) (Some n) None)) (last_there (n + 1) frames j d page (omega (arith, less)) is none)
     ∙ ap Some (omega arith)
 
-none_if : {X : Type 0} (o : Option X) → is_some o ≡ false → o ≡ None
-none_if None is = refl
-none_if (Some x) is = absurd (true≢false is)
-
 pub is_newest_here : (q : Queue) (k j : ℕ) (d : List Frame) (e : Frame) → k < length q.groups → j < length (get_or q.groups k d)
     → is_last (drop (j + 1) (get_or q.groups k d)) (drop (k + 1) q.groups) (get_or (get_or q.groups k d) j e) ≡ true
     → newest q (get_or (get_or q.groups k d) j e).page ≡ Some (place_in (q.first + k) j)
@@ -150,7 +140,7 @@ is_newest_here q k j d e less within is =
     let none = neither (in_group (drop (j + 1) group) page) (in_groups (drop (k + 1) q.groups) page) is in
     let here : last_in 0 group page ≡ Some j = last_there 0 group j e page within refl (ap (λ n. in_group (drop n group) page) (sym (add-one j)) ∙ none.0) ∙ ap Some (omega arith) in
     last_among-place q.first q.groups page
-    ∙ ap (option_map (placed q.first)) (found_here q.groups k d page j less (none_if _ (some_last_place (drop (k + 1) q.groups) page ∙ none.1)) here)
+    ∙ ap (option_map (placed q.first)) (found_here q.groups k d page j less (none_if_no_some _ (some_last_place (drop (k + 1) q.groups) page ∙ none.1)) here)
   where
     neither : (a b : Bool) → not (a || b) ≡ true → (a ≡ false) × (b ≡ false)
     neither true b says = absurd (true≢false (sym says))
@@ -168,11 +158,6 @@ newest_here_is q k j d frame is =
     let last : IsLastHere (get_or q.groups k d) page j = last_here 0 (get_or q.groups k d) page j (place.frame ∙ ap Some (omega arith)) in
     ap not (ap (λ b. b || in_groups (drop (k + 1) q.groups) page) (ap (λ n. in_group (drop n (get_or q.groups k d)) page) (add-one j) ∙ last.behind)
     ∙ ap (λ n. in_groups (drop n q.groups) page) (add-one k) ∙ later_none q.groups page k j at)
-
-same_bools : (a b : Bool) → (a ≡ true → b ≡ true) → (b ≡ true → a ≡ true) → a ≡ b
-same_bools true b to from = sym (to refl)
-same_bools false true to from = from refl
-same_bools false false to from = refl
 
 pub valid_here : (q : Queue) (k j : ℕ) (d : List Frame) (e : Frame) (tells : Bool) → k < length q.groups → j < length (get_or q.groups k d)
     → (IsTrue tells ↔ (newest q (get_or (get_or q.groups k d) j e).page ≡ Some (place_in (q.first + k) j)))

@@ -3,6 +3,7 @@ use Rattle.std.proofs.Common.{◌≡◌, ℕ, zero, suc, ◌+◌, ◌<◌, ◌�
 use Rattle.std.specs.Option.{option_or}
 use Rattle.std.specs.List.{AllByRecursion}
 use Rattle.std.proofs.lemmas.Option.{none-some, same_Some}
+use Rattle.std_lemmas.proofs.Options.{some_mapped}
 use Rattle.second_chance.specs.declared.frame.Frame.{Frame}
 use Rattle.second_chance.specs.Queue.{in_group, in_groups}
 use Rattle.flash_directory.specs.declared.place.Place.{Place}
@@ -15,10 +16,6 @@ some_or None None = refl
 some_or None (Some y) = refl
 some_or (Some x) None = refl
 some_or (Some x) (Some y) = refl
-
-some_map : {X Y : Type 0} (f : X → Y) (o : Option X) → is_some (option_map f o) ≡ is_some o
-some_map f None = refl
-some_map f (Some x) = refl
 
 some_cond : {X : Type 0} (b : Bool) (x : X) → is_some (cond b (Some x) None) ≡ b
 some_cond true x = refl
@@ -35,8 +32,8 @@ pub some_last_place : (groups : List (List Frame)) (page : ℕ) → is_some (las
 some_last_place [] page = refl
 some_last_place (group ∷ later) page =
     some_or (option_map in_next (last_place later page)) (option_map in_first (last_in 0 group page))
-    ∙ ap (λ b. b || is_some (option_map in_next (last_place later page))) (some_map _ (last_in 0 group page) ∙ some_last_in 0 group page)
-    ∙ ap (λ b. in_group group page || b) (some_map _ (last_place later page) ∙ some_last_place later page)
+    ∙ ap (λ b. b || is_some (option_map in_next (last_place later page))) (some_mapped _ (last_in 0 group page) ∙ some_last_in 0 group page)
+    ∙ ap (λ b. in_group group page || b) (some_mapped _ (last_place later page) ∙ some_last_place later page)
 
 -- By group numbers.
 
@@ -58,10 +55,6 @@ last_among-place number (group ∷ later) page =
     ∙ numbered number (last_place later page) (last_in 0 group page)
 
 -- The search from the last group on.
-
-none_or : {X : Type 0} (o p : Option X) → o ≡ None → option_or o p ≡ p
-none_or None p is = refl
-none_or (Some x) p is = absurd (none-some x (sym is))
 
 -- no group from here on has the page, if the next ones haven't and this one hasn't
 found_at : (groups : List (List Frame)) (k : ℕ) (d : List Frame) (page index : ℕ) → k < length groups

@@ -5,18 +5,12 @@ use Rattle.std.specs.List.{AllByRecursion}
 use Rattle.std.proofs.Math.Bool.{or-false}
 use Rattle.std.proofs.lemmas.Option.{none-some, same_Some}
 use Rattle.std.proofs.lemmas.Bool.{eqb-true}
+use Rattle.std_lemmas.proofs.Bools.{and_false, or_true}
 use Rattle.second_chance.specs.declared.frame.Frame.{Frame}
 use Rattle.second_chance.specs.Queue.{in_group, in_groups, is_last, group_read, groups_read}
 use Rattle.flash_directory.specs.Heads.{last_in, last_place, in_first, in_next, read_at}
 use Rattle.flash_directory.proofs.Newest.{some_last_in, some_last_place, last_bound}
-
-or_true : (b : Bool) → (b || true) ≡ true
-or_true true = refl
-or_true false = refl
-
-or_parts_false : (a b : Bool) → (a || b) ≡ false → (a ≡ false) × (b ≡ false)
-or_parts_false true b is = absurd cc
-or_parts_false false b is = (refl, is)
+use Rattle.second_chance.proofs.Unread.{group_read_none, groups_read_none}
 
 reads_last : (page : ℕ) (behind : List Frame) (later : List (List Frame)) (frame : Frame)
     → (frame.page == page && is_last behind later frame) ≡ (frame.page == page && not (in_group behind page || in_groups later page))
@@ -31,18 +25,6 @@ not_read frame b is = ap (λ r. record frame { referenced = r }) (ap (λ c. fram
 
 is_read : (frame : Frame) (b : Bool) → b ≡ true → ◌≡◌ {A = Frame} (record frame { referenced = frame.referenced || b }) (record frame { referenced = true })
 is_read frame b is = ap (λ r. record frame { referenced = r }) (ap (λ c. frame.referenced || c) is ∙ or_true frame.referenced)
-
-and_false : (b : Bool) → (b && false) ≡ false
-and_false true = refl
-and_false false = refl
-
--- a group without the page, and one with frames of the page behind it, stay
-pub group_read_none : (page : ℕ) (group : List Frame) (later : List (List Frame)) → in_group group page ≡ false → group_read page group later ≡ group
-group_read_none page [] later none = refl
-group_read_none page (frame ∷ behind) later none =
-    let parts = or_parts_false (frame.page == page) (in_group behind page) none in
-    ap (λ f. f ∷ group_read page behind later) (not_read frame _ (ap (λ b. b && is_last behind later frame) parts.0))
-    ∙ ap (λ l. frame ∷ l) (group_read_none page behind later parts.1)
 
 pub group_read_later : (page : ℕ) (group : List Frame) (later : List (List Frame)) → in_groups later page ≡ true → group_read page group later ≡ group
 group_read_later page [] later some = refl
@@ -86,12 +68,6 @@ group_read_last page (frame ∷ behind) later n j none is = by (last_in (n + 1) 
         behind_last j k (same_Some k (n + j) same) ((last_bound (n + 1) behind page k here).0) (sym (some_last_in (n + 1) behind page) ∙ ap is_some here)
         (λ i' is_k. rest i' (here ∙ ap Some is_k))
 
-pub groups_read_none : (page : ℕ) (groups : List (List Frame)) → in_groups groups page ≡ false → groups_read page groups ≡ groups
-groups_read_none page [] none = refl
-groups_read_none page (group ∷ later) none =
-    let parts = or_parts_false (in_group group page) (in_groups later page) none in
-    ap (λ g. g ∷ groups_read page later) (group_read_none page group later parts.0) ∙ ap (λ l. group ∷ l) (groups_read_none page later parts.1)
-
 -- a read sets one frame's mark
 pub groups_read_at : (page : ℕ) (groups : List (List Frame)) (k j : ℕ) (d : List Frame) → last_place groups page ≡ Some (k, j)
     → set groups k (read_at j (get_or groups k d)) ≡ groups_read page groups
@@ -129,10 +105,6 @@ length-read_at (suc j) (frame ∷ behind) = ap suc (length-read_at j behind)
 pub length-group_read : (page : ℕ) (group : List Frame) (later : List (List Frame)) → length (group_read page group later) ≡ length group
 length-group_read page [] later = refl
 length-group_read page (frame ∷ behind) later = ap suc (length-group_read page behind later)
-
-pub length-groups_read : (page : ℕ) (groups : List (List Frame)) → length (groups_read page groups) ≡ length groups
-length-groups_read page [] = refl
-length-groups_read page (group ∷ later) = ap suc (length-groups_read page later)
 
 pub sizes_read : (page : ℕ) (groups : List (List Frame)) → AllByRecursion (λ group. (1 ≤ length group) × (length group ≤ 8)) groups
     → AllByRecursion (λ group. (1 ≤ length group) × (length group ≤ 8)) (groups_read page groups)

@@ -12,11 +12,11 @@ pub length_heads : (frames : List Frame) → length frames ≤ 8 → length (hea
 length_heads frames room =
     omega (arith, length-append (map head_of frames) (replicate (8 - length frames) blank), length-map frames head_of, length-replicate (8 - length frames) blank, room)
 
-none_present : (n : ℕ) → present_in_front (replicate n blank) ≡ 0
+pub none_present : (n : ℕ) → present_in_front (replicate n blank) ≡ 0
 none_present zero = refl
 none_present (suc n) = refl
 
-front_present : (frames : List Frame) (n : ℕ) → present_in_front (map head_of frames ++ replicate n blank) ≡ length frames
+pub front_present : (frames : List Frame) (n : ℕ) → present_in_front (map head_of frames ++ replicate n blank) ≡ length frames
 front_present [] n = none_present n
 front_present (frame ∷ frames) n = ap (λ (k : ℕ). 1 + k) (front_present frames n) ∙ omega arith
 

@@ -1,39 +1,29 @@
 -- The last frame of a page, and what pushing and dropping a group make of it.
-use Rattle.std.proofs.Common.{◌≡◌, ℕ, zero, suc, ◌⊎◌, inl, inr, ⊎_elim, Bool, true, false, cond, List, [], ◌∷◌, Some, None, refl, sym, ap, ◌∙◌, arith}
+use Rattle.std.proofs.Common.{◌≡◌, ℕ, zero, suc, ⊎_elim, true, false, cond, List, [], ◌∷◌, Some, None, refl, sym, ap, subst, ◌∙◌, arith}
 use Rattle.std.specs.Prelude.{Option, ◌==◌}
 use Rattle.std.specs.Option.{option_or}
-use Rattle.std.proofs.lemmas.Bool.{eqb-true, eq-eqb, ne_eqb}
-use Rattle.std.proofs.lemmas.Option.{cond_some}
+use Rattle.std.specs.List.{AllByRecursion}
+use Rattle.std.proofs.lemmas.Bool.{eqb-true, eq-eqb, ne_eqb, cases_Bool}
+use Rattle.std.proofs.lemmas.Option.{cond_some, none-some}
+use Rattle.std_lemmas.proofs.Options.{option_or_none, option_or_assoc, option_or_some}
 use Rattle.frame_group.specs.Groups.{Frame}
 use Rattle.frame_group.specs.Versions.{last_frame, version_by}
 use Rattle.frame_group.specs.Laws.{LastOfBoth, LastIsOfPage, LastByIndex, NoneByIndex, NewVersion, OtherVersions, PushKeepsClean, DropKeepsVersion, DropKeepsClean}
-
-or_none : {A : Type 0} (a : Option A) → option_or a None ≡ a
-or_none None = refl
-or_none (Some x) = refl
-
-or_assoc : {A : Type 0} (a b c : Option A) → option_or (option_or a b) c ≡ option_or a (option_or b c)
-or_assoc None b c = refl
-or_assoc (Some x) b c = refl
-
-or_some : {A : Type 0} (a b : Option A) (x : A) → option_or a b ≡ Some x → (a ≡ Some x) ⊎ ((a ≡ None) × (b ≡ Some x))
-or_some None b x e = inr (refl, e)
-or_some (Some y) b x e = inl e
 
 abbrev one : ℕ → Frame → Option Frame
 one page frame = cond (frame.page == page) (Some frame) None
 
 pub last_of_both : LastOfBoth
-last_of_both page [] newer = sym (or_none (last_frame page newer))
+last_of_both page [] newer = sym (option_or_none (last_frame page newer))
 last_of_both page (frame ∷ older) newer =
-    ap (λ (o : Option Frame). option_or o (one page frame)) (last_of_both page older newer) ∙ or_assoc (last_frame page newer) (last_frame page older) (one page frame)
+    ap (λ (o : Option Frame). option_or o (one page frame)) (last_of_both page older newer) ∙ option_or_assoc (last_frame page newer) (last_frame page older) (one page frame)
 
 pub last_is_of_page : LastIsOfPage
 last_is_of_page page [] frame e = absurd cc
 last_is_of_page page (other ∷ frames) frame e =
     ⊎_elim (λ o. last_is_of_page page frames frame o)
     (λ o. let c = cond_some (other.page == page) other frame o.1 in ap (λ (f : Frame). f.page) (sym c.1) ∙ eqb-true other.page page c.0)
-    (or_some (last_frame page frames) (one page other) frame e)
+    (option_or_some (last_frame page frames) (one page other) frame e)
 
 pub none_by_index : NoneByIndex
 none_by_index page [] d h = refl
@@ -63,18 +53,14 @@ other_versions disk frames new page e =
 pub push_keeps_clean : PushKeepsClean
 push_keeps_clean disk frames new before pushed page frame is clean =
     ⊎_elim (λ o. pushed page frame o clean) (λ o. before page frame o.1 clean)
-    (or_some (last_frame page new) (last_frame page frames) frame (sym (last_of_both page frames new) ∙ is))
-
-true_or_false : (b : Bool) → (b ≡ true) ⊎ (b ≡ false)
-true_or_false true = inl refl
-true_or_false false = inr refl
+    (option_or_some (last_frame page new) (last_frame page frames) frame (sym (last_of_both page frames new) ∙ is))
 
 drop_by : (rest front : Option Frame) (on_disk : List ℕ) → ((frame : Frame) → option_or rest front ≡ Some frame → frame.dirty ≡ false → frame.octets ≡ on_disk) →
     ((frame : Frame) → rest ≡ None → front ≡ Some frame → frame.dirty ≡ true → on_disk ≡ frame.octets) → version_by rest on_disk ≡ version_by (option_or rest front) on_disk
 drop_by (Some frame) front on_disk clean staged = refl
 drop_by None None on_disk clean staged = refl
 drop_by None (Some frame) on_disk clean staged =
-    ⊎_elim (λ dirty. staged frame refl refl dirty) (λ not_dirty. sym (clean frame refl not_dirty)) (true_or_false frame.dirty)
+    ⊎_elim (λ dirty. staged frame refl refl dirty) (λ not_dirty. sym (clean frame refl not_dirty)) (cases_Bool frame.dirty)
 
 pub drop_keeps_version : DropKeepsVersion
 drop_keeps_version disk front rest page clean staged =
@@ -85,3 +71,10 @@ drop_keeps_version disk front rest page clean staged =
 pub drop_keeps_clean : DropKeepsClean
 drop_keeps_clean disk front rest clean page frame is not_dirty =
     clean page frame (last_of_both page front rest ∙ ap (λ (o : Option Frame). option_or o (last_frame page front)) is) not_dirty
+
+-- the last frame of a page is one of the frames
+pub all_last_frame : (P : Frame → Type 0) (page : ℕ) (frames : List Frame) (frame : Frame) → AllByRecursion P frames → last_frame page frames ≡ Some frame → P frame
+all_last_frame P page [] frame all is = absurd (none-some frame is)
+all_last_frame P page (x ∷ frames) frame all is = ⊎_elim (all_last_frame P page frames frame all.1)
+    (λ own. subst P (cond_some (x.page == page) x frame own.1).1 all.0)
+    (option_or_some (last_frame page frames) (one page x) frame is)

@@ -1,5 +1,5 @@
 -- One list of changes after another.
-use Rattle.std.proofs.Common.{◌≢◌, ℕ, List, [], ◌∷◌, refl, sym, ◌∙◌, ap}
+use Rattle.std.proofs.Common.{◌≢◌, ℕ, List, [], ◌∷◌, ◌++◌, refl, sym, ◌∙◌, ap}
 use Rattle.std.specs.Prelude.{slice_index, Some}
 use Rattle.site.specs.declared.geometry.Geometry.{Geometry}
 use Rattle.site.specs.State.{Image}
@@ -9,7 +9,7 @@ use Rattle.image_changes.specs.Rings.{RingName, shape_of, KeepsUnits}
 use Rattle.image_changes.specs.Changes.{Change, ring_of, SealsBlock, RewritesPages, AppendsGroup, AppendsSegment, AppendsMaster, SameSizes, ReadsAs, Appends, Rewrites, Makes, Reaches}
 use Rattle.image_changes.specs.Laws.{ChangesAddUp, RingKept}
 
-units_then : (s : Shape) (a b c : Image) → KeepsUnits s a b → KeepsUnits s b c → KeepsUnits s a c
+pub units_then : (s : Shape) (a b c : Image) → KeepsUnits s a b → KeepsUnits s b c → KeepsUnits s a c
 units_then s a b c first second = record { units = second.units ∙ first.units; form = λ form. second.form (first.form form) }
 
 sizes_then : (a b c : Image) → SameSizes a b → SameSizes b c → SameSizes a c
@@ -74,3 +74,8 @@ pub ring_kept : RingKept
 ring_kept g ring [] a b none reads = reads.rings ring
 ring_kept g ring (change ∷ changes) a b none reaches =
     units_then (shape_of g ring) a reaches.0 b (kept_by_one g ring change a reaches.0 none.0 reaches.1) (ring_kept g ring changes reaches.0 b none.1 reaches.2)
+
+-- an image is reached by lists of changes one after the other
+pub reaches_parts : (g : Geometry) (xs ys : List Change) (a c : Image) → Reaches g (xs ++ ys) a c → (b : Image) × Reaches g xs a b × Reaches g ys b c
+reaches_parts g [] ys a c reaches = (a, reads_itself g a, reaches)
+reaches_parts g (x ∷ xs) ys a c reaches = let rest = reaches_parts g xs ys reaches.0 c reaches.2 in (rest.0, (reaches.0, reaches.1, rest.1), rest.2)

@@ -1,30 +1,21 @@
 -- The records of blocks, block by block and as one log.
-use Rattle.std.proofs.Common.{◌≡◌, ℕ, ◌+◌, ◌*◌, ◌≤◌, List, [], ◌∷◌, ◌++◌, length, take, refl, sym, ap, ◌∙◌, subst, arith}
+use Rattle.std.proofs.Common.{◌≡◌, ℕ, ◌+◌, ◌*◌, ◌≤◌, List, [], ◌∷◌, ◌++◌, length, take, refl, sym, ◌∙◌, subst, arith}
 use Rattle.std.specs.Prelude.{flat_map}
 use Rattle.std.specs.List.{AllByRecursion}
 use Rattle.std.specs.Int.{from_be_bytes, w16}
-use Rattle.std.proofs.lemmas.List.{length-append, take_at}
+use Rattle.std.proofs.lemmas.List.{length-append}
+use Rattle.std_lemmas.proofs.Lists.{front_same}
 use Rattle.log_records.specs.declared.log_record.LogRecord.{LogRecord}
 use Rattle.log_records.specs.declared.log_record.LogRecord.TheVariants.{Begin, Update, Clr, Commit, End}
-use Rattle.log_records.specs.Spelling.{spelling, used_by, HasForm, FitsFields, AreBlock, IsBlock}
+use Rattle.log_records.specs.Spelling.{spelling, used_by, HasForm, AreBlock, IsBlock}
 use Rattle.log_records.specs.Log.{Entry, Version, entries_from, log_from}
 use Rattle.log_records.specs.Sound.{IsInOrder, IsInTable}
 use Rattle.log_records.proofs.Blocks.{behind, some_octet, used_is}
-use Rattle.log_records.proofs.Records.{spelling_is_one}
 use Rattle.image_check.specs.Octets.{IsOnPage}
+use Rattle.log_records.proofs.Entries.{in_order_from}
+use Rattle.log_store.proofs.OneLog.{one_list}
 
 -- A content is the block of one list of records.
-
-one_list : (a b : List LogRecord) → AllByRecursion HasForm a → AllByRecursion FitsFields a → AllByRecursion HasForm b → AllByRecursion FitsFields b → flat_map spelling a ≡ flat_map spelling b → a ≡ b
-one_list [] [] f g f' g' same = refl
-one_list [] (x ∷ b) f g f' g' same = let some = some_octet x in let all = length-append (spelling x) (flat_map spelling b) in let none = ap length same in absurd (omega (arith, some, all, none))
-one_list (x ∷ a) [] f g f' g' same = let some = some_octet x in let all = length-append (spelling x) (flat_map spelling a) in let none = ap length same in absurd (omega (arith, some, all, none))
-one_list (x ∷ a) (y ∷ b) f g f' g' same =
-    let one = spelling_is_one x y (flat_map spelling a) (flat_map spelling b) f.0 g.0 f'.0 g'.0 same in
-    (λ i. one.0 i ∷ one_list a b f.1 g.1 f'.1 g'.1 one.1 i)
-
-front_same : (a b c d : List ℕ) → length a ≡ length b → a ++ c ≡ b ++ d → a ≡ b
-front_same a b c d size same = sym (take_at a c (length a) refl) ∙ ap (take (length a)) same ∙ take_at b d (length a) (sym size)
 
 pub one_block : (content : List ℕ) (a b : List LogRecord) → IsBlock content a → IsBlock content b → a ≡ b
 one_block content a b first second =
@@ -81,25 +72,21 @@ blocks_on_pages pages first (records ∷ blocks) all =
 
 -- Their LSNs ascend.
 
-order_weaker : (from from' : ℕ) (log : List Entry) (to : ℕ) → from' ≤ from → IsInOrder from log to → IsInOrder from' log to
-order_weaker from from' [] to less order = omega (arith, less, order)
-order_weaker from from' (e ∷ log) to less order = let first = order.0 in (omega (arith, less, first), order.1)
-
 entries_in_order : (lsn : ℕ) (records : List LogRecord) (rest : List Entry) (to : ℕ) → IsInOrder (lsn + length (flat_map spelling records)) rest to → IsInOrder lsn (entries_from lsn records ++ rest) to
-entries_in_order lsn [] rest to order = order_weaker (lsn + 0) lsn rest to (omega arith) order
+entries_in_order lsn [] rest to order = in_order_from (lsn + 0) lsn rest to (omega arith) order
 entries_in_order lsn (rec ∷ records) rest to order =
     let some = some_octet rec in
     let all = length-append (spelling rec) (flat_map spelling records) in
     let next : ℕ = lsn + length (spelling rec) in
     let end : lsn + length (flat_map spelling (rec ∷ records)) ≡ next + length (flat_map spelling records) = omega (arith, all) in
     let later = entries_in_order next records rest to (subst (λ (n : ℕ). IsInOrder n rest to) end order) in
-    (omega arith, order_weaker next (lsn + 1) (entries_from next records ++ rest) to (omega (arith, some)) later)
+    (omega arith, in_order_from next (lsn + 1) (entries_from next records ++ rest) to (omega (arith, some)) later)
 
 pub log_in_order : (first : ℕ) (blocks : List (List LogRecord)) (to : ℕ) → AllByRecursion AreBlock blocks → 512 * (first + length blocks) ≤ to → IsInOrder (512 * first) (log_from first blocks) to
 log_in_order first [] to are end = omega (arith, end)
 log_in_order first (records ∷ blocks) to are end =
     let room = are.0.room in
     let later = log_in_order (first + 1) blocks to are.1 (omega (arith, end)) in
-    order_weaker (512 * first + 2) (512 * first) (entries_from (512 * first + 2) records ++ log_from (first + 1) blocks) to (omega arith)
+    in_order_from (512 * first + 2) (512 * first) (entries_from (512 * first + 2) records ++ log_from (first + 1) blocks) to (omega arith)
     (entries_in_order (512 * first + 2) records (log_from (first + 1) blocks) to
-    (order_weaker (512 * (first + 1)) (512 * first + 2 + length (flat_map spelling records)) (log_from (first + 1) blocks) to (omega (arith, room)) later))
+    (in_order_from (512 * (first + 1)) (512 * first + 2 + length (flat_map spelling records)) (log_from (first + 1) blocks) to (omega (arith, room)) later))

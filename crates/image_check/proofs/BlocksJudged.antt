@@ -2,30 +2,30 @@
 use Rattle.std.proofs.Common.{◌≡◌, inl, inr, ℕ, ◌+◌, ◌-◌, ◌≤◌, ◌<◌, List, sym, ap, ◌∙◌, subst, arith}
 use Rattle.std.proofs.lemmas.Bool.{cases_eq}
 use Rattle.site.specs.State.{State, Image}
-use Rattle.site.specs.Calls.{Goes}
+use Rattle.site.specs.Calls.{Preserves}
 use Rattle.site.specs.Laws.{stays_honest}
 use Rattle.sealed_ring.specs.Ring.{IsRing, IsLive, hi_of}
 use Rattle.image_changes.specs.Rings.{log_shape}
 use Rattle.log_records.specs.declared.log_record.LogRecord.{LogRecord}
 use Rattle.log_store.specs.declared.store.LogStore.{LogStore}
-use Rattle.log_store.specs.Held.{MayGoOn, Finds, block_on}
+use Rattle.log_store.specs.Representation.{Invariant, Finds, block_on}
 use Rattle.log_store.proofs.GoingOn.{goes_on}
 use Rattle.image_check.specs.Octets.{IsBlockOn, AreBlocks}
-use Rattle.image_check.proofs.Lasting.{usable_later}
 use Rattle.std.proofs.Common.{refl}
+use Rattle.sealed_ring.proofs.Stays.{usable_later}
 
-pub finds_later : (store : LogStore) (a b : State) → Goes a b → b.image ≡ a.image → Finds store a → Finds store b
+pub finds_later : (store : LogStore) (a b : State) → Preserves a b → b.image ≡ a.image → Finds store a → Finds store b
 finds_later store a b goes same finds = record {
   honest = stays_honest a b goes finds.honest;
   form = subst (λ (image : Image). IsRing (log_shape store.geometry) image.log) (sym same) finds.form;
   hi = finds.hi ∙ ap (λ (image : Image). hi_of (log_shape store.geometry) image.log) (sym same);
 }
 
-pub going_later : (store : LogStore) (a b : State) → Goes a b → MayGoOn store a → MayGoOn store b
+pub going_later : (store : LogStore) (a b : State) → Preserves a b → Invariant store a → Invariant store b
 going_later store a b goes going =
     goes_on store store a b going goes refl (usable_later store.ring a b goes going.usable) refl going.kept going.live going.low going.high
 
-module _ (store : LogStore) (old : State) (kept at : ℕ) (going : MayGoOn store old) (finds : Finds store old) (from : kept ≤ at) (low : store.ring.hi - (store.geometry.blocks - 1) ≤ at) (below : at < store.ring.hi) where
+module _ (store : LogStore) (old : State) (kept at : ℕ) (going : Invariant store old) (finds : Finds store old) (from : kept ≤ at) (low : store.ring.hi - (store.geometry.blocks - 1) ≤ at) (below : at < store.ring.hi) where
   lives : IsLive (log_shape store.geometry) (hi_of (log_shape store.geometry) old.image.log) at
   lives = let is = finds.hi in let some = going.limits.blocks in record { below = omega (arith, is, below); near = omega (arith, is, low, some) }
 

@@ -5,6 +5,7 @@ use Rattle.std.specs.List.{AllByRecursion}
 use Rattle.std.specs.Option.{option_or}
 use Rattle.std.proofs.lemmas.Bool.{cases_Bool, cases_eq, eqb-true, eq-eqb}
 use Rattle.std.proofs.lemmas.Option.{slice_get_within, slice_get-get_or, get_or_from_slice_get}
+use Rattle.std_lemmas.proofs.Options.{option_or_assoc}
 use Rattle.site.specs.declared.geometry.Geometry.{Geometry}
 use Rattle.site.specs.State.{Image}
 use Rattle.sealed_ring.specs.declared.slots.Shape.{Shape}
@@ -19,7 +20,7 @@ use Rattle.frame_group.specs.Versions.{frames_of, last_frame}
 use Rattle.frame_group.proofs.Front.{heads_are_group}
 use Rattle.frame_group.proofs.Pages.{pages_stand}
 use Rattle.byte_fields.proofs.GroupHeads.{present_are_first}
-use Rattle.flash_cache.specs.Held.{disk_on, IsCleanOn}
+use Rattle.flash_cache.specs.Representation.{disk_on, IsCleanOn}
 use Rattle.tail_rebuild.specs.Standing.{group_on}
 use Rattle.image_meaning.specs.Meaning.{IsFrameOf}
 use Rattle.image_check.specs.Octets.{IsGroupOn}
@@ -30,10 +31,6 @@ use Rattle.image_check.proofs.LastOnes.{no_last, some_last, none_of_all, none_of
 
 -- The last frame of a page, by its place.
 
-or_three : {A : Type 0} (a b c : Option A) → option_or (option_or a b) c ≡ option_or a (option_or b c)
-or_three None b c = refl
-or_three (Some x) b c = refl
-
 last_of_two : (page : ℕ) (xs ys : List Frame) → last_frame page (xs ++ ys) ≡ option_or (last_frame page ys) (last_frame page xs)
 last_of_two page [] ys = by (last_frame page ys)
   where
@@ -42,7 +39,7 @@ last_of_two page [] ys = by (last_frame page ys)
     by (Some x) = refl
 last_of_two page (x ∷ xs) ys =
     ap (λ (o : Option Frame). option_or o (cond (x.page == page) (Some x) None)) (last_of_two page xs ys)
-    ∙ or_three (last_frame page ys) (last_frame page xs) (cond (x.page == page) (Some x) None)
+    ∙ option_or_assoc (last_frame page ys) (last_frame page xs) (cond (x.page == page) (Some x) None)
 
 no_frame_left : (page : ℕ) (frames : List Frame) → last_frame page frames ≡ None → has_frame page frames ≡ false
 no_frame_left page frames none = elim (cases_Bool (has_frame page frames)) [

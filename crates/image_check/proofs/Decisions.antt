@@ -5,7 +5,7 @@ use Rattle.std.proofs.lemmas.Bool.{cases_eq}
 use Rattle.site.specs.declared.geometry.Geometry.{Geometry}
 use Rattle.site.specs.declared.outside.Stop.{Stop}
 use Rattle.site.specs.State.{State, Image}
-use Rattle.site.specs.Calls.{Goes}
+use Rattle.site.specs.Calls.{Preserves}
 use Rattle.site.specs.Work.{OnlyReads}
 use Rattle.log_records.specs.declared.log_record.LogRecord.{LogRecord}
 use Rattle.log_records.specs.Sound.{commit_count}
@@ -23,19 +23,19 @@ use Rattle.image_check.proofs.Readings.{one_size, a_reading}
 
 -- What was found is there after calls that only read.
 
-pub may_be_read_later : (found : Found) (a b : State) → Goes a b → MayBeRead found a → MayBeRead found b
+pub may_be_read_later : (found : Found) (a b : State) → Preserves a b → MayBeRead found a → MayBeRead found b
 may_be_read_later found a b goes may = record {
   going = going_later found.log a b goes may.going;
   may_read = may_read_later found.log.geometry found.rings a b goes may.may_read;
 }
 
-pub may_be_judged_later : (found : Found) (a b : State) → Goes a b → MayBeJudged found a → MayBeJudged found b
+pub may_be_judged_later : (found : Found) (a b : State) → Preserves a b → MayBeJudged found a → MayBeJudged found b
 may_be_judged_later found a b goes may = record { read = may_be_read_later found a b goes may.read; live = may.live; redo = may.redo }
 
 pub some_blocks : (found : Found) (site : State) → MayBeRead found site → 1 ≤ found.log.geometry.blocks
 some_blocks found site may = let some = may.going.limits.blocks in omega (arith, some)
 
-pub there_later : (found : Found) (a b : State) → Goes a b → b.image ≡ a.image → IsThere found a → IsThere found b
+pub there_later : (found : Found) (a b : State) → Preserves a b → b.image ≡ a.image → IsThere found a → IsThere found b
 there_later found a b goes same there = record {
   log = finds_later found.log a b goes same there.log;
   rings = found_later found.rings a b same there.rings;
@@ -43,7 +43,7 @@ there_later found a b goes same there = record {
   master = subst (λ (image : Image). HasMaster image found.master) (sym same) there.master;
 }
 
-pub meets_later : (i : ℕ) (found : Found) (blocks : List (List LogRecord)) (a b : State) → Goes a b → b.image ≡ a.image → MeetsBefore i found blocks a → MeetsBefore i found blocks b
+pub meets_later : (i : ℕ) (found : Found) (blocks : List (List LogRecord)) (a b : State) → Preserves a b → b.image ≡ a.image → MeetsBefore i found blocks a → MeetsBefore i found blocks b
 meets_later i found blocks a b goes same meets = record {
   there = there_later found a b goes same meets.there;
   reads = subst (Reads (reading_of found blocks)) (sym same) meets.reads;

@@ -13,6 +13,7 @@ use Rattle.flash_cache.proofs.Given.{same_lsn}
 use Rattle.image_meaning.specs.Meaning.{IsFrameOf}
 use Rattle.image_check.specs.Octets.{IsGroupOn}
 use Rattle.image_check.specs.Framing.{IsFrameBy}
+use Rattle.frame_group.proofs.Front.{front_present}
 
 -- the first frames of a content were put into another one
 pub record Put (content again : List ℕ) (pages n : ℕ) : Type 0 where
@@ -26,14 +27,6 @@ pub record Put (content again : List ℕ) (pages n : ℕ) : Type 0 where
 
 abbrev pub no_frame : Frame
 no_frame = record { page = 0; dirty = true; octets = [] }
-
-none_present : (n : ℕ) → present_in_front (replicate n blank) ≡ 0
-none_present zero = refl
-none_present (suc n) = refl
-
-front_present : (frames : List Frame) (n : ℕ) → present_in_front (map head_of frames ++ replicate n blank) ≡ length frames
-front_present [] n = none_present n
-front_present (frame ∷ frames) n = ap (λ (k : ℕ). 1 + k) (front_present frames n) ∙ omega arith
 
 -- as many frames as heads are present
 pub frames_count : (frames : List Frame) → present_in_front (heads_of frames) ≡ length frames

@@ -7,7 +7,8 @@ use Rattle.std.specs.Map.{lookup}
 use Rattle.std.proofs.lemmas.Bool.{and_from, and_parts, or_left, or_right, cases_Bool, eqb-true, eq-eqb, not-true, not_from_false}
 use Rattle.std.proofs.lemmas.List.{append-nil}
 use Rattle.std.proofs.lemmas.List.Elements.{filter-append}
-use Rattle.std.proofs.lemmas.List.Folds.{list_any-append}
+use Rattle.std_lemmas.proofs.AllOf.{all_push, all_weaker, all_between}
+use Rattle.std_lemmas.proofs.Lists.{any_between}
 use Rattle.indexmap.specs.IndexMap.{IndexMap, get}
 use Rattle.log_records.specs.declared.log_record.LogRecord.{LogRecord}
 use Rattle.log_records.specs.declared.log_record.LogRecord.TheVariants.{Begin, Update, Clr, Commit, End}
@@ -15,13 +16,14 @@ use Rattle.log_records.specs.Log.{Entry, txn_of, is_of, is_closed, is_update, is
 use Rattle.log_records.specs.Unfinished.{is_begin, losers}
 use Rattle.log_records.specs.Sound.{Picture, Pairwise, HoldsOff}
 use Rattle.log_laws.specs.Analysis.{unfinished_at}
-use Rattle.log_laws.proofs.Lists.{one, one_true, last_where-filter, last_passes, all_last, all_weaker, all_push}
+use Rattle.log_laws.proofs.Lists.{one_true, last_where-filter, last_passes}
 use Rattle.log_laws.proofs.Listing.{listed_is_loser}
 use Rattle.log_laws.proofs.Values.{last_same, last_new}
 use Rattle.image_check.specs.declared.unfinished.Left.{Left}
 use Rattle.image_check.specs.Unended.{AreLeft, left_of}
 use Rattle.image_check.specs.Holding.{AreHeld, IsListed, holds, is_others, clashes_by}
 use Rattle.image_check.specs.Verdict.{Rule4}
+use Rattle.log_records.proofs.Lists.{one, all_last}
 
 -- Who is on the list.
 
@@ -69,9 +71,6 @@ listed_there closed t (x ∷ xs) lives some = by (is_begin x.rec) (x.lsn == t) r
     by true false own later again = more (not (closed x.lsn)) (again later)
     by false q own later again = more false (again later)
 
-any_at : (p : Entry → Bool) (front : List Entry) (e : Entry) (back : List Entry) → p e ≡ true → list_any p (front ++ e ∷ back) ≡ true
-any_at p front e back here = list_any-append p front (e ∷ back) ∙ or_right (list_any p front) (p e || list_any p back) (or_left (p e) (list_any p back) here)
-
 -- where each unfinished transaction has its chain, each one with a record is on the list or closed
 pub listed : (p : Picture) (front : List Entry) (e : Entry) (back : List Entry) → p.log ≡ front ++ e ∷ back → Rule4 p → IsListed p.log (txn_of e)
 listed p front e back split fourth = elim (cases_Bool (is_closed p.log t)) [
@@ -84,7 +83,7 @@ listed p front e back split fourth = elim (cases_Bool (is_closed p.log t)) [
       ] in
       closed ∙ sym (ap not off)
   | inr lives ↦
-      let some : list_any (is_of t) p.log ≡ true = ap (list_any (is_of t)) split ∙ any_at (is_of t) front e back (eq-eqb (txn_of e) t refl) in
+      let some : list_any (is_of t) p.log ≡ true = ap (list_any (is_of t)) split ∙ any_between (is_of t) front e back (eq-eqb (txn_of e) t refl) in
       let chain = fourth t (and_from (list_any (is_of t) p.log) (not (is_closed p.log t)) some (not_from_false (is_closed p.log t) lives)) in
       let begun = begin_found t p.log (drop 1 (entries_of t p.log)) chain.begins in
       let there : list_any (λ n. n == t) (losers p.log) ≡ true = listed_there (is_closed p.log) t p.log lives begun in
@@ -213,17 +212,13 @@ none_apart log records e held is pairs none = by (number_of e.rec) refl none
 
 -- Pairs of records.
 
-all_front : {X : Type 0} (P : X → Type 0) (xs : List X) (x : X) (ys : List X) → AllByRecursion P (xs ++ x ∷ ys) → P x
-all_front P [] x ys all = all.0
-all_front P (y ∷ xs) x ys all = all_front P xs x ys all.1
-
 pub pairwise_push : {X : Type 0} (R : X → X → Type 0) (xs : List X) (x : X) → Pairwise R xs → AllByRecursion (λ u. R u x) xs → Pairwise R (xs ++ x ∷ [])
 pairwise_push R [] x pairs all = (tt, tt)
 pairwise_push R (y ∷ xs) x pairs all = (all_push (R y) xs x pairs.0 all.0, pairwise_push R xs x pairs.1 all.1)
 
 pub pairwise_at : {X : Type 0} (R : X → X → Type 0) (xs : List X) (x : X) (ys : List X) → Pairwise R (xs ++ x ∷ ys) → AllByRecursion (λ u. R u x) xs
 pairwise_at R [] x ys pairs = tt
-pairwise_at R (y ∷ xs) x ys pairs = (all_front (R y) xs x ys pairs.0, pairwise_at R xs x ys pairs.1)
+pairwise_at R (y ∷ xs) x ys pairs = (all_between (R y) xs x ys pairs.0, pairwise_at R xs x ys pairs.1)
 
 -- What was heard: no record so far is on another's number, and these are held.
 pub record Apart {S : Type 0} (log : List Entry) (numbers : IndexMap ℕ ℕ S) (records : List Entry) : Type 0 where

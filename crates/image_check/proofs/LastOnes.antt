@@ -1,11 +1,11 @@
 -- The last frame of a page in the live groups.
-use Rattle.std.proofs.Common.{◌≡◌, ℕ, zero, suc, ◌-◌, ◌*◌, ◌≤◌, inl, inr, Bool, true, false, true≢false, ◌&&◌, ◌||◌, cond, List, [], ◌∷◌, ◌++◌, length, map, take, drop, replicate, Some, None, refl, sym, ap, subst, ◌∙◌, arith}
+use Rattle.std.proofs.Common.{◌≡◌, ℕ, zero, suc, ◌-◌, ◌≤◌, inl, inr, Bool, true, false, true≢false, ◌&&◌, ◌||◌, cond, List, [], ◌∷◌, ◌++◌, length, map, take, drop, replicate, Some, None, refl, sym, ap, subst, ◌∙◌, arith}
 use Rattle.std.specs.Prelude.{Option, ◌==◌}
 use Rattle.std.specs.List.{AllByRecursion, list_any}
 use Rattle.std.specs.Option.{option_or}
 use Rattle.std.proofs.lemmas.Bool.{cases_Bool}
-use Rattle.std.proofs.lemmas.List.{take-take}
 use Rattle.std.proofs.lemmas.List.Folds.{list_any-append}
+use Rattle.std_lemmas.proofs.AllOf.{all_append}
 use Rattle.site.specs.declared.geometry.Geometry.{Geometry}
 use Rattle.site.specs.State.{Image}
 use Rattle.image_changes.specs.Rings.{group_shape, units_on}
@@ -16,12 +16,14 @@ use Rattle.frame_group.specs.Versions.{frames_of, last_frame, version_by}
 use Rattle.frame_group.proofs.Contents.{frames_are_in}
 use Rattle.frame_group.proofs.Front.{begins_with_heads, one_heads}
 use Rattle.slotted_page.specs.Layout.{IsSound}
-use Rattle.flash_cache.specs.Held.{frames_on, disk_on, version_on}
+use Rattle.flash_cache.specs.Representation.{frames_on, disk_on, version_on}
 use Rattle.tail_rebuild.specs.Standing.{group_on}
 use Rattle.image_meaning.specs.Meaning.{IsFrameOf}
 use Rattle.image_check.specs.Octets.{IsGroupOn, AreGroups}
 use Rattle.image_check.specs.Framing.{has_frame, IsNamedFrom}
 use Rattle.image_check.proofs.LiveUnits.{all_live, each_live}
+use Rattle.image_check.proofs.SavedHeads.{heads_in_front}
+use Rattle.frame_group.proofs.LastFrames.{all_last_frame}
 
 -- Heads of frames.
 
@@ -46,27 +48,14 @@ heads_named page frames =
     or_none true = refl
     or_none false = refl
 
--- it is enough to look at the octets of the heads
-heads_of_front : (octets : List ℕ) (heads : List FrameHead) → HasHeads octets heads → HasHeads (take 128 octets) heads
-heads_of_front octets heads has =
-    let eight = has.are_heads.eight in
-    record {
-      at_front = record {
-        text = take-take (16 * length heads) 128 octets (omega (arith, eight)) ∙ has.at_front.text;
-        have_form = has.at_front.have_form;
-        fit_fields = has.at_front.fit_fields;
-      };
-      are_heads = has.are_heads;
-    }
-
 -- the heads that the front of a group's content has
 pub heads_of_part : (content octets : List ℕ) (frames : List Frame) (heads : List FrameHead) → octets ≡ take 128 (drop 0 content) → IsGroup content frames → HasHeads octets heads → heads ≡ heads_of frames
 heads_of_part content octets frames heads is group has =
-    one_heads octets heads (heads_of frames) has (subst (λ (o : List ℕ). HasHeads o (heads_of frames)) (sym is) (heads_of_front content (heads_of frames) (begins_with_heads content frames group)))
+    one_heads octets heads (heads_of frames) has (subst (λ (o : List ℕ). HasHeads o (heads_of frames)) (sym is) (heads_in_front content (heads_of frames) (begins_with_heads content frames group)))
 
 pub no_heads_of_part : (content octets : List ℕ) (frames : List Frame) → octets ≡ take 128 (drop 0 content) → IsGroup content frames → ((heads : List FrameHead) → HasHeads octets heads → ⊥) → ⊥
 no_heads_of_part content octets frames is group none =
-    none (heads_of frames) (subst (λ (o : List ℕ). HasHeads o (heads_of frames)) (sym is) (heads_of_front content (heads_of frames) (begins_with_heads content frames group)))
+    none (heads_of frames) (subst (λ (o : List ℕ). HasHeads o (heads_of frames)) (sym is) (heads_in_front content (heads_of frames) (begins_with_heads content frames group)))
 
 -- The last frame of a page, where there is one.
 
@@ -86,15 +75,6 @@ some_last page (frame ∷ frames) some = by (frame.page == page) (last_frame pag
     by b (Some later) is rest = (later, refl)
     by true None is rest = (frame, refl)
     by false None is rest = let later = rest is in let none : ⊥ = cc in absurd none
-
-pub last_is : (P : Frame → Type 0) (page : ℕ) (frames : List Frame) (frame : Frame) → AllByRecursion P frames → last_frame page frames ≡ Some frame → P frame
-last_is P page [] frame all is = let none : ⊥ = cc in absurd none
-last_is P page (x ∷ frames) frame all is = by (x.page == page) (last_frame page frames) is (λ later. last_is P page frames frame all.1 later)
-  where
-    by : (b : Bool) (o : Option Frame) → option_or o (cond b (Some x) None) ≡ Some frame → (o ≡ Some frame → P frame) → P frame
-    by b (Some later) same rest = rest same
-    by true None same rest = let own : x ≡ frame = cc in subst P own all.0
-    by false None same rest = let none : ⊥ = cc in absurd none
 
 -- Frames of all live groups.
 
@@ -132,10 +112,6 @@ unnamed_has_none g image page slots none =
 
 -- Versions.
 
-all_append : (P : Frame → Type 0) (xs ys : List Frame) → AllByRecursion P xs → AllByRecursion P ys → AllByRecursion P (xs ++ ys)
-all_append P [] ys first second = second
-all_append P (x ∷ xs) ys first second = (first.0, all_append P xs ys first.1 second)
-
 frames_sound : (g : Geometry) (contents : List (List ℕ)) → AllByRecursion (λ content. (frames : List Frame) × IsGroupOn g content frames) contents → AllByRecursion (IsFrameOf g) (frames_of contents)
 frames_sound g [] all = tt
 frames_sound g (content ∷ contents) all =
@@ -148,7 +124,7 @@ all_sound g image slots groups =
 
 version_with : (g : Geometry) (image : Image) (page : ℕ) → 3 ≤ g.groups → AreGroups g image → (frame : Frame) → last_frame page (frames_on g image) ≡ Some frame → IsSound (version_on g image page)
 version_with g image page slots groups frame is =
-    let sound = last_is (IsFrameOf g) page (frames_on g image) frame (all_sound g image slots groups) is in
+    let sound = all_last_frame (IsFrameOf g) page (frames_on g image) frame (all_sound g image slots groups) is in
     subst (λ (o : Option Frame). IsSound (version_by o (disk_on image page))) (sym is) sound.sound
 
 -- a sound page of the disk

@@ -4,26 +4,21 @@ use Rattle.std.specs.Prelude.{Option, Some, IfSome}
 use Rattle.site.specs.declared.outside.Dev.TheVariants.{Log, Flash, Disk}
 use Rattle.site.specs.declared.geometry.Geometry.{Geometry}
 use Rattle.site.specs.State.{State, Image, content_of}
-use Rattle.site.specs.Calls.{Goes}
+use Rattle.site.specs.Calls.{Preserves}
 use Rattle.sealed_ring.specs.declared.slots.Shape.{Shape}
 use Rattle.sealed_ring.specs.declared.ring.Ring.{Ring}
-use Rattle.sealed_ring.specs.Ring.{FitsIn, IsRing, hi_of}
-use Rattle.sealed_ring.specs.Ready.{region, IsUsable, Fits}
+use Rattle.sealed_ring.specs.Ring.{IsRing, hi_of}
+use Rattle.sealed_ring.specs.Ready.{region, IsUsable, Matches}
 use Rattle.sealed_ring.specs.Judged.{IsJudged}
 use Rattle.image_check.specs.declared.rings.Rings.{Rings}
 use Rattle.image_check.specs.Octets.{HasSizes}
 use Rattle.image_check.specs.Findings.{MayRead, AreFound}
+use Rattle.sealed_ring.proofs.Stays.{usable_later}
 
-pub usable_later : (ring : Ring) (a b : State) → Goes a b → IsUsable ring a → IsUsable ring b
-usable_later ring a b goes usable = record {
-  fits = subst (FitsIn ring.shape) (sym (goes.sizes ring.shape.dev)) usable.fits;
-  bounded = usable.bounded;
-}
-
-pub fits_later : (ring : Ring) (a b : State) → b.image ≡ a.image → Fits ring a → Fits ring b
+pub fits_later : (ring : Ring) (a b : State) → b.image ≡ a.image → Matches ring a → Matches ring b
 fits_later ring a b same fits = fits ∙ ap (λ (image : Image). hi_of ring.shape (content_of ring.shape.dev image)) (sym same)
 
-pub sizes_later : (g : Geometry) (a b : State) → Goes a b → HasSizes g a.image → HasSizes g b.image
+pub sizes_later : (g : Geometry) (a b : State) → Preserves a b → HasSizes g a.image → HasSizes g b.image
 sizes_later g a b goes sizes = record {
   limits = sizes.limits;
   lengths = record {
@@ -35,7 +30,7 @@ sizes_later g a b goes sizes = record {
 
 -- a ring that was found
 
-pub judged_some : (s : Shape) (o : Option Ring) (ring : Ring) (site : State) → o ≡ Some ring → IsJudged s o site → IsRing s (region s site) × Fits ring site
+pub judged_some : (s : Shape) (o : Option Ring) (ring : Ring) (site : State) → o ≡ Some ring → IsJudged s o site → IsRing s (region s site) × Matches ring site
 judged_some s o ring site is judged = subst (λ (x : Option Ring). IsJudged s x site) is judged
 
 pub usable_some : (o : Option Ring) (ring : Ring) (site : State) → o ≡ Some ring → IfSome o (λ found. IsUsable found site) → IsUsable ring site
@@ -46,7 +41,7 @@ shape_some s o ring is shape = subst (λ (x : Option Ring). IfSome x (λ found. 
 
 -- the four rings
 
-pub may_read_later : (g : Geometry) (rings : Rings) (a b : State) → Goes a b → MayRead g rings a → MayRead g rings b
+pub may_read_later : (g : Geometry) (rings : Rings) (a b : State) → Preserves a b → MayRead g rings a → MayRead g rings b
 may_read_later g rings a b goes may = record {
   sizes = sizes_later g a b goes may.sizes;
   masters = usable_later rings.masters a b goes may.masters;

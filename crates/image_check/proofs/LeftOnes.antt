@@ -7,6 +7,8 @@ use Rattle.std.proofs.lemmas.List.{append-nil, map-append, length-map}
 use Rattle.std.proofs.lemmas.List.Elements.{filter-append}
 use Rattle.std.proofs.lemmas.List.Quantifiers.{position-Some}
 use Rattle.std.proofs.lemmas.Option.{none-some}
+use Rattle.std_lemmas.proofs.AllOf.{all_weaker}
+use Rattle.std_lemmas.proofs.Lists.{map_same}
 use Rattle.log_records.specs.declared.log_record.LogRecord.{LogRecord}
 use Rattle.log_records.specs.declared.log_record.LogRecord.TheVariants.{Begin, Update, Clr, Commit, End}
 use Rattle.log_records.specs.Spelling.{AreBlock}
@@ -16,15 +18,15 @@ use Rattle.log_records.specs.Sound.{Active, IsInOrder, last_lsn, before_block, a
 use Rattle.log_laws.specs.Analysis.{Unfinished, unfinished_at, unfinished_in, remaining_by, after_record}
 use Rattle.log_laws.specs.Follow.{IsFresh}
 use Rattle.log_laws.specs.UndoLaws.{next_in}
-use Rattle.log_laws.proofs.Parts.{all_made, all_below, filter_same, map_same}
-use Rattle.log_laws.proofs.Lists.{all_weaker}
-use Rattle.log_laws.proofs.Orders.{all_from, filter_all, filter_none}
+use Rattle.log_laws.proofs.Parts.{all_made, all_below, filter_same}
+use Rattle.log_laws.proofs.Orders.{all_from, filter_none}
 use Rattle.log_laws.proofs.Values.{closed_push}
 use Rattle.log_laws.proofs.Analysing.{unfinished_begin, unfinished_more, unfinished_closed, unfinished_there, unfinished_owed}
 use Rattle.checkpoint.specs.declared.pairs.Pair.{Pair}
 use Rattle.image_check.specs.declared.unfinished.Left.{Left}
 use Rattle.image_check.proofs.BlockLists.{log_in_order}
 use Rattle.image_check.specs.Unended.{AreLeft, left_of, owed_for}
+use Rattle.log_records.proofs.Entries.{in_order_from}
 
 -- A record of a transaction that isn't in the list.
 
@@ -220,17 +222,7 @@ module _ (records : List Entry) (e : Entry) (items : List Left) (place from to :
 abbrev pub pair_of : Left → Pair
 pair_of x = record { begin = x.txn; last = x.last }
 
--- The records before a block.
-
 -- The records before another one, and those before a block.
-
-pub in_order_front : (from : ℕ) (front : List Entry) (e : Entry) (back : List Entry) (to : ℕ) → IsInOrder from (front ++ e ∷ back) to → IsInOrder from front e.lsn
-in_order_front from [] e back to order = order.0
-in_order_front from (x ∷ front) e back to order = (order.0, in_order_front (x.lsn + 1) front e back to order.1)
-
-in_order_from : (from mid to : ℕ) (records : List Entry) → from ≤ mid → IsInOrder mid records to → IsInOrder from records to
-in_order_from from mid to [] less order = omega (arith, less, order)
-in_order_from from mid to (x ∷ records) less order = (let first = order.0 in omega (arith, less, first), order.1)
 
 pub early_in_order : (redo from : ℕ) (records : List Entry) (to : ℕ) → IsInOrder from records to → IsInOrder from (before_block redo records) to
 early_in_order redo from [] to order = order
@@ -238,7 +230,7 @@ early_in_order redo from (x ∷ records) to order = by (nat_lt x.lsn (512 * redo
   where
     by : (b : Bool) → IsInOrder (x.lsn + 1) (before_block redo records) to → IsInOrder from (cond b (x ∷ before_block redo records) (before_block redo records)) to
     by true later = (order.0, later)
-    by false later = in_order_from from (x.lsn + 1) to (before_block redo records) (let first = order.0 in omega (arith, first)) later
+    by false later = in_order_from (x.lsn + 1) from (before_block redo records) to (let first = order.0 in omega (arith, first)) later
 
 pub early_fresh : (redo lsn : ℕ) (records : List Entry) → IsFresh lsn records → IsFresh lsn (before_block redo records)
 early_fresh redo lsn [] fresh = tt

@@ -4,7 +4,6 @@ use Rattle.std.proofs.lemmas.List.{length-map, length-append, map-append, get_or
 use Rattle.std.proofs.lemmas.Option.{none-some}
 use Rattle.site.specs.declared.geometry.Geometry.{Geometry}
 use Rattle.site.specs.State.{Image}
-use Rattle.sealed_ring.specs.declared.slots.Shape.{Shape}
 use Rattle.sealed_ring.specs.Ring.{IsLive, hi_of, content_at, units_from}
 use Rattle.sealed_ring.proofs.Heads.{unit_is}
 use Rattle.sealed_ring.proofs.Units.{live_count}
@@ -20,13 +19,14 @@ use Rattle.second_chance.specs.Queue.{Queue}
 use Rattle.flash_directory.specs.declared.place.Place.{Place}
 use Rattle.flash_directory.specs.Heads.{last_place, newest, frames_in as known_in}
 use Rattle.flash_directory.proofs.Newest.{placed, last_among-place}
-use Rattle.flash_cache.specs.Held.{AllTogether, Shows, disk_on, groups_on, frames_on, version_on}
+use Rattle.flash_cache.specs.Representation.{AllTogether, Shows, disk_on, groups_on, frames_on, version_on}
 use Rattle.flash_cache.proofs.Fetching.{newest_at}
 use Rattle.flash_cache.proofs.Queues.{joined, last_of_groups, together_length, together_at}
 use Rattle.flash_cache.proofs.Standing.{known_groups, all_shown}
 use Rattle.tail_rebuild.specs.Standing.{group_on}
 use Rattle.image_check.specs.Octets.{AreGroups}
 use Rattle.image_check.specs.Newest.{ShowsFrames}
+use Rattle.sealed_ring.proofs.Alters.{units_push}
 
 -- The heads of all groups, one after the other.
 
@@ -43,12 +43,6 @@ all_pushed (x ∷ list) heads all here (suc k) d less = all_pushed list heads (�
 abbrev pub AreHeadsFrom : Geometry → Image → ℕ → List (List FrameHead) → Type 0
 AreHeadsFrom g image first list = list ≡ map heads_of (map frames_in (units_from (group_shape g) image.flash first (length list)))
 
-units_more : (s : Shape) (c : List ℕ) (first k : ℕ) → units_from s c first (suc k) ≡ units_from s c first k ++ content_at s c ((first + k) % s.slots) ∷ []
-units_more s c first zero = let here : first ≡ first + 0 = omega arith in ap (λ (n : ℕ). content_at s c (n % s.slots) ∷ []) here
-units_more s c first (suc k) =
-    let there : first + 1 + k ≡ first + suc k = omega arith in
-    ap (λ (l : List (List ℕ)). content_at s c (first % s.slots) ∷ l) (units_more s c (first + 1) k ∙ ap (λ (n : ℕ). units_from s c (first + 1) k ++ content_at s c (n % s.slots) ∷ []) there)
-
 -- the content of a live group, and its frames
 pub group_stands : (g : Geometry) (image : Image) (n : ℕ) → 3 ≤ g.groups → IsLive (group_shape g) (hi_of (group_shape g) image.flash) n → group_on g image n ≡ content_at (group_shape g) image.flash (n % g.groups)
 group_stands g image n slots live = unit_is (group_shape g) (hi_of (group_shape g) image.flash) n image.flash slots refl live
@@ -64,7 +58,7 @@ one_group_more g image first n list heads frames slots live at group is are =
     (λ i. are i ++ own i ∷ [])
     ∙ sym (map-append heads_of (map frames_in (units_from s c first (length list))) (frames_in (content_at s c ((first + length list) % s.slots)) ∷ []))
     ∙ ap (map heads_of) (sym (map-append frames_in (units_from s c first (length list)) (content_at s c ((first + length list) % s.slots) ∷ [])))
-    ∙ ap (λ (l : List (List ℕ)). map heads_of (map frames_in l)) (sym (units_more s c first (length list)))
+    ∙ ap (λ (l : List (List ℕ)). map heads_of (map frames_in l)) (sym (units_push s c first (length list)))
     ∙ ap (λ (k : ℕ). map heads_of (map frames_in (units_from s c first k))) (sym long)
 
 -- with all of them the queue shows the live groups

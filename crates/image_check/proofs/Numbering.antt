@@ -1,5 +1,5 @@
 -- The numbers of the commits, record by record.
-use Rattle.std.proofs.Common.{◌≡◌, ◌⊎◌, inl, inr, ℕ, zero, suc, ◌+◌, ◌-◌, ◌*◌, ◌≤◌, Bool, true, false, true≢false, List, [], ◌∷◌, ◌++◌, length, filter, get_or, refl, sym, ap, ◌∙◌, arith}
+use Rattle.std.proofs.Common.{◌≡◌, ◌⊎◌, inl, inr, ℕ, ◌+◌, ◌-◌, ◌*◌, ◌≤◌, Bool, true, false, true≢false, List, [], ◌∷◌, ◌++◌, length, filter, get_or, refl, sym, ap, ◌∙◌, arith}
 use Rattle.std.specs.Prelude.{Option, Some, None, nat_lt, nat_le, not, if◌then◌else◌}
 use Rattle.std.specs.List.{range_with_len, cons_option}
 use Rattle.std.proofs.lemmas.Bool.{cases_lt, cases_eq}
@@ -9,6 +9,7 @@ use Rattle.std.proofs.lemmas.List.Elements.{filter-append, filter_map-append}
 use Rattle.std.proofs.lemmas.List.FromFn.{get_or-range_with_len, length-range_with_len}
 use Rattle.std.proofs.Math.ListN.{get_or-append}
 use Rattle.std.proofs.Math.Seq.{get_or-append_seam}
+use Rattle.std_lemmas.proofs.Lists.{range_push}
 use Rattle.log_records.specs.declared.log_record.LogRecord.{LogRecord}
 use Rattle.log_records.specs.declared.log_record.LogRecord.TheVariants.{Begin, Update, Clr, Commit, End}
 use Rattle.log_records.specs.Log.{Entry}
@@ -88,18 +89,11 @@ not_commit (End txn) other = refl
 
 -- numbers that run on
 
-range_more : (a n : ℕ) → range_with_len a n ++ (a + n) ∷ [] ≡ range_with_len a (n + 1)
-range_more a zero = let here : a + 0 ≡ a = omega arith in ap (λ (k : ℕ). k ∷ []) here
-range_more a (suc n) =
-    let there : a + suc n ≡ (a + 1) + n = omega arith in
-    let long : suc (n + 1) ≡ suc n + 1 = omega arith in
-    ap (λ (k : ℕ). (a ∷ range_with_len (a + 1) n) ++ k ∷ []) there ∙ ap (λ (l : List ℕ). a ∷ l) (range_more (a + 1) n) ∙ ap (range_with_len a) long
-
 none_yet : (a b number m : ℕ) → b ≡ number → m ≡ 1 → range_with_len a 0 ++ number ∷ [] ≡ range_with_len b m
 none_yet a b number m is one = sym ((λ i. range_with_len (is i) (one i)))
 
 some_yet : (a b number k m : ℕ) → b ≡ a → number ≡ a + k → m ≡ k + 1 → range_with_len a k ++ number ∷ [] ≡ range_with_len b m
-some_yet a b number k m is next more = ap (λ (x : ℕ). range_with_len a k ++ x ∷ []) next ∙ range_more a k ∙ sym ((λ i. range_with_len (is i) (more i)))
+some_yet a b number k m is next more = ap (λ (x : ℕ). range_with_len a k ++ x ∷ []) next ∙ range_push a k ∙ sym ((λ i. range_with_len (is i) (more i)))
 
 counted : (early : Bool) (number : ℕ) → length (if early then listed (Some number) else []) ≡ (if early then 1 else 0)
 counted true number = refl

@@ -5,6 +5,8 @@ use Rattle.std.specs.List.{AllByRecursion, list_any}
 use Rattle.std.proofs.lemmas.List.Elements.{filter-append}
 use Rattle.std.proofs.lemmas.List.Folds.{list_any-append}
 use Rattle.std.proofs.lemmas.Bool.{and_parts, and_from, and_right, cases_Bool, eqb-true, eq-eqb, not-true, not_from_false}
+use Rattle.std_lemmas.proofs.AllOf.{all_right}
+use Rattle.std_lemmas.proofs.Bools.{or_without_last, or_without, or_assoc}
 use Rattle.log_records.specs.declared.log_record.LogRecord.{LogRecord}
 use Rattle.log_records.specs.declared.log_record.LogRecord.TheVariants.{Begin, Update, Clr, Commit, End}
 use Rattle.log_records.specs.Log.{Entry, txn_of, is_of, is_closing, is_closed}
@@ -14,7 +16,7 @@ use Rattle.log_laws.specs.Follow.{IsFresh}
 use Rattle.log_laws.proofs.Values.{closed_push}
 use Rattle.log_laws.proofs.Appends.{fresh_open}
 use Rattle.log_laws.proofs.Orders.{InTurn-weaker, InTurn-all}
-use Rattle.log_laws.proofs.Parts.{all_both, all_right, InTurn-right}
+use Rattle.log_laws.proofs.Parts.{InTurn-right}
 use Rattle.checkpoint.specs.declared.pairs.Pair.{Pair}
 use Rattle.image_check.specs.Opening.{AreOpen, MayStand}
 use Rattle.image_check.specs.Verdict.{Rule3}
@@ -30,20 +32,7 @@ pub all_before : (from : ℕ) (front : List Entry) (e : Entry) (back : List Entr
 all_before from [] e back to order = tt
 all_before from (x ∷ front) e back to order = (let later = least (x.lsn + 1) front e back to order.1 in omega (arith, later), all_before (x.lsn + 1) front e back to order.1)
 
--- where each stands behind its Begin, none is of a later transaction
-pub none_of_later : (lsn : ℕ) (records : List Entry) → AllByRecursion (λ x. x.lsn < lsn) records → AllByRecursion (λ x. txn_of x ≤ x.lsn) records → IsFresh lsn records
-none_of_later lsn records before begun =
-    all_both (λ x. x.lsn < lsn) (λ x. txn_of x ≤ x.lsn) (λ x. is_of lsn x ≡ false)
-    (λ x less low. elim (cases_Bool (is_of lsn x)) [
-      | inl same ↦ let is = eqb-true (txn_of x) lsn same in absurd (omega (arith, less, low, is))
-      | inr other ↦ other
-    ]) records before begun
-
 -- Which transactions are known.
-
-or_apart : (a b c : Bool) → (a || (b || c)) ≡ ((a || b) || c)
-or_apart true b c = refl
-or_apart false b c = refl
 
 passes_one : {X : Type 0} (p : X → Bool) (b : Bool) (x : X) → list_any p (cond b (x ∷ []) []) ≡ (b && p x)
 passes_one p true x = by (p x)
@@ -64,18 +53,9 @@ known_push active redo records e t =
     let named : Bool = list_any (λ (a : Active). a.begin == t) active in
     ap (λ (l : List Entry). named || list_any p l) (filter-append (λ x. nat_le (512 * redo) x.lsn) records (e ∷ []))
     ∙ ap (λ (b : Bool). named || b) (list_any-append p (from_block redo records) (cond late (e ∷ []) []) ∙ ap (λ (b : Bool). list_any p (from_block redo records) || b) (passes_one p late e))
-    ∙ or_apart named (list_any p (from_block redo records)) (is_new redo e t)
+    ∙ sym (or_assoc named (list_any p (from_block redo records)) (is_new redo e t))
 
 -- Which are open.
-
-or_false : (a b : Bool) → b ≡ false → (a || b) ≡ a
-or_false true b none = refl
-or_false false b none = none
-
-two_false : (a b : Bool) → b ≡ false → (a || (b || false)) ≡ a
-two_false true b none = refl
-two_false false true none = none
-two_false false false none = refl
 
 -- a record that neither closes a transaction nor begins one from the redo block on
 pub open_still : (m : Master) (records : List Entry) (e : Entry) (txns : List ℕ) → is_closing e.rec ≡ false → (nat_le (512 * m.redo) e.lsn && is_begin e.rec) ≡ false →
@@ -83,8 +63,8 @@ pub open_still : (m : Master) (records : List Entry) (e : Entry) (txns : List �
 open_still m records e txns goes_on old is = record {
   are = λ t.
       let new : is_new m.redo e t ≡ false = none (nat_le (512 * m.redo) e.lsn) (is_begin e.rec) (e.lsn == t) old in
-      let known = known_push m.active m.redo records e t ∙ or_false (is_known m.active (from_block m.redo records) t) (is_new m.redo e t) new in
-      let closed = closed_push records e t ∙ two_false (is_closed records t) (is_of t e && is_closing e.rec) (ap (λ (b : Bool). is_of t e && b) goes_on ∙ and_right (is_of t e) false refl) in
+      let known = known_push m.active m.redo records e t ∙ or_without (is_known m.active (from_block m.redo records) t) (is_new m.redo e t) new in
+      let closed = closed_push records e t ∙ or_without_last (is_closed records t) (is_of t e && is_closing e.rec) (ap (λ (b : Bool). is_of t e && b) goes_on ∙ and_right (is_of t e) false refl) in
       is.are t ∙ sym (λ i. known i && not (closed i));
 }
   where
@@ -101,7 +81,7 @@ open_more m records e txns goes_on begins late fresh is = record {
       let k : Bool = is_known m.active (from_block m.redo records) t in
       let new : is_new m.redo e t ≡ (e.lsn == t) = (λ i. late i && (begins i && (e.lsn == t))) in
       let known = known_push m.active m.redo records e t ∙ ap (λ (b : Bool). k || b) new in
-      let closed = closed_push records e t ∙ two_false (is_closed records t) (is_of t e && is_closing e.rec) (ap (λ (b : Bool). is_of t e && b) goes_on ∙ and_right (is_of t e) false refl) in
+      let closed = closed_push records e t ∙ or_without_last (is_closed records t) (is_of t e && is_closing e.rec) (ap (λ (b : Bool). is_of t e && b) goes_on ∙ and_right (is_of t e) false refl) in
       list_any-append (λ x. x == t) txns (e.lsn ∷ [])
       ∙ ap (λ (b : Bool). b || ((e.lsn == t) || false)) (is.are t)
       ∙ by k (is_closed records t) (e.lsn == t) (λ same. ap (is_closed records) (sym (eqb-true e.lsn t same)) ∙ fresh_open e.lsn records fresh)
@@ -153,7 +133,7 @@ open_without m records e txns closing old is = record {
   are = λ t.
       let k : Bool = is_known m.active (from_block m.redo records) t in
       let new : is_new m.redo e t ≡ false = ap (λ (b : Bool). nat_le (512 * m.redo) e.lsn && (b && (e.lsn == t))) old ∙ and_right (nat_le (512 * m.redo) e.lsn) false refl in
-      let known = known_push m.active m.redo records e t ∙ or_false k (is_new m.redo e t) new in
+      let known = known_push m.active m.redo records e t ∙ or_without k (is_new m.redo e t) new in
       let closed = closed_push records e t ∙ ap (λ (b : Bool). is_closed records t || ((is_of t e && b) || false)) closing in
       any_without (txn_of e) t txns
       ∙ ap (λ (b : Bool). b && not (txn_of e == t)) (is.are t)
@@ -213,13 +193,6 @@ pub record Follows (m : Master) (txns : List ℕ) (records : List Entry) : Type 
   pub stand : InTurn (MayStand m) [] records
 
 -- Which records they are.
-
-pub closing_is_old : (rec : LogRecord) → is_closing rec ≡ true → is_begin rec ≡ false
-closing_is_old Begin closing = absurd (true≢false (sym closing))
-closing_is_old (Update txn prev page slot before after) closing = refl
-closing_is_old (Clr txn prev undo_next page slot after) closing = refl
-closing_is_old (Commit txn number) closing = refl
-closing_is_old (End txn) closing = refl
 
 pub begins_go_on : (rec : LogRecord) → is_begin rec ≡ true → is_closing rec ≡ false
 begins_go_on Begin begins = refl

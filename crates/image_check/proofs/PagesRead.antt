@@ -2,6 +2,7 @@
 use Rattle.std.proofs.Common.{◌≡◌, ℕ, ◌≤◌, ◌<◌, List, [], ◌∷◌, ◌++◌, refl, sym, ap, ◌∙◌, subst, append_assoc}
 use Rattle.std.specs.List.{AllByRecursion}
 use Rattle.std.proofs.lemmas.List.{append-nil}
+use Rattle.std_lemmas.proofs.AllOf.{all_push, all_between}
 use Rattle.log_records.specs.declared.log_record.LogRecord.{LogRecord}
 use Rattle.log_records.specs.Spelling.{used_by, IsBlock, IsSpelledAt}
 use Rattle.image_check.specs.Walking.{IsLeft}
@@ -21,14 +22,6 @@ pub record PagesTo (content : List ℕ) (used at pages : ℕ) : Type 0 where
   pub to : at ≤ used
   pub cut : (all : List LogRecord) → IsBlock content all → used ≡ used_by all → IsCut content used at pages all
 
-all_more : (P : LogRecord → Type 0) (done : List LogRecord) (rec : LogRecord) → AllByRecursion P done → P rec → AllByRecursion P (done ++ rec ∷ [])
-all_more P [] rec h p = (p, tt)
-all_more P (d ∷ done) rec h p = (h.0, all_more P done rec h.1 p)
-
-among : (P : LogRecord → Type 0) (done : List LogRecord) (rec : LogRecord) (left : List LogRecord) → AllByRecursion P (done ++ rec ∷ left) → P rec
-among P [] rec left h = h.0
-among P (d ∷ done) rec left h = among P done rec left h.1
-
 pub none_read : (content : List ℕ) (used pages : ℕ) → 2 ≤ used → PagesTo content used 2 pages
 none_read content used pages low = record {
   to = low;
@@ -46,7 +39,7 @@ one_more content used at end pages rec so_far before spelled on = record {
         left = read.0;
         split = cut.split ∙ ap (λ (x : List LogRecord). cut.done ++ x) read.1 ∙ sym (append_assoc cut.done (rec ∷ []) read.0);
         are_left = read.2;
-        exist = all_more (IsOnPage pages) cut.done rec cut.exist on;
+        exist = all_push (IsOnPage pages) cut.done rec cut.exist on;
       };
 }
 
@@ -57,7 +50,7 @@ one_off content used at end pages rec so_far before spelled off all is_end is =
     let cut = so_far.cut all is.block is_end in
     let read = reads_first content used at cut.left cut.are_left before rec end spelled in
     let split : all ≡ cut.done ++ rec ∷ read.0 = cut.split ∙ ap (λ (x : List LogRecord). cut.done ++ x) read.1 in
-    off (among (IsOnPage pages) cut.done rec read.0 (subst (AllByRecursion (IsOnPage pages)) split is.exist))
+    off (all_between (IsOnPage pages) cut.done rec read.0 (subst (AllByRecursion (IsOnPage pages)) split is.exist))
 
 -- at the end they are all records of the block
 pub all_read : (content : List ℕ) (used at pages : ℕ) → PagesTo content used at pages → used ≤ at → (all : List LogRecord) → IsBlock content all → used ≡ used_by all → IsBlockOn pages content all

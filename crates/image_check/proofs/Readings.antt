@@ -15,12 +15,12 @@ use Rattle.log_records.specs.declared.log_record.LogRecord.{LogRecord}
 use Rattle.log_records.specs.Spelling.{block, AreBlock, IsBlock}
 use Rattle.checkpoint.specs.declared.master.Master.{Master}
 use Rattle.checkpoint.specs.Laws.{OneNewest}
-use Rattle.log_store.specs.Held.{HasBlocks}
+use Rattle.log_store.specs.Representation.{HasBlocks}
 use Rattle.image_check.specs.Octets.{HasSizes}
 use Rattle.image_check.specs.Verdict.{Reading, Rule, Rule2}
 use Rattle.image_check.specs.Laws.{OneReading, AReading, SoundFailsNone}
-use Rattle.image_check.proofs.BlockLists.{one_block}
 use Rattle.image_check.proofs.LiveUnits.{all_from}
+use Rattle.log_store.proofs.OneLog.{one_blocks}
 
 -- One reading.
 
@@ -30,19 +30,6 @@ one_size a b image first second =
     let disk : a.pages ≡ b.pages = omega (arith, first.lengths.disk, second.lengths.disk) in
     let flash : a.groups ≡ b.groups = omega (arith, first.lengths.flash, second.lengths.flash, first.limits.fours, second.limits.fours) in
     (λ i. record { pages = disk i; groups = flash i; blocks = log i })
-
-one_blocks : (a b : List (List LogRecord)) → AllByRecursion AreBlock a → AllByRecursion AreBlock b → map block a ≡ map block b → a ≡ b
-one_blocks [] [] all all' same = refl
-one_blocks [] (y ∷ b) all all' same = let none = ap length same in absurd (omega (arith, none))
-one_blocks (x ∷ a) [] all all' same = let none = ap length same in absurd (omega (arith, none))
-one_blocks (x ∷ a) (y ∷ b) all all' same =
-    let front : block x ≡ block y = ap (first_or []) same in
-    let here = one_block (block x) x y (record { are_block = all.0; spelled = refl }) (record { are_block = all'.0; spelled = front }) in
-    (λ i. here i ∷ one_blocks a b all.1 all'.1 (ap (drop 1) same) i)
-  where
-    first_or : List ℕ → List (List ℕ) → List ℕ
-    first_or none [] = none
-    first_or none (first ∷ rest) = first
 
 held_once : (g : Geometry) (kept : ℕ) (a b : List (List LogRecord)) (image : Image) → HasBlocks g kept a image → HasBlocks g kept b image → a ≡ b
 held_once g kept a b image first second =
@@ -122,7 +109,7 @@ a_reading g m image formed live =
 
 -- Sound devices fail no rule.
 
-rule_past : (i : ℕ) (r : Reading) (image : Image) → 12 ≤ i → Rule i r image
+pub rule_past : (i : ℕ) (r : Reading) (image : Image) → 12 ≤ i → Rule i r image
 rule_past i r image past = record {
   third = λ is. absurd (omega (arith, past, is));
   fourth = λ is. absurd (omega (arith, past, is));

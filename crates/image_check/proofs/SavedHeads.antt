@@ -3,6 +3,7 @@ use Rattle.std.proofs.Common.{◌≡◌, ℕ, zero, suc, ◌+◌, ◌-◌, ◌*�
 use Rattle.std.specs.List.{AllByRecursion}
 use Rattle.std.proofs.lemmas.List.{take-take, take_all, length-map, get_or-map}
 use Rattle.std.proofs.Math.Seq.{take-append-add, drop-append-add}
+use Rattle.std_lemmas.proofs.AllOf.{all_at}
 use Rattle.site.specs.declared.geometry.Geometry.{Geometry}
 use Rattle.site.specs.State.{Image}
 use Rattle.sealed_ring.specs.Ring.{IsLive, hi_of}
@@ -11,7 +12,6 @@ use Rattle.image_changes.specs.Rings.{group_shape, segment_shape, units_on}
 use Rattle.byte_fields.specs.declared.frame_head.FrameHead.{FrameHead}
 use Rattle.byte_fields.specs.FrameHeads.{spelling, spelling_of_all, FitsFields}
 use Rattle.byte_fields.proofs.HeadParts.{length_spelling}
-use Rattle.byte_fields.proofs.HeadLists.{all_at}
 use Rattle.byte_fields.proofs.GroupHeads.{have_form}
 use Rattle.frame_group.specs.Groups.{heads_of, frames_in, HasHeads}
 use Rattle.frame_group.proofs.Contents.{frames_are_in}
@@ -21,7 +21,7 @@ use Rattle.meta_segments.specs.Following.{IsLive as Live, heads_with}
 use Rattle.checkpoint.specs.declared.master.Master.{Master}
 use Rattle.tail_rebuild.specs.Standing.{HasSegments, segment_on, group_on, PagesExist}
 use Rattle.tail_rebuild.proofs.Saved.{segment_count}
-use Rattle.flash_cache.specs.Held.{groups_on}
+use Rattle.flash_cache.specs.Representation.{groups_on}
 use Rattle.image_check.specs.Octets.{IsSegmentOn, IsFormed}
 use Rattle.image_check.specs.Findings.{AreHeadsSaved}
 use Rattle.image_check.specs.Verdict.{Rule8}
@@ -92,8 +92,8 @@ has_part content heads i less is =
     }
 
 -- the heads of a group stand in front of its content
-front_of : (octets : List ℕ) (heads : List FrameHead) → HasHeads octets heads → HasHeads (take 128 octets) heads
-front_of octets heads has = record {
+pub heads_in_front : (octets : List ℕ) (heads : List FrameHead) → HasHeads octets heads → HasHeads (take 128 octets) heads
+heads_in_front octets heads has = record {
   at_front = record {
     text = take-take (16 * length heads) 128 octets (let eight = has.are_heads.eight in omega (arith, eight)) ∙ has.at_front.text;
     have_form = has.at_front.have_form;
@@ -201,7 +201,7 @@ module _ (g : Geometry) (m : Master) (image : Image) (formed : IsFormed g m imag
                 let x = take 128 (drop (128 * (n % 4)) (segment_on g image (n / 4))) in
                 one_heads x (heads_of_group (heads_with k made.0 (n / 4)) (n % 4)) (heads_with h groups n)
                 (has_part (segment_on g image (n / 4)) (heads_with k made.0 (n / 4)) (n % 4) (omega arith) (segment_of g made.0 image has (n / 4) segment))
-                (subst (λ (l : List ℕ). HasHeads l (heads_with h groups n)) (each n here (omega (arith, before'))) (front_of (group_on g image n) (heads_with h groups n) (own n here)));
+                (subst (λ (l : List ℕ). HasHeads l (heads_with h groups n)) (each n here (omega (arith, before'))) (heads_in_front (group_on g image n) (heads_with h groups n) (own n here)));
             saved = λ n live less.
                 let after = live.not_before in
                 record { not_before = omega (arith, after, less, all, saved, low, high, fours, some); before = omega (arith, less) };

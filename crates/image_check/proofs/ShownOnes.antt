@@ -11,16 +11,15 @@ use Rattle.std.proofs.lemmas.List.Folds.{list_all-map, list_all_at}
 use Rattle.std.proofs.lemmas.List.FromFn.{get_or-map-range_with_len, length-map-range_with_len, map-range_with_len_more}
 use Rattle.site.specs.declared.geometry.Geometry.{Geometry}
 use Rattle.site.specs.State.{State, Image}
-use Rattle.site.specs.Calls.{Goes}
+use Rattle.site.specs.Calls.{Preserves}
 use Rattle.site.specs.Laws.{stays_honest}
 use Rattle.indexmap.specs.IndexMap.{IndexMap, get}
 use Rattle.record_model.specs.State.{Content, content_at}
 use Rattle.log_records.specs.Log.{Entry, Version, blank_version, version_at, number_of, is_number, is_on, after_of, last_where}
 use Rattle.log_records.specs.Sound.{Picture, ShowsLast, before_block, last_known}
-use Rattle.log_laws.proofs.Lists.{last_where-append}
 use Rattle.slotted_page.specs.Layout.{lsn_of}
 use Rattle.second_chance.specs.Queue.{Queue}
-use Rattle.flash_cache.specs.Held.{version_on}
+use Rattle.flash_cache.specs.Representation.{version_on}
 use Rattle.image_meaning.specs.Meaning.{version_in, versions_on}
 use Rattle.image_check.specs.declared.rings.Rings.{Rings}
 use Rattle.image_check.specs.Octets.{AreGroups}
@@ -28,9 +27,10 @@ use Rattle.image_check.specs.Newest.{ShowsFrames}
 use Rattle.image_check.specs.Showing.{FindsVersions, AreExpected, IsKnownEarly, IsAs, HasContents, is_logged, written_by}
 use Rattle.image_check.specs.Verdict.{Rule6}
 use Rattle.image_check.proofs.Lasting.{found_later}
+use Rattle.log_records.proofs.Lists.{last_where-append}
 
 -- What was found stays after calls that only read.
-pub versions_later : (g : Geometry) (rings : Rings) (frames : Queue) (a b : State) → Goes a b → b.image ≡ a.image → FindsVersions g rings frames a → FindsVersions g rings frames b
+pub versions_later : (g : Geometry) (rings : Rings) (frames : Queue) (a b : State) → Preserves a b → b.image ≡ a.image → FindsVersions g rings frames a → FindsVersions g rings frames b
 versions_later g rings frames a b goes same finds = record {
   honest = stays_honest a b goes finds.honest;
   found = found_later rings a b same finds.found;

@@ -3,7 +3,7 @@ use Rattle.std.proofs.Common.{◌≡◌, inl, inr, ℕ, zero, suc, ◌+◌, ◌-
 use Rattle.std.specs.Prelude.{Option, Some, None, map, is_some, count_by}
 use Rattle.std.specs.List.{AllByRecursion}
 use Rattle.std.proofs.lemmas.Bool.{cases_eq}
-use Rattle.std.proofs.lemmas.List.FromFn.{length-map-range_with_len}
+use Rattle.std_lemmas.proofs.AllOf.{all_append}
 use Rattle.site.specs.declared.geometry.Geometry.{Geometry}
 use Rattle.site.specs.State.{Image}
 use Rattle.sealed_ring.specs.Ring.{IsRing, hi_of, live, IsLive}
@@ -22,9 +22,9 @@ use Rattle.frame_group.proofs.Contents.{frames_are_in}
 use Rattle.checkpoint.specs.declared.master.Master.{Master}
 use Rattle.checkpoint.specs.Newest.{HasMaster, IsOf, newest_of, blank, seen}
 use Rattle.log_store.specs.LogList.{LogList}
-use Rattle.log_store.specs.Held.{HasBlocks, block_on}
+use Rattle.log_store.specs.Representation.{HasBlocks, block_on}
 use Rattle.log_store.proofs.Standing.{stands_there}
-use Rattle.flash_cache.specs.Held.{version_on, PagesExist}
+use Rattle.flash_cache.specs.Representation.{PagesExist}
 use Rattle.image_meaning.specs.Meaning.{IsNewest, HasNewest, IsFrameOf, AreOctetsSoundUnder, IsSoundUnder, StandsUnder, StandsFor, picture_under, versions_on, kept_by}
 use Rattle.image_meaning.specs.Meaning as meaning
 use Rattle.image_check.specs.Octets.{IsGroupOn, AreBlocks, SegmentsAreFormed, IsFormed, IsOnPage, IsSegmentOn}
@@ -32,15 +32,12 @@ use Rattle.image_check.specs.Verdict.{Reading, Reads, HoldBefore, picture_of}
 use Rattle.image_check.specs.Laws.{SoundStands, StandingIsSound, JudgedStands, StandingIsJudged}
 use Rattle.image_check.proofs.LiveUnits.{all_live, each_live}
 use Rattle.image_check.proofs.BlockLists.{one_block, log_in_table, blocks_on_pages, log_in_order}
+use Rattle.image_meaning.proofs.Versions.{length-versions}
 
 -- Groups.
 
 abbrev HasGroup : Geometry → List ℕ → Type 0
 HasGroup g content = (frames : List Frame) × IsGroupOn g content frames
-
-all_frames : (P : Frame → Type 0) (xs ys : List Frame) → AllByRecursion P xs → AllByRecursion P ys → AllByRecursion P (xs ++ ys)
-all_frames P [] ys first second = second
-all_frames P (x ∷ xs) ys first second = (first.0, all_frames P xs ys first.1 second)
 
 front_frames : (P : Frame → Type 0) (xs ys : List Frame) → AllByRecursion P (xs ++ ys) → AllByRecursion P xs × AllByRecursion P ys
 front_frames P [] ys all = (tt, all)
@@ -54,7 +51,7 @@ groups_of_form g (content ∷ contents) all =
 frames_of_pages : (g : Geometry) (contents : List (List ℕ)) → AllByRecursion (HasGroup g) contents → AllByRecursion (IsFrameOf g) (frames_of contents)
 frames_of_pages g [] all = tt
 frames_of_pages g (content ∷ contents) all =
-    all_frames (IsFrameOf g) (frames_in content) (frames_of contents) (subst (AllByRecursion (IsFrameOf g)) (sym (frames_are_in content all.0.0 all.0.1.group)) all.0.1.sound) (frames_of_pages g contents all.1)
+    all_append (IsFrameOf g) (frames_in content) (frames_of contents) (subst (AllByRecursion (IsFrameOf g)) (sym (frames_are_in content all.0.0 all.0.1.group)) all.0.1.sound) (frames_of_pages g contents all.1)
 
 have_groups : (g : Geometry) (contents : List (List ℕ)) → AllByRecursion (λ content. IsGroup content (frames_in content)) contents → AllByRecursion (IsFrameOf g) (frames_of contents) → AllByRecursion (HasGroup g) contents
 have_groups g [] are frames = tt
@@ -120,9 +117,6 @@ picture_with g m image blocks hi = record {
   pages = versions_on g image;
 }
 
-pages_count : (g : Geometry) (image : Image) → length (versions_on g image) ≡ g.pages
-pages_count g image = length-map-range_with_len (λ number. meaning.version_in (version_on g image number)) 0 g.pages
-
 -- By the rules.
 
 module _ (r : Reading) (image : Image) (reads : Reads r image) (rules : HoldBefore 12 r image) where
@@ -141,7 +135,7 @@ module _ (r : Reading) (image : Image) (reads : Reads r image) (rules : HoldBefo
         in_order = log_in_order r.master.kept r.blocks (512 * hi_of (log_shape r.g) image.log) reads.blocks.are_blocks (omega (arith, next));
         in_table =
             log_in_table (versions_on r.g image) r.master.kept r.blocks
-            (subst (λ (n : ℕ). AllByRecursion (AllByRecursion (IsOnPage n)) r.blocks) (sym (pages_count r.g image)) (pages_of_blocks r.g r.master.kept r.blocks image reads.blocks some formed.blocks))
+            (subst (λ (n : ℕ). AllByRecursion (AllByRecursion (IsOnPage n)) r.blocks) (sym (length-versions r.g image)) (pages_of_blocks r.g r.master.kept r.blocks image reads.blocks some formed.blocks))
             reads.blocks.are_blocks;
         open_transactions = three.open_transactions;
         begun = three.begun;
@@ -251,7 +245,7 @@ standing_is_sound g image table commits stands =
     let few = octets.limits.groups in
     let some = octets.limits.blocks in
     let r : Reading = record { g = g; master = m; blocks = blocks } in
-    let on = subst (λ (n : ℕ). AllByRecursion (AllByRecursion (IsOnPage n)) blocks) (pages_count g image) (blocks_on_pages (versions_on g image) m.kept blocks records.in_table) in
+    let on = subst (λ (n : ℕ). AllByRecursion (AllByRecursion (IsOnPage n)) blocks) (length-versions g image) (blocks_on_pages (versions_on g image) m.kept blocks records.in_table) in
     record {
       reading = r;
       sizes = refl;

@@ -6,21 +6,24 @@ use Rattle.std.proofs.lemmas.Bool.{and_parts, and_from, cases_Bool, eqb-true, eq
 use Rattle.std.proofs.lemmas.List.{take_more}
 use Rattle.std.proofs.lemmas.List.Elements.{filter-append}
 use Rattle.std.proofs.lemmas.List.Folds.{list_any-append}
+use Rattle.std_lemmas.proofs.AllOf.{all_left}
+use Rattle.std_lemmas.proofs.Bools.{or_without_last}
 use Rattle.log_records.specs.declared.log_record.LogRecord.{LogRecord}
 use Rattle.log_records.specs.declared.log_record.LogRecord.TheVariants.{Begin, Update, Clr, Commit, End}
 use Rattle.log_records.specs.Log.{Entry, txn_of, is_of, is_closing, is_closed, entries_of}
 use Rattle.log_records.specs.Unfinished.{is_begin, losers}
 use Rattle.log_records.specs.Sound.{Picture, InTurn, IsInOrder, IsLoserChain, Continues, HaveBegunBefore}
 use Rattle.log_laws.proofs.Orders.{filter_none}
-use Rattle.log_laws.proofs.Parts.{all_left, InTurn-right}
+use Rattle.log_laws.proofs.Parts.{InTurn-right}
 use Rattle.log_laws.proofs.Values.{closed_push}
 use Rattle.log_laws.proofs.Listing.{listed_is_loser}
 use Rattle.image_check.specs.declared.chain.Chain.{Chain}
 use Rattle.image_check.specs.declared.unfinished.Left.{Left}
 use Rattle.image_check.specs.Chaining.{IsKept, StandsThere, Breaks, AreStrays, begin_at}
 use Rattle.image_check.specs.Verdict.{Rule4}
-use Rattle.image_check.proofs.OpenOnes.{all_before, none_of_later, any_without}
+use Rattle.image_check.proofs.OpenOnes.{all_before, any_without}
 use Rattle.image_check.proofs.HeldOnes.{begins_there, begin_found, listed_there}
+use Rattle.log_laws.proofs.Orderly.{fresh_of}
 
 -- A transaction on the list has its Begin, and this is its first record.
 
@@ -92,7 +95,7 @@ stands_there log front e back t from to split order begun listed = record {
   first = λ own same.
       let before = all_before from front e back to (subst (λ (l : List Entry). IsInOrder from l to) split order) in
       let low = all_left (λ x. txn_of x ≤ x.lsn) front (e ∷ back) (subst HaveBegunBefore split begun) in
-      let fresh = none_of_later e.lsn front before low in
+      let fresh = fresh_of e.lsn front before low in
       ap (λ (n : ℕ). entries_of n front) (sym same) ∙ filter_none (is_of e.lsn) front fresh;
   later = λ own other. by (entries_of t front) refl own other;
 }
@@ -127,13 +130,8 @@ chain_of log t c first k = record { begins = first; continues = k.continues }
 
 -- Strays.
 
-two_false : (a b : Bool) → b ≡ false → (a || (b || false)) ≡ a
-two_false true b none = refl
-two_false false true none = none
-two_false false false none = refl
-
 pub not_closed_by : (log : List Entry) (e : Entry) (t : ℕ) → is_closed log t ≡ false → (is_of t e && is_closing e.rec) ≡ false → is_closed (log ++ e ∷ []) t ≡ false
-not_closed_by log e t before off = closed_push log e t ∙ two_false (is_closed log t) (is_of t e && is_closing e.rec) off ∙ before
+not_closed_by log e t before off = closed_push log e t ∙ or_without_last (is_closed log t) (is_of t e && is_closing e.rec) off ∙ before
 
 pub closed_at : (front : List Entry) (e : Entry) (back : List Entry) (t : ℕ) → (is_of t e && is_closing e.rec) ≡ true → is_closed (front ++ e ∷ back) t ≡ true
 closed_at front e back t here =
@@ -149,7 +147,7 @@ strays_closed log records e txns closing is = record {
         ap (λ (b : Bool). list_any (λ n. n == t) (losers log) || (b || list_any (λ x. x == t) (filter (λ x. not (x == txn_of e)) txns))) closed ∙ or_right (list_any (λ n. n == t) (losers log)) true refl
     | inr other ↦
         let before : list_any (is_of t) records ≡ true = without (list_any (is_of t) records) (is_of t e) other (sym (list_any-append (is_of t) records (e ∷ [])) ∙ some) in
-        let same : is_closed (records ++ e ∷ []) t ≡ is_closed records t = closed_push records e t ∙ two_false (is_closed records t) (is_of t e && is_closing e.rec) (ap (λ (b : Bool). b && is_closing e.rec) other) in
+        let same : is_closed (records ++ e ∷ []) t ≡ is_closed records t = closed_push records e t ∙ or_without_last (is_closed records t) (is_of t e && is_closing e.rec) (ap (λ (b : Bool). b && is_closing e.rec) other) in
         let stays : list_any (λ x. x == t) (filter (λ x. not (x == txn_of e)) txns) ≡ list_any (λ x. x == t) txns = any_without (txn_of e) t txns ∙ ap (λ (b : Bool). list_any (λ x. x == t) txns && not b) other ∙ and_true (list_any (λ x. x == t) txns) in
         (λ i. list_any (λ n. n == t) (losers log) || (same i || stays i)) ∙ is.covers t before
   ];

@@ -9,8 +9,9 @@ use Rattle.log_laws.proofs.Orders.{InTurn-append, InTurn-all}
 use Rattle.image_check.specs.declared.survey.Survey.{Survey}
 use Rattle.image_check.specs.Opening.{AreOpen, MayStand}
 use Rattle.image_check.specs.Surveying.{Surveys}
-use Rattle.image_check.proofs.LeftOnes.{in_order_front}
-use Rattle.image_check.proofs.OpenOnes.{all_before, none_of_later}
+use Rattle.image_check.proofs.OpenOnes.{all_before}
+use Rattle.log_records.proofs.Entries.{in_order_left}
+use Rattle.log_laws.proofs.Orderly.{fresh_of}
 
 -- the records so far follow the third rule and are fewer than what was to be read; the open transactions are known, and what they leave
 pub record SurveyedSoFar (m : Master) (most : ℕ) (txns : List ℕ) (survey : Survey) (records : List Entry) : Type 0 where
@@ -31,8 +32,8 @@ comes {m} from front e back to so_far order =
     let begun : AllByRecursion (λ x. txn_of x ≤ x.lsn) front = InTurn-all (MayStand m) (λ x. txn_of x ≤ x.lsn) (λ earlier x may. may.begun) [] front so_far.stand in
     let few = so_far.few in
     record {
-      in_order = in_order_front from front e back to order;
-      fresh = none_of_later e.lsn front (all_before from front e back to order) begun;
+      in_order = in_order_left from front e back to order;
+      fresh = fresh_of e.lsn front (all_before from front e back to order) begun;
       few = omega (arith, few);
     }
 

@@ -6,12 +6,12 @@ use Rattle.site.specs.State.{State, Image}
 use Rattle.sealed_ring.specs.declared.slots.Shape.{Shape}
 use Rattle.sealed_ring.specs.declared.ring.Ring.{Ring}
 use Rattle.sealed_ring.specs.Ring.{IsLive, hi_of, unit_at}
-use Rattle.sealed_ring.specs.Ready.{region, units_in, Fits}
+use Rattle.sealed_ring.specs.Ready.{region, units_in, Matches}
 use Rattle.sealed_ring.proofs.Heads.{unit_is}
 use Rattle.image_changes.specs.Rings.{units_on}
 
 -- a unit that was read whole, from a ring of this shape
-pub unit_read : (s : Shape) (ring : Ring) (site : State) (n : ℕ) (read : List ℕ) → 3 ≤ s.slots → ring.shape ≡ s → Fits ring site → IsLive ring.shape ring.hi n →
+pub unit_read : (s : Shape) (ring : Ring) (site : State) (n : ℕ) (read : List ℕ) → 3 ≤ s.slots → ring.shape ≡ s → Matches ring site → IsLive ring.shape ring.hi n →
     read ≡ take ring.shape.room (drop 0 (unit_at ring.shape (units_in ring.shape site) n)) → read ≡ unit_at s (units_on s site.image) n
 unit_read s ring site n read slots shape fits live is =
     let live' : IsLive ring.shape (hi_of ring.shape (region ring.shape site)) n = subst (λ (h : ℕ). IsLive ring.shape h n) fits live in

@@ -3,13 +3,13 @@ use Rattle.std.proofs.Common.{◌≡◌, ℕ, zero, suc, ◌+◌, ◌*◌, ◌<�
 use Rattle.std.specs.Prelude.{Option, Some, None, IfSome, IfNone}
 use Rattle.std.specs.List.{AllByRecursion, range_with_len}
 use Rattle.std.proofs.lemmas.List.FromFn.{sum_by-map-range_with_len_more}
+use Rattle.std_lemmas.proofs.AllOf.{all_left}
 use Rattle.site.specs.declared.geometry.Geometry.{Geometry}
 use Rattle.site.specs.State.{Image}
 use Rattle.record_model.specs.State.{Content, content_at}
 use Rattle.log_records.specs.Log.{Entry, Version, version_at, slot_at, value_of, table_of}
 use Rattle.log_records.specs.Sound.{Pairwise, HoldsOff}
 use Rattle.slotted_page.specs.Layout.{slots_of}
-use Rattle.log_laws.proofs.Parts.{all_left}
 use Rattle.second_chance.specs.Queue.{Queue}
 use Rattle.image_check.specs.declared.values.Logged.{Logged}
 use Rattle.image_check.specs.Newest.{ShowsFrames}

@@ -11,7 +11,7 @@ use Rattle.log_records.specs.Spelling.{spelling, used_by, IsBlock, IsSpelledAt}
 use Rattle.log_records.specs.Log.{Entry, entries_from, log_from}
 use Rattle.log_store.specs.declared.store.LogStore.{LogStore}
 use Rattle.log_store.specs.LogList.{LogList}
-use Rattle.log_store.specs.Held.{HasBlocks, block_on}
+use Rattle.log_store.specs.Representation.{HasBlocks, block_on}
 use Rattle.log_store.proofs.BlockLaws.{blocks_from}
 use Rattle.log_store.proofs.Standing.{stands_there}
 use Rattle.image_check.specs.declared.walk.Walk.{Walk}

@@ -1,8 +1,8 @@
 -- What a log has written, after one record more.
-use Rattle.std.proofs.Common.{◌≡◌, ℕ, Bool, true, false, true≢false, ◌&&◌, ◌||◌, cond, List, [], ◌∷◌, Option, Some, None, option_map, is_some, nat_eq, refl, sym, ap, ◌∙◌, subst}
-use Rattle.std.specs.Prelude.{find, ◌==◌, Result, Ok, Err, OnOk}
+use Rattle.std.proofs.Common.{◌≡◌, ℕ, Bool, true, false, true≢false, ◌&&◌, ◌||◌, cond, List, Option, Some, None, option_map, is_some, nat_eq, refl, sym, ap, ◌∙◌, subst}
+use Rattle.std.specs.Prelude.{◌==◌}
 use Rattle.std.specs.Option.{option_or}
-use Rattle.std.proofs.lemmas.Bool.{and_parts, eqb-true, eq-eqb}
+use Rattle.std.proofs.lemmas.Bool.{eqb-true, eq-eqb}
 use Rattle.std.proofs.lemmas.Option.{none-some, same_Some}
 use Rattle.indexmap.specs.IndexMap.{get}
 use Rattle.indexmap.specs.IndexSet.{contains}
@@ -10,36 +10,13 @@ use Rattle.log_records.specs.declared.log_record.LogRecord.{LogRecord}
 use Rattle.log_records.specs.declared.log_record.LogRecord.TheVariants.{Begin, Update, Clr, Commit, End}
 use Rattle.log_records.specs.Log.{Entry, txn_of, is_of, is_on, is_number, number_of, is_update, is_closing, is_closed, before_of, after_of, last_on, first_update}
 use Rattle.log_records.specs.Sound.{Pairwise, HoldsOff}
-use Rattle.log_laws.proofs.Lists.{one, one_true, all_last, last_passes}
-use Rattle.log_laws.proofs.Values.{with, updates_there, first_is, first_push, first_same, last_same, last_new, closed_push}
+use Rattle.log_laws.proofs.Values.{with, updates_there, first_is, first_push, first_same, last_same, last_new, closed_push, own_last}
 use Rattle.image_check.specs.declared.written.Written.{Written}
 use Rattle.image_check.specs.declared.written.Writings.{Writings}
 use Rattle.image_check.specs.Writing.{had_value, IsLast, KeepsLast, AreWritten, before_by}
-
--- two facts of what went well
-pub on_both : {T E : Type 0} (r : Result T E) (P Q R : Type 0) → (P → Q → R) → OnOk r P → OnOk r Q → OnOk r R
-on_both (Ok x) P Q R f p q = f p q
-on_both (Err e) P Q R f p q = tt
+use Rattle.log_records.proofs.Lists.{one}
 
 -- Where an open transaction has an Update on a number, the last record there is its own.
-
-own_last : (log : List Entry) (t number : ℕ) (xs : List Entry) (u : Entry) → Pairwise (HoldsOff log) xs → is_closed log t ≡ false → find (updates_there t number) xs ≡ Some u →
-    (x : Entry) × (last_on xs number ≡ Some x) × (txn_of x ≡ t)
-own_last log t number [] u h lives e = absurd (none-some u e)
-own_last log t number (y ∷ ys) u h lives e = by_test (updates_there t number y) refl (own_last log t number ys u h.1 lives) e
-  where
-    first_here : updates_there t number y ≡ true → (o : Option Entry) → last_on ys number ≡ o → (x : Entry) × (option_or o (one (is_on number) y) ≡ Some x) × (txn_of x ≡ t)
-    first_here b None last = let parts = and_parts (is_of t y) (is_update y.rec && is_on number y) b in let more = and_parts (is_update y.rec) (is_on number y) parts.1 in
-        (y, one_true (is_on number) y more.1, eqb-true (txn_of y) t parts.0)
-    first_here b (Some x) last =
-        let parts = and_parts (is_of t y) (is_update y.rec && is_on number y) b in let more = and_parts (is_update y.rec) (is_on number y) parts.1 in
-        let own = eqb-true (txn_of y) t parts.0 in
-        (x, refl, sym (all_last (HoldsOff log y) (is_on number) ys x h.0 last number more.0 more.1 (last_passes (is_on number) ys x last) (ap (is_closed log) own ∙ lives)) ∙ own)
-
-    by_test : (b : Bool) → updates_there t number y ≡ b → (find (updates_there t number) ys ≡ Some u → (x : Entry) × (last_on ys number ≡ Some x) × (txn_of x ≡ t)) →
-        cond b (Some y) (find (updates_there t number) ys) ≡ Some u → (x : Entry) × (last_on (y ∷ ys) number ≡ Some x) × (txn_of x ≡ t)
-    by_test true b f e = first_here b (last_on ys number) refl
-    by_test false b f e = let r = f e in (r.0, ap (λ (o : Option Entry). option_or o (one (is_on number) y)) r.1, r.2)
 
 -- where the last record there is of another transaction, or there is none, it has none
 no_first : (log records : List Entry) (t number : ℕ) → Pairwise (HoldsOff log) records → is_closed log t ≡ false → ((x : Entry) → last_on records number ≡ Some x → txn_of x ≡ t → ⊥) → None ≡ option_map had_value (first_update records t number)

@@ -5,7 +5,7 @@ use Rattle.log_records.specs.declared.log_record.LogRecord.{LogRecord}
 use Rattle.log_records.specs.Log.{log_from}
 use Rattle.checkpoint.specs.Newest.{HasMaster}
 use Rattle.log_store.specs.declared.store.LogStore.{LogStore}
-use Rattle.log_store.specs.Held.{MayGoOn, Finds}
+use Rattle.log_store.specs.Representation.{Invariant, Finds}
 use Rattle.image_check.specs.declared.formed.Found.{Found}
 use Rattle.image_check.specs.declared.place.Place.{Place}
 use Rattle.image_check.specs.declared.survey.Survey.{Survey}
@@ -16,7 +16,7 @@ use Rattle.image_check.specs.Verdict.{Reading, Reads, Rule1, Rule, HoldBefore, F
 
 -- over every site: the log and the rings lie on its devices
 pub record MayBeRead (found : Found) (site : State) : Type 0 where
-  pub going : MayGoOn found.log site
+  pub going : Invariant found.log site
   pub may_read : MayRead found.log.geometry found.rings site
 
 -- over every site: besides, the kept blocks can all be live, and redo begins no later than the next block

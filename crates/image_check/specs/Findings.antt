@@ -2,7 +2,7 @@
 use Rattle.std.specs.Prelude.{◌≡◌, ℕ, ◌*◌, ◌/◌, ◌%◌, take, drop, Option, Some, None, Result, Ok, Err}
 use Rattle.site.specs.declared.geometry.Geometry.{Geometry}
 use Rattle.site.specs.State.{State, Image}
-use Rattle.sealed_ring.specs.Ready.{IsUsable, Fits}
+use Rattle.sealed_ring.specs.Ready.{IsUsable, Matches}
 use Rattle.image_changes.specs.Rings.{master_shape, log_shape, group_shape, segment_shape}
 use Rattle.checkpoint.specs.declared.master.Master.{Master}
 use Rattle.checkpoint.specs.Newest.{HasMaster}
@@ -30,10 +30,10 @@ pub record MayRead (g : Geometry) (rings : Rings) (site : State) : Type 0 where
 
 -- the rings are those that stand there
 pub record AreFound (rings : Rings) (site : State) : Type 0 where
-  pub masters : Fits rings.masters site
-  pub blocks : Fits rings.blocks site
-  pub groups : Fits rings.groups site
-  pub segments : Fits rings.segments site
+  pub masters : Matches rings.masters site
+  pub blocks : Matches rings.blocks site
+  pub groups : Matches rings.groups site
+  pub segments : Matches rings.segments site
 
 -- these are the four rings, each of the form; or one isn't
 abbrev pub RingsAre : Geometry → Result Rings Place → State → Type 0

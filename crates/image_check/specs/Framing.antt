@@ -9,7 +9,7 @@ use Rattle.byte_fields.specs.declared.frame_head.FrameHead.{FrameHead}
 use Rattle.frame_group.specs.Groups.{Frame, frames_in}
 use Rattle.slotted_page.specs.Layout.{lsn_of, IsSound}
 use Rattle.tail_rebuild.specs.Standing.{group_on}
-use Rattle.flash_cache.specs.Held.{disk_on}
+use Rattle.flash_cache.specs.Representation.{disk_on}
 
 -- a head is that of a page's frame, and the page is sound and one that the disk has
 pub record IsFrameBy (pages : ℕ) (head : FrameHead) (page : List ℕ) : Type 0 where

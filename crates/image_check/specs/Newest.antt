@@ -5,7 +5,7 @@ use Rattle.site.specs.State.{Image}
 use Rattle.sealed_ring.specs.Ring.{IsLive, hi_of}
 use Rattle.image_changes.specs.Rings.{group_shape}
 use Rattle.second_chance.specs.Queue.{Queue}
-use Rattle.flash_cache.specs.Held.{groups_on, queue_of}
+use Rattle.flash_cache.specs.Representation.{groups_on, queue_of}
 use Rattle.image_check.specs.declared.rings.Rings.{Rings}
 
 -- of every site: the groups of a queue are live

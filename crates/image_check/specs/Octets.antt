@@ -16,8 +16,8 @@ use Rattle.frame_group.specs.Groups.{Frame, IsGroup}
 use Rattle.meta_segments.specs.Segments.{IsSegment}
 use Rattle.checkpoint.specs.declared.master.Master.{Master}
 use Rattle.checkpoint.specs.Newest.{HasMaster}
-use Rattle.log_store.specs.Held.{block_on}
-use Rattle.flash_cache.specs.Held.{group_on, version_on, PagesExist}
+use Rattle.log_store.specs.Representation.{block_on}
+use Rattle.flash_cache.specs.Representation.{group_on, version_on, PagesExist}
 use Rattle.tail_rebuild.specs.Standing.{segment_on}
 use Rattle.image_meaning.specs.Meaning.{IsFrameOf}
 

@@ -11,8 +11,8 @@ use Rattle.log_records.specs.Sound.{HoldsOff, FitsLog, HasRoom, active_in, befor
 use Rattle.log_records.specs.Log.{version_at}
 use Rattle.checkpoint.specs.declared.master.Master.{Master}
 use Rattle.checkpoint.specs.Newest.{seen}
-use Rattle.log_store.specs.Held.{HasBlocks}
-use Rattle.flash_cache.specs.Held.{IsCleanOn}
+use Rattle.log_store.specs.Representation.{HasBlocks}
+use Rattle.flash_cache.specs.Representation.{IsCleanOn}
 use Rattle.image_meaning.specs.Meaning.{versions_on, AreSegments}
 use Rattle.image_check.specs.Octets.{IsFormed}
 

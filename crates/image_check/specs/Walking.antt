@@ -7,7 +7,7 @@ use Rattle.log_records.specs.declared.log_record.LogRecord.{LogRecord}
 use Rattle.log_records.specs.Spelling.{spelling, HasForm, FitsFields}
 use Rattle.log_records.specs.Log.{Entry, entries_from, log_from}
 use Rattle.log_store.specs.declared.store.LogStore.{LogStore}
-use Rattle.log_store.specs.Held.{HasBlocks}
+use Rattle.log_store.specs.Representation.{HasBlocks}
 use Rattle.image_check.specs.declared.walk.Walk.{Walk}
 
 -- from a place on these records are left of a block

@@ -2,7 +2,7 @@
 ghost use Rattle.std.specs.Prelude.{◌≡◌, ◌↔◌, ◌-◌, ◌≤◌, List, length, is_none, IsTrue, IfOk};
 ghost use Rattle.log_records.specs.declared.log_record.LogRecord.{LogRecord};
 ghost use Rattle.log_records.specs.Spelling.{IsBlock};
-ghost use Rattle.log_store.specs.Held.{MayGoOn, Finds};
+ghost use Rattle.log_store.specs.Representation.{Invariant, Finds};
 ghost use Rattle.site.specs.Work.{OnlyReads};
 ghost use Rattle.image_check.specs.Octets.{IsOnPage, IsBlockOn, AreBlocks};
 
@@ -46,7 +46,7 @@ fn are_on_pages(content: &[u8], pages: u32) -> bool
 /// The first live block from `kept` on that isn't of the form, or has a record on a page that the disk hasn't; `None`
 /// exactly where there is none: reads each once.
 pub fn rule_blocks<S: Site>(site: &mut S, log: &LogStore, kept: u64) -> Result<Option<Place>, Stop>
-    requires { MayGoOn log.now (S.state site.old) }
+    requires { Invariant log.now (S.state site.old) }
 
     ensures blocks { Finds log.now (S.state site.old)
         → IfOk result (λ failing. IsTrue (is_none failing) ↔ AreBlocks log.now.geometry kept (S.state site.old).image) }

@@ -6,7 +6,7 @@ ghost use Rattle.sealed_ring.specs.Ring.{IsLive};
 ghost use Rattle.disk_pages.specs.Pages.{LiesOn};
 ghost use Rattle.frame_group.specs.Groups.{Frame, heads_of};
 ghost use Rattle.tail_rebuild.specs.Standing.{group_on};
-ghost use Rattle.flash_cache.specs.Held.{disk_on};
+ghost use Rattle.flash_cache.specs.Representation.{disk_on};
 ghost use Rattle.image_check.specs.Octets.{IsGroupOn, AreGroups};
 ghost use Rattle.image_check.specs.Framing.{has_frame, IsCleanFrame};
 ghost use Rattle.image_check.specs.Findings.{MayRead, AreFound};

@@ -3,7 +3,7 @@ ghost use Rattle.std.specs.Prelude.{◌≡◌, ◌⊎◌, ◌↔◌, ◌+◌, �
 ghost use Rattle.site.specs.State.{State};
 ghost use Rattle.log_records.specs.declared.log_record.LogRecord.{LogRecord};
 ghost use Rattle.log_records.specs.Log.{Entry, log_from};
-ghost use Rattle.log_store.specs.Held.{Finds};
+ghost use Rattle.log_store.specs.Representation.{Finds};
 ghost use Rattle.image_check.specs.Counting.{Heard, NumbersAre, Counts, Fit, CommitsAre};
 ghost use Rattle.image_check.specs.Verdict.{picture_of};
 

@@ -2,7 +2,7 @@
 ghost use Rattle.std.specs.Prelude.{◌≡◌, ◌↔◌, is_none, IsTrue, IfOk, IfSome};
 ghost use Rattle.image_changes.specs.Rings.{log_shape};
 ghost use Rattle.sealed_ring.specs.Ring.{IsRing};
-ghost use Rattle.log_store.specs.Held.{MayGoOn};
+ghost use Rattle.log_store.specs.Representation.{Invariant};
 ghost use Rattle.site.specs.Work.{OnlyReads};
 ghost use Rattle.image_check.specs.Octets.{HasSizes};
 ghost use Rattle.image_check.specs.Deciding.{MayBeRead, IsThere, LogIs, IsThereOr, IsFormedOr};
@@ -34,7 +34,7 @@ fn find_log<S: Site>(site: &mut S, geometry: &Geometry) -> Result<Option<LogStor
 
     ensures log { IsTrue (S.state site.old).honest → IsRing (log_shape geometry.now) (S.state site.old).image.log
         → IfOk result (λ log. LogIs log (S.state site.new)) }
-    ensures going { IfOk result (λ log. IfSome log (λ log. MayGoOn log (S.state site.new))) }
+    ensures going { IfOk result (λ log. IfSome log (λ log. Invariant log (S.state site.new))) }
     ensures geometry { IfOk result (λ log. IfSome log (λ log. log.geometry ≡ geometry.now)) }
     ensures reads { OnlyReads result (S.state site.old) (S.state site.new) }
 {

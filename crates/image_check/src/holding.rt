@@ -6,7 +6,7 @@ ghost use Rattle.site.specs.declared.outside.Stop.{Stop};
 ghost use Rattle.site.specs.Work.{OnlyReads};
 ghost use Rattle.log_records.specs.declared.log_record.LogRecord.{LogRecord};
 ghost use Rattle.log_records.specs.Log.{Entry, txn_by, number_of, log_from};
-ghost use Rattle.log_store.specs.Held.{MayGoOn, Finds, HasBlocks};
+ghost use Rattle.log_store.specs.Representation.{Invariant, Finds, HasBlocks};
 ghost use Rattle.image_check.specs.Unended.{AreLeft};
 ghost use Rattle.image_check.specs.Holding.{AreHeld, IsListed, clashes_by};
 ghost use Rattle.image_check.specs.Verdict.{Rule4, Rule5, picture_of};
@@ -90,7 +90,7 @@ pub fn rule_apart<S: Site>(
     master: &Master,
     left: &LeftTxns,
 ) -> Result<Option<Place>, Stop>
-    requires going { MayGoOn log.now (S.state site.old) }
+    requires going { Invariant log.now (S.state site.old) }
     requires live { log.now.ring.hi ≤ master.now.kept + (log.now.geometry.blocks - 1) }
 
     ensures apart { (blocks : List (List LogRecord)) → Finds log.now (S.state site.old)

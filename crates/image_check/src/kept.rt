@@ -1,7 +1,7 @@
 // The kept blocks and the redo block.
 ghost use Rattle.std.specs.Prelude.{◌+◌, ◌-◌, ◌≤◌, ◌^◌, ◌↔◌, IsTrue};
 ghost use Rattle.site.specs.State.{State};
-ghost use Rattle.log_store.specs.Held.{Finds};
+ghost use Rattle.log_store.specs.Representation.{Finds};
 ghost use Rattle.image_check.specs.Verdict.{Rule2};
 
 use checkpoint::Master;

@@ -6,7 +6,7 @@ ghost use Rattle.sealed_ring.specs.Ring.{IsLive};
 ghost use Rattle.byte_fields.specs.FrameHeads.{AreGroupHeads};
 ghost use Rattle.frame_group.specs.Groups.{Frame, heads_of, IsGroup};
 ghost use Rattle.tail_rebuild.specs.Standing.{group_on};
-ghost use Rattle.flash_cache.specs.Held.{version_on};
+ghost use Rattle.flash_cache.specs.Representation.{version_on};
 ghost use Rattle.image_check.specs.Octets.{AreGroups};
 ghost use Rattle.image_check.specs.Findings.{MayRead, AreFound};
 ghost use Rattle.image_check.specs.Newest.{AreLive, ShowsFrames};

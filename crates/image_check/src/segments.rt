@@ -1,7 +1,7 @@
 // The live segments.
 ghost use Rattle.std.specs.Prelude.{◌≡◌, ◌↔◌, List, length, is_none, IsTrue, IfOk};
 ghost use Rattle.byte_fields.specs.declared.frame_head.FrameHead.{FrameHead};
-ghost use Rattle.flash_cache.specs.Held.{PagesExist};
+ghost use Rattle.flash_cache.specs.Representation.{PagesExist};
 ghost use Rattle.site.specs.Work.{OnlyReads};
 ghost use Rattle.image_check.specs.Octets.{IsSegmentOn, SegmentsAreFormed};
 ghost use Rattle.image_check.specs.Findings.{MayRead, AreFound};

@@ -8,7 +8,7 @@ ghost use Rattle.indexmap.specs.IndexMap.{get};
 ghost use Rattle.record_model.specs.State.{content_at};
 ghost use Rattle.log_records.specs.Log.{Entry, after_of};
 ghost use Rattle.slotted_page.specs.Layout.{slots_of, IsSound};
-ghost use Rattle.flash_cache.specs.Held.{version_on};
+ghost use Rattle.flash_cache.specs.Representation.{version_on};
 ghost use Rattle.image_meaning.specs.Meaning.{versions_on};
 ghost use Rattle.image_check.specs.Findings.{MayRead};
 ghost use Rattle.image_check.specs.Newest.{AreLive};

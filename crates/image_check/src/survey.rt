@@ -7,7 +7,7 @@ ghost use Rattle.log_records.specs.declared.log_record.LogRecord.{LogRecord};
 ghost use Rattle.log_records.specs.Log.{Entry, log_from};
 ghost use Rattle.log_records.specs.Sound.{IsInOrder, before_block};
 ghost use Rattle.log_laws.specs.Follow.{IsFresh};
-ghost use Rattle.log_store.specs.Held.{MayGoOn, Finds, HasBlocks};
+ghost use Rattle.log_store.specs.Representation.{Invariant, Finds, HasBlocks};
 ghost use Rattle.image_check.specs.Counting.{NumbersAre};
 ghost use Rattle.image_check.specs.Surveying.{Surveys};
 ghost use Rattle.image_check.specs.Unended.{AreLeft};
@@ -98,7 +98,7 @@ pub fn rule_transactions<S: Site>(
     log: &LogStore,
     master: &Master,
 ) -> Result<Result<Survey, Place>, Stop>
-    requires going { MayGoOn log.now (S.state site.old) }
+    requires going { Invariant log.now (S.state site.old) }
     requires live { log.now.ring.hi ≤ master.now.kept + (log.now.geometry.blocks - 1) }
     requires redo { master.now.redo ≤ log.now.ring.hi }
 

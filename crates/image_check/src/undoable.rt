@@ -8,7 +8,7 @@ ghost use Rattle.log_records.specs.declared.log_record.LogRecord.{LogRecord};
 ghost use Rattle.log_records.specs.Log.{Entry, entries_of, is_of, is_closing, is_closed, log_from};
 ghost use Rattle.log_records.specs.Unfinished.{losers};
 ghost use Rattle.log_records.specs.Sound.{HaveBegunBefore, IsLoserChain};
-ghost use Rattle.log_store.specs.Held.{MayGoOn, Finds, HasBlocks};
+ghost use Rattle.log_store.specs.Representation.{Invariant, Finds, HasBlocks};
 ghost use Rattle.image_check.specs.Unended.{AreLeft};
 ghost use Rattle.image_check.specs.Chaining.{AreStrays};
 ghost use Rattle.image_check.specs.Verdict.{Rule3, Rule4, picture_of};
@@ -32,7 +32,7 @@ fn is_chain<S: Site>(
     kept: u64,
     txn: u64,
 ) -> Result<bool, Stop>
-    requires going { MayGoOn log.now (S.state site.old) }
+    requires going { Invariant log.now (S.state site.old) }
     requires live { log.now.ring.hi ≤ kept + (log.now.geometry.blocks - 1) }
 
     ensures chain { (blocks : List (List LogRecord)) → Finds log.now (S.state site.old)
@@ -61,7 +61,7 @@ fn is_chain<S: Site>(
 
 // Whether a record closes a transaction.
 fn is_closed_in<S: Site>(site: &mut S, log: &LogStore, kept: u64, txn: u64) -> Result<bool, Stop>
-    requires going { MayGoOn log.now (S.state site.old) }
+    requires going { Invariant log.now (S.state site.old) }
     requires live { log.now.ring.hi ≤ kept + (log.now.geometry.blocks - 1) }
 
     ensures closed { (blocks : List (List LogRecord)) → Finds log.now (S.state site.old)
@@ -144,7 +144,7 @@ fn find_strays<S: Site>(
     kept: u64,
     left: &LeftTxns,
 ) -> Result<Strays, Stop>
-    requires going { MayGoOn log.now (S.state site.old) }
+    requires going { Invariant log.now (S.state site.old) }
     requires live { log.now.ring.hi ≤ kept + (log.now.geometry.blocks - 1) }
 
     ensures strays { (blocks : List (List LogRecord)) → Finds log.now (S.state site.old)
@@ -172,7 +172,7 @@ fn find_open<S: Site>(
     kept: u64,
     txns: &[u64],
 ) -> Result<Option<Place>, Stop>
-    requires going { MayGoOn log.now (S.state site.old) }
+    requires going { Invariant log.now (S.state site.old) }
     requires live { log.now.ring.hi ≤ kept + (log.now.geometry.blocks - 1) }
 
     ensures closed { (blocks : List (List LogRecord)) → Finds log.now (S.state site.old)
@@ -202,7 +202,7 @@ fn find_unchained<S: Site>(
     kept: u64,
     left: &LeftTxns,
 ) -> Result<Option<Place>, Stop>
-    requires going { MayGoOn log.now (S.state site.old) }
+    requires going { Invariant log.now (S.state site.old) }
     requires live { log.now.ring.hi ≤ kept + (log.now.geometry.blocks - 1) }
 
     ensures chains { (blocks : List (List LogRecord)) → Finds log.now (S.state site.old)
@@ -237,7 +237,7 @@ pub fn rule_undoable<S: Site>(
     master: &Master,
     left: &LeftTxns,
 ) -> Result<Option<Place>, Stop>
-    requires going { MayGoOn log.now (S.state site.old) }
+    requires going { Invariant log.now (S.state site.old) }
     requires live { log.now.ring.hi ≤ master.now.kept + (log.now.geometry.blocks - 1) }
 
     ensures undoable { (blocks : List (List LogRecord)) → Finds log.now (S.state site.old)

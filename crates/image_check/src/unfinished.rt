@@ -10,7 +10,7 @@ ghost use Rattle.log_records.specs.Unfinished.{is_begin, losers};
 ghost use Rattle.log_records.specs.Sound.{IsInOrder, active_in, before_block};
 ghost use Rattle.log_laws.specs.Follow.{IsFresh};
 ghost use Rattle.log_laws.specs.Analysis.{remaining_by};
-ghost use Rattle.log_store.specs.Held.{Finds, HasBlocks};
+ghost use Rattle.log_store.specs.Representation.{Finds, HasBlocks};
 ghost use Rattle.checkpoint.specs.Newest.{seen};
 ghost use Rattle.checkpoint.specs.declared.pairs.Pair.{Pair};
 ghost use Rattle.image_check.specs.Unended.{AreLeft, owed_for};

@@ -7,9 +7,9 @@ ghost use Rattle.site.specs.Work.{OnlyReads};
 ghost use Rattle.log_records.specs.declared.log_record.LogRecord.{LogRecord};
 ghost use Rattle.log_records.specs.Log.{Entry, Version, version_at, value_of, table_of, log_from};
 ghost use Rattle.log_records.specs.Sound.{Pairwise, HoldsOff};
-ghost use Rattle.log_store.specs.Held.{MayGoOn, Finds, HasBlocks};
+ghost use Rattle.log_store.specs.Representation.{Invariant, Finds, HasBlocks};
 ghost use Rattle.slotted_page.specs.Layout.{IsSound};
-ghost use Rattle.flash_cache.specs.Held.{version_on};
+ghost use Rattle.flash_cache.specs.Representation.{version_on};
 ghost use Rattle.image_meaning.specs.Meaning.{version_in, versions_on};
 ghost use Rattle.image_check.specs.Octets.{AreVersions};
 ghost use Rattle.image_check.specs.Findings.{MayRead, AreFound};
@@ -108,7 +108,7 @@ impl Logged {
         master: &Master,
         lsns: &[u64],
     ) -> Result<Result<Logged, Place>, Stop>
-        requires going { MayGoOn log.now (S.state site.old) }
+        requires going { Invariant log.now (S.state site.old) }
         requires live { log.now.ring.hi ≤ master.now.kept + (log.now.geometry.blocks - 1) }
         requires redo { master.now.redo ≤ log.now.ring.hi }
 
@@ -223,7 +223,7 @@ fn show_log<S: Site>(
     master: &Master,
     frames: &Directory,
 ) -> Result<Result<u64, Place>, Stop>
-    requires going { MayGoOn log.now (S.state site.old) }
+    requires going { Invariant log.now (S.state site.old) }
     requires may_read { MayRead log.now.geometry rings.now (S.state site.old) }
     requires live { log.now.ring.hi ≤ master.now.kept + (log.now.geometry.blocks - 1) }
     requires redo { master.now.redo ≤ log.now.ring.hi }
@@ -277,7 +277,7 @@ pub fn rule_shown<S: Site>(
     rings: &Rings,
     master: &Master,
 ) -> Result<Result<u64, Place>, Stop>
-    requires going { MayGoOn log.now (S.state site.old) }
+    requires going { Invariant log.now (S.state site.old) }
     requires may_read { MayRead log.now.geometry rings.now (S.state site.old) }
     requires live { log.now.ring.hi ≤ master.now.kept + (log.now.geometry.blocks - 1) }
     requires redo { master.now.redo ≤ log.now.ring.hi }

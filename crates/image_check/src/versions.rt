@@ -7,7 +7,7 @@ ghost use Rattle.disk_pages.specs.Pages.{LiesOn};
 ghost use Rattle.frame_group.specs.Groups.{Frame, heads_of, IsGroup};
 ghost use Rattle.slotted_page.specs.Layout.{IsSound};
 ghost use Rattle.tail_rebuild.specs.Standing.{group_on};
-ghost use Rattle.flash_cache.specs.Held.{disk_on, version_on};
+ghost use Rattle.flash_cache.specs.Representation.{disk_on, version_on};
 ghost use Rattle.image_check.specs.Octets.{AreGroups, AreVersions};
 ghost use Rattle.image_check.specs.Framing.{has_frame, IsNamedFrom};
 ghost use Rattle.image_check.specs.Findings.{MayRead, AreFound};

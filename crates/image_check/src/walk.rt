@@ -3,7 +3,7 @@ ghost use Rattle.std.specs.Prelude.{◌≡◌, ◌<◌, ◌≤◌, ◌+◌, ◌-
 ghost use Rattle.site.specs.State.{Image};
 ghost use Rattle.log_records.specs.Log.{Entry, log_from};
 ghost use Rattle.log_records.specs.declared.log_record.LogRecord.{LogRecord};
-ghost use Rattle.log_store.specs.Held.{MayGoOn, Finds, HasBlocks};
+ghost use Rattle.log_store.specs.Representation.{Invariant, Finds, HasBlocks};
 ghost use Rattle.site.specs.Work.{OnlyReads};
 ghost use Rattle.image_check.specs.Walking.{MayWalk, StandsBefore, Gives, to_go};
 
@@ -43,7 +43,7 @@ impl Walk {
     // Reads the next block where no record is left of the one in memory, and answers whether there is a record.
     fn fill<S: Site>(&mut self, site: &mut S, log: &LogStore) -> Result<bool, Stop>
         requires walk { MayWalk log.now self.old }
-        requires going { MayGoOn log.now (S.state site.old) }
+        requires going { Invariant log.now (S.state site.old) }
 
         ensures more { (left : List Entry) → Finds log.now (S.state site.old)
             → StandsBefore self.old log.now (S.state site.old).image left
@@ -81,7 +81,7 @@ impl Walk {
         log: &LogStore,
     ) -> Result<Option<(u64, LogRecord)>, Stop>
         requires walk { MayWalk log.now self.old }
-        requires going { MayGoOn log.now (S.state site.old) }
+        requires going { Invariant log.now (S.state site.old) }
 
         ensures next { (left : List Entry) → Finds log.now (S.state site.old)
             → StandsBefore self.old log.now (S.state site.old).image left

@@ -1,11 +1,10 @@
 -- A group is appended.
-use Rattle.std.proofs.Common.{◌≡◌, ℕ, zero, suc, ◌-◌, ◌<◌, ◌≤◌, List, [], ◌∷◌, ◌++◌, length, take, drop, Some, None, refl, sym, ap, subst, ◌∙◌, arith, take-append-drop}
-use Rattle.std.specs.Prelude.{Option, ◌==◌, if◌then◌else◌}
-use Rattle.std.specs.Option.{option_or}
+use Rattle.std.proofs.Common.{◌≡◌, ℕ, ◌-◌, ◌<◌, ◌≤◌, List, [], ◌∷◌, ◌++◌, length, take, drop, Some, None, refl, sym, ap, subst, ◌∙◌, arith, take-append-drop}
+use Rattle.std.specs.Prelude.{Option}
 use Rattle.std.specs.List.{AllByRecursion}
 use Rattle.std.proofs.lemmas.List.{length-append, drop-append-le}
 use Rattle.std.proofs.lemmas.Grind.{flat_map-append}
-use Rattle.std.proofs.lemmas.Option.{none-some, cond_some}
+use Rattle.std_lemmas.proofs.AllOf.{all_append, all_right, all_drop}
 use Rattle.site.specs.declared.geometry.Geometry.{Geometry}
 use Rattle.site.specs.State.{Image}
 use Rattle.sealed_ring.specs.Ring.{Units}
@@ -22,7 +21,7 @@ use Rattle.checkpoint.specs.declared.master.Master.{Master}
 use Rattle.image_changes.specs.Rings.{Masters, Blocks, group_shape, units_on}
 use Rattle.image_changes.specs.Changes.{AppendsGroup, Makes}
 use Rattle.log_store.proofs.BlockLaws.{blocks_stay}
-use Rattle.flash_cache.specs.Held.{frames_on, disk_on, version_on, IsCleanOn}
+use Rattle.flash_cache.specs.Representation.{frames_on, disk_on, version_on, IsCleanOn}
 use Rattle.image_meaning.specs.Meaning.{picture_under, IsFrameOf, AreGroups, IsSoundUnder, versions_on, version_in}
 use Rattle.image_meaning.specs.Pictures.{ReplaceAll}
 use Rattle.image_meaning.specs.Changes.{leaving, front_on, rest_on, MayAppend}
@@ -30,30 +29,9 @@ use Rattle.image_meaning.specs.Laws.{PushedIsSound, PushedMeans}
 use Rattle.image_meaning.proofs.Versions.{length-versions, version_is, disk_stays}
 use Rattle.image_meaning.proofs.OtherVersions.{versions_are_sound, versions_mean, version_replaces_itself}
 use Rattle.image_meaning.proofs.Pushes.{pushed_clean, pushed_version, others_keep_versions}
-use Rattle.image_meaning.proofs.Sames.{lengths_stay, newest_stays}
+use Rattle.image_meaning.proofs.UnchangedImages.{lengths_stay, newest_stays}
 use Rattle.image_meaning.proofs.SegmentLaws.{segments_pushed}
-
-all_append : {X : Type 0} (P : X → Type 0) (xs ys : List X) → AllByRecursion P xs → AllByRecursion P ys → AllByRecursion P (xs ++ ys)
-all_append P [] ys front rest = rest
-all_append P (x ∷ xs) ys front rest = (front.0, all_append P xs ys front.1 rest)
-
-pub all_right : {X : Type 0} (P : X → Type 0) (xs ys : List X) → AllByRecursion P (xs ++ ys) → AllByRecursion P ys
-all_right P [] ys all = all
-all_right P (x ∷ xs) ys all = all_right P xs ys all.1
-
-pub all_drop : {X : Type 0} (P : X → Type 0) (n : ℕ) (xs : List X) → AllByRecursion P xs → AllByRecursion P (drop n xs)
-all_drop P zero xs all = all
-all_drop P (suc n) [] all = tt
-all_drop P (suc n) (x ∷ xs) all = all_drop P n xs all.1
-
--- the last frame of a page is one of the frames
-last_among : (P : Frame → Type 0) (number : ℕ) (frames : List Frame) (frame : Frame) → AllByRecursion P frames → last_frame number frames ≡ Some frame → P frame
-last_among P number [] frame all last = absurd (none-some frame last)
-last_among P number (first ∷ frames) frame all last = by (last_frame number frames) refl last (λ rest. last_among P number frames frame all.1 rest)
-  where
-    by : (o : Option Frame) → last_frame number frames ≡ o → option_or o (if first.page == number then Some first else None) ≡ Some frame → (last_frame number frames ≡ Some frame → P frame) → P frame
-    by (Some later) is same rest = rest (is ∙ same)
-    by None is same rest = subst P (cond_some (first.page == number) first frame same).1 all.0
+use Rattle.frame_group.proofs.LastFrames.{all_last_frame}
 
 -- the frames that leave, and those that stay
 pub frames_before : (g : Geometry) (image : Image) → frames_on g image ≡ front_on g image ++ rest_on g image
@@ -119,7 +97,7 @@ module _ (newest : Option Master) (g : Geometry) (old new : Image) (blocks : Lis
     where
       by : (o : Option Frame) → last_frame number frames ≡ o → page.IsSound (version_on g new number)
       by None last = subst page.IsSound (sym (version_kept number last)) (sound.octets.versions number within)
-      by (Some frame) last = subst page.IsSound (sym (version_of_frame number frame last)) (last_among (IsFrameOf g) number frames frame may.are_frames last).sound
+      by (Some frame) last = subst page.IsSound (sym (version_of_frame number frame last)) (all_last_frame (IsFrameOf g) number frames frame may.are_frames last).sound
 
   replace : ReplaceAll (picture_under newest g old blocks) (versions_on g new)
   replace = record {

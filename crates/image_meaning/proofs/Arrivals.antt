@@ -15,11 +15,11 @@ use Rattle.image_changes.specs.Rings.{RingName, Masters, Blocks, Groups, Segment
 use Rattle.image_changes.specs.Changes.{Change, SealsBlock, RewritesPages, AppendsGroup, AppendsSegment, AppendsMaster, ring_of, SameSizes, Makes, Reaches}
 use Rattle.image_changes.proofs.Sequence.{ring_kept}
 use Rattle.log_store.proofs.BlockLaws.{blocks_stay}
-use Rattle.flash_cache.specs.Held.{version_on}
+use Rattle.flash_cache.specs.Representation.{version_on}
 use Rattle.image_meaning.specs.Meaning.{picture_under, AreOctetsSoundUnder, IsSoundUnder, version_in}
 use Rattle.image_meaning.specs.Moments.{LeavesTableUnder}
 use Rattle.image_meaning.specs.Reached.{ChangesPages, IsKeptOrReplaced, IsPushed, LeavesPushed, ReachedIsSound, ReachedMeans, PushedStands, PushChangesPages}
-use Rattle.image_meaning.proofs.Sames.{lengths_stay, newest_stays}
+use Rattle.image_meaning.proofs.UnchangedImages.{lengths_stay, newest_stays}
 use Rattle.image_meaning.proofs.Reading.{groups_are_read}
 use Rattle.image_meaning.proofs.Replacing.{version_replaces, replaced_is_sound, replaced_means}
 

@@ -5,12 +5,13 @@ use Rattle.std.specs.List.{AllByRecursion}
 use Rattle.std.specs.Option.{option_or}
 use Rattle.std.proofs.lemmas.Bool.{cases_Bool}
 use Rattle.std.proofs.lemmas.Bool.Decides.{nat_tests}
+use Rattle.std_lemmas.proofs.AllOf.{all_left, all_right, all_both}
 use Rattle.record_model.specs.State.{content_at}
 use Rattle.log_records.specs.declared.log_record.LogRecord.{LogRecord}
 use Rattle.log_records.specs.Log.{Entry, Version, slot_at, number_of, is_on, last_on, value_after, value_of}
 use Rattle.log_records.specs.Sound.{Picture, InTurn}
 use Rattle.log_laws.specs.Follow.{Follows, next_entries, shown_by, shown}
-use Rattle.log_laws.proofs.Lists.{last_where-append, or_is_none}
+use Rattle.log_laws.proofs.Lists.{or_is_none}
 use Rattle.log_laws.proofs.Orders.{all_from, none_passes, entries_in_order}
 use Rattle.log_laws.proofs.Seals.{numbered_with}
 use Rattle.log_laws.proofs.Versions.{table_same}
@@ -20,18 +21,7 @@ use Rattle.image_meaning.specs.Redone.{IsLogged, AreKnown, IsCurrent}
 use Rattle.image_meaning.specs.Ahead.{SealedPageReplaces, ShownStays, TableStays, ShowsStill, CarriesStill, GoesOnStill, TailGoesOn}
 use Rattle.image_meaning.proofs.OtherVersions.{slot_same, sound_with}
 use Rattle.image_meaning.proofs.Redos.{on_number, page_of_number, current_replaces}
-
-all_left : {X : Type 0} (P : X → Type 0) (xs ys : List X) → AllByRecursion P (xs ++ ys) → AllByRecursion P xs
-all_left P [] ys all = tt
-all_left P (x ∷ xs) ys all = (all.0, all_left P xs ys all.1)
-
-all_right : {X : Type 0} (P : X → Type 0) (xs ys : List X) → AllByRecursion P (xs ++ ys) → AllByRecursion P ys
-all_right P [] ys all = all
-all_right P (x ∷ xs) ys all = all_right P xs ys all.1
-
-all_both : {X : Type 0} (P Q R : X → Type 0) → ((x : X) → P x → Q x → R x) → (xs : List X) → AllByRecursion P xs → AllByRecursion Q xs → AllByRecursion R xs
-all_both P Q R both [] p q = tt
-all_both P Q R both (x ∷ xs) p q = (both x p.0 q.0, all_both P Q R both xs p.1 q.1)
+use Rattle.log_records.proofs.Lists.{last_where-append}
 
 -- The tail.
 

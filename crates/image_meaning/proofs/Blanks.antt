@@ -14,8 +14,6 @@ use Rattle.log_records.specs.Log.{Version, version_at, slot_at, table_of}
 use Rattle.log_records.specs.Sound.{FitsLog, Means}
 use Rattle.log_records.specs.Sound as lists
 use Rattle.log_laws.specs.ShownLaws.{TableAt}
-use Rattle.log_laws.proofs.Tables.{length_table_of}
-use Rattle.log_laws.proofs.Versions.{page_and_slot}
 use Rattle.slotted_page.specs.Laws.{IsBlank}
 use Rattle.slotted_page.proofs.Blank.{blank}
 use Rattle.frame_group.specs.Groups.{Frame, IsGroup, frames_in}
@@ -26,10 +24,11 @@ use Rattle.log_store.specs.Laws.{BlankHasNoBlocks}
 use Rattle.meta_segments.specs.Following.{Follow}
 use Rattle.meta_segments.proofs.Numbers.{none_follow}
 use Rattle.tail_rebuild.specs.Standing.{HasSaved}
-use Rattle.flash_cache.specs.Held.{frames_on, disk_on, version_on}
+use Rattle.flash_cache.specs.Representation.{frames_on, disk_on, version_on}
 use Rattle.image_meaning.specs.Meaning.{IsUnused, IsFrameOf, AreSegments, AreOctetsSound, IsSound, picture, versions_on}
 use Rattle.image_meaning.specs.Laws.{BlankStands}
 use Rattle.image_meaning.proofs.Versions.{length-versions, version_is}
+use Rattle.log_records.proofs.Values.{page_and_slot, length_table_of}
 
 pub zero_at : (n p : ℕ) → slice_index (replicate n 0) p ≡ 0
 zero_at zero p = refl

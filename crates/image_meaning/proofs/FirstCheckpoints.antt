@@ -16,7 +16,6 @@ use Rattle.log_records.proofs.SetBlocks.{length_begin}
 use Rattle.log_laws.specs.ShownLaws.{TableAt}
 use Rattle.log_laws.specs.SetLaws.{set_records}
 use Rattle.log_laws.specs.NewImage.{with_master, MayCheckpoint}
-use Rattle.log_laws.proofs.Versions.{page_and_slot}
 use Rattle.slotted_page.specs.Layout.{lsn_of, slots_of}
 use Rattle.slotted_page.specs.Layout as page
 use Rattle.frame_group.specs.Groups.{IsGroup}
@@ -32,6 +31,7 @@ use Rattle.image_meaning.specs.Checkpoints.{first_master, blocks_saved, FirstChe
 use Rattle.image_meaning.proofs.Versions.{version_is}
 use Rattle.image_meaning.proofs.FirstPushes.{sound_after, means_after, version_after}
 use Rattle.image_meaning.proofs.Saves.{empty_master_may_save, saved_is_sound, saved_means}
+use Rattle.log_records.proofs.Values.{page_and_slot}
 
 is_unit : IsUnit (unit first_master) first_master
 is_unit = record { spelled = refl; few = omega arith; ascend = λ i less. absurd (omega (arith, less)); redo = omega arith; kept = omega arith; commits = omega arith; fit = tt }

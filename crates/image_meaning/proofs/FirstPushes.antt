@@ -18,7 +18,6 @@ use Rattle.log_records.specs.Log.{Entry, Version, version_at, number_of}
 use Rattle.log_laws.specs.ShownLaws.{TableAt}
 use Rattle.log_laws.specs.SetLaws.{set_records}
 use Rattle.log_laws.specs.NewImage.{Replaces}
-use Rattle.log_laws.proofs.Versions.{page_and_slot}
 use Rattle.slotted_page.specs.Layout.{lsn_of, slots_of}
 use Rattle.slotted_page.specs.Layout as page
 use Rattle.frame_group.specs.Groups.{Frame, IsGroup}
@@ -27,7 +26,7 @@ use Rattle.frame_group.proofs.LastFrames.{last_is_of_page}
 use Rattle.image_changes.specs.Rings.{Groups, group_shape, units_on}
 use Rattle.image_changes.specs.Changes.{SealsBlock, AppendsGroup, Makes}
 use Rattle.log_store.specs.Laws.{BlankHasNoBlocks}
-use Rattle.flash_cache.specs.Held.{version_on}
+use Rattle.flash_cache.specs.Representation.{version_on}
 use Rattle.image_meaning.specs.Meaning.{picture, version_in, versions_on, IsSound, Stands}
 use Rattle.image_meaning.specs.Changes.{NoSegmentIsDue, front_on, MayAppend}
 use Rattle.image_meaning.specs.Redone.{ShowsAll, Redoes}
@@ -37,6 +36,7 @@ use Rattle.image_meaning.proofs.Redos.{slot_of_page, shows_more, shows_elsewhere
 use Rattle.image_meaning.proofs.Blanks.{unused, no_live, blank_page}
 use Rattle.image_meaning.proofs.FirstSets.{sound_set, means_set}
 use Rattle.image_meaning.proofs.Appends.{pushed_is_sound, pushed_means, version_of_frame}
+use Rattle.log_records.proofs.Values.{page_and_slot}
 
 take_none : (n : ℕ) (none : List (List ℕ)) → none ≡ [] → take n none ≡ []
 take_none zero none is = refl

@@ -1,6 +1,7 @@
 -- What a crash leaves of calls that change images.
 use Rattle.std.proofs.Common.{◌≡◌, ◌⊎◌, inl, inr, ℕ, ◌+◌, List, [], ◌∷◌, ◌++◌, length, take, drop, Option, refl, sym, ap, subst, ◌∙◌, arith, append_assoc}
 use Rattle.std.specs.List.{AllByRecursion}
+use Rattle.std_lemmas.proofs.AllOf.{all_left}
 use Rattle.site.specs.declared.geometry.Geometry.{Geometry}
 use Rattle.site.specs.State.{State, Image, Snapshot}
 use Rattle.site.specs.Laws.{leaves_weaker}
@@ -14,7 +15,7 @@ use Rattle.frame_group.specs.Laws.{StagingKeepsVersions, StagingKeepsClean}
 use Rattle.checkpoint.specs.declared.master.Master.{Master}
 use Rattle.image_changes.specs.Rings.{Groups}
 use Rattle.image_changes.specs.Changes.{Change, SealsBlock, RewritesPages, AppendsGroup, AppendsSegment, AppendsMaster, ReadsAs, Reaches}
-use Rattle.image_changes.proofs.Sequence.{changes_add_up}
+use Rattle.image_changes.proofs.Sequence.{changes_add_up, reaches_parts}
 use Rattle.image_changes.specs.Reached.{IsReached, IsFrontOf}
 use Rattle.flash_cache.specs.Pushed.{LeavesPush}
 use Rattle.image_meaning.specs.Meaning.{kept_by, picture_under, IsSoundUnder, StandsUnder}
@@ -22,15 +23,10 @@ use Rattle.image_meaning.specs.Changes.{MayMakeAll, SealsNoCommit, SavesNoMaster
 use Rattle.image_meaning.specs.Below.{MasterLaws}
 use Rattle.image_meaning.specs.Moments.{LeavesTableUnder, LeavesEitherUnder, LeavesFor, LeavesEitherFor, UnderLeavesFor, UnderLeavesEitherFor, FrontStandsFor, FrontStands, PushStands, CommitStands}
 use Rattle.image_meaning.proofs.Versions.{versions_same, version_stays}
-use Rattle.image_meaning.proofs.Sames.{same_is_sound, same_means, same_picture}
+use Rattle.image_meaning.proofs.UnchangedImages.{same_is_sound, same_means, same_picture}
 use Rattle.image_meaning.proofs.Seals.{sealed_image_is_sound, sealed_with_commit}
 use Rattle.image_meaning.proofs.Making.{change_keeps_sound, front_keeps_sound, front_keeps_meaning}
-use Rattle.image_meaning.proofs.WholePushes.{push_keeps_sound, push_keeps_meaning, reaches_parts}
-
--- the first ones of changes that seal no Commit
-all_front : {X : Type 0} (P : X → Type 0) (front left : List X) → AllByRecursion P (front ++ left) → AllByRecursion P front
-all_front P [] left all = tt
-all_front P (x ∷ front) left all = (all.0, all_front P front left all.1)
+use Rattle.image_meaning.proofs.WholePushes.{push_keeps_sound, push_keeps_meaning}
 
 -- changes that append no master unit leave the newest one
 pub no_master : (newest : Option Master) (changes : List Change) → AllByRecursion SavesNoMaster changes → newest_after_all newest changes ≡ newest
@@ -99,7 +95,7 @@ module _ (versions_kept : StagingKeepsVersions) (clean_kept : StagingKeepsClean)
       (snapshot : Snapshot) (is : IsReached g (IsFrontOf changes) old snapshot) → StandsUnder (newest_after_all newest is.changes) g snapshot.image table count
   stands_reached newest g old blocks changes table count sound means may none snapshot is =
       stands_front newest g old.image snapshot.image blocks is.changes is.made.0 table count sound means (subst (MayMakeAll newest g old.image blocks) is.made.1 may)
-      (all_front SealsNoCommit is.changes is.made.0 (subst (AllByRecursion SealsNoCommit) is.made.1 none)) is.reaches
+      (all_left SealsNoCommit is.changes is.made.0 (subst (AllByRecursion SealsNoCommit) is.made.1 none)) is.reaches
 
   pub front_stands_for : FrontStandsFor
   front_stands_for newest g old new blocks changes table count sound means may none leaves =
@@ -112,7 +108,7 @@ module _ (versions_kept : StagingKeepsVersions) (clean_kept : StagingKeepsClean)
   front_stands newest g old new blocks changes table count sound means may none kept leaves =
       leaves_weaker old new (IsReached g (IsFrontOf changes) old) (LeavesTableUnder newest g table count old.told) (λ snapshot is. record {
         told = is.told;
-        stands = subst (λ (n : Option Master). StandsUnder n g snapshot.image table count) (no_master newest is.changes (all_front SavesNoMaster is.changes is.made.0 (subst (AllByRecursion SavesNoMaster) is.made.1 kept)))
+        stands = subst (λ (n : Option Master). StandsUnder n g snapshot.image table count) (no_master newest is.changes (all_left SavesNoMaster is.changes is.made.0 (subst (AllByRecursion SavesNoMaster) is.made.1 kept)))
             (stands_reached newest g old blocks changes table count sound means may none snapshot is);
       }) leaves
 
@@ -167,9 +163,9 @@ module _ (versions_kept : StagingKeepsVersions) (clean_kept : StagingKeepsClean)
         stands = elim (front_more changes (SealsBlock records) is.changes is.made.0 is.made.1) [
           | inl part ↦
               let split : changes ++ SealsBlock records ∷ [] ≡ is.changes ++ (part.0 ++ SealsBlock records ∷ []) = ap (λ (l : List Change). l ++ SealsBlock records ∷ []) part.1 ∙ append_assoc is.changes part.0 (SealsBlock records ∷ []) in
-              inl (subst (λ (n : Option Master). StandsUnder n g snapshot.image table count) (no_master newest is.changes (all_front SavesNoMaster is.changes part.0 (subst (AllByRecursion SavesNoMaster) part.1 kept)))
+              inl (subst (λ (n : Option Master). StandsUnder n g snapshot.image table count) (no_master newest is.changes (all_left SavesNoMaster is.changes part.0 (subst (AllByRecursion SavesNoMaster) part.1 kept)))
               (stands_front newest g old.image snapshot.image blocks is.changes (part.0 ++ SealsBlock records ∷ []) table count sound means (subst (MayMakeAll newest g old.image blocks) split may)
-              (all_front SealsNoCommit is.changes part.0 (subst (AllByRecursion SealsNoCommit) part.1 none)) is.reaches))
+              (all_left SealsNoCommit is.changes part.0 (subst (AllByRecursion SealsNoCommit) part.1 none)) is.reaches))
           | inr whole ↦ inr (stands_committed newest g old.image snapshot.image blocks changes records table count before after lsn t number sound means may none kept parts first last
               (subst (λ (l : List Change). Reaches g l old.image snapshot.image) whole is.reaches))
         ];

@@ -3,7 +3,7 @@ pub mod Redos
 pub mod Behind
 pub mod Pushes
 pub mod Versions
-pub mod Sames
+pub mod UnchangedImages
 pub mod Seals
 pub mod Stages
 pub mod SegmentLaws

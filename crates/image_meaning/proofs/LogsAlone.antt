@@ -20,13 +20,13 @@ use Rattle.image_changes.specs.Rings.{Masters, Blocks, Groups, Segments, master_
 use Rattle.site.specs.declared.outside.Dev.TheVariants.{Log, Flash, Disk}
 use Rattle.image_changes.specs.Changes.{SameSizes}
 use Rattle.image_changes.proofs.AppendLaws.{ring_fits}
-use Rattle.flash_cache.specs.Held.{version_on}
+use Rattle.flash_cache.specs.Representation.{version_on}
 use Rattle.image_meaning.specs.Meaning.{AreOctetsSound, IsSound, picture, version_in, versions_on}
 use Rattle.image_meaning.specs.Pictures.{ReplaceAll}
 use Rattle.image_meaning.specs.Plain.{IsLogAlone, LogAloneIsSound, LogAloneMeans}
 use Rattle.image_meaning.proofs.Versions.{length-versions, version_is, version_stays}
 use Rattle.image_meaning.proofs.OtherVersions.{versions_are_sound, versions_mean, alike_replaces}
-use Rattle.image_meaning.proofs.Sames.{octets_stay}
+use Rattle.image_meaning.proofs.UnchangedImages.{octets_stay}
 use Rattle.image_meaning.proofs.Blanks.{lengths, blank_page, octets, zero_at}
 
 module _ (ring_of_zeros : BlankIsRing) (leaves_others : LeavesOthers) (g : Geometry) (image : Image) (blocks : List (List LogRecord)) (alone : IsLogAlone g image blocks) where

@@ -11,7 +11,7 @@ use Rattle.image_changes.specs.Changes.{SealsBlock, RewritesPages, AppendsGroup,
 use Rattle.image_meaning.specs.Laws.{ChangeKeepsSound, ChangeKeepsMeaning, FrontKeepsSound, FrontKeepsMeaning}
 use Rattle.image_meaning.specs.Changes.{newest_after, blocks_after}
 use Rattle.image_meaning.specs.Below.{MasterLaws}
-use Rattle.image_meaning.proofs.Sames.{same_is_sound, same_means}
+use Rattle.image_meaning.proofs.UnchangedImages.{same_is_sound, same_means}
 use Rattle.image_meaning.proofs.Seals.{sealed_image_is_sound, sealed_without_commit}
 use Rattle.image_meaning.proofs.Stages.{staged_is_sound, staged_means}
 use Rattle.image_meaning.proofs.Appends.{pushed_is_sound, pushed_means}

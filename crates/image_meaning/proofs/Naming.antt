@@ -1,16 +1,16 @@
 -- The master that names the unfinished transactions of a log.
-use Rattle.std.proofs.Common.{◌≡◌, ℕ, suc, ◌+◌, ◌*◌, ◌<◌, ◌≤◌, ⊎_elim, true, ◌||◌, Bool, List, [], ◌∷◌, take, map, refl, sym, ap, subst, ◌∙◌, arith}
+use Rattle.std.proofs.Common.{◌≡◌, ℕ, suc, ◌+◌, ◌*◌, ◌<◌, ◌≤◌, ⊎_elim, true, List, [], ◌∷◌, take, map, refl, sym, ap, subst, ◌∙◌, arith}
 use Rattle.std.specs.Prelude.{◌==◌, ◌&&◌, not, slice_index_or}
 use Rattle.std.specs.List.{list_any, AllByRecursion}
 use Rattle.std.proofs.lemmas.Bool.{or_cases, or_left, or_right, eqb-true, eq-eqb}
+use Rattle.std_lemmas.proofs.AllOf.{all_both, all_weaker, all_map}
+use Rattle.std_lemmas.proofs.Lists.{any_map}
 use Rattle.log_records.specs.Log.{Entry, is_loser, is_closed, entries_of}
 use Rattle.log_records.specs.Unfinished.{is_begin, losers}
 use Rattle.log_records.specs.Sound.{Active, Picture, IsSound, last_lsn, active_in}
 use Rattle.log_laws.specs.LoserLaws.{ListedIsLoser, LoserIsListed}
 use Rattle.log_laws.specs.NewImage.{with_master}
-use Rattle.log_laws.proofs.Lists.{all_weaker}
 use Rattle.log_laws.proofs.Listing.{Ascends, losers_ascend, above}
-use Rattle.log_laws.proofs.Parts.{all_both, all_map}
 use Rattle.checkpoint.specs.declared.master.Master.{Master}
 use Rattle.checkpoint.specs.declared.pairs.Pair.{Pair}
 use Rattle.checkpoint.specs.Actives.{no_pair, Ascend}
@@ -68,10 +68,6 @@ ascends_of from (p ∷ []) up first = (first.0, tt)
 ascends_of from (p ∷ q ∷ pairs) up first =
     let next = up 0 (omega arith) in (first.0, ascends_of (p.begin + 1) (q ∷ pairs) (ascend_rest p (q ∷ pairs) up) (omega (arith, next), tt))
 
-any_of_map : {X Y : Type 0} (test : Y → Bool) (f : X → Y) (xs : List X) → list_any test (map f xs) ≡ list_any (λ x. test (f x)) xs
-any_of_map test f [] = refl
-any_of_map test f (x ∷ xs) = ap (λ b. test (f x) || b) (any_of_map test f xs)
-
 -- pairs with the last LSNs of their transactions
 pairs_are : (log : List Entry) (pairs : List Pair) → AllByRecursion (λ pair. pair.last ≡ last_lsn (entries_of pair.begin log)) pairs →
     map {B = Active} (λ (pair : Pair). record { begin = pair.begin; last = pair.last }) pairs ≡ map {B = Active} (λ t. record { begin = t; last = last_lsn (entries_of t log) }) (map (λ (pair : Pair). pair.begin) pairs)
@@ -91,7 +87,7 @@ module _ (listed_is_loser : ListedIsLoser) (loser_is_listed : LoserIsListed) (p 
   each_is_named : AllByRecursion (IsAmong begins) (losers p.log)
   each_is_named =
       all_weaker (IsAmong (losers p.log)) (IsAmong begins)
-      (λ t listed. any_of_map (λ s. s == t) (λ (pair : Pair). pair.begin) m.active ∙ is.all t (listed_is_loser p.log t listed)) (losers p.log) (all_among (losers p.log))
+      (λ t listed. any_map (λ s. s == t) (λ (pair : Pair). pair.begin) m.active ∙ is.all t (listed_is_loser p.log t listed)) (losers p.log) (all_among (losers p.log))
 
   first_low : (pairs : List Pair) → AllByRecursion (λ pair. 0 ≤ pair.begin) (take 1 pairs)
   first_low [] = tt

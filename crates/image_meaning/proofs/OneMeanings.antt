@@ -13,7 +13,7 @@ use Rattle.checkpoint.specs.Laws.{OneNewest}
 use Rattle.image_changes.specs.Rings.{master_shape, log_shape, units_on}
 use Rattle.log_store.specs.declared.store.LogStore.{LogStore}
 use Rattle.log_store.specs.LogList.{LogList}
-use Rattle.log_store.specs.Held.{HasBlocks, Holds}
+use Rattle.log_store.specs.Representation.{HasBlocks, Represents}
 use Rattle.log_store.specs.Laws.{OneLog}
 use Rattle.image_meaning.specs.Meaning.{saved_by, kept_by, picture_under, HasNewest, IsSoundUnder, StandsUnder}
 use Rattle.image_meaning.specs.Laws.{OneMeaning, OneMeaningFor, OneMasterStands, NewestIsRead, ReadIsNewest}
@@ -25,7 +25,7 @@ empty_store g = record { geometry = g; ring = record { shape = log_shape g; hi =
 abbrev list_of : ℕ → List (List LogRecord) → LogList
 list_of first blocks = record { first = first; blocks = blocks; tail = [] }
 
-holds : (g : Geometry) (image : Image) (first : ℕ) (blocks : List (List LogRecord)) → HasBlocks g first blocks image → Holds (empty_store g) image (list_of first blocks)
+holds : (g : Geometry) (image : Image) (first : ℕ) (blocks : List (List LogRecord)) → HasBlocks g first blocks image → Represents (empty_store g) image (list_of first blocks)
 holds g image first blocks has = record { kept = omega arith; blocks = has; tail = record { end = refl; have_form = tt; fit_fields = tt; text = refl } }
 
 module _ (one : OneLog) (newest : Option Master) (g : Geometry) (image : Image) where

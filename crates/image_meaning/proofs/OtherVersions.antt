@@ -3,13 +3,14 @@ use Rattle.std.proofs.Common.{◌+◌, ◌≡◌, ℕ, ◌*◌, ◌/◌, ◌%◌
 use Rattle.std.specs.Prelude.{Option, IsTrue, nat_lt}
 use Rattle.std.specs.List.{AllByRecursion}
 use Rattle.std.proofs.lemmas.Nat.{mod_below}
+use Rattle.std_lemmas.proofs.AllOf.{all_weaker}
 use Rattle.record_model.specs.State.{Content, content_at}
 use Rattle.log_records.specs.Log.{Entry, Version, version_at, slot_at, number_of, last_on, value_after, value_of}
 use Rattle.log_records.specs.Sound.{Picture, IsSound, Means, FitsLog, IsInTable, ShowsLast, last_known, before_block}
 use Rattle.log_laws.specs.NewImage.{Replaces}
-use Rattle.log_laws.proofs.Lists.{all_weaker}
-use Rattle.log_laws.proofs.Versions.{table_same, page_and_slot}
+use Rattle.log_laws.proofs.Versions.{table_same}
 use Rattle.image_meaning.specs.Pictures.{with_versions, ReplaceAll, VersionsAreSound, VersionsMean, VersionReplacesItself}
+use Rattle.log_records.proofs.Values.{page_and_slot}
 
 -- a slot without records is as it was
 pub slot_same : (p : Picture) (versions : List Version) → ReplaceAll p versions → (number : ℕ) → number < 32 * length p.pages → last_on p.log number ≡ None → slot_at versions number ≡ slot_at p.pages number

@@ -1,10 +1,11 @@
 -- The groups that a cache knows of.
 use Rattle.image_meaning.specs.Reached.{GroupsAreSound}
 use Rattle.site.specs.State.{Image}
-use Rattle.std.proofs.Common.{◌≡◌, ℕ, refl, arith, ◌++◌, List, [], ◌∷◌, map, sym, ap, subst, ◌∙◌}
+use Rattle.std.proofs.Common.{◌≡◌, ℕ, refl, arith, List, [], ◌∷◌, map, sym, ap, subst, ◌∙◌}
 use Rattle.std.specs.Prelude.{flat_map, ◌<◌}
 use Rattle.std.specs.List.{AllByRecursion}
 use Rattle.std.proofs.lemmas.List.{length-map}
+use Rattle.std_lemmas.proofs.AllOf.{all_left, all_append, all_right, all_weaker}
 use Rattle.sealed_ring.proofs.Units.{live_count}
 use Rattle.image_changes.specs.Rings.{group_shape, units_on}
 use Rattle.site.specs.declared.geometry.Geometry.{Geometry}
@@ -12,10 +13,10 @@ use Rattle.slotted_page.specs.Layout as page
 use Rattle.frame_group.specs.Groups.{Frame, IsGroup, group, frames_in}
 use Rattle.frame_group.specs.Versions.{frames_of}
 use Rattle.frame_group.proofs.Contents.{frames_are_in, frames_of_groups}
-use Rattle.log_laws.proofs.Lists.{all_append, all_weaker}
-use Rattle.flash_cache.specs.Held.{HasFrames, HasGroups, frames_on, groups_on, AreSaved}
+use Rattle.flash_cache.specs.Representation.{HasFrames, HasGroups, frames_on, AreSaved}
 use Rattle.image_meaning.specs.Meaning.{IsFrameOf}
 use Rattle.image_meaning.specs.PushLaws.{GroupsAreRead, GroupsAreThere, SegmentsAreRead}
+use Rattle.flash_cache.proofs.Segments.{groups_are}
 
 each_group : (g : Geometry) (groups : List (List Frame)) → AllByRecursion (λ frames. HasFrames g frames (group frames)) groups → AllByRecursion (λ content. IsGroup content (frames_in content)) (map group groups)
 each_group g [] all = tt
@@ -42,19 +43,11 @@ groups_are_read g first groups image has sound =
       frames,
     )
 
-all_left : {X : Type 0} (P : X → Type 0) (xs ys : List X) → AllByRecursion P (xs ++ ys) → AllByRecursion P xs
-all_left P [] ys all = tt
-all_left P (x ∷ xs) ys all = (all.0, all_left P xs ys all.1)
-
-all_right : {X : Type 0} (P : X → Type 0) (xs ys : List X) → AllByRecursion P (xs ++ ys) → AllByRecursion P ys
-all_right P [] ys all = all
-all_right P (x ∷ xs) ys all = all_right P xs ys all.1
-
-spelled_again : (contents : List (List ℕ)) → AllByRecursion (λ content. IsGroup content (frames_in content)) contents → contents ≡ map group (map frames_in contents)
+pub spelled_again : (contents : List (List ℕ)) → AllByRecursion (λ content. IsGroup content (frames_in content)) contents → contents ≡ map group (map frames_in contents)
 spelled_again [] all = refl
 spelled_again (content ∷ contents) all = λ i. all.0.spelled i ∷ spelled_again contents all.1 i
 
-each_has : (g : Geometry) (contents : List (List ℕ)) → AllByRecursion (λ content. IsGroup content (frames_in content)) contents → AllByRecursion (IsFrameOf g) (frames_of contents) →
+pub each_has : (g : Geometry) (contents : List (List ℕ)) → AllByRecursion (λ content. IsGroup content (frames_in content)) contents → AllByRecursion (IsFrameOf g) (frames_of contents) →
     AllByRecursion (λ frames. HasFrames g frames (group frames)) (map frames_in contents)
 each_has g [] all frames = tt
 each_has g (content ∷ contents) all frames = (
@@ -75,14 +68,6 @@ groups_are_there g image groups =
       are_groups = each_has g live groups.each groups.frames;
       live = spelled_again live groups.each;
     }
-
-frames_in_each : (g : Geometry) (groups : List (List Frame)) → AllByRecursion (λ frames. HasFrames g frames (group frames)) groups → map frames_in (map group groups) ≡ groups
-frames_in_each g [] all = refl
-frames_in_each g (frames ∷ groups) all = λ i. frames_are_in (group frames) frames all.0.is_group i ∷ frames_in_each g groups all.1 i
-
--- the groups that an image has are those that are read off it
-pub groups_are : (g : Geometry) (first : ℕ) (groups : List (List Frame)) (image : Image) → HasGroups g first groups image → groups_on g image ≡ groups
-groups_are g first groups image has = ap (map frames_in) has.live ∙ frames_in_each g groups has.are_groups
 
 pub segments_are_read : SegmentsAreRead
 segments_are_read g first groups image has saved = subst (λ (l : List (List Frame)). AreSaved g l image) (sym (groups_are g first groups image has)) saved

@@ -1,19 +1,21 @@
 -- Versions of a page that know of the log up to an LSN.
 use Rattle.std.proofs.Common.{◌≡◌, ℕ, ◌+◌, ◌*◌, ◌/◌, ◌%◌, ◌<◌, ◌≤◌, ◌==◌, ◌&&◌, ◌||◌, Bool, true, false, true≢false, List, [], ◌∷◌, ◌++◌, Some, None, refl, sym, ap, subst, ◌∙◌, arith, inl, inr}
-use Rattle.std.specs.Prelude.{Option, filter, nat_lt, nat_le, IsTrue, if◌then◌else◌}
+use Rattle.std.specs.Prelude.{Option, nat_lt, nat_le, IsTrue, if◌then◌else◌}
 use Rattle.std.specs.List.{AllByRecursion}
 use Rattle.std.specs.Option.{option_or}
 use Rattle.std.proofs.lemmas.Bool.{cases_Bool, eqb-true, le-leb, lt-leb, and_right}
 use Rattle.std.proofs.lemmas.Bool.Decides.{nat_tests}
 use Rattle.std.proofs.lemmas.Option.{none-some}
 use Rattle.std.proofs.lemmas.Nat.{div-mul-add, mod-mul-add}
+use Rattle.std_lemmas.proofs.AllOf.{all_push, all_filter, all_weaker}
 use Rattle.record_model.specs.State.{Content, content_at}
 use Rattle.log_records.specs.Log.{Entry, Version, version_at, slot_at, number_of, is_number, is_on, after_of, last_where, last_on}
 use Rattle.log_records.specs.Sound.{Picture, IsSound, IsInOrder, ShowsLast, last_known, before_block}
 use Rattle.log_laws.specs.Follow.{shown_by, shown}
-use Rattle.log_laws.proofs.Lists.{all_weaker, last_where-append, or_is_none}
+use Rattle.log_laws.proofs.Lists.{or_is_none}
 use Rattle.log_laws.proofs.Orders.{all_from, none_passes}
 use Rattle.image_meaning.specs.Redone.{AreKnown, redone, IsRedone, Redoes, RedoneReplaces, CurrentReplaces, VersionIsRedone, NextIsRedone, RedoneIsCurrent, ShowsMore, ShowsElsewhere}
+use Rattle.log_records.proofs.Lists.{last_where-append}
 
 -- Numbers.
 
@@ -41,14 +43,6 @@ last_weaker test other weaker (x ∷ xs) none =
 last_same : {X : Type 0} (test other : X → Bool) (xs : List X) → AllByRecursion (λ x. test x ≡ other x) xs → last_where test xs ≡ last_where other xs
 last_same test other [] same = refl
 last_same test other (x ∷ xs) same = λ i. option_or (last_same test other xs same.1 i) (if same.0 i then Some x else None)
-
-all_filter : {X : Type 0} (P : X → Type 0) (test : X → Bool) (xs : List X) → AllByRecursion P xs → AllByRecursion P (filter test xs)
-all_filter P test [] all = tt
-all_filter P test (x ∷ xs) all = by (test x) (all_filter P test xs all.1)
-  where
-    by : (b : Bool) → AllByRecursion P (filter test xs) → AllByRecursion P (if b then x ∷ filter test xs else filter test xs)
-    by true rest = (all.0, rest)
-    by false rest = rest
 
 -- Records on a number.
 
@@ -136,10 +130,6 @@ redone_is_current p page v r known = record {
 }
 
 -- One record more.
-
-all_push : {X : Type 0} (P : X → Type 0) (xs : List X) (x : X) → AllByRecursion P xs → P x → AllByRecursion P (xs ++ x ∷ [])
-all_push P [] x all own = (own, tt)
-all_push P (y ∷ xs) x all own = (all.0, all_push P xs x all.1 own)
 
 shown_with : (log : List Entry) (e : Entry) (pages : List Version) (number : ℕ) → shown (log ++ e ∷ []) pages number ≡ (if is_on number e then after_of e.rec else shown log pages number)
 shown_with log e pages number =

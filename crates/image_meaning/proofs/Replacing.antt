@@ -5,7 +5,7 @@ use Rattle.site.specs.State.{Image}
 use Rattle.log_records.specs.declared.log_record.LogRecord.{LogRecord}
 use Rattle.log_laws.specs.NewImage.{Replaces}
 use Rattle.checkpoint.specs.declared.master.Master.{Master}
-use Rattle.flash_cache.specs.Held.{version_on}
+use Rattle.flash_cache.specs.Representation.{version_on}
 use Rattle.image_meaning.specs.Meaning.{picture_under, version_in, versions_on}
 use Rattle.image_meaning.specs.Pictures.{ReplaceAll}
 use Rattle.image_meaning.specs.Laws.{ReplacedIsSound, ReplacedMeans, VersionReplaces}

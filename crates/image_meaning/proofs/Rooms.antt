@@ -1,10 +1,10 @@
 -- The picture of an image: what changes make of it, its room and its commits.
-use Rattle.std.proofs.Common.{◌≡◌, ◌≢◌, ℕ, suc, ◌+◌, ◌*◌, ◌≤◌, List, [], ◌∷◌, ◌++◌, length, Option, refl, sym, ap, subst, arith, length-append, ◌∙◌, append-nil, append_assoc}
-use Rattle.log_records.specs.declared.log_record.LogRecord.{LogRecord}
-use Rattle.log_records.specs.Spelling.{spelling, AreBlock}
+use Rattle.std.proofs.Common.{◌≢◌, ◌+◌, ◌*◌, [], ◌∷◌, ◌++◌, Option, refl, sym, subst, arith, length-append, ◌∙◌, append-nil, append_assoc}
+use Rattle.std_lemmas.proofs.AllOf.{all_weaker}
+use Rattle.std_lemmas.proofs.Lists.{some_length}
+use Rattle.log_records.specs.Spelling.{AreBlock}
 use Rattle.log_records.specs.Log.{entries_from, log_from}
 use Rattle.log_records.specs.Sound.{Picture}
-use Rattle.log_laws.proofs.Lists.{all_weaker}
 use Rattle.log_laws.proofs.Owing.{blocks_have_records}
 use Rattle.log_laws.proofs.Tails.{plain_count}
 use Rattle.frame_group.specs.Laws.{StagingKeepsVersions, StagingKeepsClean}
@@ -12,9 +12,10 @@ use Rattle.checkpoint.specs.declared.master.Master.{Master}
 use Rattle.image_meaning.specs.Meaning.{kept_by, next_block_under}
 use Rattle.image_meaning.specs.PictureLaws.{PictureSealed, PictureStays, StagedVersions, RoomForBlock, RoomForTailUnder, AllCommitsCount, GoOn, SealsMayBeMade, BlocksAfterSeals}
 use Rattle.image_meaning.proofs.Versions.{versions_same}
-use Rattle.image_meaning.proofs.Sames.{next_block_is, same_picture}
+use Rattle.image_meaning.proofs.UnchangedImages.{next_block_is, same_picture}
 use Rattle.image_meaning.proofs.Seals.{sealed_picture}
 use Rattle.image_meaning.proofs.Stages.{version_kept}
+use Rattle.log_records.proofs.Entries.{length_entries}
 
 pub picture_sealed : PictureSealed
 picture_sealed newest g old new blocks records made = sealed_picture newest g old new blocks records made
@@ -28,21 +29,13 @@ staged_versions versions_kept clean_kept newest g old new blocks pages sound may
 pub room_for_block : RoomForBlock
 room_for_block newest g image blocks tail fits = omega (arith, fits, next_block_is newest blocks)
 
-some_records : (tail : List LogRecord) → tail ≢ [] → 1 ≤ length tail
-some_records [] some = absurd (some refl)
-some_records (rec ∷ records) some = omega arith
-
-length_entries : (lsn : ℕ) (records : List LogRecord) → length (entries_from lsn records) ≡ length records
-length_entries lsn [] = refl
-length_entries lsn (rec ∷ records) = ap suc (length_entries (lsn + length (spelling rec)) records)
-
 -- a block has a record at least
 pub room_for_tail : (newest : Option Master) → RoomForTailUnder newest
 room_for_tail newest g image blocks tail sound some fits =
     let many = blocks_have_records (kept_by newest) blocks (all_weaker AreBlock (λ records. records ≢ []) (λ records are. are.some) blocks sound.held.are_blocks) in
     let first = 512 * next_block_under newest blocks + 2 in
     room_for_block newest g image blocks tail
-    (omega (arith, fits, many, some_records tail some, length_entries first tail, length-append (log_from (kept_by newest) blocks) (entries_from first tail)))
+    (omega (arith, fits, many, some_length tail some, length_entries first tail, length-append (log_from (kept_by newest) blocks) (entries_from first tail)))
 
 pub all_commits_count : AllCommitsCount
 all_commits_count g image blocks = plain_count g.pages g.blocks blocks

@@ -6,6 +6,8 @@ use Rattle.std.proofs.lemmas.Bool.{le-leb, lt-leb}
 use Rattle.std.proofs.lemmas.List.{length-drop}
 use Rattle.std.proofs.lemmas.List.Elements.{filter-append}
 use Rattle.std.proofs.Math.ListN.{drop_of_length-le}
+use Rattle.std_lemmas.proofs.AllOf.{all_filter, all_weaker, all_map}
+use Rattle.std_lemmas.proofs.Lists.{filter_all}
 use Rattle.site.specs.declared.geometry.Geometry.{Geometry}
 use Rattle.site.specs.State.{Image}
 use Rattle.sealed_ring.specs.Ring.{Units}
@@ -17,15 +19,14 @@ use Rattle.log_records.specs.Unfinished.{is_begin, losers}
 use Rattle.log_records.specs.Sound.{Active, Picture, Means, AreOrderly, before_block, from_block, last_lsn}
 use Rattle.log_records.specs.Sound as lists
 use Rattle.log_laws.specs.NewImage.{with_master, MayCheckpoint}
-use Rattle.log_laws.proofs.Lists.{all_weaker}
-use Rattle.log_laws.proofs.Orders.{filter_none, filter_all, all_from, entries_in_order}
-use Rattle.log_laws.proofs.Parts.{all_below, all_filter, all_map}
+use Rattle.log_laws.proofs.Orders.{filter_none, all_from, entries_in_order}
+use Rattle.log_laws.proofs.Parts.{all_below}
 use Rattle.checkpoint.specs.declared.master.Master.{Master}
 use Rattle.checkpoint.specs.Units.{IsUnit, master_in}
 use Rattle.checkpoint.specs.Newest.{seen}
 use Rattle.image_changes.specs.Rings.{Blocks, Groups, Segments, master_shape, units_on}
 use Rattle.image_changes.specs.Changes.{AppendsMaster, Makes}
-use Rattle.log_store.specs.Held.{HasBlocks}
+use Rattle.log_store.specs.Representation.{HasBlocks}
 use Rattle.log_store.proofs.BlockLaws.{blocks_stay, blocks_from}
 use Rattle.image_meaning.specs.Meaning.{master_of, kept_by, next_block_under, picture_under, IsNewest, IsSoundUnder, versions_on}
 use Rattle.image_meaning.specs.Changes.{MaySave}
@@ -34,7 +35,7 @@ use Rattle.image_meaning.specs.Checkpoints.{blocks_saved, MasterMaySave, EmptyMa
 use Rattle.image_meaning.proofs.Flushes.{checkpoint_needs}
 use Rattle.image_meaning.proofs.Naming.{master_is_saved}
 use Rattle.image_meaning.proofs.Versions.{versions_same, version_stays}
-use Rattle.image_meaning.proofs.Sames.{next_block_is, segments_stay, octets_beside}
+use Rattle.image_meaning.proofs.UnchangedImages.{next_block_is, segments_stay, octets_beside}
 
 -- The records of the blocks from a later one on.
 

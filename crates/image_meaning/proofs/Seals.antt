@@ -18,7 +18,7 @@ use Rattle.log_store.proofs.BlockLaws.{blocks_more}
 use Rattle.image_meaning.specs.Meaning.{master_of, kept_by, next_block_under, picture_under, IsSoundUnder, versions_on}
 use Rattle.image_meaning.specs.Laws as laws
 use Rattle.image_meaning.proofs.Versions.{versions_same, version_stays}
-use Rattle.image_meaning.proofs.Sames.{next_block_is, octets_stay, same_picture}
+use Rattle.image_meaning.proofs.UnchangedImages.{next_block_is, octets_stay, same_picture}
 
 -- the picture of an image with one more block
 pub blocks_sealed : (newest : Option Master) (g : Geometry) (image : Image) (blocks : List (List LogRecord)) (records : List LogRecord) →

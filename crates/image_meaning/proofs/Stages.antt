@@ -21,12 +21,12 @@ use Rattle.checkpoint.specs.declared.master.Master.{Master}
 use Rattle.image_changes.specs.Rings.{Masters, Blocks, Groups, Segments}
 use Rattle.image_changes.specs.Changes.{RewritesPages, Makes}
 use Rattle.log_store.proofs.BlockLaws.{blocks_stay}
-use Rattle.flash_cache.specs.Held.{frames_on, disk_on, version_on, IsCleanOn}
+use Rattle.flash_cache.specs.Representation.{frames_on, disk_on, version_on, IsCleanOn}
 use Rattle.image_meaning.specs.Meaning.{picture_under, IsSoundUnder, versions_on}
 use Rattle.image_meaning.specs.Changes.{MayStage}
 use Rattle.image_meaning.specs.Laws.{StagedIsSound, StagedMeans}
 use Rattle.image_meaning.proofs.Versions.{versions_same, frames_stay}
-use Rattle.image_meaning.proofs.Sames.{lengths_stay, newest_stays, groups_stay, segments_stay, same_picture}
+use Rattle.image_meaning.proofs.UnchangedImages.{lengths_stay, newest_stays, groups_stay, segments_stay, same_picture}
 
 -- no octet of a page is one of another page
 apart : (number other place : ℕ) → (number ≡ other → ⊥) → 4096 * number ≤ place → place < 4096 * number + 4096 → IsBeside (4096 * other) 4096 place

@@ -10,7 +10,7 @@ use Rattle.image_changes.specs.Rings.{group_shape, KeepsUnits}
 use Rattle.sealed_ring.specs.Ring.{Units}
 use Rattle.frame_group.specs.Versions.{frames_of}
 use Rattle.disk_pages.specs.Pages.{page_on}
-use Rattle.flash_cache.specs.Held.{frames_on, disk_on, version_on}
+use Rattle.flash_cache.specs.Representation.{frames_on, disk_on, version_on}
 use Rattle.image_meaning.specs.Meaning.{version_in, versions_on}
 
 pub length-versions : (g : Geometry) (image : Image) → length (versions_on g image) ≡ g.pages

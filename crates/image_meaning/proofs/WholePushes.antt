@@ -20,16 +20,16 @@ use Rattle.checkpoint.specs.declared.master.Master.{Master}
 use Rattle.image_changes.specs.Rings.{Groups, Segments, group_shape, segment_shape}
 use Rattle.image_changes.specs.Changes.{Change, RewritesPages, AppendsGroup, ReadsAs, Rewrites, Makes, Reaches}
 use Rattle.image_changes.specs.Reached.{IsFrontOf}
-use Rattle.image_changes.proofs.Sequence.{reads_itself}
 use Rattle.stage_out.specs.Staged.{HasStaged, changes_of}
-use Rattle.flash_cache.specs.Held.{frames_on, disk_on}
+use Rattle.flash_cache.specs.Representation.{frames_on, disk_on}
 use Rattle.flash_cache.specs.Pushed.{changes_of_push}
 use Rattle.image_meaning.specs.Meaning.{picture_under, IsSoundUnder, version_in}
 use Rattle.image_meaning.specs.Changes.{front_on, rest_on, MayStage, MayAppend}
 use Rattle.image_meaning.specs.PushLaws.{MayPushGroup, PushKeepsSound, PushKeepsMeaning}
-use Rattle.image_meaning.proofs.Sames.{same_is_sound, same_means, same_picture}
+use Rattle.image_meaning.proofs.UnchangedImages.{same_is_sound, same_means, same_picture}
 use Rattle.image_meaning.proofs.Stages.{staged_is_sound, staged_means, page_kept, same_versions}
 use Rattle.image_meaning.proofs.Appends.{pushed_is_sound, pushed_means, frames_before}
+pub use Rattle.image_changes.proofs.Sequence.{reaches_parts}
 
 -- what staging makes of an image, whatever pages there are
 rewritten : (g : Geometry) (pages : List ℕ) (a b : Image) → Reaches g (changes_of pages) a b → Rewrites g pages a b
@@ -43,12 +43,6 @@ rewritten g (page ∷ pages) a b reached =
       exist = made.exist;
       others = λ place out. ap (λ (disk : List ℕ). slice_index disk place) reads.disk ∙ made.others place out;
     }
-
--- a list of changes in two parts
-pub reaches_parts : (g : Geometry) (first second : List Change) (a c : Image) → Reaches g (first ++ second) a c → (b : Image) × Reaches g first a b × Reaches g second b c
-reaches_parts g [] second a c reached = (a, reads_itself g a, reached)
-reaches_parts g (change ∷ first) second a c reached =
-    let rest = reaches_parts g first second reached.0 c reached.2 in (rest.0, (reached.0, reached.1, rest.1), rest.2)
 
 one_front : {X : Type 0} (x y : X) (ys left : List X) → x ∷ [] ≡ (y ∷ ys) ++ left → y ∷ ys ≡ x ∷ []
 one_front x y [] left same = sym (ap (take 1) same)

@@ -19,7 +19,7 @@ use Rattle.checkpoint.specs.declared.master.Master.{Master}
 use Rattle.checkpoint.specs.Units.{IsUnit, master_in}
 use Rattle.checkpoint.specs.Newest.{seen}
 use Rattle.tail_rebuild.specs.Saving.{segment_of}
-use Rattle.flash_cache.specs.Held.{frames_on, groups_on, disk_on}
+use Rattle.flash_cache.specs.Representation.{frames_on, groups_on, disk_on}
 use Rattle.image_meaning.specs.Pushes.{MayPush}
 use Rattle.image_meaning.specs.Meaning.{kept_by, next_block_under, picture_under, version_in, IsFrameOf}
 

@@ -18,8 +18,8 @@ use Rattle.sealed_ring.specs.Ring.{IsRing}
 use Rattle.image_changes.specs.Rings.{master_shape}
 use Rattle.image_changes.specs.Changes.{Change, SealsBlock, RewritesPages, AppendsGroup, AppendsSegment, ReadsAs, Makes}
 use Rattle.image_changes.specs.Changes.{Reaches}
-use Rattle.log_store.specs.Held.{HasBlocks}
-use Rattle.flash_cache.specs.Held.{version_on}
+use Rattle.log_store.specs.Representation.{HasBlocks}
+use Rattle.flash_cache.specs.Representation.{version_on}
 use Rattle.image_meaning.specs.Meaning.{saved_by, kept_by, picture_under, version_in, HasNewest, AreOctetsSoundUnder}
 use Rattle.image_meaning.specs.Meaning.{IsSoundUnder, Stands, StandsFor}
 use Rattle.image_meaning.specs.Changes.{MaySaveSegment, MayAppend, MayStage, MayMake, MayMakeAll, SealsNoCommit}

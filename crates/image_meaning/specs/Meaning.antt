@@ -16,8 +16,8 @@ use Rattle.frame_group.specs.Groups.{Frame, IsGroup, frames_in}
 use Rattle.image_changes.specs.Rings.{RingName, Masters, shape_of, octets_of, master_shape, group_shape, units_on}
 use Rattle.checkpoint.specs.declared.master.Master.{Master}
 use Rattle.checkpoint.specs.Newest.{blank, HasMaster, seen}
-use Rattle.log_store.specs.Held.{HasBlocks}
-use Rattle.flash_cache.specs.Held.{frames_on, groups_on, version_on, AreSaved, IsCleanOn}
+use Rattle.log_store.specs.Representation.{HasBlocks}
+use Rattle.flash_cache.specs.Representation.{frames_on, groups_on, version_on, AreSaved, IsCleanOn}
 
 -- Reading.
 

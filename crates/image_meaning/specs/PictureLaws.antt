@@ -19,7 +19,7 @@ use Rattle.slotted_page.specs.Layout as page
 use Rattle.frame_group.specs.Groups.{IsGroup}
 use Rattle.checkpoint.specs.declared.master.Master.{Master}
 use Rattle.image_changes.specs.Changes.{SealsBlock, RewritesPages, AppendsGroup, Makes}
-use Rattle.flash_cache.specs.Held.{version_on}
+use Rattle.flash_cache.specs.Representation.{version_on}
 use Rattle.image_meaning.specs.Meaning.{kept_by, next_block_under, picture_under, picture, versions_on, version_in}
 use Rattle.image_meaning.specs.Meaning.{IsSoundUnder, Stands}
 use Rattle.image_meaning.specs.Pictures.{ReplaceAll}

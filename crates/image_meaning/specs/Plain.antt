@@ -8,7 +8,7 @@ use Rattle.log_records.specs.declared.log_record.LogRecord.{LogRecord}
 use Rattle.log_records.specs.Sound.{Means}
 use Rattle.log_records.specs.Sound as lists
 use Rattle.log_laws.specs.Tail.{plain}
-use Rattle.log_store.specs.Held.{HasBlocks}
+use Rattle.log_store.specs.Representation.{HasBlocks}
 use Rattle.image_meaning.specs.Meaning.{picture, IsSound}
 
 -- The log has these blocks, whose records belong together over pages that were never written, and all other octets are

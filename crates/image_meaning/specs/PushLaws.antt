@@ -13,7 +13,7 @@ use Rattle.frame_group.specs.Groups.{Frame, IsGroup}
 use Rattle.frame_group.specs.Versions.{last_frame, CleanAsDisk}
 use Rattle.checkpoint.specs.declared.master.Master.{Master}
 use Rattle.image_changes.specs.Rings.{group_shape, units_on}
-use Rattle.flash_cache.specs.Held.{HasGroups, frames_on, groups_on, disk_on, AreSaved}
+use Rattle.flash_cache.specs.Representation.{HasGroups, frames_on, groups_on, disk_on, AreSaved}
 use Rattle.flash_cache.specs.Pushed.{LeavesPush}
 use Rattle.image_meaning.specs.Meaning.{picture_under, version_in, IsFrameOf, AreGroups, AreSegments, IsSoundUnder}
 use Rattle.image_meaning.specs.Changes.{NoSegmentIsDue, front_on, rest_on}

@@ -13,7 +13,7 @@ use Rattle.slotted_page.specs.Layout as page
 use Rattle.frame_group.specs.Groups.{Frame}
 use Rattle.checkpoint.specs.declared.master.Master.{Master}
 use Rattle.image_changes.specs.Changes.{Change, RewritesPages, AppendsGroup, AppendsSegment, Reaches}
-use Rattle.flash_cache.specs.Held.{HasGroups, version_on, IsCleanOn}
+use Rattle.flash_cache.specs.Representation.{HasGroups, version_on, IsCleanOn}
 use Rattle.image_meaning.specs.Meaning.{picture_under, version_in, IsSoundUnder, AreGroups, AreSegments}
 use Rattle.image_meaning.specs.Moments.{LeavesTableUnder}
 

@@ -4,6 +4,8 @@ use Rattle.std.specs.Prelude.{fold, sum_by, IsTrue}
 use Rattle.std.specs.List.{AllByRecursion, list_any}
 use Rattle.std.proofs.lemmas.List.{map-append}
 use Rattle.std.proofs.lemmas.Bool.{and_parts, or_from, eq-eqb, ne_eqb}
+use Rattle.std_lemmas.proofs.AllOf.{all_right, all_weaker, all_map}
+use Rattle.std_lemmas.proofs.Lists.{map_same}
 use Rattle.log_records.specs.declared.log_record.LogRecord.{LogRecord}
 use Rattle.log_records.specs.declared.log_record.LogRecord.TheVariants.{Begin, Update, Clr, Commit, End}
 use Rattle.log_records.specs.Log.{Entry, txn_of, is_of, is_closing, is_closed, is_loser, entries_of}
@@ -12,9 +14,8 @@ use Rattle.log_records.specs.Sound.{IsInOrder, last_lsn}
 use Rattle.log_laws.specs.Follow.{IsFresh}
 use Rattle.log_laws.specs.UndoLaws.{next_by, next_in, next_of}
 use Rattle.log_laws.specs.Analysis.{Unfinished, unfinished_at, unfinished_in, remaining_by, after_record, IsUnfinished}
-use Rattle.log_laws.proofs.Lists.{all_weaker}
 use Rattle.log_laws.proofs.Values.{with}
-use Rattle.log_laws.proofs.Parts.{all_map, all_right, are_losers, map_same}
+use Rattle.log_laws.proofs.Parts.{are_losers}
 use Rattle.log_laws.proofs.Appends.{fresh_entries}
 use Rattle.log_laws.proofs.Owing.{left_push}
 use Rattle.log_laws.proofs.Losers.{entries_other, entries_own, last_more}

@@ -7,12 +7,14 @@ use Rattle.std.proofs.lemmas.List.{append-nil}
 use Rattle.std.proofs.lemmas.List.Elements.{filter-append}
 use Rattle.std.proofs.lemmas.List.Folds.{list_any-append, find-append}
 use Rattle.std.proofs.lemmas.Bool.{or_left, or_right, or_cases}
+use Rattle.std_lemmas.proofs.Options.{option_or_none}
 use Rattle.log_records.specs.declared.log_record.LogRecord.{LogRecord}
 use Rattle.log_records.specs.declared.log_record.LogRecord.TheVariants.{Begin, Update, Clr, Commit, End}
 use Rattle.log_records.specs.Log.{Entry, is_on, is_number, number_of, is_update, updates_in, last_where, before_of, before_first, after_of}
 use Rattle.log_records.specs.Unfinished.{clrs_in, open_by, open_updates}
 use Rattle.log_records.specs.Sound.{Compensates, Undoes, Continues, IsLoserChain, InTurn}
-use Rattle.log_laws.proofs.Lists.{or_is_none, or_none, some_or_none, one, last_where-append, last_any, any_find}
+use Rattle.log_laws.proofs.Lists.{or_is_none, some_or_none, last_any, any_find}
+use Rattle.log_records.proofs.Lists.{one, last_where-append}
 
 -- a CLR and its Update are on one record, and the CLR leaves what stood before
 same_number : (c u : LogRecord) → Compensates c u → number_of c ≡ number_of u
@@ -189,7 +191,7 @@ agrees_more number earlier e c h =
     by_rec lsn (Clr txn prev undo_next page slot after) [] s u first h = absurd u
     by_rec lsn (Clr txn prev undo_next page slot after) (v ∷ stack) s u first h =
         let e : Entry = record { lsn = lsn; rec = Clr txn prev undo_next page slot after } in
-        subst (λ (o : Option Entry). Agrees o (option_or (one (is_on number) e) (last_where (is_on number) earlier)) (last_where (is_on number) stack)) (sym (or_none (find (is_on number) (updates_in earlier))))
+        subst (λ (o : Option Entry). Agrees o (option_or (one (is_on number) e) (last_where (is_on number) earlier)) (last_where (is_on number) stack)) (sym (option_or_none (find (is_on number) (updates_in earlier))))
         (clr_step (find (is_on number) (updates_in earlier)) (last_where (is_on number) earlier) (last_where (is_on number) stack) e v (is_on number e) (puts_back e.rec v.rec u)
         (subst (λ b. Agrees (find (is_on number) (updates_in earlier)) (last_where (is_on number) earlier) (option_or (last_where (is_on number) stack) (cond b (Some v) None)))
         (sym (ap (is_number number) (same_number e.rec v.rec u))) h))

@@ -8,16 +8,18 @@ use Rattle.std.proofs.lemmas.List.Elements.{filter-append}
 use Rattle.std.proofs.lemmas.List.{append-nil}
 use Rattle.std.proofs.lemmas.Bool.{and_from, and_parts, and_left, and_right, cases_Bool, eqb-true, eq-eqb, ne_eqb}
 use Rattle.std.proofs.lemmas.Option.{cond_some}
+use Rattle.std_lemmas.proofs.AllOf.{all_push, all_weaker}
+use Rattle.std_lemmas.proofs.Bools.{or_without_last}
 use Rattle.record_model.specs.State.{Content}
 use Rattle.log_records.specs.declared.log_record.LogRecord.{LogRecord}
 use Rattle.log_records.specs.declared.log_record.LogRecord.TheVariants.{Begin, Update, Clr, Commit, End}
 use Rattle.log_records.specs.Log.{Entry, Version, slot_at, txn_of, is_of, is_on, is_number, number_of, is_update, is_loser, is_closed, is_closing, entries_of, last_where, last_on, first_update, before_of, before_first, after_of, value_after, value_of, table_of}
 use Rattle.log_records.specs.Sound.{Master, IsLoserChain, Pairwise, HoldsOff}
 use Rattle.log_laws.specs.Follow.{Follows, CanBeUndone, IsUndoable, IsUndone, table_after}
-use Rattle.log_laws.proofs.Lists.{all_weaker, all_push, one}
 use Rattle.log_laws.proofs.Tables.{table_written}
 use Rattle.log_laws.proofs.Chains.{undone_by_chain}
-use Rattle.log_laws.proofs.Values.{with, or_two_false, closed_same, closed_by, open_before, first_push, first_same, last_same, last_new, last_of_own, value_same, value_open, value_closed, is_loser_with, update_of, last_is_own, value_held, value_free, updates_there}
+use Rattle.log_laws.proofs.Values.{with, closed_same, closed_by, open_before, first_push, first_same, last_same, last_new, last_of_own, value_same, value_open, value_closed, is_loser_with, update_of, last_is_own, value_held, value_free, updates_there}
+use Rattle.log_records.proofs.Lists.{one}
 
 module _ (m : Master) (pages : List Version) (log : List Entry) (undoable : IsUndoable log) where
   -- a record that closes nothing leaves the value where it isn't on it
@@ -137,7 +139,7 @@ module _ (m : Master) (pages : List Version) (log : List Entry) (undoable : IsUn
 
   loser_other : (e : Entry) (t : ℕ) → is_of t e ≡ false → is_loser (with log e) t ≡ is_loser log t
   loser_other e t h =
-      ap (λ b. b && not (is_closed (with log e) t)) (list_any-append (is_of t) log (e ∷ []) ∙ or_two_false (list_any (is_of t) log) (is_of t e) h)
+      ap (λ b. b && not (is_closed (with log e) t)) (list_any-append (is_of t) log (e ∷ []) ∙ or_without_last (list_any (is_of t) log) (is_of t e) h)
       ∙ ap (λ b. list_any (is_of t) log && not b) (closed_same log e t (and_left (is_of t e) (is_closing e.rec) h))
 
   pairwise_weaker : (R S : Entry → Entry → Type 0) → ((u x : Entry) → R u x → S u x) → (xs : List Entry) → Pairwise R xs → Pairwise S xs

@@ -5,21 +5,22 @@ use Rattle.std.specs.List.{AllByRecursion, list_any}
 use Rattle.std.proofs.lemmas.List.{append-nil, map-append}
 use Rattle.std.proofs.lemmas.List.Elements.{filter-append}
 use Rattle.std.proofs.lemmas.Bool.{and_from, and_parts, and_right, cases_Bool, eqb-true, eq-eqb, ne_eqb, or_cases, or_left, or_right}
-use Rattle.log_records.specs.declared.log_record.LogRecord.{LogRecord}
-use Rattle.log_records.specs.declared.log_record.LogRecord.TheVariants.{Begin, Update, Clr, Commit, End}
+use Rattle.std_lemmas.proofs.AllOf.{all_right, all_weaker}
+use Rattle.std_lemmas.proofs.Lists.{filter_all}
+use Rattle.log_records.specs.declared.log_record.LogRecord.TheVariants.{Begin}
 use Rattle.log_records.specs.Log.{Entry, txn_of, is_of, is_closing, is_closed, is_loser, entries_of}
 use Rattle.log_records.specs.Unfinished.{is_begin, losers}
 use Rattle.log_records.specs.Sound.{Active, Picture, IsSound, IsInOrder, InTurn, IsOfOpenTransaction, AreOrderly, IsInTable, is_known, from_block}
 use Rattle.log_laws.specs.Follow.{IsUndoable, IsFresh}
 use Rattle.log_laws.specs.LoserLaws.{IsRead}
-use Rattle.log_laws.proofs.Lists.{all_weaker, any_find, all_find, find_passes}
+use Rattle.log_laws.proofs.Lists.{any_find, all_find, find_passes}
 use Rattle.log_laws.proofs.Values.{with, closed_push, closed_same}
-use Rattle.log_laws.proofs.Orders.{in_order_from, filter_all}
-use Rattle.log_laws.proofs.Parts.{all_right, are_losers, begin_is, InTurn-right}
+use Rattle.log_laws.proofs.Parts.{are_losers, begin_is, InTurn-right}
 use Rattle.log_laws.proofs.Appends.{fresh_open}
 use Rattle.log_laws.proofs.Orderly.{orderly_of, none_active, all_from_first}
 use Rattle.log_laws.proofs.Losers.{any_of_those, loser_is_not_closed}
-use Rattle.log_laws.proofs.Tails.{in_order_left, orderly_at}
+use Rattle.log_laws.proofs.Tails.{orderly_at}
+use Rattle.log_records.proofs.Entries.{closing_is_no_begin, in_order_left, in_order_from}
 
 abbrev pub is_listed : List Entry → Entry → Bool
 is_listed log x = is_begin x.rec && not (is_closed log x.lsn)
@@ -45,13 +46,6 @@ losers_stay log e b c =
     ∙ append-nil (losers log)
 
 -- A transaction is taken out.
-
-no_begin : (rec : LogRecord) → is_closing rec ≡ true → is_begin rec ≡ false
-no_begin Begin h = absurd (grind arith)
-no_begin (Update txn prev page slot before after) h = refl
-no_begin (Clr txn prev undo_next page slot after) h = refl
-no_begin (Commit txn number) h = refl
-no_begin (End txn) h = refl
 
 two_tests : (g a b : Bool) → (g && not (a || ((b && true) || false))) ≡ ((g && not a) && not b)
 two_tests true true b = refl
@@ -104,7 +98,7 @@ without t from (n ∷ front) back h =
 pub losers_closed : (from to : ℕ) (log : List Entry) (e : Entry) (front back : List ℕ) → IsInOrder from log to → is_closing e.rec ≡ true → losers log ≡ front ++ txn_of e ∷ back → losers (with log e) ≡ front ++ back
 losers_closed from to log e front back order c split =
     losers_push log e
-    ∙ ap (λ g. map (λ (x : Entry). x.lsn) (filter (is_listed (with log e)) log) ++ map (λ (x : Entry). x.lsn) (cond (g && not (is_closed (with log e) e.lsn)) (e ∷ []) [])) (no_begin e.rec c)
+    ∙ ap (λ g. map (λ (x : Entry). x.lsn) (filter (is_listed (with log e)) log) ++ map (λ (x : Entry). x.lsn) (cond (g && not (is_closed (with log e) e.lsn)) (e ∷ []) [])) (closing_is_no_begin e.rec c)
     ∙ append-nil (map (λ (x : Entry). x.lsn) (filter (is_listed (with log e)) log))
     ∙ listed_twice log (txn_of e) (is_listed (with log e))
     (λ x. ap (λ b. is_begin x.rec && not b) (closed_push log e x.lsn ∙ ap (λ k. is_closed log x.lsn || ((is_of x.lsn e && k) || false)) c) ∙ two_tests (is_begin x.rec) (is_closed log x.lsn) (txn_of e == x.lsn)) log

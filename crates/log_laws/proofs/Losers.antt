@@ -7,6 +7,9 @@ use Rattle.std.proofs.lemmas.List.Elements.{filter-append, filter_map-append}
 use Rattle.std.proofs.lemmas.List.Folds.{list_any-append}
 use Rattle.std.proofs.lemmas.Bool.{and_from, and_parts, and_left, and_right, or_left, or_right, or_parts, or_cases, cases_Bool, eqb-true, eq-eqb, le-leb, le-ltb, not-true, not_from_false}
 use Rattle.std.proofs.lemmas.Option.{same_Some}
+use Rattle.std_lemmas.proofs.Lists.{any_map}
+use Rattle.std_lemmas.proofs.Bools.{or_without_last}
+use Rattle.std_lemmas.proofs.AllOf.{all_filter, all_weaker, all_passed, all_drop}
 use Rattle.record_model.specs.State.{Content, Write}
 use Rattle.log_records.specs.declared.log_record.LogRecord.{LogRecord}
 use Rattle.log_records.specs.declared.log_record.LogRecord.TheVariants.{Begin, Update, Clr, Commit, End}
@@ -15,11 +18,11 @@ use Rattle.log_records.specs.Unfinished.{is_begin, is_clr, clrs_in, open_by, ope
 use Rattle.log_records.specs.Sound.{Active, Master, Picture, IsOpen, IsLoserChain, IsInTable, is_known, before_block, from_block, last_lsn, last_number}
 use Rattle.log_laws.specs.Follow.{Follows, IsActive, IsFresh, IsFreeFor, IsUndoable, next_entries, write_of, shown}
 use Rattle.log_laws.specs.Tail.{Carries, whole, next_lsn}
-use Rattle.log_laws.proofs.Lists.{all_weaker, any_find, some_or_none}
+use Rattle.log_laws.proofs.Lists.{any_find, some_or_none}
 use Rattle.log_laws.proofs.Values.{with, closed_same, closed_by, last_is_own, update_of}
 use Rattle.log_laws.proofs.Chains.{any_open, none_any}
 use Rattle.log_laws.proofs.Orders.{filter_none, all_from, entries_in_order}
-use Rattle.log_laws.proofs.Parts.{all_filter, all_passed, parts_at}
+use Rattle.log_laws.proofs.Parts.{parts_at}
 use Rattle.log_laws.proofs.Appends.{begins, chain_start, chain_more, fresh_entries, fresh_open, update_follows, clr_follows, free_off, has_written_is}
 use Rattle.log_laws.proofs.Owing.{left_is_written}
 use Rattle.log_laws.proofs.Tails.{whole_in_order, whole_is_undoable}
@@ -119,14 +122,9 @@ active_owes m log t last writes a = ap (λ n. n + 1) (left_is_written log t a.ch
 
 -- Which transactions are unfinished.
 
-or_none_more : (a b : Bool) → b ≡ false → (a || (b || false)) ≡ a
-or_none_more true b h = refl
-or_none_more false true h = h
-or_none_more false false h = refl
-
 pub loser_stays : (log : List Entry) (e : Entry) (t : ℕ) → is_of t e ≡ false → is_loser (with log e) t ≡ is_loser log t
 loser_stays log e t h =
-    ap (λ b. b && not (is_closed (with log e) t)) (list_any-append (is_of t) log (e ∷ []) ∙ or_none_more (list_any (is_of t) log) (is_of t e) h)
+    ap (λ b. b && not (is_closed (with log e) t)) (list_any-append (is_of t) log (e ∷ []) ∙ or_without_last (list_any (is_of t) log) (is_of t e) h)
     ∙ ap (λ b. list_any (is_of t) log && not b) (closed_same log e t (and_left (is_of t e) (is_closing e.rec) h))
 
 pub loser_goes_on : (log : List Entry) (e : Entry) → is_closing e.rec ≡ false → is_closed log (txn_of e) ≡ false → is_loser (with log e) (txn_of e) ≡ true
@@ -175,10 +173,6 @@ begin_is_listed closed t (x ∷ xs) lives h =
     by_test true k = or_right (x.lsn == t) (listed (filter (λ y. is_begin y.rec && not (closed y.lsn)) xs)) k
     by_test false k = k
 
-any_of_map : {X Y : Type 0} (test : Y → Bool) (f : X → Y) (xs : List X) → list_any test (map f xs) ≡ list_any (λ x. test (f x)) xs
-any_of_map test f [] = refl
-any_of_map test f (x ∷ xs) = ap (λ b. test (f x) || b) (any_of_map test f xs)
-
 -- An unfinished transaction is open: its Begin stands from the redo block on, or it was active there.
 module _ (p : Picture) (tail : List LogRecord) (t : ℕ) (c : Carries p tail) (loser : is_loser (whole p tail) t ≡ true) where
   abbrev old : List Entry
@@ -219,7 +213,7 @@ module _ (p : Picture) (tail : List LogRecord) (t : ℕ) (c : Carries p tail) (l
   named : begins_there old ≡ true → list_any (λ a. a.begin == t) p.master.active ≡ true
   named there =
       ap (list_any (λ (a : Active). a.begin == t)) c.sound.master_names_the_active
-      ∙ any_of_map (λ (a : Active). a.begin == t) (λ s. record { begin = s; last = last_lsn (entries_of s old) }) (losers old)
+      ∙ any_map (λ (a : Active). a.begin == t) (λ s. record { begin = s; last = last_lsn (entries_of s old) }) (losers old)
       ∙ begin_is_listed (is_closed old) t old open_before there
 
   pub loser_is_known : IsOpen p.master (whole p tail) t
@@ -232,10 +226,6 @@ module _ (p : Picture) (tail : List LogRecord) (t : ℕ) (c : Carries p tail) (l
 pub loser_is_open : (p : Picture) (tail : List LogRecord) (t : ℕ) → Carries p tail → p.master.redo ≡ 0 → is_loser (whole p tail) t ≡ true → IsOpen p.master (whole p tail) t
 loser_is_open p tail t c first loser = loser_is_known p tail t c loser
 
-all_drop : {X : Type 0} (P : X → Type 0) (xs : List X) → AllByRecursion P xs → AllByRecursion P (drop 1 xs)
-all_drop P [] h = tt
-all_drop P (x ∷ xs) h = h.1
-
 -- what is left to be undone are Updates among these records
 pub all_left_open : (P : Entry → Type 0) (updates entries : List Entry) → AllByRecursion P updates → AllByRecursion (λ e. is_update e.rec ≡ true → P e) entries → AllByRecursion P (open_updates updates entries)
 all_left_open P updates [] h a = h
@@ -245,7 +235,7 @@ all_left_open P updates (e ∷ entries) h a = by_rec e.lsn e.rec a.0 (λ us k. a
         AllByRecursion P (open_updates (open_by updates (record { lsn = lsn; rec = rec }) rec) entries)
     by_rec lsn Begin a f = f updates h
     by_rec lsn (Update txn prev page slot before after) a f = f (record { lsn = lsn; rec = Update txn prev page slot before after } ∷ updates) (a refl, h)
-    by_rec lsn (Clr txn prev undo_next page slot after) a f = f (drop 1 updates) (all_drop P updates h)
+    by_rec lsn (Clr txn prev undo_next page slot after) a f = f (drop 1 updates) (all_drop P 1 updates h)
     by_rec lsn (Commit txn n) a f = f updates h
     by_rec lsn (End txn) a f = f updates h
 

@@ -8,16 +8,20 @@ use Rattle.std.proofs.lemmas.List.Folds.{list_any-append}
 use Rattle.std.proofs.lemmas.List.Elements.{filter-append, filter_map-append}
 use Rattle.std.proofs.lemmas.Bool.{or_left, or_right, or_parts, and_from, and_parts, cases_Bool, eqb-true, leb-true, ltb-true, lt-ltb, le-leb, lt-leb}
 use Rattle.std.proofs.lemmas.Nat.{mod_below}
+use Rattle.std_lemmas.proofs.AllOf.{all_left, all_right, all_both, all_filter, all_weaker, all_passed}
+use Rattle.std_lemmas.proofs.Lists.{map_same, filter_all}
 use Rattle.record_model.specs.State.{Content, content_at}
 use Rattle.log_records.specs.Log.{Entry, Version, version_at, slot_at, txn_of, is_of, is_on, is_number, is_loser, is_closed, is_closing, entries_of, updates_in, last_where, last_on, first_update, number_of, before_first, after_of, value_after, value_of}
 use Rattle.log_records.specs.Unfinished.{open_updates, is_begin, losers, owed, owed_by}
 use Rattle.log_records.specs.Sound.{Active, Picture, IsSound, Means, InTurn, IsOfOpenTransaction, IsOrderly, AreOrderly, IsLoserChain, Pairwise, HoldsOff, FitsLog, ShowsLast, IsInTable, before_block, from_block, last_known, last_lsn, active_in, commit_number, commit_numbers, commit_count}
 use Rattle.log_laws.specs.NewImage.{with_master, MayCheckpoint}
-use Rattle.log_laws.proofs.Lists.{all_weaker, all_last, all_find, any_find, find_passes, last_passes, last_where-append}
+use Rattle.log_laws.proofs.Lists.{all_find, any_find, find_passes, last_passes}
 use Rattle.log_laws.proofs.Values.{closed_push, value_same, value_closed, last_of_own, is_loser_with}
-use Rattle.log_laws.proofs.Orders.{filter_none, filter_all}
-use Rattle.log_laws.proofs.Parts.{begin_is, are_losers, commits_parts, all_left, all_right, all_both, all_filter, all_passed, all_made, filter_same, map_same, sum_same, pairwise_right, pairwise_within, InTurn-right, parts_at, all_below, in_order_filter, in_order_raise, last_of_both', drop_range}
-use Rattle.log_laws.proofs.Versions.{table_same, page_and_slot}
+use Rattle.log_laws.proofs.Orders.{filter_none}
+use Rattle.log_laws.proofs.Parts.{begin_is, are_losers, commits_parts, all_made, filter_same, sum_same, pairwise_right, pairwise_within, InTurn-right, parts_at, all_below, in_order_filter, in_order_raise, last_of_both', drop_range}
+use Rattle.log_laws.proofs.Versions.{table_same}
+use Rattle.log_records.proofs.Values.{page_and_slot}
+use Rattle.log_records.proofs.Lists.{last_where-append, all_last}
 
 abbrev first_lsn : List Entry → ℕ
 first_lsn [] = 0

@@ -3,13 +3,15 @@ use Rattle.std.proofs.Common.{◌≡◌, ℕ, ◌+◌, ◌*◌, ◌<◌, ◌≤�
 use Rattle.std.specs.Prelude.{filter, IsTrue, nat_lt, nat_le, ◌==◌}
 use Rattle.std.specs.List.{AllByRecursion, list_any}
 use Rattle.std.proofs.lemmas.Bool.{and_parts, or_cases, cases_Bool, eqb-true, ne_eqb, le-ltb, le-leb}
+use Rattle.std_lemmas.proofs.AllOf.{all_append, all_push, all_both, all_filter, all_weaker, all_map}
+use Rattle.std_lemmas.proofs.Lists.{filter_all}
 use Rattle.log_records.specs.Log.{Entry, txn_of, is_of, is_closed, entries_of}
 use Rattle.log_records.specs.Unfinished.{is_begin, losers}
 use Rattle.log_records.specs.Sound.{Active, Master, IsOpen, IsSound, Picture, InTurn, IsInOrder, IsOfOpenTransaction, IsOrderly, AreOrderly, HaveBegunBefore, before_block, from_block, is_known, last_lsn, active_in}
 use Rattle.log_laws.specs.Follow.{Follows, IsFresh}
-use Rattle.log_laws.proofs.Lists.{all_append, all_weaker, all_push, all_find, any_find, find_passes}
-use Rattle.log_laws.proofs.Orders.{filter_none, filter_all, InTurn-all, InTurn-weaker, InTurn-append_all}
-use Rattle.log_laws.proofs.Parts.{all_filter, all_map, begin_is, all_both, all_below}
+use Rattle.log_laws.proofs.Lists.{all_find, any_find, find_passes}
+use Rattle.log_laws.proofs.Orders.{filter_none, InTurn-all, InTurn-weaker, InTurn-append_all}
+use Rattle.log_laws.proofs.Parts.{begin_is, all_below}
 use Rattle.log_laws.proofs.Appends.{fresh_open}
 
 -- a Begin among records that all come before an LSN does so too

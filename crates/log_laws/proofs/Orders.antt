@@ -1,27 +1,17 @@
 -- Logs in order, and the parts of a log.
-use Rattle.std.proofs.Common.{◌≡◌, ℕ, zero, suc, ◌+◌, ◌≤◌, Bool, true, false, cond, List, [], ◌∷◌, ◌++◌, length, get_or, Some, None, refl, sym, ap, subst, ◌∙◌, append_assoc, arith}
+use Rattle.std.proofs.Common.{◌≡◌, ℕ, zero, suc, ◌+◌, ◌≤◌, Bool, false, cond, List, [], ◌∷◌, ◌++◌, length, get_or, Some, None, refl, sym, ap, subst, ◌∙◌, append_assoc, arith}
 use Rattle.std.specs.Prelude.{Option, filter, flat_map}
 use Rattle.std.specs.List.{AllByRecursion}
 use Rattle.std.specs.Option.{option_or}
 use Rattle.std.proofs.lemmas.List.{append-nil, length-append}
+pub use Rattle.std_lemmas.proofs.Lists.{filter_all}
 use Rattle.log_records.specs.declared.log_record.LogRecord.{LogRecord}
-use Rattle.log_records.specs.declared.log_record.LogRecord.TheVariants.{Begin, Update, Clr, Commit, End}
 use Rattle.log_records.specs.Spelling.{spelling}
 use Rattle.log_records.specs.Log.{Entry, entries_from, last_where}
 use Rattle.log_records.specs.Sound.{InTurn, IsInOrder}
 use Rattle.log_laws.proofs.Lists.{one_false}
-
-some_octet : (rec : LogRecord) → 1 ≤ length (spelling rec)
-unfolding spelling
-some_octet Begin = omega arith
-some_octet (Update txn prev page slot before after) = omega arith
-some_octet (Clr txn prev undo_next page slot after) = omega arith
-some_octet (Commit txn number) = omega arith
-some_octet (End txn) = omega arith
-
-pub in_order_from : (from from' : ℕ) (log : List Entry) (to : ℕ) → from' ≤ from → IsInOrder from log to → IsInOrder from' log to
-in_order_from from from' [] to l h = omega arith
-in_order_from from from' (e ∷ log) to l h = (let b = h.0 in omega (arith, b), h.1)
+use Rattle.log_records.proofs.Blocks.{some_octet}
+use Rattle.log_records.proofs.Entries.{in_order_from}
 
 pub in_order_to : (from : ℕ) (log : List Entry) (to to' : ℕ) → to ≤ to' → IsInOrder from log to → IsInOrder from log to'
 in_order_to from [] to to' l h = omega arith
@@ -58,10 +48,6 @@ none_passes {X} test (x ∷ xs) h = ap (λ (o : Option X). option_or o (cond (te
 pub filter_none : {X : Type 0} (test : X → Bool) (xs : List X) → AllByRecursion (λ x. test x ≡ false) xs → filter test xs ≡ []
 filter_none test [] h = refl
 filter_none test (x ∷ xs) h = ap (λ b. cond b (x ∷ filter test xs) (filter test xs)) h.0 ∙ filter_none test xs h.1
-
-pub filter_all : {X : Type 0} (test : X → Bool) (xs : List X) → AllByRecursion (λ x. test x ≡ true) xs → filter test xs ≡ xs
-filter_all test [] h = refl
-filter_all {X} test (x ∷ xs) h = ap (λ b. cond b (x ∷ filter test xs) (filter test xs)) h.0 ∙ ap (λ (l : List X). x ∷ l) (filter_all test xs h.1)
 
 pub InTurn-append_all : {X : Type 0} (P : List X → X → Type 0) (earlier xs ys : List X) → InTurn P earlier xs → InTurn P (earlier ++ xs) ys → InTurn P earlier (xs ++ ys)
 InTurn-append_all {X} P earlier [] ys h k = subst (λ (l : List X). InTurn P l ys) (append-nil earlier) k

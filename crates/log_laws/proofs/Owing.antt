@@ -1,10 +1,11 @@
 -- What undo may take, record by record.
-use Rattle.std.proofs.Common.{◌≡◌, ◌≢◌, ℕ, suc, ◌+◌, ◌*◌, ◌<◌, ◌≤◌, Bool, true, false, cond, not, ◌&&◌, List, [], ◌∷◌, ◌++◌, length, map, refl, sym, ap, subst, ◌∙◌, arith}
-use Rattle.std.specs.Prelude.{drop, filter, filter_map, fold, sum_by, IsTrue, ◌==◌}
+use Rattle.std.proofs.Common.{◌≡◌, ◌≢◌, ℕ, suc, ◌+◌, ◌*◌, ◌<◌, ◌≤◌, Bool, true, false, cond, not, ◌&&◌, List, [], ◌∷◌, length, map, refl, sym, ap, subst, ◌∙◌, arith}
+use Rattle.std.specs.Prelude.{drop, filter, filter_map, sum_by, IsTrue, ◌==◌}
 use Rattle.std.specs.List.{AllByRecursion}
 use Rattle.std.proofs.lemmas.List.Elements.{filter-append}
 use Rattle.std.proofs.lemmas.List.{length-append}
 use Rattle.std.proofs.lemmas.Bool.{and_from, and_left, and_right, eqb-true, eq-eqb, ne_eqb}
+use Rattle.std.proofs.lemmas.List.Sums.{sum_by-cons, sum_by-append}
 use Rattle.log_records.specs.declared.log_record.LogRecord.{LogRecord}
 use Rattle.log_records.specs.declared.log_record.LogRecord.TheVariants.{Begin, Update, Clr, Commit, End}
 use Rattle.log_records.specs.Log.{Entry, txn_of, txn_by, is_of, is_update, is_closing, is_closed, entries_of}
@@ -22,39 +23,28 @@ use Rattle.log_records.specs.Unfinished.{losers, clrs_in}
 
 -- Sums.
 
-sums_from : {X : Type 0} (f : X → ℕ) (xs : List X) (a : ℕ) → fold (λ n x. n + f x) a xs ≡ a + fold (λ n x. n + f x) 0 xs
-sums_from f [] a = omega arith
-sums_from f (x ∷ xs) a = sums_from f xs (a + f x) ∙ omega (arith, sums_from f xs (0 + f x))
-
-pub sum_cons : {X : Type 0} (f : X → ℕ) (x : X) (xs : List X) → sum_by f (x ∷ xs) ≡ f x + sum_by f xs
-sum_cons f x xs = sums_from f xs (0 + f x) ∙ omega arith
-
-pub sum_append : {X : Type 0} (f : X → ℕ) (xs ys : List X) → sum_by f (xs ++ ys) ≡ sum_by f xs + sum_by f ys
-sum_append f [] ys = omega arith
-sum_append f (x ∷ xs) ys = omega (arith, sum_cons f x (xs ++ ys), sum_cons f x xs, sum_append f xs ys)
-
 pub sum_both : {X : Type 0} (f g : X → ℕ) (xs : List X) → sum_by (λ x. f x + g x) xs ≡ sum_by f xs + sum_by g xs
 sum_both f g [] = refl
-sum_both f g (x ∷ xs) = omega (arith, sum_cons (λ y. f y + g y) x xs, sum_cons f x xs, sum_cons g x xs, sum_both f g xs)
+sum_both f g (x ∷ xs) = omega (arith, sum_by-cons (λ y. f y + g y) x xs, sum_by-cons f x xs, sum_by-cons g x xs, sum_both f g xs)
 
 pub sum_zero : {X : Type 0} (f : X → ℕ) (xs : List X) → AllByRecursion (λ x. f x ≡ 0) xs → sum_by f xs ≡ 0
 sum_zero f [] h = refl
-sum_zero f (x ∷ xs) h = let a = h.0 in omega (arith, sum_cons f x xs, sum_zero f xs h.1, a)
+sum_zero f (x ∷ xs) h = let a = h.0 in omega (arith, sum_by-cons f x xs, sum_zero f xs h.1, a)
 
 pub sum_made : {X Y : Type 0} (g : Y → ℕ) (f : X → Y) (test : X → Bool) (xs : List X) → sum_by g (map f (filter test xs)) ≡ sum_by (λ x. cond (test x) (g (f x)) 0) xs
 sum_made g f test [] = refl
-sum_made {X} {Y} g f test (x ∷ xs) = by_test (test x) (sum_made g f test xs) ∙ sym (sum_cons (λ x. cond (test x) (g (f x)) 0) x xs)
+sum_made {X} {Y} g f test (x ∷ xs) = by_test (test x) (sum_made g f test xs) ∙ sym (sum_by-cons (λ x. cond (test x) (g (f x)) 0) x xs)
   where
     by_test : (b : Bool) → sum_by g (map f (filter test xs)) ≡ sum_by (λ x. cond (test x) (g (f x)) 0) xs → sum_by g (map f (cond b (x ∷ filter test xs) (filter test xs))) ≡ cond b (g (f x)) 0 + sum_by (λ x. cond (test x) (g (f x)) 0) xs
-    by_test true e = sum_cons g (f x) (map f (filter test xs)) ∙ ap (λ n. g (f x) + n) e
+    by_test true e = sum_by-cons g (f x) (map f (filter test xs)) ∙ ap (λ n. g (f x) + n) e
     by_test false e = e ∙ omega arith
 
 pub sum_within : {X : Type 0} (g : X → ℕ) (test : X → Bool) (xs : List X) → ((x : X) → test x ≡ false → g x ≡ 0) → sum_by g (filter test xs) ≡ sum_by g xs
 sum_within g test [] h = refl
-sum_within g test (x ∷ xs) h = by_test (test x) refl (sum_within g test xs h) ∙ sym (sum_cons g x xs)
+sum_within g test (x ∷ xs) h = by_test (test x) refl (sum_within g test xs h) ∙ sym (sum_by-cons g x xs)
   where
     by_test : (b : Bool) → test x ≡ b → sum_by g (filter test xs) ≡ sum_by g xs → sum_by g (cond b (x ∷ filter test xs) (filter test xs)) ≡ g x + sum_by g xs
-    by_test true t e = sum_cons g x (filter test xs) ∙ ap (λ n. g x + n) e
+    by_test true t e = sum_by-cons g x (filter test xs) ∙ ap (λ n. g x + n) e
     by_test false t e = e ∙ omega (arith, h x t)
 
 -- An unfinished transaction has one Begin.
@@ -76,7 +66,7 @@ pub once : (log : List Entry) (t c : ℕ) → IsLoserChain t (entries_of t log) 
 once log t c chain =
     sym (sum_within (λ e. cond (begun_by t e) c 0) (is_of t) log (λ e h. ap (λ b. cond b c 0) (begun_is_of t e h)))
     ∙ ap (sum_by (λ e. cond (begun_by t e) c 0)) chain.begins
-    ∙ sum_cons (λ e. cond (begun_by t e) c 0) (record { lsn = t; rec = Begin }) (drop 1 (entries_of t log))
+    ∙ sum_by-cons (λ e. cond (begun_by t e) c 0) (record { lsn = t; rec = Begin }) (drop 1 (entries_of t log))
     ∙ omega (
       arith,
       ap (λ b. cond b c 0) (eq-eqb t t refl),
@@ -103,7 +93,7 @@ owed_is : (log : List Entry) → owed log ≡ sum_by (owes log) log
 owed_is log = sum_made (owed_by log) (λ (e : Entry). e.lsn) (λ e. is_begin e.rec && not (is_closed log e.lsn)) log
 
 owed_push : (log : List Entry) (e : Entry) → owed (with log e) ≡ sum_by (owes (with log e)) log + owes (with log e) e
-owed_push log e = owed_is (with log e) ∙ sum_append (owes (with log e)) log (e ∷ []) ∙ ap (λ n. sum_by (owes (with log e)) log + n) (sum_cons (owes (with log e)) e [] ∙ plus_none (owes (with log e) e))
+owed_push log e = owed_is (with log e) ∙ sum_by-append (owes (with log e)) log (e ∷ []) ∙ ap (λ n. sum_by (owes (with log e)) log + n) (sum_by-cons (owes (with log e)) e [] ∙ plus_none (owes (with log e) e))
   where
     plus_none : (n : ℕ) → n + 0 ≡ n
     plus_none n = omega arith

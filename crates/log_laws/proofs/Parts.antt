@@ -5,41 +5,16 @@ use Rattle.std.specs.List.{AllByRecursion, list_any, range_with_len}
 use Rattle.std.proofs.lemmas.List.{append-nil, length-append}
 use Rattle.std.proofs.lemmas.List.Elements.{filter_map-append}
 use Rattle.std.proofs.lemmas.Bool.{and_from, and_parts, cases_lt, lt-ltb, le-ltb, le-leb, lt-leb, or_left, or_right, eq-eqb}
+use Rattle.std_lemmas.proofs.AllOf.{all_both, all_filter, all_weaker, all_passed, all_map}
+use Rattle.std_lemmas.proofs.Lists.{filter_all}
 use Rattle.log_records.specs.declared.log_record.LogRecord.{LogRecord}
 use Rattle.log_records.specs.declared.log_record.LogRecord.TheVariants.{Begin, Update, Clr, Commit, End}
 use Rattle.log_records.specs.Log.{txn_by, is_loser, is_closed, Entry, is_of, txn_of, last_where}
 use Rattle.log_records.specs.Unfinished.{is_begin, losers}
 use Rattle.log_records.specs.Sound.{commit_number, commit_numbers, InTurn, IsInOrder, Pairwise, before_block, from_block}
-use Rattle.log_laws.proofs.Lists.{all_weaker, last_of_both}
-use Rattle.log_laws.proofs.Orders.{all_from, in_order_from, filter_none, filter_all}
-
-pub all_left : {X : Type 0} (P : X → Type 0) (xs ys : List X) → AllByRecursion P (xs ++ ys) → AllByRecursion P xs
-all_left P [] ys h = tt
-all_left P (x ∷ xs) ys h = (h.0, all_left P xs ys h.1)
-
-pub all_right : {X : Type 0} (P : X → Type 0) (xs ys : List X) → AllByRecursion P (xs ++ ys) → AllByRecursion P ys
-all_right P [] ys h = h
-all_right P (x ∷ xs) ys h = all_right P xs ys h.1
-
-pub all_both : {X : Type 0} (P Q R : X → Type 0) → ((x : X) → P x → Q x → R x) → (xs : List X) → AllByRecursion P xs → AllByRecursion Q xs → AllByRecursion R xs
-all_both P Q R w [] h k = tt
-all_both P Q R w (x ∷ xs) h k = (w x h.0 k.0, all_both P Q R w xs h.1 k.1)
-
-pub all_filter : {X : Type 0} (P : X → Type 0) (test : X → Bool) (xs : List X) → AllByRecursion P xs → AllByRecursion P (filter test xs)
-all_filter P test [] h = tt
-all_filter P test (x ∷ xs) h = by_test (test x) (all_filter P test xs h.1)
-  where
-    by_test : (b : Bool) → AllByRecursion P (filter test xs) → AllByRecursion P (cond b (x ∷ filter test xs) (filter test xs))
-    by_test true k = (h.0, k)
-    by_test false k = k
-
-pub all_passed : {X : Type 0} (test : X → Bool) (xs : List X) → AllByRecursion (λ x. test x ≡ true) (filter test xs)
-all_passed test [] = tt
-all_passed test (x ∷ xs) = by_test (test x) refl (all_passed test xs)
-  where
-    by_test : (b : Bool) → test x ≡ b → AllByRecursion (λ y. test y ≡ true) (filter test xs) → AllByRecursion (λ y. test y ≡ true) (cond b (x ∷ filter test xs) (filter test xs))
-    by_test true e k = (e, k)
-    by_test false e k = k
+use Rattle.log_laws.proofs.Lists.{last_of_both}
+use Rattle.log_laws.proofs.Orders.{all_from, filter_none}
+use Rattle.log_records.proofs.Entries.{in_order_from}
 
 -- what holds of what a function makes of those that pass
 pub all_made : {X Y : Type 0} (P : Y → Type 0) (f : X → Y) (test : X → Bool) (xs : List X) → AllByRecursion P (map f (filter test xs)) → AllByRecursion (λ x. test x ≡ true → P (f x)) xs
@@ -50,17 +25,9 @@ all_made P f test (x ∷ xs) h = by_test (test x) refl h (all_made P f test xs)
     by_test true e k r = (λ t. k.0, r k.1)
     by_test false e k r = (λ t. absurd (let never = sym e ∙ t in grind arith), r k)
 
-pub all_map : {X Y : Type 0} (P : Y → Type 0) (f : X → Y) (xs : List X) → AllByRecursion (λ x. P (f x)) xs → AllByRecursion P (map f xs)
-all_map P f [] h = tt
-all_map P f (x ∷ xs) h = (h.0, all_map P f xs h.1)
-
 pub filter_same : {X : Type 0} (test other : X → Bool) (xs : List X) → AllByRecursion (λ x. test x ≡ other x) xs → filter test xs ≡ filter other xs
 filter_same test other [] h = refl
 filter_same {X} test other (x ∷ xs) h = ap (λ b. cond b (x ∷ filter test xs) (filter test xs)) h.0 ∙ ap (λ (l : List X). cond (other x) (x ∷ l) l) (filter_same test other xs h.1)
-
-pub map_same : {X Y : Type 0} (f g : X → Y) (xs : List X) → AllByRecursion (λ x. f x ≡ g x) xs → map f xs ≡ map g xs
-map_same f g [] h = refl
-map_same {X} {Y} f g (x ∷ xs) h = ap (λ (y : Y). y ∷ map f xs) h.0 ∙ ap (λ (l : List Y). g x ∷ l) (map_same f g xs h.1)
 
 sums_same : {X : Type 0} (f g : X → ℕ) (xs : List X) (a : ℕ) → AllByRecursion (λ x. f x ≡ g x) xs → fold (λ n x. n + f x) a xs ≡ fold (λ n x. n + g x) a xs
 sums_same f g [] a h = refl
@@ -151,25 +118,6 @@ drop_range (suc k) a (suc n) = drop_range k (a + 1) n ∙ ap (λ m. range_with_l
 
     minus_suc : (n k : ℕ) → n - k ≡ suc n - suc k
     minus_suc n k = omega arith
-
-pub range_push : (a n : ℕ) → range_with_len a n ++ (a + n) ∷ [] ≡ range_with_len a (n + 1)
-range_push a n = sym (split a n 1 ∙ ap (λ (l : List ℕ). range_with_len a n ++ l) refl)
-  where
-    shift : (a n : ℕ) → a + 1 + n ≡ a + suc n
-    shift a n = omega arith
-
-    more : (n k : ℕ) → suc n + k ≡ suc (n + k)
-    more n k = omega arith
-
-    none : (n : ℕ) → 0 + n ≡ n
-    none n = omega arith
-
-    right : (n : ℕ) → n ≡ n + 0
-    right n = omega arith
-
-    split : (a n k : ℕ) → range_with_len a (n + k) ≡ range_with_len a n ++ range_with_len (a + n) k
-    split a zero k = ap (range_with_len a) (none k) ∙ ap (λ m. range_with_len m k) (right a)
-    split a (suc n) k = ap (range_with_len a) (more n k) ∙ ap (λ (l : List ℕ). a ∷ l) (split (a + 1) n k ∙ ap (λ m. range_with_len (a + 1) n ++ range_with_len m k) (shift a n))
 
 -- the commits before a block and from it on
 pub commits_parts : (block from : ℕ) (log : List Entry) (to : ℕ) → IsInOrder from log to → length (commit_numbers log) ≡ length (commit_numbers (before_block block log)) + length (commit_numbers (from_block block log))

@@ -7,18 +7,21 @@ use Rattle.std.proofs.lemmas.Bool.{le-ltb, le-leb, lt-leb, and_right}
 use Rattle.std.proofs.lemmas.Bool.Decides.{nat_tests}
 use Rattle.std.proofs.lemmas.List.{append-nil, length-append}
 use Rattle.std.proofs.lemmas.List.Elements.{filter-append, filter_map-append}
+use Rattle.std_lemmas.proofs.AllOf.{all_append, all_weaker}
+use Rattle.std_lemmas.proofs.Lists.{range_push, filter_all}
 use Rattle.record_model.specs.State.{Content, content_at}
 use Rattle.log_records.specs.declared.log_record.LogRecord.{LogRecord}
 use Rattle.log_records.specs.Spelling.{spelling, AreBlock}
 use Rattle.log_records.specs.Log.{Entry, Version, version_at, number_of, is_on, table_of}
 use Rattle.log_records.specs.Sound.{Master, AreNumbered, Picture, InTurn, IsInOrder, IsSound, Means, IsOfOpenTransaction, before_block, from_block, last_known, FitsLog, IsInTable, ShowsLast, active_in, commit_number, commit_numbers, commit_count}
 use Rattle.log_laws.specs.Follow.{Follows, IsUndoable, GoesOn, sealed, next_entries, table_after_all}
-use Rattle.log_laws.proofs.Lists.{all_append, all_weaker, last_where-append}
 use Rattle.log_laws.proofs.Values.{with}
 use Rattle.log_laws.proofs.Orderly.{begun_behind}
 use Rattle.log_laws.proofs.Follow.{table_behind, undoable_behind}
-use Rattle.log_laws.proofs.Parts.{commits_parts, range_push}
-use Rattle.log_laws.proofs.Orders.{InTurn-all, entries_in_order, in_order_from, in_order_to, in_order-append, all_from, none_passes, filter_none, filter_all, InTurn-append_all, InTurn-weaker}
+use Rattle.log_laws.proofs.Parts.{commits_parts}
+use Rattle.log_laws.proofs.Orders.{InTurn-all, entries_in_order, in_order_to, in_order-append, all_from, none_passes, filter_none, InTurn-append_all, InTurn-weaker}
+use Rattle.log_records.proofs.Lists.{last_where-append}
+use Rattle.log_records.proofs.Entries.{in_order_from}
 
 -- Records one by one.
 

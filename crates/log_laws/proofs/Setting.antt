@@ -1,26 +1,24 @@
 -- A block that sets one record of the table goes on.
-use Rattle.std.proofs.Common.{◌≡◌, ℕ, ◌+◌, ◌*◌, ◌/◌, ◌%◌, ◌^◌, ◌<◌, ◌≤◌, inr, ⊎_elim, true, List, [], ◌∷◌, ◌++◌, length, replicate, Some, None, refl, sym, ap, subst, ◌∙◌, append_assoc, arith}
+use Rattle.std.proofs.Common.{◌≡◌, ℕ, ◌+◌, ◌*◌, ◌/◌, ◌%◌, ◌^◌, ◌<◌, ◌≤◌, inr, ⊎_elim, true, List, [], ◌∷◌, ◌++◌, length, replicate, None, refl, sym, ap, subst, ◌∙◌, append_assoc, arith}
 use Rattle.std.specs.Prelude.{slice_set, filter_map, ◌==◌}
 use Rattle.std.specs.List.{list_any}
 use Rattle.std.proofs.lemmas.List.{append-nil, length-append, length-replicate, get_or-replicate}
 use Rattle.std.proofs.lemmas.List.Elements.{filter_map-append}
 use Rattle.std.proofs.lemmas.Nat.{mod_below, div_below}
 use Rattle.std.proofs.lemmas.Bool.{cases_Bool}
-use Rattle.byte_fields.specs.declared.TheConstants.{VALUE_MAX}
 use Rattle.record_model.specs.State.{Content, Write, content_at, table_with}
 use Rattle.log_records.specs.declared.log_record.LogRecord.{LogRecord}
 use Rattle.log_records.specs.declared.log_record.LogRecord.TheVariants.{Begin, Update, Commit}
-use Rattle.log_records.specs.Spelling.{spelling, content_spelling, AreBlock, IsShort}
+use Rattle.log_records.specs.Spelling.{spelling, AreBlock, IsShort}
 use Rattle.log_records.specs.Log.{Entry, Version, blank_version, is_of, entries_of}
 use Rattle.log_records.specs.Unfinished.{owed}
 use Rattle.log_records.specs.Sound.{Picture, Means, commit_count}
-use Rattle.log_records.proofs.SetBlocks.{length_update, length_begin}
-use Rattle.log_records.proofs.Values.{none}
+use Rattle.log_records.proofs.SetBlocks.{length_update, length_begin, content_small}
+use Rattle.log_records.proofs.Values.{none, page_and_slot}
 use Rattle.log_laws.specs.Follow.{Follows, GoesOn, IsFreeFor, IsActive, IsFresh, sealed, next_entries, shown, has_written, write_of}
 use Rattle.log_laws.specs.Tail.{plain}
 use Rattle.log_laws.specs.SetLaws.{MaySet, set_records}
 use Rattle.log_laws.proofs.Values.{with, open_before}
-use Rattle.log_laws.proofs.Versions.{page_and_slot}
 use Rattle.log_laws.proofs.Appends.{begin_follows, commit_follows}
 use Rattle.log_laws.proofs.Owing.{owed_begin, owed_update, owed_closing}
 use Rattle.log_laws.proofs.Seals.{numbered_with, sealed_means}
@@ -28,10 +26,6 @@ use Rattle.log_laws.proofs.Orderly.{fresh_behind}
 use Rattle.log_laws.proofs.Losers.{active_begun, active_may_write, active_writes, active_owes, entries_other, entries_own}
 use Rattle.log_laws.proofs.Shown.{shown_push}
 use Rattle.log_laws.proofs.Tails.{blank_is_sound}
-
-short_spelling : (content : Content) → IsShort content → length (content_spelling content) ≤ VALUE_MAX + 1
-short_spelling None h = omega arith
-short_spelling (Some value) h = omega (arith, h)
 
 length_commit : (t n : ℕ) → length (spelling (Commit t n)) ≡ 17
 unfolding spelling
@@ -103,8 +97,8 @@ module _ (p : Picture) (number : ℕ) (value : Content) (may : MaySet p number v
     fit_fields = (tt, ((low, low, div_below number 32 (2 ^ 32) (omega arith) (let w = may.within in let f = may.few_pages in omega (arith, w, f))), ((low, let f = may.sound.commits.fit in omega (arith, f, low)), tt)));
     room = omega (
       arith,
-      short_spelling (shown p.log p.pages number) may.short_before,
-      short_spelling value may.short,
+      content_small (shown p.log p.pages number) may.short_before,
+      content_small value may.short,
       length_begin,
       length_update (512 * p.hi + 2) (512 * p.hi + 2) (number / 32) (number % 32) (shown p.log p.pages number) value,
       length_commit (512 * p.hi + 2) (commit_count p + 1),

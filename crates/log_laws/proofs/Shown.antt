@@ -10,10 +10,11 @@ use Rattle.record_model.specs.State.{Content, content_at, last_write}
 use Rattle.log_records.specs.Log.{Entry, Version, blank_version, slot_at, txn_of, is_of, is_on, is_number, number_of, is_closed, is_loser, entries_of, last_where, last_on, after_of, value_after, value_of, table_of}
 use Rattle.log_records.specs.Sets.{blank_versions}
 use Rattle.log_laws.specs.Follow.{IsUndoable, IsFree, IsFreeFor, has_written, writes_in, shown, shown_by, shown_table}
-use Rattle.log_laws.proofs.Lists.{all_last, last_passes}
+use Rattle.log_laws.proofs.Lists.{last_passes}
 use Rattle.log_laws.proofs.Values.{with, last_push, last_of_own, last_is_own, update_of, value_closed}
 use Rattle.log_laws.proofs.Tables.{last_write_of}
 use Rattle.log_laws.proofs.Appends.{has_written_is, all_written}
+use Rattle.log_records.proofs.Lists.{all_last}
 
 -- One more record.
 

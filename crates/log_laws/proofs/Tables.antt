@@ -5,12 +5,13 @@ use Rattle.std.specs.List.{cons_option}
 use Rattle.std.specs.Option.{option_or}
 use Rattle.std.proofs.lemmas.Grind.{common_steps}
 use Rattle.std.proofs.lemmas.List.{ext_get_or}
-use Rattle.std.proofs.lemmas.List.FromFn.{length-map-range_with_len, get_or-map-range_with_len}
 use Rattle.std.proofs.lemmas.Bool.{cases_eq, eq-eqb, ne_eqb}
+use Rattle.std_lemmas.proofs.Options.{option_or_none}
 use Rattle.record_model.specs.State.{Content, Write, content_at, table_with, last_write}
 use Rattle.log_records.specs.Log.{Entry, Version, is_on, is_number, number_of, last_where, after_of, table_of, value_of}
 use Rattle.log_laws.specs.Follow.{write_of}
-use Rattle.log_laws.proofs.Lists.{or_none}
+use Rattle.log_records.proofs.Values.{content_of_table, length_table_of}
+pub use Rattle.log_records.proofs.Values.{content_of_table}
 
 pub length_table_with : (table : List Content) (writes : List Write) → length (table_with table writes) ≡ length table
 length_table_with table [] = refl
@@ -48,15 +49,8 @@ last_write_of (e ∷ entries) number =
 
     by_number : (o : Option ℕ) → last_write (filter_map (λ x. write_of x.rec) entries) number ≡ option_map (λ (x : Entry). after_of x.rec) (last_where (is_on number) entries) →
         last_write (cons_option (option_map (λ n. (n, after_of e.rec)) o) (filter_map (λ x. write_of x.rec) entries)) number ≡ option_map (λ (x : Entry). after_of x.rec) (option_or (last_where (is_on number) entries) (cond (is_number number o) (Some e) None))
-    by_number None h = h ∙ ap (option_map (λ (x : Entry). after_of x.rec)) (sym (or_none (last_where (is_on number) entries)))
+    by_number None h = h ∙ ap (option_map (λ (x : Entry). after_of x.rec)) (sym (option_or_none (last_where (is_on number) entries)))
     by_number (Some n) h = ap (λ (o : Option Content). option_or o (cond (n == number) (Some (after_of e.rec)) None)) h ∙ push (n == number) (last_where (is_on number) entries)
-
--- the table of a log, record by record
-pub content_of_table : (log : List Entry) (pages : List Version) (number : ℕ) → number < 32 * length pages → content_at (table_of log pages) number ≡ value_of log pages number
-content_of_table log pages number h = get_or-map-range_with_len (value_of log pages) 0 (32 * length pages) number number None h (omega arith)
-
-pub length_table_of : (log : List Entry) (pages : List Version) → length (table_of log pages) ≡ 32 * length pages
-length_table_of log pages = length-map-range_with_len (value_of log pages) 0 (32 * length pages)
 
 -- where each value is what these records of a log have put there last, the table is that with their writes
 pub table_written : (log log' : List Entry) (pages : List Version) (entries : List Entry) →

@@ -1,9 +1,11 @@
 -- A log that goes on record by record.
-use Rattle.std.proofs.Common.{◌≡◌, ◌≢◌, ◌-◌, suc, ℕ, ◌+◌, ◌*◌, ◌≤◌, List, [], ◌∷◌, ◌++◌, length, Some, None, refl, sym, ap, subst, ◌∙◌, append_assoc, arith}
+use Rattle.std.proofs.Common.{◌≡◌, ◌≢◌, ◌-◌, ℕ, ◌+◌, ◌*◌, ◌≤◌, List, [], ◌∷◌, ◌++◌, length, Some, None, refl, sym, ap, subst, ◌∙◌, append_assoc, arith}
 use Rattle.std.specs.Prelude.{Option, flat_map}
 use Rattle.std.specs.List.{AllByRecursion, cons_option}
 use Rattle.std.proofs.lemmas.List.{append-nil, length-append, length-replicate, get_or-replicate}
 use Rattle.std.proofs.lemmas.List.Elements.{filter_map-append}
+use Rattle.std_lemmas.proofs.AllOf.{all_append}
+use Rattle.std_lemmas.proofs.Lists.{some_length}
 use Rattle.record_model.specs.State.{Content, table_with}
 use Rattle.log_records.specs.declared.log_record.LogRecord.{LogRecord}
 use Rattle.log_records.specs.declared.log_record.LogRecord.TheVariants.{Commit}
@@ -12,15 +14,15 @@ use Rattle.log_records.specs.Log.{Entry, blank_version, entries_from, log_from, 
 use Rattle.log_records.specs.Sound.{Picture, IsSound, IsInOrder, InTurn, IsOfOpenTransaction, IsInTable, FitsLog, HasRoom, IsOrderly, AreOrderly, commit_count, commit_number, commit_numbers}
 use Rattle.log_laws.specs.Follow.{GoesOn, Follows, IsUndoable, IsFresh, sealed, next_entries, table_after, writes_in}
 use Rattle.log_laws.specs.Tail.{Carries, CommitsOnceAtMost, whole, next_lsn, plain}
-use Rattle.log_laws.proofs.Lists.{all_append}
 use Rattle.log_laws.proofs.Parts.{InTurn-right}
 use Rattle.log_laws.proofs.Owing.{blocks_have_records}
 use Rattle.log_records.specs.Unfinished.{owed}
 use Rattle.log_laws.proofs.Follow.{table_behind}
-use Rattle.log_laws.proofs.Orders.{InTurn-all, InTurn-append, InTurn-append_all, InTurn-weaker, entries_in_order, in_order_from, in_order_to, in_order-append}
+use Rattle.log_laws.proofs.Orders.{InTurn-all, InTurn-append, InTurn-append_all, InTurn-weaker, entries_in_order, in_order_to, in_order-append}
 use Rattle.log_laws.proofs.Seals.{undoable_behind_all, table_behind_all, sealed_is_sound, numbered_with}
 use Rattle.log_laws.proofs.Commits.{table_none}
 use Rattle.log_laws.proofs.Orderly.{orderly_of, orderly_behind, none_active, fresh_behind, all_from_first}
+use Rattle.log_records.proofs.Entries.{in_order_left, length_entries, in_order_from}
 
 pub entries_append : (lsn : ℕ) (xs ys : List LogRecord) → entries_from lsn (xs ++ ys) ≡ entries_from lsn xs ++ entries_from (lsn + length (flat_map spelling xs)) ys
 entries_append lsn [] ys = ap (λ n. entries_from n ys) (omega arith)
@@ -145,10 +147,6 @@ InTurn-left : {X : Type 0} (P : List X → X → Type 0) (earlier xs ys : List X
 InTurn-left P earlier [] ys h = tt
 InTurn-left P earlier (x ∷ xs) ys h = (h.0, InTurn-left P (earlier ++ x ∷ []) xs ys h.1)
 
-pub in_order_left : (from : ℕ) (xs : List Entry) (e : Entry) (rest : List Entry) (to : ℕ) → IsInOrder from (xs ++ e ∷ rest) to → IsInOrder from xs e.lsn
-in_order_left from [] e rest to h = h.0
-in_order_left from (x ∷ xs) e rest to h = (h.0, in_order_left (x.lsn + 1) xs e rest to h.1)
-
 pub orderly_at : (from to : ℕ) (earlier : List Entry) (e : Entry) (rest : List Entry) → IsInOrder from (earlier ++ e ∷ rest) to → AreOrderly (earlier ++ e ∷ rest) →
     AreOrderly earlier × IsOrderly earlier e × IsFresh e.lsn earlier
 orderly_at from to earlier e rest order orderly =
@@ -158,14 +156,6 @@ orderly_at from to earlier e rest order orderly =
 pub whole_sealed : (p : Picture) (tail : List LogRecord) → whole (sealed p tail) [] ≡ whole p tail
 whole_sealed p tail = append-nil (whole p tail)
 
-length_entries : (lsn : ℕ) (records : List LogRecord) → length (entries_from lsn records) ≡ length records
-length_entries lsn [] = refl
-length_entries lsn (rec ∷ records) = ap suc (length_entries (lsn + length (spelling rec)) records)
-
-some_records : (records : List LogRecord) → records ≢ [] → 1 ≤ length records
-some_records [] h = absurd (h refl)
-some_records (rec ∷ records) h = omega arith
-
 pub plain_room : (pages room : ℕ) (blocks : List (List LogRecord)) (tail : List LogRecord) → AllByRecursion (λ records. records ≢ []) blocks → tail ≢ [] →
     length (whole (plain pages room blocks) tail) + owed (whole (plain pages room blocks) tail) ≤ room - 1 → HasRoom (sealed (plain pages room blocks) tail)
 plain_room pages room blocks tail full some fits =
@@ -173,7 +163,7 @@ plain_room pages room blocks tail full some fits =
       arith,
       fits,
       blocks_have_records 0 blocks full,
-      some_records tail some,
+      some_length tail some,
       length_entries (512 * length blocks + 2) tail,
       length-append (log_from 0 blocks) (entries_from (512 * length blocks + 2) tail),
     )

@@ -5,6 +5,7 @@ use Rattle.std.specs.List.{AllByRecursion}
 use Rattle.std.proofs.lemmas.List.{append-nil, length-append}
 use Rattle.std.proofs.lemmas.List.Elements.{filter-append}
 use Rattle.std.proofs.lemmas.Bool.{cases_Bool, eq-eqb, ne_eqb}
+use Rattle.std_lemmas.proofs.AllOf.{all_right, all_both, all_weaker}
 use Rattle.record_model.specs.State.{Write}
 use Rattle.log_records.specs.declared.log_record.LogRecord.{LogRecord}
 use Rattle.log_records.specs.declared.log_record.LogRecord.TheVariants.{Begin, Update, Clr, Commit, End}
@@ -13,13 +14,12 @@ use Rattle.log_records.specs.Unfinished.{is_clr, clrs_in, open_by, open_updates,
 use Rattle.log_records.specs.Sound.{Master, InTurn, IsInOrder, IsLoserChain, Continues, Compensates, Undoes, last_lsn, last_number}
 use Rattle.log_laws.specs.Follow.{IsActive}
 use Rattle.log_laws.specs.UndoLaws.{top_lsn, next_by, next_in, next_of, IsNext}
-use Rattle.log_laws.proofs.Lists.{all_weaker}
 use Rattle.log_laws.proofs.Values.{with}
 use Rattle.log_laws.proofs.Chains.{open_append}
 use Rattle.log_laws.proofs.Orders.{all_from}
-use Rattle.log_laws.proofs.Parts.{all_both, all_right, in_order_filter}
+use Rattle.log_laws.proofs.Parts.{in_order_filter}
 use Rattle.log_laws.proofs.Losers.{entries_other, entries_own, left_are_its_updates, left_keep, all_left_open, last_number_of}
-use Rattle.log_laws.proofs.Tails.{in_order_left}
+use Rattle.log_records.proofs.Entries.{in_order_left}
 
 next_append : (next : ℕ) (xs ys : List Entry) → next_in next (xs ++ ys) ≡ next_in (next_in next xs) ys
 next_append next [] ys = refl

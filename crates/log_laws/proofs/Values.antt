@@ -5,12 +5,15 @@ use Rattle.std.specs.List.{list_any, AllByRecursion}
 use Rattle.std.specs.Option.{option_or}
 use Rattle.std.proofs.lemmas.List.Folds.{list_any-append, find-append}
 use Rattle.std.proofs.lemmas.Bool.{or_parts, or_right, or_left, and_from, and_parts, and_right, cases_Bool, eqb-true, eq-eqb, not_from_false}
+use Rattle.std_lemmas.proofs.Options.{option_or_none}
+use Rattle.std_lemmas.proofs.Bools.{or_without_last}
 use Rattle.record_model.specs.State.{Content}
 use Rattle.log_records.specs.Log.{Entry, Version, slot_at, txn_of, is_of, is_on, is_update, is_loser, is_closed, is_closing, entries_of, last_where, last_on, first_update, before_of, before_first, after_of, value_after, value_of}
 use Rattle.log_records.specs.Sound.{Pairwise, HoldsOff}
 use Rattle.log_laws.specs.Follow.{CanBeUndone, shown, shown_by}
-use Rattle.log_laws.proofs.Lists.{or_none, one, one_false, one_true, last_where-append, last_passes, all_last, last_any, last_where-filter, find-filter, last_of_both, find_passes, all_find, any_left}
+use Rattle.log_laws.proofs.Lists.{one_false, one_true, last_passes, last_any, last_where-filter, find-filter, last_of_both, find_passes, all_find, any_left}
 use Rattle.log_laws.proofs.Chains.{update_of_chain}
+use Rattle.log_records.proofs.Lists.{one, last_where-append, all_last}
 
 abbrev pub with : List Entry → Entry → List Entry
 with log e = log ++ e ∷ []
@@ -20,13 +23,8 @@ with log e = log ++ e ∷ []
 pub closed_push : (log : List Entry) (e : Entry) (t : ℕ) → is_closed (with log e) t ≡ (is_closed log t || ((is_of t e && is_closing e.rec) || false))
 closed_push log e t = list_any-append (λ x. is_of t x && is_closing x.rec) log (e ∷ [])
 
-pub or_two_false : (a b : Bool) → b ≡ false → (a || (b || false)) ≡ a
-or_two_false true b e = refl
-or_two_false false true e = e
-or_two_false false false e = refl
-
 pub closed_same : (log : List Entry) (e : Entry) (t : ℕ) → (is_of t e && is_closing e.rec) ≡ false → is_closed (with log e) t ≡ is_closed log t
-closed_same log e t h = closed_push log e t ∙ or_two_false (is_closed log t) (is_of t e && is_closing e.rec) h
+closed_same log e t h = closed_push log e t ∙ or_without_last (is_closed log t) (is_of t e && is_closing e.rec) h
 
 pub closed_by : (log : List Entry) (e : Entry) (t : ℕ) → (is_of t e && is_closing e.rec) ≡ true → is_closed (with log e) t ≡ true
 closed_by log e t h = closed_push log e t ∙ or_right (is_closed log t) ((is_of t e && is_closing e.rec) || false) (or_left (is_of t e && is_closing e.rec) false h)
@@ -48,7 +46,7 @@ first_push log e t number = first_is (with log e) t number ∙ find-append (upda
 pub first_same : (log : List Entry) (e : Entry) (t number : ℕ) → (is_update e.rec && is_on number e) ≡ false → first_update (with log e) t number ≡ first_update log t number
 first_same log e t number h =
     first_push log e t number ∙ ap (option_or (first_update log t number)) (one_false (updates_there t number) e (and_right (is_of t e) (is_update e.rec && is_on number e) h))
-    ∙ or_none (first_update log t number)
+    ∙ option_or_none (first_update log t number)
 
 pub last_push : (log : List Entry) (e : Entry) (number : ℕ) → last_on (with log e) number ≡ option_or (one (is_on number) e) (last_on log number)
 last_push log e number = last_where-append (is_on number) log (e ∷ [])
@@ -94,7 +92,7 @@ pub update_of : (log : List Entry) (t number : ℕ) (x : Entry) → CanBeUndone 
     (u : Entry) × (first_update log t number ≡ Some u)
 update_of log t number x undo lives e = update_of_chain number t (entries_of t log) x (undo (is_loser_with log t number x lives e)) e
 
-own_last : (log : List Entry) (t number : ℕ) (xs : List Entry) (u : Entry) → Pairwise (HoldsOff log) xs → is_closed log t ≡ false → find (updates_there t number) xs ≡ Some u →
+pub own_last : (log : List Entry) (t number : ℕ) (xs : List Entry) (u : Entry) → Pairwise (HoldsOff log) xs → is_closed log t ≡ false → find (updates_there t number) xs ≡ Some u →
     (x : Entry) × (last_on xs number ≡ Some x) × (txn_of x ≡ t)
 own_last log t number [] u h lives e = absurd (grind arith)
 own_last log t number (y ∷ ys) u h lives e = by_test (updates_there t number y) refl (own_last log t number ys u h.1 lives) e

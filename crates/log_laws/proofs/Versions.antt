@@ -3,13 +3,14 @@ use Rattle.std.proofs.Common.{◌≡◌, ℕ, ◌+◌, ◌*◌, ◌/◌, ◌%◌
 use Rattle.std.specs.Prelude.{Option, slice_set}
 use Rattle.std.proofs.lemmas.Bool.{cases_eq}
 use Rattle.std.proofs.lemmas.List.{length-set, ext_get_or}
-use Rattle.std.proofs.lemmas.Nat.{mod_below, div-add-mod'}
+use Rattle.std.proofs.lemmas.Nat.{mod_below}
+use Rattle.std_lemmas.proofs.AllOf.{all_weaker}
 use Rattle.record_model.specs.State.{Content, content_at}
 use Rattle.log_records.specs.Log.{Entry, Version, version_at, blank_version, slot_at, last_on, value_after, value_of, table_of}
 use Rattle.log_records.specs.Sound.{Picture, IsSound, Means, FitsLog, IsInTable}
 use Rattle.log_laws.specs.NewImage.{with_version, Replaces}
-use Rattle.log_laws.proofs.Lists.{all_weaker}
-use Rattle.log_laws.proofs.Tables.{length_table_of, content_of_table}
+use Rattle.log_records.proofs.Values.{page_and_slot, content_of_table, length_table_of}
+pub use Rattle.log_records.proofs.Values.{page_and_slot}
 
 -- tables are equal where their values are
 pub table_same : (log log' : List Entry) (pages pages' : List Version) → length pages' ≡ length pages → ((number : ℕ) → number < 32 * length pages → value_of log' pages' number ≡ value_of log pages number) →
@@ -20,9 +21,6 @@ table_same log log' pages pages' same h =
   where
     each : (number : ℕ) → number < 32 * length pages → content_at (table_of log' pages') number ≡ content_at (table_of log pages) number
     each number within = content_of_table log' pages' number (omega (arith, same, within)) ∙ h number within ∙ sym (content_of_table log pages number within)
-
-pub page_and_slot : (number : ℕ) → 32 * (number / 32) + number % 32 ≡ number
-page_and_slot number = omega (arith, div-add-mod' number 32)
 
 module _ (p : Picture) (page : ℕ) (v : Version) (sound : IsSound p) (r : Replaces p page v) where
   same_length : length (slice_set p.pages page v) ≡ length p.pages

@@ -8,6 +8,7 @@ use Rattle.std.proofs.lemmas.List.Folds.{drop_split}
 use Rattle.std.proofs.Math.Seq.{take-length}
 use Rattle.std.proofs.lemmas.Grind.{flat_map-append}
 use Rattle.std.proofs.lemmas.Nat.{be_bytes_2, from_be_bytes-to_be_bytes_2}
+use Rattle.std_lemmas.proofs.AllOf.{all_push, all_between}
 use Rattle.log_records.specs.declared.log_record.LogRecord.{LogRecord}
 use Rattle.log_records.specs.declared.log_record.LogRecord.TheVariants.{Begin, Update, Clr, Commit, End}
 use Rattle.log_records.specs.Spelling.{spelling, used_by, block, block_len, HasForm, FitsFields, AreBlock, IsBlock, IsSpelledAt}
@@ -80,14 +81,6 @@ spelled_next content used at rec rest e inside form fits = record {
   fits_fields = fits;
 }
 
-last_of : (P : LogRecord → Type 0) (done : List LogRecord) (rec : LogRecord) (left : List LogRecord) → AllByRecursion P (done ++ rec ∷ left) → P rec
-last_of P [] rec left h = h.0
-last_of P (d ∷ done) rec left h = last_of P done rec left h.1
-
-all_more : (P : LogRecord → Type 0) (done : List LogRecord) (rec : LogRecord) → AllByRecursion P done → P rec → AllByRecursion P (done ++ rec ∷ [])
-all_more P [] rec h p = (p, tt)
-all_more P (d ∷ done) rec h p = (h.0, all_more P done rec h.1 p)
-
 -- where the place isn't the end, a block has a record there
 next_of : (content : List ℕ) (used at : ℕ) (r : ReadTo content used at) → TellsUsed content used → at < used → (all left : List LogRecord) → IsBlock content all → all ≡ r.records ++ left →
     (rec : LogRecord) × (others : List LogRecord) × (left ≡ rec ∷ others)
@@ -106,8 +99,8 @@ spelled_left content used at r e all rec others is split =
     let same = ap used_by split in
     let both = length-append (spelling rec) (flat_map spelling others) in
     spelled_next content used at rec (flat_map spelling others ++ zeros all) rest (omega (arith, end, parts, same, r.place, both))
-    (last_of HasForm r.records rec others (subst (AllByRecursion HasForm) split is.are_block.have_form))
-    (last_of FitsFields r.records rec others (subst (AllByRecursion FitsFields) split is.are_block.fit_fields))
+    (all_between HasForm r.records rec others (subst (AllByRecursion HasForm) split is.are_block.have_form))
+    (all_between FitsFields r.records rec others (subst (AllByRecursion FitsFields) split is.are_block.fit_fields))
 
 -- where no record is spelled, no block has this content
 pub not_block : (content : List ℕ) (used at : ℕ) → ReadTo content used at → TellsUsed content used → at < used →
@@ -160,8 +153,8 @@ read_more content used at end r e rec s =
     flat_map-append spelling r.records (rec ∷ []) ∙ ap (λ (t : List ℕ). done ++ t) (append-nil (spelling rec)) in
     record {
       records = r.records ++ rec ∷ [];
-      have_form = all_more HasForm r.records rec r.have_form s.has_form;
-      fit_fields = all_more FitsFields r.records rec r.fit_fields s.fits_fields;
+      have_form = all_push HasForm r.records rec r.have_form s.has_form;
+      fit_fields = all_push FitsFields r.records rec r.fit_fields s.fits_fields;
       text = r.text ∙ ap (λ (t : List ℕ). done ++ t) (front_of content at used end rec s) ∙ sym (append_assoc done (spelling rec) (drop end content))
           ∙ ap (λ (t : List ℕ). t ++ drop end content) (sym flat);
       place = omega (arith, s.length_is, r.place, ap length flat, length-append done (spelling rec));

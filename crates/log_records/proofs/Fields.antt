@@ -2,9 +2,10 @@
 use Rattle.std.proofs.Common.{◌≡◌, ℕ, zero, suc, ◌+◌, ◌^◌, ◌<◌, ◌≤◌, Bool, true, false, cond, ◌||◌, ltb, List, [], ◌∷◌, ◌++◌, length, get_or, take, drop, Option, Some, None, refl, sym, ap, subst, ◌∙◌, add-one, arith, inl, inr}
 use Rattle.std.specs.Prelude.{nat_lt}
 use Rattle.std.specs.Int.{Width, w32, w64, byte_len, from_be_bytes, to_be_bytes}
-use Rattle.std.proofs.lemmas.Bool.{cases_lt, ltb-false, ltb-true, le-ltb, lt-ltb}
+use Rattle.std.proofs.lemmas.Bool.{cases_lt, ltb-false, ltb-true, le-ltb, lt-ltb, or_parts}
 use Rattle.std.proofs.lemmas.List.{take_at, drop_at, take-append-drop, length-append, length-take, get_or-drop, get_or-take, get_or_past}
 use Rattle.std.proofs.lemmas.Nat.{be_bytes_4, be_bytes_8, from_be_bytes-to_be_bytes_4, from_be_bytes-to_be_bytes_8}
+use Rattle.std.proofs.lemmas.Option.{same_Some, cond_some}
 use Rattle.byte_fields.specs.declared.TheConstants.{VALUE_MAX}
 use Rattle.record_model.specs.State.{Content}
 use Rattle.log_records.specs.Spelling.{content_spelling, IsShort}
@@ -36,13 +37,6 @@ bind_is r f x y e h = ap (λ r. r >>= f) e ∙ h
 guard_some : {A : Type 0} (b : Bool) (x y : A) → cond b None (Some x) ≡ Some y → (b ≡ false) × (x ≡ y)
 guard_some true x y e = absurd cc
 guard_some false x y e = (refl, cc)
-
-passed : {A : Type 0} (b : Bool) (x y : A) → cond b (Some x) None ≡ Some y → (b ≡ true) × (x ≡ y)
-passed true x y e = (refl, cc)
-passed false x y e = absurd cc
-
-pub some_is : {A : Type 0} (x y : A) → Some x ≡ Some y → x ≡ y
-some_is x y e = cc
 
 -- read and spell are of one field, whose values are good
 pub record IsField {A : Type 0} (read : List ℕ → Option (A × List ℕ)) (spell : A → List ℕ) (Good : A → Type 0) : Type 0 where
@@ -108,7 +102,7 @@ slot_takes : (octets : List ℕ) (x : ℕ × List ℕ) → IsBytes octets → sl
 unfolding slot_at
 slot_takes [] x fits e = absurd cc
 slot_takes (slot ∷ rest) x fits e =
-    let g = passed (ltb slot 32) (slot, rest) x e in
+    let g = cond_some (ltb slot 32) (slot, rest) x e in
     subst (λ (x : ℕ × List ℕ). (slot ∷ rest ≡ x.0 ∷ [] ++ x.1) × IsBytes x.1 × (x.0 < 32)) g.1 (refl, IsBytes-rest slot rest fits, ltb-true _ _ g.0)
 
 slot_again : (slot : ℕ) (rest : List ℕ) → slot < 32 → slot_at (slot ∷ rest) ≡ Some (slot, rest)
@@ -120,18 +114,14 @@ slot_field = record { takes = slot_takes; again = slot_again }
 
 -- ---- values
 
-or_false : (a b : Bool) → (a || b) ≡ false → (a ≡ false) × (b ≡ false)
-or_false true b e = absurd cc
-or_false false b e = (refl, e)
-
 value_takes : (octets : List ℕ) (x : Content × List ℕ) → IsBytes octets → value_at octets ≡ Some x → (octets ≡ content_spelling x.0 ++ x.1) × IsBytes x.1 × IsShort x.0
 unfolding value_at
 value_takes [] x fits e = absurd cc
 value_takes (zero ∷ rest) x fits e =
-    subst (λ (x : Content × List ℕ). (0 ∷ rest ≡ content_spelling x.0 ++ x.1) × IsBytes x.1 × IsShort x.0) (some_is (None, rest) x e) (refl, IsBytes-rest 0 rest fits, tt)
+    subst (λ (x : Content × List ℕ). (0 ∷ rest ≡ content_spelling x.0 ++ x.1) × IsBytes x.1 × IsShort x.0) (same_Some (None, rest) x e) (refl, IsBytes-rest 0 rest fits, tt)
 value_takes (suc n ∷ rest) x fits e =
     let g = guard_some (nat_lt VALUE_MAX n || nat_lt (length rest) n) (Some (take n rest), drop n rest) x e in
-    let tests = or_false (nat_lt VALUE_MAX n) (nat_lt (length rest) n) g.0 in
+    let tests = or_parts (nat_lt VALUE_MAX n) (nat_lt (length rest) n) g.0 in
     let short : n ≤ VALUE_MAX = ltb-false _ _ tests.0 in
     let there : n ≤ length rest = ltb-false _ _ tests.1 in
     let len : length (take n rest) ≡ n = omega (arith, length-take n rest) in

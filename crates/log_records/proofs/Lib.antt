@@ -7,3 +7,4 @@ pub mod Blocks
 pub mod Lists
 pub mod Values
 pub mod SetBlocks
+pub mod Entries

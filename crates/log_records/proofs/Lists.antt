@@ -1,46 +1,30 @@
 -- The last item that passes a test.
-use Rattle.std.proofs.Common.{◌≡◌, ◌⊎◌, inl, inr, ⊎_elim, Bool, true, cond, List, [], ◌∷◌, ◌++◌, Some, None, refl, sym, ap, subst, ◌∙◌, arith}
+use Rattle.std.proofs.Common.{◌≡◌, ⊎_elim, Bool, true, cond, List, [], ◌∷◌, ◌++◌, Some, None, sym, ap, subst, ◌∙◌, arith}
 use Rattle.std.specs.Prelude.{Option}
 use Rattle.std.specs.List.{list_any, AllByRecursion}
 use Rattle.std.specs.Option.{option_or}
 use Rattle.std.proofs.lemmas.Bool.{or_left, or_right}
 use Rattle.std.proofs.lemmas.Option.{cond_some}
+use Rattle.std_lemmas.proofs.Options.{option_or_none, option_or_assoc, option_or_some}
 use Rattle.log_records.specs.Log.{last_where}
-
-pub or_none : {A : Type 0} (a : Option A) → option_or a None ≡ a
-or_none None = refl
-or_none (Some x) = refl
-
-or_assoc : {A : Type 0} (a b c : Option A) → option_or (option_or a b) c ≡ option_or a (option_or b c)
-or_assoc None b c = refl
-or_assoc (Some x) b c = refl
-
--- which of two it is
-or_some : {A : Type 0} (a b : Option A) (x : A) → option_or a b ≡ Some x → (a ≡ Some x) ⊎ ((a ≡ None) × (b ≡ Some x))
-or_some None b x e = inr (refl, e)
-or_some (Some y) b x e = inl e
 
 abbrev pub one : {X : Type 0} → (X → Bool) → X → Option X
 one test x = cond (test x) (Some x) None
 
 pub last_where-append : {X : Type 0} (test : X → Bool) (xs ys : List X) → last_where test (xs ++ ys) ≡ option_or (last_where test ys) (last_where test xs)
-last_where-append {X} test [] ys = sym (or_none (last_where test ys))
-last_where-append {X} test (x ∷ xs) ys = ap (λ (o : Option X). option_or o (one test x)) (last_where-append test xs ys) ∙ or_assoc (last_where test ys) (last_where test xs) (one test x)
+last_where-append {X} test [] ys = sym (option_or_none (last_where test ys))
+last_where-append {X} test (x ∷ xs) ys = ap (λ (o : Option X). option_or o (one test x)) (last_where-append test xs ys) ∙ option_or_assoc (last_where test ys) (last_where test xs) (one test x)
 
 -- what holds of all holds of the last
 pub all_last : {X : Type 0} (P : X → Type 0) (test : X → Bool) (xs : List X) (x : X) → AllByRecursion P xs → last_where test xs ≡ Some x → P x
 all_last P test [] x h e = absurd (grind arith)
 all_last P test (y ∷ ys) x h e = ⊎_elim (all_last P test ys x h.1)
     (λ o. let c = cond_some (test y) y x o.1 in subst P c.1 h.0)
-    (or_some (last_where test ys) (one test y) x e)
+    (option_or_some (last_where test ys) (one test y) x e)
 
 -- the last is one of them
 pub any_last : {X : Type 0} (test other : X → Bool) (xs : List X) (x : X) → last_where test xs ≡ Some x → other x ≡ true → list_any other xs ≡ true
 any_last test other [] x e h = absurd (grind arith)
 any_last test other (y ∷ ys) x e h = ⊎_elim (λ o. or_right (other y) (list_any other ys) (any_last test other ys x o h))
     (λ o. let c = cond_some (test y) y x o.1 in or_left (other y) (list_any other ys) (ap other c.1 ∙ h))
-    (or_some (last_where test ys) (one test y) x e)
-
-pub all_weaker : {X : Type 0} (P Q : X → Type 0) → ((x : X) → P x → Q x) → (xs : List X) → AllByRecursion P xs → AllByRecursion Q xs
-all_weaker P Q w [] h = tt
-all_weaker P Q w (x ∷ xs) h = (w x h.0, all_weaker P Q w xs h.1)
+    (option_or_some (last_where test ys) (one test y) x e)

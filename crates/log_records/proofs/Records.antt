@@ -2,12 +2,13 @@
 use Rattle.std.proofs.Common.{◌≡◌, ℕ, suc, ◌^◌, ◌<◌, Bool, true, false, cond, ◌⊎◌, inl, inr, eqb, List, [], ◌∷◌, ◌++◌, Some, refl, sym, ap, subst, ◌∙◌, append_assoc}
 use Rattle.std.specs.Int.{w32, w64, to_be_bytes}
 use Rattle.std.proofs.lemmas.Bool.{eqb-true}
+use Rattle.std.proofs.lemmas.Option.{same_Some}
 use Rattle.record_model.specs.State.{Content}
 use Rattle.log_records.specs.declared.log_record.LogRecord.{LogRecord}
 use Rattle.log_records.specs.declared.log_record.LogRecord.TheVariants.{Begin, Update, Clr, Commit, End}
 use Rattle.log_records.specs.Spelling.{spelling, content_spelling, HasForm, FitsFields, IsShort}
 use Rattle.log_records.specs.Reading.{number_at, slot_at, value_at, commit_at, end_at, clr_at, update_at, record_at}
-use Rattle.log_records.proofs.Fields.{IsBytes, bind_some, bind_is, some_is, u32_field, u64_field, slot_field, value_field}
+use Rattle.log_records.proofs.Fields.{IsBytes, bind_some, bind_is, u32_field, u64_field, slot_field, value_field}
 
 -- what a record takes from the front of octets
 pub record TakesRecord (octets : List ℕ) (x : LogRecord × List ℕ) : Type 0 where
@@ -22,7 +23,7 @@ commit_takes octets x fits e =
     let b = bind_some (number_at w64 a.0.1) _ x a.2 in
     let t = u64_field.takes octets a.0 fits a.1 in
     let u = u64_field.takes a.0.1 b.0 t.1 b.1 in
-    subst (TakesRecord (4 ∷ octets)) (some_is (Commit a.0.0 b.0.0, b.0.1) x b.2)
+    subst (TakesRecord (4 ∷ octets)) (same_Some (Commit a.0.0 b.0.0, b.0.1) x b.2)
     (record { parts = ap (λ (o : List ℕ). 4 ∷ o) (t.0 ∙ ap (λ (o : List ℕ). to_be_bytes w64 a.0.0 ++ o) u.0); has_form = tt; fits = (t.2, u.2) })
 
 commit_again : (txn number : ℕ) (rest : List ℕ) → txn < 2 ^ 64 → number < 2 ^ 64 → commit_at (to_be_bytes w64 txn ++ (to_be_bytes w64 number ++ rest)) ≡ Some (Commit txn number, rest)
@@ -36,7 +37,7 @@ unfolding end_at spelling
 end_takes octets x fits e =
     let a = bind_some (number_at w64 octets) _ x e in
     let t = u64_field.takes octets a.0 fits a.1 in
-    subst (TakesRecord (5 ∷ octets)) (some_is (End a.0.0, a.0.1) x a.2)
+    subst (TakesRecord (5 ∷ octets)) (same_Some (End a.0.0, a.0.1) x a.2)
     (record { parts = ap (λ (o : List ℕ). 5 ∷ o) t.0; has_form = tt; fits = t.2 })
 
 end_again : (txn : ℕ) (rest : List ℕ) → txn < 2 ^ 64 → end_at (to_be_bytes w64 txn ++ rest) ≡ Some (End txn, rest)
@@ -60,7 +61,7 @@ update_takes octets x fits e =
     let t6 = value_field.takes before.0.1 after.0 t5.1 after.1 in
     let values : slot.0.1 ≡ content_spelling before.0.0 ++ content_spelling after.0.0 ++ after.0.1 =
     t5.0 ∙ ap (λ (o : List ℕ). content_spelling before.0.0 ++ o) t6.0 ∙ sym (append_assoc (content_spelling before.0.0) (content_spelling after.0.0) after.0.1) in
-    subst (TakesRecord (2 ∷ octets)) (some_is (Update txn.0.0 prev.0.0 page.0.0 slot.0.0 before.0.0 after.0.0, after.0.1) x after.2)
+    subst (TakesRecord (2 ∷ octets)) (same_Some (Update txn.0.0 prev.0.0 page.0.0 slot.0.0 before.0.0 after.0.0, after.0.1) x after.2)
     (record {
       parts = ap (λ (o : List ℕ). 2 ∷ o) (t1.0 ∙ ap (λ (o : List ℕ). to_be_bytes w64 txn.0.0 ++ o) (t2.0 ∙ ap (λ (o : List ℕ). to_be_bytes w64 prev.0.0 ++ o)
           (t3.0 ∙ ap (λ (o : List ℕ). to_be_bytes w32 page.0.0 ++ o) (t4.0 ∙ ap (λ (o : List ℕ). slot.0.0 ∷ o) values))));
@@ -96,7 +97,7 @@ clr_takes octets x fits e =
     let t4 = u32_field.takes next.0.1 page.0 t3.1 page.1 in
     let t5 = slot_field.takes page.0.1 slot.0 t4.1 slot.1 in
     let t6 = value_field.takes slot.0.1 after.0 t5.1 after.1 in
-    subst (TakesRecord (3 ∷ octets)) (some_is (Clr txn.0.0 prev.0.0 next.0.0 page.0.0 slot.0.0 after.0.0, after.0.1) x after.2)
+    subst (TakesRecord (3 ∷ octets)) (same_Some (Clr txn.0.0 prev.0.0 next.0.0 page.0.0 slot.0.0 after.0.0, after.0.1) x after.2)
     (record {
       parts = ap (λ (o : List ℕ). 3 ∷ o) (t1.0 ∙ ap (λ (o : List ℕ). to_be_bytes w64 txn.0.0 ++ o) (t2.0 ∙ ap (λ (o : List ℕ). to_be_bytes w64 prev.0.0 ++ o)
           (t3.0 ∙ ap (λ (o : List ℕ). to_be_bytes w64 next.0.0 ++ o) (t4.0 ∙ ap (λ (o : List ℕ). to_be_bytes w32 page.0.0 ++ o)
@@ -138,7 +139,7 @@ record_takes_by : (kind : ℕ) (octets : List ℕ) (x : LogRecord × List ℕ) �
 unfolding record_at spelling
 record_takes_by kind octets x fits e = elim (chosen (eqb kind 1) _ _ (Some x) e) [
   | inl (is, here) ↦ subst (λ k. TakesRecord (k ∷ octets) x) (sym (eqb-true kind 1 is))
-      (subst (TakesRecord (1 ∷ octets)) (some_is (Begin, octets) x here) (record { parts = refl; has_form = tt; fits = tt }))
+      (subst (TakesRecord (1 ∷ octets)) (same_Some (Begin, octets) x here) (record { parts = refl; has_form = tt; fits = tt }))
   | inr (not1, e2) ↦ elim (chosen (eqb kind 2) _ _ (Some x) e2) [
     | inl (is, here) ↦ subst (λ k. TakesRecord (k ∷ octets) x) (sym (eqb-true kind 2 is)) (update_takes octets x fits here)
     | inr (not2, e3) ↦ elim (chosen (eqb kind 3) _ _ (Some x) e3) [
@@ -163,5 +164,5 @@ record_takes (kind ∷ octets) x fits e = record_takes_by kind octets x (λ i. f
 pub spelling_is_one : (a b : LogRecord) (x y : List ℕ) → HasForm a → FitsFields a → HasForm b → FitsFields b →
     spelling a ++ x ≡ spelling b ++ y → (a ≡ b) × (x ≡ y)
 spelling_is_one a b x y form fits form' fits' e =
-    let same = some_is (a, x) (b, y) (sym (record_again a x form fits) ∙ ap record_at e ∙ record_again b y form' fits') in
+    let same = same_Some (a, x) (b, y) (sym (record_again a x form fits) ∙ ap record_at e ∙ record_again b y form' fits') in
     (ap (λ (p : LogRecord × List ℕ). p.0) same, ap (λ (p : LogRecord × List ℕ). p.1) same)

@@ -1,5 +1,6 @@
 -- The block of a transaction that sets one record.
 use Rattle.std.proofs.Common.{◌≡◌, ℕ, ◌+◌, ◌-◌, ◌*◌, ◌/◌, ◌%◌, ◌^◌, ◌≤◌, ◌<◌, List, [], ◌∷◌, ◌++◌, length, drop, replicate, Some, None, refl, sym, ap, ◌∙◌, append_assoc, length-append, arith}
+use Rattle.std.proofs.lemmas.Option.{same_Some}
 use Rattle.byte_fields.specs.declared.TheConstants.{VALUE_MAX}
 use Rattle.record_model.specs.State.{Content}
 use Rattle.log_records.specs.declared.log_record.LogRecord.{LogRecord}
@@ -8,7 +9,6 @@ use Rattle.log_records.specs.Spelling.{spelling, content_spelling, block, block_
 use Rattle.log_records.specs.Log.{number_of, before_of, after_of}
 use Rattle.log_records.specs.Sets.{Change, IsChange, update_of, commit_of, records_of}
 use Rattle.log_records.specs.Laws.{OneChange, SetIsBlock, SetLsns}
-use Rattle.log_records.proofs.Fields.{some_is}
 use Rattle.log_records.proofs.Records.{spelling_is_one}
 
 -- behind its first two octets a block of three records has these, and then zeros
@@ -74,6 +74,6 @@ pub one_change : OneChange
 one_change pages i c d few small is_c is_d same =
     let begins = spelling_is_one Begin Begin _ _ tt tt tt tt (sym (behind_three Begin (update_of i c) (commit_of i)) ∙ ap (drop 2) same ∙ behind_three Begin (update_of i d) (commit_of i)) in
     let updates = spelling_is_one (update_of i c) (update_of i d) _ _ (update_form pages i c few small is_c) (update_fits pages i c few small is_c) (update_form pages i d few small is_d) (update_fits pages i d few small is_d) begins.1 in
-    let numbers = some_is (32 * (c.number / 32) + c.number % 32) (32 * (d.number / 32) + d.number % 32) (ap number_of updates.0) in
+    let numbers = same_Some (32 * (c.number / 32) + c.number % 32) (32 * (d.number / 32) + d.number % 32) (ap number_of updates.0) in
     let number : c.number ≡ d.number = omega (arith, numbers) in
     λ k. record { number = number k; before = ap before_of updates.0 k; after = ap after_of updates.0 k }

@@ -7,13 +7,14 @@ use Rattle.std.proofs.lemmas.List.{append-nil, ext_get_or, get_or-replicate, len
 use Rattle.std.proofs.lemmas.List.Folds.{list_any-append}
 use Rattle.std.proofs.lemmas.List.FromFn.{length-map-range_with_len, get_or-map-range_with_len}
 use Rattle.std.proofs.lemmas.Bool.{cases_eq, eq-eqb, ne_eqb, or_left, or_right}
+use Rattle.std_lemmas.proofs.AllOf.{all_weaker}
 use Rattle.record_model.specs.State.{content_at}
 use Rattle.log_records.specs.declared.log_record.LogRecord.TheVariants.{Begin}
 use Rattle.log_records.specs.Spelling.{spelling}
 use Rattle.log_records.specs.Log.{Entry, Version, blank_version, entries_from, log_from, txn_of, is_of, is_closing, is_closed, is_loser, is_on, last_where, last_on, first_update, before_first, after_of, slot_at, value_after, value_of, table_of}
 use Rattle.log_records.specs.Sets.{Change, update_of, records_of, set_blocks, set_log, blank_versions}
 use Rattle.log_records.specs.Laws.{ValuesOfSets, ValuesOfNone}
-use Rattle.log_records.proofs.Lists.{last_where-append, all_last, any_last, all_weaker}
+use Rattle.log_records.proofs.Lists.{last_where-append, all_last, any_last}
 
 -- the records of block i in the log
 abbrev pub set_entries : ℕ → Change → List Entry
@@ -54,15 +55,15 @@ log_more i (d ∷ changes) c =
     ∙ sym (append_assoc (set_entries i d) (log_from (i + 1) (set_blocks (i + 1) changes)) (set_entries (i + 1 + length changes) c))
     ∙ ap (λ n. set_entries i d ++ log_from (i + 1) (set_blocks (i + 1) changes) ++ set_entries n c) (omega arith)
 
-number_is : (n : ℕ) → 32 * (n / 32) + n % 32 ≡ n
-number_is n = omega arith
+pub page_and_slot : (n : ℕ) → 32 * (n / 32) + n % 32 ≡ n
+page_and_slot n = omega arith
 
 -- the Update is the block's only record on its number, and no record on another one
 abbrev update_entry : ℕ → Change → Entry
 update_entry i c = record { lsn = 512 * i + 2 + length (spelling Begin); rec = update_of i c }
 
 last_there : (i : ℕ) (c : Change) (number : ℕ) → last_where (is_on number) (set_entries i c) ≡ cond (c.number == number) (Some (update_entry i c)) None
-last_there i c number = alone (32 * (c.number / 32) + c.number % 32 == number) ∙ ap (λ n. cond (n == number) (Some (update_entry i c)) None) (number_is c.number)
+last_there i c number = alone (32 * (c.number / 32) + c.number % 32 == number) ∙ ap (λ n. cond (n == number) (Some (update_entry i c)) None) (page_and_slot c.number)
   where
     alone : (b : Bool) → option_or (cond b (Some (update_entry i c)) None) None ≡ cond b (Some (update_entry i c)) None
     alone true = refl
@@ -97,7 +98,7 @@ module _ (log : List Entry) (versions : List Version) (i : ℕ) (c : Change) (cl
 
 -- Tables.
 
-content_of_table : (log : List Entry) (versions : List Version) (number : ℕ) → number < 32 * length versions → content_at (table_of log versions) number ≡ value_of log versions number
+pub content_of_table : (log : List Entry) (versions : List Version) (number : ℕ) → number < 32 * length versions → content_at (table_of log versions) number ≡ value_of log versions number
 content_of_table log versions number h = get_or-map-range_with_len (value_of log versions) 0 (32 * length versions) number number None h (omega arith)
 
 pub length_table_of : (log : List Entry) (versions : List Version) → length (table_of log versions) ≡ 32 * length versions

@@ -1,8 +1,9 @@
 -- The newest blocks of an image.
-use Rattle.std.proofs.Common.{◌≡◌, ℕ, zero, suc, ◌+◌, ◌-◌, ◌≤◌, List, [], ◌∷◌, ◌++◌, length, drop, sym, ap, ◌∙◌, arith}
+use Rattle.std.proofs.Common.{◌≡◌, ℕ, ◌+◌, ◌-◌, ◌≤◌, List, [], ◌∷◌, ◌++◌, length, drop, sym, ap, ◌∙◌, arith}
 use Rattle.std.specs.Prelude.{max}
 use Rattle.std.specs.List.{AllByRecursion}
 use Rattle.std.proofs.lemmas.List.{length-append, length-drop, drop-drop, drop-append-le, drop-map, map-append}
+use Rattle.std_lemmas.proofs.AllOf.{all_drop}
 use Rattle.site.specs.declared.geometry.Geometry.{Geometry}
 use Rattle.site.specs.State.{Image}
 use Rattle.sealed_ring.specs.Ring.{IsRing, Units, last_of, appended}
@@ -10,7 +11,7 @@ use Rattle.sealed_ring.proofs.Units.{live_count}
 use Rattle.log_records.specs.declared.log_record.LogRecord.{LogRecord}
 use Rattle.log_records.specs.Spelling.{block, AreBlock}
 use Rattle.image_changes.specs.Rings.{log_shape, units_on, KeepsUnits}
-use Rattle.log_store.specs.Held.{HasBlocks}
+use Rattle.log_store.specs.Representation.{HasBlocks}
 
 -- the last ones of the last ones
 last_twice : (k m : ℕ) (xs : List (List ℕ)) → k ≤ m → last_of k (last_of m xs) ≡ last_of k xs
@@ -29,11 +30,6 @@ last_more k xs x le =
 all_more : (blocks : List (List LogRecord)) (records : List LogRecord) → AllByRecursion AreBlock blocks → AreBlock records → AllByRecursion AreBlock (blocks ++ records ∷ [])
 all_more [] records all are = (are, tt)
 all_more (first ∷ blocks) records all are = (all.0, all_more blocks records all.1 are)
-
-all_behind : (n : ℕ) (blocks : List (List LogRecord)) → AllByRecursion AreBlock blocks → AllByRecursion AreBlock (drop n blocks)
-all_behind zero blocks all = all
-all_behind (suc n) [] all = tt
-all_behind (suc n) (first ∷ blocks) all = all_behind n blocks all.1
 
 -- they stay where the ring has the same units
 pub blocks_stay : (g : Geometry) (first : ℕ) (blocks : List (List LogRecord)) (a b : Image) → HasBlocks g first blocks a → KeepsUnits (log_shape g) a b → HasBlocks g first blocks b
@@ -86,7 +82,7 @@ blocks_from g first from blocks a has within =
       form = has.form;
       next = omega (arith, size, next, within);
       few = omega (arith, size, few);
-      are_blocks = all_behind n blocks has.are_blocks;
+      are_blocks = all_drop AreBlock n blocks has.are_blocks;
       units =
           ap (λ (k : ℕ). drop k live) (omega (arith, size, enough, within))
           ∙ sym (drop-drop n (length live - length blocks) live)

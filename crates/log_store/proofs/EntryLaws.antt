@@ -7,7 +7,7 @@ use Rattle.log_records.specs.Spelling.{spelling, used_by}
 use Rattle.log_records.specs.Log.{Entry, entries_from, log_from}
 use Rattle.site.specs.State.{State}
 use Rattle.log_store.specs.declared.store.LogStore.{LogStore}
-use Rattle.log_store.specs.Held.{Finds, Holds}
+use Rattle.log_store.specs.Representation.{Finds, Represents}
 use Rattle.log_store.specs.Laws.{BlocksAreThere}
 use Rattle.log_store.specs.LogList.{LogList, next_block, sealed, entries, sealed_if, with_record}
 
@@ -41,7 +41,7 @@ one_more rec log lsn is =
     ∙ sym (append_assoc (sealed log) (entries_from (512 * next_block log + 2) log.tail) _)
 
 -- where a store puts its next record
-pub next_place : (store : LogStore) (site : State) (log : LogList) (lsn : ℕ) → Finds store site → Holds store site.image log → lsn ≡ 512 * store.ring.hi + store.used → lsn ≡ 512 * next_block log + used_by log.tail
+pub next_place : (store : LogStore) (site : State) (log : LogList) (lsn : ℕ) → Finds store site → Represents store site.image log → lsn ≡ 512 * store.ring.hi + store.used → lsn ≡ 512 * next_block log + used_by log.tail
 next_place store site log lsn fits holds is =
     let next = holds.blocks.next in
     let hi = fits.hi in

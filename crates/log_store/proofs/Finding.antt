@@ -10,7 +10,7 @@ use Rattle.log_records.specs.Spelling.{spelling, used_by, HasForm, FitsFields, A
 use Rattle.log_records.specs.Log.{Entry, entries_from, log_from}
 use Rattle.log_records.proofs.Blocks.{some_octet, behind, one_spelled, spelled_next}
 use Rattle.log_store.specs.LogList.{LogList, next_block, sealed, entries, at_lsn, sealed_block}
-use Rattle.log_store.specs.Held.{HasTail, HasRecords}
+use Rattle.log_store.specs.Representation.{HasTail, HasRecords}
 
 -- one entry more in front
 

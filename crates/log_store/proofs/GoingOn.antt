@@ -1,25 +1,22 @@
 -- A store goes on.
 use Rattle.std.proofs.Common.{◌≡◌, ◌+◌, ◌-◌, ◌≤◌, ◌∙◌, sym, ap, subst, arith}
-use Rattle.site.specs.declared.outside.Dev.TheVariants.{Log, Flash, Disk}
 use Rattle.site.specs.declared.geometry.Geometry.{Geometry}
 use Rattle.site.specs.Geometry.{HasLimits, HasLengths}
 use Rattle.site.specs.State.{State}
-use Rattle.site.specs.Calls.{Goes}
+use Rattle.site.specs.Calls.{Preserves}
 use Rattle.sealed_ring.specs.Ready.{IsUsable}
 use Rattle.log_records.specs.Spelling.{block_len}
 use Rattle.image_changes.specs.Rings.{log_shape}
 use Rattle.log_store.specs.declared.store.LogStore.{LogStore}
-use Rattle.log_store.specs.Held.{MayGoOn}
-
-lengths_stay : (g : Geometry) (old new : State) → Goes old new → HasLengths g old.image → HasLengths g new.image
-lengths_stay g old new goes lengths = record { log = goes.sizes Log ∙ lengths.log; flash = goes.sizes Flash ∙ lengths.flash; disk = goes.sizes Disk ∙ lengths.disk }
+use Rattle.log_store.specs.Representation.{Invariant}
+use Rattle.site.proofs.Working.{lengths_later}
 
 -- where its bounds still hold
-pub goes_on : (store store' : LogStore) (old new : State) → MayGoOn store old → Goes old new → store'.geometry ≡ store.geometry → IsUsable store'.ring new → store'.ring.shape ≡ store.ring.shape →
-    store'.kept ≤ store'.ring.hi → store'.ring.hi ≤ store'.kept + (store.geometry.blocks - 1) → 2 ≤ store'.used → store'.used ≤ block_len → MayGoOn store' new
+pub goes_on : (store store' : LogStore) (old new : State) → Invariant store old → Preserves old new → store'.geometry ≡ store.geometry → IsUsable store'.ring new → store'.ring.shape ≡ store.ring.shape →
+    store'.kept ≤ store'.ring.hi → store'.ring.hi ≤ store'.kept + (store.geometry.blocks - 1) → 2 ≤ store'.used → store'.used ≤ block_len → Invariant store' new
 goes_on store store' old new going goes geometry usable shape kept live low high = record {
   limits = subst HasLimits (sym geometry) going.limits;
-  lengths = subst (λ (g : Geometry). HasLengths g new.image) (sym geometry) (lengths_stay store.geometry old new goes going.lengths);
+  lengths = subst (λ (g : Geometry). HasLengths g new.image) (sym geometry) (lengths_later store.geometry old new goes going.lengths);
   usable = usable;
   shape = shape ∙ going.shape ∙ ap log_shape (sym geometry);
   kept = kept;
@@ -29,11 +26,11 @@ goes_on store store' old new going goes geometry usable shape kept live low high
 }
 
 -- a store with an empty tail, over the ring that stands there
-pub begins : (store : LogStore) (old new : State) → HasLimits store.geometry → HasLengths store.geometry old.image → Goes old new → IsUsable store.ring new → store.ring.shape ≡ log_shape store.geometry →
-    store.kept ≡ store.ring.hi - (store.geometry.blocks - 1) → store.used ≡ 2 → MayGoOn store new
+pub begins : (store : LogStore) (old new : State) → HasLimits store.geometry → HasLengths store.geometry old.image → Preserves old new → IsUsable store.ring new → store.ring.shape ≡ log_shape store.geometry →
+    store.kept ≡ store.ring.hi - (store.geometry.blocks - 1) → store.used ≡ 2 → Invariant store new
 begins store old new limits lengths goes usable shape kept used = record {
   limits = limits;
-  lengths = lengths_stay store.geometry old new goes lengths;
+  lengths = lengths_later store.geometry old new goes lengths;
   usable = usable;
   shape = shape;
   kept = omega (arith, kept);

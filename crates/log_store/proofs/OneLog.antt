@@ -1,30 +1,27 @@
 -- A store holds one log.
-use Rattle.std.proofs.Common.{◌≡◌, ℕ, List, [], ◌∷◌, ◌++◌, length, drop, take, refl, sym, ap, ◌∙◌, arith}
+use Rattle.std.proofs.Common.{◌≡◌, ℕ, List, [], ◌∷◌, length, drop, refl, sym, ap, ◌∙◌, arith}
 use Rattle.std.specs.Prelude.{map, flat_map}
 use Rattle.std.specs.List.{AllByRecursion}
-use Rattle.std.proofs.lemmas.List.{length-append, take_at}
+use Rattle.std.proofs.lemmas.List.{length-append}
+use Rattle.std_lemmas.proofs.Lists.{front_same}
 use Rattle.sealed_ring.specs.Ring.{last_of}
 use Rattle.image_changes.specs.Rings.{log_shape, units_on}
 use Rattle.log_records.specs.declared.log_record.LogRecord.{LogRecord}
 use Rattle.log_records.specs.Spelling.{spelling, block, HasForm, FitsFields, AreBlock, IsBlock}
 use Rattle.log_records.proofs.Blocks.{behind, some_octet}
 use Rattle.log_records.proofs.Records.{spelling_is_one}
-use Rattle.log_store.specs.Held.{HasTail}
+use Rattle.log_store.specs.Representation.{HasTail}
 use Rattle.log_store.specs.Laws.{OneLog}
 use Rattle.log_store.proofs.Standing.{one_end}
 
 -- a text is that of one list of records
-one_list : (a b : List LogRecord) → AllByRecursion HasForm a → AllByRecursion FitsFields a → AllByRecursion HasForm b → AllByRecursion FitsFields b → flat_map spelling a ≡ flat_map spelling b → a ≡ b
+pub one_list : (a b : List LogRecord) → AllByRecursion HasForm a → AllByRecursion FitsFields a → AllByRecursion HasForm b → AllByRecursion FitsFields b → flat_map spelling a ≡ flat_map spelling b → a ≡ b
 one_list [] [] f g f' g' same = refl
 one_list [] (x ∷ b) f g f' g' same = let some = some_octet x in let all = length-append (spelling x) (flat_map spelling b) in let none = ap length same in absurd (omega (arith, some, all, none))
 one_list (x ∷ a) [] f g f' g' same = let some = some_octet x in let all = length-append (spelling x) (flat_map spelling a) in let none = ap length same in absurd (omega (arith, some, all, none))
 one_list (x ∷ a) (y ∷ b) f g f' g' same =
     let one = spelling_is_one x y (flat_map spelling a) (flat_map spelling b) f.0 g.0 f'.0 g'.0 same in
     (λ i. one.0 i ∷ one_list a b f.1 g.1 f'.1 g'.1 one.1 i)
-
--- the same where as much stands behind both
-front_same : (a b c d : List ℕ) → length a ≡ length b → a ++ c ≡ b ++ d → a ≡ b
-front_same a b c d size same = sym (take_at a c (length a) refl) ∙ ap (take (length a)) same ∙ take_at b d (length a) (sym size)
 
 one_block : (a b : List LogRecord) → AreBlock a → AreBlock b → block a ≡ block b → a ≡ b
 one_block a b first second same =
@@ -34,7 +31,7 @@ one_block a b first second same =
     one_list a b first.have_form first.fit_fields second.have_form second.fit_fields
     (front_same (flat_map spelling a) (flat_map spelling b) _ _ (omega (arith, end)) (sym (behind (block a) a left) ∙ behind (block a) b right))
 
-one_blocks : (a b : List (List LogRecord)) → AllByRecursion AreBlock a → AllByRecursion AreBlock b → map block a ≡ map block b → a ≡ b
+pub one_blocks : (a b : List (List LogRecord)) → AllByRecursion AreBlock a → AllByRecursion AreBlock b → map block a ≡ map block b → a ≡ b
 one_blocks [] [] all all' same = refl
 one_blocks [] (y ∷ b) all all' same = let none = ap length same in absurd (omega (arith, none))
 one_blocks (x ∷ a) [] all all' same = let none = ap length same in absurd (omega (arith, none))

@@ -4,7 +4,7 @@ use Rattle.std.specs.Prelude.{slice_index}
 use Rattle.site.specs.declared.outside.Dev.TheVariants.{Log}
 use Rattle.site.specs.declared.geometry.Geometry.{Geometry}
 use Rattle.site.specs.State.{State, Image, Snapshot, loose_of, IsSettled, IsQuiet}
-use Rattle.site.specs.Calls.{Goes}
+use Rattle.site.specs.Calls.{Preserves}
 use Rattle.site.specs.Moments.{Leaves, LeavesOnly, OnlyDevice}
 use Rattle.site.specs.Laws.{leaves_weaker, leaves_others_too, no_call, settled_leaves, told_is, unchanged}
 use Rattle.sealed_ring.specs.declared.slots.Shape.{Shape}
@@ -23,7 +23,7 @@ use Rattle.image_changes.proofs.Adding.{none_made}
 use Rattle.image_changes.proofs.AppendLaws.{append_makes, append_done}
 use Rattle.log_store.specs.declared.store.LogStore.{LogStore}
 use Rattle.log_store.specs.LogList.{LogList, sealed_if, changes_if}
-use Rattle.log_store.specs.Held.{MayGoOn, HasRoom, Fits, Finds, HasBlocks, Holds, LeavesLog, KeepsBeside}
+use Rattle.log_store.specs.Representation.{Invariant, HasRoom, Matches, Finds, HasBlocks, Represents, LeavesLog, KeepsBeside}
 use Rattle.log_store.proofs.TailLaws.{tail_has_block}
 use Rattle.log_store.proofs.BlockLaws.{blocks_stay, blocks_more}
 
@@ -43,7 +43,7 @@ none_beside g site settled =
     let is = settled_leaves Log site snapshot settled left in record { size = ap length is; outside = λ p out. ap (λ (l : List ℕ). slice_index l p) is })
 
 -- and an append leaves all beside its ring
-pub seal_beside : (store : LogStore) (old new : State) (bytes : List ℕ) → MayGoOn store old → LeavesOnly old new (LeavesOldOrNew store.ring.shape (region store.ring.shape old) bytes) → LeavesOnly old new (KeepsBeside store.geometry old.image)
+pub seal_beside : (store : LogStore) (old new : State) (bytes : List ℕ) → Invariant store old → LeavesOnly old new (LeavesOldOrNew store.ring.shape (region store.ring.shape old) bytes) → LeavesOnly old new (KeepsBeside store.geometry old.image)
 seal_beside store old new bytes going so_far =
     leaves_weaker old new (LeavesOldOrNew (log_shape store.geometry) old.image.log bytes) (KeepsBeside store.geometry old.image) (λ snapshot p. record { size = p.size; outside = p.outside })
     (subst (λ (s : Shape). LeavesOnly old new (LeavesOldOrNew s (region s old) bytes)) going.shape so_far)
@@ -52,7 +52,7 @@ pub none_front : (g : Geometry) (all : List Change) (site : State) → IsQuiet s
 none_front g all site quiet = none_made g (IsFrontOf all) site site quiet (all, refl) (unchanged site)
 
 -- the ring of a store that fits is ready
-pub ring_ready : (store : LogStore) (site : State) → MayGoOn store site → Fits store site → IsReady store.ring site
+pub ring_ready : (store : LogStore) (site : State) → Invariant store site → Matches store site → IsReady store.ring site
 ring_ready store site going fits = record {
   settled = ap (λ (s : Shape). loose_of s.dev site.loose) going.shape ∙ fits.settled;
   form = subst (λ (s : Shape). IsRing s (region s site)) (sym going.shape) fits.form;
@@ -60,7 +60,7 @@ ring_ready store site going fits = record {
 }
 
 -- and it fits where the ring is ready
-pub fits_again : (store : LogStore) (site : State) → store.ring.shape ≡ log_shape store.geometry → IsTrue site.honest → IsReady store.ring site → Fits store site
+pub fits_again : (store : LogStore) (site : State) → store.ring.shape ≡ log_shape store.geometry → IsTrue site.honest → IsReady store.ring site → Matches store site
 fits_again store site shape honest ready = record {
   honest = honest;
   settled = subst (λ (s : Shape). loose_of s.dev site.loose ≡ []) shape ready.settled;
@@ -69,7 +69,7 @@ fits_again store site shape honest ready = record {
 }
 
 -- the ring of a store that found its log is found
-pub ring_finds : (store : LogStore) (site : State) → MayGoOn store site → Finds store site → ready.Finds store.ring site
+pub ring_finds : (store : LogStore) (site : State) → Invariant store site → Finds store site → ready.Finds store.ring site
 ring_finds store site going finds = record {
   form = subst (λ (s : Shape). IsRing s (region s site)) (sym going.shape) finds.form;
   hi = finds.hi ∙ sym (ap (λ (s : Shape). hi_of s (region s site)) going.shape);
@@ -84,7 +84,7 @@ finds_again store site shape honest ready = record {
 }
 
 -- an append of the tail's block
-module _ (store : LogStore) (old new : State) (log : LogList) (bytes : List ℕ) (going : MayGoOn store old) (finds : Finds store old) (holds : Holds store old.image log) (room : HasRoom store) (some : 2 < store.used)
+module _ (store : LogStore) (old new : State) (log : LogList) (bytes : List ℕ) (going : Invariant store old) (finds : Finds store old) (holds : Represents store old.image log) (room : HasRoom store) (some : 2 < store.used)
     (is : bytes ≡ block log.tail) (only : OnlyDevice store.ring.shape.dev old new) where
   abbrev g : Geometry
   g = store.geometry
@@ -132,7 +132,7 @@ module _ (store : LogStore) (old new : State) (log : LogList) (bytes : List ℕ)
       pub seal_front : (sealing : Bool) → sealing ≡ true → LeavesFront g (changes_if sealing log) old new
       seal_front sealing wants = subst (λ (b : Bool). LeavesFront g (changes_if b log) old new) (sym wants) one_front
 
-  module _ (goes : Goes old new) (ring' : Ring) (ready : IsReady ring' new) (same_shape : ring'.shape ≡ store.ring.shape) (outside : SameOutside store.ring.shape (region store.ring.shape old) (region store.ring.shape new))
+  module _ (goes : Preserves old new) (ring' : Ring) (ready : IsReady ring' new) (same_shape : ring'.shape ≡ store.ring.shape) (outside : SameOutside store.ring.shape (region store.ring.shape old) (region store.ring.shape new))
       (stands : units_of store.ring.shape (region store.ring.shape new) ≡ appended store.ring.shape (units_of store.ring.shape (region store.ring.shape old)) bytes) where
     done : Appends g Blocks (block log.tail) old.image new.image
     done = append_done g Blocks (block log.tail) old new going.limits going.lengths long (goes.sizes Log)
@@ -144,8 +144,8 @@ module _ (store : LogStore) (old new : State) (log : LogList) (bytes : List ℕ)
     pub seal_reaches : (sealing : Bool) → sealing ≡ true → Reaches g (changes_if sealing log) old.image new.image
     seal_reaches sealing wants = subst (λ (b : Bool). Reaches g (changes_if b log) old.image new.image) (sym wants) (new.image, (are, done), reads_itself g new.image)
 
-    pub seal_holds : (sealing : Bool) → sealing ≡ true → (ring : Ring) → Holds (record store { ring = ring; tail = replicate 503 0; used = 2 }) new.image (sealed_if sealing log)
-    seal_holds sealing wants ring = subst (λ (b : Bool). Holds (record store { ring = ring; tail = replicate 503 0; used = 2 }) new.image (sealed_if b log)) (sym wants) (record {
+    pub seal_holds : (sealing : Bool) → sealing ≡ true → (ring : Ring) → Represents (record store { ring = ring; tail = replicate 503 0; used = 2 }) new.image (sealed_if sealing log)
+    seal_holds sealing wants ring = subst (λ (b : Bool). Represents (record store { ring = ring; tail = replicate 503 0; used = 2 }) new.image (sealed_if b log)) (sym wants) (record {
       kept = holds.kept;
       blocks = more_blocks new.image done.form done.units;
       tail = record { end = refl; have_form = tt; fit_fields = tt; text = refl };

@@ -21,7 +21,7 @@ use Rattle.log_records.proofs.Blocks.{used_is}
 use Rattle.image_changes.specs.Rings.{log_shape, units_on}
 use Rattle.log_store.specs.declared.store.LogStore.{LogStore}
 use Rattle.log_store.specs.LogList.{LogList, next_block, entries, at_lsn, sealed_block}
-use Rattle.log_store.specs.Held.{MayGoOn, end_of, Fits, Finds, HasBlocks, HasRecords, Holds, block_on}
+use Rattle.log_store.specs.Representation.{Invariant, end_of, Matches, Finds, HasBlocks, HasRecords, Represents, block_on}
 use Rattle.log_records.specs.Log.{entries_from}
 use Rattle.log_store.proofs.BlockLaws.{blocks_stay}
 use Rattle.log_store.proofs.Finding.{in_block, in_tail, tail_has, block_has}
@@ -89,11 +89,11 @@ stands_there g log image n has from to =
 -- a unit that was read
 
 -- a store that fits is the one that was found
-pub finds : (store : LogStore) (site : State) → Fits store site → Finds store site
+pub finds : (store : LogStore) (site : State) → Matches store site → Finds store site
 finds store site fits = record { honest = fits.honest; form = fits.form; hi = fits.hi }
 
 -- and its ring is the one that stands there
-pub ring_found : (store : LogStore) (site : State) → MayGoOn store site → Finds store site → store.ring.hi ≡ hi_of store.ring.shape (region store.ring.shape site)
+pub ring_found : (store : LogStore) (site : State) → Invariant store site → Finds store site → store.ring.hi ≡ hi_of store.ring.shape (region store.ring.shape site)
 ring_found store site going found = found.hi ∙ sym (ap (λ (s : Shape). hi_of s (region s site)) going.shape)
 
 read_whole : (s : Shape) (hi n : ℕ) (c : List ℕ) → 3 ≤ s.slots → hi ≡ hi_of s c → IsLive s hi n → take s.room (unit_at s (units_of s c) n) ≡ unit_at s (units_of s c) n
@@ -102,7 +102,7 @@ read_whole s hi n c slots is live =
     ∙ take-take s.room s.room (drop (place s (n % s.slots) + 9) c) (omega arith)
     ∙ sym (unit_is s hi n c slots is live)
 
-pub unit_read : (store : LogStore) (site : State) (n : ℕ) (read octets : List ℕ) → MayGoOn store site → Finds store site → IsLive store.ring.shape store.ring.hi n →
+pub unit_read : (store : LogStore) (site : State) (n : ℕ) (read octets : List ℕ) → Invariant store site → Finds store site → IsLive store.ring.shape store.ring.hi n →
     octets ≡ take 503 read → read ≡ take 503 (unit_at store.ring.shape (units_of store.ring.shape (region store.ring.shape site)) n) → octets ≡ block_on store.geometry site.image n
 unit_read store site n read octets going fits live copied is =
     let blocks = going.limits.blocks in
@@ -118,14 +118,14 @@ one_end octets a b first second =
     sym (used_is octets a used first refl) ∙ used_is octets b used second refl
 
 -- a block of the log that the store holds
-pub held_block : (store : LogStore) (site : State) (log : LogList) (n : ℕ) → Finds store site → Holds store site.image log → log.first ≤ n → n < store.ring.hi → IsBlock (block_on store.geometry site.image n) (sealed_block log n)
+pub held_block : (store : LogStore) (site : State) (log : LogList) (n : ℕ) → Finds store site → Represents store site.image log → log.first ≤ n → n < store.ring.hi → IsBlock (block_on store.geometry site.image n) (sealed_block log n)
 held_block store site log n fits holds from below =
     let next = holds.blocks.next in
     let hi = fits.hi in
     stands_there store.geometry log site.image n holds.blocks from (omega (arith, next, hi, below))
 
 -- what was found in the tail, and in a sealed block
-module _ (store : LogStore) (site : State) (log : LogList) (lsn : ℕ) (fits : Finds store site) (holds : Holds store site.image log) (result : Option LogRecord) where
+module _ (store : LogStore) (site : State) (log : LogList) (lsn : ℕ) (fits : Finds store site) (holds : Represents store site.image log) (result : Option LogRecord) where
   abbrev b : ℕ
   b = lsn / 512
 

@@ -3,16 +3,16 @@ use Rattle.std.proofs.Common.{◌*◌, Bool, true, false, ◌≡◌, inl, inr, I
 use Rattle.std.proofs.lemmas.Bool.{cases_Bool, cond-true, cond-false}
 use Rattle.std.proofs.lemmas.Bool.Decides.{nat_tests}
 use Rattle.std.specs.Prelude.{flat_map, Some, None, nat_lt, if◌then◌else◌}
-use Rattle.std.specs.List.{AllByRecursion}
 use Rattle.std.specs.Int.{w16, to_be_bytes}
 use Rattle.std.proofs.lemmas.List.{take_at, drop_at, append-nil, length-append, length-take-le, drop-drop, drop-replicate, take-append-drop}
 use Rattle.std.proofs.lemmas.Grind.{flat_map-append}
+use Rattle.std_lemmas.proofs.AllOf.{all_push}
 use Rattle.record_model.specs.State.{Content}
 use Rattle.log_records.specs.declared.log_record.LogRecord.{LogRecord}
 use Rattle.log_records.specs.declared.log_record.LogRecord.TheVariants.{Begin, Update, Clr, Commit, End}
 use Rattle.log_records.specs.Spelling.{spelling, content_spelling, IsShort, used_by, block, block_len, HasForm, FitsFields, AreBlock}
 use Rattle.log_records.specs.Writes.{Writes}
-use Rattle.log_store.specs.Held.{HasTail}
+use Rattle.log_store.specs.Representation.{HasTail}
 
 -- behind the offset of their end, the tail's octets are the block of its records
 pub tail_is_block : (octets : List ℕ) (used : ℕ) (records : List LogRecord) → HasTail octets used records → to_be_bytes w16 used ++ drop 2 octets ≡ block records
@@ -28,10 +28,6 @@ pub tail_has_block : (octets : List ℕ) (used : ℕ) (records : List LogRecord)
 tail_has_block octets used [] t low high = let end = t.end in absurd (omega (arith, end, low))
 tail_has_block octets used (rec ∷ records) t low high =
     let end = t.end in record { some = λ none. cc; have_form = t.have_form; fit_fields = t.fit_fields; room = omega (arith, end, high) }
-
-all_more : (P : LogRecord → Type 0) (records : List LogRecord) (rec : LogRecord) → AllByRecursion P records → P rec → AllByRecursion P (records ++ rec ∷ [])
-all_more P [] rec all p = (p, tt)
-all_more P (first ∷ records) rec all p = (all.0, all_more P records rec all.1 p)
 
 -- a record written behind the last one is the tail's last one
 pub tail_more : (old new : List ℕ) (used end : ℕ) (records : List LogRecord) (rec : LogRecord) → HasTail old used records → Writes old new used (spelling rec) end → HasForm rec → FitsFields rec → HasTail new end (records ++ rec ∷ [])
@@ -53,8 +49,8 @@ tail_more old new used end records rec t w form fits =
     let more : flat_map spelling (records ++ rec ∷ []) ≡ flat ++ text = flat_map-append spelling records (rec ∷ []) ∙ ap (λ (l : List ℕ). flat ++ l) (append-nil text) in
     record {
       end = omega (arith, len, place, ap length more, length-append flat text);
-      have_form = all_more HasForm records rec t.have_form form;
-      fit_fields = all_more FitsFields records rec t.fit_fields fits;
+      have_form = all_push HasForm records rec t.have_form form;
+      fit_fields = all_push FitsFields records rec t.fit_fields fits;
       text =
           ap (drop 2) (w.written ∙ append_assoc (take used old) text rest ∙ ap (λ (l : List ℕ). l ++ (text ++ rest)) front ∙ append_assoc (take 2 old) flat (text ++ rest))
           ∙ drop_at (take 2 old) (flat ++ (text ++ rest)) 2 two

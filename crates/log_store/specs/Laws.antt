@@ -4,14 +4,14 @@ use Rattle.site.specs.declared.outside.Dev.TheVariants.{Log}
 use Rattle.site.specs.declared.geometry.Geometry.{Geometry}
 use Rattle.site.specs.Geometry.{HasLimits, blank_image}
 use Rattle.site.specs.State.{State, Image, IsSettled}
-use Rattle.site.specs.Calls.{Goes}
+use Rattle.site.specs.Calls.{Preserves}
 use Rattle.log_records.specs.declared.log_record.LogRecord.{LogRecord}
 use Rattle.log_records.specs.Spelling.{HasForm}
 use Rattle.log_records.specs.Log.{Entry}
 use Rattle.image_changes.specs.Rings.{log_shape, KeepsUnits}
 use Rattle.log_store.specs.declared.store.LogStore.{LogStore}
 use Rattle.log_store.specs.LogList.{LogList, sealed, entries, sealed_if}
-use Rattle.log_store.specs.Held.{Fits, HasBlocks, Holds, has_tail, overflows}
+use Rattle.log_store.specs.Representation.{Matches, HasBlocks, Represents, has_tail, overflows}
 
 -- sealing the tail changes no record and no LSN
 abbrev pub SealingKeeps : Type 0
@@ -28,12 +28,12 @@ BlocksAreThere = (log : LogList) → SealedFront log
 -- calls that leave the units of the log's ring, and nothing of its device loose, leave a store fit
 abbrev pub FitsBeside : Type 0
 FitsBeside = (store : LogStore) (old new : State) → KeepsUnits (log_shape store.geometry) old.image new.image
-    → Goes old new → IsSettled Log new → Fits store old → Fits store new
+    → Preserves old new → IsSettled Log new → Matches store old → Matches store new
 
 -- and it holds its log
 abbrev pub HoldsBeside : Type 0
 HoldsBeside = (store : LogStore) (old new : Image) (log : LogList) → KeepsUnits (log_shape store.geometry) old new
-    → Holds store old log → Holds store new log
+    → Represents store old log → Represents store new log
 
 -- blank devices have no block
 abbrev pub BlankHasNoBlocks : Type 0
@@ -41,7 +41,7 @@ BlankHasNoBlocks = (g : Geometry) → HasLimits g → HasBlocks g 0 [] (blank_im
 
 -- what stands there and the octets of the tail tell the log, from its first block on
 abbrev pub OneLog : Type 0
-OneLog = (store : LogStore) (image : Image) (a b : LogList) → Holds store image a → Holds store image b
+OneLog = (store : LogStore) (image : Image) (a b : LogList) → Represents store image a → Represents store image b
     → a.first ≡ b.first → a ≡ b
 
 -- a tail that a record doesn't fit has records

@@ -1,3 +1,3 @@
-pub mod Held
 pub mod Laws
 pub mod LogList
+pub mod Representation

@@ -4,7 +4,7 @@ ghost use Rattle.log_records.specs.declared.log_record.LogRecord.{LogRecord};
 ghost use Rattle.log_records.specs.Log.{entries_from};
 ghost use Rattle.log_records.specs.Spelling.{HasForm, FitsFields};
 ghost use Rattle.log_store.specs.LogList.{at_lsn};
-ghost use Rattle.log_store.specs.Held.{HasRecords};
+ghost use Rattle.log_store.specs.Representation.{HasRecords};
 
 use crate::RECORDS_AT;
 use log_records::{LogRecord, read_record};

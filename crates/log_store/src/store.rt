@@ -6,7 +6,7 @@ ghost use Rattle.site.specs.declared.outside.Dev.{Dev};
 ghost use Rattle.site.specs.declared.outside.Stop.{Stop};
 ghost use Rattle.site.specs.Geometry.{HasLimits, HasLengths};
 ghost use Rattle.site.specs.State.{State, reads_of, IsSettled, IsQuiet};
-ghost use Rattle.site.specs.Calls.{Goes, SameReads, ReadsMore, IsUnchanged};
+ghost use Rattle.site.specs.Calls.{Preserves, SameReads, ReadsMore, IsUnchanged};
 ghost use Rattle.site.specs.Faults.{WorkFaults};
 ghost use Rattle.site.specs.Moments.{LeavesOnly};
 ghost use Rattle.sealed_ring.specs.Ring.{IsRing, IsLive, SameOutside};
@@ -18,8 +18,9 @@ ghost use Rattle.image_changes.specs.Changes.{Reaches};
 ghost use Rattle.image_changes.specs.Reached.{LeavesFront};
 ghost use Rattle.log_store.specs.LogList.{LogList, entries, at_lsn, sealed_block, sealed_if, changes_if, with_record};
 ghost use Rattle.log_store.specs.LogList.{from_block};
-ghost use Rattle.log_store.specs.Held.{MayGoOn, HasRoom, has_tail, overflows, end_of, next_lsn, block_on, Fits, Finds};
-ghost use Rattle.log_store.specs.Held.{HasBlocks, HasTail, Holds, LeavesLog, KeepsBeside};
+ghost use Rattle.log_store.specs.Representation.{Invariant, HasRoom, has_tail, overflows, end_of, next_lsn, block_on};
+ghost use Rattle.log_store.specs.Representation.{Matches, Finds, HasBlocks, HasTail};
+ghost use Rattle.log_store.specs.Representation.{Represents, LeavesLog, KeepsBeside};
 
 use crate::RECORDS_AT;
 use crate::reading::record_at;
@@ -92,24 +93,24 @@ impl LogStore {
         requires limits { HasLimits geometry.now }
         requires lengths { HasLengths geometry.now (S.state site.old).image }
 
-        ensures going { IfOk result (λ store. MayGoOn store (S.state site.new)) }
+        ensures going { IfOk result (λ store. Invariant store (S.state site.new)) }
         ensures geometry { IfOk result (λ store. store.geometry ≡ geometry.now) }
         ensures empty { IfOk result (λ store. store.used ≡ 2) }
         ensures kept { IfOk result (λ store. store.kept ≡ store.ring.hi - (geometry.now.blocks - 1)) }
         ensures ended { IfOk result (λ store. store.ring.ended ≡ false) }
         ensures fits { IsTrue (S.state site.old).honest → IsSettled Dev.Log (S.state site.old)
             → IsRing (log_shape geometry.now) (S.state site.old).image.log
-            → IfOk result (λ store. Fits store (S.state site.new)) }
+            → IfOk result (λ store. Matches store (S.state site.new)) }
         ensures found { IsTrue (S.state site.old).honest
             → IsRing (log_shape geometry.now) (S.state site.old).image.log
             → IfOk result (λ store. Finds store (S.state site.new)) }
         ensures holds { IsTrue (S.state site.old).honest → (first : ℕ) (blocks : List (List LogRecord))
             → HasBlocks geometry.now first blocks (S.state site.old).image
-            → IfOk result (λ store. Holds store (S.state site.new).image
+            → IfOk result (λ store. Represents store (S.state site.new).image
             (record { first = first; blocks = blocks; tail = [] })) }
         ensures same { IsTrue (S.state site.old).honest
             → IsUnchanged (S.state site.old) (S.state site.new) }
-        ensures goes { Goes (S.state site.old) (S.state site.new) }
+        ensures goes { Preserves (S.state site.old) (S.state site.new) }
         ensures faults { WorkFaults result (S.state site.old) (S.state site.new) }
         ensures reads { reads_of Dev.Log (S.state site.new)
             ≤ reads_of Dev.Log (S.state site.old) + (geometry.now.blocks + 1) }
@@ -137,38 +138,38 @@ impl LogStore {
 
     /// Appends a record, and answers its LSN. The tail is sealed first where the record doesn't fit it.
     pub fn append<S: Site>(&mut self, site: &mut S, rec: &LogRecord) -> Result<u64, Stop>
-        requires going { MayGoOn self.old (S.state site.old) }
+        requires going { Invariant self.old (S.state site.old) }
         requires form { HasForm rec.now }
         requires room { HasRoom self.old }
 
         // Of an honest site that the store fits, or whose log it found while ranges of the device are loose.
         ensures holds { (log : LogList)
-            → Finds self.old (S.state site.old) → Holds self.old (S.state site.old).image log
-            → OnOk result (Holds self.new (S.state site.new).image
+            → Finds self.old (S.state site.old) → Represents self.old (S.state site.old).image log
+            → OnOk result (Represents self.new (S.state site.new).image
             (with_record rec.now (sealed_if (overflows self.old rec.now) log))) }
         ensures listed { (log : LogList)
-            → Finds self.old (S.state site.old) → Holds self.old (S.state site.old).image log
+            → Finds self.old (S.state site.old) → Represents self.old (S.state site.old).image log
             → IfOk result (λ lsn.
             entries (with_record rec.now (sealed_if (overflows self.old rec.now) log))
             ≡ entries log ++ record { lsn = lsn; rec = rec.now } ∷ []) }
         ensures any_moment { (log : LogList)
-            → Fits self.old (S.state site.old) → Holds self.old (S.state site.old).image log
+            → Matches self.old (S.state site.old) → Represents self.old (S.state site.old).image log
             → LeavesOnly (S.state site.old) (S.state site.new)
             (LeavesLog self.old.geometry (overflows self.old rec.now) log (S.state site.old).told) }
         ensures front { (log : LogList)
-            → Fits self.old (S.state site.old) → Holds self.old (S.state site.old).image log
+            → Matches self.old (S.state site.old) → Represents self.old (S.state site.old).image log
             → IsQuiet (S.state site.old) → LeavesFront self.old.geometry
             (changes_if (overflows self.old rec.now) log) (S.state site.old) (S.state site.new) }
         ensures reaches { (log : LogList)
-            → Finds self.old (S.state site.old) → Holds self.old (S.state site.old).image log
+            → Finds self.old (S.state site.old) → Represents self.old (S.state site.old).image log
             → OnOk result (Reaches self.old.geometry (changes_if (overflows self.old rec.now) log)
             (S.state site.old).image (S.state site.new).image) }
         ensures finds { Finds self.old (S.state site.old) → OnOk result (Finds self.new (S.state site.new)) }
-        ensures fits { Fits self.old (S.state site.old) → OnOk result (Fits self.new (S.state site.new)) }
+        ensures fits { Matches self.old (S.state site.old) → OnOk result (Matches self.new (S.state site.new)) }
         ensures outside { IsTrue (S.state site.old).honest
             → OnOk result (SameOutside (log_shape self.old.geometry)
             (S.state site.old).image.log (S.state site.new).image.log) }
-        ensures beside { Fits self.old (S.state site.old)
+        ensures beside { Matches self.old (S.state site.old)
             → LeavesOnly (S.state site.old) (S.state site.new)
             (KeepsBeside self.old.geometry (S.state site.old).image) }
         ensures changes { IsTrue (S.state site.old).honest
@@ -186,10 +187,10 @@ impl LogStore {
             × (self.new.ring.hi ≤ self.old.ring.hi + 1) }
         ensures ended { OnOk result (self.new.ring.ended ≡ self.old.ring.ended) }
         ensures err { OnErr result (self.new.ring.ended ≡ true) }
-        ensures going { MayGoOn self.new (S.state site.new) }
+        ensures going { Invariant self.new (S.state site.new) }
         ensures kept { self.new.kept ≡ self.old.kept }
         ensures geometry { self.new.geometry ≡ self.old.geometry }
-        ensures goes { Goes (S.state site.old) (S.state site.new) }
+        ensures goes { Preserves (S.state site.old) (S.state site.new) }
         ensures faults { WorkFaults result (S.state site.old) (S.state site.new) }
         ensures reads { SameReads (S.state site.old) (S.state site.new) }
 
@@ -210,31 +211,31 @@ impl LogStore {
 
     /// Seals the tail where it isn't empty: then every record is sealed.
     pub fn force<S: Site>(&mut self, site: &mut S) -> Result<(), Stop>
-        requires going { MayGoOn self.old (S.state site.old) }
+        requires going { Invariant self.old (S.state site.old) }
         requires room { HasRoom self.old }
 
         // Of an honest site that the store fits, or whose log it found while ranges of the device are loose.
         ensures holds { (log : LogList)
-            → Finds self.old (S.state site.old) → Holds self.old (S.state site.old).image log
-            → OnOk result (Holds self.new (S.state site.new).image (sealed_if (has_tail self.old) log)) }
+            → Finds self.old (S.state site.old) → Represents self.old (S.state site.old).image log
+            → OnOk result (Represents self.new (S.state site.new).image (sealed_if (has_tail self.old) log)) }
         ensures any_moment { (log : LogList)
-            → Fits self.old (S.state site.old) → Holds self.old (S.state site.old).image log
+            → Matches self.old (S.state site.old) → Represents self.old (S.state site.old).image log
             → LeavesOnly (S.state site.old) (S.state site.new)
             (LeavesLog self.old.geometry (has_tail self.old) log (S.state site.old).told) }
         ensures front { (log : LogList)
-            → Fits self.old (S.state site.old) → Holds self.old (S.state site.old).image log
+            → Matches self.old (S.state site.old) → Represents self.old (S.state site.old).image log
             → IsQuiet (S.state site.old) → LeavesFront self.old.geometry
             (changes_if (has_tail self.old) log) (S.state site.old) (S.state site.new) }
         ensures reaches { (log : LogList)
-            → Finds self.old (S.state site.old) → Holds self.old (S.state site.old).image log
+            → Finds self.old (S.state site.old) → Represents self.old (S.state site.old).image log
             → OnOk result (Reaches self.old.geometry (changes_if (has_tail self.old) log)
             (S.state site.old).image (S.state site.new).image) }
         ensures finds { Finds self.old (S.state site.old) → OnOk result (Finds self.new (S.state site.new)) }
-        ensures fits { Fits self.old (S.state site.old) → OnOk result (Fits self.new (S.state site.new)) }
+        ensures fits { Matches self.old (S.state site.old) → OnOk result (Matches self.new (S.state site.new)) }
         ensures outside { IsTrue (S.state site.old).honest
             → OnOk result (SameOutside (log_shape self.old.geometry)
             (S.state site.old).image.log (S.state site.new).image.log) }
-        ensures beside { Fits self.old (S.state site.old)
+        ensures beside { Matches self.old (S.state site.old)
             → LeavesOnly (S.state site.old) (S.state site.new)
             (KeepsBeside self.old.geometry (S.state site.old).image) }
         ensures changes { IsTrue (S.state site.old).honest
@@ -250,10 +251,10 @@ impl LogStore {
             × (self.new.ring.hi ≤ self.old.ring.hi + 1) }
         ensures ended { OnOk result (self.new.ring.ended ≡ self.old.ring.ended) }
         ensures err { OnErr result (self.new.ring.ended ≡ true) }
-        ensures going { MayGoOn self.new (S.state site.new) }
+        ensures going { Invariant self.new (S.state site.new) }
         ensures kept { self.new.kept ≡ self.old.kept }
         ensures geometry { self.new.geometry ≡ self.old.geometry }
-        ensures goes { Goes (S.state site.old) (S.state site.new) }
+        ensures goes { Preserves (S.state site.old) (S.state site.new) }
         ensures faults { WorkFaults result (S.state site.old) (S.state site.new) }
         ensures reads { SameReads (S.state site.old) (S.state site.new) }
 
@@ -272,31 +273,31 @@ impl LogStore {
 
     // Seals the tail as the next block, where that is wanted.
     fn seal_if<S: Site>(&mut self, site: &mut S, wanted: bool) -> Result<(), Stop>
-        requires going { MayGoOn self.old (S.state site.old) }
+        requires going { Invariant self.old (S.state site.old) }
         requires room { HasRoom self.old }
         requires some { IsTrue wanted → 2 < self.old.used }
 
         ensures holds { (log : LogList)
-            → Finds self.old (S.state site.old) → Holds self.old (S.state site.old).image log
-            → OnOk result (Holds self.new (S.state site.new).image (sealed_if wanted log)) }
+            → Finds self.old (S.state site.old) → Represents self.old (S.state site.old).image log
+            → OnOk result (Represents self.new (S.state site.new).image (sealed_if wanted log)) }
         ensures any_moment { (log : LogList)
-            → Fits self.old (S.state site.old) → Holds self.old (S.state site.old).image log
+            → Matches self.old (S.state site.old) → Represents self.old (S.state site.old).image log
             → LeavesOnly (S.state site.old) (S.state site.new)
             (LeavesLog self.old.geometry wanted log (S.state site.old).told) }
         ensures front { (log : LogList)
-            → Fits self.old (S.state site.old) → Holds self.old (S.state site.old).image log
+            → Matches self.old (S.state site.old) → Represents self.old (S.state site.old).image log
             → IsQuiet (S.state site.old) → LeavesFront self.old.geometry
             (changes_if wanted log) (S.state site.old) (S.state site.new) }
         ensures reaches { (log : LogList)
-            → Finds self.old (S.state site.old) → Holds self.old (S.state site.old).image log
+            → Finds self.old (S.state site.old) → Represents self.old (S.state site.old).image log
             → OnOk result (Reaches self.old.geometry (changes_if wanted log)
             (S.state site.old).image (S.state site.new).image) }
         ensures finds { Finds self.old (S.state site.old) → OnOk result (Finds self.new (S.state site.new)) }
-        ensures fits { Fits self.old (S.state site.old) → OnOk result (Fits self.new (S.state site.new)) }
+        ensures fits { Matches self.old (S.state site.old) → OnOk result (Matches self.new (S.state site.new)) }
         ensures outside { IsTrue (S.state site.old).honest
             → OnOk result (SameOutside (log_shape self.old.geometry)
             (S.state site.old).image.log (S.state site.new).image.log) }
-        ensures beside { Fits self.old (S.state site.old)
+        ensures beside { Matches self.old (S.state site.old)
             → LeavesOnly (S.state site.old) (S.state site.new)
             (KeepsBeside self.old.geometry (S.state site.old).image) }
         ensures changes { IsTrue (S.state site.old).honest
@@ -311,10 +312,10 @@ impl LogStore {
             × (self.new.ring.hi ≤ self.old.ring.hi + 1) }
         ensures ended { OnOk result (self.new.ring.ended ≡ self.old.ring.ended) }
         ensures err { OnErr result (self.new.ring.ended ≡ true) }
-        ensures going { MayGoOn self.new (S.state site.new) }
+        ensures going { Invariant self.new (S.state site.new) }
         ensures kept { self.new.kept ≡ self.old.kept }
         ensures geometry { self.new.geometry ≡ self.old.geometry }
-        ensures goes { Goes (S.state site.old) (S.state site.new) }
+        ensures goes { Preserves (S.state site.old) (S.state site.new) }
         ensures faults { WorkFaults result (S.state site.old) (S.state site.new) }
         ensures reads { SameReads (S.state site.old) (S.state site.new) }
 
@@ -399,12 +400,12 @@ impl LogStore {
         requires rises { self.old.kept ≤ block }
         requires below { block ≤ self.old.ring.hi }
         ensures kept { self.new ≡ record self.old { kept = block } }
-        ensures going { (site : State) → MayGoOn self.old site → MayGoOn self.new site }
+        ensures going { (site : State) → Invariant self.old site → Invariant self.new site }
         ensures finds { (site : State) → Finds self.old site → Finds self.new site }
-        ensures fits { (site : State) → Fits self.old site → Fits self.new site }
+        ensures fits { (site : State) → Matches self.old site → Matches self.new site }
         ensures holds { (site : State) (log : LogList)
-            → MayGoOn self.old site → Finds self.old site → Holds self.old site.image log
-            → Holds self.new site.image (from_block block log) }
+            → Invariant self.old site → Finds self.old site → Represents self.old site.image log
+            → Represents self.new site.image (from_block block log) }
     {
         self.kept = block;
     }
@@ -412,17 +413,17 @@ impl LogStore {
     /// The record with an LSN, from the tail or from its sealed block. Answers Foreign too where no record begins at
     /// it.
     pub fn read_at<S: Site>(&self, site: &mut S, lsn: u64) -> Result<LogRecord, Stop>
-        requires going { MayGoOn self.now (S.state site.old) }
+        requires going { Invariant self.now (S.state site.old) }
         requires kept { 512 * self.now.kept ≤ lsn }
         requires before { lsn < end_of self.now }
 
         ensures found { (log : LogList)
-            → Finds self.now (S.state site.old) → Holds self.now (S.state site.old).image log
+            → Finds self.now (S.state site.old) → Represents self.now (S.state site.old).image log
             → 512 * log.first ≤ lsn → IfOk result (λ rec. at_lsn lsn (entries log) ≡ Some rec) }
         ensures form { IfOk result (λ rec. HasForm rec × FitsFields rec) }
         ensures same { IsTrue (S.state site.old).honest
             → IsUnchanged (S.state site.old) (S.state site.new) }
-        ensures goes { Goes (S.state site.old) (S.state site.new) }
+        ensures goes { Preserves (S.state site.old) (S.state site.new) }
         ensures faults { WorkFaults result (S.state site.old) (S.state site.new) }
         ensures reads { ReadsMore Dev.Log 511 (S.state site.old) (S.state site.new) }
 
@@ -430,7 +431,7 @@ impl LogStore {
         ensures device { IsErrOf result (Stop.Device Dev.Log)
             → FaultRose Dev.Log (S.state site.old) (S.state site.new) }
         ensures foreign { IsErrOf result Stop.Foreign → (log : LogList)
-            → Finds self.now (S.state site.old) → Holds self.now (S.state site.old).image log
+            → Finds self.now (S.state site.old) → Represents self.now (S.state site.old).image log
             → 512 * log.first ≤ lsn → at_lsn lsn (entries log) ≡ None }
         ensures stops { IfErr result (λ stop. (stop ≡ Stop.Device Dev.Log)
             ⊎ (stop ≡ Stop.Foreign)) }
@@ -458,18 +459,18 @@ impl LogStore {
         block: u64,
         into: &mut [u8],
     ) -> Result<usize, Stop>
-        requires going { MayGoOn self.now (S.state site.old) }
+        requires going { Invariant self.now (S.state site.old) }
         requires live { IsLive self.now.ring.shape self.now.ring.hi block }
         requires room { length into.old ≡ 503 }
 
         ensures block { Finds self.now (S.state site.old)
             → OnOk result (into.new ≡ block_on self.now.geometry (S.state site.old).image block) }
         ensures holds { (log : LogList)
-            → Finds self.now (S.state site.old) → Holds self.now (S.state site.old).image log
+            → Finds self.now (S.state site.old) → Represents self.now (S.state site.old).image log
             → log.first ≤ block → IfOk result (λ used. IsBlock into.new (sealed_block log block)
             × (used ≡ used_by (sealed_block log block))) }
         ensures readable { (log : LogList)
-            → Finds self.now (S.state site.old) → Holds self.now (S.state site.old).image log
+            → Finds self.now (S.state site.old) → Represents self.now (S.state site.old).image log
             → log.first ≤ block → IfErr result (λ stop. stop ≢ Stop.Foreign) }
         ensures used { IfOk result (λ used. (records : List LogRecord)
             × IsBlock into.new records × (used ≡ used_by records)) }
@@ -477,7 +478,7 @@ impl LogStore {
         ensures room { length into.new ≡ 503 }
         ensures same { IsTrue (S.state site.old).honest
             → IsUnchanged (S.state site.old) (S.state site.new) }
-        ensures goes { Goes (S.state site.old) (S.state site.new) }
+        ensures goes { Preserves (S.state site.old) (S.state site.new) }
         ensures faults { WorkFaults result (S.state site.old) (S.state site.new) }
         ensures reads { ReadsMore Dev.Log 511 (S.state site.old) (S.state site.new) }
 

@@ -3,7 +3,7 @@ ghost use Rattle.std.specs.Prelude.{◌+◌, ◌<◌, IfOk};
 ghost use Rattle.site.specs.Geometry.{HasLengths};
 ghost use Rattle.site.specs.MemState.{state_of};
 ghost use Rattle.log_records.specs.Spelling.{HasForm};
-ghost use Rattle.log_store.specs.Held.{MayGoOn};
+ghost use Rattle.log_store.specs.Representation.{Invariant};
 
 use crate::LogStore;
 use log_records::{BLOCK_LEN, LogRecord};
@@ -34,7 +34,7 @@ const FIRST_BLOCK: [u8; 30] = [
 // The log of blank devices of these sizes, from its next block on.
 fn opened(site: &mut MemSite) -> Result<LogStore, Stop>
     requires { HasLengths (record { pages = 1; groups = 8; blocks = 16 }) (state_of site.old).image }
-    ensures going { IfOk result (λ log. MayGoOn log (state_of site.new)) }
+    ensures going { IfOk result (λ log. Invariant log (state_of site.new)) }
     ensures room { IfOk result (λ log. log.ring.hi + 3 < log.kept + log.geometry.blocks) }
 {
     let mut log = LogStore::start(site, &SMALL)?;

@@ -1,10 +1,11 @@
 -- Heads that fill octets.
-use Rattle.std.proofs.Common.{◌≡◌, ℕ, suc, ◌*◌, ◌+◌, ◌-◌, ◌/◌, ◌%◌, ◌<◌, ◌≤◌, List, [], ◌∷◌, length, get_or, take, drop, ap, sym, ◌∙◌, arith, subst}
+use Rattle.std.proofs.Common.{◌≡◌, ℕ, suc, ◌*◌, ◌/◌, ◌%◌, ◌<◌, ◌≤◌, List, [], ◌∷◌, length, get_or, drop, ap, sym, ◌∙◌, arith, subst}
 use Rattle.std.specs.List.{AllByRecursion}
 use Rattle.std.proofs.lemmas.List.{take_all, get_or-take, get_or-drop}
+use Rattle.std_lemmas.proofs.AllOf.{all_at}
 use Rattle.byte_fields.specs.declared.frame_head.FrameHead.{FrameHead}
 use Rattle.byte_fields.specs.FrameHeads.{blank, spelling_of_all, HasForm, AreHeads}
-use Rattle.byte_fields.proofs.HeadLists.{length_all, one_list, all_at}
+use Rattle.byte_fields.proofs.HeadLists.{length_all, one_list}
 use Rattle.byte_fields.proofs.GroupHeads.{have_form}
 use Rattle.meta_segments.specs.Laws.{OneSegment}
 use Rattle.meta_segments.specs.Segments.{heads_of_group, AreSegmentHeads, IsSegment}
@@ -14,7 +15,7 @@ pub whole : (octets : List ℕ) (heads : List FrameHead) → AreHeads octets hea
 whole octets heads are fill = sym (take_all (16 * length heads) octets fill) ∙ are.text
 
 -- what holds at each index holds of all
-all_from_at : {X : Type 0} (P : X → Type 0) (xs : List X) (d : X) → ((i : ℕ) → i < length xs → P (get_or xs i d)) → AllByRecursion P xs
+pub all_from_at : {X : Type 0} (P : X → Type 0) (xs : List X) (d : X) → ((i : ℕ) → i < length xs → P (get_or xs i d)) → AllByRecursion P xs
 all_from_at P [] d h = tt
 all_from_at P (x ∷ xs) d h = (h 0 (omega arith), all_from_at P xs d (λ i less. h (suc i) (omega arith)))
 
@@ -37,16 +38,6 @@ at_front content heads is = record {
   have_form = segment_form heads is.are_heads;
   fit_fields = is.fit_fields;
 }
-
--- the part of a list that a range of eight takes
-pub eight_of : (heads : List FrameHead) (group : ℕ) → take (8 * group + 8 - 8 * group) (drop (8 * group) heads) ≡ heads_of_group heads group
-eight_of heads group =
-    let eight : 8 * group + 8 - 8 * group ≡ 8 = omega arith in
-    ap (λ n. take n (drop (8 * group) heads)) eight
-
--- a segment with these octets has the heads that stand there
-pub same_heads : (content : List ℕ) (read other : List FrameHead) → AreHeads content read → length read ≡ 32 → IsSegment content other → other ≡ read
-same_heads content read other are size is = one_list content other read (at_front content other is) are (omega (arith, is.are_heads.size, size))
 
 pub one_segment : OneSegment
 one_segment content a b first second =

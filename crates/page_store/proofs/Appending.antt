@@ -14,7 +14,7 @@ use Rattle.image_changes.proofs.Sequence.{ring_kept}
 use Rattle.stage_out.specs.Staged.{changes_of}
 use Rattle.frame_group.specs.Groups.{Frame as Stored, group, frames_in}
 use Rattle.tail_rebuild.specs.Saving.{changes_of_save}
-use Rattle.flash_cache.specs.Held as held
+use Rattle.flash_cache.specs.Representation as flash_cache
 use Rattle.image_meaning.proofs.WholePushes.{reaches_parts}
 use Rattle.buffer_pool.specs.declared.frame.Frame.{Frame}
 use Rattle.log_store.specs.declared.store.LogStore.{LogStore}
@@ -84,7 +84,7 @@ live_then live content groups count long few some = by (nat_le (groups - 1) coun
         let none : length (live ++ content ∷ []) - (groups - 1) ≡ 0 = let size = more in omega (arith, size, long, leb-false (groups - 1) count is) in
         ap (λ (n : ℕ). drop n (live ++ content ∷ [])) none
 
-module _ (log : LogStore) (list : LogList) (store store' : PageStore) (mid new : State) (ready : AreReady store log list mid) (fits : held.Fits store'.flash new) (geometry : store'.flash.geometry ≡ store.flash.geometry)
+module _ (log : LogStore) (list : LogList) (store store' : PageStore) (mid new : State) (ready : AreReady store log list mid) (fits : flash_cache.Matches store'.flash new) (geometry : store'.flash.geometry ≡ store.flash.geometry)
     (next : store.flash.directory.first + length store.flash.directory.groups ≡ store.flash.ring.hi) (limits : HasLimits store.flash.geometry) (few : length store.flash.directory.groups < store.flash.geometry.groups) (frames : List Frame)
     (reached : Reaches store.flash.geometry (push_changes (standing log list store mid.image) frames) mid.image new.image) where
   abbrev g : Geometry

@@ -5,10 +5,10 @@ use Rattle.site.specs.declared.geometry.Geometry.{Geometry}
 use Rattle.site.specs.Laws.{stays_honest}
 use Rattle.slotted_page.specs.Layout.{IsSound}
 use Rattle.image_changes.specs.Laws.{RingKept}
-use Rattle.flash_cache.specs.Held.{version_on}
+use Rattle.flash_cache.specs.Representation.{version_on}
 use Rattle.buffer_pool.specs.declared.frame.Frame.{Frame}
 use Rattle.buffer_pool.specs.Frames.{frame_of}
-use Rattle.page_store.specs.Held.{content_by}
+use Rattle.page_store.specs.Representation.{content_by}
 use Rattle.page_store.specs.Ahead.{IsLogged, AreLogged, sealed_end, end_forced}
 use Rattle.page_store.specs.Laws.{GoesOnBeside, FitsBeside, CurrentBeside, AheadBeside, VersionsBeside, LeavesBeside, SealedBeside}
 use Rattle.page_store.proofs.PushLaws.{version_same, clean_same, flash_fits_same, flash_holds_same, logged_more, force_leaves, force_sealed}

@@ -7,39 +7,35 @@ use Rattle.site.specs.State.{State, Image, snapshot_of}
 use Rattle.site.specs.Calls.{IsUnchanged}
 use Rattle.sealed_ring.specs.Ring.{IsRing, hi_of}
 use Rattle.image_changes.specs.Rings.{log_shape}
-use Rattle.flash_cache.specs.Held.{version_on}
+use Rattle.flash_cache.specs.Representation.{version_on}
 use Rattle.buffer_pool.specs.declared.frame.Frame.{Frame}
 use Rattle.buffer_pool.specs.Frames.{front_of}
 use Rattle.log_store.specs.declared.store.LogStore.{LogStore}
 use Rattle.log_store.specs.LogList.{LogList}
-use Rattle.log_store.specs.Held as log_held
-use Rattle.log_store.specs.Held.{has_tail}
+use Rattle.log_store.specs.Representation as log_store
+use Rattle.log_store.specs.Representation.{has_tail}
 use Rattle.page_store.specs.declared.store.PageStore.{PageStore}
-use Rattle.page_store.specs.Held.{Fits}
+use Rattle.page_store.specs.Representation.{Matches}
 use Rattle.page_store.specs.Ahead.{IsLogged, AreSealed, IsAhead, sealed_end, end_forced}
 use Rattle.page_store.specs.Leaves.{AreReady, KeepsCurrent, PutsIn}
 use Rattle.page_store.proofs.PushLaws.{logged_more}
-
-pub ok_two : {A E : Type 0} (r : Result A E) (P Q Z : Type 0) → (P → Q → Z) → OnOk r P → OnOk r Q → OnOk r Z
-ok_two (Ok x) P Q Z f p q = f p q
-ok_two (Err e) P Q Z f p q = tt
 
 -- a site of which nothing changed leaves the same snapshot
 pub snapshot_same : (old new : State) → IsUnchanged old new → snapshot_of new ≡ snapshot_of old
 snapshot_same old new same = λ i. record { told = same.told i; image = same.image i }
 
-pub log_found_same : (log : LogStore) (old new : State) → IsUnchanged old new → IsTrue new.honest → log_held.Finds log old → log_held.Finds log new
+pub log_found_same : (log : LogStore) (old new : State) → IsUnchanged old new → IsTrue new.honest → log_store.Finds log old → log_store.Finds log new
 log_found_same log old new same honest fits = record {
   honest = honest;
   form = subst (λ (i : Image). IsRing (log_shape log.geometry) i.log) (sym same.image) fits.form;
   hi = fits.hi ∙ ap (λ (i : Image). hi_of (log_shape log.geometry) i.log) (sym same.image);
 }
 
-pub ready_same : (store store' : PageStore) (log : LogStore) (list : LogList) (old new : State) → Fits store' new → IsUnchanged old new → AreReady store log list old → AreReady store' log list new
+pub ready_same : (store store' : PageStore) (log : LogStore) (list : LogList) (old new : State) → Matches store' new → IsUnchanged old new → AreReady store log list old → AreReady store' log list new
 ready_same store store' log list old new fits same ready = record {
   pages = fits;
   blocks = log_found_same log old new same fits.flash.honest ready.blocks;
-  records = subst (λ (i : Image). log_held.Holds log i list) (sym same.image) ready.records;
+  records = subst (λ (i : Image). log_store.Represents log i list) (sym same.image) ready.records;
 }
 
 pub current_again : (a b c : PageStore) (x y z : Image) → b.flash.geometry ≡ a.flash.geometry → KeepsCurrent a x b y → KeepsCurrent b y c z → KeepsCurrent a x c z
@@ -48,7 +44,7 @@ current_again a b c x y z geometry first second = record {
 }
 
 -- the LSN of a version is below the end of the log's blocks
-sealed_below : (log : LogStore) (site : State) → log_held.Finds log site → sealed_end log.geometry site.image ≤ end_forced log
+sealed_below : (log : LogStore) (site : State) → log_store.Finds log site → sealed_end log.geometry site.image ≤ end_forced log
 sealed_below log site fits = let hi = fits.hi in by (has_tail log) hi
   where
     by : (b : Bool) → log.ring.hi ≡ hi_of (log_shape log.geometry) site.image.log → 512 * hi_of (log_shape log.geometry) site.image.log ≤ 512 * (log.ring.hi + cond b 1 0)
@@ -56,7 +52,7 @@ sealed_below log site fits = let hi = fits.hi in by (has_tail log) hi
     by false hi = omega (arith, hi)
 
 pub ahead_in : (store mid store' : PageStore) (log : LogStore) (page : ℕ) (site new : State) → mid.flash.geometry ≡ store.flash.geometry → store'.flash.geometry ≡ mid.flash.geometry → log.geometry ≡ store.flash.geometry
-    → log_held.Finds log site → new.image ≡ site.image → page < store.flash.geometry.pages → AreSealed store.flash.geometry site.image
+    → log_store.Finds log site → new.image ≡ site.image → page < store.flash.geometry.pages → AreSealed store.flash.geometry site.image
     → AllByRecursion (λ (frame : Frame). IsLogged (end_forced log) frame.content) mid.pool.frames
     → PutsIn page mid.pool.frames store'.pool.frames → (front_of store'.pool.frames).content ≡ version_on mid.flash.geometry site.image page → IsAhead log store' new.image
 ahead_in store mid store' log page site new geometry geometry' log_geometry fits same exists sealed rest put read = record {

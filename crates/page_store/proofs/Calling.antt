@@ -1,5 +1,8 @@
 -- Calls on pages one after the other, each known by its record.
 use Rattle.std.proofs.Common.{◌≡◌, ℕ, ◌+◌, Bool, true, false, true≢false, ◌||◌, cond, List, [], ◌++◌, refl, sym, subst, ap, ◌∙◌, arith}
+use Rattle.image_changes.proofs.Sequence.{reads_itself}
+use Rattle.log_store.proofs.SealLaws.{none_front}
+use Rattle.std.proofs.lemmas.Bool.{or_left, or_right}
 use Rattle.std.specs.Prelude.{Result, Ok, Err, OnOk, IfErr, IsErrOf}
 use Rattle.std.specs.List.{AllByRecursion}
 use Rattle.site.specs.declared.geometry.Geometry.{Geometry}
@@ -17,32 +20,31 @@ use Rattle.image_changes.specs.Reached.{IsReached, IsFrontOf, LeavesFront}
 use Rattle.image_changes.specs.Laws.{ChangesAddUp, FrontsAddUp}
 use Rattle.image_meaning.specs.Beside.{AreRingsSoundUnder}
 use Rattle.slotted_page.specs.Layout.{IsSound}
-use Rattle.flash_cache.specs.Held.{IsWorn}
+use Rattle.flash_cache.specs.Representation.{IsWorn}
 use Rattle.flash_cache.specs.Kept.{AreCleanGiven}
 use Rattle.buffer_pool.specs.Frames.{State as Pool}
 use Rattle.log_store.specs.declared.store.LogStore.{LogStore}
-use Rattle.log_store.specs.Held.{has_tail, HasRoom}
+use Rattle.log_store.specs.Representation.{has_tail, HasRoom}
 use Rattle.log_store.specs.LogList.{LogList, sealed_if}
 use Rattle.page_store.specs.declared.store.PageStore.{PageStore}
-use Rattle.page_store.specs.Held.{MayGoOn, current}
+use Rattle.page_store.specs.Representation.{Invariant, current}
 use Rattle.page_store.specs.Ahead.{IsLogged, AreSealed, LeavesSealed, AreLogged, end_forced, forces}
 use Rattle.page_store.specs.Leaves.{AreReady, LeavesPages, LeavesRings, AreGiven, KeepsCurrent}
 use Rattle.page_store.specs.Stopping.{MayStop, IsLogAtEnd}
-use Rattle.page_store.specs.Calls.{MayWork, Forces, Works, Pushes, StopsAtEnd, Keeps, Stands, KeepsGiven, StandsGiven}
+use Rattle.page_store.specs.Calls.{MayWork, Forces, KeepsInvariant, Pushes, StopsAtEnd, Keeps, Stands, KeepsGiven, StandsGiven}
 use Rattle.page_store.proofs.Evictions.{same_pages, stays_pages, stays_sealed}
 use Rattle.page_store.proofs.Bringing.{current_again}
 use Rattle.page_store.proofs.Rounds.{sealed_again, more_sealed, one_more_pages, one_more_push}
 use Rattle.page_store.proofs.Changing.{front_more}
 use Rattle.page_store.proofs.Rings.{stays_rings}
-use Rattle.page_store.proofs.Sealing.{none_front, reads_itself}
 
 -- The same said otherwise.
 
 pub pushes_as : {T : Type 0} {r : Result T Stop} {old new : LogStore} {pages pages' : PageStore} {before now : State} {a b : Bool} → a ≡ b → Pushes r old new pages pages' before now a → Pushes r old new pages pages' before now b
 pushes_as {r = r} {old = old} {new = new} {pages = pages} {pages' = pages'} {before = before} {now = now} same = subst (λ (s : Bool). Pushes r old new pages pages' before now s) same
 
-pub works_as : {T : Type 0} {r : Result T Stop} {old new : LogStore} {pages pages' : PageStore} {before now : State} {a b : Bool} → a ≡ b → Works r old new pages pages' before now a → Works r old new pages pages' before now b
-works_as {r = r} {old = old} {new = new} {pages = pages} {pages' = pages'} {before = before} {now = now} same = subst (λ (s : Bool). Works r old new pages pages' before now s) same
+pub works_as : {T : Type 0} {r : Result T Stop} {old new : LogStore} {pages pages' : PageStore} {before now : State} {a b : Bool} → a ≡ b → KeepsInvariant r old new pages pages' before now a → KeepsInvariant r old new pages pages' before now b
+works_as {r = r} {old = old} {new = new} {pages = pages} {pages' = pages'} {before = before} {now = now} same = subst (λ (s : Bool). KeepsInvariant r old new pages pages' before now s) same
 
 pub stops_as : {T : Type 0} {r : Result T Stop} {log : LogStore} {pages : PageStore} {a b p q : Bool} → a ≡ b → p ≡ q → StopsAtEnd r log pages a p → StopsAtEnd r log pages b q
 stops_as {r = r} {log = log} {pages = pages} {a = a} {q = q} same pushed is = subst (λ (s : Bool). StopsAtEnd r log pages s q) same (subst (λ (t : Bool). StopsAtEnd r log pages a t) pushed is)
@@ -70,7 +72,7 @@ forces_still r {log = log} none room = record {
 
 pub pushes_still : {T : Type 0} (r : Result T Stop) {log : LogStore} {pages pages' : PageStore} {site : State} {sealing : Bool} → Calls r site site →
     IfErr r (λ stop. MayStop stop) → OnOk r (sealing ≡ false) → MayWork log pages site →
-    MayGoOn pages' site → pages'.flash.geometry ≡ pages.flash.geometry → pages'.pool.size ≡ pages.pool.size → pages'.ended ≡ pages.ended →
+    Invariant pages' site → pages'.flash.geometry ≡ pages.flash.geometry → pages'.pool.size ≡ pages.pool.size → pages'.ended ≡ pages.ended →
     (AreLogged (end_forced log) pages.pool.frames → AreLogged (end_forced log) pages'.pool.frames) →
     Pushes r log log pages pages' site site sealing
 pushes_still r calls stops none may going geometry size ended logged = record {
@@ -186,7 +188,7 @@ pushes_then once first second = record {
 -- a push, where the pool is another one before it, or behind it
 pub pushes_with : {T : Type 0} {r : Result T Stop} {old new : LogStore} {pages between middle after : PageStore} {before now : State} {sealing : Bool} →
     Pushes r old new between middle before now sealing →
-    MayGoOn after now → after.flash.geometry ≡ pages.flash.geometry → after.pool.size ≡ pages.pool.size → after.ended ≡ pages.ended →
+    Invariant after now → after.flash.geometry ≡ pages.flash.geometry → after.pool.size ≡ pages.pool.size → after.ended ≡ pages.ended →
     (AreLogged (end_forced old) pages.pool.frames → OnOk r (AreLogged (end_forced new) after.pool.frames)) → Pushes r old new pages after before now sealing
 pushes_with push going geometry size ended logged =
     let works = push.works in
@@ -227,13 +229,6 @@ pushes_failed first =
       others = first.others;
     }
 
-first_of : (b f : Bool) → b ≡ true → (b || f) ≡ true
-first_of b f is = ap (λ t. t || f) is
-
-second_of : (b f : Bool) → f ≡ true → (b || f) ≡ true
-second_of true f is = refl
-second_of false f is = is
-
 pub keeps_then : {A B : Type 0} {a : A} {r : Result B Stop} {log log' : LogStore} {pages between : PageStore} {before middle now : State} {list : LogList} {b f : Bool} {c d : List Change} → FrontsAddUp → (b ≡ true → f ≡ false) →
     between.flash.geometry ≡ pages.flash.geometry → (IsQuiet before → IsQuiet middle) → Stands log log' pages between before middle list b c → Keeps {T = A} (Ok a) log pages before middle list b c →
     Keeps r log' between middle now (sealed_if b list) f d → Keeps r log pages before now list (b || f) (c ++ d)
@@ -242,8 +237,8 @@ keeps_then {pages = pages} {between = between} {before = before} {middle = middl
     let given = current pages before.image in
     let given' = current between middle.image in
     record {
-      any_moment = λ quiet. one_more_push g given given' (b || f) b f list before middle now (first_of b f) (second_of b f) once stands.current.each
-          (leaves_weaker before middle (LeavesPages g given b list before) (LeavesPages g given (b || f) list before) (λ s. more_sealed g given b (b || f) list before s (first_of b f)) (first.any_moment quiet))
+      any_moment = λ quiet. one_more_push g given given' (b || f) b f list before middle now (or_left b f) (or_right b f) once stands.current.each
+          (leaves_weaker before middle (LeavesPages g given b list before) (LeavesPages g given (b || f) list before) (λ s. more_sealed g given b (b || f) list before s (or_left b f)) (first.any_moment quiet))
           (subst (λ (k : Geometry). LeavesOnly middle now (LeavesPages k given' f (sealed_if b list) middle)) geometry (second.any_moment (still quiet)));
       ahead_moment = λ quiet ahead. in_sequence before middle now (Leaves (LeavesSealed g)) (first.ahead_moment quiet ahead)
           (subst (λ (k : Geometry). LeavesOnly middle now (LeavesSealed k)) geometry (second.ahead_moment (still quiet) (stands.ahead ahead)));
@@ -265,8 +260,8 @@ stands_then {new = new} {pages = pages} {between = between} {pages' = pages'} {b
     let given' = current between middle.image in
     record {
       ready = subst (λ (l : LogList). AreReady pages' new l now) (sealed_again list b f once) second.ready;
-      leaves = one_more_pages g given given' (b || f) b f list before middle (snapshot_of now) (first_of b f) (second_of b f) once first.current.each
-          (more_sealed g given b (b || f) list before (snapshot_of middle) (first_of b f) first.leaves)
+      leaves = one_more_pages g given given' (b || f) b f list before middle (snapshot_of now) (or_left b f) (or_right b f) once first.current.each
+          (more_sealed g given b (b || f) list before (snapshot_of middle) (or_left b f) first.leaves)
           (subst (λ (k : Geometry). LeavesPages k given' f (sealed_if b list) middle (snapshot_of now)) geometry second.leaves);
       current = current_again pages between pages' before.image middle.image now.image geometry first.current second.current;
       sealed = λ ahead. subst (λ (k : Geometry). AreSealed k now.image) geometry (second.sealed (first.ahead ahead));

@@ -3,7 +3,7 @@ use Rattle.std.proofs.Common.{◌≡◌, ℕ, zero, suc, ◌+◌, ◌*◌, ◌<�
 use Rattle.std.specs.List.{AllByRecursion}
 use Rattle.std.proofs.lemmas.Option.{none-some}
 use Rattle.std.proofs.lemmas.Bool.{eqb-true, eqb-false}
-use Rattle.page_store.specs.Held.{content_by}
+use Rattle.page_store.specs.Representation.{content_by}
 use Rattle.page_store.specs.Leaves.{Gives}
 use Rattle.std.proofs.lemmas.List.{length-map}
 use Rattle.site.specs.declared.geometry.Geometry.{Geometry}
@@ -14,13 +14,13 @@ use Rattle.image_changes.specs.Changes.{Change}
 use Rattle.image_changes.specs.Reached.{IsReached, IsFrontOf, LeavesFront}
 use Rattle.frame_group.specs.Groups.{Frame as Stored, group}
 use Rattle.flash_cache.specs.Pushed.{staged_pages, chance_marks, chance_given, frames_given, pushed_queue, changes_of_push, changes_before}
-use Rattle.flash_cache.specs.Held.{version_on}
+use Rattle.flash_cache.specs.Representation.{version_on}
 use Rattle.buffer_pool.specs.declared.frame.Frame.{Frame}
 use Rattle.buffer_pool.specs.Frames.{frame_of}
 use Rattle.log_store.specs.declared.store.LogStore.{LogStore}
 use Rattle.log_store.specs.LogList.{LogList, sealed_if, changes_if}
 use Rattle.page_store.specs.declared.store.PageStore.{PageStore}
-use Rattle.log_store.specs.Held.{has_tail}
+use Rattle.log_store.specs.Representation.{has_tail}
 use Rattle.page_store.specs.Ahead.{forces}
 use Rattle.page_store.specs.Flushing.{saved_next, cleared_all, flushed_first}
 use Rattle.second_chance.specs.Queue.{frame_of as known_of}

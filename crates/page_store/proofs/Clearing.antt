@@ -1,5 +1,6 @@
 -- Pages are marked as unchanged.
 use Rattle.std.proofs.Common.{◌≡◌, ℕ, ◌==◌, Bool, true, false, not, ◌&&◌, ◌||◌, cond, List, [], ◌∷◌, ◌++◌, map, Option, Some, None, option_map, refl, sym, ap, subst, ◌∙◌}
+use Rattle.buffer_pool.proofs.Order.{page-cleared_at}
 use Rattle.std.specs.Prelude.{IsSome}
 use Rattle.std.specs.List.{AllByRecursion, list_any}
 use Rattle.std.proofs.lemmas.Bool.{eqb-true, eqb-false, eq-eqb, ne_eqb}
@@ -52,13 +53,6 @@ at_content page frame = by (frame.page == page)
     by true = refl
     by false = refl
 
-at_page : (page : ℕ) (frame : Frame) → (cleared_at page frame).page ≡ frame.page
-at_page page frame = by (frame.page == page)
-  where
-    by : (b : Bool) → (cond b (clear frame) frame).page ≡ frame.page
-    by true = refl
-    by false = refl
-
 at_mark : (page : ℕ) (frame : Frame) → (cleared_at page frame).changed ≡ (frame.changed && not (page == frame.page))
 at_mark page frame = by (frame.page == page) refl
   where
@@ -80,7 +74,7 @@ by_content (page ∷ pages) frame = by_content pages (cleared_at page frame) ∙
 
 pub by_page : (pages : List ℕ) (frame : Frame) → (cleared_by pages frame).page ≡ frame.page
 by_page [] frame = refl
-by_page (page ∷ pages) frame = by_page pages (cleared_at page frame) ∙ at_page page frame
+by_page (page ∷ pages) frame = by_page pages (cleared_at page frame) ∙ page-cleared_at page frame
 
 -- whether a page is among these
 abbrev pub is_among : List ℕ → ℕ → Bool
@@ -99,7 +93,7 @@ pub by_mark : (pages : List ℕ) (frame : Frame) → (cleared_by pages frame).ch
 by_mark [] frame = and_true frame.changed
 by_mark (page ∷ pages) frame =
     by_mark pages (cleared_at page frame)
-    ∙ (λ i. at_mark page frame i && not (is_among pages (at_page page frame i)))
+    ∙ (λ i. at_mark page frame i && not (is_among pages (page-cleared_at page frame i)))
     ∙ and_both frame.changed (page == frame.page) (is_among pages frame.page)
 
 pub all_cleared : (pages : List ℕ) (frames : List Frame) → cleared_all pages frames ≡ map (cleared_by pages) frames

@@ -1,17 +1,17 @@
 -- Pages leave the pool with an eviction.
-use Rattle.std.proofs.Common.{◌≡◌, ◌≢◌, ◌⊎◌, inl, inr, ℕ, zero, suc, ◌-◌, ◌<◌, ◌≤◌, ◌==◌, Bool, true, false, not, ◌||◌, cond, List, [], ◌∷◌, ◌++◌, length, get_or, map, reverse, Option, Some, None, arith, refl, sym, ap, subst, ◌∙◌, length-append}
-use Rattle.std.specs.Prelude.{AllPairs}
+use Rattle.std.proofs.Common.{◌≡◌, ◌≢◌, ◌⊎◌, inl, inr, ℕ, zero, suc, ◌-◌, ◌<◌, ◌≤◌, ◌==◌, Bool, true, false, not, ◌||◌, cond, List, [], ◌∷◌, ◌++◌, length, get_or, map, reverse, is_some, Option, Some, None, true≢false, arith, refl, sym, ap, subst, ◌∙◌, length-append}
+use Rattle.std.specs.Prelude.{AllPairs, IsSome}
 use Rattle.std.specs.List.{AllByRecursion}
 use Rattle.std.proofs.lemmas.Option.{none-some}
-use Rattle.std.proofs.lemmas.Bool.{cases_eq, eqb-false, eq-eqb}
+use Rattle.std.proofs.lemmas.Bool.{cases_eq, eqb-false, eq-eqb, ne_eqb, or_parts, or_right}
 use Rattle.std.proofs.lemmas.List.{map-append, reverse-reverse}
 use Rattle.site.specs.State.{State, Image}
-use Rattle.flash_cache.specs.Held.{version_on}
+use Rattle.flash_cache.specs.Representation.{version_on}
 use Rattle.flash_cache.specs.Pushed.{chance_marks, known_given, known_pushed, pages_pushed, pushed_queue}
 use Rattle.flash_cache.specs.Kept.{AreCleanGiven}
 use Rattle.flash_cache.specs.Laws.{UnframedIsDisk}
 use Rattle.buffer_pool.specs.declared.frame.Frame.{Frame}
-use Rattle.buffer_pool.specs.Frames.{State as Pool, AreDistinct, frame_of}
+use Rattle.buffer_pool.specs.Frames.{State as Pool, AreDistinct, Knows, frame_of, is_framed}
 use Rattle.buffer_pool.specs.Laws.{IsLast, WithoutTakesOne}
 use Rattle.second_chance.specs.declared.frame.Frame.{Frame as Known}
 use Rattle.second_chance.specs.Queue.{Queue, has_frame, frame_of as known_of}
@@ -20,7 +20,7 @@ use Rattle.second_chance.specs.Machine.{Rules, PoolPage, Cache, chance_frame, le
 use Rattle.log_store.specs.declared.store.LogStore.{LogStore}
 use Rattle.log_store.specs.LogList.{LogList}
 use Rattle.page_store.specs.declared.store.PageStore.{PageStore}
-use Rattle.page_store.specs.Held.{IsPage, IsStore, MayGoOn, Fits, content_by, current}
+use Rattle.page_store.specs.Representation.{IsPage, IsStore, IsTold, AreTold, Invariant, Matches, content_by, current}
 use Rattle.page_store.specs.Caching.{pool_page, cache_of, rules}
 use Rattle.page_store.specs.Ahead.{IsLogged, forces, evicted}
 use Rattle.page_store.specs.Calls.{MayWork}
@@ -28,17 +28,18 @@ use Rattle.page_store.specs.Pulling.{LeavesOut, mark_for, without_all, pulled, e
 use Rattle.page_store.specs.Leaves.{AreReady, AreGiven, Gives, AreChanged, KeepsCurrent}
 use Rattle.page_store.proofs.Pools.{absent}
 use Rattle.page_store.proofs.Clearing.{is_among}
-use Rattle.page_store.proofs.Saving.{all_both, all_weaker, all_reverse, distinct_reverse, found_all}
-use Rattle.page_store.proofs.Removing.{absent_part, few_part, store_part, page_of, frames_without, all_left, pulled_few, all_pulled, pulled_move, pulled_apart, pool_left}
+use Rattle.page_store.proofs.Saving.{distinct_reverse, found_all}
+use Rattle.page_store.proofs.Removing.{absent_part, few_part, page_of, frames_without, all_left, pulled_few, all_pulled, pulled_move, pulled_apart, pool_left}
 use Rattle.page_store.proofs.Choosing.{room_some}
 use Rattle.page_store.proofs.Movable.{pulled_of}
 use Rattle.std.specs.List.{All}
 use Rattle.std.proofs.lemmas.List.{length-map}
+use Rattle.std_lemmas.proofs.AllOf.{all_both, all_reverse, all_map, all_weaker, all_at}
 use Rattle.slotted_page.specs.Layout.{IsSound}
 use Rattle.page_store.specs.Ahead.{AreLogged, end_forced}
 use Rattle.page_store.proofs.Evictions.{all_front, distinct_front, reverse_last, not_forced}
 use Rattle.page_store.proofs.PushLaws.{or_listed}
-use Rattle.page_store.proofs.Saving.{all_index, all_map, pages_apart}
+use Rattle.page_store.proofs.Saving.{pages_apart}
 use Rattle.page_store.proofs.Touching.{all_found}
 use Rattle.page_store.specs.Changing.{given_changes, eviction_changes}
 use Rattle.page_store.specs.declared.taking.Taken.{Taken}
@@ -93,24 +94,12 @@ none_either : (b : Bool) → ◌≡◌ {A = Option Frame} (cond b None None) Non
 none_either true = refl
 none_either false = refl
 
-or_first_false : (a b : Bool) → (a || b) ≡ false → a ≡ false
-or_first_false true b is = absurd cc
-or_first_false false b is = refl
-
-or_second_false : (a b : Bool) → (a || b) ≡ false → b ≡ false
-or_second_false true b is = absurd cc
-or_second_false false b is = is
-
 all_gone : (P : ℕ → Type 0) (xs : List Frame) → ((n : ℕ) → is_among (map page_of xs) n ≡ true → P n) → AllByRecursion (λ (f : Frame). P f.page) xs
 all_gone P [] all = tt
 all_gone P (x ∷ xs) all = (
   all x.page (ap (λ (b : Bool). b || is_among (map page_of xs) x.page) (eq-eqb x.page x.page refl)),
-  all_gone P xs (λ n is. all n (or_true (x.page == n) (is_among (map page_of xs) n) is)),
+  all_gone P xs (λ n is. all n (or_right (x.page == n) (is_among (map page_of xs) n) is)),
 )
-  where
-    or_true : (a b : Bool) → b ≡ true → (a || b) ≡ true
-    or_true true b is = refl
-    or_true false b is = is
 
 -- The store.
 
@@ -119,6 +108,7 @@ pub record HasLeft (store : PageStore) (rest : Pool) (last : Frame) : Type 0 whe
   pub is : store.pool.frames ≡ rest.frames ++ last ∷ []
   pub one : IsLast rest.frames last
   pub size : rest.size ≡ store.pool.size
+  pub knows : Knows last.page false store.pool rest
 
 module _ (store : PageStore) (rest : Pool) (last : Frame) (h : HasLeft store rest last) where
   abbrev smaller : PageStore
@@ -146,7 +136,13 @@ module _ (store : PageStore) (rest : Pool) (last : Frame) (h : HasLeft store res
   pub none_forced : (log : LogStore) → must_be_pushed store.flash.directory (pool_page last) ≡ false → forces log (evicted store) ≡ false
   none_forced log must = ap (λ (l : List Frame). forces log (map (λ (f : Frame). f.content) l)) (none_evicted must) ∙ not_forced log
 
-  pub rest_going : (site : State) → MayGoOn store site → MayGoOn smaller site
+  rest_told : AreTold store → (n : ℕ) → IsSome (frame_of rest.frames n) → (n ≡ last.page) ⊎ (n ≢ last.page) → IsTold smaller n
+  rest_told told n some (inl same) = absurd (true≢false (sym some ∙ ap is_some (ap (frame_of rest.frames) same ∙ h.one.gone)))
+  rest_told told n some (inr other) =
+      h.knows n ∙ ap (λ b. cond b false (is_framed store.pool n)) (ne_eqb n last.page other)
+      ∙ told n (subst IsSome (others n other) some)
+
+  pub rest_going : (site : State) → Invariant store site → Invariant smaller site
   rest_going site going = record {
     flash = going.flash;
     own = record {
@@ -157,15 +153,16 @@ module _ (store : PageStore) (rest : Pool) (last : Frame) (h : HasLeft store res
         distinct = distinct_front rest.frames last (subst AreDistinct h.is going.own.pool.distinct);
       };
       pages = all_front (IsPage store.flash.geometry.pages) rest.frames last (subst (AllByRecursion (IsPage store.flash.geometry.pages)) h.is going.own.pages);
+      told = λ n some. rest_told going.own.told n some (cases_eq n last.page);
     };
   }
 
-  rest_unchanged : (site : State) (n : ℕ) (frame : Frame) → Fits store site → frame_of rest.frames n ≡ Some frame → frame.changed ≡ false → (n ≡ last.page) ⊎ (n ≢ last.page)
+  rest_unchanged : (site : State) (n : ℕ) (frame : Frame) → Matches store site → frame_of rest.frames n ≡ Some frame → frame.changed ≡ false → (n ≡ last.page) ⊎ (n ≢ last.page)
       → frame.content ≡ version_on store.flash.geometry site.image n
   rest_unchanged site n frame fits found unchanged (inl same) = absurd (none-some frame (sym h.one.gone ∙ ap (frame_of rest.frames) (sym same) ∙ found))
   rest_unchanged site n frame fits found unchanged (inr other) = fits.unchanged n frame (sym (others n other) ∙ found) unchanged
 
-  pub rest_fits : (site : State) → Fits store site → Fits smaller site
+  pub rest_fits : (site : State) → Matches store site → Matches smaller site
   rest_fits site fits = record {
     flash = fits.flash;
     groups = fits.groups;
@@ -179,7 +176,7 @@ module _ (store : PageStore) (rest : Pool) (last : Frame) (h : HasLeft store res
   rest_ready log list site ready = record { pages = rest_fits site ready.pages; blocks = ready.blocks; records = ready.records }
 
   -- a page that isn't pushed is its version
-  pub rest_current : (site : State) → Fits store site → must_be_pushed store.flash.directory (pool_page last) ≡ false → KeepsCurrent store site.image smaller site.image
+  pub rest_current : (site : State) → Matches store site → must_be_pushed store.flash.directory (pool_page last) ≡ false → KeepsCurrent store site.image smaller site.image
   rest_current site fits must = record { each = λ page exists. by page (cases_eq page last.page) }
     where
       unmarked : (changed framed : Bool) → (changed || not framed) ≡ false → changed ≡ false
@@ -243,8 +240,8 @@ module _ (store : PageStore) (rest : Pool) (last : Frame) (h : HasLeft store res
       );
       others = λ n none.
           frames_without law (map page_of (pulled smaller)) rest.frames n
-          ∙ ap (λ (b : Bool). cond b None (frame_of rest.frames n)) (or_second_false (last.page == n) (is_among (map page_of (pulled smaller)) n) none)
-          ∙ others n (λ same. eqb-false _ _ (or_first_false (last.page == n) (is_among (map page_of (pulled smaller)) n) none) (sym same));
+          ∙ ap (λ (b : Bool). cond b None (frame_of rest.frames n)) (or_parts (last.page == n) (is_among (map page_of (pulled smaller)) n) none).1
+          ∙ others n (λ same. eqb-false _ _ (or_parts (last.page == n) (is_among (map page_of (pulled smaller)) n) none).0 (sym same));
     }
 
 -- Some frames have left the pool.
@@ -255,9 +252,9 @@ module _ (store : PageStore) (pool : Pool) (xs : List Frame) (w : IsWithout stor
 
   listed_gone : (n k : ℕ) → k < length (map page_of xs) → get_or (map page_of xs) k 0 ≡ n → frame_of pool.frames n ≡ None
   listed_gone n k less is = subst (λ (page : ℕ). frame_of pool.frames page ≡ None) is
-      (all_index (λ (page : ℕ). frame_of pool.frames page ≡ None) (map page_of xs) k 0 (all_map (λ (page : ℕ). frame_of pool.frames page ≡ None) page_of xs w.absent) less)
+      (all_at (λ (page : ℕ). frame_of pool.frames page ≡ None) (map page_of xs) k 0 (all_map (λ (page : ℕ). frame_of pool.frames page ≡ None) page_of xs w.absent) less)
 
-  pub without_fits : (site : State) → Fits store site → Fits after site
+  pub without_fits : (site : State) → Matches store site → Matches after site
   without_fits site fits = record {
     flash = fits.flash;
     groups = fits.groups;
@@ -277,12 +274,12 @@ module _ (store : PageStore) (pool : Pool) (xs : List Frame) (w : IsWithout stor
   without_changed = record { each = λ k frame less found. absurd (none-some frame (sym (listed_gone (get_or (map page_of xs) k 0) k less refl) ∙ found)) }
 
   -- what is there once they were pushed
-  pub without_current : (store' : PageStore) (old new : Image) → store'.pool ≡ pool → store'.flash.geometry ≡ store.flash.geometry → AreGiven (current store old) (map page_of xs) (map (λ (f : Frame). f.content) xs)
+  pub without_current : (store' : PageStore) (old new : Image) → store'.pool.frames ≡ pool.frames → store'.flash.geometry ≡ store.flash.geometry → AreGiven (current store old) (map page_of xs) (map (λ (f : Frame). f.content) xs)
       → Gives store.flash.geometry (map page_of xs) (map (λ (f : Frame). f.content) xs) old new → KeepsCurrent store old store' new
   without_current store' old new same geometry given gives = record { each = λ n exists. turned n ∙ by n }
     where
       turned : (n : ℕ) → current store' new n ≡ content_by (frame_of pool.frames n) (version_on store.flash.geometry new n)
-      turned n = λ i. content_by (frame_of (same i).frames n) (version_on (geometry i) new n)
+      turned n = λ i. content_by (frame_of (same i) n) (version_on (geometry i) new n)
 
       by : (n : ℕ) → content_by (frame_of pool.frames n) (version_on store.flash.geometry new n) ≡ current store old n
       by n = elim (or_listed (map page_of xs) n) [
@@ -303,7 +300,7 @@ module _ (store : PageStore) (xs : List Frame) (found : AllByRecursion (λ (f : 
       each (y ∷ ys) own = (all_found P store.pool.frames y.page y all own.0, each ys own.1)
 
   pub own_exist : IsStore store → All (λ (page : ℕ). page < store.flash.geometry.pages) (map page_of xs)
-  own_exist is k d less = all_index (λ (page : ℕ). page < store.flash.geometry.pages) (map page_of xs) k d
+  own_exist is k d less = all_at (λ (page : ℕ). page < store.flash.geometry.pages) (map page_of xs) k d
       (all_map (λ (page : ℕ). page < store.flash.geometry.pages) page_of xs
       (all_weaker (IsPage store.flash.geometry.pages) (λ (f : Frame). f.page < store.flash.geometry.pages) (λ f p. p.exists) xs (own_all (IsPage store.flash.geometry.pages) is.pages))) less
 
@@ -316,7 +313,7 @@ module _ (store : PageStore) (xs : List Frame) (found : AllByRecursion (λ (f : 
       at (y ∷ ys) own zero less = sym (ap (λ (o : Option Frame). content_by o (version_on store.flash.geometry image y.page)) own.0)
       at (y ∷ ys) own (suc k) less = at ys own.1 k (omega (arith, less))
 
-  own_clean : UnframedIsDisk → (site : State) → Fits store site → AllByRecursion (λ (f : Frame). must_be_pushed store.flash.directory (pool_page f) ≡ true) xs
+  own_clean : UnframedIsDisk → (site : State) → Matches store site → AllByRecursion (λ (f : Frame). must_be_pushed store.flash.directory (pool_page f) ≡ true) xs
       → AreCleanGiven store.flash (map page_of xs) (map (λ (f : Frame). f.changed) xs) (map (λ (f : Frame). f.content) xs) site.image
   own_clean law site fits move = at xs found move
     where
@@ -333,7 +330,7 @@ module _ (store : PageStore) (xs : List Frame) (found : AllByRecursion (λ (f : 
           (none, fits.unchanged y.page y own.0 unchanged ∙ law store.flash site.image fits.groups y.page fits.holds none)
       at (y ∷ ys) own all (suc k) less unchanged = at ys own.1 all.1 k (omega (arith, less)) unchanged
 
-  pub own_push : UnframedIsDisk → (log : LogStore) (site : State) → IsStore store → Fits store site → AllByRecursion (λ (f : Frame). must_be_pushed store.flash.directory (pool_page f) ≡ true) xs
+  pub own_push : UnframedIsDisk → (log : LogStore) (site : State) → IsStore store → Matches store site → AllByRecursion (λ (f : Frame). must_be_pushed store.flash.directory (pool_page f) ≡ true) xs
       → AreItsOwn log store (map page_of xs) (map (λ (f : Frame). f.changed) xs) (map (λ (f : Frame). f.content) xs) site.image
   own_push law log site is fits move = record {
     given = own_given site.image;
@@ -359,21 +356,20 @@ pub record Departs (store : PageStore) (pool : Pool) (pages : List ℕ) (changed
   pub apart : AllPairs (λ (a b : ℕ). a ≢ b) pages
   pub forced : (log : LogStore) → forces log contents ≡ forces log (evicted store)
   pub changes : (log : LogStore) (list : LogList) (image : Image) → given_changes log list store image pages changed contents ≡ eviction_changes log list store image
-  pub own : (log : LogStore) (site : State) → Fits store site → AreItsOwn log store pages changed contents site.image
+  pub own : (log : LogStore) (site : State) → Matches store site → AreItsOwn log store pages changed contents site.image
   pub ready : (log : LogStore) (list : LogList) (site : State) → AreReady store log list site → AreReady (record store { pool = pool }) log list site
   pub are_changed : AreChanged (record store { pool = pool }) pages
-  pub current : (store' : PageStore) (old new : Image) → store'.pool ≡ pool → store'.flash.geometry ≡ store.flash.geometry → Gives store.flash.geometry pages contents old new → KeepsCurrent store old store' new
+  pub current : (store' : PageStore) (old new : Image) → store'.pool.frames ≡ pool.frames → store'.flash.geometry ≡ store.flash.geometry → Gives store.flash.geometry pages contents old new → KeepsCurrent store old store' new
   pub machine : (queue : Queue) → queue ≡ pushed_queue store.flash (known_pushed store.flash pages changed) → ◌≡◌ {A = Cache} (record { pool = map pool_page pool.frames; queue = queue }) (evict_coldest (rules store) (cache_of store))
 
 -- What is left of the pool once they have left it too.
 
 module _ (store : PageStore) (rest : Pool) (last : Frame) (h : HasLeft store rest last) (pool : Pool) (part : LeavesOut rest.frames pool.frames) where
-  pub going_left : (log : LogStore) (site : State) → pool.size ≡ rest.size → MayWork log store site → MayWork log (record store { pool = pool }) site
-  going_left log site same going = record {
+  pub going_left : (log : LogStore) (site : State) → IsStore (record store { pool = pool }) → MayWork log store site → MayWork log (record store { pool = pool }) site
+  going_left log site own going = record {
     pages_going = record {
       flash = going.pages_going.flash;
-      own = store_part (record store { pool = rest }) pool part same
-          (rest_going store rest last h site going.pages_going).own;
+      own = own;
     };
     log_going = going.log_going;
     sizes = going.sizes;
@@ -396,14 +392,14 @@ module _ (store : PageStore) (rest : Pool) (last : Frame) (h : HasLeft store res
   abbrev all_gone_now : List Frame
   all_gone_now = last ∷ pulled (record store { pool = rest })
 
-  abbrev pool_then : Pool
-  pool_then = record rest { frames = without_all (map page_of (pulled (record store { pool = rest }))) rest.frames }
+  abbrev pool_then : List ℕ → Pool
+  pool_then framed = record rest { frames = without_all (map page_of (pulled (record store { pool = rest }))) rest.frames; framed = framed }
 
   rest_distinct : AreDistinct rest.frames
   rest_distinct = distinct_front rest.frames last (subst AreDistinct h.is whole.pool.distinct)
 
-  own_departs : Departs store pool_then (map page_of all_gone_now) (map (λ (f : Frame). f.changed) all_gone_now) (map (λ (f : Frame). f.content) all_gone_now)
-  own_departs =
+  own_departs : (framed : List ℕ) → Departs store (pool_then framed) (map page_of all_gone_now) (map (λ (f : Frame). f.changed) all_gone_now) (map (λ (f : Frame). f.content) all_gone_now)
+  own_departs framed =
       let xs : List Frame = all_gone_now in
       let found = gone_found store rest last h rest_distinct in
       let out = gone_without store rest last h rest_distinct law in
@@ -418,14 +414,14 @@ module _ (store : PageStore) (rest : Pool) (last : Frame) (h : HasLeft store res
         forced = λ log. ap (λ (l : List Frame). forces log (map (λ (f : Frame). f.content) l)) (sym evicted_are);
         changes = λ log list image. given_are log list store image xs ∙ sym (eviction_is log list store image xs evicted_are);
         own = λ log site fits. own_push store xs found disk log site whole fits (gone_move store rest last h rest_distinct must);
-        ready = λ log list site ready. without_ready store pool_then xs out log list site ready;
-        are_changed = without_changed store pool_then xs out;
-        current = λ store' old new pool geometry gives. without_current store pool_then xs out store' old new pool geometry (own_given store xs found old) gives;
+        ready = λ log list site ready. without_ready store (pool_then framed) xs out log list site ready;
+        are_changed = without_changed store (pool_then framed) xs out;
+        current = λ store' old new pool geometry gives. without_current store (pool_then framed) xs out store' old new pool geometry (own_given store xs found old) gives;
         machine = λ queue after. evicts_pushed store rest last queue h.is must (after ∙ ap (λ (l : List Known). pushed_queue store.flash (map chance_frame (chance_marks store.flash) ++ l)) (known_own xs));
       }
 
-  pub departs : (pool : Pool) (taken : Taken) (pages : List ℕ) (changed : List Bool) (contents : List (List ℕ)) → pool ≡ pool_then → Has taken all_gone_now
+  pub departs : (pool : Pool) (taken : Taken) (pages : List ℕ) (changed : List Bool) (contents : List (List ℕ)) → pool ≡ pool_then pool.framed → Has taken all_gone_now
       → pages ≡ taken.pages.items → changed ≡ taken.changed.items → contents ≡ taken.contents.items → Departs store pool pages changed contents
   departs pool taken pages changed contents then has first second third =
       subst (λ (p : Pool). Departs store p pages changed contents) (sym then)
-      (with_parts (Departs store pool_then) (sym (first ∙ has.pages)) (sym (second ∙ has.changed)) (sym (third ∙ has.contents)) own_departs)
+      (with_parts (Departs store (pool_then pool.framed)) (sym (first ∙ has.pages)) (sym (second ∙ has.changed)) (sym (third ∙ has.contents)) (own_departs pool.framed))

@@ -3,15 +3,17 @@ use Rattle.std.proofs.Common.{◌≡◌, ℕ, ◌<◌, ◌==◌, Bool, true, fal
 use Rattle.std.specs.Prelude.{Result, Ok, Err, OnOk, OnErr}
 use Rattle.std.proofs.lemmas.Bool.{eqb-true}
 use Rattle.site.specs.State.{State}
-use Rattle.flash_cache.specs.Held.{version_on}
+use Rattle.flash_cache.specs.Representation.{version_on}
 use Rattle.buffer_pool.specs.declared.frame.Frame.{Frame}
-use Rattle.buffer_pool.specs.Frames.{State as Pool, frame_of}
+use Rattle.buffer_pool.specs.Frames.{State as Pool, frame_of, Knows}
 use Rattle.page_store.specs.declared.store.PageStore.{PageStore}
-use Rattle.page_store.specs.Held.{IsPage, MayGoOn, Fits}
+use Rattle.page_store.specs.Representation.{IsPage, AreTold, Invariant, Matches}
+use Rattle.second_chance.specs.Queue.{has_frame}
 use Rattle.page_store.proofs.Pools.{absent}
+use Rattle.page_store.proofs.ToldPages.{told_put}
 
 pub put_fits : (store : PageStore) (pool : Pool) (frame : Frame) (site : State) → pool.frames ≡ frame ∷ store.pool.frames → frame.content ≡ version_on store.flash.geometry site.image frame.page
-    → Fits store site → Fits (record store { pool = pool }) site
+    → Matches store site → Matches (record store { pool = pool }) site
 put_fits store pool frame site is version fits = record {
   flash = fits.flash;
   groups = fits.groups;
@@ -28,23 +30,27 @@ put_fits store pool frame site is version fits = record {
         sym (ap (λ (f : Frame). f.content) is) ∙ version ∙ ap (version_on store.flash.geometry site.image) (eqb-true _ _ same)
     by page other false same found unchanged = fits.unchanged page other found unchanged
 
-entered : (store : PageStore) (pool : Pool) (frame : Frame) (site : State) → pool ≡ record store.pool { frames = frame ∷ store.pool.frames } → frame_of store.pool.frames frame.page ≡ None
-    → length store.pool.frames < store.pool.size → IsPage store.flash.geometry.pages frame → MayGoOn store site → MayGoOn (record store { pool = pool }) site
-entered store pool frame site is none room page going =
-    subst (λ (p : Pool). MayGoOn (record store { pool = p }) site) (sym is) (record {
+entered : (store : PageStore) (pool : Pool) (frame : Frame) (framed : Bool) (site : State) → pool ≡ record store.pool { frames = frame ∷ store.pool.frames; framed = pool.framed } → Knows frame.page framed store.pool pool
+    → framed ≡ has_frame store.flash.directory frame.page → frame_of store.pool.frames frame.page ≡ None
+    → length store.pool.frames < store.pool.size → IsPage store.flash.geometry.pages frame → Invariant store site → Invariant (record store { pool = pool }) site
+entered store pool frame framed site is knows right none room page going =
+    let told = told_put store pool frame framed (ap (λ (p : Pool). p.frames) is) knows right going.own.told in
+    subst (λ (p : Pool). Invariant (record store { pool = p }) site) (sym is) (record {
       flash = going.flash;
       own = record {
         least = going.own.least;
         most = going.own.most;
         pool = record { few = omega (arith, room); distinct = (absent store.pool.frames frame.page none, going.own.pool.distinct) };
         pages = (page, going.own.pages);
+        told = subst (λ (p : Pool). AreTold (record store { pool = p })) is told;
       };
     })
 
-pub put_going : {A E : Type 0} (r : Result A E) (store : PageStore) (pool : Pool) (frame : Frame) (site : State) → OnOk r (pool ≡ record store.pool { frames = frame ∷ store.pool.frames }) → OnErr r (pool ≡ store.pool)
-    → frame_of store.pool.frames frame.page ≡ None → length store.pool.frames < store.pool.size → IsPage store.flash.geometry.pages frame → MayGoOn store site → MayGoOn (record store { pool = pool }) site
-put_going (Ok x) store pool frame site put kept none room page going = entered store pool frame site put none room page going
-put_going (Err e) store pool frame site put kept none room page going = subst (λ (p : Pool). MayGoOn (record store { pool = p }) site) (sym kept) (record {
+pub put_going : {A E : Type 0} (r : Result A E) (store : PageStore) (pool : Pool) (frame : Frame) (framed : Bool) (site : State) → OnOk r (pool ≡ record store.pool { frames = frame ∷ store.pool.frames; framed = pool.framed })
+    → OnOk r (Knows frame.page framed store.pool pool) → OnErr r (pool ≡ store.pool) → framed ≡ has_frame store.flash.directory frame.page
+    → frame_of store.pool.frames frame.page ≡ None → length store.pool.frames < store.pool.size → IsPage store.flash.geometry.pages frame → Invariant store site → Invariant (record store { pool = pool }) site
+put_going (Ok x) store pool frame framed site put knows kept right none room page going = entered store pool frame framed site put knows right none room page going
+put_going (Err e) store pool frame framed site put knows kept right none room page going = subst (λ (p : Pool). Invariant (record store { pool = p }) site) (sym kept) (record {
   flash = going.flash;
-  own = record { least = going.own.least; most = going.own.most; pool = going.own.pool; pages = going.own.pages };
+  own = record { least = going.own.least; most = going.own.most; pool = going.own.pool; pages = going.own.pages; told = going.own.told };
 })

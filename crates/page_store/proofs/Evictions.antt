@@ -10,7 +10,7 @@ use Rattle.buffer_pool.specs.declared.frame.Frame.{Frame}
 use Rattle.buffer_pool.specs.Frames.{AreDistinct}
 use Rattle.log_store.specs.declared.store.LogStore.{LogStore}
 use Rattle.log_store.specs.LogList.{LogList}
-use Rattle.log_store.specs.Held.{has_tail, HasBlocks}
+use Rattle.log_store.specs.Representation.{has_tail, HasBlocks}
 use Rattle.page_store.specs.declared.store.PageStore.{PageStore}
 use Rattle.page_store.specs.Ahead.{AreSealed, LeavesSealed, forces}
 use Rattle.page_store.specs.Leaves.{AreReady, LeavesPages}

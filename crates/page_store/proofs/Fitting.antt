@@ -1,22 +1,23 @@
 -- A store that fits its site, at its start and after a change.
-use Rattle.std.proofs.Common.{◌≡◌, ◌≢◌, ℕ, ◌<◌, true, false, List, [], Some, sym, ap, subst, ◌∙◌, ◌⊎◌, inl, inr}
+use Rattle.std.proofs.Common.{◌≡◌, ◌≢◌, ℕ, ◌<◌, ◌≤◌, true, false, List, [], ◌∷◌, length, drop, Option, Some, arith, sym, ap, subst, ◌∙◌, ◌⊎◌, inl, inr}
+use Rattle.std.specs.List.{AllByRecursion}
 use Rattle.std.proofs.lemmas.Option.{none-some}
 use Rattle.std.proofs.lemmas.Bool.{cases_eq}
 use Rattle.site.specs.declared.geometry.Geometry.{Geometry}
 use Rattle.site.specs.State.{State, Image}
 use Rattle.slotted_page.specs.Layout.{IsSound}
 use Rattle.frame_group.specs.Groups.{Frame as Stored}
-use Rattle.flash_cache.specs.Held as held
-use Rattle.flash_cache.specs.Held.{version_on, IsCleanOn}
+use Rattle.flash_cache.specs.Representation as flash_cache
+use Rattle.flash_cache.specs.Representation.{version_on, IsCleanOn}
 use Rattle.buffer_pool.specs.declared.frame.Frame.{Frame}
-use Rattle.buffer_pool.specs.Frames.{State as Pool, frame_of, front_of}
+use Rattle.buffer_pool.specs.Frames.{State as Pool, AreDistinct, ChangesFront, frame_of, front_of}
 use Rattle.buffer_pool.specs.Laws.{ChangesOne}
 use Rattle.page_store.specs.declared.store.PageStore.{PageStore}
-use Rattle.page_store.specs.Held.{Fits}
+use Rattle.page_store.specs.Representation.{IsPage, AreTold, Invariant, Matches}
 
 pub fits_at_start : (store : PageStore) (g : Geometry) (old new : State) (groups : List (List Stored)) → store.flash.geometry ≡ g → store.pool.frames ≡ []
-    → new.image ≡ old.image → held.Fits store.flash new → held.Holds store.flash new.image groups → IsCleanOn g old.image
-    → ((page : ℕ) → page < g.pages → IsSound (version_on g old.image page)) → Fits store new
+    → new.image ≡ old.image → flash_cache.Matches store.flash new → flash_cache.Represents store.flash new.image groups → IsCleanOn g old.image
+    → ((page : ℕ) → page < g.pages → IsSound (version_on g old.image page)) → Matches store new
 fits_at_start store g old new groups geometry empty image fits holds clean sound = record {
   flash = fits;
   groups = groups;
@@ -30,7 +31,7 @@ fits_at_start store g old new groups geometry empty image fits holds clean sound
 -- A change of the front.
 
 pub change_fits : (store : PageStore) (pool : Pool) (site : State) → ChangesOne store.pool.frames pool.frames → (front_of pool.frames).changed ≡ true
-    → Fits store site → Fits (record store { pool = pool }) site
+    → Matches store site → Matches (record store { pool = pool }) site
 change_fits store pool site one changed fits = record {
   flash = fits.flash;
   groups = fits.groups;
@@ -48,3 +49,42 @@ change_fits store pool site one changed fits = record {
         let marks = ap (λ (f : Frame). f.changed) is in
         absurd cc
     by page frame found unchanged (inr other) = fits.unchanged page frame (sym (one.others page other) ∙ found) unchanged
+
+-- the page in front is another, and the store goes on
+
+all_changed : (P : Frame → Type 0) (old new : List Frame) → 0 < length old → length new ≡ length old → drop 1 new ≡ drop 1 old → P (front_of new) → AllByRecursion P old → AllByRecursion P new
+all_changed P [] new there count others first all = absurd (omega (arith, there))
+all_changed P (x ∷ xs) [] there count others first all = tt
+all_changed P (x ∷ xs) (y ∷ ys) there count others first all = (first, subst (AllByRecursion P) (sym others) all.1)
+
+distinct_changed : (old new : List Frame) → 0 < length old → length new ≡ length old → drop 1 new ≡ drop 1 old → (front_of new).page ≡ (front_of old).page → AreDistinct old → AreDistinct new
+distinct_changed [] new there count others page all = absurd (omega (arith, there))
+distinct_changed (x ∷ xs) [] there count others page all = tt
+distinct_changed (x ∷ xs) (y ∷ ys) there count others page all =
+    subst (λ (l : List Frame). AllByRecursion (λ (o : Frame). y.page ≢ o.page) l × AreDistinct l) (sym others)
+    (subst (λ (n : ℕ). AllByRecursion (λ (o : Frame). n ≢ o.page) xs × AreDistinct xs) (sym page) all)
+
+front_exists : (pages : ℕ) (old : List Frame) → 0 < length old → AllByRecursion (IsPage pages) old → (front_of old).page < pages
+front_exists pages [] there all = absurd (omega (arith, there))
+front_exists pages (x ∷ xs) there all = all.0.exists
+
+pub change_going : (store : PageStore) (pool : Pool) (site : State) (slot : ℕ) (content : Option (List ℕ)) (lsn : ℕ) → 0 < length store.pool.frames → ChangesFront store.pool.frames pool.frames slot content lsn
+    → pool.size ≡ store.pool.size → AreTold (record store { pool = pool }) → Invariant store site → Invariant (record store { pool = pool }) site
+change_going store pool site slot content lsn there change size told going =
+    let few = going.own.pool.few in
+    record {
+      flash = going.flash;
+      own = record {
+        least = subst (λ n. 1 ≤ n) (sym size) going.own.least;
+        most = subst (λ n. n ≤ 4096) (sym size) going.own.most;
+        pool = record {
+          few = omega (arith, few, change.count, size);
+          distinct = distinct_changed store.pool.frames pool.frames there change.count change.others change.page going.own.pool.distinct;
+        };
+        pages = all_changed (IsPage store.flash.geometry.pages) store.pool.frames pool.frames there change.count change.others (record {
+          sound = change.sound;
+          exists = subst (λ (n : ℕ). n < store.flash.geometry.pages) (sym change.page) (front_exists store.flash.geometry.pages store.pool.frames there going.own.pages);
+        }) going.own.pages;
+        told = told;
+      };
+    }

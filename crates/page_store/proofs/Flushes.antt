@@ -1,22 +1,24 @@
 -- Behind a push of changed pages.
-use Rattle.std.proofs.Common.{◌≡◌, inl, inr, ℕ, zero, suc, ◌<◌, ◌≤◌, ◌==◌, Bool, true, false, true≢false, not, ◌&&◌, ◌||◌, cond, List, [], ◌∷◌, ◌++◌, length, get_or, take, map, filter, reverse, replicate, Option, Some, None, option_map, is_some, arith, refl, sym, ap, subst, ◌∙◌}
+use Rattle.std.proofs.Common.{◌≡◌, inl, inr, ℕ, suc, ◌<◌, ◌≤◌, ◌==◌, Bool, true, false, true≢false, not, ◌&&◌, ◌||◌, cond, List, [], ◌∷◌, ◌++◌, length, get_or, take, map, filter, reverse, replicate, Option, Some, None, option_map, is_some, arith, refl, sym, ap, subst, ◌∙◌}
+use Rattle.buffer_pool.proofs.Order.{frame_page}
 use Rattle.std.specs.Prelude.{IsSome, Contains, Ok}
 use Rattle.std.specs.List.{All, AllByRecursion}
 use Rattle.std.proofs.lemmas.Option.{none-some}
 use Rattle.std.proofs.lemmas.Bool.{eqb-true}
-use Rattle.std.proofs.lemmas.List.{get_or_default, reverse-append, map-append, length-map, length-take-le}
+use Rattle.std.proofs.lemmas.List.{get_or_default, reverse-append, map-append, length-map, length-take-le, take-map}
+use Rattle.std_lemmas.proofs.AllOf.{all_weaker}
 use Rattle.site.specs.declared.geometry.Geometry.{Geometry}
 use Rattle.site.specs.State.{State, Image}
-use Rattle.flash_cache.specs.Held.{version_on}
+use Rattle.flash_cache.specs.Representation.{version_on}
 use Rattle.flash_cache.specs.Pushed.{chance_marks, known_given}
 use Rattle.buffer_pool.specs.declared.frame.Frame.{Frame}
-use Rattle.buffer_pool.specs.Frames.{State as Pool, frame_of}
+use Rattle.buffer_pool.specs.Frames.{frame_of}
 use Rattle.buffer_pool.specs.Laws.{ClearedKeepsFrames}
 use Rattle.second_chance.specs.declared.plan.PoolMark.{PoolMark}
 use Rattle.second_chance.specs.Queue.{Queue, pushed, frame_of as known_of}
 use Rattle.second_chance.specs.Machine.{Cache, chance_frame, pool_mark, pool_frame, is_pulled, saved, push_changed, is_full}
 use Rattle.page_store.specs.declared.store.PageStore.{PageStore}
-use Rattle.page_store.specs.Held.{IsPage, IsStore, Fits, content_by, current}
+use Rattle.page_store.specs.Representation.{IsPage, IsStore, Matches, content_by, current}
 use Rattle.page_store.specs.Caching.{pool_page, cache_of, rules}
 use Rattle.page_store.specs.Leaves.{Gives, KeepsCurrent}
 use Rattle.log_store.specs.declared.store.LogStore.{LogStore}
@@ -29,12 +31,11 @@ use Rattle.page_store.specs.Changing.{standing, push_changes, given_changes}
 use Rattle.page_store.specs.Flushing.{changed_frames, saved_next, content_in, cleared_all}
 use Rattle.page_store.specs.Pulling.{mark_for, room_for_pages}
 use Rattle.page_store.proofs.PushLaws.{or_listed}
-use Rattle.page_store.proofs.Pools.{page_is}
 use Rattle.page_store.proofs.Choosing.{first_changed, few_chosen, chosen_changed}
 use Rattle.page_store.proofs.Calling.{AreItsOwn}
 use Rattle.page_store.proofs.Changing.{given_is, known_pages, HasMade}
 use Rattle.page_store.proofs.Clearing.{frames_cleared, cleared_by, by_content, by_mark, is_among, pages_saved, all_pages}
-use Rattle.page_store.proofs.Saving.{all_weaker, all_true, known_changed, HasChosen, has_chosen, chosen_contents}
+use Rattle.page_store.proofs.Saving.{all_true, known_changed, HasChosen, has_chosen, chosen_contents}
 use Rattle.slotted_page.specs.Layout.{IsSound}
 
 -- Which pages are listed.
@@ -56,15 +57,15 @@ not_among pages n none = by (is_among pages n) refl
 
 -- The store.
 
-module _ (law : ClearedKeepsFrames) (store after : PageStore) (pages : List ℕ) (contents : List (List ℕ)) (old new : State) (pool : after.pool ≡ store.pool) (geometry : after.flash.geometry ≡ store.flash.geometry)
+module _ (law : ClearedKeepsFrames) (store after : PageStore) (pages : List ℕ) (contents : List (List ℕ)) (old new : State) (pool : after.pool.frames ≡ store.pool.frames) (geometry : after.flash.geometry ≡ store.flash.geometry)
     (gives : Gives store.flash.geometry pages contents old.image new.image) (given : (k : ℕ) → k < length pages → get_or contents k [] ≡ content_in store.pool.frames (get_or pages k 0)) where
   abbrev frames : List Frame
   frames = after.pool.frames
 
   same_frame : (n : ℕ) → frame_of frames n ≡ frame_of store.pool.frames n
-  same_frame n = ap (λ (p : Pool). frame_of p.frames n) pool
+  same_frame n = ap (λ (l : List Frame). frame_of l n) pool
 
-  saved_frame : (n : ℕ) (frame f : Frame) → Fits after new → frame ≡ cleared_by pages f → frame_of frames n ≡ Some f → frame.changed ≡ false → frame.content ≡ version_on after.flash.geometry new.image n
+  saved_frame : (n : ℕ) (frame f : Frame) → Matches after new → frame ≡ cleared_by pages f → frame_of frames n ≡ Some f → frame.changed ≡ false → frame.content ≡ version_on after.flash.geometry new.image n
   saved_frame n frame f fits is own unchanged = elim (or_listed pages n) [
     | inl there ↦
         ap (λ (x : Frame). x.content) is ∙ by_content pages f
@@ -84,11 +85,11 @@ module _ (law : ClearedKeepsFrames) (store after : PageStore) (pages : List ℕ)
 
       was_unchanged : (Contains pages n → ⊥) → f.changed ≡ false
       was_unchanged none =
-          let among : is_among pages f.page ≡ false = ap (is_among pages) (page_is frames n f own) ∙ not_among pages n none in
+          let among : is_among pages f.page ≡ false = ap (is_among pages) (frame_page frames n f own) ∙ not_among pages n none in
           sym (kept f.changed) ∙ sym (ap (λ b. f.changed && not b) among) ∙ sym (by_mark pages f) ∙ sym (ap (λ (x : Frame). x.changed) is) ∙ unchanged
 
-  pub saved_fits : Fits after new → Fits (record after { pool = record after.pool { frames = cleared_all pages frames } }) new
-  saved_fits fits = record {
+  pub saved_fits : (framed : List ℕ) → Matches after new → Matches (record after { pool = record after.pool { frames = cleared_all pages frames; framed = framed } }) new
+  saved_fits framed fits = record {
     flash = fits.flash;
     groups = fits.groups;
     holds = fits.holds;
@@ -101,8 +102,8 @@ module _ (law : ClearedKeepsFrames) (store after : PageStore) (pages : List ℕ)
       by n frame None own found unchanged = absurd (none-some frame found)
       by n frame (Some f) own found unchanged = let is : frame ≡ cleared_by pages f = cc in saved_frame n frame f fits is own unchanged
 
-  pub saved_current : All (λ (page : ℕ). IsSome (frame_of store.pool.frames page)) pages → KeepsCurrent store old.image (record after { pool = record after.pool { frames = cleared_all pages frames } }) new.image
-  saved_current there = record { each = λ n exists. ap (λ o. content_by o (version_on after.flash.geometry new.image n)) (frames_cleared law pages frames n) ∙ by n (frame_of store.pool.frames n) refl }
+  pub saved_current : (framed : List ℕ) → All (λ (page : ℕ). IsSome (frame_of store.pool.frames page)) pages → KeepsCurrent store old.image (record after { pool = record after.pool { frames = cleared_all pages frames; framed = framed } }) new.image
+  saved_current framed there = record { each = λ n exists. ap (λ o. content_by o (version_on after.flash.geometry new.image n)) (frames_cleared law pages frames n) ∙ by n (frame_of store.pool.frames n) refl }
     where
       not_listed : (n : ℕ) → frame_of store.pool.frames n ≡ None → Contains pages n → ⊥
       not_listed n none listed =
@@ -134,11 +135,6 @@ filter_marked queue (x ∷ xs) = by x.changed (filter_marked queue xs)
     by true rest = ap (λ (l : List PoolMark). mark_for queue x ∷ l) rest
     by false rest = rest
 
-take_marked : (queue : Queue) (n : ℕ) (xs : List Frame) → take n (map (mark_for queue) xs) ≡ map (mark_for queue) (take n xs)
-take_marked queue zero xs = refl
-take_marked queue (suc n) [] = refl
-take_marked queue (suc n) (x ∷ xs) = ap (λ (l : List PoolMark). mark_for queue x ∷ l) (take_marked queue n xs)
-
 pub marks_turned : (queue : Queue) (xs : List Frame) → map (pool_mark queue) (reverse (map pool_page xs)) ≡ map (mark_for queue) (reverse xs)
 marks_turned queue [] = refl
 marks_turned queue (x ∷ xs) =
@@ -153,7 +149,7 @@ pulled_marks : (room : ℕ) (queue : Queue) (frames : List Frame)
 pulled_marks room queue frames =
     ap (λ (l : List PoolMark). take room (filter (λ (m : PoolMark). m.changed) l)) (marks_turned queue frames)
     ∙ ap (take room) (filter_marked queue (reverse frames))
-    ∙ take_marked queue room (changed_frames frames)
+    ∙ take-map (mark_for queue) room (changed_frames frames)
 
 pulled_pages : (queue : Queue) (xs : List Frame) (n : ℕ) → is_pulled (map (mark_for queue) xs) n ≡ is_among (map (λ (f : Frame). f.page) xs) n
 pulled_pages queue [] n = refl

@@ -1,16 +1,19 @@
 -- The changed pages that are left behind a push of the coldest ones.
 use Rattle.std.proofs.Common.{◌≡◌, ◌≢◌, ℕ, zero, suc, ◌<◌, ◌≤◌, ◌==◌, Bool, true, false, not, ◌&&◌, ◌||◌, cond, List, [], ◌∷◌, ◌++◌, length, min, take, drop, map, filter, reverse, append_assoc, length-append, arith, refl, sym, ap, ◌∙◌}
+use Rattle.std.proofs.lemmas.List.Sums.{length-filter, count_by-le-length}
 use Rattle.std.specs.List.{AllByRecursion, list_any}
 use Rattle.std.proofs.lemmas.Bool.{eq-eqb, ne_eqb, eqb-true, eqb-false}
 use Rattle.std.proofs.lemmas.List.{take_all, length-take, length-map, length-reverse}
+use Rattle.buffer_pool.proofs.Walks.{changed_more}
+use Rattle.std_lemmas.proofs.AllOf.{all_both}
 use Rattle.buffer_pool.specs.declared.frame.Frame.{Frame}
 use Rattle.buffer_pool.specs.Frames.{AreDistinct}
 use Rattle.page_store.specs.Caching.{pool_page}
 use Rattle.page_store.specs.Flushing.{changed_frames, cleared_all}
-use Rattle.page_store.proofs.Choosing.{first_changed, changed_more}
+use Rattle.page_store.proofs.Choosing.{first_changed}
 use Rattle.page_store.proofs.Movable.{reverse_map}
 use Rattle.page_store.proofs.Clearing.{cleared_by, by_page, by_mark, is_among, all_cleared}
-use Rattle.page_store.proofs.Saving.{all_both, distinct_reverse, some_chosen}
+use Rattle.page_store.proofs.Saving.{distinct_reverse, some_chosen}
 
 abbrev pub page_of : Frame → ℕ
 page_of f = f.page
@@ -134,18 +137,9 @@ no_pages frames none = by (list_any (λ p. p.changed) (map pool_page frames)) re
     by true is = absurd (omega (arith, none, some_chosen 1 frames (omega arith) is, length-take 1 (changed_frames frames), length-map (changed_frames frames) page_of))
     by false is = is
 
--- there are no more changed pages than pages
-few_pass : {X : Type 0} (test : X → Bool) (xs : List X) → length (filter test xs) ≤ length xs
-few_pass test [] = omega arith
-few_pass test (x ∷ xs) = by (test x) (few_pass test xs)
-  where
-    by : (b : Bool) → length (filter test xs) ≤ length xs → length (cond b (x ∷ filter test xs) (filter test xs)) ≤ suc (length xs)
-    by true rest = omega (arith, rest)
-    by false rest = omega (arith, rest)
-
 pub all_changed : (frames : List Frame) (n : ℕ) → n ≡ length frames → map page_of (take n (changed_frames frames)) ≡ map page_of (changed_frames frames)
 all_changed frames n all =
-    ap (map page_of) (take_all n (changed_frames frames) (omega (arith, all, few_pass (λ (f : Frame). f.changed) (reverse frames), length-reverse frames)))
+    ap (map page_of) (take_all n (changed_frames frames) (omega (arith, all, length-filter (λ (f : Frame). f.changed) (reverse frames), count_by-le-length (λ (f : Frame). f.changed) (reverse frames), length-reverse frames)))
 
 -- what is left to be pushed, in groups
 

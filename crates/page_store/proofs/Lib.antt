@@ -26,3 +26,4 @@ pub mod Left
 pub mod Departures
 pub mod Written
 pub mod StagingLaws
+pub mod ToldPages

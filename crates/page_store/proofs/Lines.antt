@@ -4,6 +4,7 @@ use Rattle.std.specs.Prelude.{slice_get}
 use Rattle.std.proofs.lemmas.Option.{slice_get_within, slice_get-get_or, same_Some}
 use Rattle.std.proofs.lemmas.List.{length-take-le}
 use Rattle.std.proofs.Math.Seq.{take-suc}
+use Rattle.std_lemmas.proofs.Lists.{take_next}
 use Rattle.byte_fields.specs.declared.frame_head.Mark.{Mark}
 use Rattle.record_model.specs.declared.words.CacheLine.{CacheLine}
 use Rattle.record_model.specs.declared.words.CacheLine.TheVariants as line
@@ -13,13 +14,6 @@ use Rattle.second_chance.specs.Machine.{PoolPage, frame_lines, group_lines}
 use Rattle.buffer_pool.specs.declared.frame.Frame.{Frame as Page}
 use Rattle.buffer_pool.specs.Frames.{mark_of}
 use Rattle.page_store.specs.Caching.{pool_page}
-
--- the first ones with one more
-pub taken_more : {X : Type 0} (xs : List X) (k : ℕ) (x : X) → slice_get xs k ≡ Some x → take (k + 1) xs ≡ take k xs ++ x ∷ []
-taken_more xs k x is =
-    let less = slice_get_within xs k x is in
-    let next : k + 1 ≡ suc k = omega arith in
-    ap (λ n. take n xs) next ∙ take-suc xs k x less ∙ ap (λ y. take k xs ++ y ∷ []) (same_Some _ _ (sym (slice_get-get_or xs k x less) ∙ is))
 
 pub more_frames : (group index : ℕ) (xs ys : List Mark) → frame_lines group index (xs ++ ys) ≡ frame_lines group index xs ++ frame_lines group (index + length xs) ys
 more_frames group index [] ys = ap (λ n. frame_lines group n ys) (let e : index ≡ index + 0 = omega arith in e)
@@ -44,7 +38,7 @@ pub next_frame : (group group' : ℕ) (ms : List Mark) (k : ℕ) (m : Mark) (one
 next_frame group group' ms k m one old before after at is more same line_is =
     let count : 0 + length (take k ms) ≡ k = let less = slice_get_within ms k m at in omega (arith, length-take-le k ms (omega (arith, less))) in
     let split : frame_lines group 0 (take (k + 1) ms) ≡ frame_lines group 0 (take k ms) ++ one ∷ [] =
-    ap (frame_lines group 0) (taken_more ms k m at) ∙ more_frames group 0 (take k ms) (m ∷ [])
+    ap (frame_lines group 0) (take_next ms k m at) ∙ more_frames group 0 (take k ms) (m ∷ [])
     ∙ ap (λ n. frame_lines group 0 (take k ms) ++ frame_lines group n (m ∷ [])) count ∙ ap (λ (l : List CacheLine). frame_lines group 0 (take k ms) ++ l) (sym (line_is ∙ ap (λ n. frame_lines n k (m ∷ [])) same)) in
     more ∙ ap (λ (l : List CacheLine). l ++ one ∷ []) is ∙ append_assoc old (frame_lines group 0 (take k ms)) (one ∷ []) ∙ ap (λ (l : List CacheLine). old ++ l) (sym split)
 
@@ -53,7 +47,7 @@ pub next_group : (first : ℕ) (all : List (List Mark)) (k : ℕ) (ms : List Mar
 next_group first all k ms old before after at is more =
     let count : length (take k all) ≡ k = length-take-le k all (let less = slice_get_within all k ms at in omega (arith, less)) in
     let split : group_lines first (take (k + 1) all) ≡ group_lines first (take k all) ++ frame_lines (first + k) 0 ms =
-    ap (group_lines first) (taken_more all k ms at) ∙ more_groups first (take k all) (ms ∷ [])
+    ap (group_lines first) (take_next all k ms at) ∙ more_groups first (take k all) (ms ∷ [])
     ∙ ap (λ n. group_lines first (take k all) ++ group_lines (first + n) (ms ∷ [])) count ∙ ap (λ (l : List CacheLine). group_lines first (take k all) ++ l) (append-nil (frame_lines (first + k) 0 ms)) in
     more ∙ ap (λ (l : List CacheLine). l ++ frame_lines (first + k) 0 ms) is ∙ append_assoc old (group_lines first (take k all)) (frame_lines (first + k) 0 ms) ∙ ap (λ (l : List CacheLine). old ++ l) (sym split)
 

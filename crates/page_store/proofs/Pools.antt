@@ -1,5 +1,7 @@
 -- The pool as the machine sees it.
 use Rattle.std.proofs.Common.{◌≡◌, ◌≢◌, ℕ, ◌==◌, Bool, true, false, not, ◌&&◌, ◌||◌, cond, is_some, List, [], ◌∷◌, length, map, Option, Some, None, refl, sym, ap, subst, ◌∙◌}
+use Rattle.buffer_pool.proofs.Order.{frame_page}
+use Rattle.std.proofs.Math.Bool.{or-false}
 use Rattle.std.specs.Prelude.{nat_le}
 use Rattle.std.specs.List.{AllByRecursion}
 use Rattle.std.proofs.lemmas.Option.{none-some}
@@ -10,10 +12,6 @@ use Rattle.buffer_pool.specs.Frames.{State as Pool, AreDistinct, frame_of}
 use Rattle.second_chance.specs.Queue.{Queue, with_read}
 use Rattle.second_chance.specs.Machine.{Rules, PoolPage, Cache, holds, is_changed, without, touched, in_front, with_room, evict_coldest}
 use Rattle.page_store.specs.Caching.{pool_page}
-
-or_false : (b : Bool) → (b || false) ≡ b
-or_false true = refl
-or_false false = refl
 
 pub is_held : (frames : List Frame) (page : ℕ) → holds (map pool_page frames) page ≡ is_some (frame_of frames page)
 is_held [] page = refl
@@ -40,7 +38,7 @@ mark_is (first ∷ frames) page frame distinct found = by (first.page == page) r
     by true is found rest =
         let same : first ≡ frame = cc in
         let none = others_unchanged frames page (subst (λ (n : ℕ). AllByRecursion (λ other. n ≢ other.page) frames) (eqb-true _ _ is) distinct.0) in
-        ap (λ b. first.changed || b) none ∙ or_false first.changed ∙ ap (λ (f : Frame). f.changed) same
+        ap (λ b. first.changed || b) none ∙ or-false first.changed ∙ ap (λ (f : Frame). f.changed) same
     by false is found rest = rest found
 
 pub none_changed : (frames : List Frame) (page : ℕ) → frame_of frames page ≡ None → is_changed (map pool_page frames) page ≡ false
@@ -51,15 +49,6 @@ none_changed (first ∷ frames) page none = by (first.page == page) none (none_c
         → ((b && first.changed) || is_changed (map pool_page frames) page) ≡ false
     by true none rest = absurd (none-some first (sym none))
     by false none rest = rest none
-
-pub page_is : (frames : List Frame) (page : ℕ) (frame : Frame) → frame_of frames page ≡ Some frame → frame.page ≡ page
-page_is [] page frame found = absurd (none-some frame found)
-page_is (first ∷ frames) page frame found = by (first.page == page) refl found (page_is frames page frame)
-  where
-    by : (b : Bool) → (first.page == page) ≡ b → cond b (Some first) (frame_of frames page) ≡ Some frame
-        → (frame_of frames page ≡ Some frame → frame.page ≡ page) → frame.page ≡ page
-    by true is found rest = let same : first ≡ frame = cc in ap (λ (f : Frame). f.page) (sym same) ∙ eqb-true _ _ is
-    by false is found rest = rest found
 
 pub pages_without : (frames : List Frame) (page : ℕ) → map pool_page (pool.without frames page) ≡ without (λ other. other == page) (map pool_page frames)
 pages_without [] page = refl
@@ -81,11 +70,11 @@ pub touched_held : (r : Rules) (frames : List Frame) (queue : Queue) (page : ℕ
 touched_held r frames queue page frame distinct found =
     let cache : Cache = record { pool = map pool_page frames; queue = queue } in
     let held : holds (map pool_page frames) page ≡ true = is_held frames page ∙ ap is_some found in
-    let mark : frame.changed ≡ (is_changed (map pool_page frames) page || false) = sym (or_false (is_changed (map pool_page frames) page) ∙ mark_is frames page frame distinct found) in
+    let mark : frame.changed ≡ (is_changed (map pool_page frames) page || false) = sym (or-false (is_changed (map pool_page frames) page) ∙ mark_is frames page frame distinct found) in
     let here : map pool_page (pool.touched frames page) ≡ pool_page frame ∷ map pool_page (pool.without frames page) = ap (λ (o : Option Frame). map pool_page (pool.in_front o (pool.without frames page))) found in
     (λ i. let c : Cache = record { pool = here i; queue = queue } in c)
     ∙ (λ i. let c : Cache = record {
-      pool = record { page = (page_is frames page frame found) i; changed = mark i } ∷ (pages_without frames page) i;
+      pool = record { page = (frame_page frames page frame found) i; changed = mark i } ∷ (pages_without frames page) i;
       queue = cond (sym held i) queue (with_read page queue);
     } in c)
     ∙ sym (ap (in_front page false) (room_held r page cache held))
@@ -115,7 +104,7 @@ not_held frames page none = is_held frames page ∙ ap is_some none
 pub in_front_absent : (frames : List Frame) (queue : Queue) (page : ℕ) → frame_of frames page ≡ None
     → ◌≡◌ {A = Cache} (record { pool = record { page = page; changed = false } ∷ map pool_page frames; queue = with_read page queue }) (in_front page false (record { pool = map pool_page frames; queue = queue }))
 in_front_absent frames queue page none =
-    let mark : false ≡ (is_changed (map pool_page frames) page || false) = sym (or_false (is_changed (map pool_page frames) page) ∙ none_changed frames page none) in
+    let mark : false ≡ (is_changed (map pool_page frames) page || false) = sym (or-false (is_changed (map pool_page frames) page) ∙ none_changed frames page none) in
     λ i. let c : Cache = record {
       pool = record { page = page; changed = mark i } ∷ (sym (none_leaves frames page (absent frames page none))) i;
       queue = cond ((sym (not_held frames page none)) i) queue (with_read page queue);

@@ -4,11 +4,13 @@ use Rattle.std.specs.Prelude.{Result, Ok, Err, OnOk, OnErr, IsErrOf, slice_index
 use Rattle.std.specs.List.{AllByRecursion}
 use Rattle.std.proofs.lemmas.Bool.{cases_eq, true≢false}
 use Rattle.std.proofs.lemmas.List.{get_or_default}
+use Rattle.image_changes.proofs.Sequence.{units_then}
+use Rattle.std_lemmas.proofs.AllOf.{all_left}
 use Rattle.site.specs.declared.outside.Dev.{Dev}
 use Rattle.site.specs.declared.outside.Dev.TheVariants.{Log, Flash, Disk}
 use Rattle.site.specs.declared.geometry.Geometry.{Geometry}
 use Rattle.site.specs.State.{State, Image, Snapshot, MayStand, content_of, loose_of, snapshot_of, IsSettled, IsQuiet}
-use Rattle.site.specs.Calls.{Goes}
+use Rattle.site.specs.Calls.{Preserves}
 use Rattle.site.specs.Moments.{Leaves, LeavesOnly, ChangesOnly, Untouched}
 use Rattle.site.specs.Laws.{leaves_weaker, leaves_others_too, untouched_leaves, each_both, each_weaker, settled_is, quiet_settled, stays_honest}
 use Rattle.sealed_ring.specs.Ring.{Units, IsRing, hi_of, units_of}
@@ -24,8 +26,8 @@ use Rattle.frame_group.specs.Versions.{frames_of, version, CleanAsDisk}
 use Rattle.disk_pages.specs.Pages.{page_on}
 use Rattle.slotted_page.specs.Layout.{IsSound}
 use Rattle.flash_cache.specs.declared.cache.FlashCache.{FlashCache}
-use Rattle.flash_cache.specs.Held as held
-use Rattle.flash_cache.specs.Held.{groups_on, version_on, disk_on, IsCleanOn, HasGroups, AreSaved}
+use Rattle.flash_cache.specs.Representation as flash_cache
+use Rattle.flash_cache.specs.Representation.{groups_on, version_on, disk_on, IsCleanOn, HasGroups, AreSaved}
 use Rattle.tail_rebuild.proofs.Following.{saved_again}
 use Rattle.flash_cache.specs.Kept as kept
 use Rattle.flash_cache.specs.Kept.{KeepsVersions, GivesVersions, AreCleanGiven, LeavesClean}
@@ -33,10 +35,10 @@ use Rattle.buffer_pool.specs.declared.frame.Frame.{Frame}
 use Rattle.buffer_pool.specs.Frames.{frame_of}
 use Rattle.log_store.specs.declared.store.LogStore.{LogStore}
 use Rattle.log_store.specs.LogList.{LogList, sealed_if, changes_if}
-use Rattle.log_store.specs.Held as log_held
-use Rattle.log_store.specs.Held.{HasBlocks, LeavesLog}
+use Rattle.log_store.specs.Representation as log_store
+use Rattle.log_store.specs.Representation.{HasBlocks, LeavesLog}
 use Rattle.page_store.specs.declared.store.PageStore.{PageStore}
-use Rattle.page_store.specs.Held.{Fits}
+use Rattle.page_store.specs.Representation.{Matches}
 use Rattle.page_store.specs.Ahead.{IsLogged, AreSealed, LeavesSealed, sealed_end}
 use Rattle.page_store.specs.Leaves.{HasQueue, AreReady, LeavesPages, AreGiven, Gives, AreChanged}
 use Rattle.page_store.proofs.Sealing.{blocks_same}
@@ -74,7 +76,7 @@ saved_same g groups old new flash saved = record {
   follow = saved_again g groups saved.segments old new (keeps_same (group_shape g) old new refl flash) (keeps_same (segment_shape g) old new refl flash) saved.follow;
 }
 
-pub flash_fits_same : (cache : FlashCache) (old new : State) → new.image.flash ≡ old.image.flash → IsTrue new.honest → held.Fits cache old → held.Fits cache new
+pub flash_fits_same : (cache : FlashCache) (old new : State) → new.image.flash ≡ old.image.flash → IsTrue new.honest → flash_cache.Matches cache old → flash_cache.Matches cache new
 flash_fits_same cache old new flash honest fits = record {
   honest = honest;
   form = subst (IsRing (group_shape cache.geometry)) (sym flash) fits.form;
@@ -83,7 +85,7 @@ flash_fits_same cache old new flash honest fits = record {
   segments_hi = fits.segments_hi ∙ ap (hi_of (segment_shape cache.geometry)) (sym flash);
 }
 
-pub flash_holds_same : (cache : FlashCache) (old new : Image) (groups : List (List Stored)) → new.flash ≡ old.flash → held.Holds cache old groups → held.Holds cache new groups
+pub flash_holds_same : (cache : FlashCache) (old new : Image) (groups : List (List Stored)) → new.flash ≡ old.flash → flash_cache.Represents cache old groups → flash_cache.Represents cache new groups
 flash_holds_same cache old new groups flash holds = record {
   has = groups_same cache.geometry cache.directory.first groups old new flash holds.has;
   saved = saved_same cache.geometry groups old new flash holds.saved;
@@ -148,16 +150,9 @@ pub own_group : (cache : FlashCache) (image : Image) (pages : List ℕ) (changed
 own_group cache image pages changed contents =
     own_save (is_due cache.ring.hi cache.segments.hi) (groups_on cache.geometry image) _ (own_push (staged_pages cache) (group (frames_pushed cache image pages changed contents)))
 
-all_before : {X : Type 0} (P : X → Type 0) (xs ys : List X) → AllByRecursion P (xs ++ ys) → AllByRecursion P xs
-all_before P [] ys all = tt
-all_before P (x ∷ xs) ys all = (all.0, all_before P xs ys all.1)
-
 pub masters_kept : RingKept → (g : Geometry) (all : List Change) (old : State) (s : Snapshot) → AreOwn all → IsReached g (IsFrontOf all) old s → KeepsUnits master_shape old.image s.image
 masters_kept law g all old s own is =
-    law g Masters is.changes old.image s.image (all_before (λ change. ring_of change ≢ Some Masters) is.changes is.made.0 (subst AreOwn is.made.1 own)) is.reaches
-
-pub units_then : (s : Shape) (a b c : Image) → KeepsUnits s a b → KeepsUnits s b c → KeepsUnits s a c
-units_then s a b c first second = record { units = second.units ∙ first.units; form = λ form. second.form (first.form form) }
+    law g Masters is.changes old.image s.image (all_left (λ change. ring_of change ≢ Some Masters) is.changes is.made.0 (subst AreOwn is.made.1 own)) is.reaches
 
 -- The force.
 
@@ -327,14 +322,14 @@ pub record IsBetween (store : PageStore) (log log' : LogStore) (sealing : Bool) 
   pub disk : mid.image.disk ≡ old.image.disk
   pub told : mid.told ≡ old.told
   pub honest : IsTrue mid.honest
-  pub fits : held.Fits store.flash mid
-  pub holds : held.Holds store.flash mid.image ready.pages.groups
+  pub fits : flash_cache.Matches store.flash mid
+  pub holds : flash_cache.Represents store.flash mid.image ready.pages.groups
   pub clean : IsCleanOn store.flash.geometry mid.image
-  pub log_fits : log_held.Finds log' mid
-  pub log_holds : log_held.Holds log' mid.image (sealed_if sealing list)
+  pub log_fits : log_store.Finds log' mid
+  pub log_holds : log_store.Represents log' mid.image (sealed_if sealing list)
 
-pub between : (store : PageStore) (log log' : LogStore) (sealing : Bool) (list : LogList) (old mid : State) (ready : AreReady store log list old) → ChangesOnly Log old mid → Goes old mid
-    → log_held.Finds log' mid → log_held.Holds log' mid.image (sealed_if sealing list) → IsBetween store log log' sealing list old mid ready
+pub between : (store : PageStore) (log log' : LogStore) (sealing : Bool) (list : LogList) (old mid : State) (ready : AreReady store log list old) → ChangesOnly Log old mid → Preserves old mid
+    → log_store.Finds log' mid → log_store.Represents log' mid.image (sealed_if sealing list) → IsBetween store log log' sealing list old mid ready
 between store log log' sealing list old mid ready changes goes fits holds =
     let flash_other : Flash ≢ Log = λ same. cc in
     let disk_other : Disk ≢ Log = λ same. cc in
@@ -371,11 +366,11 @@ ok_six (Ok x) P Q R S T U Z f p q r s t u = f p q r s t u
 ok_six (Err e) P Q R S T U Z f p q r s t u = tt
 
 -- the log that was found, where nothing of its device is loose
-pub log_fits : (log : LogStore) (site : State) → IsQuiet site → log_held.Finds log site → log_held.Fits log site
+pub log_fits : (log : LogStore) (site : State) → IsQuiet site → log_store.Finds log site → log_store.Matches log site
 log_fits log site quiet finds = record { honest = finds.honest; settled = quiet_settled Log site quiet; form = finds.form; hi = finds.hi }
 
 -- a log is found after calls that leave the units of its ring
-pub log_found : (log : LogStore) (old new : State) → KeepsUnits (log_shape log.geometry) old.image new.image → Goes old new → log_held.Finds log old → log_held.Finds log new
+pub log_found : (log : LogStore) (old new : State) → KeepsUnits (log_shape log.geometry) old.image new.image → Preserves old new → log_store.Finds log old → log_store.Finds log new
 log_found log old new keeps goes finds = record {
   honest = stays_honest old new goes finds.honest;
   form = keeps.form finds.form;
@@ -388,8 +383,8 @@ module _ (store : PageStore) (flash' : FlashCache) (log : LogStore) (list : LogL
   abbrev h : Geometry
   h = store.flash.geometry
 
-  pub fits_behind : (pages : List ℕ) (contents : List (List ℕ)) (new : State) (groups' : List (List Stored)) → held.Fits flash' new → held.Holds flash' new.image groups' → IsCleanOn h new.image
-      → Gives h pages contents old.image new.image → length contents ≡ length pages → AllByRecursion IsSound contents → AreChanged store pages → Fits (record store { flash = flash' }) new
+  pub fits_behind : (pages : List ℕ) (contents : List (List ℕ)) (new : State) (groups' : List (List Stored)) → flash_cache.Matches flash' new → flash_cache.Represents flash' new.image groups' → IsCleanOn h new.image
+      → Gives h pages contents old.image new.image → length contents ≡ length pages → AllByRecursion IsSound contents → AreChanged store pages → Matches (record store { flash = flash' }) new
   fits_behind pages contents new groups' fits holds clean gives lists sound changed = record {
     flash = fits;
     groups = groups';

@@ -1,27 +1,30 @@
 -- Pages leave the pool together.
-use Rattle.std.proofs.Common.{◌≡◌, ◌≢◌, ℕ, zero, suc, ◌-◌, ◌<◌, ◌≤◌, ◌==◌, Bool, true, false, not, ◌||◌, cond, List, [], ◌∷◌, ◌++◌, length, get_or, take, map, filter, reverse, Option, Some, None, arith, refl, sym, ap, subst, ◌∙◌}
+use Rattle.std.proofs.Common.{◌≡◌, ◌≢◌, ℕ, zero, suc, ◌-◌, ◌<◌, ◌≤◌, ◌==◌, Bool, true, false, not, ◌||◌, cond, List, [], ◌∷◌, ◌++◌, length, get_or, take, map, reverse, Option, Some, None, arith, refl, sym, ap, subst, ◌∙◌}
+use Rattle.std.proofs.lemmas.List.Sums.{length-filter, count_by-le-length}
 use Rattle.std.specs.Prelude.{slice_get}
 use Rattle.std.specs.List.{AllByRecursion}
 use Rattle.std.proofs.lemmas.Option.{slice_get-get_or}
 use Rattle.std.proofs.lemmas.Bool.{eqb-true, eqb-false, eq-eqb, ne_eqb}
 use Rattle.std.proofs.lemmas.List.{length-map, length-take}
+use Rattle.std_lemmas.proofs.Bools.{eq_turned}
+use Rattle.std_lemmas.proofs.AllOf.{all_take, all_reverse, all_filter, all_passed, all_at}
 use Rattle.buffer_pool.specs.declared.frame.Frame.{Frame}
 use Rattle.buffer_pool.specs.Frames as pool
-use Rattle.buffer_pool.specs.Frames.{State as Pool, AreDistinct, IsPool, frame_of}
+use Rattle.buffer_pool.specs.Frames.{State as Pool, AreDistinct, Knows, frame_of}
 use Rattle.buffer_pool.specs.Laws.{WithoutTakesOne}
 use Rattle.second_chance.specs.declared.plan.PoolMark.{PoolMark}
 use Rattle.second_chance.specs.Queue.{Queue}
 use Rattle.second_chance.specs.Plans.{chances_of}
 use Rattle.second_chance.specs.Machine.{Rules, leaving, PoolPage, must_be_pushed, without, is_pulled}
 use Rattle.page_store.specs.declared.store.PageStore.{PageStore}
-use Rattle.page_store.specs.Held.{IsPage, IsStore}
+use Rattle.page_store.specs.Representation.{IsPage, IsStore, AreTold}
 use Rattle.page_store.specs.Caching.{pool_page, rules}
 use Rattle.page_store.specs.Pulling.{mark_for, movable, without_all, LeavesOut, pulled_frames, pulled}
 use Rattle.page_store.proofs.Pools.{pages_without}
 use Rattle.page_store.proofs.Clearing.{is_among}
-use Rattle.page_store.proofs.Choosing.{all_pass, all_take}
-use Rattle.page_store.proofs.Saving.{all_filter, all_reverse, all_index, distinct_filter, distinct_take, distinct_reverse, found_all}
+use Rattle.page_store.proofs.Saving.{distinct_filter, distinct_take, distinct_reverse, found_all}
 use Rattle.page_store.proofs.Touching.{all_without}
+use Rattle.page_store.proofs.ToldPages.{told_without}
 
 abbrev pub page_of : Frame → ℕ
 page_of f = f.page
@@ -52,25 +55,22 @@ pub distinct_left : (pages : List ℕ) (frames : List Frame) → AreDistinct fra
 distinct_left [] frames apart = apart
 distinct_left (page ∷ pages) frames apart = distinct_left pages (pool.without frames page) (distinct_filter (λ (f : Frame). not (f.page == page)) frames apart)
 
-few_filter : {X : Type 0} (test : X → Bool) (xs : List X) → length (filter test xs) ≤ length xs
-few_filter test [] = omega arith
-few_filter test (x ∷ xs) = by (test x) (few_filter test xs)
-  where
-    by : (b : Bool) → length (filter test xs) ≤ length xs → length (cond b (x ∷ filter test xs) (filter test xs)) ≤ suc (length xs)
-    by true rest = omega (arith, rest)
-    by false rest = omega (arith, rest)
-
 pub few_left : (pages : List ℕ) (frames : List Frame) → length (without_all pages frames) ≤ length frames
 few_left [] frames = omega arith
-few_left (page ∷ pages) frames = omega (arith, few_left pages (pool.without frames page), few_filter (λ (f : Frame). not (f.page == page)) frames)
+few_left (page ∷ pages) frames = omega (arith, few_left pages (pool.without frames page), length-filter (λ (f : Frame). not (f.page == page)) frames, count_by-le-length (λ (f : Frame). not (f.page == page)) frames)
 
-pub store_left : (store : PageStore) (pages : List ℕ) → IsStore store → IsStore (record store { pool = record store.pool { frames = without_all pages store.pool.frames } })
-store_left store pages own = record {
-  least = own.least;
-  most = own.most;
-  pool = record { few = (let few = own.pool.few in omega (arith, few, few_left pages store.pool.frames)); distinct = distinct_left pages store.pool.frames own.pool.distinct };
-  pages = all_left (IsPage store.flash.geometry.pages) pages store.pool.frames own.pages;
-}
+-- a page is taken out of the pool
+pub store_without : WithoutTakesOne → (store : PageStore) (pool' : Pool) (page : ℕ) → pool' ≡ record store.pool { frames = pool.without store.pool.frames page; framed = pool'.framed } → Knows page false store.pool pool'
+    → IsStore store → IsStore (record store { pool = pool' })
+store_without law store pool' page is knows own =
+    let told = told_without law store pool' page (ap (λ (p : Pool). p.frames) is) knows own.told in
+    subst (λ (p : Pool). IsStore (record store { pool = p })) (sym is) (record {
+      least = own.least;
+      most = own.most;
+      pool = record { few = (let few = own.pool.few in omega (arith, few, few_left (page ∷ []) store.pool.frames)); distinct = distinct_left (page ∷ []) store.pool.frames own.pool.distinct };
+      pages = all_left (IsPage store.flash.geometry.pages) (page ∷ []) store.pool.frames own.pages;
+      told = subst (λ (p : Pool). AreTold (record store { pool = p })) is told;
+    })
 
 -- The pages that are pulled.
 
@@ -85,7 +85,7 @@ pub pulled_move : (r : Rules) (queue : Queue) (xs : List Frame) → AllByRecursi
 pulled_move r queue xs = by r.pulls _
   where
     by : (b : Bool) (n : ℕ) → AllByRecursion (λ (f : Frame). must_be_pushed queue (pool_page f) ≡ true) (cond b (take n (movable queue xs)) [])
-    by true n = all_take (λ (f : Frame). must_be_pushed queue (pool_page f) ≡ true) n (movable queue xs) (all_pass (λ (f : Frame). must_be_pushed queue (pool_page f)) xs)
+    by true n = all_take (λ (f : Frame). must_be_pushed queue (pool_page f) ≡ true) n (movable queue xs) (all_passed (λ (f : Frame). must_be_pushed queue (pool_page f)) xs)
     by false n = tt
 
 pub pulled_apart : (r : Rules) (queue : Queue) (xs : List Frame) → AreDistinct xs → AreDistinct (pulled_frames r queue xs)
@@ -112,23 +112,16 @@ module _ (law : WithoutTakesOne) (frames xs : List Frame) (found : AllByRecursio
       at [] all j within = absurd (omega (arith, within))
       at (y ∷ ys) all zero within = refl
       at (y ∷ ys) all (suc j) within =
-          ap (λ b. b || is_among (take j (map page_of ys)) (get_or ys j d).page) (ne_eqb y.page (get_or ys j d).page (all_index (λ (other : Frame). y.page ≢ other.page) ys j d all.0 (omega (arith, within))))
+          ap (λ b. b || is_among (take j (map page_of ys)) (get_or ys j d).page) (ne_eqb y.page (get_or ys j d).page (all_at (λ (other : Frame). y.page ≢ other.page) ys j d all.0 (omega (arith, within))))
           ∙ at ys all.1 j (omega (arith, within))
 
   pub next_there : (k : ℕ) (d : Frame) → k < length xs → frame_of (without_all (take k (map page_of xs)) frames) (get_or xs k d).page ≡ Some (get_or xs k d)
   next_there k d less =
       frames_without law (take k (map page_of xs)) frames (get_or xs k d).page
       ∙ ap (λ b. cond b None (frame_of frames (get_or xs k d).page)) (not_before k d less)
-      ∙ all_index (λ (f : Frame). frame_of frames f.page ≡ Some f) xs k d found less
+      ∙ all_at (λ (f : Frame). frame_of frames f.page ≡ Some f) xs k d found less
 
 -- The machine's pool.
-
-eq_turned : (a b : ℕ) → (a == b) ≡ (b == a)
-eq_turned a b = by (b == a) refl
-  where
-    by : (t : Bool) → (b == a) ≡ t → (a == b) ≡ t
-    by true is = eq-eqb a b (sym (eqb-true _ _ is))
-    by false is = ne_eqb a b (λ same. eqb-false _ _ is (sym same))
 
 pub pool_left : (queue : Queue) (xs frames : List Frame) → map pool_page (without_all (map page_of xs) frames) ≡ without (is_pulled (map (mark_for queue) xs)) (map pool_page frames)
 pool_left queue [] frames = all (map pool_page frames)
@@ -157,11 +150,6 @@ pool_left queue (x ∷ xs) frames =
         by false rest = ap (λ (k : List PoolPage). cond (not (is_pulled ms q.page)) (q ∷ k) k) rest
 
 -- The pages that are pulled from a store, one after the other.
-
-pub store_part : (store : PageStore) (pool' : Pool) → LeavesOut store.pool.frames pool'.frames → pool'.size ≡ store.pool.size → IsStore store → IsStore (record store { pool = pool' })
-store_part store pool' part size own =
-    let is : pool' ≡ record store.pool { frames = without_all part.pages store.pool.frames } = λ i. record { size = size i; frames = part.left i } in
-    subst (λ (p : Pool). IsStore (record store { pool = p })) (sym is) (store_left store part.pages own)
 
 module _ (law : WithoutTakesOne) (store : PageStore) (own : IsStore store) where
   abbrev frames : List Frame

@@ -17,8 +17,8 @@ use Rattle.checkpoint.specs.declared.master.Master.{Master}
 use Rattle.tail_rebuild.specs.Saving.{is_due, changes_of_save}
 use Rattle.flash_cache.specs.Pushed.{staged_pages, chance_marks, chance_given, frames_given, frames_pushed, changes_of_push, changes_of_group}
 use Rattle.flash_cache.specs.declared.cache.FlashCache.{FlashCache}
-use Rattle.flash_cache.specs.Held as held
-use Rattle.flash_cache.specs.Held.{groups_on, version_on}
+use Rattle.flash_cache.specs.Representation as flash_cache
+use Rattle.flash_cache.specs.Representation.{groups_on, version_on}
 use Rattle.second_chance.specs.Plans.{Placed}
 use Rattle.image_meaning.specs.Meaning.{IsFrameOf}
 use Rattle.image_meaning.specs.Changes.{SegmentIsDue, NoSegmentIsDue}
@@ -69,7 +69,7 @@ push_keeps g image [] frames none sound is = ((none, frames, is, sound), λ mid 
 push_keeps g image (page ∷ staged) frames none sound is = (tt, λ mid made. ((none_due_stays g image mid (made.rings Groups) (made.rings Segments) none, frames, is, sound), λ last pushed. tt))
 
 -- All changes of a push keep the rings: a segment is saved first where one is due.
-pub pushing_keeps : (cache : FlashCache) (site : State) (groups : List (List Stored)) (pages : List ℕ) (changed : List Bool) (contents : List (List ℕ)) → held.Fits cache site → held.Holds cache site.image groups →
+pub pushing_keeps : (cache : FlashCache) (site : State) (groups : List (List Stored)) (pages : List ℕ) (changed : List Bool) (contents : List (List ℕ)) → flash_cache.Matches cache site → flash_cache.Represents cache site.image groups →
     AllByRecursion (IsFrameOf cache.geometry) (frames_pushed cache site.image pages changed contents) → IsGroup (group (frames_pushed cache site.image pages changed contents)) (frames_pushed cache site.image pages changed contents) →
     KeepsRingsAll cache.geometry site.image (changes_of_group cache site.image pages changed contents)
 pushing_keeps cache site groups pages changed contents fits holds sound is = by (is_due cache.ring.hi cache.segments.hi) refl

@@ -1,16 +1,17 @@
 -- A flush, push by push.
-use Rattle.std.proofs.Common.{◌≡◌, ◌⊎◌, inl, inr, ℕ, ◌+◌, ◌*◌, ◌<◌, ◌≤◌, Bool, true, false, true≢false, ◌&&◌, ◌||◌, cond, List, [], ◌∷◌, ◌++◌, arith, refl, sym, ap, subst, ◌∙◌}
+use Rattle.std.proofs.Common.{◌≡◌, ◌⊎◌, inl, inr, ℕ, ◌+◌, ◌*◌, ◌<◌, ◌≤◌, Bool, true, false, true≢false, ◌||◌, cond, List, [], ◌∷◌, ◌++◌, arith, refl, sym, ap, subst, ◌∙◌}
+use Rattle.std.proofs.Math.Bool.{or-false, or-true}
 use Rattle.std.specs.Prelude.{nat_lt}
 use Rattle.std.proofs.lemmas.Bool.Decides.{nat_tests}
+use Rattle.image_changes.proofs.Sequence.{units_then}
 use Rattle.site.specs.declared.geometry.Geometry.{Geometry}
 use Rattle.site.specs.State.{State, Snapshot, snapshot_of}
 use Rattle.site.specs.Moments.{Leaves, LeavesOnly}
 use Rattle.site.specs.Laws.{in_sequence, leaves_weaker, holds_now}
 use Rattle.image_changes.specs.Rings.{master_shape}
 use Rattle.log_store.specs.LogList.{LogList, sealed_if}
-use Rattle.log_store.specs.Held.{HasBlocks, LeavesLog}
+use Rattle.log_store.specs.Representation.{HasBlocks, LeavesLog}
 use Rattle.page_store.specs.Leaves.{LeavesPages}
-use Rattle.page_store.proofs.PushLaws.{units_then}
 
 -- Blocks and tail: where there is one block more, there was a tail and is none.
 
@@ -20,31 +21,16 @@ no_tail h0 h1 true true end more = absurd (grind (arith, nat_tests))
 no_tail h0 h1 false true end more = absurd (grind (arith, nat_tests))
 
 pub risen : (h0 h1 h2 : ℕ) (forced : Bool) → h0 ≤ h1 → h2 ≡ cond forced (h1 + 1) h1 → nat_lt h0 h2 ≡ (nat_lt h0 h1 || forced)
-risen h0 h1 h2 true rises is = ap (nat_lt h0) is ∙ more ∙ sym (or_true (nat_lt h0 h1))
+risen h0 h1 h2 true rises is = ap (nat_lt h0) is ∙ more ∙ sym (or-true (nat_lt h0 h1))
   where
     more : nat_lt h0 (h1 + 1) ≡ true
     more = grind (arith, nat_tests)
-
-    or_true : (b : Bool) → (b || true) ≡ true
-    or_true true = refl
-    or_true false = refl
-risen h0 h1 h2 false rises is = ap (nat_lt h0) is ∙ sym (or_false (nat_lt h0 h1))
-  where
-    or_false : (b : Bool) → (b || false) ≡ b
-    or_false true = refl
-    or_false false = refl
+risen h0 h1 h2 false rises is = ap (nat_lt h0) is ∙ sym (or-false (nat_lt h0 h1))
 
 pub sealed_again : (list : LogList) (b forced : Bool) → (b ≡ true → forced ≡ false) → sealed_if forced (sealed_if b list) ≡ sealed_if (b || forced) list
 sealed_again list true true one = absurd (true≢false (one refl))
 sealed_again list true false one = refl
 sealed_again list false forced one = refl
-
-pub and_left : (a b : Bool) → (a && b) ≡ true → a ≡ true
-and_left true b is = refl
-and_left false b is = is
-
-pub not_forced : (a b : Bool) → a ≡ false → (a && b) ≡ false
-not_forced a b is = ap (λ t. t && b) is
 
 -- One push more.
 

@@ -1,11 +1,14 @@
 -- The coldest changed pages are saved.
 use Rattle.std.proofs.Common.{◌≡◌, ◌≢◌, ℕ, zero, suc, ◌<◌, ◌≤◌, Bool, true, false, true≢false, ◌||◌, cond, List, [], ◌∷◌, ◌++◌, length, get_or, take, map, filter, reverse, replicate, Option, Some, None, is_some, arith, refl, sym, ap, subst, ◌∙◌, length-append}
+use Rattle.flash_cache.proofs.Given.{all_append}
 use Rattle.std.specs.Prelude.{IsSome, AllPairs}
 use Rattle.std.specs.List.{All, AllByRecursion, list_any}
 use Rattle.std.proofs.lemmas.Bool.{eq-eqb, ne_eqb}
 use Rattle.std.proofs.lemmas.List.{reverse-append, length-take}
+use Rattle.buffer_pool.proofs.Walks.{changed_more}
+use Rattle.std_lemmas.proofs.AllOf.{all_both, all_take, all_reverse, all_map, all_filter, all_weaker, all_at}
 use Rattle.site.specs.State.{Image}
-use Rattle.flash_cache.specs.Held.{version_on}
+use Rattle.flash_cache.specs.Representation.{version_on}
 use Rattle.flash_cache.specs.Pushed.{known_given}
 use Rattle.flash_cache.specs.Kept.{AreCleanGiven}
 use Rattle.flash_cache.specs.declared.cache.FlashCache.{FlashCache}
@@ -13,50 +16,17 @@ use Rattle.buffer_pool.specs.declared.frame.Frame.{Frame}
 use Rattle.buffer_pool.specs.Frames.{AreDistinct, frame_of}
 use Rattle.second_chance.specs.Queue.{frame_of as known_of}
 use Rattle.page_store.specs.declared.store.PageStore.{PageStore}
-use Rattle.page_store.specs.Held.{IsPage, content_by, current}
+use Rattle.page_store.specs.Representation.{IsPage, content_by, current}
 use Rattle.page_store.specs.Caching.{pool_page, rules}
 use Rattle.page_store.specs.Pulling.{room_for_pages}
 use Rattle.page_store.specs.Leaves.{AreGiven, AreChanged}
 use Rattle.page_store.specs.Flushing.{changed_frames, saved_next, content_in, flushed_first}
-use Rattle.page_store.proofs.Choosing.{first_changed, all_take, if_changed, changed_more, chosen_changed}
+use Rattle.page_store.proofs.Choosing.{first_changed, if_changed, chosen_changed}
 
 -- lists
 
-pub all_index : {X : Type 0} (P : X → Type 0) (xs : List X) (k : ℕ) (d : X) → AllByRecursion P xs → k < length xs → P (get_or xs k d)
-all_index P [] k d all less = absurd (omega (arith, less))
-all_index P (x ∷ xs) zero d all less = all.0
-all_index P (x ∷ xs) (suc k) d all less = all_index P xs k d all.1 (omega (arith, less))
-
-pub all_both : {X : Type 0} (P Q R : X → Type 0) → ((x : X) → P x → Q x → R x) → (xs : List X) → AllByRecursion P xs → AllByRecursion Q xs → AllByRecursion R xs
-all_both P Q R join [] ps qs = tt
-all_both P Q R join (x ∷ xs) ps qs = (join x ps.0 qs.0, all_both P Q R join xs ps.1 qs.1)
-
-pub all_weaker : {X : Type 0} (P R : X → Type 0) → ((x : X) → P x → R x) → (xs : List X) → AllByRecursion P xs → AllByRecursion R xs
-all_weaker P R f [] ps = tt
-all_weaker P R f (x ∷ xs) ps = (f x ps.0, all_weaker P R f xs ps.1)
-
-pub all_map : {X Y : Type 0} (P : Y → Type 0) (f : X → Y) (xs : List X) → AllByRecursion (λ x. P (f x)) xs → AllByRecursion P (map f xs)
-all_map P f [] all = tt
-all_map P f (x ∷ xs) all = (all.0, all_map P f xs all.1)
-
-all_append : {X : Type 0} (P : X → Type 0) (xs ys : List X) → AllByRecursion P xs → AllByRecursion P ys → AllByRecursion P (xs ++ ys)
-all_append P [] ys all others = others
-all_append P (x ∷ xs) ys all others = (all.0, all_append P xs ys all.1 others)
-
 turned : {X : Type 0} (x : X) (xs : List X) → reverse (x ∷ xs) ≡ reverse xs ++ x ∷ []
 turned x xs = reverse-append (x ∷ []) xs
-
-pub all_reverse : {X : Type 0} (P : X → Type 0) (xs : List X) → AllByRecursion P xs → AllByRecursion P (reverse xs)
-all_reverse P [] all = tt
-all_reverse P (x ∷ xs) all = subst (AllByRecursion P) (sym (turned x xs)) (all_append P (reverse xs) (x ∷ []) (all_reverse P xs all.1) (all.0, tt))
-
-pub all_filter : {X : Type 0} (P : X → Type 0) (test : X → Bool) (xs : List X) → AllByRecursion P xs → AllByRecursion P (filter test xs)
-all_filter P test [] all = tt
-all_filter P test (x ∷ xs) all = by (test x) (all_filter P test xs all.1)
-  where
-    by : (b : Bool) → AllByRecursion P (filter test xs) → AllByRecursion P (cond b (x ∷ filter test xs) (filter test xs))
-    by true rest = (all.0, rest)
-    by false rest = rest
 
 pub all_chosen : (P : Frame → Type 0) (room : ℕ) (frames : List Frame) → AllByRecursion P frames → AllByRecursion P (first_changed room frames)
 all_chosen P room frames all = all_take P room (changed_frames frames) (all_filter P (λ f. f.changed) (reverse frames) (all_reverse P frames all))
@@ -96,7 +66,7 @@ pub pages_apart : (xs : List Frame) → AreDistinct xs → AllPairs (λ (a b : �
 pages_apart [] apart i j d before within = absurd (omega (arith, within))
 pages_apart (x ∷ xs) apart zero zero d before within = absurd (omega (arith, before))
 pages_apart (x ∷ xs) apart zero (suc j) d before within =
-    all_index (λ (page : ℕ). x.page ≢ page) (map (λ (f : Frame). f.page) xs) j d (all_map (λ (page : ℕ). x.page ≢ page) (λ (f : Frame). f.page) xs apart.0) (omega (arith, within))
+    all_at (λ (page : ℕ). x.page ≢ page) (map (λ (f : Frame). f.page) xs) j d (all_map (λ (page : ℕ). x.page ≢ page) (λ (f : Frame). f.page) xs apart.0) (omega (arith, within))
 pages_apart (x ∷ xs) apart (suc i) zero d before within = absurd (omega (arith, before))
 pages_apart (x ∷ xs) apart (suc i) (suc j) d before within = pages_apart xs apart.1 i j d (omega (arith, before)) (omega (arith, within))
 
@@ -132,12 +102,12 @@ module _ (room : ℕ) (frames : List Frame) (apart : AreDistinct frames) where
   pages = map (λ (f : Frame). f.page) (first_changed room frames)
 
   pub pages_there : All (λ (page : ℕ). IsSome (frame_of frames page)) pages
-  pages_there k d less = all_index (λ (page : ℕ). IsSome (frame_of frames page)) pages k d
+  pages_there k d less = all_at (λ (page : ℕ). IsSome (frame_of frames page)) pages k d
       (all_map (λ (page : ℕ). IsSome (frame_of frames page)) (λ (f : Frame). f.page) (first_changed room frames)
       (all_weaker (λ (f : Frame). frame_of frames f.page ≡ Some f) (λ (f : Frame). IsSome (frame_of frames f.page)) (λ f found. ap is_some found) (first_changed room frames) (found_chosen room frames apart))) less
 
   pub pages_exist : (most : ℕ) → AllByRecursion (IsPage most) frames → All (λ (page : ℕ). page < most) pages
-  pages_exist most all k d less = all_index (λ (page : ℕ). page < most) pages k d
+  pages_exist most all k d less = all_at (λ (page : ℕ). page < most) pages k d
       (all_map (λ (page : ℕ). page < most) (λ (f : Frame). f.page) (first_changed room frames) (all_weaker (IsPage most) (λ (f : Frame). f.page < most) (λ f p. p.exists) (first_changed room frames) (all_chosen (IsPage most) room frames all))) less
 
   contents_each : (xs : List Frame) → AllByRecursion (λ (f : Frame). frame_of frames f.page ≡ Some f) xs → map (content_in frames) (map (λ (f : Frame). f.page) xs) ≡ map (λ (f : Frame). f.content) xs
@@ -159,7 +129,7 @@ module _ (room : ℕ) (frames : List Frame) (apart : AreDistinct frames) where
   content_there k less = content_at pages k less
 
   pub changed_there : (k : ℕ) (frame : Frame) → k < length pages → frame_of frames (get_or pages k 0) ≡ Some frame → frame.changed ≡ true
-  changed_there k frame less found = all_index (λ (page : ℕ). (f : Frame) → frame_of frames page ≡ Some f → f.changed ≡ true) pages k 0
+  changed_there k frame less found = all_at (λ (page : ℕ). (f : Frame) → frame_of frames page ≡ Some f → f.changed ≡ true) pages k 0
       (all_map (λ (page : ℕ). (f : Frame) → frame_of frames page ≡ Some f → f.changed ≡ true) (λ (f : Frame). f.page) (first_changed room frames)
       (all_both (λ (f : Frame). frame_of frames f.page ≡ Some f) (λ (f : Frame). f.changed ≡ true) (λ (f : Frame). (other : Frame) → frame_of frames f.page ≡ Some other → other.changed ≡ true)
       (λ f own is other found. let same : f ≡ other = one f other (sym own ∙ found) in ap (λ (g : Frame). g.changed) (sym same) ∙ is) (first_changed room frames) (found_chosen room frames apart) (chosen_changed room frames)))
@@ -184,7 +154,7 @@ all_true n = all_take (λ (b : Bool). b ≡ true) n (replicate 8 true) (refl, (r
 
 pub clean_none : (cache : FlashCache) (pages : List ℕ) (changed : List Bool) (contents : List (List ℕ)) (image : Image) → length changed ≡ length pages → AllByRecursion (λ (b : Bool). b ≡ true) changed
     → AreCleanGiven cache pages changed contents image
-clean_none cache pages changed contents image lists all k less unchanged = absurd (true≢false (sym (all_index (λ (b : Bool). b ≡ true) changed k false all (omega (arith, lists, less))) ∙ unchanged))
+clean_none cache pages changed contents image lists all k less unchanged = absurd (true≢false (sym (all_at (λ (b : Bool). b ≡ true) changed k false all (omega (arith, lists, less))) ∙ unchanged))
 
 pub known_changed : (pages : List ℕ) (changed : List Bool) → length changed ≡ length pages → AllByRecursion (λ (b : Bool). b ≡ true) changed → known_given pages changed ≡ map (λ page. known_of page true) pages
 known_changed [] [] lists all = refl

@@ -1,22 +1,16 @@
 -- What a force seals.
-use Rattle.std.proofs.Common.{◌≡◌, ℕ, ◌+◌, ◌*◌, ◌<◌, Bool, true, false, ◌&&◌, ◌||◌, cond, List, [], ◌∷◌, length, arith, refl, sym, ap, subst, ◌∙◌, inl}
+use Rattle.std.proofs.Common.{◌≡◌, ℕ, ◌+◌, ◌*◌, ◌<◌, Bool, true, false, ◌&&◌, ◌||◌, cond, List, [], ◌∷◌, length, arith, refl, sym, ap, subst, ◌∙◌}
 use Rattle.std.specs.Prelude.{nat_le, nat_lt}
 use Rattle.std.specs.List.{AllByRecursion, list_any}
 use Rattle.std.proofs.lemmas.Bool.Decides.{nat_tests}
-use Rattle.site.specs.declared.outside.Dev.TheVariants.{Log}
 use Rattle.site.specs.declared.geometry.Geometry.{Geometry}
-use Rattle.site.specs.State.{State, Image, IsSettled, IsQuiet}
-use Rattle.site.specs.Moments.{Leaves, LeavesOnly}
-use Rattle.site.specs.Laws.{no_call, settled_leaves, told_is, quiet_leaves}
+use Rattle.site.specs.State.{Image}
 use Rattle.sealed_ring.specs.Ring.{IsRing, hi_of, units_of, last_of}
 use Rattle.log_records.specs.declared.log_record.LogRecord.{LogRecord}
 use Rattle.image_changes.specs.Rings.{log_shape}
-use Rattle.image_changes.specs.Changes.{Change, ReadsAs}
-use Rattle.image_changes.specs.Reached.{IsReached, IsFrontOf, LeavesFront}
 use Rattle.slotted_page.specs.Layout.{lsn_of}
 use Rattle.log_store.specs.declared.store.LogStore.{LogStore}
-use Rattle.log_store.specs.LogList.{LogList}
-use Rattle.log_store.specs.Held.{has_tail, HasBlocks, LeavesLog}
+use Rattle.log_store.specs.Representation.{has_tail, HasBlocks}
 use Rattle.page_store.specs.Ahead.{IsLogged, is_unsealed, forces, end_now, end_forced}
 
 -- blocks on a log device that is the same
@@ -28,21 +22,6 @@ blocks_same g first blocks old new same has = record {
   are_blocks = has.are_blocks;
   units = ap (λ (l : List ℕ). last_of (length blocks) (units_of (log_shape g) l).live) same ∙ has.units;
 }
-
-pub none_left : (g : Geometry) (sealing : Bool) (list : LogList) (site : State) → IsSettled Log site → HasBlocks g list.first list.blocks site.image → LeavesOnly site site (LeavesLog g sealing list site.told)
-none_left g sealing list site settled has =
-    no_call site (Leaves (LeavesLog g sealing list site.told)) (λ snapshot left. record {
-      told = told_is site snapshot left;
-      blocks = inl (blocks_same g list.first list.blocks site.image snapshot.image (settled_leaves Log site snapshot settled left) has);
-    })
-
-pub reads_itself : (g : Geometry) (image : Image) → ReadsAs g image image
-reads_itself g image = record { sizes = λ dev. refl; rings = λ ring. record { units = refl; form = λ form. form }; disk = refl }
-
-pub none_front : (g : Geometry) (all : List Change) (site : State) → IsQuiet site → LeavesFront g all site site
-none_front g all site quiet =
-    no_call site (Leaves (IsReached g (IsFrontOf all) site)) (λ snapshot left.
-    subst (IsReached g (IsFrontOf all) site) (sym (quiet_leaves site snapshot quiet left)) (record { told = refl; changes = []; made = (all, refl); reaches = reads_itself g site.image }))
 
 sealed_one : (end : ℕ) (content : List ℕ) → is_unsealed end content ≡ false → IsLogged end content
 sealed_one end content none = record { below = by (lsn_of content) none }

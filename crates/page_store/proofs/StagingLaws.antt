@@ -26,14 +26,14 @@ use Rattle.second_chance.specs.Laws.{FlushGoesOn, FlushEnds}
 use Rattle.record_model.specs.Touches.{flush}
 use Rattle.tail_rebuild.specs.Saving.{changes_of_save}
 use Rattle.flash_cache.specs.declared.cache.FlashCache.{FlashCache}
-use Rattle.flash_cache.specs.Held as held
-use Rattle.flash_cache.specs.Held.{disk_on}
+use Rattle.flash_cache.specs.Representation as flash_cache
+use Rattle.flash_cache.specs.Representation.{disk_on}
 use Rattle.flash_cache.specs.Pushed.{staged_pages, staged_marks, changes_of_push}
 use Rattle.frame_group.specs.Groups.{Frame as Stored}
 use Rattle.buffer_pool.specs.declared.frame.Frame.{Frame}
 use Rattle.page_store.specs.declared.store.PageStore.{PageStore}
 use Rattle.page_store.specs.Caching.{pool_page, cache_of, rules, next_group, first_pushed, is_pushed}
-use Rattle.page_store.specs.Held.{MayGoOn, Fits}
+use Rattle.page_store.specs.Representation.{Invariant, Matches}
 use Rattle.page_store.specs.Staging.{pages_staged, staged_by_eviction, WritesOnly, HasQueueOn, Stages}
 use Rattle.page_store.proofs.PushLaws.{flash_fits_same, flash_holds_same}
 use Rattle.page_store.proofs.Evictions.{reverse_last}
@@ -66,7 +66,7 @@ written_then g staged more next next' a b c one two = record {
 -- Stores.
 
 -- what fits has its queue on flash
-pub fits_queue : (store : PageStore) (site : State) → MayGoOn store site → Fits store site → HasQueueOn store site
+pub fits_queue : (store : PageStore) (site : State) → Invariant store site → Matches store site → HasQueueOn store site
 fits_queue store site going fits = record { fits = fits.flash; groups = fits.groups; holds = fits.holds; next = going.flash.next ∙ fits.flash.hi; room = (let least = going.flash.limits.groups in omega (arith, least)) }
 
 -- so does another store with the same cache, on a site with the same flash
@@ -218,15 +218,14 @@ pub push_leaves : (store : PageStore) (due : Bool) (saved : List (List Stored)) 
     LeavesFront store.flash.geometry (changes_of_save due saved ++ changes_of_push (staged_pages store.flash) group) old now →
     Leaving store.flash.geometry (staged_in_push (rules store) store.flash.directory) (next_group (cache_of store) + 1) old now
 push_leaves store due saved group old now has front =
-    let is = has.next in
     let pushed = changes_of_push (staged_pages store.flash) group in
     let one = push_groups (staged_pages store.flash) group in
     let none = save_groups due saved pushed in
-    front_writes store.flash.geometry (changes_of_save due saved ++ pushed) (staged_in_push (rules store) store.flash.directory) (next_group (cache_of store) + 1) old now (omega (arith, is, one, none))
+    front_writes store.flash.geometry (changes_of_save due saved ++ pushed) (staged_in_push (rules store) store.flash.directory) (next_group (cache_of store) + 1) old now (omega (arith, has.next, one, none))
     (λ page listed. subst (λ (l : List ℕ). Contains l page) (pages_are store)
     (push_rewrites (staged_pages store.flash) group page (subst (λ (l : List ℕ). Contains l page) (save_rewrites due saved pushed) listed))) front
 
-pub queue_pushed : {T : Type 0} (r : Result T Stop) (flash : FlashCache) (store : PageStore) (groups : List (List Stored)) (now : State) → held.MayGoOn flash now → OnOk r (held.Fits flash now) → OnOk r (held.Holds flash now.image groups) →
+pub queue_pushed : {T : Type 0} (r : Result T Stop) (flash : FlashCache) (store : PageStore) (groups : List (List Stored)) (now : State) → flash_cache.Invariant flash now → OnOk r (flash_cache.Matches flash now) → OnOk r (flash_cache.Represents flash now.image groups) →
     OnOk r (HasQueueOn (record store { flash = flash }) now)
 queue_pushed (Ok x) flash store groups now going fits holds = record { fits = fits; groups = groups; holds = holds; next = going.next ∙ fits.hi; room = (let least = going.limits.groups in omega (arith, least)) }
 queue_pushed (Err stop) flash store groups now going fits holds = tt

@@ -16,10 +16,10 @@ use Rattle.second_chance.specs.Machine.{Cache, holds, lacks_room, with_room, evi
 use Rattle.log_store.specs.declared.store.LogStore.{LogStore}
 use Rattle.log_store.specs.LogList.{LogList}
 use Rattle.page_store.specs.declared.store.PageStore.{PageStore}
-use Rattle.page_store.specs.Held.{IsPage, MayGoOn, Fits, content_by}
+use Rattle.page_store.specs.Representation.{IsPage, AreTold, Invariant, Matches, content_by}
 use Rattle.page_store.specs.Caching.{pool_page, cache_of, rules, is_full, is_pushed, with_way, pushes, next_group}
 use Rattle.page_store.specs.Ahead.{forces, evicted, pushed_for_room, pushed_by_touch}
-use Rattle.flash_cache.specs.Held.{version_on}
+use Rattle.flash_cache.specs.Representation.{version_on}
 use Rattle.page_store.specs.Leaves.{KeepsCurrent}
 use Rattle.page_store.specs.Changing.{eviction_changes, room_changes, touch_changes}
 use Rattle.page_store.proofs.Pools.{is_held, not_held}
@@ -109,7 +109,7 @@ pub all_touched : (P : Frame → Type 0) (frames : List Frame) (page : ℕ) (fra
 all_touched P frames page frame found all =
     subst (λ o. AllByRecursion P (pool.in_front o (pool.without frames page))) (sym found) (all_found P frames page frame all found, all_without P frames page all)
 
-pub order_fits : (store : PageStore) (pool : Pool) (site : State) → ((n : ℕ) → frame_of pool.frames n ≡ frame_of store.pool.frames n) → Fits store site → Fits (record store { pool = pool }) site
+pub order_fits : (store : PageStore) (pool : Pool) (site : State) → ((n : ℕ) → frame_of pool.frames n ≡ frame_of store.pool.frames n) → Matches store site → Matches (record store { pool = pool }) site
 order_fits store pool site same fits = record {
   flash = fits.flash;
   groups = fits.groups;
@@ -122,14 +122,15 @@ order_fits store pool site same fits = record {
 pub order_current : (store : PageStore) (pool : Pool) (image : Image) → ((n : ℕ) → frame_of pool.frames n ≡ frame_of store.pool.frames n) → KeepsCurrent store image (record store { pool = pool }) image
 order_current store pool image same = record { each = λ page exists. ap (λ o. content_by o (version_on store.flash.geometry image page)) (same page) }
 
-pub pool_going : (store : PageStore) (pool : Pool) (site : State) → pool.size ≡ store.pool.size → IsPool pool → AllByRecursion (IsPage store.flash.geometry.pages) pool.frames → MayGoOn store site
-    → MayGoOn (record store { pool = pool }) site
-pool_going store pool site size is pages going = record {
+pub pool_going : (store : PageStore) (pool : Pool) (site : State) → pool.size ≡ store.pool.size → IsPool pool → AllByRecursion (IsPage store.flash.geometry.pages) pool.frames → AreTold (record store { pool = pool }) → Invariant store site
+    → Invariant (record store { pool = pool }) site
+pool_going store pool site size is pages told going = record {
   flash = going.flash;
   own = record {
     least = subst (λ n. 1 ≤ n) (sym size) going.own.least;
     most = subst (λ n. n ≤ 4096) (sym size) going.own.most;
     pool = is;
     pages = pages;
+    told = told;
   };
 }

@@ -1,39 +1,28 @@
 -- Which changed pages have an LSN in the tail, before a push of a flush and behind it.
-use Rattle.std.proofs.Common.{◌≡◌, ℕ, zero, suc, ◌+◌, ◌*◌, Bool, true, false, not, ◌&&◌, ◌||◌, cond, List, [], ◌∷◌, ◌++◌, get_or, take, map, filter, reverse, Some, arith, refl, sym, ap, ◌∙◌}
+use Rattle.std.proofs.Common.{◌≡◌, ℕ, zero, suc, ◌+◌, ◌*◌, Bool, true, false, not, ◌&&◌, ◌||◌, cond, List, [], ◌∷◌, get_or, take, map, filter, reverse, Some, arith, refl, sym, ap, ◌∙◌}
+use Rattle.std.proofs.lemmas.List.Folds.{list_any-append}
 use Rattle.std.specs.List.{AllByRecursion, list_any}
 use Rattle.std.proofs.lemmas.List.{reverse-append, get_or_default}
+use Rattle.std_lemmas.proofs.Lists.{any_reverse}
+use Rattle.std_lemmas.proofs.AllOf.{all_both, all_map, all_at}
 use Rattle.buffer_pool.specs.declared.frame.Frame.{Frame}
 use Rattle.buffer_pool.specs.Frames.{AreDistinct, frame_of}
 use Rattle.page_store.specs.Caching.{pool_page}
 use Rattle.page_store.specs.Flushing.{changed_frames, cleared_all}
 use Rattle.page_store.proofs.Choosing.{first_changed}
 use Rattle.page_store.proofs.Clearing.{cleared_by, by_content, by_mark, is_among, all_cleared}
-use Rattle.page_store.proofs.Saving.{found_all, found_chosen, all_index, all_map, all_both}
+use Rattle.page_store.proofs.Saving.{found_all, found_chosen}
 use Rattle.page_store.proofs.Flushes.{among_listed}
 
 -- some changed page passes a test
 abbrev pub some_changed : (List ℕ → Bool) → List Frame → Bool
 some_changed u frames = list_any (λ (f : Frame). f.changed && u f.content) frames
 
-any_append : {X : Type 0} (test : X → Bool) (xs ys : List X) → list_any test (xs ++ ys) ≡ (list_any test xs || list_any test ys)
-any_append test [] ys = refl
-any_append test (x ∷ xs) ys = ap (λ b. test x || b) (any_append test xs ys) ∙ grouped (test x) (list_any test xs) (list_any test ys)
-  where
-    grouped : (a b c : Bool) → (a || (b || c)) ≡ ((a || b) || c)
-    grouped true b c = refl
-    grouped false b c = refl
-
 or_swap : (a b : Bool) → (a || (b || false)) ≡ (b || a)
 or_swap true true = refl
 or_swap true false = refl
 or_swap false true = refl
 or_swap false false = refl
-
-any_reverse : {X : Type 0} (test : X → Bool) (xs : List X) → list_any test (reverse xs) ≡ list_any test xs
-any_reverse test [] = refl
-any_reverse test (x ∷ xs) =
-    ap (list_any test) (reverse-append (x ∷ []) xs) ∙ any_append test (reverse xs) (x ∷ [])
-    ∙ ap (λ b. b || (test x || false)) (any_reverse test xs) ∙ or_swap (list_any test xs) (test x)
 
 any_filtered : (u : List ℕ → Bool) (xs : List Frame) → list_any u (map (λ (f : Frame). f.content) (filter (λ (f : Frame). f.changed) xs)) ≡ some_changed u xs
 any_filtered u [] = refl
@@ -92,7 +81,7 @@ module _ (u : List ℕ → Bool) (room : ℕ) (frames : List Frame) (apart : Are
   not_one f own among =
       let there = among_listed named f.page among in
       let at : get_or named there.0 0 ≡ f.page = get_or_default named there.0 0 f.page there.1 ∙ there.2 in
-      all_index Passes named there.0 0 all_named there.1 f (ap (frame_of frames) at ∙ own)
+      all_at Passes named there.0 0 all_named there.1 f (ap (frame_of frames) at ∙ own)
 
   same_test : (f : Frame) → frame_of frames f.page ≡ Some f → (f.changed && u f.content) ≡ ((f.changed && not (is_among named f.page)) && u f.content)
   same_test f own = by (is_among named f.page) refl
@@ -188,10 +177,3 @@ pub forced_by_first : (tail : Bool) (u : List ℕ → Bool) (room : ℕ) (frames
     → (tail && list_any u (map (λ (f : Frame). f.content) (changed_frames frames))) ≡ true
 forced_by_first true u room frames is = any_changed u frames ∙ chosen_some u room frames is
 forced_by_first false u room frames is = is
-
-pub or_first : (a b : Bool) → a ≡ true → (a || b) ≡ true
-or_first a b is = ap (λ t. t || b) is
-
-pub or_second : (a b : Bool) → b ≡ true → (a || b) ≡ true
-or_second true b is = refl
-or_second false b is = is

@@ -1,36 +1,31 @@
 -- The version of a page is read.
 use Rattle.std.proofs.Common.{◌≡◌, ℕ, ◌<◌, ◌==◌, Bool, true, false, ◌&&◌, ◌||◌, List, [], ◌∷◌, refl, sym, ap, subst, ◌∙◌}
+use Rattle.flash_cache.proofs.Standing.{rings_later}
+use Rattle.std.proofs.Math.Bool.{or-false}
 use Rattle.std.specs.List.{AllByRecursion}
 use Rattle.site.specs.declared.outside.Dev.TheVariants.{Log, Flash, Disk}
 use Rattle.site.specs.declared.geometry.Geometry.{Geometry}
 use Rattle.site.specs.State.{State, Image}
-use Rattle.site.specs.Calls.{Goes, IsUnchanged}
-use Rattle.sealed_ring.specs.declared.ring.Ring.{Ring}
-use Rattle.sealed_ring.specs.Ring.{FitsIn}
-use Rattle.sealed_ring.specs.Ready.{IsUsable}
-use Rattle.tail_rebuild.specs.Rebuilt.{AreRings}
+use Rattle.site.specs.Calls.{Preserves, IsUnchanged}
 use Rattle.slotted_page.specs.Layout.{IsSound}
 use Rattle.second_chance.specs.declared.frame.Frame.{Frame as Known}
 use Rattle.second_chance.specs.Queue.{Queue, in_group, in_groups, has_frame, is_last, group_read, groups_read, with_read}
 use Rattle.flash_cache.specs.declared.cache.FlashCache.{FlashCache}
-use Rattle.flash_cache.specs.Held as held
-use Rattle.flash_cache.specs.Held.{version_on, IsCleanOn}
+use Rattle.flash_cache.specs.Representation as flash_cache
+use Rattle.flash_cache.specs.Representation.{version_on, IsCleanOn}
 use Rattle.page_store.specs.declared.store.PageStore.{PageStore}
-use Rattle.page_store.specs.Held.{IsPage, MayGoOn, Fits}
+use Rattle.page_store.specs.Representation.{IsPage, Invariant, Matches}
+use Rattle.page_store.proofs.ToldPages.{told_with}
 
 -- a page without a frame leaves no mark
 group_same : (page : ℕ) (group : List Known) (later : List (List Known)) → in_group group page ≡ false → group_read page group later ≡ group
 group_same page [] later none = refl
 group_same page (frame ∷ behind) later none = by (frame.page == page) refl none (group_same page behind later)
   where
-    or_false : (b : Bool) → (b || false) ≡ b
-    or_false true = refl
-    or_false false = refl
-
     by : (b : Bool) → (frame.page == page) ≡ b → (b || in_group behind page) ≡ false → (in_group behind page ≡ false → group_read page behind later ≡ behind) → group_read page (frame ∷ behind) later ≡ frame ∷ behind
     by true is none rest = absurd cc
     by false is none rest =
-        let mark : (frame.referenced || (frame.page == page && is_last behind later frame)) ≡ frame.referenced = ap (λ b. frame.referenced || (b && is_last behind later frame)) is ∙ or_false frame.referenced in
+        let mark : (frame.referenced || (frame.page == page && is_last behind later frame)) ≡ frame.referenced = ap (λ b. frame.referenced || (b && is_last behind later frame)) is ∙ or-false frame.referenced in
         λ i. (let f : Known = record frame { referenced = mark i } in f) ∷ rest none i
 
 groups_same : (page : ℕ) (groups : List (List Known)) → in_groups groups page ≡ false → groups_read page groups ≡ groups
@@ -41,25 +36,8 @@ groups_same page (group ∷ later) none = by (in_group group page) refl none (gr
     by true is none rest = absurd cc
     by false is none rest = λ i. group_same page group later is i ∷ rest none i
 
-pub read_same : (page : ℕ) (queue : Queue) → has_frame queue page ≡ false → with_read page queue ≡ queue
-read_same page queue none = λ i. record { first = queue.first; groups = groups_same page queue.groups none i }
-
--- the rings may be used after any call
-ring_later : (ring : Ring) (old new : State) → Goes old new → IsUsable ring old → IsUsable ring new
-ring_later ring old new goes usable = record { fits = subst (FitsIn ring.shape) (sym (goes.sizes ring.shape.dev)) usable.fits; bounded = usable.bounded }
-
-pub rings_later : (g : Geometry) (groups segments : Ring) (old new : State) → Goes old new → AreRings g groups segments old → AreRings g groups segments new
-rings_later g groups segments old new goes rings = record {
-  groups_usable = ring_later groups old new goes rings.groups_usable;
-  segments_usable = ring_later segments old new goes rings.segments_usable;
-  groups_shape = rings.groups_shape;
-  segments_shape = rings.segments_shape;
-  low = rings.low;
-  high = rings.high;
-}
-
 -- the cache goes on after any call
-pub flash_later : (cache : FlashCache) (old new : State) → Goes old new → held.MayGoOn cache old → held.MayGoOn cache new
+pub flash_later : (cache : FlashCache) (old new : State) → Preserves old new → flash_cache.Invariant cache old → flash_cache.Invariant cache new
 flash_later cache old new goes going = record {
   limits = going.limits;
   lengths = record { log = goes.sizes Log ∙ going.lengths.log; flash = goes.sizes Flash ∙ going.lengths.flash; disk = goes.sizes Disk ∙ going.lengths.disk };
@@ -71,19 +49,20 @@ flash_later cache old new goes going = record {
 }
 
 -- the store with another cache
-pub store_with : (store : PageStore) (cache : FlashCache) (old new : State) → cache.geometry ≡ store.flash.geometry → held.MayGoOn cache new → MayGoOn store old → MayGoOn (record store { flash = cache }) new
-store_with store cache old new geometry flash_going going = record {
+pub store_with : (store : PageStore) (cache : FlashCache) (old new : State) → cache.geometry ≡ store.flash.geometry → ((n : ℕ) → has_frame cache.directory n ≡ has_frame store.flash.directory n) → flash_cache.Invariant cache new → Invariant store old → Invariant (record store { flash = cache }) new
+store_with store cache old new geometry same flash_going going = record {
   flash = flash_going;
   own = record {
     least = going.own.least;
     most = going.own.most;
     pool = going.own.pool;
     pages = subst (λ (h : Geometry). AllByRecursion (IsPage h.pages) store.pool.frames) (sym geometry) going.own.pages;
+    told = told_with store cache same going.own.told;
   };
 }
 
-pub fits_with : (store : PageStore) (cache : FlashCache) (old new : State) (fits : Fits store old) → cache.geometry ≡ store.flash.geometry → IsUnchanged old new → held.Fits cache new → held.Holds cache new.image fits.groups
-    → Fits (record store { flash = cache }) new
+pub fits_with : (store : PageStore) (cache : FlashCache) (old new : State) (fits : Matches store old) → cache.geometry ≡ store.flash.geometry → IsUnchanged old new → flash_cache.Matches cache new → flash_cache.Represents cache new.image fits.groups
+    → Matches (record store { flash = cache }) new
 fits_with store cache old new fits geometry same flash holds = record {
   flash = flash;
   groups = fits.groups;
@@ -95,5 +74,5 @@ fits_with store cache old new fits geometry same flash holds = record {
 }
 
 -- the store goes on after any call on the site
-pub pages_later : (store : PageStore) (old new : State) → Goes old new → MayGoOn store old → MayGoOn store new
+pub pages_later : (store : PageStore) (old new : State) → Preserves old new → Invariant store old → Invariant store new
 pages_later store old new goes going = record { flash = flash_later store.flash old new goes going.flash; own = going.own }

@@ -4,6 +4,7 @@ use Rattle.std.specs.List.{Contains}
 use Rattle.std.proofs.lemmas.Bool.{cases_order}
 use Rattle.std.proofs.lemmas.List.{same_lists, get_or_default, get_or-take, get_or-drop, length-take, length-drop}
 use Rattle.std.proofs.lemmas.List.Elements.{Contains-append_left, Contains-append_right}
+use Rattle.flash_cache.proofs.PushedVersions.{within_disk, octet_is, size_is, apart}
 use Rattle.site.specs.declared.geometry.Geometry.{Geometry}
 use Rattle.site.specs.declared.outside.Dev.TheVariants.{Disk}
 use Rattle.site.specs.State.{Image}
@@ -15,33 +16,10 @@ use Rattle.image_changes.specs.Changes.{Change, SealsBlock, RewritesPages, Appen
 use Rattle.image_changes.specs.Reached.{IsFrontOf}
 use Rattle.frame_group.specs.Groups.{Frame as Stored}
 use Rattle.tail_rebuild.specs.Saving.{changes_of_save}
-use Rattle.flash_cache.specs.Held.{disk_on}
+use Rattle.flash_cache.specs.Representation.{disk_on}
 use Rattle.flash_cache.specs.Pushed.{changes_of_push}
 
 -- A page of the disk beside which alone octets differ is as it was, whether it lies on the disk or not.
-
-within_disk : (page : ℕ) (disk : List ℕ) (k : ℕ) → k < length (page_on page disk) → (k < 4096) × (4096 * page + k < length disk)
-within_disk page disk k lt = let a = length-take 4096 (drop (4096 * page) disk) in let b = length-drop (4096 * page) disk in (omega (arith, lt, a), omega (arith, lt, a, b))
-
-octet_is : (page : ℕ) (disk : List ℕ) (k d : ℕ) → k < length (page_on page disk) → get_or (page_on page disk) k d ≡ get_or disk (4096 * page + k) 0
-octet_is page disk k d lt =
-    let w = within_disk page disk k lt in
-    get_or-take 4096 (drop (4096 * page) disk) k d w.0 ∙ get_or-drop (4096 * page) disk k d ∙ get_or_default disk (4096 * page + k) d 0 w.1
-
-size_is : (page : ℕ) (old new : List ℕ) → length new ≡ length old → length (page_on page new) ≡ length (page_on page old)
-size_is page old new size =
-    let a = length-take 4096 (drop (4096 * page) new) in let b = length-drop (4096 * page) new in
-    let c = length-take 4096 (drop (4096 * page) old) in let e = length-drop (4096 * page) old in
-    omega (arith, a, b, c, e, size)
-
-apart : (page other place : ℕ) → other ≢ page → 4096 * page ≤ place → place < 4096 * page + 4096 → IsBesidePage other place
-apart page other place ne from below = elim (cases_order page other) [
-  | inl same ↦ absurd (ne (sym same))
-  | inr rest ↦ elim rest [
-    | inl less ↦ inl (omega (arith, below, less))
-    | inr more ↦ inr (omega (arith, from, more))
-  ]
-]
 
 abbrev IsBesideAll : List ℕ → ℕ → Type 0
 IsBesideAll pages place = (page : ℕ) → Contains pages page → IsBesidePage page place

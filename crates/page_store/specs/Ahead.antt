@@ -6,9 +6,9 @@ use Rattle.site.specs.State.{Image, Snapshot}
 use Rattle.sealed_ring.specs.Ring.{hi_of}
 use Rattle.image_changes.specs.Rings.{log_shape}
 use Rattle.slotted_page.specs.Layout.{lsn_of}
-use Rattle.flash_cache.specs.Held.{version_on}
+use Rattle.flash_cache.specs.Representation.{version_on}
 use Rattle.log_store.specs.declared.store.LogStore.{LogStore}
-use Rattle.log_store.specs.Held.{has_tail}
+use Rattle.log_store.specs.Representation.{has_tail}
 use Rattle.buffer_pool.specs.declared.frame.Frame.{Frame}
 use Rattle.second_chance.specs.Machine.{lacks_room}
 use Rattle.page_store.specs.declared.store.PageStore.{PageStore}

@@ -13,7 +13,7 @@ use Rattle.site.specs.Work.{Calls}
 use Rattle.image_changes.specs.Changes.{Change, Reaches}
 use Rattle.image_changes.specs.Reached.{LeavesFront}
 use Rattle.slotted_page.specs.Layout.{IsSound}
-use Rattle.flash_cache.specs.Held.{IsWorn}
+use Rattle.flash_cache.specs.Representation.{IsWorn}
 use Rattle.flash_cache.specs.Pushed.{chance_marks, pushed_queue}
 use Rattle.flash_cache.specs.Kept.{AreCleanGiven}
 use Rattle.second_chance.specs.Queue.{has_frame, frame_of as known_of}
@@ -21,12 +21,12 @@ use Rattle.second_chance.specs.Machine.{chance_frame, wants_flush, push_changed,
 use Rattle.second_chance.specs.Laws.{changed_count}
 use Rattle.log_store.specs.declared.store.LogStore.{LogStore}
 use Rattle.log_store.specs.LogList.{LogList, sealed_if}
-use Rattle.log_store.specs.Held as log_held
-use Rattle.log_store.specs.Held.{has_tail, end_of, HasRoom}
+use Rattle.log_store.specs.Representation as log_store
+use Rattle.log_store.specs.Representation.{has_tail, end_of, HasRoom}
 use Rattle.checkpoint.specs.declared.master.Master.{Master}
 use Rattle.image_meaning.specs.Beside.{AreRingsSoundUnder}
 use Rattle.page_store.specs.declared.store.PageStore.{PageStore}
-use Rattle.page_store.specs.Held.{MayGoOn, Fits, current}
+use Rattle.page_store.specs.Representation.{Invariant, Matches, current}
 use Rattle.page_store.specs.Caching.{next_group, cache_of, rules}
 use Rattle.page_store.specs.Ahead.{IsLogged, AreSealed, LeavesSealed, AreLogged, IsAhead, end_forced, forces}
 use Rattle.page_store.specs.Leaves.{AreReady, LeavesPages, LeavesRings, AreGiven, Gives, AreChanged, KeepsCurrent}
@@ -36,8 +36,8 @@ use Rattle.page_store.specs.Stopping.{MayStop, IsLogAtEnd}
 -- A log and the pages beside it may go on together: they have one geometry, and there is room for the block of the
 -- log's tail.
 pub record MayWork (log : LogStore) (pages : PageStore) (site : State) : Type 0 where
-  pub pages_going : MayGoOn pages site
-  pub log_going : log_held.MayGoOn log site
+  pub pages_going : Invariant pages site
+  pub log_going : log_store.Invariant log site
   pub sizes : log.geometry ≡ pages.flash.geometry
   pub room : has_tail log ≡ true → HasRoom log
 
@@ -54,12 +54,12 @@ pub record Forces {T : Type 0} (result : Result T Stop) (old new : LogStore) (se
   pub geometry : new.geometry ≡ old.geometry
 
 -- A call on pages: both may go on, sizes stay, and the log is forced only where that is said.
-pub record Works {T : Type 0} (result : Result T Stop) (old new : LogStore) (pages pages' : PageStore)
+pub record KeepsInvariant {T : Type 0} (result : Result T Stop) (old new : LogStore) (pages pages' : PageStore)
     (before now : State) (sealing : Bool) : Type 0 where
   pub calls : Calls result before now
   pub forces : Forces result old new sealing
-  pub going : MayGoOn pages' now
-  pub log_going : log_held.MayGoOn new now
+  pub going : Invariant pages' now
+  pub log_going : log_store.Invariant new now
   pub geometry : pages'.flash.geometry ≡ pages.flash.geometry
   pub size : pages'.pool.size ≡ pages.pool.size
   pub log_reads : now.log_reads ≡ before.log_reads
@@ -68,7 +68,7 @@ pub record Works {T : Type 0} (result : Result T Stop) (old new : LogStore) (pag
 -- A call that reads no page in: what it reads is of the queue, and of pages that are logged it leaves such.
 pub record Pushes {T : Type 0} (result : Result T Stop) (old new : LogStore) (pages pages' : PageStore)
     (before now : State) (sealing : Bool) : Type 0 where
-  pub works : Works result old new pages pages' before now sealing
+  pub works : KeepsInvariant result old new pages pages' before now sealing
   pub logged : AreLogged (end_forced old) pages.pool.frames →
       OnOk result (AreLogged (end_forced new) pages'.pool.frames)
   pub ended : pages'.ended ≡ pages.ended
@@ -118,14 +118,14 @@ pub record Reads {T : Type 0} (result : Result T Stop) (pages pages' : PageStore
     : Type 0 where
   pub calls : Calls result before now
   pub same : IsTrue before.honest → IsUnchanged before now
-  pub fits : Fits pages before → OnOk result (Fits pages' now)
-  pub going : MayGoOn pages' now
+  pub fits : Matches pages before → OnOk result (Matches pages' now)
+  pub going : Invariant pages' now
   pub geometry : pages'.flash.geometry ≡ pages.flash.geometry
   pub ended : pages'.ended ≡ pages.ended
   pub flash_reads : now.flash_reads ≤ before.flash_reads + (if has_frame pages.flash.directory page then 1 else 0)
   pub disk_reads : now.disk_reads ≤ before.disk_reads + (if has_frame pages.flash.directory page then 0 else 1)
   pub log_reads : now.log_reads ≡ before.log_reads
-  pub foreign : IsErrOf result Foreign → Fits pages before → ⊥
+  pub foreign : IsErrOf result Foreign → Matches pages before → ⊥
 
 -- Of an honest site on which store and log are ready.
 

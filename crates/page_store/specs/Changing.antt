@@ -7,7 +7,7 @@ use Rattle.image_changes.specs.Changes.{Change}
 use Rattle.frame_group.specs.Groups.{Frame as Stored, group, frames_in}
 use Rattle.tail_rebuild.specs.Saving.{is_due, changes_of_save}
 use Rattle.flash_cache.specs.Pushed.{chance_given, changes_of_push, changes_of_group}
-use Rattle.flash_cache.specs.Held.{version_on}
+use Rattle.flash_cache.specs.Representation.{version_on}
 use Rattle.site.specs.State.{Image}
 use Rattle.buffer_pool.specs.declared.frame.Frame.{Frame}
 use Rattle.buffer_pool.specs.Frames.{frame_of}
@@ -18,9 +18,9 @@ use Rattle.second_chance.specs.Machine.{lacks_room}
 use Rattle.second_chance.specs.Laws.{changed_count}
 use Rattle.log_store.specs.declared.store.LogStore.{LogStore}
 use Rattle.log_store.specs.LogList.{LogList, sealed_if, changes_if}
-use Rattle.log_store.specs.Held.{has_tail}
+use Rattle.log_store.specs.Representation.{has_tail}
 use Rattle.page_store.specs.declared.store.PageStore.{PageStore}
-use Rattle.page_store.specs.Held.{content_by}
+use Rattle.page_store.specs.Representation.{content_by}
 use Rattle.page_store.specs.Caching.{pool_page, cache_of, rules, is_full}
 use Rattle.page_store.specs.Ahead.{is_unsealed, forces}
 use Rattle.page_store.specs.Pulling.{evicted_frames}

@@ -5,7 +5,7 @@ use Rattle.buffer_pool.specs.Frames.{frame_of, cleared}
 use Rattle.second_chance.specs.Queue.{Queue}
 use Rattle.second_chance.specs.Machine.{Rules}
 use Rattle.page_store.specs.declared.store.PageStore.{PageStore}
-use Rattle.page_store.specs.Held.{content_by}
+use Rattle.page_store.specs.Representation.{content_by}
 use Rattle.page_store.specs.Caching.{rules}
 use Rattle.page_store.specs.Pulling.{room_for_pages}
 

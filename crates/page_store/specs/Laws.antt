@@ -3,17 +3,17 @@ use Rattle.std.specs.Prelude.{◌≡◌, ℕ, ◌≤◌, Bool, true, false, List
 use Rattle.site.specs.declared.outside.Dev.TheVariants.{Log}
 use Rattle.site.specs.declared.geometry.Geometry.{Geometry}
 use Rattle.site.specs.State.{State, IsQuiet}
-use Rattle.site.specs.Calls.{Goes}
+use Rattle.site.specs.Calls.{Preserves}
 use Rattle.site.specs.Moments.{LeavesOnly, ChangesOnly}
 use Rattle.image_changes.specs.Reached.{LeavesFront}
-use Rattle.flash_cache.specs.Held.{version_on, IsCleanOn}
+use Rattle.flash_cache.specs.Representation.{version_on, IsCleanOn}
 use Rattle.second_chance.specs.Machine.{Rules, Cache, touched}
 use Rattle.log_store.specs.declared.store.LogStore.{LogStore}
 use Rattle.log_store.specs.LogList.{LogList, changes_if}
-use Rattle.log_store.specs.Held as log_held
-use Rattle.log_store.specs.Held.{HasBlocks, LeavesLog}
+use Rattle.log_store.specs.Representation as log_store
+use Rattle.log_store.specs.Representation.{HasBlocks, LeavesLog}
 use Rattle.page_store.specs.declared.store.PageStore.{PageStore}
-use Rattle.page_store.specs.Held.{MayGoOn, Fits, current}
+use Rattle.page_store.specs.Representation.{Invariant, Matches, current}
 use Rattle.page_store.specs.Caching.{with_change}
 use Rattle.page_store.specs.Ahead.{IsAhead, AreSealed, LeavesSealed, end_forced}
 use Rattle.page_store.specs.Leaves.{HasQueue, LeavesPages}
@@ -25,12 +25,12 @@ TouchThenChange = (r : Rules) (page : ℕ) (cache : Cache)
 
 -- a store may go on after any calls on its site
 abbrev pub GoesOnBeside : Type 0
-GoesOnBeside = (store : PageStore) (old new : State) → Goes old new → MayGoOn store old → MayGoOn store new
+GoesOnBeside = (store : PageStore) (old new : State) → Preserves old new → Invariant store old → Invariant store new
 
 -- a store fits after calls that change the log's device alone, and each page has the content that it had
 abbrev pub FitsBeside : Type 0
-FitsBeside = (store : PageStore) (old new : State) → ChangesOnly Log old new → Goes old new → Fits store old
-    → Fits store new
+FitsBeside = (store : PageStore) (old new : State) → ChangesOnly Log old new → Preserves old new → Matches store old
+    → Matches store new
 
 abbrev pub CurrentBeside : Type 0
 CurrentBeside = (store : PageStore) (old new : State) (page : ℕ) → ChangesOnly Log old new
@@ -41,7 +41,7 @@ abbrev pub AheadBeside : Type 0
 AheadBeside =
     (store : PageStore) (log log' : LogStore) (old new : State) → log.geometry ≡ store.flash.geometry
     → log'.geometry ≡ log.geometry →
-    log_held.Finds log old → log_held.Finds log' new → log.ring.hi ≤ log'.ring.hi → end_forced log ≤ end_forced log' →
+    log_store.Finds log old → log_store.Finds log' new → log.ring.hi ≤ log'.ring.hi → end_forced log ≤ end_forced log' →
     ChangesOnly Log old new → IsAhead log store old.image → IsAhead log' store new.image
 
 -- Calls on the log alone leave each page's version.

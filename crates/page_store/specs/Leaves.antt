@@ -5,24 +5,24 @@ use Rattle.site.specs.declared.geometry.Geometry.{Geometry}
 use Rattle.site.specs.State.{State, Image, Snapshot}
 use Rattle.image_changes.specs.Rings.{master_shape, KeepsUnits}
 use Rattle.frame_group.specs.Groups.{Frame as Stored}
-use Rattle.flash_cache.specs.Held.{HasGroups, AreSaved, version_on, IsCleanOn}
+use Rattle.flash_cache.specs.Representation.{HasGroups, AreSaved, version_on, IsCleanOn}
 use Rattle.buffer_pool.specs.declared.frame.Frame.{Frame}
 use Rattle.buffer_pool.specs.Frames.{frame_of, front_of}
 use Rattle.log_store.specs.declared.store.LogStore.{LogStore}
 use Rattle.log_store.specs.LogList.{LogList}
-use Rattle.log_store.specs.Held as log_held
-use Rattle.log_store.specs.Held.{LeavesLog}
+use Rattle.log_store.specs.Representation as log_store
+use Rattle.log_store.specs.Representation.{LeavesLog}
 use Rattle.checkpoint.specs.declared.master.Master.{Master}
 use Rattle.image_meaning.specs.Beside.{AreRingsSoundUnder}
 use Rattle.page_store.specs.declared.store.PageStore.{PageStore}
-use Rattle.page_store.specs.Held.{Fits, current}
+use Rattle.page_store.specs.Representation.{Matches, current}
 
 -- Of an honest site, whatever is loose: the store fits it, the log is the one that stands there, and it has these
 -- records.
 pub record AreReady (store : PageStore) (log : LogStore) (list : LogList) (site : State) : Type 0 where
-  pub pages : Fits store site
-  pub blocks : log_held.Finds log site
-  pub records : log_held.Holds log site.image list
+  pub pages : Matches store site
+  pub blocks : log_store.Finds log site
+  pub records : log_store.Represents log site.image list
 
 -- the queue on the flash of an image is of the form, and segments follow it
 pub record HasQueue (g : Geometry) (image : Image) : Type 0 where

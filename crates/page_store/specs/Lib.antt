@@ -1,4 +1,4 @@
-pub mod Held
+pub mod Representation
 pub mod Caching
 pub mod Pulling
 pub mod Changing
@@ -11,3 +11,4 @@ pub mod Taking
 pub mod Trying
 pub mod Laws
 pub mod Staging
+pub mod Telling

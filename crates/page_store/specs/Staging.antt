@@ -7,8 +7,8 @@ use Rattle.site.specs.declared.outside.Stop.{Stop}
 use Rattle.sealed_ring.specs.Ring.{hi_of}
 use Rattle.image_changes.specs.Rings.{group_shape}
 use Rattle.frame_group.specs.Groups.{Frame as Stored}
-use Rattle.flash_cache.specs.Held as held
-use Rattle.flash_cache.specs.Held.{disk_on}
+use Rattle.flash_cache.specs.Representation as flash_cache
+use Rattle.flash_cache.specs.Representation.{disk_on}
 use Rattle.second_chance.specs.Machine.{Rules, Cache, Staged, staged_in_eviction}
 use Rattle.page_store.specs.declared.store.PageStore.{PageStore}
 use Rattle.page_store.specs.Caching.{cache_of, rules, next_group}
@@ -27,9 +27,9 @@ pub record WritesOnly (g : Geometry) (staged : List Staged) (next : ℕ) (old no
 
 -- Of an honest site, whatever of it is loose: the queue in memory is the one on flash.
 pub record HasQueueOn (store : PageStore) (site : State) : Type 0 where
-  pub fits : held.Fits store.flash site
+  pub fits : flash_cache.Matches store.flash site
   pub groups : List (List Stored)
-  pub holds : held.Holds store.flash site.image groups
+  pub holds : flash_cache.Represents store.flash site.image groups
   pub next : next_group (cache_of store) ≡ hi_of (group_shape store.flash.geometry) site.image.flash
   pub room : 1 ≤ (rules store).groups
 

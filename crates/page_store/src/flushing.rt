@@ -8,6 +8,7 @@ ghost use Rattle.second_chance.specs.Machine.{wants_flush, push_changed};
 ghost use Rattle.buffer_pool.specs.Frames.{IsPool, frame_of};
 ghost use Rattle.log_store.specs.declared.store.LogStore.{LogStore};
 ghost use Rattle.log_store.specs.LogList.{LogList};
+ghost use Rattle.page_store.specs.Representation.{AreTold};
 ghost use Rattle.page_store.specs.Caching.{cache_of};
 ghost use Rattle.page_store.specs.Ahead.{forces};
 ghost use Rattle.page_store.specs.Leaves.{AreReady};
@@ -98,9 +99,13 @@ impl PageStore {
         requires pool { IsPool self.old.pool }
         ensures cleared { self.new ≡ record self.old {
           pool
-              = record self.old.pool { frames = cleared_all pages.now self.old.pool.frames };
+              = record self.old.pool {
+                frames = cleared_all pages.now self.old.pool.frames;
+                framed = self.new.pool.framed;
+              };
         } }
         ensures pool { IsPool self.new.pool }
+        ensures told { AreTold self.old → AreTold self.new }
     {
         frames_of_pages();
         for page in pages {

@@ -9,7 +9,7 @@ ghost use Rattle.site.specs.Moments.{LeavesOnly, ChangesOnly};
 ghost use Rattle.image_changes.specs.Changes.{Reaches};
 ghost use Rattle.image_changes.specs.Reached.{LeavesFront};
 ghost use Rattle.log_store.specs.LogList.{LogList, sealed_if, changes_if};
-ghost use Rattle.log_store.specs.Held.{MayGoOn, HasRoom, has_tail, Fits, Finds, Holds, LeavesLog};
+ghost use Rattle.log_store.specs.Representation.{Invariant, HasRoom, has_tail, Matches, Finds, Represents, LeavesLog};
 ghost use Rattle.page_store.specs.Ahead.{IsLogged, end_now, end_forced, is_unsealed, forces};
 ghost use Rattle.site.specs.Work.{Calls};
 ghost use Rattle.page_store.specs.Calls.{Forces};
@@ -47,27 +47,27 @@ fn wants_force(log: &LogStore, contents: &[Page]) -> bool
 
 /// Seals the log's tail where it has the last change of one of these pages.
 pub fn force_for<S: Site>(site: &mut S, log: &mut LogStore, contents: &[Page]) -> Result<(), Stop>
-    requires going { MayGoOn log.old (S.state site.old) }
+    requires going { Invariant log.old (S.state site.old) }
     requires room { has_tail log.old ≡ true → HasRoom log.old }
 
     // Of an honest site that the log fits.
     ensures holds { (list : LogList)
-        → Finds log.old (S.state site.old) → Holds log.old (S.state site.old).image list
-        → OnOk result (Holds log.new (S.state site.new).image (sealed_if (forces log.old contents.now) list)) }
+        → Finds log.old (S.state site.old) → Represents log.old (S.state site.old).image list
+        → OnOk result (Represents log.new (S.state site.new).image (sealed_if (forces log.old contents.now) list)) }
     ensures any_moment { (list : LogList)
-        → Fits log.old (S.state site.old) → Holds log.old (S.state site.old).image list
+        → Matches log.old (S.state site.old) → Represents log.old (S.state site.old).image list
         → LeavesOnly (S.state site.old) (S.state site.new)
         (LeavesLog log.old.geometry (forces log.old contents.now) list (S.state site.old).told) }
     ensures front { (list : LogList)
-        → Fits log.old (S.state site.old) → Holds log.old (S.state site.old).image list
+        → Matches log.old (S.state site.old) → Represents log.old (S.state site.old).image list
         → IsQuiet (S.state site.old) → LeavesFront log.old.geometry
         (changes_if (forces log.old contents.now) list) (S.state site.old) (S.state site.new) }
     ensures reaches { (list : LogList)
-        → Finds log.old (S.state site.old) → Holds log.old (S.state site.old).image list
+        → Finds log.old (S.state site.old) → Represents log.old (S.state site.old).image list
         → OnOk result (Reaches log.old.geometry (changes_if (forces log.old contents.now) list)
         (S.state site.old).image (S.state site.new).image) }
     ensures finds { Finds log.old (S.state site.old) → OnOk result (Finds log.new (S.state site.new)) }
-    ensures fits { Fits log.old (S.state site.old) → OnOk result (Fits log.new (S.state site.new)) }
+    ensures fits { Matches log.old (S.state site.old) → OnOk result (Matches log.new (S.state site.new)) }
     ensures changes { IsTrue (S.state site.old).honest
         → ChangesOnly Dev.Log (S.state site.old) (S.state site.new) }
     ensures quiet_err { IsTrue (S.state site.old).honest → IsQuiet (S.state site.old)
@@ -80,7 +80,7 @@ pub fn force_for<S: Site>(site: &mut S, log: &mut LogStore, contents: &[Page]) -
         → OnOk result (AllByRecursion (IsLogged (end_now log.new)) contents.now) }
     ensures ended { OnOk result (log.new.ring.ended ≡ log.old.ring.ended) }
     ensures err { OnErr result (log.new.ring.ended ≡ true) }
-    ensures going { MayGoOn log.new (S.state site.new) }
+    ensures going { Invariant log.new (S.state site.new) }
     ensures reads { SameReads (S.state site.old) (S.state site.new) }
 
     // When each answer comes.

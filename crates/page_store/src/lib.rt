@@ -10,6 +10,7 @@ mod pushing;
 mod reading;
 mod store;
 mod taking;
+mod telling;
 #[cfg(test)]
 mod tests;
 

@@ -77,7 +77,8 @@ pub fn must_be_pushed(flash: &FlashCache, page: u32, changed: bool) -> bool
 }
 
 impl PageStore {
-    /// Pushes a group with the pages given, once the log is sealed up to their last changes.
+    /// Pushes a group with the pages given, once the log is sealed up to their last changes. The pool is told which
+    /// pages have a frame then.
     pub(crate) fn push<S: Site>(
         &mut self,
         site: &mut S,
@@ -114,7 +115,7 @@ impl PageStore {
             (next_group (cache_of self.old) + 1) self.old self.new (S.state site.old) (S.state site.new) }
         ensures worn { StopsAtEnd result log.old self.old (forces log.old contents.now) true }
         ensures worn_at { IsErrOf result (Stop.Worn Dev.Flash) → self.new.flash.ring.hi ≡ 2 ^ 40 }
-        ensures pool { self.new.pool ≡ self.old.pool }
+        ensures pool { self.new.pool ≡ record self.old.pool { framed = self.new.pool.framed } }
         ensures directory { OnOk result (self.new.flash.directory
             ≡ pushed_queue self.old.flash (known_pushed self.old.flash pages.now changed.now)) }
         ensures reads { (S.state site.new).flash_reads ≤ (S.state site.old).flash_reads + 12 }
@@ -125,7 +126,14 @@ impl PageStore {
         fronts_add_up();
         rings_kept_under();
         match force_for(site, log, contents) {
-            Ok(()) => self.flash.push_group(site, plan, pages, changed, contents),
+            Ok(()) => {
+                let mut front = [NO_MARK; 8];
+                let count = leaving(&self.flash, &mut front);
+                let pushed = self.flash.push_group(site, plan, pages, changed, contents);
+                self.tell_marks(&front[..count]);
+                self.tell_pages(pages);
+                pushed
+            }
             Err(stop) => Err(stop),
         }
     }

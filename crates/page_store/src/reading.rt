@@ -6,18 +6,18 @@ ghost use Rattle.site.specs.declared.outside.Stop.{Stop};
 ghost use Rattle.site.specs.Calls.{IsUnchanged};
 ghost use Rattle.slotted_page.specs.Layout.{IsSound};
 ghost use Rattle.disk_pages.specs.Pages.{LiesOn, page_on};
-ghost use Rattle.flash_cache.specs.Held.{version_on};
+ghost use Rattle.flash_cache.specs.Representation.{version_on};
 ghost use Rattle.second_chance.specs.Queue.{has_frame, with_read};
 ghost use Rattle.second_chance.specs.Machine.{in_front};
 ghost use Rattle.buffer_pool.specs.Frames.{frame_of, front_of};
 ghost use Rattle.log_store.specs.LogList.{LogList};
-ghost use Rattle.page_store.specs.Held.{MayGoOn, Fits, current};
+ghost use Rattle.page_store.specs.Representation.{Invariant, Matches, current};
 ghost use Rattle.page_store.specs.Caching.{cache_of, is_full, is_pushed, with_way};
 ghost use Rattle.page_store.specs.Ahead.{forces, pushed_for_room};
 ghost use Rattle.page_store.specs.Leaves.{AreReady, KeepsCurrent, PutsIn};
 ghost use Rattle.page_store.specs.Changing.{room_changes};
 ghost use Rattle.site.specs.Work.{Calls};
-ghost use Rattle.page_store.specs.Calls.{MayWork, Works, StopsAtEnd, Reads, Keeps, Stands};
+ghost use Rattle.page_store.specs.Calls.{MayWork, KeepsInvariant, StopsAtEnd, Reads, Keeps, Stands};
 ghost use Rattle.std.specs.Prelude.{[]};
 ghost use Rattle.page_store.specs.Caching.{next_group, rules};
 ghost use Rattle.page_store.specs.Staging.{staged_by_eviction, Stages};
@@ -65,13 +65,13 @@ fn sound_page(content: Page) -> Result<Page, Stop>
 impl PageStore {
     /// Reads the version of a page: its last frame, which is referenced then, or its disk page where it has none.
     pub(crate) fn read_version<S: Site>(&mut self, site: &mut S, page: u32) -> Result<Page, Stop>
-        requires going { MayGoOn self.old (S.state site.old) }
+        requires going { Invariant self.old (S.state site.old) }
         requires exists { page < self.old.flash.geometry.pages }
 
         ensures reads { Reads result self.old self.new (S.state site.old) (S.state site.new) page }
         ensures stages { Stages result [] (next_group (cache_of self.old))
             self.old self.new (S.state site.old) (S.state site.new) }
-        ensures read { Fits self.old (S.state site.old) → IfOk result (λ content.
+        ensures read { Matches self.old (S.state site.old) → IfOk result (λ content.
             content ≡ version_on self.old.flash.geometry (S.state site.old).image page) }
         ensures sound { IfOk result (λ content. IsSound content) }
         ensures queue { OnOk result (self.new.flash.directory ≡ with_read page self.old.flash.directory) }
@@ -96,7 +96,7 @@ impl PageStore {
 
     /// Brings a page that isn't in the pool to its front. The pool isn't full.
     pub(crate) fn read_in<S: Site>(&mut self, site: &mut S, page: u32) -> Result<(), Stop>
-        requires going { MayGoOn self.old (S.state site.old) }
+        requires going { Invariant self.old (S.state site.old) }
         requires exists { page < self.old.flash.geometry.pages }
         requires absent { frame_of self.old.pool.frames page ≡ None }
         requires room { length self.old.pool.frames < self.old.pool.size }
@@ -104,9 +104,9 @@ impl PageStore {
         ensures reads { Reads result self.old self.new (S.state site.old) (S.state site.new) page }
         ensures stages { Stages result [] (next_group (cache_of self.old))
             self.old self.new (S.state site.old) (S.state site.new) }
-        ensures read { Fits self.old (S.state site.old) → OnOk result ((front_of self.new.pool.frames).content
+        ensures read { Matches self.old (S.state site.old) → OnOk result ((front_of self.new.pool.frames).content
             ≡ version_on self.old.flash.geometry (S.state site.old).image page) }
-        ensures current { Fits self.old (S.state site.old)
+        ensures current { Matches self.old (S.state site.old)
             → OnOk result (KeepsCurrent self.old (S.state site.old).image self.new (S.state site.new).image) }
         ensures machine { OnOk result (cache_of self.new ≡ in_front page false (cache_of self.old)) }
         ensures put { OnOk result (PutsIn page self.old.pool.frames self.new.pool.frames) }
@@ -115,7 +115,10 @@ impl PageStore {
             ⊎ ((stop ≡ Stop.Device Dev.Disk) ⊎ ((stop ≡ Stop.Memory) ⊎ (stop ≡ Stop.Foreign)))) }
     {
         match self.read_version(site, page) {
-            Ok(content) => self.pool.put(page, content),
+            Ok(content) => {
+                let framed = self.flash.holds(page);
+                self.pool.put(page, content, framed)
+            }
             Err(stop) => Err(stop),
         }
     }
@@ -140,7 +143,7 @@ impl PageStore {
             (forces log.old (pushed_for_room self.old)) (room_changes log.old list self.old (S.state site.old).image)) }
 
         // Of every site.
-        ensures works { Works result log.old log.new self.old self.new (S.state site.old) (S.state site.new)
+        ensures works { KeepsInvariant result log.old log.new self.old self.new (S.state site.old) (S.state site.new)
             (forces log.old (pushed_for_room self.old)) }
         ensures stages { Stages result
             (if is_full self.old then staged_by_eviction (rules self.old) (cache_of self.old) else [])

@@ -6,22 +6,22 @@ ghost use Rattle.site.specs.declared.outside.Dev.{Dev};
 ghost use Rattle.site.specs.declared.outside.Stop.{Stop};
 ghost use Rattle.site.specs.Geometry.{HasLimits, HasLengths};
 ghost use Rattle.site.specs.State.{State, Image, reads_of};
-ghost use Rattle.site.specs.Calls.{Goes, FaultRose, IsUnchanged};
+ghost use Rattle.site.specs.Calls.{Preserves, FaultRose, IsUnchanged};
 ghost use Rattle.site.specs.Faults.{WorkFaults};
-ghost use Rattle.slotted_page.specs.Layout.{lsn_of, slots_of, content_length, IsSound, Fits as FitsPage};
+ghost use Rattle.slotted_page.specs.Layout.{lsn_of, slots_of, content_length, IsSound, Matches as FitsPage};
 ghost use Rattle.frame_group.specs.Groups.{Frame as Stored};
-ghost use Rattle.flash_cache.specs.Held.{HasGroups, AreSaved, version_on, IsCleanOn, queue_of, start_reads};
+ghost use Rattle.flash_cache.specs.Representation.{HasGroups, AreSaved, version_on, IsCleanOn, queue_of, start_reads};
 ghost use Rattle.second_chance.specs.Machine.{touched, holds, finds, misses, wants_flush};
 ghost use Rattle.buffer_pool.specs.Frames.{front_of, ChangesFront};
 ghost use Rattle.log_store.specs.LogList.{LogList};
 ghost use Rattle.log_store.specs.declared.store.LogStore.{LogStore};
-ghost use Rattle.page_store.specs.Held.{IsStore, MayGoOn, Fits, current};
+ghost use Rattle.page_store.specs.Representation.{IsStore, Invariant, Matches, current};
 ghost use Rattle.page_store.specs.Caching.{cache_of, rules, with_change, pushes};
 ghost use Rattle.page_store.specs.Ahead.{IsAhead, end_forced, forces, pushed_by_touch};
 ghost use Rattle.page_store.specs.Leaves.{AreReady};
 ghost use Rattle.page_store.specs.Flushing.{flushed_contents};
 ghost use Rattle.page_store.specs.Changing.{touch_changes, flush_changes};
-ghost use Rattle.page_store.specs.Calls.{MayWork, Works, StopsAtEnd, Flushes, Keeps, Stands};
+ghost use Rattle.page_store.specs.Calls.{MayWork, KeepsInvariant, StopsAtEnd, Flushes, Keeps, Stands};
 ghost use Rattle.record_model.specs.Touches.{touch, flush};
 ghost use Rattle.second_chance.specs.Machine.{staged_by, flushed};
 ghost use Rattle.page_store.specs.Caching.{next_group};
@@ -59,7 +59,7 @@ impl PageStore {
         requires least { 1 ≤ pool }
         requires most { pool ≤ 4096 }
 
-        ensures going { IfOk result (λ store. MayGoOn store (S.state site.new)) }
+        ensures going { IfOk result (λ store. Invariant store (S.state site.new)) }
         ensures geometry { IfOk result (λ store. store.flash.geometry ≡ geometry.now) }
         ensures size { IfOk result (λ store. store.pool.size ≡ pool) }
         ensures empty { IfOk result (λ store. store.pool.frames ≡ []) }
@@ -75,10 +75,10 @@ impl PageStore {
             → IsCleanOn geometry.now (S.state site.old).image
             → ((page : ℕ) → page < geometry.now.pages
             → IsSound (version_on geometry.now (S.state site.old).image page))
-            → IfOk result (λ store. Fits store (S.state site.new)) }
+            → IfOk result (λ store. Matches store (S.state site.new)) }
         ensures same { IsTrue (S.state site.old).honest
             → IsUnchanged (S.state site.old) (S.state site.new) }
-        ensures goes { Goes (S.state site.old) (S.state site.new) }
+        ensures goes { Preserves (S.state site.old) (S.state site.new) }
         ensures faults { WorkFaults result (S.state site.old) (S.state site.new) }
         ensures reads { (S.state site.new).flash_reads
             ≤ (S.state site.old).flash_reads + start_reads geometry.now }
@@ -165,8 +165,8 @@ impl PageStore {
             → current self.new image page ≡ current self.old image page }
         ensures changed { (image : Image) → current self.new image (front_of self.old.pool.frames).page
             ≡ (front_of self.new.pool.frames).content }
-        ensures going { (site : State) → MayGoOn self.old site → MayGoOn self.new site }
-        ensures fit { (site : State) → Fits self.old site → Fits self.new site }
+        ensures going { (site : State) → Invariant self.old site → Invariant self.new site }
+        ensures fit { (site : State) → Matches self.old site → Matches self.new site }
         ensures ahead { (log : LogStore) (image : Image) → IsAhead log self.old image
             → lsn < end_forced log → IsAhead log self.new image }
         ensures size { self.new.pool.size ≡ self.old.pool.size }
@@ -200,7 +200,7 @@ impl PageStore {
             (touch_changes log.old list self.old (S.state site.old).image page)) }
 
         // Of every site.
-        ensures works { Works result log.old log.new self.old self.new (S.state site.old) (S.state site.new)
+        ensures works { KeepsInvariant result log.old log.new self.old self.new (S.state site.old) (S.state site.new)
             (forces log.old (pushed_by_touch self.old page)) }
         ensures stages { Stages result (staged_by (rules self.old) (touch page false) (cache_of self.old))
             (next_group (cache_of self.old) + (if pushes (rules self.old) page (cache_of self.old) then 1 else 0))
@@ -249,7 +249,7 @@ impl PageStore {
             (flush_changes log.old list self.old (S.state site.old).image)) }
 
         // Of every site.
-        ensures works { Works result log.old log.new self.old self.new (S.state site.old) (S.state site.new)
+        ensures works { KeepsInvariant result log.old log.new self.old self.new (S.state site.old) (S.state site.new)
             (forces log.old (flushed_contents self.old)) }
         ensures stages { Stages result (staged_by (rules self.old) flush (cache_of self.old))
             (next_group (flushed (rules self.old) (cache_of self.old)))

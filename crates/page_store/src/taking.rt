@@ -1,14 +1,13 @@
 // Pages are taken out of the pool, to be pushed together.
-ghost use Rattle.std.specs.Prelude.{◌≡◌, ◌<◌, ◌≤◌, ◌++◌, ◌∷◌, [], List, length, map, if◌then◌else◌, IfOk, OnOk, IfErr};
+ghost use Rattle.std.specs.Prelude.{◌≡◌, ◌<◌, ◌≤◌, ◌++◌, ◌∷◌, [], List, length, map, IfOk, OnOk, IfErr};
 ghost use Rattle.site.specs.declared.outside.Stop.{Stop};
 ghost use Rattle.buffer_pool.specs.declared.frame.Frame.{Frame};
 ghost use Rattle.flash_cache.specs.Pushed.{staged_marks, chance_marks};
-ghost use Rattle.second_chance.specs.Machine.{pool_mark, must_be_pushed};
-ghost use Rattle.page_store.specs.Held.{IsStore};
+ghost use Rattle.page_store.specs.Representation.{IsStore, AreTold};
 ghost use Rattle.page_store.specs.Pulling.{mark_for, without_all, LeavesOut, candidates, pulled};
 ghost use Rattle.page_store.specs.Taking.{Has};
 
-use crate::pushing::{NO_MARK, leaving, must_be_pushed};
+use crate::pushing::{NO_MARK, leaving};
 use crate::store::PageStore;
 use buffer_pool::frames_of_pages;
 use second_chance::{Places, Plan, PoolMark, plan_evict};
@@ -53,45 +52,30 @@ impl Taken {
 }
 
 impl PageStore {
-    // Adds what a plan knows of a page to others, where the page is changed or has no frame in the queue.
-    fn add_movable(&self, found: &mut Vec<PoolMark>, page: u32, changed: bool) -> Result<(), Stop>
-        ensures found { OnOk result (found.new.items ≡ found.old.items
-            ++ (if must_be_pushed self.now.flash.directory (record { page = page; changed = changed })
-            then pool_mark self.now.flash.directory (record { page = page; changed = changed }) ∷ [] else [])) }
-        ensures memory { IfErr result (λ stop. stop ≡ Stop.Memory) }
-    {
-        if must_be_pushed(&self.flash, page, changed) {
-            let framed = self.flash.holds(page);
-            found.push(PoolMark {
-                page,
-                changed,
-                framed,
-            })?;
-        }
-        Ok(())
-    }
-
     // The pages that may be pulled from the pool, the coldest in front: seven at most of those that are changed or have
     // no frame in the queue.
     fn candidates(&self) -> Result<Vec<PoolMark>, Stop>
+        requires { AreTold self.now }
         ensures marks { IfOk result (λ marks. marks.items
             ≡ map (mark_for self.now.flash.directory) (candidates self.now)) }
         ensures memory { IfErr result (λ stop. stop ≡ Stop.Memory) }
     {
-        let mut marks = self.pool.marks(self.alloc)?;
-        marks.reverse();
+        let coldest = self.pool.coldest_movable(self.alloc, MOST_PULLED)?;
         let mut found = Vec::new(self.alloc);
-        for (page, changed) in &marks {
-            if found.len() == MOST_PULLED {
-                return Ok(found);
-            }
-            self.add_movable(&mut found, *page, *changed)?;
+        for (page, changed) in &coldest {
+            let framed = self.flash.holds(*page);
+            found.push(PoolMark {
+                page: *page,
+                changed: *changed,
+                framed,
+            })?;
         }
         Ok(found)
     }
 
     // The plan of a push with a page that the pool has not any more.
     fn plan_for_evicted(&self) -> Result<Plan, Stop>
+        requires told { AreTold self.now }
         requires groups { 2 ≤ self.now.flash.geometry.groups }
         requires few { length self.now.flash.directory.groups < self.now.flash.geometry.groups }
         ensures chances { IfOk result (λ plan. plan.chances ≡ map (λ f. f.0) (chance_marks self.now.flash)) }
@@ -113,7 +97,9 @@ impl PageStore {
             → OnOk result (Has taken.new (frames ++ pulled self.old)) }
         ensures pool { OnOk result (self.new.pool ≡ record self.old.pool {
           frames = without_all (map (λ f. f.page) (pulled self.old)) self.old.pool.frames;
+          framed = self.new.pool.framed;
         }) }
+        ensures store { IsStore self.new }
         ensures part { LeavesOut self.old.pool.frames self.new.pool.frames }
         ensures kept { self.new ≡ record self.old { pool = self.new.pool } }
         ensures size { self.new.pool.size ≡ self.old.pool.size }
@@ -147,7 +133,9 @@ impl PageStore {
             (record { page = page; changed = changed; content = content } ∷ pulled self.old)) }
         ensures pool { OnOk result (self.new.pool ≡ record self.old.pool {
           frames = without_all (map (λ f. f.page) (pulled self.old)) self.old.pool.frames;
+          framed = self.new.pool.framed;
         }) }
+        ensures store { IsStore self.new }
         ensures part { LeavesOut self.old.pool.frames self.new.pool.frames }
         ensures kept { self.new ≡ record self.old { pool = self.new.pool } }
         ensures size { self.new.pool.size ≡ self.old.pool.size }

@@ -3,10 +3,10 @@ ghost use Rattle.std.specs.Prelude.{◌≡◌, ◌<◌, ◌≤◌, length, IfOk}
 ghost use Rattle.site.specs.State.{State};
 ghost use Rattle.site.specs.Geometry.{HasLengths};
 ghost use Rattle.site.specs.MemState.{state_of};
-ghost use Rattle.site.specs.Calls.{Goes};
+ghost use Rattle.site.specs.Calls.{Preserves};
 ghost use Rattle.log_records.specs.Spelling.{HasForm};
-ghost use Rattle.log_store.specs.Held as log_held;
-ghost use Rattle.page_store.specs.Held.{IsStore, MayGoOn};
+ghost use Rattle.log_store.specs.Representation as log_store;
+ghost use Rattle.page_store.specs.Representation.{IsStore, Invariant};
 ghost use Rattle.page_store.specs.Trying.{small, AreGoing};
 
 use crate::PageStore;
@@ -68,11 +68,11 @@ fn opened(alloc: Global, site: &mut MemSite, pool: u32) -> Result<(PageStore, Lo
 
 // Appends a record, once the blocks before the next one may be overwritten.
 fn append(log: &mut LogStore, site: &mut MemSite) -> Result<u64, Stop>
-    requires going { log_held.MayGoOn log.old (state_of site.old) }
+    requires going { log_store.Invariant log.old (state_of site.old) }
     requires sizes { log.old.geometry ≡ small }
-    ensures going { log_held.MayGoOn log.new (state_of site.new) }
+    ensures going { log_store.Invariant log.new (state_of site.new) }
     ensures sizes { log.new.geometry ≡ small }
-    ensures goes { Goes (state_of site.old) (state_of site.new) }
+    ensures goes { Preserves (state_of site.old) (state_of site.new) }
 {
     log.keep(log.sealed_end() / 512);
     log.append(site, &update())
@@ -82,7 +82,7 @@ fn append(log: &mut LogStore, site: &mut MemSite) -> Result<u64, Stop>
 fn change_front(pages: &mut PageStore, octet: u8, lsn: u64) -> bool
     requires store { IsStore pages.old }
     requires there { 0 < length pages.old.pool.frames }
-    ensures going { (site : State) → MayGoOn pages.old site → MayGoOn pages.new site }
+    ensures going { (site : State) → Invariant pages.old site → Invariant pages.new site }
     ensures sizes { pages.new.flash.geometry ≡ pages.old.flash.geometry }
 {
     if !pages.fits(5, Some(&[octet])) {
@@ -355,7 +355,7 @@ const LISTED: [(u64, u8, u32); 8] = [
 
 // The listing of a store over a site.
 fn listed(pages: &PageStore, _site: &MemSite) -> Result<Listing, Stop>
-    requires going { MayGoOn pages.now (state_of _site.now) }
+    requires going { Invariant pages.now (state_of _site.now) }
 {
     pages.listing()
 }

@@ -1,8 +1,9 @@
 -- Pages that lose their last frame with a push.
-use Rattle.std.proofs.Common.{◌≡◌, ◌⊎◌, ℕ, zero, suc, ◌==◌, ◌&&◌, ◌||◌, Bool, true, false, not, cond, List, [], ◌∷◌, ◌++◌, drop, slice_get, Option, Some, None, refl, sym, ap, ◌∙◌, inl, inr}
+use Rattle.std.proofs.Common.{◌≡◌, ℕ, zero, suc, ◌==◌, ◌&&◌, ◌||◌, Bool, true, false, not, cond, List, [], ◌∷◌, ◌++◌, drop, slice_get, Option, Some, None, refl, sym, ap, ◌∙◌, inl, inr}
 use Rattle.std.specs.Prelude.{option_map, if◌then◌else◌}
 use Rattle.std.specs.List.{cons_option, list_any}
-use Rattle.std.proofs.lemmas.Bool.{ne_eqb, eqb-true, eqb-false}
+use Rattle.std.proofs.lemmas.Bool.{ne_eqb, eqb-true, or_cases}
+use Rattle.std_lemmas.proofs.Bools.{eq_turned, and_true, or_without, or_assoc}
 use Rattle.byte_fields.specs.declared.frame_head.Mark.{Mark}
 use Rattle.second_chance.specs.declared.frame.Frame.{Frame}
 use Rattle.second_chance.specs.declared.plan.Plan.{Plan}
@@ -15,19 +16,6 @@ use Rattle.policy_sim.specs.Listing.{but, unless}
 -- whether a page is among those of some marks
 abbrev pub among : List Mark → ℕ → Bool
 among front n = list_any (λ mark. n == mark.page) front
-
-or_assoc : (a b c : Bool) → ((a || b) || c) ≡ (a || (b || c))
-or_assoc true b c = refl
-or_assoc false b c = refl
-
-turned : (a b : ℕ) → (a == b) ≡ (b == a)
-turned a b = by (a == b) (b == a) refl refl
-  where
-    by : (x y : Bool) → (a == b) ≡ x → (b == a) ≡ y → (a == b) ≡ (b == a)
-    by true true p q = p ∙ sym q
-    by true false p q = absurd (eqb-false _ _ q (sym (eqb-true _ _ p)))
-    by false true p q = absurd (eqb-false _ _ p (sym (eqb-true _ _ q)))
-    by false false p q = p ∙ sym q
 
 group_append : (xs ys : List Frame) (n : ℕ) → in_group (xs ++ ys) n ≡ (in_group xs n || in_group ys n)
 group_append [] ys n = refl
@@ -44,13 +32,9 @@ groups_append (h ∷ gs) g n = ap (λ b. in_group h n || b) (groups_append gs g 
 -- the marks of a group name its pages
 among_group : (group : List Frame) (later : List (List Frame)) (n : ℕ) → among (group_marks group later) n ≡ in_group group n
 among_group [] later n = refl
-among_group (f ∷ group) later n = (λ i. turned n f.page i || among_group group later n i)
+among_group (f ∷ group) later n = (λ i. eq_turned n f.page i || among_group group later n i)
 
 -- A page of the new group that is neither the evicted one nor pulled is one of the front group.
-
-either_true : (a b : Bool) → (a || b) ≡ true → (a ≡ true) ⊎ (b ≡ true)
-either_true true b is = inl refl
-either_true false b is = inr is
 
 mark_there : (front : List Mark) (place : ℕ) (mark : Mark) (n : ℕ) → slice_get front place ≡ Some mark → (mark.page == n) ≡ true → among front n ≡ true
 mark_there front place mark n at is = found front place at
@@ -61,7 +45,7 @@ mark_there front place mark n at is = found front place at
 
     found : (front : List Mark) (place : ℕ) → slice_get front place ≡ Some mark → among front n ≡ true
     found [] place at = absurd cc
-    found (m ∷ front) zero at = let same : m ≡ mark = cc in ap (λ (x : Mark). (n == x.page) || among front n) same ∙ ap (λ b. b || among front n) (turned n mark.page ∙ is)
+    found (m ∷ front) zero at = let same : m ≡ mark = cc in ap (λ (x : Mark). (n == x.page) || among front n) same ∙ ap (λ b. b || among front n) (eq_turned n mark.page ∙ is)
     found (m ∷ front) (suc place) at = ap (λ b. (n == m.page) || b) (found front place at) ∙ or_true (n == m.page)
 
 given_there : (front : List Mark) (places : List ℕ) (n : ℕ) → in_group (given_again front places) n ≡ true → among front n ≡ true
@@ -71,7 +55,7 @@ given_there front (place ∷ places) n is = by (slice_get front place) refl is (
     by : (o : Option Mark) → slice_get front place ≡ o → in_group (cons_option (option_map (λ (mark : Mark). frame_of mark.page mark.dirty) o) (given_again front places)) n ≡ true
         → (in_group (given_again front places) n ≡ true → among front n ≡ true) → among front n ≡ true
     by None at is rest = rest is
-    by (Some mark) at is rest = elim (either_true (mark.page == n) (in_group (given_again front places) n) is) [
+    by (Some mark) at is rest = elim (or_cases (mark.page == n) (in_group (given_again front places) n) is) [
       | inl here ↦ mark_there front place mark n at here
       | inr there ↦ rest there
     ]
@@ -83,7 +67,7 @@ pulled_there pool (page ∷ pages) n = ap (λ b. (page == n) || b) (pulled_there
 new_there : (front : List Mark) (plan : Plan) (own : PoolPage) (pool : List PoolPage) (n : ℕ) → (own.page == n) ≡ false → names plan.pulled n ≡ false
     → in_group (group_of front plan own pool) n ≡ true → among front n ≡ true
 new_there front plan own pool n not_own not_pulled is =
-    elim (either_true (in_group (given_again front plan.chances) n) (in_group (frame_of own.page own.changed ∷ pulled_frames pool plan.pulled) n)
+    elim (or_cases (in_group (given_again front plan.chances) n) (in_group (frame_of own.page own.changed ∷ pulled_frames pool plan.pulled) n)
     (sym (group_append (given_again front plan.chances) (frame_of own.page own.changed ∷ pulled_frames pool plan.pulled) n) ∙ is)) [
       | inl given ↦ given_there front plan.chances n given
       | inr other ↦
@@ -105,14 +89,6 @@ never : (c : Bool) → (c ≡ true → false ≡ true) → c ≡ false
 never true there = absurd (let bad : false ≡ true = there refl in cc)
 never false there = refl
 
-and_true : (b : Bool) → (b && true) ≡ b
-and_true true = refl
-and_true false = refl
-
-or_none : (b c : Bool) → c ≡ false → (b || c) ≡ b
-or_none true c is = refl
-or_none false c is = is
-
 pub pushed_frames : (full : Bool) (front : List Mark) (queue : Queue) (group : List Frame) (n : ℕ) → front ≡ (if full then front_marks queue.groups else [])
     → (in_group group n ≡ true → among front n ≡ true) → unless front (pushed full group queue) (has_frame queue) n ≡ has_frame (pushed full group queue) n
 pushed_frames true front queue group n is there = on queue.groups front is there
@@ -121,7 +97,7 @@ pushed_frames true front queue group n is there = on queue.groups front is there
         → (in_groups groups n && (not (among front n) || in_groups (drop 1 groups ++ group ∷ []) n)) ≡ in_groups (drop 1 groups ++ group ∷ []) n
     on [] front is there =
         let none : in_group group n ≡ false = never (in_group group n) (λ yes. sym (ap (λ (l : List Mark). among l n) is) ∙ there yes) in
-        sym (or_none (in_group group n) false refl ∙ none)
+        sym (or_without (in_group group n) false refl ∙ none)
     on (g ∷ later) front is there =
         let named : among front n ≡ in_group g n = ap (λ (l : List Mark). among l n) is ∙ among_group g later n in
         let all = groups_append later group n in
@@ -130,7 +106,7 @@ pushed_frames true front queue group n is there = on queue.groups front is there
 pushed_frames false front queue group n is there =
     let none : in_group group n ≡ false = never (in_group group n) (λ yes. sym (ap (λ (l : List Mark). among l n) is) ∙ there yes) in
     ap (λ (l : List Mark). has_frame queue n && (not (among l n) || has_frame (pushed false group queue) n)) is ∙ and_true (has_frame queue n)
-    ∙ sym (groups_append queue.groups group n ∙ or_none (in_groups queue.groups n) (in_group group n) none)
+    ∙ sym (groups_append queue.groups group n ∙ or_without (in_groups queue.groups n) (in_group group n) none)
 
 -- what stays in the pool isn't among the pages that leave it
 pub stays_in : (pages : List ℕ) (pool : List PoolPage) (n : ℕ) → holds (without (names pages) pool) n ≡ true → (names pages n ≡ false) × (holds pool n ≡ true)
@@ -144,7 +120,7 @@ stays_in pages (p ∷ pool) n held = by (names pages p.page) refl held (stays_in
     by : (b : Bool) → names pages p.page ≡ b → holds (cond (not b) (p ∷ without (names pages) pool) (without (names pages) pool)) n ≡ true
         → (holds (without (names pages) pool) n ≡ true → (names pages n ≡ false) × (holds pool n ≡ true)) → (names pages n ≡ false) × (holds (p ∷ pool) n ≡ true)
     by true is held rest = let r = rest held in (r.0, ap (λ b. (p.page == n) || b) r.1 ∙ or_true (p.page == n))
-    by false is held rest = elim (either_true (p.page == n) (holds (without (names pages) pool) n) held) [
+    by false is held rest = elim (or_cases (p.page == n) (holds (without (names pages) pool) n) held) [
       | inl here ↦ (ap (names pages) (sym (eqb-true p.page n here)) ∙ is, ap (λ b. b || holds pool n) here)
       | inr there ↦ let r = rest there in (r.0, ap (λ b. (p.page == n) || b) r.1 ∙ or_true (p.page == n))
     ]

@@ -1,5 +1,5 @@
 -- The pool by the entries of the cache that holds it.
-use Rattle.std.proofs.Common.{◌≡◌, ◌≢◌, ℕ, zero, suc, ◌+◌, ◌-◌, ◌≤◌, ◌==◌, ◌&&◌, ◌||◌, nat_eq, Bool, true, false, not, cond, List, [], ◌∷◌, ◌++◌, length, take, map, filter, reverse, slice_get, is_some, Option, Some, None, arith, refl, sym, ap, subst, ◌∙◌, add-one, take_all}
+use Rattle.std.proofs.Common.{◌≡◌, ◌≢◌, ℕ, zero, suc, ◌-◌, ◌≤◌, ◌==◌, ◌&&◌, ◌||◌, nat_eq, Bool, true, false, not, cond, List, [], ◌∷◌, ◌++◌, length, take, map, filter, reverse, slice_get, is_some, Option, Some, None, arith, refl, sym, ap, subst, ◌∙◌, take_all}
 use Rattle.std.specs.Prelude.{All, unwrap_or}
 use Rattle.std.specs.List.{AllByRecursion, IsDistinct}
 use Rattle.std.specs.Option.{option_map_or}
@@ -9,6 +9,7 @@ use Rattle.std.proofs.lemmas.Option.{none-some}
 use Rattle.std.proofs.lemmas.List.{map-append, reverse-append}
 use Rattle.std.proofs.lemmas.List.Elements.{filter-append}
 use Rattle.std.proofs.lemmas.List.Kept.{AllPairs-cons}
+use Rattle.std_lemmas.proofs.Bools.{eq_turned}
 use Rattle.lru.specs.LruCache.{LruCache, put_entries, last_entry}
 use Rattle.lru.proofs.CallerLemmas.{Contains-lookup_entry}
 use Rattle.second_chance.specs.declared.plan.PoolMark.{PoolMark}
@@ -22,21 +23,11 @@ use Rattle.policy_sim.specs.Listing.{kept_of, none_kept}
 abbrev pub Entries : Type 0
 Entries = List (ℕ × Kept)
 
--- The two sides of a test in either order.
-turned : (a b : ℕ) → (a == b) ≡ (b == a)
-turned a b = by (a == b) (b == a) refl refl
-  where
-    by : (x y : Bool) → (a == b) ≡ x → (b == a) ≡ y → (a == b) ≡ (b == a)
-    by true true p q = p ∙ sym q
-    by true false p q = absurd (eqb-false _ _ q (sym (eqb-true _ _ p)))
-    by false true p q = absurd (eqb-false _ _ p (sym (eqb-true _ _ q)))
-    by false false p q = p ∙ sym q
-
 -- Whether a page is there, and is changed.
 
 pub held : (page : ℕ) (es : Entries) → is_some (lookup (nat_eq page) es) ≡ holds (pages_in es) page
 held page [] = refl
-held page (e ∷ es) = by (page == e.0) (held page es) ∙ ap (λ b. b || holds (pages_in es) page) (turned page e.0)
+held page (e ∷ es) = by (page == e.0) (held page es) ∙ ap (λ b. b || holds (pages_in es) page) (eq_turned page e.0)
   where
     by : (b : Bool) → is_some (lookup (nat_eq page) es) ≡ holds (pages_in es) page
         → is_some (cond b (Some e.1) (lookup (nat_eq page) es)) ≡ (b || holds (pages_in es) page)
@@ -45,13 +36,13 @@ held page (e ∷ es) = by (page == e.0) (held page es) ∙ ap (λ b. b || holds 
 
 none_changed : (page : ℕ) (es : Entries) → AllByRecursion (λ y. nat_eq page y ≡ false) (keys_of es) → is_changed (pages_in es) page ≡ false
 none_changed page [] all = refl
-none_changed page (e ∷ es) all = ap (λ b. (b && e.1.changed) || is_changed (pages_in es) page) (sym (turned page e.0) ∙ all.0) ∙ none_changed page es all.1
+none_changed page (e ∷ es) all = ap (λ b. (b && e.1.changed) || is_changed (pages_in es) page) (sym (eq_turned page e.0) ∙ all.0) ∙ none_changed page es all.1
 
 pub marked : (page : ℕ) (es : Entries) → IsDistinct nat_eq (keys_of es) → (kept_of page es).changed ≡ is_changed (pages_in es) page
 unfolding IsDistinct
 marked page [] distinct = refl
 marked page (e ∷ es) distinct = by (page == e.0) refl (marked page es distinct.1)
-    ∙ ap (λ b. (b && e.1.changed) || is_changed (pages_in es) page) (turned page e.0)
+    ∙ ap (λ b. (b && e.1.changed) || is_changed (pages_in es) page) (eq_turned page e.0)
   where
     by : (b : Bool) → (page == e.0) ≡ b → (kept_of page es).changed ≡ is_changed (pages_in es) page
         → (unwrap_or (cond b (Some e.1) (lookup (nat_eq page) es)) none_kept).changed ≡ ((b && e.1.changed) || is_changed (pages_in es) page)
@@ -163,14 +154,6 @@ none_last (f ∷ g ∷ es) is =
 
 -- Pages taken out one by one.
 
-pub take_next : {X : Type 0} (xs : List X) (i : ℕ) (x : X) → slice_get xs i ≡ Some x → take (i + 1) xs ≡ take i xs ++ x ∷ []
-take_next {X = X} xs i x is = ap (λ n. take n xs) (add-one i) ∙ on xs i is
-  where
-    on : (xs : List X) (i : ℕ) → slice_get xs i ≡ Some x → take (suc i) xs ≡ take i xs ++ x ∷ []
-    on [] i is = absurd (none-some x is)
-    on (y ∷ xs) zero is = let same : y ≡ x = cc in ap (λ (y : X). y ∷ []) same
-    on (y ∷ xs) (suc i) is = ap (λ (l : List X). y ∷ l) (on xs i is)
-
 pub without_none : (pool : List PoolPage) → pool ≡ without (names []) pool
 without_none [] = refl
 without_none (p ∷ pool) = ap (λ (l : List PoolPage). p ∷ l) (without_none pool)
@@ -178,7 +161,7 @@ without_none (p ∷ pool) = ap (λ (l : List PoolPage). p ∷ l) (without_none p
 pub without_more : (pool : List PoolPage) (gone : List ℕ) (page : ℕ)
     → without (λ n. n == page) (without (names gone) pool) ≡ without (names (gone ++ page ∷ [])) pool
 without_more [] gone page = refl
-without_more (p ∷ pool) gone page = by (names gone p.page) (p.page == page) (names_more gone) (turned p.page page) (without_more pool gone page)
+without_more (p ∷ pool) gone page = by (names gone p.page) (p.page == page) (names_more gone) (eq_turned p.page page) (without_more pool gone page)
   where
     names_more : (gone : List ℕ) → names (gone ++ page ∷ []) p.page ≡ (names gone p.page || (page == p.page))
     names_more [] = or_false (page == p.page)

@@ -1,10 +1,9 @@
 -- A push, by the plan for it.
-use Rattle.std.proofs.Common.{◌≡◌, ℕ, zero, suc, ◌+◌, ◌-◌, ◌<◌, ◌≤◌, Bool, true, false, ◌&&◌, cond, List, [], ◌∷◌, ◌++◌, length, get_or, nat_lt, take, drop, map, filter, slice_get, Option, Some, None, arith, refl, sym, ap, ◌∙◌, length-append}
+use Rattle.std.proofs.Common.{◌≡◌, ℕ, zero, suc, ◌+◌, ◌-◌, ◌<◌, ◌≤◌, Bool, true, false, cond, List, [], ◌∷◌, ◌++◌, length, get_or, nat_lt, take, drop, map, filter, slice_get, Option, Some, None, arith, refl, sym, ap, ◌∙◌, length-append}
 use Rattle.std.specs.Prelude.{filter_map, option_map}
-use Rattle.std.specs.List.{enumerate_from}
 use Rattle.std.proofs.lemmas.Bool.{ltb-true, ltb-false}
 use Rattle.std.proofs.lemmas.Option.{slice_get_read}
-use Rattle.std.proofs.lemmas.List.{length-map, length-take, length-drop}
+use Rattle.std.proofs.lemmas.List.{length-map, length-take, length-drop, take-take}
 use Rattle.std.proofs.lemmas.List.Elements.{filter_map-append}
 use Rattle.byte_fields.specs.declared.frame_head.Mark.{Mark}
 use Rattle.second_chance.specs.declared.frame.Frame.{Frame}
@@ -15,6 +14,7 @@ use Rattle.second_chance.specs.Plans.{Placed, chances_of, staged_of, pulled_at_e
 use Rattle.second_chance.specs.Machine.{Rules, PoolPage, Cache, without, is_full, leaving, pool_marks, push_evicted, staged_in_push}
 use Rattle.second_chance.specs.Laws.{AreApart, EvictionIsPlanned, names, given_again, eviction_done, plan_for_eviction}
 use Rattle.policy_sim.specs.Pools.{is_movable, group_of}
+use Rattle.second_chance.proofs.Flushes.{few_chances}
 
 -- The first seven candidates are enough for a plan.
 
@@ -31,12 +31,6 @@ filter_taken (suc n) (x ∷ xs) = by (is_movable x) refl (filter_taken n xs) (fi
         ∙ ap (λ (l : List PoolMark). x ∷ l) fewer
     by false is fewer all = all
 
-take_taken : {X : Type 0} (n m : ℕ) (xs : List X) → n ≤ m → take n (take m xs) ≡ take n xs
-take_taken zero m xs less = refl
-take_taken (suc n) zero xs less = absurd (omega (arith, less))
-take_taken (suc n) (suc m) [] less = refl
-take_taken (suc n) (suc m) (x ∷ xs) less = ap (λ l. x ∷ l) (take_taken n m xs (omega (arith, less)))
-
 abbrev plan_with : Bool → List Mark → List PoolMark → Plan
 plan_with given front pulled = record {
   chances = map (λ f. f.0) (chances_of given front);
@@ -50,7 +44,7 @@ seven_are_enough false given front pool = refl
 seven_are_enough true given front pool =
     let room : ℕ = 8 - 1 - length (chances_of given front) in
     ap (λ (l : List PoolMark). plan_with given front (take room l)) (filter_taken 7 pool)
-    ∙ ap (plan_with given front) (take_taken room 7 (filter is_movable pool) (omega arith))
+    ∙ ap (plan_with given front) (take-take room 7 (filter is_movable pool) (omega arith))
 
 -- where nothing is pulled the pool doesn't matter
 pub none_are_enough : (pulls given : Bool) (front : List Mark) (some pool : List PoolMark) → pulls ≡ false
@@ -59,10 +53,6 @@ none_are_enough true given front some pool is = absurd cc
 none_are_enough false given front some pool is = refl
 
 -- What a plan takes fits a group, beside the evicted page.
-
-few_chances : (given : Bool) (front : List Mark) → length (chances_of given front) ≤ 7
-few_chances true front = omega (arith, length-take 7 (filter (λ (f : Placed). f.1.valid && f.1.referenced) (enumerate_from 0 front)))
-few_chances false front = omega arith
 
 few_pulled : (pulls given : Bool) (front : List Mark) (pool : List PoolMark) → length (pulled_at_eviction pulls given front pool) ≤ 7 - length (chances_of given front)
 few_pulled true given front pool = omega (arith, length-take (8 - 1 - length (chances_of given front)) (filter is_movable pool))

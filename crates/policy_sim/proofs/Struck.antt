@@ -8,6 +8,7 @@ use Rattle.std.specs.Cmp.{nat_cmp_is, unsigned_tied}
 use Rattle.std.specs.BTreeMap.{insert_entry, is_at}
 use Rattle.std.proofs.lemmas.Bool.{ne_eqb, eqb-true, eqb-false, eq-eqb}
 use Rattle.std.proofs.lemmas.List.{map-append}
+use Rattle.std_lemmas.proofs.Bools.{and_false, and_true, or_true}
 use Rattle.second_chance.specs.declared.plan.PoolMark.{PoolMark}
 use Rattle.second_chance.specs.Queue.{Queue, has_frame}
 use Rattle.second_chance.specs.Machine.{holds, pool_mark}
@@ -238,18 +239,6 @@ set_stamped bound k kept (e ∷ es) stamped is = by (nat_eq k e.0) is (set_stamp
     by false there later = (stamped.0, later there)
 
 -- Which pages are listed.
-
-or_true : (b : Bool) → (b || true) ≡ true
-or_true true = refl
-or_true false = refl
-
-and_true : (b : Bool) → (b && true) ≡ b
-and_true true = refl
-and_true false = refl
-
-and_false : (b : Bool) → (b && false) ≡ false
-and_false true = refl
-and_false false = refl
 
 module _ (k : ℕ) (framed : ℕ → Bool) where
   but_here : (changed : Bool) (n : ℕ) → nat_eq k n ≡ true → true ≡ (changed || not (but k framed n))

@@ -1,48 +1,22 @@
 -- A touch, step by step.
-use Rattle.std.proofs.Common.{◌≡◌, ℕ, suc, ◌+◌, ◌==◌, Bool, true, false, not, ◌&&◌, ◌||◌, nat_le, cond, List, [], ◌∷◌, ◌++◌, length, filter, reverse, refl, sym, ap, ◌∙◌, if◌then◌else◌}
+use Rattle.std.proofs.Common.{◌≡◌, ℕ, ◌+◌, ◌==◌, Bool, true, false, not, ◌&&◌, ◌||◌, nat_le, cond, List, [], ◌∷◌, ◌++◌, length, filter, reverse, refl, sym, ap, ◌∙◌, if◌then◌else◌}
 use Rattle.std.specs.List.{list_any}
 use Rattle.std.proofs.lemmas.Grind.{reverse_onto}
 use Rattle.std.proofs.lemmas.List.{reverse-append, reverse-reverse}
 use Rattle.std.proofs.lemmas.List.Folds.{list_any-append}
-use Rattle.second_chance.specs.declared.frame.Frame.{Frame}
+use Rattle.std.proofs.lemmas.Bool.{or_parts}
 use Rattle.record_model.specs.Touches.{touch}
-use Rattle.second_chance.specs.Queue.{Queue, in_group, in_groups, has_frame, is_last, group_read, groups_read, with_read}
+use Rattle.second_chance.specs.Queue.{Queue, has_frame, with_read}
 use Rattle.second_chance.specs.Machine.{Rules, PoolPage, Cache, holds, is_changed, without, in_front, push_evicted, evict_first, evict_coldest, after_eviction, staged_in_push, with_room, touched, must_be_pushed, staged_in_eviction, staged_by}
 use Rattle.policy_sim.specs.Machines.{one_where, eviction_pushes, pushes, made_by}
 use Rattle.policy_sim.specs.declared.counts.Counts.{Counts}
-
--- A page without a frame is read: nothing is marked.
-
-or_false : (b : Bool) → (b || false) ≡ b
-or_false true = refl
-or_false false = refl
-
-or_none : (a b : Bool) → (a || b) ≡ false → (a ≡ false) × (b ≡ false)
-or_none true b is = absurd cc
-or_none false b is = (refl, is)
-
-group_read_none : (page : ℕ) (group : List Frame) (later : List (List Frame)) → in_group group page ≡ false → group_read page group later ≡ group
-group_read_none page [] later none = refl
-group_read_none page (frame ∷ behind) later none =
-    let parts = or_none (frame.page == page) (in_group behind page) none in
-    ap (λ b. record frame { referenced = frame.referenced || (b && is_last behind later frame) } ∷ group_read page behind later) parts.0
-    ∙ ap (λ b. record frame { referenced = b } ∷ group_read page behind later) (or_false frame.referenced)
-    ∙ ap (λ l. frame ∷ l) (group_read_none page behind later parts.1)
-
-groups_read_none : (page : ℕ) (groups : List (List Frame)) → in_groups groups page ≡ false → groups_read page groups ≡ groups
-groups_read_none page [] none = refl
-groups_read_none page (group ∷ later) none =
-    let parts = or_none (in_group group page) (in_groups later page) none in
-    ap (λ g. g ∷ groups_read page later) (group_read_none page group later parts.0) ∙ ap (λ l. group ∷ l) (groups_read_none page later parts.1)
-
-pub read_none : (page : ℕ) (queue : Queue) → has_frame queue page ≡ false → with_read page queue ≡ queue
-read_none page queue none = ap (λ (groups : List (List Frame)). record queue { groups = groups }) (groups_read_none page queue.groups none)
+use Rattle.second_chance.proofs.Unread.{length-groups_read}
 
 -- A page that isn't in the pool isn't there after an eviction.
 
 any_filter : {X : Type 0} (test keep : X → Bool) (xs : List X) → list_any test xs ≡ false → list_any test (filter keep xs) ≡ false
 any_filter test keep [] none = refl
-any_filter test keep (x ∷ xs) none = let parts = or_none (test x) (list_any test xs) none in by (keep x) parts.0 (any_filter test keep xs parts.1)
+any_filter test keep (x ∷ xs) none = let parts = or_parts (test x) (list_any test xs) none in by (keep x) parts.0 (any_filter test keep xs parts.1)
   where
     by : (b : Bool) → test x ≡ false → list_any test (filter keep xs) ≡ false → list_any test (cond b (x ∷ filter keep xs) (filter keep xs)) ≡ false
     by true first rest = ap (λ b. b || list_any test (filter keep xs)) first ∙ rest
@@ -51,7 +25,7 @@ any_filter test keep (x ∷ xs) none = let parts = or_none (test x) (list_any te
 any_reverse : {X : Type 0} (test : X → Bool) (xs : List X) → list_any test xs ≡ false → list_any test (reverse xs) ≡ false
 any_reverse test [] none = refl
 any_reverse test (x ∷ xs) none =
-    let parts = or_none (test x) (list_any test xs) none in
+    let parts = or_parts (test x) (list_any test xs) none in
     ap (list_any test) (reverse_onto xs x []) ∙ list_any-append test (reverse xs) (x ∷ [])
     ∙ ap (λ b. b || (test x || false)) (any_reverse test xs parts.1) ∙ ap (λ b. b || false) parts.0
 
@@ -61,7 +35,7 @@ not_in_evicted rules page [] cache none colder_none = none
 not_in_evicted rules page (coldest ∷ warmer) cache none colder_none = by (must_be_pushed cache.queue coldest)
   where
     left : holds (reverse warmer) page ≡ false
-    left = any_reverse (λ p. p.page == page) warmer (or_none (coldest.page == page) (holds warmer page) colder_none).1
+    left = any_reverse (λ p. p.page == page) warmer (or_parts (coldest.page == page) (holds warmer page) colder_none).1
 
     by : (b : Bool) → holds (cond b (push_evicted rules coldest (record cache { pool = reverse warmer })) (record cache { pool = reverse warmer })).pool page ≡ false
     by true = any_filter (λ p. p.page == page) _ (reverse warmer) left
@@ -159,10 +133,6 @@ missed_counts rules page change cache new found pushed staged none is found_is p
       staged = staged;
       pushed = pushed;
     }
-
-length-groups_read : (page : ℕ) (groups : List (List Frame)) → length (groups_read page groups) ≡ length groups
-length-groups_read page [] = refl
-length-groups_read page (group ∷ later) = ap suc (length-groups_read page later)
 
 pub next_read : (page : ℕ) (queue : Queue) → (with_read page queue).first + length (with_read page queue).groups ≡ queue.first + length queue.groups
 next_read page queue = ap (λ n. queue.first + n) (length-groups_read page queue.groups)

@@ -1,22 +1,19 @@
 -- What follows for a whole run.
 use Rattle.std.proofs.Common.{◌≡◌, ℕ, zero, suc, ◌+◌, ◌<◌, Bool, true, false, cond, List, [], ◌∷◌, ◌++◌, length, map, take, Some, refl, ap, sym, ◌∙◌, subst, arith, add-one}
-use Rattle.std.specs.Prelude.{count_by, filter, slice_index_or, slice_get, ◌||◌}
+use Rattle.std.specs.Prelude.{count_by, filter, slice_index_or, slice_get}
 use Rattle.std.specs.List.{list_any}
 use Rattle.std.proofs.lemmas.List.Recursion.{is_count_by}
+use Rattle.std.proofs.lemmas.Bool.{or_parts}
 use Rattle.record_model.specs.declared.words.CacheLine.{CacheLine}
 use Rattle.record_model.specs.State.{Content, State}
 use Rattle.record_model.specs.Run.{Line, Turn, line_step, turn, turns, state_at, is_quit, is_committed, commit_marks, commits_among, committed_tables, next_listing, later_listings, left_by, listings_after}
 use Rattle.record_model.specs.Laws.{IsCountedIn, EachLineHasATurn, TurnsFollow, CommitsMakeTheTable}
 use Rattle.record_model.proofs.StepLaws.{commits_once}
 
-neither : (a b : Bool) → (a || b) ≡ false → (a ≡ false) × (b ≡ false)
-neither true b h = absurd cc
-neither false b h = (refl, h)
-
 pub each_line_has_a_turn : EachLineHasATurn
 each_line_has_a_turn checkpoints s [] listings h = refl
 each_line_has_a_turn checkpoints s (line ∷ lines) listings h =
-    let quits = neither (is_quit line) (list_any is_quit lines) h in
+    let quits = or_parts (is_quit line) (list_any is_quit lines) h in
     rw quits.0 (ap suc (each_line_has_a_turn checkpoints (turn checkpoints s line (next_listing listings)).after lines (later_listings line listings) quits.1))
 
 -- a run goes on where it stopped
@@ -25,7 +22,7 @@ pub turns-append : (checkpoints : Bool) (xs ys : List Line) (s : State) (listing
     ≡ turns checkpoints s xs listings ++ turns checkpoints (left_by s (turns checkpoints s xs listings)) ys (listings_after xs listings)
 turns-append checkpoints [] ys s listings h = refl
 turns-append checkpoints (x ∷ xs) ys s listings h =
-    let quits = neither (is_quit x) (list_any is_quit xs) h in
+    let quits = or_parts (is_quit x) (list_any is_quit xs) h in
     let first = turn checkpoints s x (next_listing listings) in
     rw quits.0 (ap (λ run. first ∷ run) (turns-append checkpoints xs ys first.after (later_listings x listings) quits.1))
 

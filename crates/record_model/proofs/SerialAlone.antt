@@ -3,6 +3,8 @@ use Rattle.std.proofs.Common.{◌≡◌, ℕ, ◌+◌, ◌*◌, ◌-◌, ◌<◌
 use Rattle.std.specs.Prelude.{◌==◌, not, ◌&&◌, ◌||◌, filter_map, nat_lt, nat_le, slice_set, map, option_map, unwrap_or, is_none, is_some, sum_by, if◌then◌else◌}
 use Rattle.std.specs.List.{range_with_len}
 use Rattle.std.proofs.lemmas.Bool.Decides.{nat_tests}
+use Rattle.std.proofs.lemmas.Bool.{cases_Bool, eqb-false}
+use Rattle.std_lemmas.proofs.AllOf.{each_member}
 use Rattle.record_model.specs.declared.words.Command.{Command}
 use Rattle.record_model.specs.declared.words.Command.TheVariants.{Begin, Read, Write, Erase, Scan, Commit, Set}
 use Rattle.record_model.specs.declared.words.Why.TheVariants.{BadSession}
@@ -12,7 +14,7 @@ use Rattle.record_model.specs.declared.words.Reply.TheVariants as reply
 use Rattle.record_model.specs.State.{Content, Session, State, opened, content_at, table_with, last_write, session_at, writes_of, reads_of, seen, is_other, busy_read, busy_write, active_sessions, used, owed, kept_by_checkpoint, is_due}
 use Rattle.record_model.specs.State as state
 use Rattle.record_model.specs.Step.{Outcome, step, outcome, refusal, refuse_if, wants_active, wants_record, wants_short, may_read, may_write, asks_for_checkpoint, wants_checkpoint, ready, lacks_room, effect, answer, found, item, having_read, having_written}
-use Rattle.record_model.proofs.SerialLists.{is_or_not, not_same, set_set, no_values, get_none, only_one, passes_none, each_member, map_of_each, filter_map_same}
+use Rattle.record_model.proofs.SerialLists.{set_set, no_values, get_none, only_one, passes_none, map_of_each, filter_map_same}
 use Rattle.record_model.proofs.SerialLocks.{place, wrote, touched, set_here, set_there, pass_all}
 
 -- what a session of these writes sees at a record of the table
@@ -68,9 +70,9 @@ module _ (table : List Content) (commits cap n : ℕ) (writes : List state.Write
   there m d = set_there (no_values Session 8) n (Some (lone writes reads)) m d ∙ get_none Session 8 m
 
   no_other : (test : Option Session → Bool) → test None ≡ false → (m : ℕ) → (is_other (Some n) m && test (place (alone table commits cap n writes reads).sessions m)) ≡ false
-  no_other test none m = elim (is_or_not (n == m)) [
+  no_other test none m = elim (cases_Bool (n == m)) [
     | inl e ↦ ap (λ (b : Bool). not b && test (place (alone table commits cap n writes reads).sessions m)) e
-    | inr e ↦ ap (λ (o : Option Session). is_other (Some n) m && test o) (there m (λ d. not_same n m e (sym d))) ∙ ap (λ (b : Bool). is_other (Some n) m && b) none ∙ and_false (is_other (Some n) m)
+    | inr e ↦ ap (λ (o : Option Session). is_other (Some n) m && test o) (there m (λ d. eqb-false n m e (sym d))) ∙ ap (λ (b : Bool). is_other (Some n) m && b) none ∙ and_false (is_other (Some n) m)
   ]
     where
       and_false : (b : Bool) → (b && false) ≡ false

@@ -1,9 +1,10 @@
 -- What a get outside sessions answers: one part of serial order.
-use Rattle.std.proofs.Common.{◌≡◌, ℕ, Bool, true, false, List, [], ◌∷◌, ◌++◌, length, Option, Some, None, refl, ap, sym, ◌∙◌, subst}
-use Rattle.std.specs.Prelude.{IsTrue, is_none, ◌&&◌}
+use Rattle.std.proofs.Common.{◌≡◌, ℕ, Bool, List, [], ◌∷◌, ◌++◌, length, ap, sym, ◌∙◌, subst}
+use Rattle.std.specs.Prelude.{IsTrue}
+use Rattle.std_lemmas.proofs.Options.{none_if_is_none}
+use Rattle.std.proofs.lemmas.Bool.{and_parts}
 use Rattle.record_model.specs.declared.words.Command.TheVariants.{Get}
 use Rattle.record_model.specs.declared.words.CacheLine.{CacheLine}
-use Rattle.record_model.specs.declared.words.Reply.{Reply}
 use Rattle.record_model.specs.State.{Content, State, opened, content_at}
 use Rattle.record_model.specs.Step.{step, outcome, refusal, found, is_accepted}
 use Rattle.record_model.specs.Run.{Line, Turn, turn, state_at, after_commits, commits_among, commit_marks}
@@ -16,17 +17,9 @@ pub turn_of_run : (checkpoints : Bool) (s : State) (earlier later : List Turn) (
 turn_of_run checkpoints s [] later t is = (is.0, is.1)
 turn_of_run checkpoints s (u ∷ earlier) later t is = turn_of_run checkpoints u.after earlier later t is.2
 
-both_true : (a b : Bool) → (a && b) ≡ true → a ≡ true
-both_true true b h = refl
-both_true false b h = absurd cc
-
-none_is : (r : Option Reply) → is_none r ≡ true → r ≡ None
-none_is None h = refl
-none_is (Some x) h = absurd cc
-
 get_answers : (checkpoints : Bool) (s : State) (number : ℕ) (listing : List CacheLine) → IsTrue (is_accepted checkpoints s (Get number)) →
     (step checkpoints s (Get number) listing).reply ≡ found (content_at s.table number)
-get_answers checkpoints s number listing h = ap (λ r. (outcome checkpoints s (Get number) listing r).reply) (none_is (refusal s (Get number)) (both_true _ _ h))
+get_answers checkpoints s number listing h = ap (λ r. (outcome checkpoints s (Get number) listing r).reply) (none_if_is_none (refusal s (Get number)) (and_parts _ _ h).0)
 
 pub gets_are_serial : GetsAreSerial
 gets_are_serial checkpoints table commits made cap lines listings earlier later t e number line accepted =

@@ -1,67 +1,21 @@
 -- Lists, as serial order needs them.
-use Rattle.std.proofs.Common.{◌≡◌, ℕ, zero, suc, ◌+◌, ◌<◌, ◌≤◌, Bool, true, false, cond, List, [], ◌∷◌, ◌++◌, length, Option, Some, None, inl, inr, refl, ap, ◌∙◌, subst, arith}
-use Rattle.std.specs.Prelude.{◌==◌, ◌&&◌, ◌||◌, ◌⊎◌, filter_map, find, slice_index_or, slice_set, replicate, map, nat_lt}
-use Rattle.std.specs.List.{list_any, range_with_len, AllByRecursion, cons_option}
+use Rattle.std.proofs.Common.{◌≡◌, ℕ, zero, suc, ◌+◌, ◌<◌, ◌≤◌, Bool, true, false, cond, List, [], ◌∷◌, length, Option, Some, None, inl, inr, refl, ap, ◌∙◌, subst, arith}
+use Rattle.std.specs.Prelude.{◌==◌, ◌||◌, filter_map, find, slice_index_or, slice_set, replicate, map}
+use Rattle.std.specs.List.{range_with_len, AllByRecursion, cons_option}
 use Rattle.std.proofs.lemmas.Bool.Decides.{nat_tests}
+use Rattle.std.proofs.lemmas.Bool.{cases_Bool, eqb-true, eqb-false, or_parts}
 
 -- Tests.
-
-pub is_or_not : (b : Bool) → (b ≡ true) ⊎ (b ≡ false)
-is_or_not true = inl refl
-is_or_not false = inr refl
 
 pub not_both : {A : Type 0} (b : Bool) → b ≡ true → b ≡ false → A
 not_both true h k = absurd cc
 not_both false h k = absurd cc
 
-pub is_same : (m n : ℕ) → (m == n) ≡ true → m ≡ n
-is_same m n h = grind (arith, nat_tests)
-
 pub same_is : (m : ℕ) → (m == m) ≡ true
 same_is m = grind (arith, nat_tests)
 
-pub not_same : (m n : ℕ) → (m == n) ≡ false → m ≡ n → ⊥
-not_same m n h e = not_both (m == n) (subst (λ k. (m == k) ≡ true) e (same_is m)) h
-
-pub differs : (m n : ℕ) → (m ≡ n → ⊥) → (m == n) ≡ false
-differs m n h = elim (is_or_not (m == n)) [ inl e ↦ absurd (h (is_same m n e)) | inr e ↦ e ]
-
-pub within_or : (a b : ℕ) → (a < b) ⊎ (b ≤ a)
-within_or a b = elim (is_or_not (nat_lt a b)) [ inl e ↦ inl (below e) | inr e ↦ inr (beyond e) ]
-  where
-    below : nat_lt a b ≡ true → a < b
-    below e = grind (arith, nat_tests)
-
-    beyond : nat_lt a b ≡ false → b ≤ a
-    beyond e = grind (arith, nat_tests)
-
 pub left_of : (a b : Bool) → (a || b) ≡ false → a ≡ false
-left_of true b h = absurd cc
-left_of false b h = refl
-
-pub right_of : (a b : Bool) → (a || b) ≡ false → b ≡ false
-right_of true b h = absurd cc
-right_of false b h = h
-
-pub one_of : (a b : Bool) → (a || b) ≡ true → (a ≡ true) ⊎ (b ≡ true)
-one_of true b h = inl refl
-one_of false b h = inr h
-
-pub or_left : (a b : Bool) → a ≡ true → (a || b) ≡ true
-or_left true b h = refl
-or_left false b h = absurd cc
-
-pub or_right : (a b : Bool) → b ≡ true → (a || b) ≡ true
-or_right true b h = refl
-or_right false b h = h
-
-pub both_left : (a b : Bool) → (a && b) ≡ true → a ≡ true
-both_left true b h = refl
-both_left false b h = absurd cc
-
-pub both_right : (a b : Bool) → (a && b) ≡ true → b ≡ true
-both_right true b h = h
-both_right false b h = absurd cc
+left_of a b h = (or_parts a b h).0
 
 -- Places.
 
@@ -115,7 +69,7 @@ pub none_passes : (test : ℕ → Bool) (a n : ℕ) → find test (range_with_le
 none_passes test a zero h k above below = absurd (omega arith)
 none_passes test a (suc n) h k above below =
     let both = first_fails test a _ (test a) refl h in
-    elim (is_or_not (a == k)) [ inl s ↦ subst (λ (j : ℕ). test j ≡ false) (is_same a k s) both.0 | inr s ↦ none_passes test (a + 1) n both.1 k (after (not_same a k s)) (omega arith) ]
+    elim (cases_Bool (a == k)) [ inl s ↦ subst (λ (j : ℕ). test j ≡ false) (eqb-true a k s) both.0 | inr s ↦ none_passes test (a + 1) n both.1 k (after (eqb-false a k s)) (omega arith) ]
   where
     after : (a ≡ k → ⊥) → a + 1 ≤ k
     after d = omega (arith, d)
@@ -123,14 +77,6 @@ none_passes test a (suc n) h k above below =
 pub passes_none : {A : Type 0} (test : A → Bool) (xs : List A) → ((x : A) → test x ≡ false) → find test xs ≡ None
 passes_none test [] h = refl
 passes_none test (x ∷ xs) h = rw (h x) (passes_none test xs h)
-
-pub at_member : (P : ℕ → Type 0) (xs : List ℕ) (r : ℕ) → AllByRecursion P xs → list_any (λ x. x == r) xs ≡ true → P r
-at_member P [] r all h = absurd cc
-at_member P (x ∷ xs) r all h = elim (one_of (x == r) _ h) [ inl e ↦ subst P (is_same x r e) all.0 | inr e ↦ at_member P xs r all.1 e ]
-
-pub each_member : (P : ℕ → Type 0) (xs : List ℕ) → ((r : ℕ) → list_any (λ x. x == r) xs ≡ true → P r) → AllByRecursion P xs
-each_member P [] h = tt
-each_member P (x ∷ xs) h = (h x (or_left _ _ (same_is x)), each_member P xs (λ r e. h r (or_right _ _ e)))
 
 pub each_of_map : {A B : Type 0} (f : A → B) (P : B → Type 0) (xs : List A) → AllByRecursion P (map f xs) → AllByRecursion (λ x. P (f x)) xs
 each_of_map f P [] h = tt
@@ -143,13 +89,3 @@ map_of_each f P (x ∷ xs) h = (h.0, map_of_each f P xs h.1)
 pub filter_map_same : {A B : Type 0} (f g : A → Option B) (xs : List A) → AllByRecursion (λ x. f x ≡ g x) xs → filter_map f xs ≡ filter_map g xs
 filter_map_same f g [] h = refl
 filter_map_same f g (x ∷ xs) h = ap (λ (o : Option _). cons_option o (filter_map f xs)) h.0 ∙ ap (λ (l : List _). cons_option (g x) l) (filter_map_same f g xs h.1)
-
--- a test of one more
-
-or_or : (a b c : Bool) → (a || (b || c)) ≡ ((a || b) || c)
-or_or true b c = refl
-or_or false b c = refl
-
-pub any_append : {A : Type 0} (test : A → Bool) (xs ys : List A) → list_any test (xs ++ ys) ≡ (list_any test xs || list_any test ys)
-any_append test [] ys = refl
-any_append test (x ∷ xs) ys = ap (λ (b : Bool). test x || b) (any_append test xs ys) ∙ or_or (test x) (list_any test xs) (list_any test ys)

@@ -2,6 +2,9 @@
 use Rattle.std.proofs.Common.{◌≡◌, ℕ, zero, suc, ◌+◌, ◌<◌, ◌≤◌, Bool, true, false, List, [], ◌∷◌, length, Option, Some, None, inl, inr, refl, ap, sym, ◌∙◌, subst, arith}
 use Rattle.std.specs.Prelude.{◌==◌, not, ◌&&◌, ◌||◌, ◌⊎◌, ◌-◌, find, slice_index_or, slice_set, map, option_map}
 use Rattle.std.specs.List.{list_any, range_with_len, AllByRecursion}
+use Rattle.std.proofs.lemmas.Bool.{or_left, or_right, cases_lt, or_cases, eqb-true, eqb-false, ne_eqb}
+use Rattle.std_lemmas.proofs.AllOf.{all_member}
+use Rattle.std.proofs.lemmas.List.Folds.{list_any-append}
 use Rattle.record_model.specs.declared.words.Command.{Command}
 use Rattle.record_model.specs.declared.words.Command.TheVariants.{Begin, Read, Write, Erase, Scan, Commit, Abort, Get, Set, Checkpoint, Cache, Stat, Quit}
 use Rattle.record_model.specs.declared.words.Reply.{Reply}
@@ -9,7 +12,7 @@ use Rattle.record_model.specs.declared.words.Reply.TheVariants as reply
 use Rattle.record_model.specs.State.{Content, Session, State, writes_of, reads_of, is_other, busy_read, busy_write}
 use Rattle.record_model.specs.State as state
 use Rattle.record_model.specs.Step.{refusal, first_refusal, wants_active, wants_record, wants_short, may_read, may_write, ready, effect, having_read, having_written}
-use Rattle.record_model.proofs.SerialLists.{within_or, not_both, is_same, not_same, differs, one_of, or_left, or_right, get_set_same, get_set_other, set_beyond, none_passes, at_member, each_of_map, any_append}
+use Rattle.record_model.proofs.SerialLists.{not_both, get_set_same, get_set_other, set_beyond, none_passes, each_of_map}
 
 abbrev pub place : List (Option Session) → ℕ → Option Session
 place sessions n = slice_index_or sessions n None
@@ -47,24 +50,24 @@ TouchesMore sessions k v = (r : ℕ) → touched v r ≡ true → (touched (plac
 apart_within : (sessions : List (Option Session)) (k : ℕ) (v : Option Session) → k < length sessions → Apart sessions → WritesMore sessions k v → TouchesMore sessions k v →
     (m n r : ℕ) → (m ≡ n → ⊥) → (b c : Bool) → (m == k) ≡ b → (n == k) ≡ c →
     wrote (place (slice_set sessions k v) m) r ≡ true → touched (place (slice_set sessions k v) n) r ≡ true → ⊥
-apart_within sessions k v below apart writes touches m n r d true true p q w t = d (is_same m k p ∙ sym (is_same n k q))
+apart_within sessions k v below apart writes touches m n r d true true p q w t = d (eqb-true m k p ∙ sym (eqb-true n k q))
 apart_within sessions k v below apart writes touches m n r d true false p q w t =
-    let other : n ≡ k → ⊥ = not_same n k q in
-    let mine : wrote v r ≡ true = subst (λ o. wrote o r ≡ true) (set_here sessions k v m (is_same m k p) below) w in
+    let other : n ≡ k → ⊥ = eqb-false n k q in
+    let mine : wrote v r ≡ true = subst (λ o. wrote o r ≡ true) (set_here sessions k v m (eqb-true m k p) below) w in
     let theirs : touched (place sessions n) r ≡ true = subst (λ o. touched o r ≡ true) (set_there sessions k v n other) t in
     elim (writes r mine) [ inl h ↦ apart k n r (λ e. other (sym e)) h theirs | inr h ↦ h n other theirs ]
 apart_within sessions k v below apart writes touches m n r d false true p q w t =
-    let other : m ≡ k → ⊥ = not_same m k p in
-    let mine : touched v r ≡ true = subst (λ o. touched o r ≡ true) (set_here sessions k v n (is_same n k q) below) t in
+    let other : m ≡ k → ⊥ = eqb-false m k p in
+    let mine : touched v r ≡ true = subst (λ o. touched o r ≡ true) (set_here sessions k v n (eqb-true n k q) below) t in
     let theirs : wrote (place sessions m) r ≡ true = subst (λ o. wrote o r ≡ true) (set_there sessions k v m other) w in
     elim (touches r mine) [ inl h ↦ apart m k r other theirs h | inr h ↦ h m other theirs ]
 apart_within sessions k v below apart writes touches m n r d false false p q w t =
     apart m n r d
-    (subst (λ o. wrote o r ≡ true) (set_there sessions k v m (not_same m k p)) w)
-    (subst (λ o. touched o r ≡ true) (set_there sessions k v n (not_same n k q)) t)
+    (subst (λ o. wrote o r ≡ true) (set_there sessions k v m (eqb-false m k p)) w)
+    (subst (λ o. touched o r ≡ true) (set_there sessions k v n (eqb-false n k q)) t)
 
 pub apart_set : (sessions : List (Option Session)) (k : ℕ) (v : Option Session) → Apart sessions → WritesMore sessions k v → TouchesMore sessions k v → Apart (slice_set sessions k v)
-apart_set sessions k v apart writes touches = elim (within_or k (length sessions)) [
+apart_set sessions k v apart writes touches = elim (cases_lt k (length sessions)) [
   | inl below ↦ λ m n r d w t. apart_within sessions k v below apart writes touches m n r d (m == k) (n == k) refl refl w t
   | inr beyond ↦ subst Apart (sym (set_beyond sessions k v beyond)) apart
 ]
@@ -78,18 +81,18 @@ reads_wrote numbers (Some session) r = refl
 pub reads_touched : (numbers : List ℕ) (o : Option Session) (r : ℕ) → touched (option_map (having_read numbers) o) r ≡ true →
     (touched o r ≡ true) ⊎ (list_any (λ read. read == r) numbers ≡ true)
 reads_touched numbers None r h = absurd cc
-reads_touched numbers (Some session) r h = elim (one_of (wrote (Some session) r) _ h) [
+reads_touched numbers (Some session) r h = elim (or_cases (wrote (Some session) r) _ h) [
   | inl w ↦ inl (or_left _ _ w)
-  | inr t ↦ elim (one_of _ _ (sym (any_append (λ read. read == r) session.reads numbers) ∙ t)) [ inl old ↦ inl (or_right (wrote (Some session) r) _ old) | inr new ↦ inr new ]
+  | inr t ↦ elim (or_cases _ _ (sym (list_any-append (λ read. read == r) session.reads numbers) ∙ t)) [ inl old ↦ inl (or_right (wrote (Some session) r) _ old) | inr new ↦ inr new ]
 ]
 
 one_number : (number r : ℕ) → ((number == r) || false) ≡ true → number ≡ r
-one_number number r h = elim (one_of (number == r) false h) [ inl e ↦ is_same number r e | inr e ↦ absurd cc ]
+one_number number r h = elim (or_cases (number == r) false h) [ inl e ↦ eqb-true number r e | inr e ↦ absurd cc ]
 
 pub writes_wrote : (write : state.Write) (o : Option Session) (r : ℕ) → wrote (option_map (having_written write) o) r ≡ true →
     (wrote o r ≡ true) ⊎ (write.0 ≡ r)
 writes_wrote write None r h = absurd cc
-writes_wrote write (Some session) r h = elim (one_of _ _ (sym (any_append (λ (w : state.Write). w.0 == r) session.writes (write ∷ [])) ∙ h)) [
+writes_wrote write (Some session) r h = elim (or_cases _ _ (sym (list_any-append (λ (w : state.Write). w.0 == r) session.writes (write ∷ [])) ∙ h)) [
   | inl old ↦ inl old
   | inr new ↦ inr (one_number write.0 r new)
 ]
@@ -97,7 +100,7 @@ writes_wrote write (Some session) r h = elim (one_of _ _ (sym (any_append (λ (w
 pub writes_touched : (write : state.Write) (o : Option Session) (r : ℕ) → touched (option_map (having_written write) o) r ≡ true →
     (touched o r ≡ true) ⊎ (write.0 ≡ r)
 writes_touched write None r h = absurd cc
-writes_touched write (Some session) r h = elim (one_of (wrote (option_map (having_written write) (Some session)) r) _ h) [
+writes_touched write (Some session) r h = elim (or_cases (wrote (option_map (having_written write) (Some session)) r) _ h) [
   | inl w ↦ elim (writes_wrote write (Some session) r w) [ inl old ↦ inl (or_left _ _ old) | inr new ↦ inr new ]
   | inr t ↦ inl (or_right (wrote (Some session) r) _ t)
 ]
@@ -120,7 +123,7 @@ no_holder (Some n) h = absurd cc
 
 nobody : (sessions : List (Option Session)) → length sessions ≡ 8 → (other : ℕ → Bool) (test : Option Session → Bool) → test None ≡ false →
     find (λ n. other n && test (place sessions n)) (range_with_len 0 8) ≡ None → (m : ℕ) → other m ≡ true → test (place sessions m) ≡ false
-nobody sessions long other test none h m o = elim (within_or m 8) [
+nobody sessions long other test none h m o = elim (cases_lt m 8) [
   | inl below ↦ rest (other m) o (none_passes (λ n. other n && test (place sessions n)) 0 8 h m (omega arith) (omega arith))
   | inr beyond ↦ ap test (get_beyond sessions m (omega arith)) ∙ none
 ]
@@ -130,7 +133,7 @@ nobody sessions long other test none h m o = elim (within_or m 8) [
     rest false e k = absurd cc
 
 is_another : (n m : ℕ) → (m ≡ n → ⊥) → is_other (Some n) m ≡ true
-is_another n m d = ap not (differs n m (λ e. d (sym e)))
+is_another n m d = ap not (ne_eqb n m (λ e. d (sym e)))
 
 pub unread : (s : State) (n r : ℕ) → length s.sessions ≡ 8 → may_read s (Some n) r ≡ None → (m : ℕ) → (m ≡ n → ⊥) → wrote (place s.sessions m) r ≡ true → ⊥
 unread s n r long h m d w = not_both _ w (nobody s.sessions long (is_other (Some n)) (λ o. wrote o r) refl (no_holder (busy_read s (Some n) r) h) m (is_another n m d))
@@ -180,7 +183,7 @@ locks_kept checkpoints s (Erase n number) long h apart =
     writing s n (number, None) long apart tests.1.1.0
 locks_kept checkpoints s (Scan n number count) long h apart =
     let tests = all_pass (wants_active s n ∷ wants_record s (number + count - 1) ∷ map (may_read s (Some n)) (range_with_len number count)) h in
-    reading s n (range_with_len number count) long apart (λ r e. at_member (λ q. may_read s (Some n) q ≡ None) (range_with_len number count) r (each_of_map (may_read s (Some n)) (λ a. a ≡ None) (range_with_len number count) tests.1.1) e)
+    reading s n (range_with_len number count) long apart (λ r e. all_member (λ q. may_read s (Some n) q ≡ None) (range_with_len number count) r (each_of_map (may_read s (Some n)) (λ a. a ≡ None) (range_with_len number count) tests.1.1) e)
 locks_kept checkpoints s (Commit n) long h apart = with_none s n None (λ r. refl) (λ r. refl) apart
 locks_kept checkpoints s (Abort n) long h apart = with_none s n None (λ r. refl) (λ r. refl) apart
 locks_kept checkpoints s (Get number) long h apart = apart

@@ -1,6 +1,6 @@
 -- Serial order, whatever the sessions' interleaving.
 use Rattle.std.proofs.Common.{◌≡◌, ℕ, suc, ◌+◌, ◌*◌, ◌-◌, ◌<◌, ◌≤◌, Bool, true, false, List, [], ◌∷◌, ◌++◌, length, length-append, length-set, Option, Some, None, inl, inr, refl, ap, sym, ◌∙◌, subst, arith, add-one}
-use Rattle.std.specs.Prelude.{◌==◌, not, ◌&&◌, ◌||◌, nat_le, slice_set, map, reverse, option_map, is_none, is_some, IsTrue, if◌then◌else◌}
+use Rattle.std.specs.Prelude.{◌==◌, ◌&&◌, ◌||◌, nat_le, slice_set, map, reverse, option_map, is_none, is_some, IsTrue, if◌then◌else◌}
 use Rattle.std.specs.List.{list_any, range_with_len}
 use mathlib.Core.List.{reverse_aux}
 use Rattle.record_model.specs.declared.words.Command.{Command}
@@ -16,10 +16,12 @@ use Rattle.record_model.specs.Serial.{lines_of, session_of, is_session, is_begin
 use Rattle.record_model.proofs.StepLaws.{length_table_with, found_is, IsNoCommit, refusals, refused_changes_nothing}
 use Rattle.record_model.proofs.RunLaws.{IsRun, turns_are_run, state_after, one_commit_more, commits_make_the_table}
 use Rattle.record_model.proofs.SerialGets.{turn_of_run, gets_are_serial}
-use Rattle.record_model.proofs.SerialLists.{within_or, is_or_not, not_both, is_same, same_is, not_same, left_of, both_left, both_right, get_set_other, get_none}
+use Rattle.record_model.proofs.SerialLists.{not_both, same_is, get_set_other, get_none}
 use Rattle.record_model.proofs.SerialLocks.{place, wrote, touched, Apart, set_here, set_there, get_beyond, all_pass, untouched, locks_kept}
 use Rattle.record_model.proofs.SerialWhole.{since_is}
 use Rattle.std.proofs.lemmas.List.{reverse-reverse}
+use Rattle.std.proofs.lemmas.Bool.{cases_lt, cases_Bool, or_parts, and_parts, not-true, eqb-true, eqb-false}
+use Rattle.std_lemmas.proofs.Options.{none_if_is_none}
 use Rattle.record_model.proofs.SerialAlone.{alone, unrefused, step_through, commit_alone, set_alone}
 use Rattle.record_model.proofs.SerialSteps.{Standing, reply_more, state_more, one_turn, read_more, scan_more, write_more, erase_more, begin_first}
 
@@ -38,14 +40,14 @@ placed : (s : State) (n : ℕ) (f : Session → Session) (session : Session) →
 placed s n f session active below = set_here s.sessions n _ n refl below ∙ ap (option_map f) active
 
 gone : (sessions : List (Option Session)) (n : ℕ) → place (slice_set sessions n None) n ≡ None
-gone sessions n = elim (within_or n (length sessions)) [
+gone sessions n = elim (cases_lt n (length sessions)) [
   | inl below ↦ set_here sessions n None n refl below
   | inr beyond ↦ let none : Option Session = None in get_beyond (slice_set sessions n none) n (omega (arith, beyond, length-set sessions n none))
 ]
 
 began : (checkpoints : Bool) (s : State) (n : ℕ) (t : Turn) → length s.sessions ≡ 8 → refusal s (Begin n) ≡ None → t.line ≡ Some (Begin n) → t.reply ≡ reply.Done → StepsOn checkpoints s (Begin n) t n
 began checkpoints s n t long h line answer own before =
-    let known = left_of (nat_le 8 n) _ (unrefused _ _ h) in
+    let known = (or_parts (nat_le 8 n) _ (unrefused _ _ h)).0 in
     let first = begin_first checkpoints n s.table t line answer known in
     subst (Standing checkpoints n (t ∷ []) s.table) (sym (set_here s.sessions n (Some (record { born = s.made; writes = []; reads = [] })) n refl (let k = first.known in omega (arith, k, long)))) first
 
@@ -135,7 +137,7 @@ StaysFor checkpoints s command k = (own : List Turn) → Standing checkpoints k 
 
 elsewhere : (checkpoints : Bool) (s : State) (n k : ℕ) (o : Option Session) (own : List Turn) → (n == k) ≡ false →
     Standing checkpoints k own s.table (place s.sessions k) → Standing checkpoints k own s.table (place (slice_set s.sessions n o) k)
-elsewhere checkpoints s n k o own d before = subst (Standing checkpoints k own s.table) (sym (set_there s.sessions n o k (λ e. not_same n k d (sym e)))) before
+elsewhere checkpoints s n k o own d before = subst (Standing checkpoints k own s.table) (sym (set_there s.sessions n o k (λ e. eqb-false n k d (sym e)))) before
 
 theirs : (checkpoints : Bool) (s : State) (command : Command) (k : ℕ) → length s.sessions ≡ 8 → Apart s.sessions → refusal s command ≡ None →
     is_session k (session_of command) ≡ false → StaysFor checkpoints s command k
@@ -146,9 +148,9 @@ theirs checkpoints s (Erase n number) k long apart h d own before = elsewhere ch
 theirs checkpoints s (Scan n number count) k long apart h d own before = elsewhere checkpoints s n k _ own d before
 theirs checkpoints s (Commit n) k long apart h d own before =
     let writes = writes_of (place s.sessions n) in
-    subst (Standing checkpoints k own (table_with s.table writes)) (sym (set_there s.sessions n None k (λ e. not_same n k d (sym e))))
+    subst (Standing checkpoints k own (table_with s.table writes)) (sym (set_there s.sessions n None k (λ e. eqb-false n k d (sym e))))
     (same_standing checkpoints k own s.table (table_with s.table writes) (place s.sessions k) (length_table_with s.table writes)
-    (λ r t. unwritten_stay s.table writes r (λ w. apart n k r (not_same n k d) w t)) before)
+    (λ r t. unwritten_stay s.table writes r (λ w. apart n k r (eqb-false n k d) w t)) before)
 theirs checkpoints s (Abort n) k long apart h d own before = elsewhere checkpoints s n k _ own d before
 theirs checkpoints s (Get number) k long apart h d own before = before
 theirs checkpoints s (Set number value) k long apart h d own before =
@@ -162,7 +164,7 @@ theirs checkpoints s Quit k long apart h d own before = before
 
 -- What holds at each moment of a run. Of the turns before it the last one comes first.
 
-record Holds (checkpoints : Bool) (s : State) (earlier : List Turn) : Type 0 where
+record Represents (checkpoints : Bool) (s : State) (earlier : List Turn) : Type 0 where
   long : length s.sessions ≡ 8
   apart : Apart s.sessions
   standing : (k : ℕ) → Standing checkpoints k (since_begin checkpoints k earlier) s.table (place s.sessions k)
@@ -173,14 +175,6 @@ grown checkpoints k s line t own = if is_accepted_of checkpoints k s line then (
 abbrev GoesOn : Bool → State → Line → Turn → State → Type 0
 GoesOn checkpoints s line t after = (length after.sessions ≡ 8) × Apart after.sessions
     × ((k : ℕ) (own : List Turn) → Standing checkpoints k own s.table (place s.sessions k) → Standing checkpoints k (grown checkpoints k s line t own) after.table (place after.sessions k))
-
-none_is : (r : Option Reply) → is_none r ≡ true → r ≡ None
-none_is None h = refl
-none_is (Some x) h = absurd cc
-
-negated : (b : Bool) → not b ≡ true → b ≡ false
-negated true h = absurd cc
-negated false h = refl
 
 refused_goes_on : (checkpoints : Bool) (s : State) (command : Command) (listing : List CacheLine) (t : Turn) → length s.sessions ≡ 8 → Apart s.sessions →
     is_accepted checkpoints s command ≡ false → GoesOn checkpoints s (Some command) t (step checkpoints s command listing).after
@@ -212,18 +206,18 @@ sessions_stay s Quit = refl
 
 of_session : (k : ℕ) (o : Option ℕ) → is_session k o ≡ true → o ≡ Some k
 of_session k None h = absurd cc
-of_session k (Some m) h = ap Some (is_same m k h)
+of_session k (Some m) h = ap Some (eqb-true m k h)
 
 accepted_goes_on : (checkpoints : Bool) (s : State) (command : Command) (listing : List CacheLine) (t : Turn) → length s.sessions ≡ 8 → Apart s.sessions →
     t.line ≡ Some command → t.reply ≡ (step checkpoints s command listing).reply →
     is_accepted checkpoints s command ≡ true → GoesOn checkpoints s (Some command) t (step checkpoints s command listing).after
 accepted_goes_on checkpoints s command listing t long apart line answers h =
-    let tests = none_is (refusal s command) (both_left _ _ h) in
-    let done = step_through checkpoints s command listing tests (negated _ (both_right _ _ h)) in
+    let tests = none_if_is_none (refusal s command) (and_parts _ _ h).0 in
+    let done = step_through checkpoints s command listing tests (not-true _ (and_parts _ _ h).1) in
     subst (GoesOn checkpoints s (Some command) t) (sym (ap (λ (o : Outcome). o.after) done)) (
       sessions_stay (ready checkpoints s command) command ∙ long,
       locks_kept checkpoints s command long tests apart,
-      λ k own before. elim (is_or_not (is_session k (session_of command))) [
+      λ k own before. elim (cases_Bool (is_session k (session_of command))) [
         | inl e ↦ subst (λ own. Standing checkpoints k own (effect (ready checkpoints s command) command).table (place (effect (ready checkpoints s command) command).sessions k))
             (sym (taken k own (is_session k (session_of command)) (is_accepted checkpoints s command) e h))
             (mine checkpoints s command listing t k long tests line (answers ∙ ap (λ (o : Outcome). o.reply) done) (of_session k (session_of command) e) own before)
@@ -245,7 +239,7 @@ accepted_goes_on checkpoints s command listing t long apart line answers h =
 goes_on : (checkpoints : Bool) (s : State) (line : Line) (listing : List CacheLine) (t : Turn) → length s.sessions ≡ 8 → Apart s.sessions →
     t.line ≡ line → t.reply ≡ (line_step checkpoints s line listing).reply → GoesOn checkpoints s line t (line_step checkpoints s line listing).after
 goes_on checkpoints s None listing t long apart line answers = (long, apart, λ k own before. before)
-goes_on checkpoints s (Some command) listing t long apart line answers = elim (is_or_not (is_accepted checkpoints s command)) [
+goes_on checkpoints s (Some command) listing t long apart line answers = elim (cases_Bool (is_accepted checkpoints s command)) [
   | inl h ↦ accepted_goes_on checkpoints s command listing t long apart line answers h
   | inr h ↦ refused_goes_on checkpoints s command listing t long apart h
 ]
@@ -254,8 +248,8 @@ abbrev IsTrail : Bool → State → List Turn → State → Type 0
 IsTrail checkpoints start [] s = s ≡ start
 IsTrail checkpoints start (t ∷ earlier) s = (listing : List CacheLine) × (t ≡ turn checkpoints t.before t.line listing) × (s ≡ t.after) × IsTrail checkpoints start earlier t.before
 
-holds_at : (checkpoints : Bool) (table : List Content) (commits made cap : ℕ) (earlier : List Turn) (s : State) → IsTrail checkpoints (opened table commits made cap) earlier s → Holds checkpoints s earlier
-holds_at checkpoints table commits made cap [] s is = subst (λ (s : State). Holds checkpoints s []) (sym is) (record {
+holds_at : (checkpoints : Bool) (table : List Content) (commits made cap : ℕ) (earlier : List Turn) (s : State) → IsTrail checkpoints (opened table commits made cap) earlier s → Represents checkpoints s earlier
+holds_at checkpoints table commits made cap [] s is = subst (λ (s : State). Represents checkpoints s []) (sym is) (record {
   long = refl;
   apart = λ m n r d w t. not_both _ w (ap (λ (o : Option Session). wrote o r) (get_none Session 8 m));
   standing = λ k. subst (Standing checkpoints k [] table) (sym (get_none Session 8 k)) tt;
@@ -264,7 +258,7 @@ holds_at checkpoints table commits made cap (t ∷ earlier) s is =
     let before = holds_at checkpoints table commits made cap earlier t.before is.3 in
     let after = subst (GoesOn checkpoints t.before t.line t) (sym (ap (λ (u : Turn). u.after) is.1))
     (goes_on checkpoints t.before t.line is.0 t before.long before.apart refl (ap (λ (u : Turn). u.reply) is.1)) in
-    subst (λ (s : State). Holds checkpoints s (t ∷ earlier)) (sym is.2) (record {
+    subst (λ (s : State). Represents checkpoints s (t ∷ earlier)) (sym is.2) (record {
       long = after.0;
       apart = after.1;
       standing = λ k. after.2 k (since_begin checkpoints k earlier) (before.standing k);
@@ -353,7 +347,7 @@ commit_taken checkpoints n t own p q = taken (n == n) (is_none (refusal t.before
 
 session_commit : (checkpoints : Bool) (n : ℕ) (listing : List CacheLine) (t : Turn) (earlier : List Turn) → t.line ≡ Some (Commit n) →
     t.reply ≡ (step checkpoints t.before (Commit n) listing).reply → t.after ≡ (step checkpoints t.before (Commit n) listing).after →
-    is_committed t.reply ≡ true → Holds checkpoints t.before earlier → AnswersAgain checkpoints t.before (Some (Commit n)) t earlier
+    is_committed t.reply ≡ true → Represents checkpoints t.before earlier → AnswersAgain checkpoints t.before (Some (Commit n)) t earlier
 unfolding AnswersAgain
 session_commit checkpoints n listing t earlier line answers leaves commits holds cap room =
     let s = t.before in
@@ -409,7 +403,7 @@ other_commit checkpoints command listing t earlier h answers commits = not_both 
 
 each_commit : (checkpoints : Bool) (line : Line) (listing : List CacheLine) (t : Turn) (earlier : List Turn) → t.line ≡ line →
     t.reply ≡ (line_step checkpoints t.before line listing).reply → t.after ≡ (line_step checkpoints t.before line listing).after →
-    is_committed t.reply ≡ true → Holds checkpoints t.before earlier → AnswersAgain checkpoints t.before line t earlier
+    is_committed t.reply ≡ true → Represents checkpoints t.before earlier → AnswersAgain checkpoints t.before line t earlier
 unfolding may_commit
 each_commit checkpoints None listing t earlier line answers leaves commits holds = not_both _ (ap is_committed (sym answers) ∙ commits) refl
 each_commit checkpoints (Some (Commit n)) listing t earlier line answers leaves commits holds = session_commit checkpoints n listing t earlier line answers leaves commits holds
@@ -430,7 +424,7 @@ table_after checkpoints table commits made cap lines listings earlier later t e 
 -- Which turns the transaction of a commit has.
 
 session_whole : (checkpoints : Bool) (n : ℕ) (listing : List CacheLine) (t : Turn) (earlier : List Turn) → t.line ≡ Some (Commit n) →
-    t.reply ≡ (step checkpoints t.before (Commit n) listing).reply → is_committed t.reply ≡ true → Holds checkpoints t.before earlier →
+    t.reply ≡ (step checkpoints t.before (Commit n) listing).reply → is_committed t.reply ≡ true → Represents checkpoints t.before earlier →
     IsOfSession checkpoints n (reverse earlier) t (since_begin checkpoints n (t ∷ earlier))
 session_whole checkpoints n listing t earlier line answers commits holds =
     let s = t.before in
@@ -451,7 +445,7 @@ session_whole checkpoints n listing t earlier line answers commits holds =
     }
 
 each_whole : (checkpoints : Bool) (line : Line) (listing : List CacheLine) (t : Turn) (earlier : List Turn) → t.line ≡ line →
-    t.reply ≡ (line_step checkpoints t.before line listing).reply → is_committed t.reply ≡ true → Holds checkpoints t.before earlier →
+    t.reply ≡ (line_step checkpoints t.before line listing).reply → is_committed t.reply ≡ true → Represents checkpoints t.before earlier →
     IsTransaction checkpoints (reverse earlier) t (committed_by checkpoints (line_session line) t earlier)
 unfolding may_commit
 each_whole checkpoints None listing t earlier line answers commits holds = not_both _ (ap is_committed (sym answers) ∙ commits) refl
@@ -461,7 +455,7 @@ each_whole checkpoints (Some command) listing t earlier line answers commits hol
 
 -- What an active session has been answered.
 
-answered_so_far : (checkpoints : Bool) (n : ℕ) (past : List Turn) (s : State) (cap : ℕ) → Holds checkpoints s past → IsTrue (is_some (place s.sessions n)) →
+answered_so_far : (checkpoints : Bool) (n : ℕ) (past : List Turn) (s : State) (cap : ℕ) → Represents checkpoints s past → IsTrue (is_some (place s.sessions n)) →
     4 * length (since_begin checkpoints n past) ≤ cap →
     replies (turns checkpoints (opened s.table s.commits 0 cap) (lines_of (since_begin checkpoints n past)) []) ≡ replies (since_begin checkpoints n past)
 answered_so_far checkpoints n past s cap holds active room =

@@ -3,6 +3,9 @@ use Rattle.std.proofs.Common.{◌≡◌, ℕ, ◌+◌, ◌*◌, ◌-◌, ◌<◌
 use Rattle.std.specs.Prelude.{◌==◌, ◌||◌, filter_map, nat_le, option_map, unwrap_or, if◌then◌else◌, drop}
 use Rattle.std.specs.List.{list_any, range_with_len}
 use Rattle.std.proofs.lemmas.Bool.Decides.{nat_tests}
+use Rattle.std.proofs.lemmas.Bool.{or_left, or_right, or_cases}
+use Rattle.std_lemmas.proofs.AllOf.{each_member}
+use Rattle.std.proofs.lemmas.List.Folds.{list_any-append}
 use Rattle.record_model.specs.declared.words.Command.{Command}
 use Rattle.record_model.specs.declared.words.Command.TheVariants.{Begin, Read, Write, Erase, Scan}
 use Rattle.record_model.specs.declared.words.Why.TheVariants.{NoRecord}
@@ -15,7 +18,7 @@ use Rattle.record_model.specs.Step.{Outcome, step, refuse_if, wants_record, want
 use Rattle.record_model.specs.Run.{Line, Turn, line_step, turn, turns, replies, left_by, listings_after, is_quit, is_cache}
 use Rattle.record_model.specs.Serial.{lines_of}
 use Rattle.record_model.proofs.RunLaws.{turns-append}
-use Rattle.record_model.proofs.SerialLists.{same_is, one_of, or_left, or_right, any_append, each_member, filter_map_same}
+use Rattle.record_model.proofs.SerialLists.{same_is, filter_map_same}
 use Rattle.record_model.proofs.SerialLocks.{place, wrote, touched}
 use Rattle.record_model.proofs.SerialWhole.{StartsWithBegin, starts_still}
 use Rattle.record_model.proofs.SerialAlone.{view, lone, alone, read_alone, scan_alone, write_alone, erase_alone, begin_alone}
@@ -113,7 +116,7 @@ one_more : (checkpoints : Bool) (n : ℕ) (own : List Turn) (table : List Conten
     Replays checkpoints n (own ++ t ∷ []) table writes' reads'
 one_more checkpoints n own table writes reads t command writes' reads' line goes replays more few answers = record {
   known = replays.known;
-  quits = ap (list_any is_quit) (lines_append own (t ∷ [])) ∙ any_append is_quit (lines_of own) (t.line ∷ []) ∙ ap (λ (b : Bool). b || (is_quit t.line || false)) replays.quits ∙ ap (λ (l : Line). is_quit l || false) line ∙ ap (λ (b : Bool). b || false) goes;
+  quits = ap (list_any is_quit) (lines_append own (t ∷ [])) ∙ list_any-append is_quit (lines_of own) (t.line ∷ []) ∙ ap (λ (b : Bool). b || (is_quit t.line || false)) replays.quits ∙ ap (λ (l : Line). is_quit l || false) line ∙ ap (λ (b : Bool). b || false) goes;
   begins = starts_still n own t replays.begins;
   long = let now = replays.long in omega (arith, now, length-append own (t ∷ []), few);
   again = λ other commits cap sizes agrees room.
@@ -128,17 +131,17 @@ one_more checkpoints n own table writes reads t command writes' reads' line goes
 -- A command of the session's own.
 
 touches_more : (writes : List state.Write) (reads numbers : List ℕ) (r : ℕ) → touched (Some (lone writes reads)) r ≡ true → touched (Some (lone writes (reads ++ numbers))) r ≡ true
-touches_more writes reads numbers r h = elim (one_of (wrote (Some (lone writes reads)) r) _ h) [
+touches_more writes reads numbers r h = elim (or_cases (wrote (Some (lone writes reads)) r) _ h) [
   | inl w ↦ or_left (wrote (Some (lone writes reads)) r) _ w
-  | inr q ↦ or_right (wrote (Some (lone writes reads)) r) _ (any_append (λ read. read == r) reads numbers ∙ or_left _ _ q)
+  | inr q ↦ or_right (wrote (Some (lone writes reads)) r) _ (list_any-append (λ read. read == r) reads numbers ∙ or_left _ _ q)
 ]
 
 touches_new : (writes : List state.Write) (reads numbers : List ℕ) (r : ℕ) → list_any (λ read. read == r) numbers ≡ true → touched (Some (lone writes (reads ++ numbers))) r ≡ true
-touches_new writes reads numbers r h = or_right (wrote (Some (lone writes reads)) r) _ (any_append (λ read. read == r) reads numbers ∙ or_right (list_any (λ read. read == r) reads) _ h)
+touches_new writes reads numbers r h = or_right (wrote (Some (lone writes reads)) r) _ (list_any-append (λ read. read == r) reads numbers ∙ or_right (list_any (λ read. read == r) reads) _ h)
 
 touches_write : (writes : List state.Write) (write : state.Write) (reads : List ℕ) (r : ℕ) → touched (Some (lone writes reads)) r ≡ true → touched (Some (lone (writes ++ write ∷ []) reads)) r ≡ true
-touches_write writes write reads r h = elim (one_of (wrote (Some (lone writes reads)) r) _ h) [
-  | inl w ↦ or_left _ _ (any_append (λ (x : state.Write). x.0 == r) writes (write ∷ []) ∙ or_left _ _ w)
+touches_write writes write reads r h = elim (or_cases (wrote (Some (lone writes reads)) r) _ h) [
+  | inl w ↦ or_left _ _ (list_any-append (λ (x : state.Write). x.0 == r) writes (write ∷ []) ∙ or_left _ _ w)
   | inr q ↦ or_right (wrote (Some (lone (writes ++ write ∷ []) reads)) r) _ q
 ]
 

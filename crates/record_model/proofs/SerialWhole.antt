@@ -4,12 +4,14 @@ use Rattle.std.specs.Prelude.{◌&&◌, ◌||◌, filter, reverse, IsTrue, if◌
 use Rattle.std.specs.List.{list_any}
 use Rattle.std.proofs.lemmas.List.{reverse-append}
 use Rattle.std.proofs.lemmas.List.Elements.{filter-append}
+use Rattle.std.proofs.lemmas.Bool.{cases_Bool, and_parts}
+use Rattle.std.proofs.lemmas.List.Folds.{list_any-append}
 use Rattle.record_model.specs.declared.words.Command.TheVariants.{Begin}
 use Rattle.record_model.specs.State.{State}
 use Rattle.record_model.specs.Step.{is_accepted}
 use Rattle.record_model.specs.Run.{Line, Turn}
 use Rattle.record_model.specs.Serial.{is_begin_line, is_accepted_of, since_begin}
-use Rattle.record_model.proofs.SerialLists.{is_or_not, not_both, both_right, any_append}
+use Rattle.record_model.proofs.SerialLists.{not_both}
 
 -- an accepted command of the session
 abbrev pub is_own : Bool → ℕ → Turn → Bool
@@ -52,7 +54,7 @@ later checkpoints n t past own own' no_begin e since = record {
   split = reversed t past ∙ ap (λ (l : List Turn). l ++ t ∷ []) since.split ∙ append_assoc since.before (since.first ∷ since.between) (t ∷ []);
   begins = since.begins;
   is_begun = since.is_begun;
-  once = any_append (begins_own checkpoints n) since.between (t ∷ [])
+  once = list_any-append (begins_own checkpoints n) since.between (t ∷ [])
       ∙ ap (λ (b : Bool). b || (begins_own checkpoints n t || false)) since.once
       ∙ ap (λ (b : Bool). b || false) no_begin;
   whole = e
@@ -61,7 +63,7 @@ later checkpoints n t past own own' no_begin e since = record {
 }
 
 of_begin : (checkpoints : Bool) (n : ℕ) (s : State) (line : Line) → line ≡ Some (Begin n) → is_accepted_of checkpoints n s line ≡ true → IsTrue (is_accepted checkpoints s (Begin n))
-of_begin checkpoints n s line e h = both_right _ _ (ap (λ (l : Line). is_accepted_of checkpoints n s l) (sym e) ∙ h)
+of_begin checkpoints n s line e h = (and_parts _ _ (ap (λ (l : Line). is_accepted_of checkpoints n s l) (sym e) ∙ h)).1
 
 one_kept : (b : Bool) (t : Turn) → b ≡ true → (if b then t ∷ [] else []) ≡ t ∷ []
 one_kept true t h = refl
@@ -103,13 +105,13 @@ passed_by n false begins t since h starts = (starts, refl)
 pub since_is : (checkpoints : Bool) (n : ℕ) (past : List Turn) → StartsWithBegin n (since_begin checkpoints n past) → IsSince checkpoints n past (since_begin checkpoints n past)
 unfolding more
 since_is checkpoints n [] starts = absurd starts
-since_is checkpoints n (t ∷ past) starts = elim (is_or_not (is_own checkpoints n t)) [
+since_is checkpoints n (t ∷ past) starts = elim (cases_Bool (is_own checkpoints n t)) [
   | inr h ↦
       let passed = passed_by n (is_own checkpoints n t) (is_begin_line t.line) t (since_begin checkpoints n past) h starts in
       later checkpoints n t past (since_begin checkpoints n past) _ (ap (λ (b : Bool). b && is_begin_line t.line) h)
       (passed.1 ∙ nothing_more (since_begin checkpoints n past) ∙ ap (λ (l : List Turn). since_begin checkpoints n past ++ l) (sym (none_kept _ t h)))
       (since_is checkpoints n past passed.0)
-  | inl h ↦ elim (is_or_not (is_begin_line t.line)) [
+  | inl h ↦ elim (cases_Bool (is_begin_line t.line)) [
     | inl k ↦
         let here = begun_here n (is_own checkpoints n t) (is_begin_line t.line) t (since_begin checkpoints n past) h k starts in
         record {

@@ -1,8 +1,10 @@
 -- What follows from the step of the model.
-use Rattle.std.proofs.Common.{◌≡◌, ℕ, ◌+◌, ◌-◌, Bool, true, false, cond, List, [], ◌∷◌, length, Option, Some, None, refl, ap, sym, ◌∙◌, arith, slice_set}
+use Rattle.std.proofs.Common.{◌≡◌, ℕ, ◌+◌, ◌-◌, Bool, true, false, cond, List, [], ◌∷◌, length, Option, Some, None, refl, ap, sym, ◌∙◌, arith, slice_set, ◌≤◌}
 use Rattle.std.specs.Prelude.{not, ◌&&◌, is_none, if◌then◌else◌, option_map, map}
 use Rattle.std.specs.List.{AllByRecursion, range_with_len}
 use Rattle.std.proofs.lemmas.Grind.{common_steps}
+use Rattle.std_lemmas.proofs.Bools.{and_false, and_true}
+use Rattle.std.proofs.lemmas.Bool.{not-false}
 use Rattle.record_model.specs.declared.words.Command.{Command}
 use Rattle.record_model.specs.declared.words.Command.TheVariants.{Begin, Read, Write, Erase, Scan, Commit, Abort, Get, Set, Checkpoint, Cache, Stat, Quit}
 use Rattle.record_model.specs.declared.words.CacheLine.{CacheLine}
@@ -150,18 +152,6 @@ commits_once checkpoints s (Some command) listing = counted_outcome checkpoints 
 
 -- Refusals.
 
-and_true : (b : Bool) → (b && true) ≡ b
-and_true true = refl
-and_true false = refl
-
-and_false : (b : Bool) → (b && false) ≡ false
-and_false true = refl
-and_false false = refl
-
-negated : (b : Bool) → not b ≡ false → b ≡ true
-negated true h = refl
-negated false h = absurd cc
-
 kept_where : State → Bool → State
 kept_where s b = record s { kept = if b then kept_by_checkpoint s else s.kept }
 
@@ -171,9 +161,25 @@ refused_leaves : (checkpoints : Bool) (s : State) (command : Command) (listing :
 unfolding kept_where
 refused_leaves checkpoints s command listing (Some refused) h = ap (kept_where s) (sym (and_false (wants_checkpoint checkpoints s command)))
 refused_leaves checkpoints s command listing None h =
-    let full : lacks_room (ready checkpoints s command) command ≡ true = negated _ h in
+    let full : lacks_room (ready checkpoints s command) command ≡ true = not-false _ h in
     rw full (ap (kept_where s) (sym (and_true (wants_checkpoint checkpoints s command))))
 
 pub refused_changes_nothing : RefusedChangesNothing
 unfolding kept_where
 refused_changes_nothing checkpoints s command listing h = refused_leaves checkpoints s command listing (refusal s command) h
+
+-- no command makes fewer records than there were
+pub effect_makes : (s : State) (command : Command) → s.made ≤ (effect s command).made
+effect_makes s (Begin n) = omega arith
+effect_makes s (Read n number) = omega arith
+effect_makes s (Write n number value) = omega arith
+effect_makes s (Erase n number) = omega arith
+effect_makes s (Scan n number count) = omega arith
+effect_makes s (Commit n) = omega arith
+effect_makes s (Abort n) = omega arith
+effect_makes s (Get number) = omega arith
+effect_makes s (Set number value) = omega arith
+effect_makes s Checkpoint = omega arith
+effect_makes s Cache = omega arith
+effect_makes s Stat = omega arith
+effect_makes s Quit = omega arith

@@ -7,7 +7,7 @@ use Rattle.std.proofs.lemmas.Bool.{lt-ltb}
 use Rattle.site.specs.declared.outside.Dev.TheVariants.{Log}
 use Rattle.site.specs.declared.geometry.Geometry.{Geometry}
 use Rattle.site.specs.State.{State, IsQuiet}
-use Rattle.site.specs.Calls.{Goes}
+use Rattle.site.specs.Calls.{Preserves}
 use Rattle.site.specs.Moments.{LeavesOnly, ChangesOnly}
 use Rattle.site.specs.Laws.{leaves_weaker}
 use Rattle.record_model.specs.State.{Content}
@@ -18,11 +18,11 @@ use Rattle.image_changes.specs.Changes.{Reaches}
 use Rattle.image_changes.specs.Reached.{IsReached, IsFrontOf, LeavesFront}
 use Rattle.log_store.specs.declared.store.LogStore.{LogStore}
 use Rattle.log_store.specs.LogList.{LogList, sealed_if, changes_if, with_record}
-use Rattle.log_store.specs.Held as log_held
-use Rattle.log_store.specs.Held.{HasBlocks, LeavesLog, has_tail, end_of}
+use Rattle.log_store.specs.Representation as log_store
+use Rattle.log_store.specs.Representation.{HasBlocks, LeavesLog, has_tail, end_of}
 use Rattle.buffer_pool.specs.declared.frame.Frame.{Frame}
 use Rattle.page_store.specs.declared.store.PageStore.{PageStore}
-use Rattle.page_store.specs.Held.{IsStore, current, content_by}
+use Rattle.page_store.specs.Representation.{IsStore, current, content_by}
 use Rattle.buffer_pool.specs.Frames.{frame_of}
 use Rattle.page_store.specs.Ahead.{IsLogged, AreSealed, LeavesSealed, IsAhead, sealed_end, end_forced}
 use Rattle.page_store.specs.Leaves.{AreReady, HasQueue, LeavesRings}
@@ -33,7 +33,7 @@ use Rattle.image_meaning.specs.Beside.{AreRingsSoundUnder, KeepsRingsAll}
 use Rattle.page_store.proofs.Rings.{all_front, sealing_keeps}
 use Rattle.redo_undo.specs.Running.{RunsOn}
 use Rattle.slotted_page.specs.Layout.{lsn_of}
-use Rattle.redo_undo.specs.Holding.{HoldsLog, Holds, MayGrow, KeepsPages, blocks_to}
+use Rattle.redo_undo.specs.Holding.{RepresentsLog, Represents, MayGrow, KeepsPages, blocks_to}
 use Rattle.redo_undo.specs.Committing.{EndsWith}
 use Rattle.redo_undo.specs.Laws.{LogLaws, PageLaws, BesideLaws}
 use Rattle.redo_undo.proofs.Runs.{one_more}
@@ -52,10 +52,10 @@ pub record IsNumbered (log log' : LogStore) (lsn : ℕ) (sealing : Bool) : Type 
 pub record IsAppended (g : Geometry) (log log' : LogStore) (list : LogList) (site new : State) (rec : LogRecord) (lsn : ℕ) (sealing : Bool) : Type 0 where
   pub numbers : IsNumbered log log' lsn sealing
   pub kept : log'.kept ≡ log.kept
-  pub holds : log_held.Holds log' new.image (with_record rec (sealed_if sealing list))
-  pub finds : log_held.Finds log' new
+  pub holds : log_store.Represents log' new.image (with_record rec (sealed_if sealing list))
+  pub finds : log_store.Finds log' new
   pub changes : ChangesOnly Log site new
-  pub goes : Goes site new
+  pub goes : Preserves site new
 
 few_blocks : (b : Bool) → tail_blocks b ≤ 1
 few_blocks true = omega arith
@@ -94,7 +94,7 @@ module _ (beside : BesideLaws) (pages : PageStore) (site new : State) (changes :
   current_same number = ap (content_by (frame_of pages.pool.frames number)) (beside.versions pages.flash.geometry site new number changes)
 
   -- the LSN of each version is sealed still, where the log grew
-  pub more_sealed : (log log' : LogStore) → log.geometry ≡ pages.flash.geometry → log'.geometry ≡ log.geometry → log_held.Finds log site → log_held.Finds log' new → log.ring.hi ≤ log'.ring.hi →
+  pub more_sealed : (log log' : LogStore) → log.geometry ≡ pages.flash.geometry → log'.geometry ≡ log.geometry → log_store.Finds log site → log_store.Finds log' new → log.ring.hi ≤ log'.ring.hi →
       AreSealed pages.flash.geometry site.image → AreSealed pages.flash.geometry new.image
   more_sealed log log' sizes same finds finds' more sealed =
       let g = pages.flash.geometry in
@@ -108,7 +108,7 @@ module _ (beside : BesideLaws) (pages : PageStore) (site new : State) (changes :
         };
       }
 
-module _ (logs : LogLaws) (laws : PageLaws) (beside : BesideLaws) (log : LogStore) (pages : PageStore) (site : State) (newest : Option Master) (records : List Entry) (table : List Content) (commits : ℕ) (h : Holds log pages site newest records table commits) (sizes : log.geometry ≡ pages.flash.geometry) where
+module _ (logs : LogLaws) (laws : PageLaws) (beside : BesideLaws) (log : LogStore) (pages : PageStore) (site : State) (newest : Option Master) (records : List Entry) (table : List Content) (commits : ℕ) (h : Represents log pages site newest records table commits) (sizes : log.geometry ≡ pages.flash.geometry) where
   abbrev g : Geometry
   g = pages.flash.geometry
 
@@ -148,7 +148,7 @@ module _ (logs : LogLaws) (laws : PageLaws) (beside : BesideLaws) (log : LogStor
         beside.rings newest g (changes_if sealing list) site.image new.image h.log_holds.rings (sealing_keeps g site.image sealing list)
         (subst (λ (k : Geometry). Reaches k (changes_if sealing list) site.image new.image) sizes reaches)
 
-    pub sealed_now : (log' : LogStore) → ChangesOnly Log site new → log'.geometry ≡ log.geometry → log_held.Finds log' new → log.ring.hi ≤ log'.ring.hi → AreSealed g new.image
+    pub sealed_now : (log' : LogStore) → ChangesOnly Log site new → log'.geometry ≡ log.geometry → log_store.Finds log' new → log.ring.hi ≤ log'.ring.hi → AreSealed g new.image
     sealed_now log' changes same finds more = more_sealed beside pages site new changes log log' sizes same h.log_holds.ready.blocks finds more h.log_holds.ahead.versions
 
   -- Behind it.
@@ -162,21 +162,19 @@ module _ (logs : LogLaws) (laws : PageLaws) (beside : BesideLaws) (log : LogStor
     record StandsBefore : Type 0 where
       pub blocks : List (List LogRecord)
       pub front : List LogRecord
-      pub holds : log_held.Holds log' new.image (record { first = kept_by newest; blocks = blocks; tail = front ++ rec ∷ [] })
+      pub holds : log_store.Represents log' new.image (record { first = kept_by newest; blocks = blocks; tail = front ++ rec ∷ [] })
       pub runs_on : RunsOn (picture_under newest g site.image blocks) front records table commits
       pub next : lsn ≡ next_lsn (picture_under newest g site.image blocks) front
 
     stands_before : (sealing : Bool) → (sealing ≡ true → has_tail log ≡ true) → IsAppended g log log' list site new rec lsn sealing → StandsBefore
     stands_before false full is =
         let hi = hi_is logs laws log pages site newest records table commits h in
-        let used = h.log_holds.ready.records.tail.end in
-        let number = is.numbers.lsn_is in
         record {
           blocks = h.log_holds.blocks;
           front = h.log_holds.tail;
           holds = is.holds;
           runs_on = h.log_holds.runs_on;
-          next = omega (arith, hi, used, number);
+          next = omega (arith, hi, h.log_holds.ready.records.tail.end, is.numbers.lsn_is);
         }
     stands_before true full is =
         let hi = hi_is logs laws log pages site newest records table commits h in
@@ -221,7 +219,7 @@ module _ (logs : LogLaws) (laws : PageLaws) (beside : BesideLaws) (log : LogStor
 
       -- where it may follow, log and pages hold together with it
       pub appended : MayGrow log pages site.image newest records (record { lsn = lsn; rec = rec }) →
-          HoldsLog g log' pages new newest (records ++ record { lsn = lsn; rec = rec } ∷ []) table commits
+          RepresentsLog g log' pages new newest (records ++ record { lsn = lsn; rec = rec } ∷ []) table commits
       appended may =
           record {
             kept = is.kept ∙ h.log_holds.kept;

@@ -5,19 +5,19 @@ use Rattle.site.specs.declared.outside.Dev.TheVariants.{Flash, Disk}
 use Rattle.site.specs.declared.outside.Stop.{Stop}
 use Rattle.site.specs.declared.outside.Stop.TheVariants.{Worn}
 use Rattle.site.specs.State.{State, IsQuiet}
-use Rattle.site.specs.Calls.{SameReads, IsUnchanged, Goes}
+use Rattle.site.specs.Calls.{SameReads, IsUnchanged, Preserves}
 use Rattle.site.specs.Laws.{stays_honest}
 use Rattle.std.specs.List.{Contains}
 use Rattle.log_store.specs.declared.store.LogStore.{LogStore}
 use Rattle.page_store.specs.Staging.{pages_staged, HasQueueOn, Stages}
 use Rattle.site.specs.Moments.{ChangesOnly}
 use Rattle.page_store.proofs.StagingLaws.{log_leaves, among_first, queue_same, stages_ok, stages_err, stages_as, stages_weaker, stages_then, stages_none, stages_still, stages_beside}
-use Rattle.redo_undo.specs.Calls.{WorksBeside}
+use Rattle.redo_undo.specs.Calls.{KeepsInvariantBeside}
 use Rattle.record_model.specs.Touches.{CacheWork}
 use Rattle.second_chance.specs.Machine.{Rules, Cache, Staged, touched, finds, misses, after_works, staged_by_works}
 use Rattle.page_store.specs.declared.store.PageStore.{PageStore}
 use Rattle.page_store.specs.Caching.{cache_of, rules, pushes}
-use Rattle.redo_undo.specs.Works.{next_group, one_touch, one_change, Overflows, ReadsFor, Asks, StagesFor}
+use Rattle.redo_undo.specs.MachineSteps.{next_group, one_touch, one_change, Overflows, ReadsFor, StepsMachine, StagesFor}
 use Rattle.redo_undo.proofs.Costs.{works_add_up, staged_add_up, reads_add_up, reads_for_more, overflows_with_more, touched_next, more_next}
 use Rattle.site.proofs.Working.{err_again, no_error, ok_as, ok_always}
 use Rattle.std.specs.Prelude.{IsTrue, OnOk}
@@ -64,10 +64,10 @@ pub change_stages : {T : Type 0} (result : Result T Stop) (page : ℕ) (old new 
 change_stages result page old new before now some stages = stages_as refl (sym (change_next (rules old) page (cache_of old) some)) stages
 
 -- calls on the log alone
-pub stages_log : {T : Type 0} {result : Result T Stop} {log log' : LogStore} {pages : PageStore} {before now : State} → WorksBeside result log log' before now → Stages result [] (next_group (cache_of pages)) pages pages before now
+pub stages_log : {T : Type 0} {result : Result T Stop} {log log' : LogStore} {pages : PageStore} {before now : State} → KeepsInvariantBeside result log log' before now → Stages result [] (next_group (cache_of pages)) pages pages before now
 stages_log works = stages_beside (omega arith) works.changes works.calls refl
 
-pub stages_alone : {A : Type 0} {result : Result A Stop} {pages : PageStore} {before now : State} → (IsTrue before.honest → ChangesOnly Log before now) → Goes before now → (IsTrue before.honest → IsQuiet before → OnOk result (IsQuiet now)) →
+pub stages_alone : {A : Type 0} {result : Result A Stop} {pages : PageStore} {before now : State} → (IsTrue before.honest → ChangesOnly Log before now) → Preserves before now → (IsTrue before.honest → IsQuiet before → OnOk result (IsQuiet now)) →
     Stages result [] (next_group (cache_of pages)) pages pages before now
 stages_alone {result = result} {pages = pages} {before = before} {now = now} changes goes quiet = record {
   holds = λ has. ok_always result (HasQueueOn pages now) (queue_same pages pages before now refl ((changes has.fits.honest).only.now.content Flash (λ h. cc)) (stays_honest before now goes has.fits.honest) has);
@@ -76,7 +76,7 @@ stages_alone {result = result} {pages = pages} {before = before} {now = now} cha
   sizes = refl;
 }
 
-pub stages_read : {A : Type 0} {result : Result A Stop} {pages : PageStore} {before now : State} → (IsTrue before.honest → IsUnchanged before now) → Goes before now → Stages result [] (next_group (cache_of pages)) pages pages before now
+pub stages_read : {A : Type 0} {result : Result A Stop} {pages : PageStore} {before now : State} → (IsTrue before.honest → IsUnchanged before now) → Preserves before now → Stages result [] (next_group (cache_of pages)) pages pages before now
 stages_read {A} {result = result} {pages = pages} {before = before} {now = now} same goes =
     stages_still (omega arith) same refl (λ has. ok_always result (HasQueueOn pages now) (queue_same pages pages before now refl (ap (λ i. i.flash) (same has.fits.honest).image) (stays_honest before now goes has.fits.honest) has))
 
@@ -86,7 +86,7 @@ no_reads r cache before now same = record { flash = omega (arith, same Flash); d
 
 -- a call that does no work and can't find flash worn
 pub asks_nothing : {T : Type 0} (result : Result T Stop) (pages : PageStore) (before now : State) → SameReads before now → (IsErrOf result (Worn Flash) → ⊥) →
-    Stages result [] (next_group (cache_of pages)) pages pages before now → Asks result [] pages pages before now
+    Stages result [] (next_group (cache_of pages)) pages pages before now → StepsMachine result [] pages pages before now
 asks_nothing result pages before now same never stages = record {
   machine = ok_always result _ refl;
   worn = λ is. absurd (never is);
@@ -97,7 +97,7 @@ asks_nothing result pages before now same never stages = record {
 
 -- a call after one that was Ok
 pub asks_then : {A B : Type 0} (a : A) (result : Result B Stop) (first later : List CacheWork) (old mid new : PageStore) (before between now : State) →
-    Asks {T = A} (Ok a) first old mid before between → Asks result later mid new between now → Asks result (first ++ later) old new before now
+    StepsMachine {T = A} (Ok a) first old mid before between → StepsMachine result later mid new between now → StepsMachine result (first ++ later) old new before now
 asks_then a result first later old mid new before between now one two =
     let start : cache_of mid ≡ after_works (rules old) first (cache_of old) = one.machine in
     let all : after_works (rules old) (first ++ later) (cache_of old) ≡ after_works (rules old) later (after_works (rules old) first (cache_of old)) = works_add_up (rules old) first later (cache_of old) in
@@ -117,7 +117,7 @@ asks_then a result first later old mid new before between now one two =
 
 -- a call that stops before all of some work is done
 pub asks_stopped : {A B : Type 0} (stop : Stop) (first later : List CacheWork) (old new : PageStore) (before now : State) → 1 ≤ (rules old).groups →
-    Asks {T = A} (Err stop) first old new before now → Asks {T = B} (Err stop) (first ++ later) old new before now
+    StepsMachine {T = A} (Err stop) first old new before now → StepsMachine {T = B} (Err stop) (first ++ later) old new before now
 asks_stopped {A} {B} stop first later old new before now some asks = record {
   machine = tt;
   worn = λ is. overflows_with_more (rules old) first later (cache_of old) some (asks.worn (err_again stop (Worn Flash) is));
@@ -130,22 +130,22 @@ asks_stopped {A} {B} stop first later old new before now some asks = record {
 -- Another answer of the same call.
 
 -- the same for other work, where the two are equal
-pub asks_same : {T : Type 0} (result : Result T Stop) (works other : List CacheWork) (old new : PageStore) (before now : State) → works ≡ other → Asks result other old new before now → Asks result works old new before now
-asks_same result works other old new before now same asks = subst (λ (w : List CacheWork). Asks result w old new before now) (sym same) asks
+pub asks_same : {T : Type 0} (result : Result T Stop) (works other : List CacheWork) (old new : PageStore) (before now : State) → works ≡ other → StepsMachine result other old new before now → StepsMachine result works old new before now
+asks_same result works other old new before now same asks = subst (λ (w : List CacheWork). StepsMachine result w old new before now) (sym same) asks
 
 -- before any call
-pub no_asks : (pages : PageStore) (now : State) → Asks {T = Unit {0}} (Ok tt) [] pages pages now now
+pub no_asks : (pages : PageStore) (now : State) → StepsMachine {T = Unit {0}} (Ok tt) [] pages pages now now
 no_asks pages now = record { machine = refl; worn = λ is. absurd (no_error {T = Unit {0}} {x = tt} {e = Worn Flash} is); reads = record { flash = omega arith; disk = omega arith }; rules_are = refl; stages = stages_none (omega arith) refl }
 
 -- another answer of the same call
-pub asks_ok : {A B : Type 0} (a : A) (b : B) (works : List CacheWork) (old new : PageStore) (before now : State) → Asks {T = A} (Ok a) works old new before now → Asks {T = B} (Ok b) works old new before now
+pub asks_ok : {A B : Type 0} (a : A) (b : B) (works : List CacheWork) (old new : PageStore) (before now : State) → StepsMachine {T = A} (Ok a) works old new before now → StepsMachine {T = B} (Ok b) works old new before now
 asks_ok {A} {B} a b works old new before now asks = record { machine = asks.machine; worn = λ is. absurd (no_error {T = B} {x = b} {e = Worn Flash} is); reads = asks.reads; rules_are = asks.rules_are; stages = stages_ok asks.stages }
 
-pub asks_err : {A B : Type 0} (stop : Stop) (works : List CacheWork) (old new : PageStore) (before now : State) → Asks {T = A} (Err stop) works old new before now → Asks {T = B} (Err stop) works old new before now
+pub asks_err : {A B : Type 0} (stop : Stop) (works : List CacheWork) (old new : PageStore) (before now : State) → StepsMachine {T = A} (Err stop) works old new before now → StepsMachine {T = B} (Err stop) works old new before now
 asks_err stop works old new before now asks = record { machine = tt; worn = λ is. asks.worn (err_again stop (Worn Flash) is); reads = asks.reads; rules_are = asks.rules_are; stages = stages_err asks.stages }
 
 -- a call that fails behind it for another reason
-pub asks_fails : {A B : Type 0} (a : A) (stop : Stop) (works : List CacheWork) (old new : PageStore) (before now : State) → (stop ≡ Worn Flash → ⊥) → Asks {T = A} (Ok a) works old new before now → Asks {T = B} (Err stop) works old new before now
+pub asks_fails : {A B : Type 0} (a : A) (stop : Stop) (works : List CacheWork) (old new : PageStore) (before now : State) → (stop ≡ Worn Flash → ⊥) → StepsMachine {T = A} (Ok a) works old new before now → StepsMachine {T = B} (Err stop) works old new before now
 asks_fails {A} {B} a stop works old new before now never asks = record {
   machine = tt;
   worn = λ is. absurd (never (stop_is {U = B} stop (Worn Flash) is));

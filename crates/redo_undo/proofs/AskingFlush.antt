@@ -12,7 +12,7 @@ use Rattle.page_store.specs.declared.store.PageStore.{PageStore}
 use Rattle.page_store.specs.Caching.{cache_of, rules}
 use Rattle.page_store.specs.Staging.{Stages}
 use Rattle.page_store.proofs.StagingLaws.{stages_as, stages_then}
-use Rattle.redo_undo.specs.Works.{Asks, StagesFor, next_group}
+use Rattle.redo_undo.specs.MachineSteps.{StepsMachine, StagesFor, next_group}
 use Rattle.redo_undo.proofs.Costs.{more_next}
 use Rattle.redo_undo.proofs.AskingUndo.{not_worn_flash}
 
@@ -23,7 +23,7 @@ never_worn_flash (Err stop) stops is = let equal : stop ≡ Worn Flash = cc in n
 -- between calls that read no page
 pub asks_around : {A B : Type 0} (r : Result A Stop) (s : Result B Stop) (works : List CacheWork) (pages pages' : PageStore) (old mid flushed new : State) → SameReads old mid → SameReads flushed new →
     OnOk s (cache_of pages' ≡ after_works (rules pages) works (cache_of pages)) → (IsErrOf s (Worn Flash) → IsErrOf r (Worn Flash)) → Stages {T = ⊤} (Ok tt) [] (next_group (cache_of pages)) pages pages old mid → Stages s (staged_by_works (rules pages) works (cache_of pages)) (next_group (after_works (rules pages) works (cache_of pages))) pages pages' mid new →
-    Asks r works pages pages' mid flushed → Asks s works pages pages' old new
+    StepsMachine r works pages pages' mid flushed → StepsMachine s works pages pages' old new
 asks_around r s works pages pages' old mid flushed new first last machine stops still later asks =
     record {
       machine = machine;

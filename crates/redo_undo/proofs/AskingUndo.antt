@@ -18,7 +18,7 @@ use Rattle.page_store.specs.Caching.{cache_of, rules, with_change}
 use Rattle.page_store.specs.Laws.{TouchThenChange}
 use Rattle.page_store.specs.Staging.{Stages}
 use Rattle.page_store.proofs.StagingLaws.{stages_ok, stages_err, stages_as, stages_then}
-use Rattle.redo_undo.specs.Works.{next_group, one_touch, one_change, ReadsFor, Asks}
+use Rattle.redo_undo.specs.MachineSteps.{next_group, one_touch, one_change, ReadsFor, StepsMachine}
 use Rattle.redo_undo.specs.UndoWorks.{works_of}
 use Rattle.redo_undo.proofs.Costs.{reads_add_up, more_next}
 use Rattle.redo_undo.proofs.Asking.{change_reads, change_overflows, change_stages, asks_then, asks_stopped, stop_is}
@@ -60,14 +60,14 @@ never_worn (Err stop) stops is = let equal : stop ≡ Worn Flash = cc in not_wor
 
 -- a call that stops before it asks for anything
 pub asks_refused : {T : Type 0} (stop : Stop) (works : List CacheWork) (pages : PageStore) (before now : State) → 1 ≤ (rules pages).groups → stop ≢ Worn Flash → SameElse before now →
-    Stages {T = T} (Err stop) [] (next_group (cache_of pages)) pages pages before now → Asks {T = T} (Err stop) works pages pages before now
+    Stages {T = T} (Err stop) [] (next_group (cache_of pages)) pages pages before now → StepsMachine {T = T} (Err stop) works pages pages before now
 asks_refused {T} stop works pages before now some other same stages =
     asks_stopped {A = T} stop [] works pages pages before now some
     (record { machine = tt; worn = λ is. absurd (other (stop_is {U = T} stop (Worn Flash) is)); reads = no_reads_else (rules pages) (cache_of pages) before now same; rules_are = refl; stages = stages })
 
 -- a call that reads the log before it asks
 pub asks_later : {T : Type 0} (result : Result T Stop) (works : List CacheWork) (old new : PageStore) (before between now : State) → SameElse before between → Stages {T = ⊤} (Ok tt) [] (next_group (cache_of old)) old old before between →
-    Asks result works old new between now → Asks result works old new before now
+    StepsMachine result works old new between now → StepsMachine result works old new before now
 asks_later result works old new before between now same still asks = record {
   machine = asks.machine;
   worn = asks.worn;
@@ -78,7 +78,7 @@ asks_later result works old new before between now same still asks = record {
 
 -- a call that goes on with the log once all that it asked for is done
 pub asks_before : {A B : Type 0} (a : A) (result : Result B Stop) (works : List CacheWork) (old new : PageStore) (before between now : State) → 1 ≤ (rules old).groups → SameElse between now →
-    (IsErrOf result (Worn Flash) → ⊥) → Stages result [] (next_group (cache_of new)) new new between now → Asks {T = A} (Ok a) works old new before between → Asks result works old new before now
+    (IsErrOf result (Worn Flash) → ⊥) → Stages result [] (next_group (cache_of new)) new new between now → StepsMachine {T = A} (Ok a) works old new before between → StepsMachine result works old new before now
 asks_before a result works old new before between now some same never still asks = record {
   machine = ok_always result _ asks.machine;
   worn = λ is. absurd (never is);
@@ -94,7 +94,7 @@ asks_before a result works old new before between now some same never still asks
 
 -- its page is touched, which stops
 pub change_stopped : {A B : Type 0} (stop : Stop) (page : ℕ) (old new : PageStore) (before now : State) → 1 ≤ (rules old).groups →
-    Asks {T = A} (Err stop) (one_touch page) old new before now → Asks {T = B} (Err stop) (one_change page) old new before now
+    StepsMachine {T = A} (Err stop) (one_touch page) old new before now → StepsMachine {T = B} (Err stop) (one_change page) old new before now
 change_stopped {A} {B} stop page old new before now some asks = record {
   machine = tt;
   worn = λ is. change_overflows (rules old) page (cache_of old) some (asks.worn (err_again stop (Worn Flash) is));
@@ -105,8 +105,8 @@ change_stopped {A} {B} stop page old new before now some asks = record {
 
 -- and changed then
 pub change_made : {A B : Type 0} (a : A) (result : Result B Stop) (page : ℕ) (old mid new : PageStore) (before between now : State) → 1 ≤ (rules old).groups → TouchThenChange →
-    Asks {T = A} (Ok a) (one_touch page) old mid before between → OnOk result (cache_of new ≡ with_change (cache_of mid)) → rules new ≡ rules mid → SameReads between now →
-    (IsErrOf result (Worn Flash) → ⊥) → Stages result [] (next_group (cache_of mid)) mid new between now → Asks result (one_change page) old new before now
+    StepsMachine {T = A} (Ok a) (one_touch page) old mid before between → OnOk result (cache_of new ≡ with_change (cache_of mid)) → rules new ≡ rules mid → SameReads between now →
+    (IsErrOf result (Worn Flash) → ⊥) → Stages result [] (next_group (cache_of mid)) mid new between now → StepsMachine result (one_change page) old new before now
 change_made a result page old mid new before between now some law asks changed same read never still =
     let there : with_change (cache_of mid) ≡ touched (rules old) page true (cache_of old) = ap with_change asks.machine ∙ sym (law (rules old) page (cache_of old)) in
     let none = none_read between now read in
@@ -140,29 +140,29 @@ works_are done rest u =
 
 -- one more is undone
 pub one_more_work : {A B : Type 0} (a : A) (b : B) (done : List Entry) (u : Entry) (old mid new : PageStore) (before between now : State) →
-    Asks {T = A} (Ok a) (works_of done) old mid before between → Asks {T = B} (Ok b) (works_of (u ∷ [])) mid new between now → Asks {T = ⊤} (Ok tt) (works_of (done ++ u ∷ [])) old new before now
+    StepsMachine {T = A} (Ok a) (works_of done) old mid before between → StepsMachine {T = B} (Ok b) (works_of (u ∷ [])) mid new between now → StepsMachine {T = ⊤} (Ok tt) (works_of (done ++ u ∷ [])) old new before now
 one_more_work a b done u old mid new before between now first second =
     let both = asks_then a (Ok b) (works_of done) (works_of (u ∷ [])) old mid new before between now first second in
-    subst (λ (w : List CacheWork). Asks {T = ⊤} (Ok tt) w old new before now) (sym (filter_map-append undo_touch done (u ∷ [])))
+    subst (λ (w : List CacheWork). StepsMachine {T = ⊤} (Ok tt) w old new before now) (sym (filter_map-append undo_touch done (u ∷ [])))
     (record { machine = both.machine; worn = λ is. cc; reads = both.reads; rules_are = both.rules_are; stages = stages_ok both.stages })
 
 -- or it stops there
 pub more_work_stopped : {A B C : Type 0} (a : A) (stop : Stop) (all done rest : List Entry) (u : Entry) (old mid new : PageStore) (before between now : State) → 1 ≤ (rules old).groups → all ≡ done ++ u ∷ rest →
-    Asks {T = A} (Ok a) (works_of done) old mid before between → Asks {T = B} (Err stop) (works_of (u ∷ [])) mid new between now → Asks {T = C} (Err stop) (works_of all) old new before now
+    StepsMachine {T = A} (Ok a) (works_of done) old mid before between → StepsMachine {T = B} (Err stop) (works_of (u ∷ [])) mid new between now → StepsMachine {T = C} (Err stop) (works_of all) old new before now
 more_work_stopped {A} {B} {C} a stop all done rest u old mid new before between now some is first second =
-    subst (λ (w : List CacheWork). Asks {T = C} (Err stop) w old new before now) (sym (ap works_of is ∙ works_are done rest u))
+    subst (λ (w : List CacheWork). StepsMachine {T = C} (Err stop) w old new before now) (sym (ap works_of is ∙ works_are done rest u))
     (asks_stopped stop (works_of done ++ works_of (u ∷ [])) (works_of rest) old new before now some
     (asks_then a (Err stop) (works_of done) (works_of (u ∷ [])) old mid new before between now first second))
 
 -- until all are
-pub all_work : {A B : Type 0} (a : A) (b : B) (all done : List Entry) (old new : PageStore) (before now : State) → all ≡ done → Asks {T = A} (Ok a) (works_of done) old new before now →
-    Asks {T = B} (Ok b) (works_of all) old new before now
+pub all_work : {A B : Type 0} (a : A) (b : B) (all done : List Entry) (old new : PageStore) (before now : State) → all ≡ done → StepsMachine {T = A} (Ok a) (works_of done) old new before now →
+    StepsMachine {T = B} (Ok b) (works_of all) old new before now
 all_work {A} {B} a b all done old new before now is asks =
-    subst (λ (l : List Entry). Asks {T = B} (Ok b) (works_of l) old new before now) (sym is)
+    subst (λ (l : List Entry). StepsMachine {T = B} (Ok b) (works_of l) old new before now) (sym is)
     (record { machine = asks.machine; worn = λ is. cc; reads = asks.reads; rules_are = asks.rules_are; stages = stages_ok asks.stages })
 
 -- an Update is undone behind a read of the log
 pub asks_of_update : {T : Type 0} (result : Result T Stop) (u : Entry) (page slot : ℕ) (old new : PageStore) (before between now : State) → slot < 32 → number_of u.rec ≡ Some (32 * page + slot) → SameElse before between →
-    Stages {T = ⊤} (Ok tt) [] (next_group (cache_of old)) old old before between → Asks result (one_change page) old new between now → Asks result (works_of (u ∷ [])) old new before now
+    Stages {T = ⊤} (Ok tt) [] (next_group (cache_of old)) old old before between → StepsMachine result (one_change page) old new between now → StepsMachine result (works_of (u ∷ [])) old new before now
 asks_of_update result u page slot old new before between now less is same still asks =
-    asks_later result (works_of (u ∷ [])) old new before between now same still (subst (λ (w : List CacheWork). Asks result w old new between now) (work_is u page slot less is) asks)
+    asks_later result (works_of (u ∷ [])) old new before between now same still (subst (λ (w : List CacheWork). StepsMachine result w old new between now) (work_is u page slot less is) asks)

@@ -15,29 +15,29 @@ use Rattle.record_model.specs.State.{Content}
 use Rattle.log_records.specs.Log.{Entry}
 use Rattle.sealed_ring.specs.Ring.{hi_of}
 use Rattle.image_changes.specs.Rings.{log_shape, KeepsUnits, master_shape}
-use Rattle.flash_cache.specs.Held.{IsWorn}
 use Rattle.log_store.specs.declared.store.LogStore.{LogStore}
-use Rattle.log_store.specs.Held as log_held
-use Rattle.log_store.specs.Held.{end_of}
+use Rattle.log_store.specs.Representation as log_store
+use Rattle.log_store.specs.Representation.{end_of}
 use Rattle.page_store.specs.declared.store.PageStore.{PageStore}
 use Rattle.page_store.specs.Stopping.{MayStop}
 use Rattle.page_store.specs.Laws.{FitsBeside}
 use Rattle.checkpoint.specs.declared.master.Master.{Master}
 use Rattle.image_meaning.specs.Moments.{LeavesTableUnder, LeavesFor}
 use Rattle.redo_undo.proofs.Saved.{then_for}
-use Rattle.redo_undo.specs.Holding.{blocks_to, MayGoOn, Holds, IsLogWorn}
-use Rattle.redo_undo.specs.Calls.{Works, LogsNothing, WorksBeside, ReadsOne, Keeps, KeepsBeside}
+use Rattle.redo_undo.specs.Holding.{blocks_to, Invariant, Represents, IsLogWorn}
+use Rattle.redo_undo.specs.Calls.{KeepsInvariant, LogsNothing, KeepsInvariantBeside, ReadsOne, Keeps, KeepsBeside}
 use Rattle.redo_undo.specs.Laws.{PageLaws}
 use Rattle.redo_undo.specs.RedoLaws.{RedoLaws}
 use Rattle.redo_undo.specs.Redoing.{Opening, IsRedoing, LeavesOpened}
 use Rattle.redo_undo.proofs.Redoings.{nothing_happens, then_read}
 use Rattle.redo_undo.proofs.RingNumbers.{skips_reads, hi_on}
 use Rattle.site.specs.Work.{Calls}
-use Rattle.redo_undo.proofs.Sames.{and_then, going_still, holds_still, leaves_still, units_then}
+use Rattle.redo_undo.proofs.Endings.{ends_answered, ends_behind, ends_failed, ends_leaving}
+use Rattle.redo_undo.proofs.CallsInSequence.{and_then, going_still, holds_still, leaves_still, units_then}
 use Rattle.redo_undo.proofs.RingNumbers.{then_skips, skips_again, skips_answered, skips_weaker, skips_on}
 use Rattle.redo_undo.proofs.LeftNumbers.{skips_not_saved, masters_same}
 use Rattle.redo_undo.proofs.UndoneNumbers.{skips_so_far}
-use Rattle.site.proofs.Working.{err_again, ok_as, ok_always, no_error, of_error, err_as, err_always, calls_nothing, calls_then, calls_failed, calls_answered, calls_refused}
+use Rattle.site.proofs.Working.{ok_as, ok_always, no_error, of_error, err_as, err_always, calls_nothing, calls_then, calls_failed, calls_answered, calls_refused}
 
 -- The errors of calls on the log.
 
@@ -94,11 +94,11 @@ calls_read {r = r} {before = before} {now = now} read = record {
 
 -- Log and pages, on every site.
 
-pub works_nothing : {T : Type 0} {x : T} {log : LogStore} {pages : PageStore} {site : State} → MayGoOn log pages site → Works {T = T} (Ok x) log log pages pages site site
+pub works_nothing : {T : Type 0} {x : T} {log : LogStore} {pages : PageStore} {site : State} → Invariant log pages site → KeepsInvariant {T = T} (Ok x) log log pages pages site site
 works_nothing going = record { calls = calls_nothing; going = going; rises = omega arith; kept = refl; log_geometry = refl; geometry = refl; size = refl; stops = tt }
 
 pub works_then : {A B : Type 0} {a : A} {r : Result B Stop} {old mid new : LogStore} {pages between pages' : PageStore} {before middle now : State} →
-    Works {T = A} (Ok a) old mid pages between before middle → Works r mid new between pages' middle now → Works r old new pages pages' before now
+    KeepsInvariant {T = A} (Ok a) old mid pages between before middle → KeepsInvariant r mid new between pages' middle now → KeepsInvariant r old new pages pages' before now
 works_then {r = r} first second =
     record {
       calls = calls_then first.calls second.calls;
@@ -111,26 +111,26 @@ works_then {r = r} first second =
       stops = second.stops;
     }
 
-pub works_failed : {A B : Type 0} {stop : Stop} {old new : LogStore} {pages pages' : PageStore} {before now : State} → Works {T = A} (Err stop) old new pages pages' before now → Works {T = B} (Err stop) old new pages pages' before now
+pub works_failed : {A B : Type 0} {stop : Stop} {old new : LogStore} {pages pages' : PageStore} {before now : State} → KeepsInvariant {T = A} (Err stop) old new pages pages' before now → KeepsInvariant {T = B} (Err stop) old new pages pages' before now
 works_failed first = record { calls = calls_failed first.calls; going = tt; rises = tt; kept = first.kept; log_geometry = first.log_geometry; geometry = first.geometry; size = first.size; stops = first.stops }
 
 -- it stops behind a call that was Ok
 pub works_stopped : {A B C : Type 0} {a : A} {stop : Stop} {old mid new : LogStore} {pages between pages' : PageStore} {before middle now : State} →
-    Works {T = A} (Ok a) old mid pages between before middle → Works {T = B} (Err stop) mid new between pages' middle now → Works {T = C} (Err stop) old new pages pages' before now
+    KeepsInvariant {T = A} (Ok a) old mid pages between before middle → KeepsInvariant {T = B} (Err stop) mid new between pages' middle now → KeepsInvariant {T = C} (Err stop) old new pages pages' before now
 works_stopped first second = works_failed (works_then first second)
 
-pub works_answered : {A B : Type 0} {a : A} {b : B} {old new : LogStore} {pages pages' : PageStore} {before now : State} → Works {T = A} (Ok a) old new pages pages' before now → Works {T = B} (Ok b) old new pages pages' before now
+pub works_answered : {A B : Type 0} {a : A} {b : B} {old new : LogStore} {pages pages' : PageStore} {before now : State} → KeepsInvariant {T = A} (Ok a) old new pages pages' before now → KeepsInvariant {T = B} (Ok b) old new pages pages' before now
 works_answered first = record { calls = calls_answered first.calls; going = first.going; rises = first.rises; kept = first.kept; log_geometry = first.log_geometry; geometry = first.geometry; size = first.size; stops = tt }
 
 pub works_refused : {A B : Type 0} {a : A} {stop : Stop} {old new : LogStore} {pages pages' : PageStore} {before now : State} → ((d : Dev) → stop ≢ Device d) → MayStop stop →
-    Works {T = A} (Ok a) old new pages pages' before now → Works {T = B} (Err stop) old new pages pages' before now
+    KeepsInvariant {T = A} (Ok a) old new pages pages' before now → KeepsInvariant {T = B} (Err stop) old new pages pages' before now
 works_refused other stops first = record { calls = calls_refused other first.calls; going = tt; rises = tt; kept = first.kept; log_geometry = first.log_geometry; geometry = first.geometry; size = first.size; stops = stops }
 
 -- what it read is Foreign
-pub works_foreign : {A B : Type 0} {a : A} {old new : LogStore} {pages pages' : PageStore} {before now : State} → Works {T = A} (Ok a) old new pages pages' before now → Works {T = B} (Err Foreign) old new pages pages' before now
+pub works_foreign : {A B : Type 0} {a : A} {old new : LogStore} {pages pages' : PageStore} {before now : State} → KeepsInvariant {T = A} (Ok a) old new pages pages' before now → KeepsInvariant {T = B} (Err Foreign) old new pages pages' before now
 works_foreign first = works_refused (λ d same. cc) tt first
 
-pub works_read : {T : Type 0} {r : Result T Stop} {log : LogStore} {pages : PageStore} {before now : State} → MayGoOn log pages before → ReadsOne r before now → Works r log log pages pages before now
+pub works_read : {T : Type 0} {r : Result T Stop} {log : LogStore} {pages : PageStore} {before now : State} → Invariant log pages before → ReadsOne r before now → KeepsInvariant r log log pages pages before now
 works_read {r = r} {log = log} {pages = pages} {before = before} {now = now} going read = record {
   calls = calls_read read;
   going = ok_always r _ (going_still log pages before now read.goes going);
@@ -143,14 +143,14 @@ works_read {r = r} {log = log} {pages = pages} {before = before} {now = now} goi
 }
 
 -- a call of the log alone
-pub works_beside : {T : Type 0} {r : Result T Stop} {old new : LogStore} {pages : PageStore} {before now : State} → MayGoOn old pages before → OnOk r (end_of old ≤ end_of new) → IfErr r (λ stop. MayStop stop) →
-    WorksBeside r old new before now → Works r old new pages pages before now
+pub works_beside : {T : Type 0} {r : Result T Stop} {old new : LogStore} {pages : PageStore} {before now : State} → Invariant old pages before → OnOk r (end_of old ≤ end_of new) → IfErr r (λ stop. MayStop stop) →
+    KeepsInvariantBeside r old new before now → KeepsInvariant r old new pages pages before now
 works_beside {pages = pages} going rises stops beside =
     record { calls = beside.calls; going = beside.going pages going; rises = rises; kept = beside.kept; log_geometry = beside.geometry; geometry = refl; size = refl; stops = stops }
 
 -- that appends a record
-pub works_appended : {r : Result ℕ Stop} {old new : LogStore} {pages : PageStore} {before now : State} → MayGoOn old pages before → IfOk r (λ lsn. (end_of old ≤ lsn) × (lsn < end_of new)) →
-    IfErr r (λ stop. (stop ≡ Device Log) ⊎ (stop ≡ Worn Log)) → WorksBeside r old new before now → Works r old new pages pages before now
+pub works_appended : {r : Result ℕ Stop} {old new : LogStore} {pages : PageStore} {before now : State} → Invariant old pages before → IfOk r (λ lsn. (end_of old ≤ lsn) × (lsn < end_of new)) →
+    IfErr r (λ stop. (stop ≡ Device Log) ⊎ (stop ≡ Worn Log)) → KeepsInvariantBeside r old new before now → KeepsInvariant r old new pages pages before now
 works_appended {r = r} {old = old} {new = new} going rises stops beside = works_beside going (risen r rises) (err_as r _ _ log_stops stops) beside
   where
     risen : (r : Result ℕ Stop) → IfOk r (λ lsn. (end_of old ≤ lsn) × (lsn < end_of new)) → OnOk r (end_of old ≤ end_of new)
@@ -159,14 +159,13 @@ works_appended {r = r} {old = old} {new = new} going rises stops beside = works_
 
 -- The same where no record is logged.
 
-pub logs_nothing : {T : Type 0} {x : T} {log : LogStore} {pages : PageStore} {site : State} → MayGoOn log pages site → LogsNothing {T = T} (Ok x) log log pages pages site site
+pub logs_nothing : {T : Type 0} {x : T} {log : LogStore} {pages : PageStore} {site : State} → Invariant log pages site → LogsNothing {T = T} (Ok x) log log pages pages site site
 logs_nothing going = record { works = works_nothing going; blocks = refl; hi = omega arith; log_reads = refl }
 
 pub logs_then : {A B : Type 0} {a : A} {r : Result B Stop} {old mid new : LogStore} {pages between pages' : PageStore} {before middle now : State} →
     LogsNothing {T = A} (Ok a) old mid pages between before middle → LogsNothing r mid new between pages' middle now → LogsNothing r old new pages pages' before now
 logs_then {r = r} first second =
-    let hi = first.hi in
-    record { works = works_then first.works second.works; blocks = ok_as r _ _ (λ more. more ∙ first.blocks) second.blocks; hi = ok_as r _ _ (λ more. omega (arith, more, hi)) second.hi; log_reads = second.log_reads ∙ first.log_reads }
+    record { works = works_then first.works second.works; blocks = ok_as r _ _ (λ more. more ∙ first.blocks) second.blocks; hi = ok_as r _ _ (λ more. omega (arith, more, first.hi)) second.hi; log_reads = second.log_reads ∙ first.log_reads }
 
 pub logs_answered : {A B : Type 0} {a : A} {b : B} {old new : LogStore} {pages pages' : PageStore} {before now : State} → LogsNothing {T = A} (Ok a) old new pages pages' before now → LogsNothing {T = B} (Ok b) old new pages pages' before now
 logs_answered first = record { works = works_answered first.works; blocks = first.blocks; hi = first.hi; log_reads = first.log_reads }
@@ -176,10 +175,10 @@ logs_answered first = record { works = works_answered first.works; blocks = firs
 log_unchanged : (site : State) → ChangesOnly Log site site
 log_unchanged site = record { only = no_call site (SameBut Log site) (record { told = refl; telling = refl; content = λ d other. refl; loose = λ d other. refl }); left = refl }
 
-pub beside_nothing : {T : Type 0} {x : T} {log : LogStore} {site : State} → log_held.MayGoOn log site → WorksBeside {T = T} (Ok x) log log site site
+pub beside_nothing : {T : Type 0} {x : T} {log : LogStore} {site : State} → log_store.Invariant log site → KeepsInvariantBeside {T = T} (Ok x) log log site site
 beside_nothing {site = site} going = record { calls = calls_nothing; going = λ pages may. may; log_going = going; kept = refl; geometry = refl; reads = λ d. refl; changes = λ honest. log_unchanged site }
 
-pub beside_then : {A B : Type 0} {a : A} {r : Result B Stop} {old mid new : LogStore} {before between now : State} → WorksBeside {T = A} (Ok a) old mid before between → WorksBeside r mid new between now → WorksBeside r old new before now
+pub beside_then : {A B : Type 0} {a : A} {r : Result B Stop} {old mid new : LogStore} {before between now : State} → KeepsInvariantBeside {T = A} (Ok a) old mid before between → KeepsInvariantBeside r mid new between now → KeepsInvariantBeside r old new before now
 beside_then {before = before} {between = between} {now = now} first second = record {
   calls = calls_then first.calls second.calls;
   going = λ pages may. second.going pages (first.going pages may);
@@ -190,7 +189,7 @@ beside_then {before = before} {between = between} {now = now} first second = rec
   changes = λ honest. changes_in_sequence Log before between now (first.changes honest) (second.changes (stays_honest before between first.calls.goes honest));
 }
 
-pub beside_answered : {A B : Type 0} {a : A} {b : B} {old new : LogStore} {before now : State} → WorksBeside {T = A} (Ok a) old new before now → WorksBeside {T = B} (Ok b) old new before now
+pub beside_answered : {A B : Type 0} {a : A} {b : B} {old new : LogStore} {before now : State} → KeepsInvariantBeside {T = A} (Ok a) old new before now → KeepsInvariantBeside {T = B} (Ok b) old new before now
 beside_answered first = record { calls = calls_answered first.calls; going = first.going; log_going = first.log_going; kept = first.kept; geometry = first.geometry; reads = first.reads; changes = first.changes }
 
 -- Log and pages, on an honest site.
@@ -200,74 +199,54 @@ pub keeps_then : {A B : Type 0} {a : A} {r : Result B Stop} {g g' k k' : Geometr
     Keeps {T = A} (Ok a) g old mid before between (LeavesTableUnder newest k table commits before.told) n m → Keeps r g' mid new between now (LeavesTableUnder newest k' table commits between.told) n' m' →
     Keeps r g old new before now (LeavesTableUnder newest k table commits before.told) (n + n') (m + m')
 keeps_then {a = a} {r = r} {g = g} {g' = g'} {k = k} {k' = k'} {old = old} {mid = mid} {new = new} {before = before} {between = between} {now = now} {newest = newest} {table = table} {commits = commits} {n = n} {m = m} {n' = n'} {m' = m'} honest sizes same calls first second = record {
-  any_moment = λ quiet. and_then newest k k' before between now table commits same (first.any_moment quiet) (second.any_moment (calls.stays_quiet honest quiet));
+  ends = ends_behind (calls.stays_quiet honest) sizes (λ quiet. and_then newest k k' before between now table commits same (first.any_moment quiet)) second.ends;
   numbers = λ quiet. then_skips r a g old mid new before between now n m n' m' (n + n') (m + m') (first.numbers quiet) (skips_on r g' g mid new between now n' m' sizes (second.numbers (calls.stays_quiet honest quiet))) (omega arith) refl;
-  quiet = λ quiet. second.quiet (calls.stays_quiet honest quiet);
-  worn_log = λ is. subst (λ (x : Geometry). IsLogWorn x now.image) sizes (second.worn_log is);
-  worn = λ is. subst (λ (x : Geometry). IsWorn x now.image) sizes (second.worn is);
-  readable = second.readable;
   masters = λ none. ok_as r _ _ (units_then before.image between.image now.image (first.masters (let no : m ≡ 0 = omega (arith, none) in no))) (second.masters (let no : m' ≡ 0 = omega (arith, none) in no));
 }
 
 -- no more records than these
 pub keeps_few : {T : Type 0} {r : Result T Stop} {g : Geometry} {old new : LogStore} {before now : State} {P : Snapshot → Type 0} {n k m : ℕ} → n ≤ k → Keeps r g old new before now P n m → Keeps r g old new before now P k m
 keeps_few {r = r} {g = g} {old = old} {new = new} {before = before} {now = now} {n = n} {k = k} {m = m} few first = record {
-  any_moment = first.any_moment;
+  ends = first.ends;
   numbers = λ quiet. skips_weaker r g old new before now n k m few (first.numbers quiet);
-  quiet = first.quiet;
-  worn_log = first.worn_log;
-  worn = first.worn;
-  readable = first.readable;
   masters = first.masters;
 }
 
 pub keeps_failed : {A B : Type 0} {stop : Stop} {g : Geometry} {old new : LogStore} {before now : State} {P : Snapshot → Type 0} {n m : ℕ} → Keeps {T = A} (Err stop) g old new before now P n m → Keeps {T = B} (Err stop) g old new before now P n m
 keeps_failed {stop = stop} {g = g} {old = old} {new = new} {before = before} {now = now} {n = n} {m = m} first = record {
-  any_moment = first.any_moment;
+  ends = ends_failed first.ends;
   numbers = λ quiet. skips_again stop g old new before now n m (first.numbers quiet);
-  quiet = first.quiet;
-  worn_log = λ is. first.worn_log (err_again stop (Worn Log) is);
-  worn = λ is. first.worn (err_again stop (Worn Flash) is);
-  readable = λ is. first.readable (err_again stop Foreign is);
   masters = λ none. tt;
 }
 
 pub keeps_answered : {A B : Type 0} {a : A} {b : B} {g : Geometry} {old new : LogStore} {before now : State} {P : Snapshot → Type 0} {n m : ℕ} → Keeps {T = A} (Ok a) g old new before now P n m → Keeps {T = B} (Ok b) g old new before now P n m
 keeps_answered {A = A} {B = B} {a = a} {b = b} {g = g} {old = old} {new = new} {before = before} {now = now} {n = n} {m = m} first = record {
-  any_moment = first.any_moment;
+  ends = ends_answered first.ends;
   numbers = λ quiet. skips_answered {A = A} {B = B} a b g old new before now n m (first.numbers quiet);
-  quiet = λ quiet. tt;
-  worn_log = λ is. absurd (no_error {T = B} {x = b} {e = Worn Log} is);
-  worn = λ is. absurd (no_error {T = B} {x = b} {e = Worn Flash} is);
-  readable = no_error {T = B} {x = b} {e = Foreign};
   masters = first.masters;
 }
 
 -- counted by the blocks that there are
 pub keeps_counted : {A B : Type 0} {a : A} {b : B} {g : Geometry} {old new : LogStore} {before now : State} {P : Snapshot → Type 0} {n k : ℕ} → new.geometry ≡ g → new.ring.hi ≡ hi_of (log_shape new.geometry) now.image.log →
     blocks_to new ≤ blocks_to old + k → Keeps {T = A} (Ok a) g old new before now P n 0 → Keeps {T = B} (Ok b) g old new before now P k 0
-keeps_counted {A = A} {B = B} {a = a} {b = b} {g = g} {old = old} {new = new} {before = before} {now = now} {n = n} {k = k} sizes hi few first =
-    let answered = keeps_answered {A = A} {B = B} {a = a} {b = b} first in
-    record {
-      any_moment = first.any_moment;
-      numbers = λ quiet. skips_so_far {T = B} {E = Stop} (Ok b) g old new before now k sizes hi few (masters_same before.image now.image (first.masters refl));
-      quiet = answered.quiet;
-      worn_log = answered.worn_log;
-      worn = answered.worn;
-      readable = answered.readable;
-      masters = first.masters;
-    }
+keeps_counted {B = B} {b = b} {g = g} {old = old} {new = new} {before = before} {now = now} {k = k} sizes hi few first = record {
+  ends = ends_answered first.ends;
+  numbers = λ quiet. skips_so_far {T = B} {E = Stop} (Ok b) g old new before now k sizes hi few (masters_same before.image now.image (first.masters refl));
+  masters = first.masters;
+}
 
 -- where nothing is written
 pub keeps_still : {T : Type 0} {r : Result T Stop} {g : Geometry} {log : LogStore} {before now : State} {P : Snapshot → Type 0} → (IsQuiet before → LeavesOnly before now P) → log.ring.hi ≡ hi_of (log_shape g) before.image.log → IsUnchanged before now →
     ((d : Dev) → IsErrOf r (Worn d) → ⊥) → (IsErrOf r Foreign → ⊥) → Keeps r g log log before now P 0 0
 keeps_still {r = r} {g = g} {log = log} {before = before} {now = now} moments hi same worn readable = record {
-  any_moment = moments;
+  ends = record {
+    any_moment = moments;
+    quiet = λ quiet. err_always r _ (same.loose ∙ quiet);
+    worn_log = λ is. absurd (worn Log is);
+    worn = λ is. absurd (worn Flash is);
+    readable = readable;
+  };
   numbers = λ quiet. skips_reads r g log before now 0 hi same.image;
-  quiet = λ quiet. err_always r _ (same.loose ∙ quiet);
-  worn_log = λ is. absurd (worn Log is);
-  worn = λ is. absurd (worn Flash is);
-  readable = readable;
   masters = λ none. ok_always r _ (subst (KeepsUnits master_shape before.image) (sym same.image) (record { units = refl; form = λ form. form }));
 }
 
@@ -275,7 +254,7 @@ unchanged : {site : State} → IsUnchanged site site
 unchanged = record { image = refl; loose = refl; told = refl; left = refl; past = refl }
 
 pub keeps_unchanged : {T : Type 0} {r : Result T Stop} {log : LogStore} {pages : PageStore} {before now : State} {newest : Option Master} {records : List Entry} {table : List Content} {commits : ℕ} →
-    log.geometry ≡ pages.flash.geometry → Holds log pages before newest records table commits → IsUnchanged before now → ((d : Dev) → IsErrOf r (Worn d) → ⊥) → (IsErrOf r Foreign → ⊥) →
+    log.geometry ≡ pages.flash.geometry → Represents log pages before newest records table commits → IsUnchanged before now → ((d : Dev) → IsErrOf r (Worn d) → ⊥) → (IsErrOf r Foreign → ⊥) →
     Keeps r pages.flash.geometry log log before now (LeavesTableUnder newest pages.flash.geometry table commits before.told) 0 0
 keeps_unchanged {log = log} {pages = pages} {before = before} {now = now} {newest = newest} {records = records} {table = table} {commits = commits} sizes h same =
     keeps_still (leaves_still log pages before now newest records table commits sizes same h) (hi_on log.geometry pages.flash.geometry log before.image sizes h.log_holds.ready.blocks.hi) same
@@ -301,19 +280,19 @@ keeps_refused_by laws redo {stop = stop} stops sizes h readable =
 
 -- where only a record is read
 pub keeps_read : {T : Type 0} {r : Result T Stop} {log : LogStore} {pages : PageStore} {before now : State} {newest : Option Master} {records : List Entry} {table : List Content} {commits : ℕ} →
-    log.geometry ≡ pages.flash.geometry → Holds log pages before newest records table commits → ReadsOne r before now → IfErr r (λ stop. stop ≢ Foreign) →
+    log.geometry ≡ pages.flash.geometry → Represents log pages before newest records table commits → ReadsOne r before now → IfErr r (λ stop. stop ≢ Foreign) →
     Keeps r pages.flash.geometry log log before now (LeavesTableUnder newest pages.flash.geometry table commits before.told) 0 0
 keeps_read {r = r} sizes h read readable =
     keeps_unchanged sizes h (read.same h.log_holds.ready.blocks.honest) (λ d is. reads_worn d (of_error r (λ stop. (stop ≡ Device Log) ⊎ (stop ≡ Foreign)) (Worn d) read.stops is)) (λ is. of_error r (λ stop. stop ≢ Foreign) Foreign readable is refl)
 
 pub keeps_nothing : {T : Type 0} {x : T} {log : LogStore} {pages : PageStore} {site : State} {newest : Option Master} {records : List Entry} {table : List Content} {commits : ℕ} →
-    log.geometry ≡ pages.flash.geometry → Holds log pages site newest records table commits → Keeps {T = T} (Ok x) pages.flash.geometry log log site site (LeavesTableUnder newest pages.flash.geometry table commits site.told) 0 0
+    log.geometry ≡ pages.flash.geometry → Represents log pages site newest records table commits → Keeps {T = T} (Ok x) pages.flash.geometry log log site site (LeavesTableUnder newest pages.flash.geometry table commits site.told) 0 0
 keeps_nothing {T = T} {x = x} sizes h =
     keeps_unchanged sizes h unchanged (λ d is. no_error {T = T} {x = x} {e = Worn d} is) (no_error {T = T} {x = x} {e = Foreign})
 
 -- log and pages hold together behind it
 pub held_read : FitsBeside → {T : Type 0} {r : Result T Stop} {log : LogStore} {pages : PageStore} {before now : State} {newest : Option Master} {records : List Entry} {table : List Content} {commits : ℕ} →
-    Holds log pages before newest records table commits → ReadsOne r before now → Holds log pages now newest records table commits
+    Represents log pages before newest records table commits → ReadsOne r before now → Represents log pages now newest records table commits
 held_read fits {log = log} {pages = pages} {before = before} {now = now} {newest = newest} {records = records} {table = table} {commits = commits} h read =
     holds_still fits log pages before now newest records table commits read.goes (read.same h.log_holds.ready.blocks.honest) h
 
@@ -325,42 +304,34 @@ foreign_not stop (inr is) = λ same. cc
 pub appends_foreign : {T : Type 0} (r : Result T Stop) → IfErr r (λ stop. (stop ≡ Device Log) ⊎ (stop ≡ Worn Log)) → IsErrOf r Foreign → ⊥
 appends_foreign r stops is = of_error r (λ stop. stop ≢ Foreign) Foreign (err_as r _ _ foreign_not stops) is refl
 
-pub keeps_appended : {T : Type 0} {r : Result T Stop} {old new : LogStore} {pages : PageStore} {before now : State} {P : Snapshot → Type 0} {n : ℕ} → MayGoOn old pages before → IfErr r (λ stop. (stop ≡ Device Log) ⊎ (stop ≡ Worn Log)) →
+pub keeps_appended : {T : Type 0} {r : Result T Stop} {old new : LogStore} {pages : PageStore} {before now : State} {P : Snapshot → Type 0} {n : ℕ} → Invariant old pages before → IfErr r (λ stop. (stop ≡ Device Log) ⊎ (stop ≡ Worn Log)) →
     KeepsBeside r old new pages before now P n → Keeps r pages.flash.geometry old new before now P n 0
 keeps_appended {r = r} {old = old} {new = new} {pages = pages} {before = before} {now = now} {n = n} going stops beside = record {
-  any_moment = beside.any_moment going;
+  ends = record {
+    any_moment = beside.any_moment going;
+    quiet = beside.quiet;
+    worn_log = λ is. subst (λ (x : Geometry). IsLogWorn x now.image) going.sizes (beside.worn_log is);
+    worn = λ is. absurd (of_error r (λ stop. stop ≢ Worn Flash) (Worn Flash) (err_as r _ _ not_worn_flash stops) is refl);
+    readable = appends_foreign r stops;
+  };
   numbers = λ quiet. skips_on r old.geometry pages.flash.geometry old new before now n 0 going.sizes (beside.numbers going quiet);
-  quiet = beside.quiet;
-  worn_log = λ is. subst (λ (x : Geometry). IsLogWorn x now.image) going.sizes (beside.worn_log is);
-  worn = λ is. absurd (of_error r (λ stop. stop ≢ Worn Flash) (Worn Flash) (err_as r _ _ not_worn_flash stops) is refl);
-  readable = appends_foreign r stops;
   masters = λ none. beside.masters;
 }
 
 -- a call that stops before a checkpoint is made, under whatever newest master
 pub keeps_unsaved : {A B : Type 0} {stop : Stop} {g : Geometry} {old new : LogStore} {before now : State} {P R : Snapshot → Type 0} {n : ℕ} → (LeavesOnly before now P → LeavesOnly before now R) →
     Keeps {T = A} (Err stop) g old new before now P n 0 → Keeps {T = B} (Err stop) g old new before now R n 1
-keeps_unsaved {B = B} {stop = stop} {g = g} {old = old} {new = new} {before = before} {now = now} {n = n} more first =
-    let again = keeps_failed {B = B} first in
-    record {
-      any_moment = λ quiet. more (first.any_moment quiet);
-      numbers = λ quiet. skips_not_saved stop g old new before now n 0 1 (omega arith) (again.numbers quiet);
-      quiet = first.quiet;
-      worn_log = again.worn_log;
-      worn = again.worn;
-      readable = again.readable;
-      masters = λ none. tt;
-    }
+keeps_unsaved {B = B} {stop = stop} {g = g} {old = old} {new = new} {before = before} {now = now} {n = n} more first = record {
+  ends = ends_leaving more (ends_failed first.ends);
+  numbers = λ quiet. skips_not_saved stop g old new before now n 0 1 (omega arith) ((keeps_failed {B = B} first).numbers quiet);
+  masters = λ none. tt;
+}
 
 -- and one behind which a master is saved
 pub keeps_saved : {A B : Type 0} {a : A} {r : Result B Stop} {g g' : Geometry} {old mid new : LogStore} {before between now : State} {P : Snapshot → Type 0} {table : List Content} {commits n m : ℕ} → IsTrue before.honest → g' ≡ g → Calls {T = A} (Ok a) before between →
     (LeavesOnly before between P → LeavesOnly before between (LeavesFor g table commits before.told)) → Keeps {T = A} (Ok a) g old mid before between P n 0 → Keeps r g' mid new between now (LeavesFor g' table commits between.told) m 1 → Keeps r g old new before now (LeavesFor g table commits before.told) (n + m) 1
 keeps_saved {a = a} {r = r} {g = g} {g' = g'} {old = old} {mid = mid} {new = new} {before = before} {between = between} {now = now} {table = table} {commits = commits} {n = n} {m = m} honest same calls more first second = record {
-  any_moment = λ quiet. then_for g g' before between now table commits same (more (first.any_moment quiet)) (second.any_moment (calls.stays_quiet honest quiet));
+  ends = ends_behind (calls.stays_quiet honest) same (λ quiet. then_for g g' before between now table commits same (more (first.any_moment quiet))) second.ends;
   numbers = λ quiet. then_skips r a g old mid new before between now n 0 m 1 (n + m) 1 (first.numbers quiet) (skips_on r g' g mid new between now m 1 same (second.numbers (calls.stays_quiet honest quiet))) (omega arith) refl;
-  quiet = λ quiet. second.quiet (calls.stays_quiet honest quiet);
-  worn_log = λ is. subst (λ (x : Geometry). IsLogWorn x now.image) same (second.worn_log is);
-  worn = λ is. subst (λ (x : Geometry). IsWorn x now.image) same (second.worn is);
-  readable = second.readable;
   masters = λ none. absurd (omega (arith, none));
 }

@@ -9,16 +9,16 @@ use Rattle.record_model.specs.State.{Content, content_at}
 use Rattle.log_records.specs.declared.log_record.LogRecord.{LogRecord}
 use Rattle.slotted_page.specs.Layout.{lsn_of}
 use Rattle.log_store.specs.declared.store.LogStore.{LogStore}
-use Rattle.log_store.specs.Held.{end_of}
+use Rattle.log_store.specs.Representation.{end_of}
 use Rattle.page_store.specs.declared.store.PageStore.{PageStore}
-use Rattle.page_store.specs.Held.{current, content_by, Fits, IsPage}
+use Rattle.page_store.specs.Representation.{current, content_by, Matches, IsPage}
 use Rattle.page_store.specs.Ahead.{IsAhead}
-use Rattle.flash_cache.specs.Held.{version_on}
+use Rattle.flash_cache.specs.Representation.{version_on}
 use Rattle.buffer_pool.specs.declared.frame.Frame.{Frame}
 use Rattle.buffer_pool.specs.Frames.{frame_of, front_of}
 use Rattle.checkpoint.specs.declared.master.Master.{Master}
 use Rattle.image_meaning.specs.Meaning.{versions_on, version_in}
-use Rattle.redo_undo.specs.Holding.{HoldsLog, HoldsIn, KeepsPages}
+use Rattle.redo_undo.specs.Holding.{RepresentsLog, RepresentsIn, KeepsPages}
 use Rattle.log_records.specs.Log.{Entry, Version, number_of, after_of, is_on, is_number}
 use Rattle.log_laws.specs.Follow.{shown}
 use Rattle.image_meaning.specs.Redone.{Redoes, AreKnown, ShowsAll}
@@ -66,7 +66,7 @@ module _ (laws : LogLaws) (records : List Entry) (e : Entry) (versions : List Ve
           ∙ sym (ap (λ b. cond b (after_of e.rec) (shown records versions (32 * page + slot))) (ne_eqb number (32 * page + slot) other))
 
 -- The same pages, over images in which each page has the version and the content that it had.
-module _ (logs : LogLaws) (g : Geometry) (log log' : LogStore) (pages : PageStore) (site new : State) (newest : Option Master) (records : List Entry) (table : List Content) (commits : ℕ) (h : HoldsIn g log pages site newest records table commits) (keeps : KeepsPages g pages site.image new.image) where
+module _ (logs : LogLaws) (g : Geometry) (log log' : LogStore) (pages : PageStore) (site new : State) (newest : Option Master) (records : List Entry) (table : List Content) (commits : ℕ) (h : RepresentsIn g log pages site newest records table commits) (keeps : KeepsPages g pages site.image new.image) where
   pub shows_same : (number : ℕ) → number < g.pages → ShowsAll records (versions_on g new.image) number (version_in (current pages new.image number))
   shows_same number exists =
       subst (λ (versions : List Version). ShowsAll records versions number (version_in (current pages new.image number))) (sym keeps.versions)
@@ -74,7 +74,7 @@ module _ (logs : LogLaws) (g : Geometry) (log log' : LogStore) (pages : PageStor
 
   -- a record on none of them
   pub holds_off : (rec : LogRecord) (lsn : ℕ) → number_of rec ≡ None → end_of log ≤ lsn → lsn < end_of log' →
-      HoldsLog g log' pages new newest (records ++ record { lsn = lsn; rec = rec } ∷ []) table commits → HoldsIn g log' pages new newest (records ++ record { lsn = lsn; rec = rec } ∷ []) table commits
+      RepresentsLog g log' pages new newest (records ++ record { lsn = lsn; rec = rec } ∷ []) table commits → RepresentsIn g log' pages new newest (records ++ record { lsn = lsn; rec = rec } ∷ []) table commits
   holds_off rec lsn none behind below holds = record {
     log_holds = holds;
     shows = record {
@@ -89,7 +89,7 @@ module _ (logs : LogLaws) (g : Geometry) (log log' : LogStore) (pages : PageStor
   pub holds_on : (pages' : PageStore) (rec : LogRecord) (lsn number front : ℕ) → number_of rec ≡ Some number → number / 32 ≡ front → lsn_of (current pages new.image front) < lsn →
       Redoes front (record { lsn = lsn; rec = rec }) number (version_in (current pages new.image front)) (version_in (current pages' new.image front)) →
       ((page : ℕ) → page ≢ front → current pages' new.image page ≡ current pages new.image page) → end_of log ≤ lsn → lsn < end_of log' →
-      HoldsLog g log' pages' new newest (records ++ record { lsn = lsn; rec = rec } ∷ []) table commits → HoldsIn g log' pages' new newest (records ++ record { lsn = lsn; rec = rec } ∷ []) table commits
+      RepresentsLog g log' pages' new newest (records ++ record { lsn = lsn; rec = rec } ∷ []) table commits → RepresentsIn g log' pages' new newest (records ++ record { lsn = lsn; rec = rec } ∷ []) table commits
   holds_on pages' rec lsn number front is at later redoes others behind below holds = record {
     log_holds = holds;
     shows = record { each = λ page exists. shows_by page exists (cases_eq page front) };
@@ -116,8 +116,8 @@ module _ (logs : LogLaws) (g : Geometry) (log log' : LogStore) (pages : PageStor
           subst (λ (c : List ℕ). lsn_of c < end_of log') (sym (others page other ∙ keeps.current page)) (omega (arith, h.below page exists, behind, below))
 
 -- other pages beside the same log
-pub other_pages : (g : Geometry) (log : LogStore) (pages pages' : PageStore) (site : State) (newest : Option Master) (records : List Entry) (table : List Content) (commits : ℕ) → Fits pages' site → IsAhead log pages' site.image →
-    HoldsLog g log pages site newest records table commits → HoldsLog g log pages' site newest records table commits
+pub other_pages : (g : Geometry) (log : LogStore) (pages pages' : PageStore) (site : State) (newest : Option Master) (records : List Entry) (table : List Content) (commits : ℕ) → Matches pages' site → IsAhead log pages' site.image →
+    RepresentsLog g log pages site newest records table commits → RepresentsLog g log pages' site newest records table commits
 other_pages g log pages pages' site newest records table commits fits are_ahead h = record {
   kept = h.kept;
   blocks = h.blocks;

@@ -4,7 +4,7 @@ use Rattle.std.proofs.lemmas.Option.{none-some}
 use Rattle.site.specs.declared.outside.Dev.TheVariants.{Log}
 use Rattle.site.specs.declared.geometry.Geometry.{Geometry}
 use Rattle.site.specs.State.{State, Snapshot, IsQuiet}
-use Rattle.site.specs.Calls.{Goes}
+use Rattle.site.specs.Calls.{Preserves}
 use Rattle.site.specs.Moments.{Leaves, LeavesOnly, ChangesOnly}
 use Rattle.site.specs.Laws.{leaves_weaker, each_both, each_weaker, in_sequence, holds_now}
 use Rattle.record_model.specs.State.{Content, table_with}
@@ -22,10 +22,10 @@ use Rattle.slotted_page.specs.Layout as page
 use Rattle.slotted_page.specs.Layout.{lsn_of}
 use Rattle.log_store.specs.declared.store.LogStore.{LogStore}
 use Rattle.log_store.specs.LogList.{LogList, sealed_if, changes_if}
-use Rattle.log_store.specs.Held as log_held
-use Rattle.log_store.specs.Held.{HasBlocks, LeavesLog, has_tail, end_of}
+use Rattle.log_store.specs.Representation as log_store
+use Rattle.log_store.specs.Representation.{HasBlocks, LeavesLog, has_tail, end_of}
 use Rattle.page_store.specs.declared.store.PageStore.{PageStore}
-use Rattle.page_store.specs.Held.{IsStore, current}
+use Rattle.page_store.specs.Representation.{IsStore, current}
 use Rattle.page_store.specs.Ahead.{AreSealed, LeavesSealed, end_forced}
 use Rattle.page_store.specs.Leaves.{HasQueue, LeavesPages, LeavesRings}
 use Rattle.checkpoint.specs.declared.master.Master.{Master}
@@ -35,7 +35,7 @@ use Rattle.image_meaning.specs.Moments.{LeavesTableUnder, LeavesEitherUnder}
 use Rattle.image_meaning.specs.Beside.{AreRingsSoundUnder, KeepsRingsAll}
 use Rattle.page_store.proofs.Rings.{all_front, sealing_keeps}
 use Rattle.redo_undo.specs.Running.{RunsOn}
-use Rattle.redo_undo.specs.Holding.{Holds}
+use Rattle.redo_undo.specs.Holding.{Represents}
 use Rattle.redo_undo.specs.Committing.{MayCommit, EndsWith, CommitLaws}
 use Rattle.redo_undo.specs.Laws.{LogLaws, PageLaws, BesideLaws}
 use Rattle.redo_undo.proofs.Standing.{more_blocks, stands_now, current_sound, last_of_all}
@@ -175,12 +175,12 @@ module _ (logs : LogLaws) (laws : PageLaws) (beside : BesideLaws) (own : CommitL
       beside.rings newest g (changes_if (has_tail log) list) site.image new.image m.rings (sealing_keeps g site.image (has_tail log) list)
       (subst (λ (k : Geometry). Reaches k (changes_if (has_tail log) list) site.image new.image) sizes reaches)
 
-  pub sealed_then : (log' : LogStore) (new : State) → ChangesOnly Log site new → log'.geometry ≡ log.geometry → log_held.Finds log' new → log.ring.hi ≤ log'.ring.hi → AreSealed g new.image
+  pub sealed_then : (log' : LogStore) (new : State) → ChangesOnly Log site new → log'.geometry ≡ log.geometry → log_store.Finds log' new → log.ring.hi ≤ log'.ring.hi → AreSealed g new.image
   sealed_then log' new changes same finds more = more_sealed beside pages site new changes log log' sizes same m.ready.blocks finds more m.ahead.versions
 
-  pub commit_holds : (log' : LogStore) (new : State) → ChangesOnly Log site new → Goes site new → AreRingsSoundUnder newest g new.image → AreSealed g new.image → log_held.Finds log' new →
-      log_held.Holds log' new.image (sealed_if true list) → log'.ring.hi ≡ log.ring.hi + 1 → log'.kept ≡ log.kept → log'.used ≡ 2 → log.used ≤ block_len → has_tail log' ≡ false →
-      Holds log' pages new newest (records ++ record { lsn = lsn; rec = Commit txn number } ∷ []) (table_with table (writes_in txn records)) (commits + 1)
+  pub commit_holds : (log' : LogStore) (new : State) → ChangesOnly Log site new → Preserves site new → AreRingsSoundUnder newest g new.image → AreSealed g new.image → log_store.Finds log' new →
+      log_store.Represents log' new.image (sealed_if true list) → log'.ring.hi ≡ log.ring.hi + 1 → log'.kept ≡ log.kept → log'.used ≡ 2 → log.used ≤ block_len → has_tail log' ≡ false →
+      Represents log' pages new newest (records ++ record { lsn = lsn; rec = Commit txn number } ∷ []) (table_with table (writes_in txn records)) (commits + 1)
   commit_holds log' new changes goes rings are_sealed finds holds next same_kept empty high none =
       let same = versions_same beside pages site new changes in
       let stays = current_same beside pages site new changes in

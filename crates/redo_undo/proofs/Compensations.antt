@@ -18,7 +18,7 @@ use Rattle.log_store.specs.LogList.{entries, at_lsn}
 use Rattle.page_store.specs.declared.store.PageStore.{PageStore}
 use Rattle.checkpoint.specs.declared.master.Master.{Master}
 use Rattle.image_meaning.specs.Meaning.{master_of, picture_under, versions_on, kept_by}
-use Rattle.redo_undo.specs.Holding.{Holds, MayGrow, blocks_to}
+use Rattle.redo_undo.specs.Holding.{Represents, MayGrow, blocks_to}
 use Rattle.redo_undo.specs.declared.undo.Undoing.{Undoing}
 use Rattle.redo_undo.specs.declared.undo.Wanted.{Wanted}
 use Rattle.redo_undo.specs.Undoing.{IsAt, IsWanted, Undone}
@@ -62,7 +62,7 @@ is_one p records x (Clr txn prev undo_next page slot after) is none = is
 is_one p records x (Commit txn number) is none = is
 is_one p records x (End txn) is none = is
 
-module _ (pages_laws : PageLaws) (laws : UndoLaws) (log : LogStore) (pages : PageStore) (site : State) (newest : Option Master) (records : List Entry) (table : List Content) (commits : ℕ) (h : Holds log pages site newest records table commits) (x : Unfinished) (unfinished : IsUnfinished records x) where
+module _ (pages_laws : PageLaws) (laws : UndoLaws) (log : LogStore) (pages : PageStore) (site : State) (newest : Option Master) (records : List Entry) (table : List Content) (commits : ℕ) (h : Represents log pages site newest records table commits) (x : Unfinished) (unfinished : IsUnfinished records x) where
   abbrev g : Geometry
   g = pages.flash.geometry
 
@@ -125,7 +125,7 @@ may_moved laws log log' pages pages' old new newest records e other geometry blo
     }
 
 -- A CLR of an unfinished transaction may be logged: with it there is less to undo.
-module _ (pages_laws : PageLaws) (laws : UndoLaws) (log : LogStore) (pages : PageStore) (site : State) (newest : Option Master) (records : List Entry) (table : List Content) (commits : ℕ) (h : Holds log pages site newest records table commits) (x : Unfinished) (unfinished : IsUnfinished records x) where
+module _ (pages_laws : PageLaws) (laws : UndoLaws) (log : LogStore) (pages : PageStore) (site : State) (newest : Option Master) (records : List Entry) (table : List Content) (commits : ℕ) (h : Represents log pages site newest records table commits) (x : Unfinished) (unfinished : IsUnfinished records x) where
   pub owes_less : (e : Entry) → is_clr e.rec ≡ true → txn_of e ≡ x.txn → 0 < x.remaining → owed records ≡ owed (records ++ e ∷ []) + 1
   owes_less e clr own some =
       laws.owed_clr records e clr (subst (λ t. is_closed records t ≡ false) (sym own) (laws.lives records x.txn unfinished.loser))
@@ -151,7 +151,7 @@ module _ (pages_laws : PageLaws) (laws : UndoLaws) (log : LogStore) (pages : Pag
 
 -- it was logged
 pub undone : UndoLaws → (log : LogStore) (pages : PageStore) (site : State) (newest : Option Master) (records : List Entry) (table : List Content) (commits : ℕ) (x : Unfinished) (at : Undoing) (w : Wanted) (lsn : ℕ) →
-    IsUnfinished records x → IsAt at x → 0 < x.remaining → Holds log pages site newest (records ++ record { lsn = lsn; rec = Clr at.txn at.last w.prev w.page w.slot w.before } ∷ []) table commits →
+    IsUnfinished records x → IsAt at x → 0 < x.remaining → Represents log pages site newest (records ++ record { lsn = lsn; rec = Clr at.txn at.last w.prev w.page w.slot w.before } ∷ []) table commits →
     owed records ≡ owed (records ++ record { lsn = lsn; rec = Clr at.txn at.last w.prev w.page w.slot w.before } ∷ []) + 1 →
     (AreOrderly records → AreOrderly (records ++ record { lsn = lsn; rec = Clr at.txn at.last w.prev w.page w.slot w.before } ∷ [])) → Undone log pages site newest records table commits x (record { txn = at.txn; last = lsn; next = w.prev })
 undone laws log pages site newest records table commits x at w lsn unfinished is some holds owes orderly =

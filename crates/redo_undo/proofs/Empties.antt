@@ -4,18 +4,18 @@ use Rattle.std.specs.List.{AllByRecursion}
 use Rattle.std.proofs.lemmas.Bool.Decides.{nat_tests}
 use Rattle.record_model.specs.State.{content_at}
 use Rattle.log_records.specs.Log.{Version, version_at}
-use Rattle.log_store.specs.Held.{end_of}
+use Rattle.log_store.specs.Representation.{end_of}
 use Rattle.slotted_page.specs.Layout.{lsn_of}
-use Rattle.flash_cache.specs.Held.{version_on}
+use Rattle.flash_cache.specs.Representation.{version_on}
 use Rattle.buffer_pool.specs.declared.frame.Frame.{Frame}
 use Rattle.buffer_pool.specs.Frames.{frame_of}
-use Rattle.page_store.specs.Held.{current, content_by}
+use Rattle.page_store.specs.Representation.{current, content_by}
 use Rattle.page_store.specs.Ahead.{IsLogged, end_forced}
 use Rattle.image_meaning.specs.Meaning.{next_block_under, versions_on, version_in}
 use Rattle.image_meaning.specs.Redone.{ShowsAll}
 use Rattle.redo_undo.specs.HoldingLaws.{EmptyHolds}
 use Rattle.redo_undo.specs.Laws.{LogLaws, PageLaws}
-use Rattle.redo_undo.proofs.Sames.{opened_holds}
+use Rattle.redo_undo.proofs.CallsInSequence.{opened_holds}
 
 pub logged_below : (n end : ℕ) → IsTrue ((n == 0) || nat_lt n end) → 0 < n → n < end
 logged_below n end logged some = grind (arith, nat_tests)
@@ -34,10 +34,8 @@ empty_holds logs laws log pages site newest table commits sizes kept ready sound
     })
     (λ page exists.
     let used = ready.records.tail.end in
-    let hi = ready.blocks.hi in
-    let next = ready.records.blocks.next in
     let at = laws.next newest [] in
-    subst (λ (c : List ℕ). lsn_of c < end_of log) (sym (unpooled page)) (below_by (lsn_of (version_on pages.flash.geometry site.image page)) (512 * next_block_under newest []) (end_of log) (version_lsn page exists) (omega (arith, used, hi, next, at)) (omega (arith, used))))
+    subst (λ (c : List ℕ). lsn_of c < end_of log) (sym (unpooled page)) (below_by (lsn_of (version_on pages.flash.geometry site.image page)) (512 * next_block_under newest []) (end_of log) (version_lsn page exists) (omega (arith, used, ready.blocks.hi, ready.records.blocks.next, at)) (omega (arith, used))))
   where
     unpooled : (page : ℕ) → current pages site.image page ≡ version_on pages.flash.geometry site.image page
     unpooled page = ap (λ (frames : List Frame). content_by (frame_of frames page) (version_on pages.flash.geometry site.image page)) none

@@ -8,7 +8,7 @@ use Rattle.site.specs.declared.outside.Dev.TheVariants.{Log}
 use Rattle.site.specs.declared.outside.Stop.{Stop}
 use Rattle.site.specs.declared.outside.Stop.TheVariants.{Device, Worn}
 use Rattle.site.specs.State.{State, IsQuiet}
-use Rattle.site.specs.Calls.{Goes}
+use Rattle.site.specs.Calls.{Preserves}
 use Rattle.site.specs.Moments.{ChangesOnly}
 use Rattle.record_model.specs.State.{Content}
 use Rattle.log_records.specs.declared.log_record.LogRecord.{LogRecord}
@@ -19,15 +19,15 @@ use Rattle.image_changes.specs.Rings.{Masters}
 use Rattle.image_changes.specs.Changes.{Reaches, ring_of}
 use Rattle.log_store.specs.declared.store.LogStore.{LogStore}
 use Rattle.log_store.specs.LogList.{LogList, sealed_if, changes_if}
-use Rattle.log_store.specs.Held as log_held
-use Rattle.log_store.specs.Held.{has_tail, end_of}
+use Rattle.log_store.specs.Representation as log_store
+use Rattle.log_store.specs.Representation.{has_tail, end_of}
 use Rattle.page_store.specs.declared.store.PageStore.{PageStore}
-use Rattle.page_store.specs.Held.{current}
+use Rattle.page_store.specs.Representation.{current}
 use Rattle.page_store.specs.Ahead.{end_forced}
 use Rattle.checkpoint.specs.declared.master.Master.{Master}
 use Rattle.image_meaning.specs.Meaning.{versions_on, version_in, kept_by}
 use Rattle.image_meaning.specs.Redone.{ShowsAll}
-use Rattle.redo_undo.specs.Holding.{Holds, blocks_to}
+use Rattle.redo_undo.specs.Holding.{Represents, blocks_to}
 use Rattle.redo_undo.specs.Laws.{LogLaws, PageLaws, BesideLaws}
 use Rattle.redo_undo.proofs.Standing.{last_of_all}
 use Rattle.redo_undo.proofs.Touched.{tail_blocks, runs_sealed}
@@ -39,11 +39,11 @@ pub record IsForced (log log' : LogStore) (list : LogList) (site new : State) : 
   pub empty : log'.used ≡ 2
   pub kept : log'.kept ≡ log.kept
   pub geometry : log'.geometry ≡ log.geometry
-  pub holds : log_held.Holds log' new.image (sealed_if (has_tail log) list)
-  pub finds : log_held.Finds log' new
+  pub holds : log_store.Represents log' new.image (sealed_if (has_tail log) list)
+  pub finds : log_store.Finds log' new
   pub reaches : Reaches log.geometry (changes_if (has_tail log) list) site.image new.image
   pub changes : ChangesOnly Log site new
-  pub goes : Goes site new
+  pub goes : Preserves site new
 
 pub none_now : (log' : LogStore) → log'.used ≡ 2 → has_tail log' ≡ false
 none_now log' empty = ap (nat_lt 2) empty
@@ -59,7 +59,7 @@ same_blocks log log' some next empty =
     let none : (if has_tail log' then 1 else 0) ≡ 0 = ap tail_blocks (none_now log' empty) in
     omega (arith, hi_after (has_tail log) log.ring.hi log'.ring.hi some next, one, none)
 
-module _ (logs : LogLaws) (laws : PageLaws) (beside : BesideLaws) (log : LogStore) (pages : PageStore) (site : State) (newest : Option Master) (records : List Entry) (table : List Content) (commits : ℕ) (h : Holds log pages site newest records table commits)
+module _ (logs : LogLaws) (laws : PageLaws) (beside : BesideLaws) (log : LogStore) (pages : PageStore) (site : State) (newest : Option Master) (records : List Entry) (table : List Content) (commits : ℕ) (h : Represents log pages site newest records table commits)
     (sizes : log.geometry ≡ pages.flash.geometry) (log' : LogStore) (new : State) (some : has_tail log ≡ true) (high : log.used ≤ block_len)
     (is : IsForced log log' (record { first = kept_by newest; blocks = h.log_holds.blocks; tail = h.log_holds.tail }) site new) where
   abbrev more : List (List LogRecord)
@@ -71,10 +71,10 @@ module _ (logs : LogLaws) (laws : PageLaws) (beside : BesideLaws) (log : LogStor
   blocks_are : blocks_to log' ≡ blocks_to log
   blocks_are = same_blocks log log' some is.next is.empty
 
-  held : log_held.Holds log' new.image (record { first = kept_by newest; blocks = more; tail = [] })
-  held = subst (λ (b : Bool). log_held.Holds log' new.image (sealed_if b (record { first = kept_by newest; blocks = h.log_holds.blocks; tail = h.log_holds.tail }))) some is.holds
+  held : log_store.Represents log' new.image (record { first = kept_by newest; blocks = more; tail = [] })
+  held = subst (λ (b : Bool). log_store.Represents log' new.image (sealed_if b (record { first = kept_by newest; blocks = h.log_holds.blocks; tail = h.log_holds.tail }))) some is.holds
 
-  pub forced_holds : Holds log' pages new newest records table commits
+  pub forced_holds : Represents log' pages new newest records table commits
   forced_holds =
       let same = versions_same beside pages site new is.changes in
       let stays = current_same beside pages site new is.changes in

@@ -1,4 +1,6 @@
 -- Undoing what analysis has found, record by record.
+use Rattle.analysis.proofs.Nexts.{some_left}
+use Rattle.analysis.proofs.Pending.{all_found}
 use Rattle.redo_undo.proofs.NextRecords.{order_ends}
 use Rattle.log_laws.proofs.Orders.{InTurn-append_all}
 use Rattle.std.proofs.Common.{◌≡◌, ℕ, ◌+◌, ◌-◌, ◌*◌, ◌≤◌, ◌<◌, ◌&&◌, ◌||◌, not, Bool, true, false, List, [], ◌∷◌, ◌++◌, length, Option, None, Some, true≢false, refl, sym, ap, subst, ◌∙◌, arith, append_assoc, append-nil}
@@ -17,7 +19,7 @@ use Rattle.log_laws.specs.Tail.{next_lsn}
 use Rattle.log_laws.specs.Analysis.{Unfinished, IsUnfinished}
 use Rattle.log_laws.specs.UndoLaws.{next_of}
 use Rattle.log_store.specs.declared.store.LogStore.{LogStore}
-use Rattle.log_store.specs.Held.{has_tail}
+use Rattle.log_store.specs.Representation.{has_tail}
 use Rattle.std.proofs.lemmas.Bool.{ltb-false, or_parts}
 use Rattle.page_store.specs.declared.store.PageStore.{PageStore}
 use Rattle.checkpoint.specs.declared.master.Master.{Master}
@@ -27,11 +29,10 @@ use Rattle.analysis.specs.declared.analysis.Loser.{Loser}
 use Rattle.analysis.specs.Open.{Open, found_in, IsTop, Remains}
 use Rattle.analysis.specs.Table.{listed}
 use Rattle.analysis.specs.Read.{IsTable, is_active, open_at}
-use Rattle.redo_undo.specs.Holding.{Holds, MayGrow, blocks_to}
+use Rattle.redo_undo.specs.Holding.{Represents, MayGrow, blocks_to}
 use Rattle.redo_undo.specs.UndoingAll.{IsOf, Remain, AreUpTo, IsUndoing, IsNextUndo, UndoesSome, UndoesAll}
 use Rattle.redo_undo.specs.Laws.{PageLaws, UndoLaws, FoundLaws}
 use Rattle.redo_undo.proofs.Compensations.{chain}
-use Rattle.redo_undo.proofs.Opens.{all_found}
 
 -- LSNs.
 
@@ -67,10 +68,6 @@ pub head_of : (updates : List Entry) (lsn : ℕ) → IsTop lsn (map (λ u. u.lsn
 head_of [] lsn top = absurd top
 head_of (u ∷ rest) lsn top = (u, rest, refl, top)
 
-some_at_top : (us : List ℕ) (lsn : ℕ) → IsTop lsn us → 0 < length us
-some_at_top [] lsn top = absurd top
-some_at_top (u ∷ us) lsn top = omega arith
-
 none_any : (test : Entry → Bool) (xs : List Entry) → list_any test xs ≡ false → filter test xs ≡ []
 none_any test [] none = refl
 none_any test (x ∷ xs) none = by (test x) none (none_any test xs)
@@ -79,7 +76,7 @@ none_any test (x ∷ xs) none = by (test x) none (none_any test xs)
     by true is rest = absurd (true≢false is)
     by false is rest = rest is
 
-module _ (found_laws : FoundLaws) (laws : UndoLaws) (log : LogStore) (pages : PageStore) (site : State) (newest : Option Master) (records : List Entry) (table : List Content) (commits : ℕ) (found : Analysis) (h : Holds log pages site newest records table commits) (is : IsTable [] records (listed found.table)) where
+module _ (found_laws : FoundLaws) (laws : UndoLaws) (log : LogStore) (pages : PageStore) (site : State) (newest : Option Master) (records : List Entry) (table : List Content) (commits : ℕ) (found : Analysis) (h : Represents log pages site newest records table commits) (is : IsTable [] records (listed found.table)) where
   pub undoable : IsUndoable records
   undoable = subst IsUndoable h.log_holds.runs_on.records_are (laws.undoable (picture_under newest pages.flash.geometry site.image h.log_holds.blocks) h.log_holds.tail h.log_holds.runs_on.carries)
 
@@ -120,7 +117,7 @@ module _ (found_laws : FoundLaws) (laws : UndoLaws) (log : LogStore) (pages : Pa
       let top : IsTop lsn of.x.updates = subst (λ (y : Open). IsTop lsn y.updates) same remains.top in
       let u = unfinished_of loser.txn of.x of.there in
       let count : loser.remaining ≡ length of.x.updates = ap (λ (l : Loser). l.remaining) of.same in
-      let some = some_at_top of.x.updates lsn top in (
+      let some = some_left of.x.updates lsn top in (
         record {
           loser = u.loser;
           last_is = ap (λ (l : Loser). l.last) of.same ∙ u.last_is;
@@ -167,7 +164,7 @@ module _ (found_laws : FoundLaws) (laws : UndoLaws) (log : LogStore) (pages : Pa
           absurd (true≢false (sym active ∙ ap (λ b. b && not (is_closed records t)) parts.0))
 
 -- The End of a transaction of which nothing remains.
-module _ (page_laws : PageLaws) (laws : UndoLaws) (log : LogStore) (pages : PageStore) (site : State) (newest : Option Master) (records : List Entry) (table : List Content) (commits : ℕ) (h : Holds log pages site newest records table commits) (x : Unfinished) (unfinished : IsUnfinished records x) (none : x.remaining ≡ 0) where
+module _ (page_laws : PageLaws) (laws : UndoLaws) (log : LogStore) (pages : PageStore) (site : State) (newest : Option Master) (records : List Entry) (table : List Content) (commits : ℕ) (h : Represents log pages site newest records table commits) (x : Unfinished) (unfinished : IsUnfinished records x) (none : x.remaining ≡ 0) where
   pub owes_end : (lsn : ℕ) → owed records ≡ owed (records ++ record { lsn = lsn; rec = End x.txn } ∷ []) + 1
   owes_end lsn =
       let owes : owed records ≡ owed (records ++ record { lsn = lsn; rec = End x.txn } ∷ []) + owed_by records x.txn =
@@ -190,7 +187,7 @@ module _ (page_laws : PageLaws) (laws : UndoLaws) (log : LogStore) (pages : Page
 
 -- One record more.
 module _ (laws : UndoLaws) (log : LogStore) (pages : PageStore) (site : State) (newest : Option Master) (records : List Entry) (table : List Content) (commits : ℕ) (found : Analysis) where
-  unfoldable pub one_more : (e : Entry) → Holds log pages site newest (records ++ e ∷ []) table commits → IsTable [] (records ++ e ∷ []) (listed found.table) → IsNextUndo records e → owed records ≡ owed (records ++ e ∷ []) + 1 →
+  unfoldable pub one_more : (e : Entry) → Represents log pages site newest (records ++ e ∷ []) table commits → IsTable [] (records ++ e ∷ []) (listed found.table) → IsNextUndo records e → owed records ≡ owed (records ++ e ∷ []) + 1 →
       (AreOrderly records → AreOrderly (records ++ e ∷ [])) → UndoesSome log pages site newest records table commits found e.lsn
   one_more e h is next owes orderly =
       let p = picture_under newest pages.flash.geometry site.image h.log_holds.blocks in
@@ -208,7 +205,7 @@ module _ (laws : UndoLaws) (log : LogStore) (pages : PageStore) (site : State) (
       }
 
   -- an End
-  unfoldable pub one_end : (t lsn : ℕ) → Holds log pages site newest (records ++ record { lsn = lsn; rec = End t } ∷ []) table commits → IsTable [] (records ++ record { lsn = lsn; rec = End t } ∷ []) (listed found.table) →
+  unfoldable pub one_end : (t lsn : ℕ) → Represents log pages site newest (records ++ record { lsn = lsn; rec = End t } ∷ []) table commits → IsTable [] (records ++ record { lsn = lsn; rec = End t } ∷ []) (listed found.table) →
       owed records ≡ owed (records ++ record { lsn = lsn; rec = End t } ∷ []) + 1 → (AreOrderly records → AreOrderly (records ++ record { lsn = lsn; rec = End t } ∷ [])) → UndoesSome log pages site newest records table commits found lsn
   one_end t lsn h is owes orderly =
       one_more (record { lsn = lsn; rec = End t }) h is (record { ends_first = λ clr. absurd (true≢false (sym clr)); greatest = λ clr. absurd (true≢false (sym clr)) }) owes orderly
@@ -254,13 +251,10 @@ all_undone found_laws laws log pages site newest records table commits found kno
     }
 
 -- Where each record is sealed all of them stand before the log's next block.
-pub sealed_up_to : PageLaws → UndoLaws → (log : LogStore) (pages : PageStore) (site : State) (newest : Option Master) (records : List Entry) (table : List Content) (commits known : ℕ) → Holds log pages site newest records table commits → has_tail log ≡ false → known ≡ 512 * log.ring.hi + 1 →
+pub sealed_up_to : PageLaws → UndoLaws → (log : LogStore) (pages : PageStore) (site : State) (newest : Option Master) (records : List Entry) (table : List Content) (commits known : ℕ) → Represents log pages site newest records table commits → has_tail log ≡ false → known ≡ 512 * log.ring.hi + 1 →
     AreUpTo known records
 sealed_up_to page_laws laws log pages site newest records table commits known h none at =
     let p = picture_under newest pages.flash.geometry site.image h.log_holds.blocks in
     let order = subst (λ (l : List Entry). IsInOrder (512 * kept_by newest) l (next_lsn p h.log_holds.tail)) h.log_holds.runs_on.records_are (laws.in_order p h.log_holds.tail h.log_holds.runs_on.carries) in
-    let hi = h.log_holds.ready.blocks.hi in
-    let next = h.log_holds.ready.records.blocks.next in
-    let used = h.log_holds.ready.records.tail.end in
     let few = ltb-false 2 log.used none in
-    below_end (512 * kept_by newest) records (next_lsn p h.log_holds.tail) known (let behind = page_laws.next newest h.log_holds.blocks in omega (arith, hi, next, used, few, at, behind)) order
+    below_end (512 * kept_by newest) records (next_lsn p h.log_holds.tail) known (let behind = page_laws.next newest h.log_holds.blocks in omega (arith, h.log_holds.ready.blocks.hi, h.log_holds.ready.records.blocks.next, h.log_holds.ready.records.tail.end, few, at, behind)) order

@@ -1,4 +1,5 @@
 -- The last record of an unfinished transaction.
+use Rattle.log_laws.proofs.Losers.{last_number_of}
 use Rattle.log_laws.proofs.Parts.{in_order_filter}
 use Rattle.std.proofs.Common.{◌≡◌, ℕ, ◌≤◌, ◌==◌, Bool, true, false, List, [], ◌∷◌, ◌++◌, length, None, Some, refl, sym, ap, subst, ◌∙◌, arith, ◌*◌, ◌+◌}
 use Rattle.std.specs.Prelude.{if◌then◌else◌, map, filter, find, drop, Option}
@@ -17,7 +18,7 @@ use Rattle.log_store.specs.LogList.{entries, at_lsn}
 use Rattle.page_store.specs.declared.store.PageStore.{PageStore}
 use Rattle.checkpoint.specs.declared.master.Master.{Master}
 use Rattle.image_meaning.specs.Meaning.{picture_under, kept_by}
-use Rattle.redo_undo.specs.Holding.{Holds}
+use Rattle.redo_undo.specs.Holding.{Represents}
 use Rattle.redo_undo.specs.Laws.{PageLaws, UndoLaws, FoundLaws}
 use Rattle.redo_undo.proofs.Compensations.{chain, found_at, entries_are}
 use Rattle.std.proofs.lemmas.Bool.{eqb-true}
@@ -48,10 +49,6 @@ last_split x (y ∷ xs) = let later = last_split y xs in (x ∷ later.0, later.1
 in_turn_last : (P : List Entry → Entry → Type 0) (earlier front : List Entry) (e : Entry) → InTurn P earlier (front ++ e ∷ []) → (before : List Entry) × P before e
 in_turn_last P earlier [] e turn = (earlier, turn.0)
 in_turn_last P earlier (x ∷ front) e turn = in_turn_last P (earlier ++ x ∷ []) front e turn.1
-
-last_number_end : (n : ℕ) (front : List Entry) (e : Entry) → last_number n (map (λ v. v.lsn) (front ++ e ∷ [])) ≡ e.lsn
-last_number_end n [] e = refl
-last_number_end n (x ∷ front) e = last_number_end x.lsn front e
 
 next_end : (n : ℕ) (front : List Entry) (e : Entry) → next_in n (front ++ e ∷ []) ≡ next_by (next_in n front) e.lsn e.rec
 next_end n [] e = refl
@@ -105,7 +102,7 @@ after_first : (from to : ℕ) (front : List Entry) (e : Entry) → IsInOrder fro
 after_first from to [] e order = omega arith
 after_first from to (x ∷ front) e order = let a = last_after (x.lsn + 1) front e to order.1 in omega (arith, a)
 
-module _ (page_laws : PageLaws) (found_laws : FoundLaws) (laws : UndoLaws) (log : LogStore) (pages : PageStore) (site : State) (newest : Option Master) (records : List Entry) (table : List Content) (commits : ℕ) (h : Holds log pages site newest records table commits) (x : Unfinished) (unfinished : IsUnfinished records x) where
+module _ (page_laws : PageLaws) (found_laws : FoundLaws) (laws : UndoLaws) (log : LogStore) (pages : PageStore) (site : State) (newest : Option Master) (records : List Entry) (table : List Content) (commits : ℕ) (h : Represents log pages site newest records table commits) (x : Unfinished) (unfinished : IsUnfinished records x) where
   its_chain : IsLoserChain x.txn (entries_of x.txn records)
   its_chain = chain page_laws laws log pages site newest records table commits h x unfinished
 
@@ -130,7 +127,7 @@ module _ (page_laws : PageLaws) (found_laws : FoundLaws) (laws : UndoLaws) (log 
       let e = last.0 in
       let is = last.1 in
       let split = split_at (is_of x.txn) records is.front e [] is.are in
-      let at : x.last ≡ e.lsn = unfinished.last_is ∙ ap last_lsn is.are ∙ last_number_end 0 is.front e in
+      let at : x.last ≡ e.lsn = unfinished.last_is ∙ ap last_lsn is.are ∙ last_number_of 0 is.front e in
       let own : txn_of e ≡ x.txn = eqb-true (txn_of e) x.txn split.3 in
       let ordered = subst (λ (l : List Entry). IsInOrder (512 * kept_by newest) l end) split.2 order in
       let head : first_lsn (is.front ++ e ∷ []) ≡ x.txn = ap first_lsn (sym is.are) ∙ ap first_lsn its_chain.begins in
@@ -155,7 +152,7 @@ module _ (page_laws : PageLaws) (found_laws : FoundLaws) (laws : UndoLaws) (log 
       let last = last_of_chain x.txn (entries_of x.txn records) its_chain in
       let e = last.0 in
       let is = last.1 in
-      let at : x.last ≡ e.lsn = unfinished.last_is ∙ ap last_lsn is.are ∙ last_number_end 0 is.front e in
+      let at : x.last ≡ e.lsn = unfinished.last_is ∙ ap last_lsn is.are ∙ last_number_of 0 is.front e in
       let head : first_lsn (is.front ++ e ∷ []) ≡ x.txn = ap first_lsn (sym is.are) ∙ ap first_lsn its_chain.begins in
       let begun = after_first (512 * kept_by newest) end is.front e (subst (λ (l : List Entry). IsInOrder (512 * kept_by newest) l end) is.are (in_order_filter (is_of x.txn) (512 * kept_by newest) records end order)) in
       omega (arith, begun, head, at, begin_kept)

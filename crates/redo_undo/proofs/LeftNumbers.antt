@@ -3,6 +3,7 @@ use Rattle.std.proofs.Common.{◌≡◌, inl, inr, ◌+◌, ◌≤◌, Bool, tru
 use Rattle.std.specs.Prelude.{Result, Err, OnOk, Some, ◌≢◌, if◌then◌else◌}
 use Rattle.std.specs.List.{AllByRecursion}
 use Rattle.std.proofs.lemmas.List.{length-append}
+use Rattle.std_lemmas.proofs.AllOf.{all_left}
 use Rattle.site.specs.declared.geometry.Geometry.{Geometry}
 use Rattle.site.specs.State.{State, Image, Snapshot, snapshot_of}
 use Rattle.site.specs.Moments.{LeavesOnly}
@@ -14,14 +15,13 @@ use Rattle.image_changes.specs.Reached.{IsReached, IsFrontOf, LeavesFront}
 use Rattle.image_changes.specs.Laws.{RingKept}
 use Rattle.log_store.specs.declared.store.LogStore.{LogStore}
 use Rattle.log_store.specs.LogList.{LogList, changes_if}
-use Rattle.log_store.specs.Held.{LeavesLog, has_tail}
+use Rattle.log_store.specs.Representation.{LeavesLog, has_tail}
 use Rattle.page_store.specs.declared.store.PageStore.{PageStore}
 use Rattle.page_store.specs.Leaves.{AreReady, LeavesPages}
 use Rattle.page_store.specs.Ahead.{end_forced}
 use Rattle.redo_undo.specs.Holding.{blocks_to}
 use Rattle.redo_undo.specs.Numbers.{SkipsNone}
 use Rattle.redo_undo.proofs.Touched.{tail_blocks}
-use Rattle.redo_undo.proofs.Opens.{all_front}
 use Rattle.redo_undo.proofs.Forced.{seals_only, same_blocks}
 use Rattle.site.proofs.Working.{ok_as, ok_always}
 
@@ -69,7 +69,7 @@ pub log_skips : RingKept → {T E : Type 0} (r : Result T E) (g : Geometry) (log
 log_skips kept r g log log' list sealing site new n hi some leaves front count =
     let is = holds_now site new (IsReached g (IsFrontOf (changes_if sealing list)) site) front in
     let others : AllByRecursion (λ change. ring_of change ≢ Some Masters) is.changes =
-    all_front (λ change. ring_of change ≢ Some Masters) is.changes is.made.0 (subst (AllByRecursion (λ change. ring_of change ≢ Some Masters)) is.made.1 (seals_only sealing list)) in
+    all_left (λ change. ring_of change ≢ Some Masters) is.changes is.made.0 (subst (AllByRecursion (λ change. ring_of change ≢ Some Masters)) is.made.1 (seals_only sealing list)) in
     left_skips r g log log' list sealing site new n hi some (holds_now site new (LeavesLog g sealing list site.told) leaves) (kept g Masters is.changes site.image new.image others is.reaches) count
 
 -- a tail that is sealed was counted before

@@ -21,9 +21,9 @@ use Rattle.log_store.specs.LogList.{entries, at_lsn}
 use Rattle.checkpoint.specs.declared.master.Master.{Master}
 use Rattle.image_meaning.specs.Meaning.{picture_under, kept_by}
 use Rattle.page_store.specs.declared.store.PageStore.{PageStore}
-use Rattle.redo_undo.specs.Holding.{Holds}
+use Rattle.redo_undo.specs.Holding.{Represents}
 use Rattle.redo_undo.specs.Laws.{PageLaws, UndoLaws, FoundLaws}
-use Rattle.redo_undo.specs.Works.{Asks}
+use Rattle.redo_undo.specs.MachineSteps.{StepsMachine}
 use Rattle.redo_undo.proofs.Compensations.{chain, found_at, entries_are}
 use Rattle.redo_undo.specs.UndoWorks.{works_of}
 
@@ -54,7 +54,7 @@ none_of (x ∷ xs) is = absurd (omega (arith, is))
 pub record AsksSoFar (records clrs : List Entry) (txn : ℕ) (old new : PageStore) (before now : State) : Type 0 where
   pub done : List Entry
   pub are : left_open records txn ≡ done ++ left_open (records ++ clrs) txn
-  pub asks : Asks {T = ⊤} (Ok tt) (works_of done) old new before now
+  pub asks : StepsMachine {T = ⊤} (Ok tt) (works_of done) old new before now
 
 -- The LSNs of what is left fall.
 
@@ -93,7 +93,7 @@ pub left_falls : (from to : ℕ) (records : List Entry) (t : ℕ) → IsInOrder 
 left_falls from to records t order = updates_fall from to (entries_of t records) [] (in_order_filter (is_of t) from records to order) (record { below = tt; fall = tt })
 
 -- The record where undoing goes on is the last Update that is left.
-module _ (pages_laws : PageLaws) (found_laws : FoundLaws) (laws : UndoLaws) (log : LogStore) (pages : PageStore) (site : State) (newest : Option Master) (records : List Entry) (table : List Content) (commits : ℕ) (h : Holds log pages site newest records table commits) (x : Unfinished) (unfinished : IsUnfinished records x) (u : Entry) (rest : List Entry) (left : left_open records x.txn ≡ u ∷ rest) where
+module _ (pages_laws : PageLaws) (found_laws : FoundLaws) (laws : UndoLaws) (log : LogStore) (pages : PageStore) (site : State) (newest : Option Master) (records : List Entry) (table : List Content) (commits : ℕ) (h : Represents log pages site newest records table commits) (x : Unfinished) (unfinished : IsUnfinished records x) (u : Entry) (rest : List Entry) (left : left_open records x.txn ≡ u ∷ rest) where
   abbrev end : ℕ
   end = next_lsn (picture_under newest pages.flash.geometry site.image h.log_holds.blocks) h.log_holds.tail
 

@@ -4,7 +4,7 @@ pub mod Touched
 pub mod Appended
 pub mod Changed
 pub mod Compensations
-pub mod Sames
+pub mod CallsInSequence
 pub mod Rollbacks
 pub mod Empties
 pub mod Committed
@@ -36,6 +36,7 @@ pub mod WornLogs
 pub mod RingNumbers
 pub mod UndoneNumbers
 pub mod LeftNumbers
+pub mod Endings
 pub mod Calling
 pub mod StoreCalling
 pub mod StoreRollbacks

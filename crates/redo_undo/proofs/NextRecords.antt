@@ -1,5 +1,8 @@
 -- The next record of an opened log is redone.
+use Rattle.log_records.proofs.Entries.{in_order_least}
+use Rattle.std_lemmas.proofs.AllOf.{all_between}
 use Rattle.log_laws.proofs.Losers.{last_number_of}
+use Rattle.std.proofs.lemmas.List.Elements.{filter-append}
 use Rattle.std.proofs.Common.{◌≡◌, ◌≢◌, ◌⊎◌, inl, inr, ℕ, ◌+◌, ◌-◌, ◌*◌, ◌/◌, ◌≤◌, ◌<◌, List, [], ◌∷◌, ◌++◌, length, map, Some, refl, sym, ap, subst, ◌∙◌, arith, true, false, Bool}
 use Rattle.std.specs.List.{AllByRecursion}
 use Rattle.std.proofs.lemmas.Bool.{cases_eq, lt-ltb, cond-true}
@@ -12,7 +15,7 @@ use Rattle.slotted_page.specs.Layout.{lsn_of}
 use Rattle.log_store.specs.declared.store.LogStore.{LogStore}
 use Rattle.buffer_pool.specs.Frames.{front_of}
 use Rattle.page_store.specs.declared.store.PageStore.{PageStore}
-use Rattle.page_store.specs.Held.{current, Fits}
+use Rattle.page_store.specs.Representation.{current, Matches}
 use Rattle.page_store.specs.Ahead.{IsAhead, end_forced}
 use Rattle.image_meaning.specs.Meaning.{versions_on, version_in, kept_by, next_block_under}
 use Rattle.image_meaning.specs.Redone.{IsRedone, AreKnown, Redoes}
@@ -25,21 +28,8 @@ use Rattle.std.specs.Prelude.{if◌then◌else◌, filter, nat_lt}
 use Rattle.redo_undo.specs.Redoing.{Opening, opened, IsFrom, IsRedoing, heard_of}
 use Rattle.flash_cache.proofs.Given.{all_append}
 
-one_of_all : {X : Type 0} (P : X → Type 0) (front : List X) (x : X) (rest : List X) → AllByRecursion P (front ++ x ∷ rest) → P x
-one_of_all P [] x rest all = all.0
-one_of_all P (y ∷ front) x rest all = one_of_all P front x rest all.1
-
--- one item passes a test
-filter_append : (test : Entry → Bool) (xs ys : List Entry) → filter test (xs ++ ys) ≡ filter test xs ++ filter test ys
-filter_append test [] ys = refl
-filter_append test (x ∷ xs) ys = by (test x) (filter_append test xs ys)
-  where
-    by : (b : Bool) → filter test (xs ++ ys) ≡ filter test xs ++ filter test ys → (if b then x ∷ filter test (xs ++ ys) else filter test (xs ++ ys)) ≡ (if b then x ∷ filter test xs else filter test xs) ++ filter test ys
-    by true rest = ap (λ (l : List Entry). x ∷ l) rest
-    by false rest = rest
-
 pub filter_split : (test : Entry → Bool) (front : List Entry) (e : Entry) (rest : List Entry) → test e ≡ true → filter test (front ++ e ∷ rest) ≡ filter test front ++ e ∷ filter test rest
-filter_split test front e rest here = filter_append test front (e ∷ rest) ∙ ap (λ (l : List Entry). filter test front ++ l) (cond-true (test e) (e ∷ filter test rest) (filter test rest) here)
+filter_split test front e rest here = filter-append test front (e ∷ rest) ∙ ap (λ (l : List Entry). filter test front ++ l) (cond-true (test e) (e ∷ filter test rest) (filter test rest) here)
 
 -- a record of an ordered log stands before the log's end
 pub order_ends : (from to : ℕ) (log : List Entry) → IsInOrder from log to → from ≤ to
@@ -50,15 +40,10 @@ before_end : (from to : ℕ) (front : List Entry) (e : Entry) (rest : List Entry
 before_end from to [] e rest ordered = let later = order_ends (e.lsn + 1) to rest ordered.1 in omega (arith, later)
 before_end from to (x ∷ front) e rest ordered = before_end (x.lsn + 1) to front e rest ordered.1
 
--- the last of some records stands below the next one
-comes_after : (from to : ℕ) (front : List Entry) (e : Entry) (rest : List Entry) → IsInOrder from (front ++ e ∷ rest) to → from ≤ e.lsn
-comes_after from to [] e rest ordered = ordered.0
-comes_after from to (x ∷ front) e rest ordered = let later = comes_after (x.lsn + 1) to front e rest ordered.1 in let first = ordered.0 in omega (arith, later, first)
-
 last_before : (from to n : ℕ) (front : List Entry) (e : Entry) (rest : List Entry) → IsInOrder from (front ++ e ∷ rest) to → n ≤ e.lsn - 1 → last_number n (map (λ x. x.lsn) front) ≤ e.lsn - 1
 last_before from to n [] e rest ordered low = low
 last_before from to n (x ∷ front) e rest ordered low =
-    last_before (x.lsn + 1) to x.lsn front e rest ordered.1 (omega (arith, comes_after (x.lsn + 1) to front e rest ordered.1))
+    last_before (x.lsn + 1) to x.lsn front e rest ordered.1 (omega (arith, in_order_least (x.lsn + 1) to front e rest ordered.1))
 
 from_more : (p : Picture) (front : List Entry) (e : Entry) (page lsn : ℕ) → last_lsn front ≤ e.lsn - 1 → IsFrom p front page lsn → IsFrom p (front ++ e ∷ []) page lsn
 from_more p front e page lsn low (inl same) = inl same
@@ -77,7 +62,7 @@ module _ (laws : PageLaws) (redo : RedoLaws) (o : Opening) (log : LogStore) (pag
   -- its page exists
   pub page_exists : (page number : ℕ) → number_of e.rec ≡ Some number → number / 32 ≡ page → page < o.sizes.pages
   page_exists page number own at =
-      let within = one_of_all (IsInTable (versions_on o.sizes o.image)) front e rest (subst (AllByRecursion (IsInTable (versions_on o.sizes o.image))) is h.sound.in_table) in
+      let within = all_between (IsInTable (versions_on o.sizes o.image)) front e rest (subst (AllByRecursion (IsInTable (versions_on o.sizes o.image))) is h.sound.in_table) in
       omega (arith, within number own, laws.count o.sizes o.image, at)
 
   hi_is : log.ring.hi ≡ next_block_under o.newest o.blocks
@@ -110,11 +95,11 @@ module _ (laws : PageLaws) (redo : RedoLaws) (o : Opening) (log : LogStore) (pag
       let fits = h.sound.versions_fit page (omega (arith, exists, laws.count o.sizes o.image)) in
       let before : before_block (opened o).master.redo (opened o).log ≡ before_block (opened o).master.redo front ++ e ∷ before_block (opened o).master.redo rest =
       ap (before_block (opened o).master.redo) is ∙ filter_split (λ (x : Entry). nat_lt x.lsn (512 * (opened o).master.redo)) front e rest (lt-ltb e.lsn (512 * (opened o).master.redo) early) in
-      let knows = one_of_all (λ (x : Entry). (n : ℕ) → number_of x.rec ≡ Some n → n / 32 ≡ page → x.lsn ≤ (version_at (opened o).pages page).lsn) (before_block (opened o).master.redo front) e (before_block (opened o).master.redo rest)
+      let knows = all_between (λ (x : Entry). (n : ℕ) → number_of x.rec ≡ Some n → n / 32 ≡ page → x.lsn ≤ (version_at (opened o).pages page).lsn) (before_block (opened o).master.redo front) e (before_block (opened o).master.redo rest)
       (subst (AllByRecursion (λ (x : Entry). (n : ℕ) → number_of x.rec ≡ Some n → n / 32 ≡ page → x.lsn ≤ (version_at (opened o).pages page).lsn)) before fits.knows) number own at in
       omega (arith, knows, (h.redone page exists).later)
 
-  with_known : (pages' : PageStore) → pages'.flash.geometry ≡ pages.flash.geometry → Fits pages' site → IsAhead log pages' site.image →
+  with_known : (pages' : PageStore) → pages'.flash.geometry ≡ pages.flash.geometry → Matches pages' site → IsAhead log pages' site.image →
       ((page : ℕ) → page < o.sizes.pages → IsRedone (opened o) page (version_in (current pages' site.image page)) × AreKnown (front ++ e ∷ []) page (lsn_of (current pages' site.image page)) × IsFrom (opened o) (front ++ e ∷ []) page (lsn_of (current pages' site.image page))) →
       IsRedoing o log pages' site (front ++ e ∷ [])
   with_known pages' same fits are_ahead each = record {
@@ -167,5 +152,5 @@ module _ (laws : PageLaws) (redo : RedoLaws) (o : Opening) (log : LogStore) (pag
           from_still page exists,
         )
 
-    pub changed : pages'.flash.geometry ≡ pages.flash.geometry → Fits pages' site → IsAhead log pages' site.image → IsRedoing o log pages' site (front ++ e ∷ [])
+    pub changed : pages'.flash.geometry ≡ pages.flash.geometry → Matches pages' site → IsAhead log pages' site.image → IsRedoing o log pages' site (front ++ e ∷ [])
     changed same fits are_ahead = with_known pages' same fits are_ahead (λ page exists. each_page page exists (cases_eq page on))

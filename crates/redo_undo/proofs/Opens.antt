@@ -5,20 +5,12 @@ use Rattle.std.specs.List.{AllByRecursion}
 use Rattle.std.proofs.lemmas.Bool.{ne_eqb, eq-eqb}
 use Rattle.std.proofs.lemmas.List.Sums.{sum_by-cons}
 use Rattle.std.proofs.lemmas.Option.{none-some, same_Some}
+use Rattle.std_lemmas.proofs.AllOf.{all_both, all_left, all_right}
 use Rattle.analysis.specs.declared.analysis.Loser.{Loser}
 use Rattle.analysis.specs.Open.{Open, owed_one, owed_for, found_in, AscendFrom, Replaces, TakesOut}
 use Rattle.analysis.specs.Read.{loser_of}
 use Rattle.redo_undo.specs.UndoingAll.{IsOf, Remain, HasNone}
 use Rattle.flash_cache.proofs.Given.{all_append}
-use Rattle.page_store.proofs.Saving.{all_both}
-
-pub all_front : {X : Type 0} (P : X → Type 0) (front left : List X) → AllByRecursion P (front ++ left) → AllByRecursion P front
-all_front P [] left all = tt
-all_front P (x ∷ front) left all = (all.0, all_front P front left all.1)
-
-pub all_rest : {X : Type 0} (P : X → Type 0) (front left : List X) → AllByRecursion P (front ++ left) → AllByRecursion P left
-all_rest P [] left all = all
-all_rest P (x ∷ front) left all = all_rest P front left all.1
 
 -- Looked at place by place.
 
@@ -39,7 +31,7 @@ above n (x ∷ table) ascend =
     (low, all_both (λ y. x.txn + 1 ≤ y.txn) (λ y. x.txn + 1 ≤ y.txn) (λ y. n ≤ y.txn) (λ y p q. omega (arith, p, low)) table (above (x.txn + 1) table ascend.1) (above (x.txn + 1) table ascend.1))
 
 at_least : (n : ℕ) (front : List Open) (was : Open) (back : List Open) → AscendFrom n (front ++ was ∷ back) → n ≤ was.txn
-at_least n front was back ascend = (all_rest (λ x. n ≤ x.txn) front (was ∷ back) (above n (front ++ was ∷ back) ascend)).0
+at_least n front was back ascend = (all_right (λ x. n ≤ x.txn) front (was ∷ back) (above n (front ++ was ∷ back) ascend)).0
 
 pub found_here : (n : ℕ) (front : List Open) (was : Open) (back : List Open) → AscendFrom n (front ++ was ∷ back) → found_in (front ++ was ∷ back) was.txn ≡ Some was
 found_here n [] was back ascend = ap (λ b. cond b (Some was) (found_in back was.txn)) (eq-eqb was.txn was.txn refl)
@@ -52,15 +44,6 @@ others_differ n [] was back ascend =
     all_both (λ y. was.txn + 1 ≤ y.txn) (λ y. was.txn + 1 ≤ y.txn) (λ y. y.txn ≢ was.txn) (λ y p q same. omega (arith, p, same)) back (above (was.txn + 1) back ascend.1) (above (was.txn + 1) back ascend.1)
 others_differ n (x ∷ front) was back ascend =
     (λ same. omega (arith, at_least (x.txn + 1) front was back ascend.1, same), others_differ (x.txn + 1) front was back ascend.1)
-
--- what holds of all holds of what is found
-pub all_found : (P : Open → Type 0) (table : List Open) (t : ℕ) (x : Open) → AllByRecursion P table → found_in table t ≡ Some x → P x
-all_found P [] t x all is = absurd (none-some x is)
-all_found P (y ∷ table) t x all is = by (y.txn == t) is (all_found P table t x all.1)
-  where
-    by : (b : Bool) → cond b (Some y) (found_in table t) ≡ Some x → (found_in table t ≡ Some x → P x) → P x
-    by true is later = subst P (same_Some y x is) all.0
-    by false is later = later is
 
 -- What undo changes of it.
 
@@ -87,8 +70,8 @@ still_remain old new loser last ascend all is more r =
     let same = first_is old loser.txn r.front r.was r.back is.x ascend r.old_is r.of is.there in
     let count : loser.remaining ≡ length r.was.updates = ap (λ (l : Loser). l.remaining) is.same ∙ sym (ap (λ (x : Open). length x.updates) same) in
     subst Remain (sym r.new_is)
-    (all_append (λ x. 0 < length x.updates) r.front (undone_by last r.was ∷ r.back) (all_front (λ x. 0 < length x.updates) r.front (r.was ∷ r.back) parts)
-    (drop_some r.was.updates (omega (arith, more, count)), (all_rest (λ x. 0 < length x.updates) r.front (r.was ∷ r.back) parts).1))
+    (all_append (λ x. 0 < length x.updates) r.front (undone_by last r.was ∷ r.back) (all_left (λ x. 0 < length x.updates) r.front (r.was ∷ r.back) parts)
+    (drop_some r.was.updates (omega (arith, more, count)), (all_right (λ x. 0 < length x.updates) r.front (r.was ∷ r.back) parts).1))
 
 -- and else none does
 pub none_remains_of : (old new : List Open) (loser : Loser) (last : ℕ) → AscendFrom 0 old → AscendFrom 0 new → IsOf old loser → loser.remaining ≤ 1 → Replaces old new loser.txn (undone_by last) → HasNone new loser.txn
@@ -108,14 +91,14 @@ others_remain old mid new t last ascend all r out =
     let but : AllByRecursion (λ (x : Open). x.txn ≢ t → 0 < length x.updates) mid =
     subst (AllByRecursion (λ (x : Open). x.txn ≢ t → 0 < length x.updates)) (sym r.new_is)
     (all_append (λ x. x.txn ≢ t → 0 < length x.updates) r.front (undone_by last r.was ∷ r.back)
-    (all_weaker r.front (all_front (λ x. 0 < length x.updates) r.front (r.was ∷ r.back) parts))
-    (λ differ. absurd (differ r.of), all_weaker r.back ((all_rest (λ x. 0 < length x.updates) r.front (r.was ∷ r.back) parts).1))) in
+    (all_weaker r.front (all_left (λ x. 0 < length x.updates) r.front (r.was ∷ r.back) parts))
+    (λ differ. absurd (differ r.of), all_weaker r.back ((all_right (λ x. 0 < length x.updates) r.front (r.was ∷ r.back) parts).1))) in
     let there = subst (AllByRecursion (λ (x : Open). x.txn ≢ t → 0 < length x.updates)) out.old_is but in
     subst Remain (sym out.new_is)
     (all_both (λ x. x.txn ≢ out.was.txn) (λ x. x.txn ≢ t → 0 < length x.updates) (λ x. 0 < length x.updates) (λ x differ some. some (λ same. differ (same ∙ sym out.of))) (out.front ++ out.back)
     (others_differ 0 out.front out.was out.back (subst (AscendFrom 0) out.old_is ascend))
-    (all_append (λ x. x.txn ≢ t → 0 < length x.updates) out.front out.back (all_front (λ x. x.txn ≢ t → 0 < length x.updates) out.front (out.was ∷ out.back) there)
-    ((all_rest (λ x. x.txn ≢ t → 0 < length x.updates) out.front (out.was ∷ out.back) there).1)))
+    (all_append (λ x. x.txn ≢ t → 0 < length x.updates) out.front out.back (all_left (λ x. x.txn ≢ t → 0 < length x.updates) out.front (out.was ∷ out.back) there)
+    ((all_right (λ x. x.txn ≢ t → 0 < length x.updates) out.front (out.was ∷ out.back) there).1)))
   where
     all_weaker : (xs : List Open) → AllByRecursion (λ x. 0 < length x.updates) xs → AllByRecursion (λ x. x.txn ≢ t → 0 < length x.updates) xs
     all_weaker [] all = tt

@@ -1,5 +1,6 @@
 -- All Updates that no CLR compensates, as one after the other is compensated.
 use Rattle.log_laws.proofs.Parts.{in_order_filter}
+use Rattle.std.proofs.Math.Bool.{or-false, and-false, and-true}
 use Rattle.log_laws.proofs.Orders.{filter_all}
 use Rattle.std.proofs.Common.{◌≡◌, ℕ, ◌+◌, ◌≤◌, ◌<◌, ◌==◌, Bool, true, false, not, ◌&&◌, ◌||◌, List, [], ◌∷◌, ◌++◌, Option, None, Some, true≢false, refl, sym, ap, subst, ◌∙◌, arith, append-nil}
 use Rattle.std.specs.Prelude.{if◌then◌else◌, filter, reverse, drop}
@@ -75,18 +76,10 @@ pending_more records c other =
     ∙ ap (λ (b : Bool). filter (waits (records ++ c ∷ [])) records ++ (if b && not (is_closed (records ++ c ∷ []) (txn_of c)) && list_any (λ u. u.lsn == c.lsn) (left_open (records ++ c ∷ []) (txn_of c)) then c ∷ [] else [])) other
     ∙ append-nil (filter (waits (records ++ c ∷ [])) records)
 
-pub or_false : (b : Bool) → (b || false) ≡ b
-or_false true = refl
-or_false false = refl
-
-pub and_false : (b : Bool) → (b && false) ≡ false
-and_false true = refl
-and_false false = refl
-
 -- a record that closes nothing closes nothing
 closed_stays : (records : List Entry) (c : Entry) (t : ℕ) → (is_of t c && is_closing c.rec) ≡ false → is_closed (records ++ c ∷ []) t ≡ is_closed records t
 closed_stays records c t not_closed =
-    list_any-append (λ e. is_of t e && is_closing e.rec) records (c ∷ []) ∙ ap (λ (b : Bool). is_closed records t || (b || false)) not_closed ∙ or_false (is_closed records t)
+    list_any-append (λ e. is_of t e && is_closing e.rec) records (c ∷ []) ∙ ap (λ (b : Bool). is_closed records t || (b || false)) not_closed ∙ or-false (is_closed records t)
 
 -- another transaction's record leaves what is left
 left_stays : LeftPush → (records : List Entry) (c : Entry) (t : ℕ) → is_of t c ≡ false → left_open (records ++ c ∷ []) t ≡ left_open records t
@@ -126,7 +119,7 @@ module _ (push : LeftPush) (records : List Entry) (c u : Entry) (rest : List Ent
   gone e = u.lsn == e.lsn && is_of (txn_of e) c
 
   closed_still : (t : ℕ) → is_closed (records ++ c ∷ []) t ≡ is_closed records t
-  closed_still t = closed_stays records c t (ap (λ (b : Bool). is_of t c && b) (not_closing c.rec clr).0 ∙ and_false (is_of t c))
+  closed_still t = closed_stays records c t (ap (λ (b : Bool). is_of t c && b) (not_closing c.rec clr).0 ∙ and-false (is_of t c))
 
   waits_on : (e : Entry) → waits (records ++ c ∷ []) e ≡ (waits records e && not (gone e))
   waits_on e = by (is_of (txn_of e) c) refl
@@ -134,11 +127,7 @@ module _ (push : LeftPush) (records : List Entry) (c u : Entry) (rest : List Ent
       by : (b : Bool) → is_of (txn_of e) c ≡ b → waits (records ++ c ∷ []) e ≡ (waits records e && not (gone e))
       by false other =
           waits_same records (records ++ c ∷ []) e (closed_still (txn_of e)) (left_stays push records c (txn_of e) other)
-          ∙ sym (ap (λ (b : Bool). waits records e && not (u.lsn == e.lsn && b)) other ∙ ap (λ (b : Bool). waits records e && not b) (and_false (u.lsn == e.lsn)) ∙ and_true (waits records e))
-        where
-          and_true : (b : Bool) → (b && true) ≡ b
-          and_true true = refl
-          and_true false = refl
+          ∙ sym (ap (λ (b : Bool). waits records e && not (u.lsn == e.lsn && b)) other ∙ ap (λ (b : Bool). waits records e && not b) (and-false (u.lsn == e.lsn)) ∙ and-true (waits records e))
       by true own =
           let t : txn_of c ≡ txn_of e = eqb-true (txn_of c) (txn_of e) own in
           let was : left_open records (txn_of e) ≡ u ∷ rest = sym (ap (left_open records) t) ∙ left in

@@ -5,7 +5,7 @@ use Rattle.std.specs.List.{AllByRecursion}
 use Rattle.std.proofs.lemmas.Bool.Decides.{nat_tests}
 use Rattle.site.specs.declared.geometry.Geometry.{Geometry}
 use Rattle.site.specs.State.{State, Image, Snapshot, snapshot_of, IsQuiet}
-use Rattle.site.specs.Calls.{Goes, IsUnchanged}
+use Rattle.site.specs.Calls.{Preserves, IsUnchanged}
 use Rattle.site.specs.Moments.{Leaves, LeavesOnly}
 use Rattle.site.specs.Laws.{each_both, each_weaker, no_call, unchanged_calm, stays_honest, quiet_leaves}
 use Rattle.sealed_ring.specs.Ring.{IsRing, hi_of}
@@ -20,26 +20,26 @@ use Rattle.slotted_page.specs.Layout as page
 use Rattle.slotted_page.specs.Layout.{lsn_of}
 use Rattle.log_store.specs.declared.store.LogStore.{LogStore}
 use Rattle.log_store.specs.LogList.{LogList, sealed_if}
-use Rattle.log_store.specs.Held as log_held
-use Rattle.log_store.specs.Held.{HasBlocks, has_tail, end_of}
-use Rattle.flash_cache.specs.Held.{version_on, IsCleanOn}
+use Rattle.log_store.specs.Representation as log_store
+use Rattle.log_store.specs.Representation.{HasBlocks, has_tail, end_of}
+use Rattle.flash_cache.specs.Representation.{version_on, IsCleanOn}
 use Rattle.buffer_pool.specs.declared.frame.Frame.{Frame}
 use Rattle.buffer_pool.specs.Frames.{frame_of}
 use Rattle.page_store.specs.declared.store.PageStore.{PageStore}
-use Rattle.page_store.specs.Held.{IsStore, current, content_by}
+use Rattle.page_store.specs.Representation.{IsStore, current, content_by}
 use Rattle.page_store.specs.Ahead.{IsAhead, IsLogged, end_forced, forces, sealed_end}
 use Rattle.page_store.specs.Leaves.{AreReady, LeavesPages, LeavesRings, KeepsCurrent}
 use Rattle.image_meaning.specs.Meaning.{IsSoundUnder, StandsUnder, picture_under, versions_on, version_in, kept_by, next_block_under}
 use Rattle.image_meaning.specs.Redone.{IsRedone, AreKnown, ShowsAll}
 use Rattle.image_meaning.specs.Pictures.{ReplaceAll}
 use Rattle.image_meaning.specs.Beside.{AreRingsSoundUnder}
-use Rattle.redo_undo.specs.Holding.{Holds, ShowRecords}
+use Rattle.redo_undo.specs.Holding.{Represents, ShowRecords}
 use Rattle.redo_undo.specs.HoldingLaws.{OpenedHolds}
 use Rattle.redo_undo.specs.Laws.{PageLaws}
 use Rattle.redo_undo.specs.RedoLaws.{RedoLaws}
 use Rattle.redo_undo.specs.Redoing.{IsOpened, Opening, opened, IsFrom, LeavesOpened, IsRedoing}
 use Rattle.checkpoint.specs.declared.master.Master.{Master}
-use Rattle.redo_undo.proofs.Sames.{units_then, only_read}
+use Rattle.redo_undo.proofs.CallsInSequence.{units_then, only_read}
 use Rattle.redo_undo.proofs.Standing.{current_sound}
 use Rattle.redo_undo.proofs.Empties.{logged_below}
 
@@ -245,7 +245,7 @@ module _ (opens : OpenedHolds) (laws : PageLaws) (redo : RedoLaws) (o : Opening)
       let less = before_two (lsn_of (current pages site.image number)) (512 * next_block_under o.newest o.blocks) (h.redone number exists).logged in
       omega (arith, h.ready.blocks.hi, h.ready.records.blocks.next, h.ready.records.tail.end, less, laws.next o.newest o.blocks)
 
-  pub holds_all : Holds log pages site o.newest (log_from (kept_by o.newest) o.blocks) o.table o.commits
+  pub holds_all : Represents log pages site o.newest (log_from (kept_by o.newest) o.blocks) o.table o.commits
   holds_all =
       let back = sym h.geometry in
       opens log pages site o.newest o.blocks o.table o.commits sizes h.kept h.ready
@@ -257,7 +257,7 @@ module _ (opens : OpenedHolds) (laws : PageLaws) (redo : RedoLaws) (o : Opening)
 
 -- A site of which only was read.
 
-pub redoing_still : RedoLaws → (o : Opening) (log : LogStore) (pages : PageStore) (old new : State) (front : List Entry) → Goes old new → IsUnchanged old new → IsRedoing o log pages old front → IsRedoing o log pages new front
+pub redoing_still : RedoLaws → (o : Opening) (log : LogStore) (pages : PageStore) (old new : State) (front : List Entry) → Preserves old new → IsUnchanged old new → IsRedoing o log pages old front → IsRedoing o log pages new front
 redoing_still redo o log pages old new front goes same h =
     let list : LogList = record { first = kept_by o.newest; blocks = o.blocks; tail = [] } in
     record {
@@ -272,7 +272,7 @@ redoing_still redo o log pages old new front goes same h =
           form = subst (λ (i : Image). IsRing (log_shape log.geometry) i.log) (sym same.image) h.ready.blocks.form;
           hi = subst (λ (i : Image). log.ring.hi ≡ hi_of (log_shape log.geometry) i.log) (sym same.image) h.ready.blocks.hi;
         };
-        records = subst (λ (i : Image). log_held.Holds log i list) (sym same.image) h.ready.records;
+        records = subst (λ (i : Image). log_store.Represents log i list) (sym same.image) h.ready.records;
       };
       rings = subst (AreRingsSoundUnder o.newest o.sizes) (sym same.image) h.rings;
       masters = subst (KeepsUnits master_shape o.image) (sym same.image) h.masters;

@@ -18,7 +18,7 @@ use Rattle.page_store.specs.declared.store.PageStore.{PageStore}
 use Rattle.checkpoint.specs.declared.master.Master.{Master}
 use Rattle.image_meaning.specs.Meaning.{picture_under, master_of, versions_on}
 use Rattle.redo_undo.specs.declared.undo.Undoing.{Undoing}
-use Rattle.redo_undo.specs.Holding.{Holds, MayGrow, blocks_to}
+use Rattle.redo_undo.specs.Holding.{Represents, MayGrow, blocks_to}
 use Rattle.redo_undo.specs.Undoing.{IsAt, Undone}
 use Rattle.redo_undo.specs.Rollback.{AreClrsOf, left_of, Compensates, RollsBack}
 use Rattle.redo_undo.specs.Laws.{PageLaws, UndoLaws}
@@ -27,14 +27,14 @@ use Rattle.redo_undo.proofs.LeftUpdates.{none_of}
 use Rattle.flash_cache.proofs.Given.{all_append}
 
 -- nothing is compensated yet
-unfoldable pub starts : (log : LogStore) (pages : PageStore) (site : State) (newest : Option Master) (records : List Entry) (table : List Content) (commits : ℕ) (x : Unfinished) (first : Undoing) → Holds log pages site newest records table commits → IsUnfinished records x → IsAt first x →
+unfoldable pub starts : (log : LogStore) (pages : PageStore) (site : State) (newest : Option Master) (records : List Entry) (table : List Content) (commits : ℕ) (x : Unfinished) (first : Undoing) → Represents log pages site newest records table commits → IsUnfinished records x → IsAt first x →
     Compensates log pages site newest records table commits x.txn (blocks_to log) site.log_reads first
 starts log pages site newest records table commits x first holds unfinished at =
     let same : x ≡ left_of first x.remaining = λ i. record { txn = sym at.txn i; last = sym at.last i; next = sym at.next i; remaining = x.remaining } in
     record {
       clrs = [];
       own = tt;
-      holds = subst (λ (l : List Entry). Holds log pages site newest l table commits) (sym (append-nil records)) holds;
+      holds = subst (λ (l : List Entry). Represents log pages site newest l table commits) (sym (append-nil records)) holds;
       remaining = x.remaining;
       left = subst (λ (l : List Entry). IsUnfinished l (left_of first x.remaining)) (sym (append-nil records)) (subst (IsUnfinished records) same unfinished);
       same = at.txn;
@@ -85,7 +85,7 @@ module _ (pages_laws : PageLaws) (laws : UndoLaws) (log : LogStore) (pages : Pag
       record {
         clrs = c.clrs ++ u.e ∷ [];
         own = all_append (λ (e : Entry). (is_clr e.rec ≡ true) × (txn_of e ≡ txn)) c.clrs (u.e ∷ []) c.own ((u.clr, u.own ∙ c.same), tt);
-        holds = subst (λ (l : List Entry). Holds log' pages' new newest l table commits) all u.holds;
+        holds = subst (λ (l : List Entry). Represents log' pages' new newest l table commits) all u.holds;
         remaining = y.remaining;
         left = subst (λ (l : List Entry). IsUnfinished l (left_of next y.remaining)) all (subst (IsUnfinished ((records ++ c.clrs) ++ u.e ∷ [])) is u.left);
         same = u.at.txn ∙ c.same;
@@ -133,7 +133,7 @@ others_stay laws records (e ∷ clrs) txn t differ own =
 -- it is logged
 pub rolls_back : UndoLaws → (log : LogStore) (pages : PageStore) (site : State) (newest : Option Master) (records : List Entry) (table : List Content) (commits txn : ℕ) (clrs : List Entry) (lsn : ℕ) → AreClrsOf txn clrs → length clrs ≡ length (left_open records txn) →
     owed ((records ++ clrs) ++ record { lsn = lsn; rec = End txn } ∷ []) + (length clrs + 1) ≡ owed records →
-    Holds log pages site newest ((records ++ clrs) ++ record { lsn = lsn; rec = End txn } ∷ []) table commits →
+    Represents log pages site newest ((records ++ clrs) ++ record { lsn = lsn; rec = End txn } ∷ []) table commits →
     (AreOrderly records → AreOrderly ((records ++ clrs) ++ record { lsn = lsn; rec = End txn } ∷ [])) → RollsBack log pages site newest records table commits txn
 rolls_back laws log pages site newest records table commits txn clrs lsn own count owes holds orderly =
     let e : Entry = record { lsn = lsn; rec = End txn } in

@@ -1,4 +1,6 @@
 -- A master is saved over flushed pages and an empty tail.
+use Rattle.std_lemmas.proofs.Bools.{same_bools}
+use Rattle.std_lemmas.proofs.AllOf.{all_member, each_member}
 use Rattle.log_laws.proofs.Parts.{in_order_filter}
 use Rattle.log_records.proofs.Blocks.{some_octet}
 use Rattle.std.proofs.Common.{◌≡◌, ◌⊎◌, inl, inr, ℕ, ◌+◌, ◌-◌, ◌*◌, ◌/◌, ◌≤◌, ◌<◌, ◌==◌, ◌||◌, Bool, true, false, true≢false, cond, List, [], ◌∷◌, map, drop, Option, None, Some, refl, sym, ap, subst, ◌∙◌, arith, append-nil, length}
@@ -10,7 +12,7 @@ use Rattle.std.proofs.lemmas.Option.{none-some, same_Some}
 use Rattle.site.specs.declared.outside.Dev.TheVariants.{Log, Flash, Disk}
 use Rattle.site.specs.declared.geometry.Geometry.{Geometry}
 use Rattle.site.specs.State.{State, Image, content_of, IsQuiet}
-use Rattle.site.specs.Calls.{Goes}
+use Rattle.site.specs.Calls.{Preserves}
 use Rattle.site.specs.Laws.{stays_honest, holds_now, in_sequence}
 use Rattle.site.specs.Moments.{ChangesOnly, Leaves, LeavesOnly}
 use Rattle.record_model.specs.State.{Content}
@@ -21,13 +23,13 @@ use Rattle.log_records.specs.Unfinished.{losers, owed, owed_by, open_updates}
 use Rattle.log_laws.specs.Tail.{whole}
 use Rattle.log_records.specs.Sound.{Active, Picture, AreOrderly, from_block, last_lsn, active_in, before_block, IsInOrder, IsSound, IsLoserChain}
 use Rattle.log_store.specs.declared.store.LogStore.{LogStore}
-use Rattle.log_store.specs.Held as log_held
-use Rattle.log_store.specs.Held.{has_tail, end_of}
+use Rattle.log_store.specs.Representation as log_store
+use Rattle.log_store.specs.Representation.{has_tail, end_of}
 use Rattle.slotted_page.specs.Layout.{lsn_of}
 use Rattle.buffer_pool.specs.declared.frame.Frame.{Frame}
 use Rattle.buffer_pool.specs.Frames.{frame_of}
 use Rattle.second_chance.specs.Machine.{wants_flush}
-use Rattle.flash_cache.specs.Held.{version_on}
+use Rattle.flash_cache.specs.Representation.{version_on}
 use Rattle.checkpoint.specs.declared.master.Master.{Master}
 use Rattle.checkpoint.specs.declared.pairs.Pair.{Pair}
 use Rattle.checkpoint.specs.Actives.{Ascend}
@@ -40,7 +42,7 @@ use Rattle.sealed_ring.specs.Ring.{Units, FitsIn, IsRing, hi_of}
 use Rattle.image_changes.specs.Rings.{Masters, Blocks, log_shape, KeepsUnits, master_shape}
 use Rattle.image_changes.specs.Changes.{AppendsMaster, Makes, Reaches, ReadsAs}
 use Rattle.page_store.specs.declared.store.PageStore.{PageStore}
-use Rattle.page_store.specs.Held.{current, content_by}
+use Rattle.page_store.specs.Representation.{current, content_by}
 use Rattle.page_store.specs.Caching.{cache_of, pool_page}
 use Rattle.page_store.specs.Ahead.{AreLogged, end_forced}
 use Rattle.image_meaning.specs.Meaning.{picture_under, kept_by, versions_on, version_in, IsSoundUnder}
@@ -48,10 +50,10 @@ use Rattle.image_meaning.specs.Moments.{LeavesFor}
 use Rattle.image_meaning.specs.Changes.{MaySave}
 use Rattle.image_meaning.specs.Flushed.{IsFlushed, IsMasterOf, first_block, oldest_needed}
 use Rattle.image_meaning.specs.Redone.{AreKnown, ShowsAll}
-use Rattle.redo_undo.specs.Holding.{Holds, blocks_to}
+use Rattle.redo_undo.specs.Holding.{Represents, blocks_to}
 use Rattle.redo_undo.specs.Checkpointing.{AreUnfinished, MayBeMade, begins_of, SaveLaws, KeepUnfinished, IsSaved}
 use Rattle.redo_undo.specs.Laws.{LogLaws, PageLaws, BesideLaws}
-use Rattle.redo_undo.proofs.Sames.{sound_there, nothing_happens}
+use Rattle.redo_undo.proofs.CallsInSequence.{sound_there, nothing_happens}
 use Rattle.redo_undo.proofs.Touched.{hi_is}
 use Rattle.redo_undo.proofs.Appended.{current_same, more_sealed}
 use Rattle.log_laws.specs.Follow.{IsUndoable}
@@ -80,7 +82,7 @@ unchanged_frame (x ∷ frames) number frame clean found = by (x.page == number) 
     by true false is none found rest = ap (λ (f : Frame). f.changed) (sym (same_Some x frame found)) ∙ is
     by false false is none found rest = rest none found
 
-pub clean_current : (log : LogStore) (pages : PageStore) (site : State) (newest : Option Master) (records : List Entry) (table : List Content) (commits : ℕ) → Holds log pages site newest records table commits → wants_flush (cache_of pages) ≡ false →
+pub clean_current : (log : LogStore) (pages : PageStore) (site : State) (newest : Option Master) (records : List Entry) (table : List Content) (commits : ℕ) → Represents log pages site newest records table commits → wants_flush (cache_of pages) ≡ false →
     (number : ℕ) → current pages site.image number ≡ version_on pages.flash.geometry site.image number
 clean_current log pages site newest records table commits h clean number = by (frame_of pages.pool.frames number) refl
   where
@@ -122,30 +124,9 @@ later_block a b less = omega (arith, less)
 
 -- Lists.
 
-all_any : (P : ℕ → Type 0) (xs : List ℕ) (t : ℕ) → AllByRecursion P xs → list_any (λ s. s == t) xs ≡ true → P t
-all_any P [] t all any = absurd (true≢false (sym any))
-all_any P (x ∷ xs) t all any = by (x == t) refl any (all_any P xs t all.1)
-  where
-    by : (b : Bool) → (x == t) ≡ b → (b || list_any (λ s. s == t) xs) ≡ true → (list_any (λ s. s == t) xs ≡ true → P t) → P t
-    by true is any rest = subst P (eqb-true x t is) all.0
-    by false is any rest = rest any
-
-all_by : (P : ℕ → Type 0) (xs : List ℕ) → ((t : ℕ) → list_any (λ s. s == t) xs ≡ true → P t) → AllByRecursion P xs
-all_by P [] f = tt
-all_by P (x ∷ xs) f = (f x (ap (λ b. b || list_any (λ s. s == x) xs) (eq-eqb x x refl)), all_by P xs (λ t any. f t (by t (x == t) any)))
-  where
-    by : (t : ℕ) (b : Bool) → list_any (λ s. s == t) xs ≡ true → (b || list_any (λ s. s == t) xs) ≡ true
-    by t true any = refl
-    by t false any = any
-
 sum_same : (f h : ℕ → ℕ) (xs : List ℕ) → AllByRecursion (λ t. f t ≡ h t) xs → sum_by f xs ≡ sum_by h xs
 sum_same f h [] all = refl
 sum_same f h (x ∷ xs) all = let here = all.0 in omega (arith, sum_by-cons f x xs, sum_by-cons h x xs, here, sum_same f h xs all.1)
-
-both_true : (a b : Bool) → (a ≡ true → b ≡ true) → (b ≡ true → a ≡ true) → a ≡ b
-both_true true b to back = sym (to refl)
-both_true false true to back = back refl
-both_true false false to back = refl
 
 filter_swap : (f h : Entry → Bool) (xs : List Entry) → filter f (filter h xs) ≡ filter h (filter f xs)
 filter_swap f h [] = refl
@@ -177,7 +158,7 @@ chain_kept n t from to log order chain late =
     let begun : IsInOrder t (entries_of t log) to = subst (λ (l : List Entry). IsInOrder t l to) (sym chain.begins) (omega arith, ordered.1) in
     filter_swap (is_of t) (λ e. nat_le (512 * n) e.lsn) log ∙ all_from n t to (entries_of t log) late begun
 
-module _ (laws : SaveLaws) (logs : LogLaws) (page_laws : PageLaws) (beside : BesideLaws) (log : LogStore) (pages : PageStore) (site : State) (newest : Option Master) (records : List Entry) (table : List Content) (commits : ℕ) (h : Holds log pages site newest records table commits)
+module _ (laws : SaveLaws) (logs : LogLaws) (page_laws : PageLaws) (beside : BesideLaws) (log : LogStore) (pages : PageStore) (site : State) (newest : Option Master) (records : List Entry) (table : List Content) (commits : ℕ) (h : Represents log pages site newest records table commits)
     (sizes : log.geometry ≡ pages.flash.geometry) (empty : log.used ≡ 2) (clean : wants_flush (cache_of pages) ≡ false) (m : Master) (redo : m.redo ≡ log.ring.hi) (count : m.commits ≡ commits) (ascend : Ascend m.active) (unfinished : AreUnfinished records m.active) where
   abbrev g : Geometry
   g = pages.flash.geometry
@@ -242,7 +223,7 @@ module _ (laws : SaveLaws) (logs : LogLaws) (page_laws : PageLaws) (beside : Bes
         (laws.for_any newest g site site table commits site.told (nothing_happens log pages site newest records table commits sizes h quiet)) refl sound
         h.log_holds.runs_on.means may_save front
 
-    module _ (new : State) (reaches : Reaches pages.flash.geometry (AppendsMaster (unit m) ∷ []) site.image new.image) (changes : ChangesOnly Log site new) (goes : Goes site new) where
+    module _ (new : State) (reaches : Reaches pages.flash.geometry (AppendsMaster (unit m) ∷ []) site.image new.image) (changes : ChangesOnly Log site new) (goes : Preserves site new) where
       made : Makes g (AppendsMaster (unit m)) site.image new.image
       made = then_same g (unit m) site.image reaches.0 new.image reaches.1 reaches.2
 
@@ -250,20 +231,20 @@ module _ (laws : SaveLaws) (logs : LogLaws) (page_laws : PageLaws) (beside : Bes
       kept_log : KeepsUnits (log_shape log.geometry) site.image new.image
       kept_log = subst (λ (k : Geometry). KeepsUnits (log_shape k) site.image new.image) (sym sizes) (made.others Blocks (λ same. cc))
 
-      pub finds_log : log_held.Finds log new
+      pub finds_log : log_store.Finds log new
       finds_log = let finds = h.log_holds.ready.blocks in record {
         honest = stays_honest site new goes finds.honest;
         form = kept_log.form finds.form;
         hi = finds.hi ∙ sym (ap (λ (u : Units). u.hi) kept_log.units);
       }
 
-      pub held_log : log_held.Holds log new.image (record { first = kept_by newest; blocks = h.log_holds.blocks; tail = h.log_holds.tail })
+      pub held_log : log_store.Represents log new.image (record { first = kept_by newest; blocks = h.log_holds.blocks; tail = h.log_holds.tail })
       held_log = laws.log_beside log site.image new.image _ kept_log h.log_holds.ready.records
 
-      pub held_after : (log' : LogStore) → log_held.Holds log' new.image (record { first = max (kept_by newest) m.kept; blocks = drop (m.kept - kept_by newest) h.log_holds.blocks; tail = h.log_holds.tail }) →
-          log_held.Holds log' new.image (record { first = m.kept; blocks = drop (m.kept - kept_by newest) h.log_holds.blocks; tail = h.log_holds.tail })
+      pub held_after : (log' : LogStore) → log_store.Represents log' new.image (record { first = max (kept_by newest) m.kept; blocks = drop (m.kept - kept_by newest) h.log_holds.blocks; tail = h.log_holds.tail }) →
+          log_store.Represents log' new.image (record { first = m.kept; blocks = drop (m.kept - kept_by newest) h.log_holds.blocks; tail = h.log_holds.tail })
       held_after log' held =
-          subst (λ (first : ℕ). log_held.Holds log' new.image (record { first = first; blocks = drop (m.kept - kept_by newest) h.log_holds.blocks; tail = h.log_holds.tail })) (later_block (kept_by newest) m.kept rises) held
+          subst (λ (first : ℕ). log_store.Represents log' new.image (record { first = first; blocks = drop (m.kept - kept_by newest) h.log_holds.blocks; tail = h.log_holds.tail })) (later_block (kept_by newest) m.kept rises) held
 
       read : master_in (unit m) ≡ m
       read = laws.read (unit m) m unit_is
@@ -302,14 +283,14 @@ module _ (laws : SaveLaws) (logs : LogLaws) (page_laws : PageLaws) (beside : Bes
           ∙ ap (map (λ (a : Active). a.begin)) named ∙ active_begins p.log (losers p.log)
 
       loser_now : (t : ℕ) → is_loser q.log t ≡ is_loser p.log t
-      loser_now t = both_true (is_loser q.log t) (is_loser p.log t)
+      loser_now t = same_bools (is_loser q.log t) (is_loser p.log t)
           (λ is. laws.loser p.log t (subst (λ (l : List ℕ). list_any (λ s. s == t) l ≡ true) losers_now (laws.listed q.log t (undoable_of q sound_now.records) is)))
           (λ is. laws.loser q.log t (subst (λ (l : List ℕ). list_any (λ s. s == t) l ≡ true) (sym losers_now) (laws.listed p.log t (undoable_of p sound.records) is)))
 
       entries_now : (t : ℕ) → is_loser p.log t ≡ true → entries_of t (from_block n.kept p.log) ≡ entries_of t p.log
       entries_now t is =
           chain_kept n.kept t (512 * p.master.kept) (512 * p.hi) p.log sound.records.in_order (sound.records.losers_can_be_undone t is)
-          (all_any (λ s. 512 * n.kept ≤ s) (losers p.log) t may_save.may.losers_kept (laws.listed p.log t (undoable_of p sound.records) is))
+          (all_member (λ s. 512 * n.kept ≤ s) (losers p.log) t may_save.may.losers_kept (laws.listed p.log t (undoable_of p sound.records) is))
 
       picture_log : q.log ≡ from_block n.kept p.log
       picture_log = ap (λ (x : Picture). x.log) (laws.picture newest g site.image new.image h.log_holds.blocks (unit m) sound may_save made)
@@ -318,7 +299,7 @@ module _ (laws : SaveLaws) (logs : LogLaws) (page_laws : PageLaws) (beside : Bes
       owed_now =
           ap (sum_by (owed_by q.log)) losers_now
           ∙ sum_same (owed_by q.log) (owed_by p.log) (losers p.log)
-          (all_by (λ t. owed_by q.log t ≡ owed_by p.log t) (losers p.log)
+          (each_member (λ t. owed_by q.log t ≡ owed_by p.log t) (losers p.log)
           (λ t any. ap (λ (l : List Entry). length (open_updates [] l) + 1) (ap (entries_of t) picture_log ∙ entries_now t (laws.loser p.log t any))))
 
       pub unfinished_now : KeepUnfinished records (from_block m.kept records)
@@ -344,12 +325,12 @@ module _ (laws : SaveLaws) (logs : LogLaws) (page_laws : PageLaws) (beside : Bes
           (laws.last q page v (laws.first q page sound_now.records (omega (arith, exists, page_laws.count g new.image))) known).all)
 
       -- the log lets go of the blocks before
-      module _ (log' : LogStore) (is : log' ≡ record log { kept = m.kept }) (finds : log_held.Finds log new → log_held.Finds log' new)
-          (held : log_held.Finds log new → log_held.Holds log new.image (record
+      module _ (log' : LogStore) (is : log' ≡ record log { kept = m.kept }) (finds : log_store.Finds log new → log_store.Finds log' new)
+          (held : log_store.Finds log new → log_store.Represents log new.image (record
           { first = kept_by newest; blocks = h.log_holds.blocks; tail = h.log_holds.tail }) →
-          log_held.Holds log' new.image (record { first = max (kept_by newest) m.kept; blocks = drop (m.kept - kept_by newest) h.log_holds.blocks; tail = h.log_holds.tail })) where
-        pub saved_holds : Holds log' pages new (Some m) (from_block m.kept records) table commits
-        saved_holds = subst (λ (k : Master). Holds log' pages new (Some k) (from_block k.kept records) table commits) read (record {
+          log_store.Represents log' new.image (record { first = max (kept_by newest) m.kept; blocks = drop (m.kept - kept_by newest) h.log_holds.blocks; tail = h.log_holds.tail })) where
+        pub saved_holds : Represents log' pages new (Some m) (from_block m.kept records) table commits
+        saved_holds = subst (λ (k : Master). Represents log' pages new (Some k) (from_block k.kept records) table commits) read (record {
           log_holds = record {
             kept = ap (λ (l : LogStore). l.kept) is ∙ ap (λ (k : Master). k.kept) (sym read);
             blocks = blocks;
@@ -357,8 +338,8 @@ module _ (laws : SaveLaws) (logs : LogLaws) (page_laws : PageLaws) (beside : Bes
             ready = record {
               pages = beside.fits pages site new changes goes h.log_holds.ready.pages;
               blocks = finds finds_log;
-              records = subst (λ (tail : List LogRecord). log_held.Holds log' new.image (record { first = n.kept; blocks = drop (n.kept - kept_by newest) h.log_holds.blocks; tail = tail })) tail_is
-                  (subst (λ (k : Master). log_held.Holds log' new.image (record { first = k.kept; blocks = drop (k.kept - kept_by newest) h.log_holds.blocks; tail = h.log_holds.tail })) (sym read) (held_after log' (held finds_log held_log)));
+              records = subst (λ (tail : List LogRecord). log_store.Represents log' new.image (record { first = n.kept; blocks = drop (n.kept - kept_by newest) h.log_holds.blocks; tail = tail })) tail_is
+                  (subst (λ (k : Master). log_store.Represents log' new.image (record { first = k.kept; blocks = drop (k.kept - kept_by newest) h.log_holds.blocks; tail = h.log_holds.tail })) (sym read) (held_after log' (held finds_log held_log)));
             };
             rings = laws.rings newest g (unit m) site.image new.image h.log_holds.rings may_save.unit made;
             runs_on = record {
@@ -397,7 +378,7 @@ module _ (laws : SaveLaws) (logs : LogLaws) (page_laws : PageLaws) (beside : Bes
         is_saved masters found = record { holds = saved_holds; orderly = orderly_now; keeps = unfinished_now; found = found }
 
 -- a log may go on after any calls on its site
-pub log_still : (log : LogStore) (old new : State) → Goes old new → log_held.MayGoOn log old → log_held.MayGoOn log new
+pub log_still : (log : LogStore) (old new : State) → Preserves old new → log_store.Invariant log old → log_store.Invariant log new
 log_still log old new goes may = record {
   limits = may.limits;
   lengths = record { log = goes.sizes Log ∙ may.lengths.log; flash = goes.sizes Flash ∙ may.lengths.flash; disk = goes.sizes Disk ∙ may.lengths.disk };

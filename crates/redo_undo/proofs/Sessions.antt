@@ -19,10 +19,10 @@ use Rattle.log_laws.specs.ShownLaws.{TableAt, ShownIsValue, ShownIsSeen}
 use Rattle.log_store.specs.declared.store.LogStore.{LogStore}
 use Rattle.buffer_pool.specs.Frames.{front_of}
 use Rattle.page_store.specs.declared.store.PageStore.{PageStore}
-use Rattle.page_store.specs.Held.{IsStore}
+use Rattle.page_store.specs.Representation.{IsStore}
 use Rattle.checkpoint.specs.declared.master.Master.{Master}
 use Rattle.image_meaning.specs.Meaning.{picture_under, master_of, versions_on}
-use Rattle.redo_undo.specs.Holding.{Holds}
+use Rattle.redo_undo.specs.Holding.{Represents}
 use Rattle.redo_undo.specs.HoldingLaws.{FrontShows}
 use Rattle.redo_undo.specs.Laws.{LogLaws, PageLaws, UndoLaws}
 use Rattle.redo_undo.specs.SessionLaws.{front_number, front_content, NextIsFresh, BeginMayGrow, UpdateMayGrow, ActiveMayBeUndone, EndMayGrow, HoldsSize, FrontIsCommitted, FrontIsSeen}
@@ -36,8 +36,7 @@ module _ (logs : LogLaws) (laws : PageLaws) where
   next_is_fresh fresh log pages site newest records table commits lsn h orderly behind =
       let p = picture_under newest pages.flash.geometry site.image h.log_holds.blocks in
       let hi = hi_is logs laws log pages site newest records table commits h in
-      let end = h.log_holds.ready.records.tail.end in
-      subst (IsFresh lsn) h.log_holds.runs_on.records_are (fresh p h.log_holds.tail lsn h.log_holds.runs_on.carries (sealed_orderly p h.log_holds.tail records table commits h.log_holds.runs_on orderly) (omega (arith, hi, end, behind)))
+      subst (IsFresh lsn) h.log_holds.runs_on.records_are (fresh p h.log_holds.tail lsn h.log_holds.runs_on.carries (sealed_orderly p h.log_holds.tail records table commits h.log_holds.runs_on orderly) (omega (arith, hi, h.log_holds.ready.records.tail.end, behind)))
 
   pub begin_may_grow : FreshBehind → BeginFollows → OwedBegin → BeginMayGrow
   begin_may_grow fresh begins owes log pages site newest records table commits lsn h orderly behind room =
@@ -85,7 +84,7 @@ module _ (logs : LogLaws) (laws : PageLaws) where
 
   -- The table.
 
-  pub table_is : (log : LogStore) (pages : PageStore) (site : State) (newest : Option Master) (records : List Entry) (table : List Content) (commits : ℕ) → Holds log pages site newest records table commits → table ≡ table_of records (versions_on pages.flash.geometry site.image)
+  pub table_is : (log : LogStore) (pages : PageStore) (site : State) (newest : Option Master) (records : List Entry) (table : List Content) (commits : ℕ) → Represents log pages site newest records table commits → table ≡ table_of records (versions_on pages.flash.geometry site.image)
   table_is log pages site newest records table commits h =
       h.log_holds.runs_on.means.table_is
       ∙ sym (logs.tail_without_commit (picture_under newest pages.flash.geometry site.image h.log_holds.blocks) h.log_holds.tail h.log_holds.runs_on.carries h.log_holds.runs_on.no_commit)
@@ -97,7 +96,7 @@ module _ (logs : LogLaws) (laws : PageLaws) where
       ap length (table_is log pages site newest records table commits h) ∙ length-map-range_with_len (value_of records versions) 0 (32 * length versions)
       ∙ ap (λ (n : ℕ). 32 * n) (laws.count pages.flash.geometry site.image)
 
-  value_is : TableAt → (log : LogStore) (pages : PageStore) (site : State) (newest : Option Master) (records : List Entry) (table : List Content) (commits slot : ℕ) → Holds log pages site newest records table commits → IsStore pages → 0 < length pages.pool.frames → slot < 32 →
+  value_is : TableAt → (log : LogStore) (pages : PageStore) (site : State) (newest : Option Master) (records : List Entry) (table : List Content) (commits slot : ℕ) → Represents log pages site newest records table commits → IsStore pages → 0 < length pages.pool.frames → slot < 32 →
       content_at table (front_number pages slot) ≡ value_of records (versions_on pages.flash.geometry site.image) (front_number pages slot)
   value_is at log pages site newest records table commits slot h own some less =
       let g = pages.flash.geometry in

@@ -15,12 +15,12 @@ use Rattle.log_laws.specs.Follow.{sealed}
 use Rattle.log_laws.specs.NewImage.{Replaces}
 use Rattle.slotted_page.specs.Layout as page
 use Rattle.slotted_page.specs.Layout.{lsn_of}
-use Rattle.log_store.specs.Held.{HasBlocks}
-use Rattle.flash_cache.specs.Held.{version_on, IsCleanOn}
+use Rattle.log_store.specs.Representation.{HasBlocks}
+use Rattle.flash_cache.specs.Representation.{version_on, IsCleanOn}
 use Rattle.buffer_pool.specs.declared.frame.Frame.{Frame}
 use Rattle.buffer_pool.specs.Frames.{frame_of}
 use Rattle.page_store.specs.declared.store.PageStore.{PageStore}
-use Rattle.page_store.specs.Held.{IsPage, IsStore, current, content_by}
+use Rattle.page_store.specs.Representation.{IsPage, IsStore, current, content_by}
 use Rattle.page_store.specs.Ahead as ahead
 use Rattle.page_store.specs.Ahead.{AreSealed, sealed_end}
 use Rattle.checkpoint.specs.declared.master.Master.{Master}

@@ -1,26 +1,23 @@
 -- Calls of a store one after the other, each known by its record.
 use Rattle.std.proofs.Common.{◌≡◌, ◌+◌, ◌≤◌, List, refl, subst, ◌∙◌, arith, ℕ}
 use Rattle.std.specs.Prelude.{Result, Ok, Err, OnOk, IsTrue}
-use Rattle.site.specs.declared.outside.Dev.TheVariants.{Log, Flash}
 use Rattle.site.specs.declared.outside.Stop.{Stop}
-use Rattle.site.specs.declared.outside.Stop.TheVariants.{Worn, Memory, Foreign}
+use Rattle.site.specs.declared.outside.Stop.TheVariants.{Memory}
 use Rattle.site.specs.declared.geometry.Geometry.{Geometry}
 use Rattle.site.specs.State.{State as Site, Snapshot, IsQuiet}
-use Rattle.site.specs.Moments.{Leaves, LeavesOnly}
-use Rattle.site.specs.Laws.{in_sequence, holds_now, leaves_weaker}
+use Rattle.site.specs.Moments.{LeavesOnly}
+use Rattle.site.specs.Laws.{holds_now, leaves_weaker}
 use Rattle.record_model.specs.State.{Content}
-use Rattle.flash_cache.specs.Held.{IsWorn}
 use Rattle.image_meaning.specs.Moments.{LeavesFor}
 use Rattle.image_meaning.specs.Meaning.{StandsFor}
 use Rattle.redo_undo.specs.Stores.{sizes_of}
-use Rattle.redo_undo.specs.Holding.{IsLogWorn}
 use Rattle.redo_undo.specs.Numbers.{SkipsNone}
 use Rattle.redo_undo.proofs.RingNumbers.{skips_on, then_skips, skips_again, skips_answered, skips_refused, skips_weaker}
 use Rattle.redo_undo.specs.declared.store.Store.{Store}
-use Rattle.site.proofs.Working.{ok_as, err_again, no_error, calls_then, calls_answered}
+use Rattle.redo_undo.proofs.Endings.{ends_answered, ends_behind, ends_failed, ends_leaving, ends_no_memory, ends_ok, leaves_late}
+use Rattle.site.proofs.Working.{ok_as, calls_then, calls_answered}
 use Rattle.redo_undo.specs.Calls as calls
-use Rattle.redo_undo.specs.StoreCalls.{Works, Keeps}
-use Rattle.redo_undo.proofs.Asking.{stop_is}
+use Rattle.redo_undo.specs.StoreCalls.{KeepsInvariant, Keeps}
 
 -- Of a result.
 
@@ -31,7 +28,7 @@ where_two A B C (Err e) first second then = tt
 -- On every site.
 
 pub works_then : {A B : Type 0} {a : A} {r : Result B Stop} {old mid new : Store} {before between now : Site} {n n' : ℕ} →
-    Works {T = A} (Ok a) old mid before between n → Works r mid new between now n' → Works r old new before now (n + n')
+    KeepsInvariant {T = A} (Ok a) old mid before between n → KeepsInvariant r mid new between now n' → KeepsInvariant r old new before now (n + n')
 works_then {r = r} {old = old} {new = new} {n = n} {n' = n'} first second =
     record {
       calls = calls_then first.calls second.calls;
@@ -44,33 +41,27 @@ works_then {r = r} {old = old} {new = new} {n = n} {n' = n'} first second =
       stops = second.stops;
     }
 
-pub works_answered : {A B : Type 0} {a : A} {b : B} {old new : Store} {before now : Site} {n : ℕ} → Works {T = A} (Ok a) old new before now n → Works {T = B} (Ok b) old new before now n
+pub works_answered : {A B : Type 0} {a : A} {b : B} {old new : Store} {before now : Site} {n : ℕ} → KeepsInvariant {T = A} (Ok a) old new before now n → KeepsInvariant {T = B} (Ok b) old new before now n
 works_answered first = record { calls = calls_answered first.calls; going = first.going; made = first.made; blocks = first.blocks; rises = first.rises; kept = first.kept; sizes = first.sizes; stops = tt }
 
 -- On an honest site.
 
 -- what log and pages keep, the store keeps, where what a crash leaves of it is what is asked
 pub keeps_of : {T : Type 0} {r : Result T Stop} {old new : Store} {before now : Site} {P R : Snapshot → Type 0} {n m : ℕ} → (LeavesOnly before now P → LeavesOnly before now R) → calls.Keeps r (sizes_of old) old.log new.log before now P n m → Keeps r old new before now R n m
-keeps_of more first = record { any_moment = λ quiet. more (first.any_moment quiet); numbers = first.numbers; quiet = first.quiet; worn_log = first.worn_log; worn = first.worn; readable = first.readable }
+keeps_of more first = record { ends = ends_leaving more first.ends; numbers = first.numbers }
 
 pub keeps_then : {A B : Type 0} {a : A} {r : Result B Stop} {old mid new : Store} {before between now : Site} {P Q R : Snapshot → Type 0} {i n m n' m' : ℕ} → IsTrue before.honest →
     ((s : Snapshot) → P s → R s) → (LeavesOnly before between P → (s : Snapshot) → Q s → R s) →
-    Works {T = A} (Ok a) old mid before between i → Keeps {T = A} (Ok a) old mid before between P n m → Keeps r mid new between now Q n' m' → Keeps r old new before now R (n + n') (m + m')
+    KeepsInvariant {T = A} (Ok a) old mid before between i → Keeps {T = A} (Ok a) old mid before between P n m → Keeps r mid new between now Q n' m' → Keeps r old new before now R (n + n') (m + m')
 keeps_then {a = a} {r = r} {old = old} {mid = mid} {new = new} {before = before} {between = between} {now = now} {P = P} {Q = Q} {R = R} {n = n} {m = m} {n' = n'} {m' = m'} honest early late works first second = record {
-  any_moment = λ quiet.
-      let begun = first.any_moment quiet in
-      in_sequence before between now (Leaves R) (leaves_weaker before between P R early begun) (leaves_weaker between now Q R (late begun) (second.any_moment (works.calls.stays_quiet honest quiet)));
+  ends = ends_behind (works.calls.stays_quiet honest) works.sizes (λ quiet. leaves_late early late (first.any_moment quiet)) second.ends;
   numbers = λ quiet. then_skips r a (sizes_of old) old.log mid.log new.log before between now n m n' m' (n + n') (m + m') (first.numbers quiet)
       (skips_on r (sizes_of mid) (sizes_of old) mid.log new.log between now n' m' works.sizes (second.numbers (works.calls.stays_quiet honest quiet))) (omega arith) refl;
-  quiet = λ quiet. second.quiet (works.calls.stays_quiet honest quiet);
-  worn_log = λ is. subst (λ (g : Geometry). IsLogWorn g now.image) works.sizes (second.worn_log is);
-  worn = λ is. subst (λ (g : Geometry). IsWorn g now.image) works.sizes (second.worn is);
-  readable = second.readable;
 }
 
 -- the table stays as it was
 pub keeps_both : {A B : Type 0} {a : A} {r : Result B Stop} {old mid new : Store} {before between now : Site} {table : List Content} {commits i n m n' m' : ℕ} → IsTrue before.honest →
-    Works {T = A} (Ok a) old mid before between i → Keeps {T = A} (Ok a) old mid before between (LeavesFor (sizes_of old) table commits before.told) n m →
+    KeepsInvariant {T = A} (Ok a) old mid before between i → Keeps {T = A} (Ok a) old mid before between (LeavesFor (sizes_of old) table commits before.told) n m →
     Keeps r mid new between now (LeavesFor (sizes_of mid) table commits between.told) n' m' → Keeps r old new before now (LeavesFor (sizes_of old) table commits before.told) (n + n') (m + m')
 keeps_both {old = old} {before = before} {between = between} {table = table} {commits = commits} honest works first second =
     keeps_then honest (λ s p. p) (λ begun s q. record {
@@ -79,23 +70,12 @@ keeps_both {old = old} {before = before} {between = between} {table = table} {co
     }) works first second
 
 pub keeps_weaker : {T : Type 0} {r : Result T Stop} {old new : Store} {before now : Site} {P R : Snapshot → Type 0} {n m : ℕ} → ((s : Snapshot) → P s → R s) → Keeps r old new before now P n m → Keeps r old new before now R n m
-keeps_weaker {before = before} {now = now} {P = P} {R = R} more first = record {
-  any_moment = λ quiet. leaves_weaker before now P R more (first.any_moment quiet);
-  numbers = first.numbers;
-  quiet = first.quiet;
-  worn_log = first.worn_log;
-  worn = first.worn;
-  readable = first.readable;
-}
+keeps_weaker {before = before} {now = now} {P = P} {R = R} more first = record { ends = ends_leaving (leaves_weaker before now P R more) first.ends; numbers = first.numbers }
 
 pub keeps_before : {A B : Type 0} {stop : Stop} {old new : Store} {before now : Site} {P : Snapshot → Type 0} {n k m : ℕ} → n ≤ k → Keeps {T = A} (Err stop) old new before now P n m → Keeps {T = B} (Err stop) old new before now P k m
 keeps_before {A = A} {B = B} {stop = stop} {old = old} {new = new} {before = before} {now = now} {n = n} {k = k} {m = m} few first = record {
-  any_moment = first.any_moment;
+  ends = ends_failed first.ends;
   numbers = λ quiet. skips_weaker {T = B} (Err stop) (sizes_of old) old.log new.log before now n k m few (skips_again {A = A} {B = B} stop (sizes_of old) old.log new.log before now n m (first.numbers quiet));
-  quiet = first.quiet;
-  worn_log = λ is. first.worn_log (err_again stop (Worn Log) is);
-  worn = λ is. first.worn (err_again stop (Worn Flash) is);
-  readable = λ is. first.readable (err_again stop Foreign is);
 }
 
 pub keeps_failed : {A B : Type 0} {stop : Stop} {old new : Store} {before now : Site} {P : Snapshot → Type 0} {n m : ℕ} → Keeps {T = A} (Err stop) old new before now P n m → Keeps {T = B} (Err stop) old new before now P n m
@@ -103,31 +83,16 @@ keeps_failed first = keeps_before (omega arith) first
 
 pub keeps_answered : {A B : Type 0} {a : A} {b : B} {old new : Store} {before now : Site} {P : Snapshot → Type 0} {n m : ℕ} → Keeps {T = A} (Ok a) old new before now P n m → Keeps {T = B} (Ok b) old new before now P n m
 keeps_answered {A = A} {B = B} {a = a} {b = b} {old = old} {new = new} {before = before} {now = now} {n = n} {m = m} first = record {
-  any_moment = first.any_moment;
+  ends = ends_answered first.ends;
   numbers = λ quiet. skips_answered {A = A} {B = B} a b (sizes_of old) old.log new.log before now n m (first.numbers quiet);
-  quiet = λ quiet. tt;
-  worn_log = λ is. absurd (no_error {T = B} {x = b} {e = Worn Log} is);
-  worn = λ is. absurd (no_error {T = B} {x = b} {e = Worn Flash} is);
-  readable = no_error {T = B} {x = b} {e = Foreign};
 }
 
-pub keeps_no_memory : {A B : Type 0} {a : A} {old new : Store} {before now : Site} {P : Snapshot → Type 0} {i n m : ℕ} → IsTrue before.honest → Works {T = A} (Ok a) old new before now i → Keeps {T = A} (Ok a) old new before now P n m → Keeps {T = B} (Err Memory) old new before now P n m
+pub keeps_no_memory : {A B : Type 0} {a : A} {old new : Store} {before now : Site} {P : Snapshot → Type 0} {i n m : ℕ} → IsTrue before.honest → KeepsInvariant {T = A} (Ok a) old new before now i → Keeps {T = A} (Ok a) old new before now P n m → Keeps {T = B} (Err Memory) old new before now P n m
 keeps_no_memory {A = A} {B = B} {a = a} {old = old} {new = new} {before = before} {now = now} {n = n} {m = m} honest works first = record {
-  any_moment = first.any_moment;
+  ends = ends_no_memory refl (works.calls.stays_quiet honest) first.ends;
   numbers = λ quiet. skips_refused {A = A} {B = B} a Memory (sizes_of old) old.log new.log before now n m (first.numbers quiet);
-  quiet = λ quiet other. works.calls.stays_quiet honest quiet;
-  worn_log = λ is. (let never : Memory ≡ Worn Log = stop_is {U = B} Memory (Worn Log) is in absurd cc);
-  worn = λ is. (let never : Memory ≡ Worn Flash = stop_is {U = B} Memory (Worn Flash) is in absurd cc);
-  readable = λ is. (let never : Memory ≡ Foreign = stop_is {U = B} Memory Foreign is in cc);
 }
 
 pub keeps_ok : {T : Type 0} {x : T} {old new : Store} {before now : Site} {P : Snapshot → Type 0} {n m : ℕ} → (IsQuiet before → LeavesOnly before now P) → (IsQuiet before → SkipsNone {T = T} {E = Stop} (Ok x) (sizes_of old) old.log new.log before now n m) →
     Keeps {T = T} (Ok x) old new before now P n m
-keeps_ok {T = T} {x = x} moments numbers = record {
-  any_moment = moments;
-  numbers = numbers;
-  quiet = λ quiet. tt;
-  worn_log = λ is. absurd (no_error {T = T} {x = x} {e = Worn Log} is);
-  worn = λ is. absurd (no_error {T = T} {x = x} {e = Worn Flash} is);
-  readable = no_error {T = T} {x = x} {e = Foreign};
-}
+keeps_ok moments numbers = record { ends = ends_ok moments; numbers = numbers }

@@ -22,7 +22,7 @@ use Rattle.redo_undo.specs.Rollback as undone
 use Rattle.redo_undo.specs.Rollback.{AreClrsOf}
 use Rattle.redo_undo.specs.declared.store.Store.{Store}
 use Rattle.redo_undo.specs.Stores.{sizes_of}
-use Rattle.redo_undo.specs.Stores.{Holds}
+use Rattle.redo_undo.specs.Stores.{Represents}
 use Rattle.redo_undo.specs.StoreRollback.{ConcernsOnly, RollsBack}
 
 -- one more record of the transaction
@@ -40,7 +40,7 @@ concerns_clrs newest txn before now (e ∷ clrs) own concerns =
     (concerns_clrs newest txn before (now ++ e ∷ []) clrs own.1 (concerns_more newest txn before now e own.0.1 concerns))
 
 -- A session's transaction is unfinished, and all its writes remain to be undone.
-pub active_left : (store : Store) (site : State) (newest : Option Master) (records : List Entry) (table : List Content) (commits begin last : ℕ) (writes : List Write) → Holds store site newest records table commits → IsActive (master_of newest) records begin last writes →
+pub active_left : (store : Store) (site : State) (newest : Option Master) (records : List Entry) (table : List Content) (commits begin last : ℕ) (writes : List Write) → Represents store site newest records table commits → IsActive (master_of newest) records begin last writes →
     IsUnfinished records (record { txn = begin; last = last; next = last; remaining = length writes })
 active_left store site newest records table commits begin last writes h active =
     let log = h.both.log_holds in
@@ -49,7 +49,7 @@ active_left store site newest records table commits begin last writes h active =
     (subst (λ (l : List Entry). IsInOrder (512 * p.master.kept) l (next_lsn p log.tail)) log.runs_on.records_are (whole_in_order p log.tail log.runs_on.carries)) active
 
 -- It is undone as a whole, and the ring of master units stands as before.
-pub rolls_back : (store last : Store) (old new : State) (newest : Option Master) (records : List Entry) (table : List Content) (commits begin at writes : ℕ) (made : List Write) → Holds store old newest records table commits → IsActive (master_of newest) records begin at made → length made ≡ writes →
+pub rolls_back : (store last : Store) (old new : State) (newest : Option Master) (records : List Entry) (table : List Content) (commits begin at writes : ℕ) (made : List Write) → Represents store old newest records table commits → IsActive (master_of newest) records begin at made → length made ≡ writes →
     undone.RollsBack last.log last.pages new newest records table commits begin → Finds last.masters new → RollsBack last new newest records table commits begin writes
 rolls_back store last old new newest records table commits begin at writes made h active many u masters =
     let unfinished = active_left store old newest records table commits begin at made h active in

@@ -1,7 +1,7 @@
 -- The records of a block are taken, one after the other.
 use Rattle.std.proofs.Common.{◌≡◌, ℕ, suc, ◌+◌, ◌-◌, ◌*◌, ◌≤◌, ◌<◌, List, [], ◌∷◌, ◌++◌, length, take, drop, append-nil, refl, sym, ap, subst, ◌∙◌, arith, true, map}
 use Rattle.std.specs.Prelude.{⊤, Result, Ok, Err, Option}
-use Rattle.site.specs.Calls.{Goes, IsUnchanged}
+use Rattle.site.specs.Calls.{Preserves, IsUnchanged}
 use Rattle.record_model.specs.State.{Content}
 use Rattle.site.specs.State.{State}
 use Rattle.log_records.specs.declared.log_record.LogRecord.{LogRecord}
@@ -9,7 +9,7 @@ use Rattle.log_records.specs.Log.{Entry, entries_from, log_from}
 use Rattle.log_records.specs.Spelling.{IsBlock, used_by}
 use Rattle.log_store.specs.declared.store.LogStore.{LogStore}
 use Rattle.log_store.specs.LogList.{LogList, sealed_block}
-use Rattle.log_store.specs.Held.{Finds}
+use Rattle.log_store.specs.Representation.{Finds}
 use Rattle.image_meaning.specs.Meaning.{master_of, kept_by, saved_by}
 use Rattle.analysis.specs.Read.{IsAnalysis, IsTable, open_at}
 use Rattle.analysis.specs.declared.analysis.Analysis.{Analysis}
@@ -18,7 +18,7 @@ use Rattle.redo_undo.specs.declared.redo_pass.Redone.{Redone}
 use Rattle.redo_undo.specs.Laws.{PageLaws}
 use Rattle.redo_undo.specs.RedoLaws.{RedoLaws}
 use Rattle.redo_undo.specs.Redoing.{IsOpened, Opening, HasTaken, asked_of, opened, heard_of}
-use Rattle.redo_undo.specs.Works.{Asks}
+use Rattle.redo_undo.specs.MachineSteps.{StepsMachine}
 use Rattle.redo_undo.proofs.BlockRecords.{IsPast, past_none}
 use Rattle.redo_undo.proofs.LogBlocks.{block_of, log_split, log_take, take_whole}
 use Rattle.redo_undo.proofs.Redoings.{redoing_still, begins}
@@ -35,7 +35,7 @@ pub record IsPartWay (o : Opening) (log : LogStore) (entry pages : PageStore) (o
   pub done : List Entry
   pub past : IsPast block octets used at records done
   pub taken : HasTaken o log pages site so_far (front ++ done)
-  pub asked : Asks {T = ⊤} (Ok tt) (asked_of o done) entry pages old site
+  pub asked : StepsMachine {T = ⊤} (Ok tt) (asked_of o done) entry pages old site
 
 pub part_begins : PageLaws → RedoLaws → (o : Opening) (log : LogStore) (pages : PageStore) (site : State) (so_far : Redone) (front : List Entry) (block : ℕ) (octets : List ℕ) (used : ℕ) (records : List LogRecord) →
     log.geometry ≡ pages.flash.geometry → HasTaken o log pages site so_far front → IsBlock octets records → used ≡ used_by records → IsPartWay o log pages pages site site so_far front block octets used 2 records
@@ -64,9 +64,9 @@ none_read o block is =
     let zero_is : block - kept_by o.newest ≡ 0 = omega (arith, is) in
     ap (λ (n : ℕ). log_from (kept_by o.newest) (take n o.blocks)) zero_is ∙ ap (log_from (kept_by o.newest)) (take_nothing o.blocks)
 
-pub asks_first : (o : Opening) (pages : PageStore) (site : State) (block : ℕ) → block ≡ kept_by o.newest → Asks {T = ⊤} (Ok tt) (asked_of o (log_from (kept_by o.newest) (take (block - kept_by o.newest) o.blocks))) pages pages site site
+pub asks_first : (o : Opening) (pages : PageStore) (site : State) (block : ℕ) → block ≡ kept_by o.newest → StepsMachine {T = ⊤} (Ok tt) (asked_of o (log_from (kept_by o.newest) (take (block - kept_by o.newest) o.blocks))) pages pages site site
 asks_first o pages site block is =
-    subst (λ (done : List Entry). Asks {T = ⊤} (Ok tt) (asked_of o done) pages pages site site) (sym (none_read o block is)) (nothing_asked pages site)
+    subst (λ (done : List Entry). StepsMachine {T = ⊤} (Ok tt) (asked_of o done) pages pages site site) (sym (none_read o block is)) (nothing_asked pages site)
 
 -- before the first block
 pub up_to_none : PageLaws → RedoLaws → (log : LogStore) (pages : PageStore) (site : State) (newest : Option Master) (blocks : List (List LogRecord)) (table : List Content) (commits : ℕ) (found : Analysis) (block : ℕ) →
@@ -98,7 +98,7 @@ module _ (redo : RedoLaws) (o : Opening) (log : LogStore) (pages : PageStore) (o
   pub finds : Finds log site
   finds = let fits = up.taken.pages_are.ready.blocks in record { honest = fits.honest; form = fits.form; hi = fits.hi }
 
-  pub next_block : (new : State) (content : List ℕ) (used : ℕ) → Goes site new → IsUnchanged site new → block - kept_by o.newest < length o.blocks → IsBlock content (sealed_block list block) × (used ≡ used_by (sealed_block list block)) →
+  pub next_block : (new : State) (content : List ℕ) (used : ℕ) → Preserves site new → IsUnchanged site new → block - kept_by o.newest < length o.blocks → IsBlock content (sealed_block list block) × (used ≡ used_by (sealed_block list block)) →
       IsNextBlock o log pages old new so_far block content used
   next_block new content used goes same inside read =
       record {

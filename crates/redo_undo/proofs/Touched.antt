@@ -1,6 +1,6 @@
 -- Log and pages that hold together, while pages come and go.
-use Rattle.page_store.proofs.Rounds.{and_left}
 use Rattle.std.proofs.Common.{◌≡◌, ◌⊎◌, inl, inr, ℕ, ◌≤◌, ◌<◌, Bool, true, false, List, [], ◌∷◌, ◌++◌, refl, sym, ap, subst, ◌∙◌, arith}
+use Rattle.std.proofs.lemmas.Bool.{and_parts}
 use Rattle.std.specs.Prelude.{if◌then◌else◌, Option}
 use Rattle.std.proofs.lemmas.List.{length-append}
 use Rattle.site.specs.declared.geometry.Geometry.{Geometry}
@@ -18,12 +18,12 @@ use Rattle.log_laws.specs.Tail.{whole}
 use Rattle.slotted_page.specs.Layout as page
 use Rattle.log_store.specs.declared.store.LogStore.{LogStore}
 use Rattle.log_store.specs.LogList.{LogList, sealed_if}
-use Rattle.log_store.specs.Held.{HasBlocks, has_tail, end_of}
+use Rattle.log_store.specs.Representation.{HasBlocks, has_tail, end_of}
 use Rattle.slotted_page.specs.Layout.{lsn_of}
 use Rattle.log_records.specs.Spelling.{block_len}
-use Rattle.flash_cache.specs.Held.{version_on}
+use Rattle.flash_cache.specs.Representation.{version_on}
 use Rattle.page_store.specs.declared.store.PageStore.{PageStore}
-use Rattle.page_store.specs.Held.{IsStore, current}
+use Rattle.page_store.specs.Representation.{IsStore, current}
 use Rattle.page_store.specs.Ahead.{AreSealed, LeavesSealed, IsAhead, end_forced, forces}
 use Rattle.page_store.specs.Leaves.{AreReady, LeavesPages, LeavesRings, KeepsCurrent}
 use Rattle.checkpoint.specs.declared.master.Master.{Master}
@@ -32,7 +32,7 @@ use Rattle.image_meaning.specs.Redone.{ShowsAll}
 use Rattle.image_meaning.specs.Moments.{LeavesTableUnder}
 use Rattle.image_meaning.specs.Beside.{AreRingsSoundUnder}
 use Rattle.redo_undo.specs.Running.{RunsOn}
-use Rattle.redo_undo.specs.Holding.{ShowRecords, HoldsIn, Holds}
+use Rattle.redo_undo.specs.Holding.{ShowRecords, RepresentsIn, Represents}
 use Rattle.redo_undo.specs.Laws.{LogLaws, PageLaws}
 use Rattle.redo_undo.proofs.Runs.{resealed}
 use Rattle.redo_undo.proofs.Standing.{more_blocks, runs_now, shows_now, stands_now, current_sound, last_of_all}
@@ -42,9 +42,9 @@ tail_blocks b = if b then 1 else 0
 
 -- the log is forced only where its tail has records
 pub forced_tail : (log : LogStore) (contents : List (List ℕ)) → forces log contents ≡ true → has_tail log ≡ true
-forced_tail log contents is = and_left (has_tail log) _ is
+forced_tail log contents is = (and_parts (has_tail log) _ is).0
 
-module _ (logs : LogLaws) (laws : PageLaws) (log : LogStore) (pages : PageStore) (site : State) (newest : Option Master) (records : List Entry) (table : List Content) (commits : ℕ) (h : Holds log pages site newest records table commits) where
+module _ (logs : LogLaws) (laws : PageLaws) (log : LogStore) (pages : PageStore) (site : State) (newest : Option Master) (records : List Entry) (table : List Content) (commits : ℕ) (h : Represents log pages site newest records table commits) where
   abbrev g : Geometry
   g = pages.flash.geometry
 
@@ -114,7 +114,7 @@ module _ (logs : LogLaws) (laws : PageLaws) (log : LogStore) (pages : PageStore)
     }
 
     pub touched_holds : (sealing : Bool) → (sealing ≡ true → has_tail log ≡ true) → AreReady pages' log' (sealed_if sealing list) new → LeavesPages g (current pages site.image) sealing list site (snapshot_of new) →
-        HoldsIn g log' pages' new newest records table commits
+        RepresentsIn g log' pages' new newest records table commits
     touched_holds false some ready leaves =
         let has : HasBlocks g (kept_by newest) blocks new.image = subst (λ (k : Geometry). HasBlocks k (kept_by newest) blocks new.image) geometry ready.records.blocks in
         record {

@@ -13,11 +13,11 @@ use Rattle.log_store.specs.declared.store.LogStore.{LogStore}
 use Rattle.page_store.specs.declared.store.PageStore.{PageStore}
 use Rattle.checkpoint.specs.declared.master.Master.{Master}
 use Rattle.redo_undo.specs.declared.undo.Undoing.{Undoing}
-use Rattle.redo_undo.specs.Holding.{Holds, blocks_to}
+use Rattle.redo_undo.specs.Holding.{Represents, blocks_to}
 use Rattle.redo_undo.specs.Undoing.{IsAt, Undone}
 use Rattle.redo_undo.specs.Rollback.{left_of, Compensates}
 use Rattle.redo_undo.specs.Laws.{PageLaws, UndoLaws}
-use Rattle.redo_undo.specs.Works.{Asks}
+use Rattle.redo_undo.specs.MachineSteps.{StepsMachine}
 use Rattle.redo_undo.specs.UndoWorks.{works_of}
 use Rattle.redo_undo.proofs.Rollbacks.{starts, goes_on}
 use Rattle.page_store.proofs.StagingLaws.{stages_none}
@@ -35,7 +35,7 @@ asks_none records txn pages site = record {
 
 -- one CLR more
 pub asks_one_more : LeftPush → {B : Type 0} (b : B) (records clrs : List Entry) (txn : ℕ) (old mid new : PageStore) (before between now : State) → AsksSoFar records clrs txn old mid before between →
-    (u : Entry) (rest : List Entry) (e : Entry) → is_clr e.rec ≡ true → txn_of e ≡ txn → left_open (records ++ clrs) txn ≡ u ∷ rest → Asks {T = B} (Ok b) (works_of (u ∷ [])) mid new between now →
+    (u : Entry) (rest : List Entry) (e : Entry) → is_clr e.rec ≡ true → txn_of e ≡ txn → left_open (records ++ clrs) txn ≡ u ∷ rest → StepsMachine {T = B} (Ok b) (works_of (u ∷ [])) mid new between now →
     AsksSoFar records (clrs ++ e ∷ []) txn old new before now
 asks_one_more push b records clrs txn old mid new before between now so_far u rest e clr own left asks =
     let more : left_open (records ++ (clrs ++ e ∷ [])) txn ≡ rest =
@@ -52,7 +52,7 @@ abbrev pub AsksFor : LogStore → PageStore → State → Option Master → List
 AsksFor log pages site newest records table commits txn blocks now old before =
     (made : Compensates log pages site newest records table commits txn blocks before.log_reads now) × AsksSoFar records made.clrs txn old pages before site
 
-pub starts_asking : (log : LogStore) (pages : PageStore) (site : State) (newest : Option Master) (records : List Entry) (table : List Content) (commits : ℕ) (x : Unfinished) (first : Undoing) → Holds log pages site newest records table commits → IsUnfinished records x → IsAt first x →
+pub starts_asking : (log : LogStore) (pages : PageStore) (site : State) (newest : Option Master) (records : List Entry) (table : List Content) (commits : ℕ) (x : Unfinished) (first : Undoing) → Represents log pages site newest records table commits → IsUnfinished records x → IsAt first x →
     AsksFor log pages site newest records table commits x.txn (blocks_to log) first pages site
 unfolding starts
 starts_asking log pages site newest records table commits x first holds unfinished at = (starts log pages site newest records table commits x first holds unfinished at, asks_none records x.txn pages site)
@@ -60,7 +60,7 @@ starts_asking log pages site newest records table commits x first holds unfinish
 pub goes_on_asking : PageLaws → (laws : UndoLaws) (log : LogStore) (pages : PageStore) (site : State) (newest : Option Master) (records : List Entry) (table : List Content) (commits txn blocks : ℕ) (now : Undoing) (old : PageStore) (before : State) →
     (c : AsksFor log pages site newest records table commits txn blocks now old before) (log' : LogStore) (pages' : PageStore) (new : State) (next : Undoing) (u : Entry) (rest : List Entry) →
     left_open (records ++ c.0.clrs) now.txn ≡ u ∷ rest → Undone log' pages' new newest (records ++ c.0.clrs) table commits (left_of now c.0.remaining) next → blocks_to log' ≤ blocks_to log + 1 → new.log_reads ≤ site.log_reads + 1 →
-    Asks {T = Undoing} (Ok next) (works_of (u ∷ [])) pages pages' site new → (more : AsksFor log' pages' new newest records table commits txn blocks next old before) × (length c.0.clrs + 1 ≤ length more.0.clrs)
+    StepsMachine {T = Undoing} (Ok next) (works_of (u ∷ [])) pages pages' site new → (more : AsksFor log' pages' new newest records table commits txn blocks next old before) × (length c.0.clrs + 1 ≤ length more.0.clrs)
 unfolding goes_on
 goes_on_asking page_laws laws log pages site newest records table commits txn blocks now old before c log' pages' new next u rest left done one one_read asks =
     let made = c.0 in

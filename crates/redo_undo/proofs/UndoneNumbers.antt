@@ -11,7 +11,7 @@ use Rattle.log_records.specs.Log.{Entry}
 use Rattle.log_store.specs.declared.store.LogStore.{LogStore}
 use Rattle.log_store.specs.LogList.{LogList}
 use Rattle.page_store.specs.declared.store.PageStore.{PageStore}
-use Rattle.page_store.specs.Held.{current}
+use Rattle.page_store.specs.Representation.{current}
 use Rattle.page_store.specs.Leaves.{LeavesPages}
 use Rattle.image_meaning.specs.Meaning.{kept_by}
 use Rattle.redo_undo.specs.Holding.{blocks_to}

@@ -20,11 +20,11 @@ use Rattle.analysis.specs.Open.{Open, IsTop, Remains}
 use Rattle.analysis.specs.Table.{listed}
 use Rattle.analysis.specs.Read.{IsTable}
 use Rattle.redo_undo.specs.declared.undo.Undoing.{Undoing}
-use Rattle.redo_undo.specs.Holding.{Holds}
+use Rattle.redo_undo.specs.Holding.{Represents}
 use Rattle.redo_undo.specs.Undoing.{Undone}
 use Rattle.redo_undo.specs.UndoingAll.{IsUndoing, IsGreatest}
 use Rattle.redo_undo.specs.Laws.{UndoLaws, FoundLaws}
-use Rattle.redo_undo.specs.Works.{Asks, undo_works}
+use Rattle.redo_undo.specs.MachineSteps.{StepsMachine, undo_works}
 use Rattle.redo_undo.specs.UndoWorks.{works_of, IsLastAt, UndoesUpdates}
 use Rattle.page_store.specs.Caching.{rules}
 use Rattle.redo_undo.proofs.AskingUndo.{one_more_work, more_work_stopped, all_work}
@@ -34,7 +34,7 @@ use Rattle.redo_undo.proofs.LeftUpdates.{Fall, left_falls}
 use Rattle.redo_undo.proofs.Pendings.{last_is, none_last, waits, reversed, pending_after_clr, pending_after_end}
 
 -- The last of all Updates that remain is the last one that its transaction has left.
-pub last_is_left : (found_laws : FoundLaws) (laws : UndoLaws) (log : LogStore) (pages : PageStore) (site : State) (newest : Option Master) (records : List Entry) (table : List Content) (commits : ℕ) (found : Analysis) → Holds log pages site newest records table commits → IsTable [] records (listed found.table) →
+pub last_is_left : (found_laws : FoundLaws) (laws : UndoLaws) (log : LogStore) (pages : PageStore) (site : State) (newest : Option Master) (records : List Entry) (table : List Content) (commits : ℕ) (found : Analysis) → Represents log pages site newest records table commits → IsTable [] records (listed found.table) →
     (txn lsn : ℕ) (u : Entry) → Remains (listed found.table) txn lsn → IsLastAt records txn lsn u → (rest : List Entry) × (left_open records txn ≡ u ∷ rest)
 last_is_left found_laws laws log pages site newest records table commits found h is txn lsn u remains last =
     let p = picture_under newest pages.flash.geometry site.image h.log_holds.blocks in
@@ -54,7 +54,7 @@ last_is_left found_laws laws log pages site newest records table commits found h
 
 module _ (laws : UndoLaws) (log : LogStore) (pages : PageStore) (site : State) (newest : Option Master) (records : List Entry) (table : List Content) (commits : ℕ) (found : Analysis) where
   -- an End
-  pub end_updates : (t lsn : ℕ) → left_open records t ≡ [] → Holds log pages site newest (records ++ record { lsn = lsn; rec = End t } ∷ []) table commits → IsTable [] (records ++ record { lsn = lsn; rec = End t } ∷ []) (listed found.table) →
+  pub end_updates : (t lsn : ℕ) → left_open records t ≡ [] → Represents log pages site newest (records ++ record { lsn = lsn; rec = End t } ∷ []) table commits → IsTable [] (records ++ record { lsn = lsn; rec = End t } ∷ []) (listed found.table) →
       owed records ≡ owed (records ++ record { lsn = lsn; rec = End t } ∷ []) + 1 → (AreOrderly records → AreOrderly (records ++ record { lsn = lsn; rec = End t } ∷ [])) → UndoesUpdates log pages site newest records table commits found lsn []
   unfolding one_end one_more
   end_updates t lsn none h is owes orderly = record {
@@ -127,11 +127,11 @@ none_is_next records next never is = none_last (pending records) (by (last_where
 pub record AsksUpdates (log : LogStore) (pages : PageStore) (site : State) (newest : Option Master) (records : List Entry) (table : List Content) (commits : ℕ) (found : Analysis) (known : ℕ) (old : PageStore) (before : State) : Type 0 where
   pub done : List Entry
   pub updates : UndoesUpdates log pages site newest records table commits found known done
-  pub asks : Asks {T = ⊤} (Ok tt) (works_of done) old pages before site
+  pub asks : StepsMachine {T = ⊤} (Ok tt) (works_of done) old pages before site
 
 -- one Update more is undone
 pub updates_asked_more : {B : Type 0} (b : B) (log log' : LogStore) (pages pages' : PageStore) (site site' : State) (newest : Option Master) (records : List Entry) (table : List Content) (commits : ℕ) (found found' : Analysis) (known known' : ℕ) (old : PageStore) (before : State) →
-    (a : AsksUpdates log pages site newest records table commits found known old before) (u : Entry) → UndoesUpdates log' pages' site' newest (records ++ a.updates.some.more) table commits found' known' (u ∷ []) → Asks {T = B} (Ok b) (works_of (u ∷ [])) pages pages' site site' →
+    (a : AsksUpdates log pages site newest records table commits found known old before) (u : Entry) → UndoesUpdates log' pages' site' newest (records ++ a.updates.some.more) table commits found' known' (u ∷ []) → StepsMachine {T = B} (Ok b) (works_of (u ∷ [])) pages pages' site site' →
     AsksUpdates log' pages' site' newest records table commits found' known' old before
 updates_asked_more b log log' pages pages' site site' newest records table commits found found' known known' old before a u more asks = record {
   done = a.done ++ u ∷ [];
@@ -141,14 +141,14 @@ updates_asked_more b log log' pages pages' site site' newest records table commi
 
 -- it stops there
 pub updates_asked_stopped : {B C : Type 0} (stop : Stop) (log : LogStore) (pages pages' : PageStore) (site site' : State) (newest : Option Master) (records : List Entry) (table : List Content) (commits : ℕ) (found : Analysis) (known : ℕ) (old : PageStore) (before : State) → 1 ≤ (rules old).groups →
-    (a : AsksUpdates log pages site newest records table commits found known old before) (u : Entry) (txn lsn : ℕ) → IsLastAt (records ++ a.updates.some.more) txn lsn u → Asks {T = B} (Err stop) (works_of (u ∷ [])) pages pages' site site' →
-    Asks {T = C} (Err stop) (undo_works records) old pages' before site'
+    (a : AsksUpdates log pages site newest records table commits found known old before) (u : Entry) (txn lsn : ℕ) → IsLastAt (records ++ a.updates.some.more) txn lsn u → StepsMachine {T = B} (Err stop) (works_of (u ∷ [])) pages pages' site site' →
+    StepsMachine {T = C} (Err stop) (undo_works records) old pages' before site'
 updates_asked_stopped stop log pages pages' site site' newest records table commits found known old before some a u txn lsn last asks =
     let front = last_in_front (records ++ a.updates.some.more) txn lsn u last in
     more_work_stopped tt stop (reverse (pending records)) a.done front.0 u old pages pages' before site site' some (a.updates.left ∙ ap (λ (l : List Entry). a.done ++ l) front.1) a.asks asks
 
 -- or all are undone
 pub updates_asked : {B : Type 0} (b : B) (log : LogStore) (pages : PageStore) (site : State) (newest : Option Master) (records : List Entry) (table : List Content) (commits : ℕ) (found : Analysis) (known : ℕ) (old : PageStore) (before : State) →
-    (a : AsksUpdates log pages site newest records table commits found known old before) → pending (records ++ a.updates.some.more) ≡ [] → Asks {T = B} (Ok b) (undo_works records) old pages before site
+    (a : AsksUpdates log pages site newest records table commits found known old before) → pending (records ++ a.updates.some.more) ≡ [] → StepsMachine {T = B} (Ok b) (undo_works records) old pages before site
 updates_asked b log pages site newest records table commits found known old before a none =
     all_work tt b (reverse (pending records)) a.done old pages before site (a.updates.left ∙ ap (λ (l : List Entry). a.done ++ reverse l) none ∙ append-nil a.done) a.asks

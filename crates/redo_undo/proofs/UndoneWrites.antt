@@ -11,7 +11,7 @@ use Rattle.log_records.specs.Log.{Entry, entries_of, number_of}
 use Rattle.log_records.specs.Unfinished.{is_clr, clrs_in, open_by, open_updates}
 use Rattle.log_records.specs.Restart.{undo_touch}
 use Rattle.log_laws.specs.Follow.{write_of}
-use Rattle.redo_undo.specs.Works.{ActiveIsUndoneBy}
+use Rattle.redo_undo.specs.MachineSteps.{ActiveIsUndoneBy}
 
 abbrev touches_of : List Write → List CacheWork
 touches_of writes = map (λ write. write_touch write.0) writes

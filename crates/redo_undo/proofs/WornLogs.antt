@@ -7,13 +7,13 @@ use Rattle.sealed_ring.specs.declared.slots.Shape.{Shape}
 use Rattle.sealed_ring.specs.Ring.{hi_of}
 use Rattle.sealed_ring.specs.Ready.{Finds}
 use Rattle.log_store.specs.declared.store.LogStore.{LogStore}
-use Rattle.log_store.specs.Held as log_held
-use Rattle.log_store.specs.Held.{has_tail, end_of}
+use Rattle.log_store.specs.Representation as log_store
+use Rattle.log_store.specs.Representation.{has_tail, end_of}
 use Rattle.image_changes.specs.Rings.{log_shape, master_shape}
 use Rattle.redo_undo.specs.Holding.{IsLogWorn, blocks_to}
 
 -- a log that takes no more blocks changes nothing, and its ring stands at its end
-pub log_at_end : (log : LogStore) (old new : State) → log_held.Finds log old → new ≡ old → log.ring.hi ≡ 2 ^ 40 → IsLogWorn log.geometry new.image
+pub log_at_end : (log : LogStore) (old new : State) → log_store.Finds log old → new ≡ old → log.ring.hi ≡ 2 ^ 40 → IsLogWorn log.geometry new.image
 log_at_end log old new finds same worn = inl (ap (λ (s : State). hi_of (log_shape log.geometry) s.image.log) same ∙ sym finds.hi ∙ worn)
 
 -- so does the ring of master units

@@ -12,10 +12,10 @@ use Rattle.log_laws.specs.FollowLaws.{CommitFollows}
 use Rattle.log_laws.specs.RoomLaws.{OwedClosing}
 use Rattle.log_laws.specs.TailLaws.{CommitsMore, TailWithCommit}
 use Rattle.log_store.specs.declared.store.LogStore.{LogStore}
-use Rattle.log_store.specs.Held.{end_of}
+use Rattle.log_store.specs.Representation.{end_of}
 use Rattle.slotted_page.specs.Layout.{lsn_of}
 use Rattle.page_store.specs.declared.store.PageStore.{PageStore}
-use Rattle.page_store.specs.Held.{current}
+use Rattle.page_store.specs.Representation.{current}
 use Rattle.page_store.specs.Ahead.{IsAhead}
 use Rattle.page_store.specs.Leaves.{AreReady}
 use Rattle.checkpoint.specs.declared.master.Master.{Master}

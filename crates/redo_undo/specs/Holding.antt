@@ -12,12 +12,12 @@ use Rattle.log_records.specs.Unfinished.{owed}
 use Rattle.log_records.specs.Sound.{commit_number}
 use Rattle.log_laws.specs.Follow.{Follows}
 use Rattle.log_store.specs.declared.store.LogStore.{LogStore}
-use Rattle.log_store.specs.Held as log_held
-use Rattle.log_store.specs.Held.{has_tail, end_of}
+use Rattle.log_store.specs.Representation as log_store
+use Rattle.log_store.specs.Representation.{has_tail, end_of}
 use Rattle.slotted_page.specs.Layout.{lsn_of}
 use Rattle.page_store.specs.declared.store.PageStore.{PageStore}
-use Rattle.page_store.specs.Held as page_held
-use Rattle.page_store.specs.Held.{current}
+use Rattle.page_store.specs.Representation as page_store
+use Rattle.page_store.specs.Representation.{current}
 use Rattle.page_store.specs.Ahead.{IsAhead}
 use Rattle.page_store.specs.Leaves.{AreReady}
 use Rattle.page_store.specs.Stopping.{IsLogAtEnd}
@@ -33,16 +33,16 @@ blocks_to log = log.ring.hi + (if has_tail log then 1 else 0)
 
 -- Of every site: log and pages may go on. From the kept block on there are no more blocks than can be live, the tail as
 -- one of them.
-pub record MayGoOn (log : LogStore) (pages : PageStore) (site : State) : Type 0 where
-  pub log_going : log_held.MayGoOn log site
-  pub pages_going : page_held.MayGoOn pages site
+pub record Invariant (log : LogStore) (pages : PageStore) (site : State) : Type 0 where
+  pub log_going : log_store.Invariant log site
+  pub pages_going : page_store.Invariant pages site
   pub sizes : log.geometry ≡ pages.flash.geometry
   pub room : blocks_to log < log.kept + log.geometry.blocks
 
 -- Of an honest site, whatever is loose, but for what the pages show, under a newest master: log and pages fit it, and
 -- the log keeps the blocks that the master keeps, with these records. What is sealed of them stands for this table
 -- after so many commits. The log is ahead of the pages, and has room to undo all.
-pub record HoldsLog (g : Geometry) (log : LogStore) (pages : PageStore) (site : State) (newest : Option Master)
+pub record RepresentsLog (g : Geometry) (log : LogStore) (pages : PageStore) (site : State) (newest : Option Master)
     (records : List Entry) (table : List Content) (commits : ℕ) : Type 0 where
   pub kept : log.kept ≡ kept_by newest
   pub blocks : List (List LogRecord)
@@ -59,15 +59,15 @@ pub record ShowRecords (g : Geometry) (pages : PageStore) (image : Image) (recor
       → ShowsAll records (versions_on g image) page (version_in (current pages image page))
 
 -- Of an honest site: both. No page has an LSN that a next record may get.
-pub record HoldsIn (g : Geometry) (log : LogStore) (pages : PageStore) (site : State) (newest : Option Master)
+pub record RepresentsIn (g : Geometry) (log : LogStore) (pages : PageStore) (site : State) (newest : Option Master)
     (records : List Entry) (table : List Content) (commits : ℕ) : Type 0 where
-  pub log_holds : HoldsLog g log pages site newest records table commits
+  pub log_holds : RepresentsLog g log pages site newest records table commits
   pub shows : ShowRecords g pages site.image records
   pub below : (page : ℕ) → page < g.pages → lsn_of (current pages site.image page) < end_of log
 
-abbrev pub Holds : LogStore → PageStore → State → Option Master → List Entry → List Content → ℕ → Type 0
-Holds log pages site newest records table commits =
-    HoldsIn pages.flash.geometry log pages site newest records table commits
+abbrev pub Represents : LogStore → PageStore → State → Option Master → List Entry → List Content → ℕ → Type 0
+Represents log pages site newest records table commits =
+    RepresentsIn pages.flash.geometry log pages site newest records table commits
 
 -- One more record may be appended: it may stand there, is no Commit, and leaves room to undo all.
 pub record MayGrow (log : LogStore) (pages : PageStore) (image : Image) (newest : Option Master) (records : List Entry)

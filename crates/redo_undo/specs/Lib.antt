@@ -11,7 +11,7 @@ pub mod Committing
 pub mod SessionLaws
 pub mod Redoing
 pub mod RedoLaws
-pub mod Works
+pub mod MachineSteps
 pub mod UndoWorks
 pub mod Checkpointing
 pub mod Stores

@@ -2,7 +2,7 @@
 use Rattle.std.specs.Prelude.{Result, OnOk, ◌++◌, ◌≡◌, ◌⊎◌, ℕ, ◌≤◌, ◌<◌, List, [], length, filter_map, Option, filter}
 use Rattle.site.specs.declared.geometry.Geometry.{Geometry}
 use Rattle.site.specs.declared.outside.Stop.{Stop}
-use Rattle.redo_undo.specs.Works.{Asks}
+use Rattle.redo_undo.specs.MachineSteps.{StepsMachine}
 use Rattle.redo_undo.specs.Calls.{Keeps}
 use Rattle.site.specs.State.{State, Image, Snapshot}
 use Rattle.record_model.specs.State.{Content}
@@ -15,7 +15,7 @@ use Rattle.log_records.specs.Sound as lists
 use Rattle.slotted_page.specs.Layout.{lsn_of}
 use Rattle.log_store.specs.declared.store.LogStore.{LogStore}
 use Rattle.page_store.specs.declared.store.PageStore.{PageStore}
-use Rattle.page_store.specs.Held.{current}
+use Rattle.page_store.specs.Representation.{current}
 use Rattle.page_store.specs.Ahead.{IsAhead}
 use Rattle.page_store.specs.Leaves.{AreReady}
 use Rattle.image_meaning.specs.Meaning.{IsSoundUnder, picture_under, versions_on, version_in, kept_by}
@@ -103,4 +103,4 @@ pub record Takes {T : Type 0} (result : Result T Stop) (o : Opening) (old new : 
     (before now : State) (so_far : Redone) (front next : List Entry) : Type 0 where
   pub taken : OnOk result (HasTaken o new pages' now so_far (front ++ next))
   pub keeps : Keeps result pages.flash.geometry old new before now (LeavesOpened o before.told) 0 0
-  pub asks : Asks result (asked_of o next) pages pages' before now
+  pub asks : StepsMachine result (asked_of o next) pages pages' before now

@@ -12,7 +12,7 @@ use Rattle.log_store.specs.declared.store.LogStore.{LogStore}
 use Rattle.page_store.specs.declared.store.PageStore.{PageStore}
 use Rattle.checkpoint.specs.declared.master.Master.{Master}
 use Rattle.redo_undo.specs.declared.undo.Undoing.{Undoing}
-use Rattle.redo_undo.specs.Holding.{Holds, blocks_to}
+use Rattle.redo_undo.specs.Holding.{Represents, blocks_to}
 
 -- these are CLRs of a transaction
 abbrev pub AreClrsOf : ℕ → List Entry → Type 0
@@ -28,7 +28,7 @@ pub record Compensates (log : LogStore) (pages : PageStore) (site : State) (newe
     (records : List Entry) (table : List Content) (commits : ℕ) (txn blocks reads : ℕ) (now : Undoing) : Type 0 where
   pub clrs : List Entry
   pub own : AreClrsOf txn clrs
-  pub holds : Holds log pages site newest (records ++ clrs) table commits
+  pub holds : Represents log pages site newest (records ++ clrs) table commits
   pub remaining : ℕ
   pub left : IsUnfinished (records ++ clrs) (left_of now remaining)
   pub same : now.txn ≡ txn
@@ -47,7 +47,8 @@ pub record RollsBack (log : LogStore) (pages : PageStore) (site : State) (newest
   pub own : AreClrsOf txn clrs
   pub count : length clrs ≡ length (left_open records txn)
   pub owes : owed ((records ++ clrs) ++ record { lsn = lsn; rec = End txn } ∷ []) + (length clrs + 1) ≡ owed records
-  pub holds : Holds log pages site newest ((records ++ clrs) ++ record { lsn = lsn; rec = End txn } ∷ []) table commits
+  pub holds : Represents log pages site newest ((records ++ clrs) ++ record { lsn = lsn; rec = End txn } ∷ [])
+      table commits
   pub orderly : AreOrderly records → AreOrderly ((records ++ clrs) ++ record { lsn = lsn; rec = End txn } ∷ [])
   pub closed : is_loser ((records ++ clrs) ++ record { lsn = lsn; rec = End txn } ∷ []) txn ≡ false
   pub others : (t : ℕ) → t ≢ txn

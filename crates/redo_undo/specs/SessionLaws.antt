@@ -10,14 +10,14 @@ use Rattle.log_records.specs.Sound.{AreOrderly}
 use Rattle.log_laws.specs.Follow.{IsActive, IsFresh, IsFree, IsFreeFor}
 use Rattle.log_laws.specs.Analysis.{Unfinished, IsUnfinished}
 use Rattle.log_store.specs.declared.store.LogStore.{LogStore}
-use Rattle.log_store.specs.Held.{end_of}
+use Rattle.log_store.specs.Representation.{end_of}
 use Rattle.slotted_page.specs.Layout.{slots_of}
 use Rattle.buffer_pool.specs.Frames.{front_of}
 use Rattle.page_store.specs.declared.store.PageStore.{PageStore}
-use Rattle.page_store.specs.Held.{IsStore}
+use Rattle.page_store.specs.Representation.{IsStore}
 use Rattle.checkpoint.specs.declared.master.Master.{Master}
 use Rattle.image_meaning.specs.Meaning.{master_of}
-use Rattle.redo_undo.specs.Holding.{Holds, MayGrow, blocks_to}
+use Rattle.redo_undo.specs.Holding.{Represents, MayGrow, blocks_to}
 use Rattle.redo_undo.specs.Committing.{MayCommit}
 use Rattle.redo_undo.specs.Checkpointing.{AreUnfinished, KeepUnfinished}
 
@@ -36,14 +36,14 @@ front_content pages slot = content_at (slots_of (front_of pages.pool.frames).con
 -- a transaction that begins behind an orderly log is a new one
 abbrev pub NextIsFresh : Type 0
 NextIsFresh = (log : LogStore) (pages : PageStore) (site : State) (newest : Option Master) (records : List Entry)
-    (table : List Content) (commits lsn : ℕ) → Holds log pages site newest records table commits → AreOrderly records
-    → end_of log ≤ lsn → IsFresh lsn records
+    (table : List Content) (commits lsn : ℕ) → Represents log pages site newest records table commits
+    → AreOrderly records → end_of log ≤ lsn → IsFresh lsn records
 
 -- its Begin may be logged
 abbrev pub BeginMayGrow : Type 0
 BeginMayGrow =
     (log : LogStore) (pages : PageStore) (site : State) (newest : Option Master) (records : List Entry)
-    (table : List Content) (commits lsn : ℕ) → Holds log pages site newest records table commits
+    (table : List Content) (commits lsn : ℕ) → Represents log pages site newest records table commits
     → AreOrderly records →
     end_of log ≤ lsn → HasRoomForMore log pages records
     → MayGrow log pages site.image newest records (record { lsn = lsn; rec = Begin })
@@ -54,7 +54,7 @@ abbrev pub UpdateMayGrow : Type 0
 UpdateMayGrow =
     (log : LogStore) (pages : PageStore) (site : State) (newest : Option Master) (records : List Entry)
     (table : List Content) (commits lsn txn last slot : ℕ) (writes : List Write) (after : Content)
-    → Holds log pages site newest records table commits →
+    → Represents log pages site newest records table commits →
     IsStore pages → 0 < length pages.pool.frames → slot < 32 → IsActive (master_of newest) records txn last writes
     → IsFreeFor records txn (front_number pages slot) → HasRoomForMore log pages records →
     MayGrow log pages site.image newest records
@@ -74,7 +74,7 @@ abbrev pub ActiveMayBeUndone : Type 0
 ActiveMayBeUndone =
     (log : LogStore) (pages : PageStore) (site : State) (newest : Option Master) (records : List Entry)
     (table : List Content) (commits txn last : ℕ) (writes : List Write)
-    → Holds log pages site newest records table commits →
+    → Represents log pages site newest records table commits →
     IsActive (master_of newest) records txn last writes
     → IsUnfinished records (record { txn = txn; last = last; next = last; remaining = length writes })
 
@@ -82,21 +82,21 @@ ActiveMayBeUndone =
 abbrev pub EndMayGrow : Type 0
 EndMayGrow =
     (log : LogStore) (pages : PageStore) (site : State) (newest : Option Master) (records : List Entry)
-    (table : List Content) (commits lsn : ℕ) (x : Unfinished) → Holds log pages site newest records table commits →
+    (table : List Content) (commits lsn : ℕ) (x : Unfinished) → Represents log pages site newest records table commits →
     IsUnfinished records x → x.remaining ≡ 0
     → MayGrow log pages site.image newest records (record { lsn = lsn; rec = End x.txn })
 
 -- The table has 32 records a page.
 abbrev pub HoldsSize : Type 0
 HoldsSize = (log : LogStore) (pages : PageStore) (site : State) (newest : Option Master) (records : List Entry)
-    (table : List Content) (commits : ℕ) → Holds log pages site newest records table commits
+    (table : List Content) (commits : ℕ) → Represents log pages site newest records table commits
     → length table ≡ 32 * pages.flash.geometry.pages
 
 -- where no unfinished transaction has written, the slot in front has the committed value
 abbrev pub FrontIsCommitted : Type 0
 FrontIsCommitted =
     (log : LogStore) (pages : PageStore) (site : State) (newest : Option Master) (records : List Entry)
-    (table : List Content) (commits slot : ℕ) → Holds log pages site newest records table commits →
+    (table : List Content) (commits slot : ℕ) → Represents log pages site newest records table commits →
     IsStore pages → 0 < length pages.pool.frames → slot < 32 → IsFree records (front_number pages slot) →
     front_content pages slot ≡ content_at table (front_number pages slot)
 
@@ -105,7 +105,7 @@ abbrev pub FrontIsSeen : Type 0
 FrontIsSeen =
     (log : LogStore) (pages : PageStore) (site : State) (newest : Option Master) (records : List Entry)
     (table : List Content) (commits txn last slot : ℕ) (writes : List Write)
-    → Holds log pages site newest records table commits →
+    → Represents log pages site newest records table commits →
     IsStore pages → 0 < length pages.pool.frames → slot < 32 → IsActive (master_of newest) records txn last writes
     → IsFreeFor records txn (front_number pages slot) →
     front_content pages slot ≡ unwrap_or (last_write writes (front_number pages slot))

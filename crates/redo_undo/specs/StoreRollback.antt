@@ -8,7 +8,7 @@ use Rattle.log_laws.specs.Follow.{IsActive}
 use Rattle.checkpoint.specs.declared.master.Master.{Master}
 use Rattle.image_meaning.specs.Meaning.{master_of}
 use Rattle.redo_undo.specs.declared.store.Store.{Store}
-use Rattle.redo_undo.specs.Stores.{Holds}
+use Rattle.redo_undo.specs.Stores.{Represents}
 
 -- all other transactions are as they were
 pub record ConcernsOnly (newest : Option Master) (txn : ℕ) (before now : List Entry) : Type 0 where
@@ -21,6 +21,6 @@ pub record RollsBack (store : Store) (site : State) (newest : Option Master) (re
     (table : List Content) (commits : ℕ) (txn writes : ℕ) : Type 0 where
   pub log : List Entry
   pub concerns : ConcernsOnly newest txn records log
-  pub holds : Holds store site newest log table commits
+  pub holds : Represents store site newest log table commits
   pub closed : is_loser log txn ≡ false
   pub owes : owed log + (writes + 1) ≡ owed records

@@ -25,7 +25,7 @@ sizes_of store = store.pages.flash.geometry
 
 -- of every site: log and pages may go on
 pub record MayWork (store : Store) (site : State) : Type 0 where
-  pub both : both.MayGoOn store.log store.pages site
+  pub both : both.Invariant store.log store.pages site
   -- each kept block has a record that counts
   pub blocks : blocks_to store.log ≤ store.log.kept + store.made
   pub bounded : store.made ≤ 2 ^ 40
@@ -41,9 +41,9 @@ pub record MayLog (store : Store) (site : State) : Type 0 where
 
 -- Of an honest site: under this newest master log and pages hold these records together, what is sealed of them stands
 -- for this table after so many commits, and they are in order. The ring of master units is the one that stands there.
-pub record Holds (store : Store) (site : State) (newest : Option Master) (records : List Entry) (table : List Content)
-    (commits : ℕ) : Type 0 where
-  pub both : both.Holds store.log store.pages site newest records table commits
+pub record Represents (store : Store) (site : State) (newest : Option Master) (records : List Entry)
+    (table : List Content) (commits : ℕ) : Type 0 where
+  pub both : both.Represents store.log store.pages site newest records table commits
   pub orderly : AreOrderly records
   pub masters : Finds store.masters site
 
@@ -53,7 +53,7 @@ pub record HasCheckpoint (store : Store) (site : State) (records : List Entry) (
     (active : List Pair) : Type 0 where
   pub master : Master
   pub named : master.active ≡ active
-  pub holds : Holds store site (Some master) (from_block master.kept records) table commits
+  pub holds : Represents store site (Some master) (from_block master.kept records) table commits
   pub keeps : KeepUnfinished records (from_block master.kept records)
 
 -- one more record may be appended

@@ -15,7 +15,7 @@ use Rattle.checkpoint.specs.declared.master.Master.{Master}
 use Rattle.image_meaning.specs.Meaning.{master_of, versions_on}
 use Rattle.redo_undo.specs.declared.undo.Undoing.{Undoing}
 use Rattle.redo_undo.specs.declared.undo.Wanted.{Wanted}
-use Rattle.redo_undo.specs.Holding.{Holds}
+use Rattle.redo_undo.specs.Holding.{Represents}
 
 -- where undoing an unfinished transaction stands
 pub record IsAt (at : Undoing) (x : Unfinished) : Type 0 where
@@ -42,7 +42,7 @@ pub record Undone (log : LogStore) (pages : PageStore) (site : State) (newest : 
   pub e_is : e ≡ record { lsn = now.last; rec = Clr x.txn x.last now.next page slot before }
   pub clr : is_clr e.rec ≡ true
   pub own : txn_of e ≡ x.txn
-  pub holds : Holds log pages site newest (records ++ e ∷ []) table commits
+  pub holds : Represents log pages site newest (records ++ e ∷ []) table commits
   pub left : IsUnfinished (records ++ e ∷ []) (after_record x e)
   pub at : IsAt now (after_record x e)
   pub fewer : (after_record x e).remaining + 1 ≡ x.remaining

@@ -15,7 +15,7 @@ use Rattle.analysis.specs.Open.{Open, found_in}
 use Rattle.analysis.specs.Table.{listed}
 use Rattle.analysis.specs.Read.{IsTable, loser_of}
 use Rattle.analysis.specs.Read as analysis_read
-use Rattle.redo_undo.specs.Holding.{Holds}
+use Rattle.redo_undo.specs.Holding.{Represents}
 
 -- what a list says of a transaction, as callers see it
 pub record IsOf (table : List Open) (loser : Loser) : Type 0 where
@@ -25,7 +25,7 @@ pub record IsOf (table : List Open) (loser : Loser) : Type 0 where
 
 -- of every log: analysis hears of a record that undo logs, and counts no commit by it
 pub record IsHeard (old new : Analysis) : Type 0 where
-  pub going : analysis_read.MayGoOn new
+  pub going : analysis_read.Invariant new
   pub commits : new.commits ≡ old.commits
 
 -- of each transaction an Update remains
@@ -46,7 +46,7 @@ AreUpTo known records = AllByRecursion (λ e. e.lsn ≤ known) records
 -- behind an LSN.
 pub record IsUndoing (log : LogStore) (pages : PageStore) (site : State) (newest : Option Master) (records : List Entry)
     (table : List Content) (commits : ℕ) (found : Analysis) (known : ℕ) : Type 0 where
-  pub holds : Holds log pages site newest records table commits
+  pub holds : Represents log pages site newest records table commits
   pub analysis : IsTable [] records (listed found.table)
   pub up_to : AreUpTo known records
 
@@ -74,7 +74,7 @@ pub record UndoesSome (log : LogStore) (pages : PageStore) (site : State) (newes
 pub record UndoesAll (log : LogStore) (pages : PageStore) (site : State) (newest : Option Master) (records : List Entry)
     (table : List Content) (commits : ℕ) : Type 0 where
   pub more : List Entry
-  pub holds : Holds log pages site newest (records ++ more) table commits
+  pub holds : Represents log pages site newest (records ++ more) table commits
   pub none : (t : ℕ) → is_loser (records ++ more) t ≡ false
   pub count : length more ≡ owed records
   pub in_turn : InTurn IsNextUndo records more

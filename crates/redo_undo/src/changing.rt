@@ -6,7 +6,7 @@ ghost use Rattle.log_records.specs.Spelling.{HasForm, IsShort};
 ghost use Rattle.slotted_page.specs.Layout.{lsn_of};
 ghost use Rattle.buffer_pool.specs.Frames.{front_of};
 ghost use Rattle.log_store.specs.declared.store.LogStore.{LogStore};
-ghost use Rattle.page_store.specs.Held.{IsStore, MayGoOn, Fits, current};
+ghost use Rattle.page_store.specs.Representation.{IsStore, Invariant, Matches, current};
 ghost use Rattle.page_store.specs.Caching.{cache_of, with_change};
 ghost use Rattle.page_store.specs.Ahead.{IsAhead, end_forced};
 ghost use Rattle.image_meaning.specs.Meaning.{version_in};
@@ -68,8 +68,8 @@ pub(crate) fn change_front(pages: &mut PageStore, rec: &LogRecord, lsn: u64)
     ensures others { (image : Image) (page : ℕ) → page ≢ (front_of pages.old.pool.frames).page
         → current pages.new image page ≡ current pages.old image page }
     ensures machine { cache_of pages.new ≡ with_change (cache_of pages.old) }
-    ensures going { (site : State) → MayGoOn pages.old site → MayGoOn pages.new site }
-    ensures fit { (site : State) → Fits pages.old site → Fits pages.new site }
+    ensures going { (site : State) → Invariant pages.old site → Invariant pages.new site }
+    ensures fit { (site : State) → Matches pages.old site → Matches pages.new site }
     ensures ahead { (log : LogStore) (image : Image) → IsAhead log pages.old image
         → lsn < end_forced log → IsAhead log pages.new image }
     ensures size { pages.new.pool.size ≡ pages.old.pool.size }

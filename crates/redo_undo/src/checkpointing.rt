@@ -10,19 +10,19 @@ ghost use Rattle.checkpoint.specs.declared.master.Master.{Master};
 ghost use Rattle.checkpoint.specs.Actives.{Ascend};
 ghost use Rattle.image_changes.specs.Rings.{master_shape};
 ghost use Rattle.second_chance.specs.Machine.{wants_flush};
-ghost use Rattle.log_store.specs.Held as log_held;
-ghost use Rattle.log_store.specs.Held.{end_of};
+ghost use Rattle.log_store.specs.Representation as log_store;
+ghost use Rattle.log_store.specs.Representation.{end_of};
 ghost use Rattle.page_store.specs.declared.store.PageStore.{PageStore};
 ghost use Rattle.page_store.specs.Caching.{cache_of};
 ghost use Rattle.page_store.specs.Stopping.{MayStop};
 ghost use Rattle.image_meaning.specs.Moments.{LeavesTableUnder, LeavesFor};
 ghost use Rattle.image_meaning.specs.Flushed.{first_block};
-ghost use Rattle.redo_undo.specs.Holding.{MayGoOn, Holds, blocks_to};
+ghost use Rattle.redo_undo.specs.Holding.{Invariant, Represents, blocks_to};
 ghost use Rattle.redo_undo.specs.Checkpointing.{MayBeMade, IsSaved, begins_of, SaveLaws};
 ghost use Rattle.redo_undo.specs.Stores.{MayWork, HasCheckpoint, sizes_of};
 ghost use Rattle.redo_undo.specs.StoreCalls as stores;
-ghost use Rattle.redo_undo.specs.Works.{Asks, checkpoint_works};
-ghost use Rattle.redo_undo.specs.Calls.{Works, Keeps};
+ghost use Rattle.redo_undo.specs.MachineSteps.{StepsMachine, checkpoint_works};
+ghost use Rattle.redo_undo.specs.Calls.{KeepsInvariant, Keeps};
 ghost use Rattle.site.specs.Work.{Calls};
 ghost use Rattle.std.specs.Prelude.{IsTrue};
 ghost use Rattle.site.specs.Moments.{ChangesOnly};
@@ -64,23 +64,23 @@ fn save_laws()
 // Pushes all changed pages. What log and pages hold together stays, and at each moment the devices stand for the same
 // table. The log's tail is empty, so the log isn't forced.
 fn flush<S: Site>(site: &mut S, log: &mut LogStore, pages: &mut PageStore) -> Result<(), Stop>
-    requires going { MayGoOn log.old pages.old (S.state site.old) }
+    requires going { Invariant log.old pages.old (S.state site.old) }
     requires sealed { log.old.used ≡ 2 }
 
     // Of an honest site on which log and pages hold together.
     ensures holds { (newest : Option Master) (records : List Entry) (table : List Content) (commits : ℕ)
-        → Holds log.old pages.old (S.state site.old) newest records table commits
-        → OnOk result (Holds log.new pages.new (S.state site.new) newest records table commits) }
+        → Represents log.old pages.old (S.state site.old) newest records table commits
+        → OnOk result (Represents log.new pages.new (S.state site.new) newest records table commits) }
     ensures keeps { (newest : Option Master) (records : List Entry) (table : List Content) (commits : ℕ)
-        → Holds log.old pages.old (S.state site.old) newest records table commits
+        → Represents log.old pages.old (S.state site.old) newest records table commits
         → Keeps result pages.old.flash.geometry log.old log.new (S.state site.old) (S.state site.new)
         (LeavesTableUnder newest pages.old.flash.geometry table commits (S.state site.old).told) 0 0 }
 
     // Of every site.
-    ensures asks { Asks result checkpoint_works pages.old pages.new (S.state site.old) (S.state site.new) }
+    ensures asks { StepsMachine result checkpoint_works pages.old pages.new (S.state site.old) (S.state site.new) }
     ensures clean { OnOk result (wants_flush (cache_of pages.new) ≡ false) }
     ensures sealed { OnOk result (log.new.used ≡ 2) }
-    ensures works { Works result log.old log.new pages.old pages.new (S.state site.old) (S.state site.new) }
+    ensures works { KeepsInvariant result log.old log.new pages.old pages.new (S.state site.old) (S.state site.new) }
     ensures hi { OnOk result (log.new.ring.hi ≡ log.old.ring.hi) }
 {
     log_laws();
@@ -122,7 +122,7 @@ fn save_master<S: Site>(
     active: Pairs,
     commits: u64,
 ) -> Result<Master, Stop>
-    requires going { log_held.MayGoOn log.old (S.state site.old) }
+    requires going { log_store.Invariant log.old (S.state site.old) }
     requires usable { IsUsable masters.old (S.state site.old) }
     requires shape { masters.old.shape ≡ master_shape }
     requires ascend { Ascend active }
@@ -130,13 +130,13 @@ fn save_master<S: Site>(
     // Of an honest site on which log and pages hold together, and of the unfinished transactions.
     ensures saved { (pages : PageStore) (newest : Option Master) (records : List Entry) (table : List Content)
         → log.old.geometry ≡ pages.flash.geometry
-        → Holds log.old pages (S.state site.old) newest records table commits
+        → Represents log.old pages (S.state site.old) newest records table commits
         → log.old.used ≡ 2 → wants_flush (cache_of pages) ≡ false
         → MayBeMade masters.old (S.state site.old) records active
         → IfOk result (λ master. IsSaved log.new pages masters.new (S.state site.new) records table commits master) }
     ensures keeps { (pages : PageStore) (newest : Option Master) (records : List Entry) (table : List Content)
         → log.old.geometry ≡ pages.flash.geometry
-        → Holds log.old pages (S.state site.old) newest records table commits
+        → Represents log.old pages (S.state site.old) newest records table commits
         → log.old.used ≡ 2 → wants_flush (cache_of pages) ≡ false
         → MayBeMade masters.old (S.state site.old) records active
         → Keeps result pages.flash.geometry log.old log.new (S.state site.old) (S.state site.new)
@@ -149,7 +149,7 @@ fn save_master<S: Site>(
     ensures least { IfOk result (λ master. min log.old.ring.hi (first_block log.old.ring.hi (begins_of active))
         ≤ master.kept) }
     ensures rises { IfOk result (λ master. (log.old.kept ≤ master.kept) × (master.kept ≤ log.old.ring.hi)) }
-    ensures log_going { log_held.MayGoOn log.new (S.state site.new) }
+    ensures log_going { log_store.Invariant log.new (S.state site.new) }
     ensures shape { masters.new.shape ≡ master_shape }
     ensures usable { IsUsable masters.new (S.state site.new) }
     ensures calls { Calls result (S.state site.old) (S.state site.new) }
@@ -198,11 +198,11 @@ impl Store {
 
         // Of an honest site on which log and pages hold together, and of the unfinished transactions.
         ensures checkpoint { (newest : Option Master) (records : List Entry) (table : List Content)
-            → Holds self.old.log self.old.pages (S.state site.old) newest records table commits
+            → Represents self.old.log self.old.pages (S.state site.old) newest records table commits
             → MayBeMade self.old.masters (S.state site.old) records active
             → OnOk result (HasCheckpoint self.new (S.state site.new) records table commits active) }
         ensures keeps { (newest : Option Master) (records : List Entry) (table : List Content)
-            → Holds self.old.log self.old.pages (S.state site.old) newest records table commits
+            → Represents self.old.log self.old.pages (S.state site.old) newest records table commits
             → MayBeMade self.old.masters (S.state site.old) records active
             → stores.Keeps result self.old self.new (S.state site.old) (S.state site.new)
             (LeavesFor (sizes_of self.old) table commits (S.state site.old).told) 0 1 }
@@ -213,7 +213,7 @@ impl Store {
         ensures made { OnOk result (self.new.made + first ≡ self.old.made) }
         ensures blocks { OnOk result (blocks_to self.new.log ≡ blocks_to self.old.log) }
         ensures end { OnOk result (end_of self.old.log ≤ end_of self.new.log) }
-        ensures asks { Asks result checkpoint_works self.old.pages self.new.pages
+        ensures asks { StepsMachine result checkpoint_works self.old.pages self.new.pages
             (S.state site.old) (S.state site.new) }
         ensures kept { OnOk result (self.old.log.kept ≤ self.new.log.kept) }
         ensures sizes { sizes_of self.new ≡ sizes_of self.old }

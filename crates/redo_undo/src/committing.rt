@@ -6,13 +6,13 @@ ghost use Rattle.record_model.specs.State.{Content, table_with};
 ghost use Rattle.log_records.specs.declared.log_record.LogRecord.{LogRecord};
 ghost use Rattle.log_records.specs.Log.{Entry};
 ghost use Rattle.log_laws.specs.Follow.{writes_in};
-ghost use Rattle.log_store.specs.Held.{end_of};
+ghost use Rattle.log_store.specs.Representation.{end_of};
 ghost use Rattle.checkpoint.specs.declared.master.Master.{Master};
 ghost use Rattle.image_meaning.specs.Moments.{LeavesEitherFor};
 ghost use Rattle.redo_undo.specs.Committing.{MayCommit, CommitLaws};
-ghost use Rattle.redo_undo.specs.Stores.{MayLog, Holds, sizes_of};
-ghost use Rattle.redo_undo.specs.StoreCalls.{Works, Keeps};
-ghost use Rattle.redo_undo.specs.Works.{Asks};
+ghost use Rattle.redo_undo.specs.Stores.{MayLog, Represents, sizes_of};
+ghost use Rattle.redo_undo.specs.StoreCalls.{KeepsInvariant, Keeps};
+ghost use Rattle.redo_undo.specs.MachineSteps.{StepsMachine};
 
 use crate::laws::{beside_laws, log_laws, page_laws};
 use crate::logging::log_record;
@@ -39,22 +39,22 @@ impl Store {
 
         // Of an honest site whose log and pages hold these records.
         ensures holds { (newest : Option Master) (records : List Entry) (table : List Content) (commits : ℕ)
-            → Holds self.old (S.state site.old) newest records table commits
+            → Represents self.old (S.state site.old) newest records table commits
             → MayCommit newest records txn number commits
-            → IfOk result (λ lsn. Holds self.new (S.state site.new) newest
+            → IfOk result (λ lsn. Represents self.new (S.state site.new) newest
             (records ++ record { lsn = lsn; rec = LogRecord.Commit txn number } ∷ [])
             (table_with table (writes_in txn records)) (commits + 1)) }
         ensures keeps { (newest : Option Master) (records : List Entry) (table : List Content) (commits : ℕ)
-            → Holds self.old (S.state site.old) newest records table commits
+            → Represents self.old (S.state site.old) newest records table commits
             → MayCommit newest records txn number commits
             → Keeps result self.old self.new (S.state site.old) (S.state site.new)
             (LeavesEitherFor (sizes_of self.old) table (table_with table (writes_in txn records)) commits
             (S.state site.old).told) 1 0 }
 
         // Of every site.
-        ensures works { Works result self.old self.new (S.state site.old) (S.state site.new) 1 }
+        ensures works { KeepsInvariant result self.old self.new (S.state site.old) (S.state site.new) 1 }
         ensures rises { IfOk result (λ lsn. (end_of self.old.log ≤ lsn) × (lsn < end_of self.new.log)) }
-        ensures asks { Asks result ([]) self.old.pages self.new.pages
+        ensures asks { StepsMachine result ([]) self.old.pages self.new.pages
             (S.state site.old) (S.state site.new) }
         ensures stops { IfErr result (λ stop. (stop ≡ Stop.Device Dev.Log) ⊎ (stop ≡ Stop.Worn Dev.Log)) }
     {

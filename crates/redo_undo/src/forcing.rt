@@ -4,12 +4,12 @@ ghost use Rattle.site.specs.declared.outside.Dev.{Dev};
 ghost use Rattle.site.specs.declared.outside.Stop.{Stop};
 ghost use Rattle.record_model.specs.State.{Content};
 ghost use Rattle.log_records.specs.Log.{Entry};
-ghost use Rattle.log_store.specs.Held as log_held;
+ghost use Rattle.log_store.specs.Representation as log_store;
 ghost use Rattle.page_store.specs.declared.store.PageStore.{PageStore};
 ghost use Rattle.checkpoint.specs.declared.master.Master.{Master};
 ghost use Rattle.image_meaning.specs.Moments.{LeavesTableUnder};
-ghost use Rattle.redo_undo.specs.Holding.{Holds, blocks_to};
-ghost use Rattle.redo_undo.specs.Calls.{WorksBeside, KeepsBeside};
+ghost use Rattle.redo_undo.specs.Holding.{Represents, blocks_to};
+ghost use Rattle.redo_undo.specs.Calls.{KeepsInvariantBeside, KeepsBeside};
 
 use crate::laws::{beside_laws, log_laws, page_laws};
 use image_changes::ring_kept;
@@ -19,24 +19,24 @@ use site::{Site, Stop};
 /// Seals the log's tail, where it has records. What log and pages hold together stays, and at each moment the devices
 /// stand for the same table.
 pub(crate) fn force<S: Site>(site: &mut S, log: &mut LogStore) -> Result<(), Stop>
-    requires going { log_held.MayGoOn log.old (S.state site.old) }
+    requires going { log_store.Invariant log.old (S.state site.old) }
     requires room { blocks_to log.old < log.old.kept + log.old.geometry.blocks }
 
     // Of an honest site on which log and pages hold together.
     ensures holds { (pages : PageStore) (newest : Option Master) (records : List Entry) (table : List Content)
         (commits : ℕ)
         → log.old.geometry ≡ pages.flash.geometry
-        → Holds log.old pages (S.state site.old) newest records table commits
-        → OnOk result (Holds log.new pages (S.state site.new) newest records table commits) }
+        → Represents log.old pages (S.state site.old) newest records table commits
+        → OnOk result (Represents log.new pages (S.state site.new) newest records table commits) }
     ensures keeps { (pages : PageStore) (newest : Option Master) (records : List Entry) (table : List Content)
         (commits : ℕ)
-        → Holds log.old pages (S.state site.old) newest records table commits
+        → Represents log.old pages (S.state site.old) newest records table commits
         → KeepsBeside result log.old log.new pages (S.state site.old) (S.state site.new)
         (LeavesTableUnder newest pages.flash.geometry table commits (S.state site.old).told) 0 }
 
     // Of every site.
     ensures sealed { OnOk result (log.new.used ≡ 2) }
-    ensures works { WorksBeside result log.old log.new (S.state site.old) (S.state site.new) }
+    ensures works { KeepsInvariantBeside result log.old log.new (S.state site.old) (S.state site.new) }
     ensures blocks { OnOk result (blocks_to log.new ≡ blocks_to log.old) }
 
     // When each answer comes.

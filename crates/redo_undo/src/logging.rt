@@ -9,8 +9,8 @@ ghost use Rattle.log_records.specs.declared.log_record.LogRecord.{LogRecord};
 ghost use Rattle.log_records.specs.Log.{Entry, number_of};
 ghost use Rattle.log_records.specs.Sound.{AreOrderly};
 ghost use Rattle.log_records.specs.Spelling.{HasForm};
-ghost use Rattle.log_store.specs.Held as log_held;
-ghost use Rattle.log_store.specs.Held.{end_of, has_tail};
+ghost use Rattle.log_store.specs.Representation as log_store;
+ghost use Rattle.log_store.specs.Representation.{end_of, has_tail};
 ghost use Rattle.page_store.specs.declared.store.PageStore.{PageStore};
 ghost use Rattle.second_chance.specs.Machine.{holds};
 ghost use Rattle.buffer_pool.specs.Frames.{front_of};
@@ -18,11 +18,12 @@ ghost use Rattle.page_store.specs.Caching.{cache_of, with_change};
 ghost use Rattle.page_store.specs.Ahead.{end_forced};
 ghost use Rattle.checkpoint.specs.declared.master.Master.{Master};
 ghost use Rattle.image_meaning.specs.Moments.{LeavesTableUnder};
-ghost use Rattle.redo_undo.specs.Holding.{MayGoOn, HoldsLog, Holds, MayGrow, KeepsPages, IsOnPage, blocks_to};
+ghost use Rattle.redo_undo.specs.Holding.{Invariant, RepresentsLog, Represents, MayGrow, KeepsPages, IsOnPage};
+ghost use Rattle.redo_undo.specs.Holding.{blocks_to};
 ghost use Rattle.redo_undo.specs.Committing.{EndsWith};
-ghost use Rattle.redo_undo.specs.Works.{Asks, one_touch};
+ghost use Rattle.redo_undo.specs.MachineSteps.{StepsMachine, one_touch};
 ghost use Rattle.redo_undo.specs.Redoing.{Opening, IsRedoing, LeavesOpened};
-ghost use Rattle.redo_undo.specs.Calls.{Works, LogsNothing, WorksBeside, Keeps, KeepsBeside};
+ghost use Rattle.redo_undo.specs.Calls.{KeepsInvariant, LogsNothing, KeepsInvariantBeside, Keeps, KeepsBeside};
 ghost use Rattle.page_store.specs.Caching.{next_group};
 ghost use Rattle.page_store.specs.Staging.{Stages};
 
@@ -45,15 +46,15 @@ pub(crate) fn touch<S: Site>(
     pages: &mut PageStore,
     page: u32,
 ) -> Result<(), Stop>
-    requires going { MayGoOn log.old pages.old (S.state site.old) }
+    requires going { Invariant log.old pages.old (S.state site.old) }
     requires exists { page < pages.old.flash.geometry.pages }
 
     // Of an honest site on which log and pages hold together.
     ensures holds { (newest : Option Master) (records : List Entry) (table : List Content) (commits : ℕ)
-        → Holds log.old pages.old (S.state site.old) newest records table commits
-        → OnOk result (Holds log.new pages.new (S.state site.new) newest records table commits) }
+        → Represents log.old pages.old (S.state site.old) newest records table commits
+        → OnOk result (Represents log.new pages.new (S.state site.new) newest records table commits) }
     ensures keeps { (newest : Option Master) (records : List Entry) (table : List Content) (commits : ℕ)
-        → Holds log.old pages.old (S.state site.old) newest records table commits
+        → Represents log.old pages.old (S.state site.old) newest records table commits
         → Keeps result pages.old.flash.geometry log.old log.new (S.state site.old) (S.state site.new)
         (LeavesTableUnder newest pages.old.flash.geometry table commits (S.state site.old).told) 0 0 }
 
@@ -66,7 +67,7 @@ pub(crate) fn touch<S: Site>(
         (LeavesOpened o (S.state site.old).told) 0 0 }
 
     // Of every site.
-    ensures asks { Asks result (one_touch page) pages.old pages.new (S.state site.old) (S.state site.new) }
+    ensures asks { StepsMachine result (one_touch page) pages.old pages.new (S.state site.old) (S.state site.new) }
     ensures front { OnOk result ((front_of pages.new.pool.frames).page ≡ page) }
     ensures there { OnOk result (0 < length pages.new.pool.frames) }
     ensures logs_nothing { LogsNothing result log.old log.new pages.old pages.new (S.state site.old)
@@ -85,7 +86,7 @@ pub(crate) fn log_record<S: Site>(
     log: &mut LogStore,
     rec: &LogRecord,
 ) -> Result<u64, Stop>
-    requires going { log_held.MayGoOn log.old (S.state site.old) }
+    requires going { log_store.Invariant log.old (S.state site.old) }
     requires form { HasForm rec.now }
     requires room { blocks_to log.old + 1 < log.old.kept + log.old.geometry.blocks }
 
@@ -93,47 +94,47 @@ pub(crate) fn log_record<S: Site>(
     ensures log_holds { (pages : PageStore) (newest : Option Master) (records : List Entry) (table : List Content)
         (commits : ℕ)
         → log.old.geometry ≡ pages.flash.geometry
-        → Holds log.old pages (S.state site.old) newest records table commits
+        → Represents log.old pages (S.state site.old) newest records table commits
         → IfOk result (λ lsn. MayGrow log.old pages (S.state site.old).image newest records
         (record { lsn = lsn; rec = rec.now })
-        → HoldsLog pages.flash.geometry log.new pages (S.state site.new) newest
+        → RepresentsLog pages.flash.geometry log.new pages (S.state site.new) newest
         (records ++ record { lsn = lsn; rec = rec.now } ∷ []) table commits) }
     ensures pages { (pages : PageStore) (newest : Option Master) (records : List Entry) (table : List Content)
         (commits : ℕ)
-        → Holds log.old pages (S.state site.old) newest records table commits
+        → Represents log.old pages (S.state site.old) newest records table commits
         → KeepsPages pages.flash.geometry pages (S.state site.old).image (S.state site.new).image }
     ensures holds { (pages : PageStore) (newest : Option Master) (records : List Entry) (table : List Content)
         (commits : ℕ)
         → log.old.geometry ≡ pages.flash.geometry
-        → Holds log.old pages (S.state site.old) newest records table commits → number_of rec.now ≡ None
+        → Represents log.old pages (S.state site.old) newest records table commits → number_of rec.now ≡ None
         → IfOk result (λ lsn. MayGrow log.old pages (S.state site.old).image newest records
         (record { lsn = lsn; rec = rec.now })
-        → Holds log.new pages (S.state site.new) newest
+        → Represents log.new pages (S.state site.new) newest
         (records ++ record { lsn = lsn; rec = rec.now } ∷ []) table commits) }
     ensures orderly { (pages : PageStore) (newest : Option Master) (records : List Entry) (table : List Content)
         (commits : ℕ)
         → log.old.geometry ≡ pages.flash.geometry
-        → Holds log.old pages (S.state site.old) newest records table commits
+        → Represents log.old pages (S.state site.old) newest records table commits
         → IfOk result (λ lsn. MayGrow log.old pages (S.state site.old).image newest records
         (record { lsn = lsn; rec = rec.now })
         → AreOrderly records → AreOrderly (records ++ record { lsn = lsn; rec = rec.now } ∷ [])) }
     ensures last { (pages : PageStore) (newest : Option Master) (records : List Entry) (table : List Content)
         (commits : ℕ)
         → log.old.geometry ≡ pages.flash.geometry
-        → Holds log.old pages (S.state site.old) newest records table commits
+        → Represents log.old pages (S.state site.old) newest records table commits
         → IfOk result (λ lsn. EndsWith pages.flash.geometry log.new pages (S.state site.new) newest records
         table commits
         (record { lsn = lsn; rec = rec.now })) }
     ensures keeps { (pages : PageStore) (newest : Option Master) (records : List Entry) (table : List Content)
         (commits : ℕ)
-        → Holds log.old pages (S.state site.old) newest records table commits
+        → Represents log.old pages (S.state site.old) newest records table commits
         → KeepsBeside result log.old log.new pages (S.state site.old) (S.state site.new)
         (LeavesTableUnder newest pages.flash.geometry table commits (S.state site.old).told) 1 }
 
     // Of every site.
     ensures rises { IfOk result (λ lsn. (end_of log.old ≤ lsn) × (lsn < end_of log.new)) }
     ensures forced { IfOk result (λ lsn. lsn < end_forced log.new) }
-    ensures works { WorksBeside result log.old log.new (S.state site.old) (S.state site.new) }
+    ensures works { KeepsInvariantBeside result log.old log.new (S.state site.old) (S.state site.new) }
     ensures last_block { IfOk result (λ lsn. 512 * log.new.ring.hi ≤ lsn) }
     ensures some { OnOk result (has_tail log.new ≡ true) }
     ensures blocks { OnOk result (blocks_to log.new ≤ blocks_to log.old + 1) }
@@ -158,7 +159,7 @@ pub(crate) fn log_change<S: Site>(
     pages: &mut PageStore,
     rec: &LogRecord,
 ) -> Result<u64, Stop>
-    requires going { MayGoOn log.old pages.old (S.state site.old) }
+    requires going { Invariant log.old pages.old (S.state site.old) }
     requires there { 0 < length pages.old.pool.frames }
     requires form { HasForm rec.now }
     requires on_page { IsOnPage (front_of pages.old.pool.frames).page rec.now }
@@ -166,25 +167,25 @@ pub(crate) fn log_change<S: Site>(
 
     // Of an honest site on which log and pages hold together.
     ensures holds { (newest : Option Master) (records : List Entry) (table : List Content) (commits : ℕ)
-        → Holds log.old pages.old (S.state site.old) newest records table commits
+        → Represents log.old pages.old (S.state site.old) newest records table commits
         → IfOk result (λ lsn. MayGrow log.old pages.old (S.state site.old).image newest records
         (record { lsn = lsn; rec = rec.now })
-        → Holds log.new pages.new (S.state site.new) newest
+        → Represents log.new pages.new (S.state site.new) newest
         (records ++ record { lsn = lsn; rec = rec.now } ∷ []) table commits) }
     ensures orderly { (newest : Option Master) (records : List Entry) (table : List Content) (commits : ℕ)
-        → Holds log.old pages.old (S.state site.old) newest records table commits
+        → Represents log.old pages.old (S.state site.old) newest records table commits
         → IfOk result (λ lsn. MayGrow log.old pages.old (S.state site.old).image newest records
         (record { lsn = lsn; rec = rec.now })
         → AreOrderly records → AreOrderly (records ++ record { lsn = lsn; rec = rec.now } ∷ [])) }
     ensures keeps { (newest : Option Master) (records : List Entry) (table : List Content) (commits : ℕ)
-        → Holds log.old pages.old (S.state site.old) newest records table commits
+        → Represents log.old pages.old (S.state site.old) newest records table commits
         → Keeps result pages.old.flash.geometry log.old log.new (S.state site.old) (S.state site.new)
         (LeavesTableUnder newest pages.old.flash.geometry table commits (S.state site.old).told) 1 0 }
 
     // Of every site.
     ensures machine { OnOk result (cache_of pages.new ≡ with_change (cache_of pages.old)) }
     ensures rises { IfOk result (λ lsn. (end_of log.old ≤ lsn) × (lsn < end_of log.new)) }
-    ensures works { Works result log.old log.new pages.old pages.new (S.state site.old) (S.state site.new) }
+    ensures works { KeepsInvariant result log.old log.new pages.old pages.new (S.state site.old) (S.state site.new) }
     ensures blocks { OnOk result (blocks_to log.new ≤ blocks_to log.old + 1) }
     ensures reads { SameReads (S.state site.old) (S.state site.new) }
     ensures stages { Stages result [] (next_group (cache_of pages.old)) pages.old pages.new (S.state site.old)

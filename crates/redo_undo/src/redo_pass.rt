@@ -15,13 +15,13 @@ ghost use Rattle.analysis.specs.Table.{listed};
 ghost use Rattle.analysis.specs.Read as read;
 ghost use Rattle.analysis.specs.Read.{IsAnalysis, IsTable};
 ghost use Rattle.analysis.specs.Taken.{is_named, is_taken, Steps, taken};
-ghost use Rattle.redo_undo.specs.Holding.{MayGoOn, Holds, IsOnPage, blocks_to};
+ghost use Rattle.redo_undo.specs.Holding.{Invariant, Represents, IsOnPage, blocks_to};
 ghost use Rattle.redo_undo.specs.Redoing.{IsOpened, Opening, Takes, LeavesOpened, IsRedoing, HasTaken, touches_of};
 ghost use Rattle.redo_undo.specs.Redoing.{heard_of};
 ghost use Rattle.redo_undo.specs.RedoLaws.{RedoLaws};
 ghost use Rattle.checkpoint.specs.declared.master.Master.{Master};
-ghost use Rattle.redo_undo.specs.Works.{Asks, redo_works};
-ghost use Rattle.redo_undo.specs.Calls.{Works, LogsNothing, Keeps};
+ghost use Rattle.redo_undo.specs.MachineSteps.{StepsMachine, redo_works};
+ghost use Rattle.redo_undo.specs.Calls.{KeepsInvariant, LogsNothing, Keeps};
 
 use crate::changing::change_front;
 use crate::laws::{log_laws, page_laws};
@@ -108,7 +108,7 @@ fn is_heard(master: &Master, lsn: u64, rec: &LogRecord) -> bool
 
 // Analysis of the next record.
 fn analyse(master: &Master, found: &mut Analysis, lsn: u64, rec: &LogRecord) -> Result<(), Stop>
-    requires going { read.MayGoOn found.old }
+    requires going { read.Invariant found.old }
 
     // Of a sound log of which these records were read: it may come next, where it is heard.
     ensures heard { (records : List Entry) → IsAnalysis (seen master.now) (heard_of (seen master.now) records) found.old
@@ -123,7 +123,7 @@ fn analyse(master: &Master, found: &mut Analysis, lsn: u64, rec: &LogRecord) -> 
         → IsErrOf result Stop.Foreign → ⊥ }
 
     // Of every log.
-    ensures going { read.MayGoOn found.new }
+    ensures going { read.Invariant found.new }
     ensures owed { owed_for (listed found.new.table) ≤ owed_for (listed found.old.table) + 1 }
     ensures stops { IfErr result (λ stop. (stop ≡ Stop.Memory) ⊎ (stop ≡ Stop.Foreign)) }
 {
@@ -142,7 +142,7 @@ fn redo_record<S: Site>(
     lsn: u64,
     rec: &LogRecord,
 ) -> Result<(), Stop>
-    requires going { MayGoOn log.old pages.old (S.state site.old) }
+    requires going { Invariant log.old pages.old (S.state site.old) }
     requires form { HasForm rec.now }
 
     // Of an honest site with an opened log, of which it is the next record.
@@ -157,8 +157,8 @@ fn redo_record<S: Site>(
         (LeavesOpened o (S.state site.old).told) 0 0 }
     ensures asks { (o : Opening) (front rest : List Entry) → IsRedoing o log.old pages.old (S.state site.old) front
         → log_from (kept_by o.newest) o.blocks ≡ front ++ record { lsn = lsn; rec = rec.now } ∷ rest
-        → Asks result (touches_of o (record { lsn = lsn; rec = rec.now } ∷ [])) pages.old pages.new (S.state site.old)
-        (S.state site.new) }
+        → StepsMachine result (touches_of o (record { lsn = lsn; rec = rec.now } ∷ [])) pages.old pages.new
+        (S.state site.old) (S.state site.new) }
 
     // Of every site.
     ensures logs_nothing { LogsNothing result log.old log.new pages.old pages.new (S.state site.old)
@@ -193,8 +193,8 @@ fn take_record<S: Site>(
     lsn: u64,
     rec: &LogRecord,
 ) -> Result<(), Stop>
-    requires going { MayGoOn log.old pages.old (S.state site.old) }
-    requires found_going { read.MayGoOn so_far.old.found }
+    requires going { Invariant log.old pages.old (S.state site.old) }
+    requires found_going { read.Invariant so_far.old.found }
     requires form { HasForm rec.now }
     requires few { so_far.old.records < 2 ^ 40 }
 
@@ -208,7 +208,7 @@ fn take_record<S: Site>(
     // Of every site.
     ensures logs_nothing { LogsNothing result log.old log.new pages.old pages.new (S.state site.old)
         (S.state site.new) }
-    ensures found_going { read.MayGoOn so_far.new.found }
+    ensures found_going { read.Invariant so_far.new.found }
     ensures records { OnOk result (so_far.new.records ≡ so_far.old.records + 1) }
     ensures owed { OnOk result (owed_for (listed so_far.new.found.table)
         ≤ owed_for (listed so_far.old.found.table) + 1) }
@@ -236,8 +236,8 @@ fn take_block<S: Site>(
     content: &[u8],
     used: usize,
 ) -> Result<(), Stop>
-    requires going { MayGoOn log.old pages.old (S.state site.old) }
-    requires found_going { read.MayGoOn so_far.old.found }
+    requires going { Invariant log.old pages.old (S.state site.old) }
+    requires found_going { read.Invariant so_far.old.found }
     requires low { 3 ≤ used }
     requires high { used ≤ 503 }
     requires inside { length content.now ≡ 503 }
@@ -255,7 +255,7 @@ fn take_block<S: Site>(
     // Of every site.
     ensures logs_nothing { LogsNothing result log.old log.new pages.old pages.new (S.state site.old)
         (S.state site.new) }
-    ensures found_going { OnOk result (read.MayGoOn so_far.new.found) }
+    ensures found_going { OnOk result (read.Invariant so_far.new.found) }
     ensures some { OnOk result (so_far.old.records < so_far.new.records) }
     ensures few { OnOk result (so_far.new.records ≤ so_far.old.records + 503) }
     ensures owed { OnOk result (owed_for (listed so_far.new.found.table) + so_far.old.records
@@ -297,7 +297,7 @@ pub fn redo<S: Site>(
     pages: &mut PageStore,
     master: &Master,
 ) -> Result<Redone, Stop>
-    requires going { MayGoOn log.old pages.old (S.state site.old) }
+    requires going { Invariant log.old pages.old (S.state site.old) }
     requires ascend { Ascend master.now.active }
 
     // Of an honest site with a sound image, whose newest master is handed in. Blocks are those from the oldest kept one
@@ -305,7 +305,7 @@ pub fn redo<S: Site>(
     ensures holds { (newest : Option Master) (blocks : List (List LogRecord)) (table : List Content) (commits : ℕ)
         → master.now ≡ saved_by newest
         → IsOpened pages.old.flash.geometry log.old pages.old (S.state site.old) newest blocks table commits
-        → OnOk result (Holds log.new pages.new (S.state site.new) newest (log_from (kept_by newest) blocks)
+        → OnOk result (Represents log.new pages.new (S.state site.new) newest (log_from (kept_by newest) blocks)
         table commits) }
     ensures read { (newest : Option Master) (blocks : List (List LogRecord)) (table : List Content) (commits : ℕ)
         → master.now ≡ saved_by newest
@@ -328,12 +328,13 @@ pub fn redo<S: Site>(
     ensures asks { (newest : Option Master) (blocks : List (List LogRecord)) (table : List Content) (commits : ℕ)
         → master.now ≡ saved_by newest
         → IsOpened pages.old.flash.geometry log.old pages.old (S.state site.old) newest blocks table commits
-        → Asks result (redo_works (picture_under newest pages.old.flash.geometry (S.state site.old).image blocks))
+        → StepsMachine result
+        (redo_works (picture_under newest pages.old.flash.geometry (S.state site.old).image blocks))
         pages.old pages.new (S.state site.old) (S.state site.new) }
 
     // Of every site.
-    ensures works { Works result log.old log.new pages.old pages.new (S.state site.old) (S.state site.new) }
-    ensures found_going { IfOk result (λ redone. read.MayGoOn redone.found) }
+    ensures works { KeepsInvariant result log.old log.new pages.old pages.new (S.state site.old) (S.state site.new) }
+    ensures found_going { IfOk result (λ redone. read.Invariant redone.found) }
     ensures some { IfOk result (λ redone. log.old.ring.hi ≤ log.old.kept + redone.records) }
     ensures few { IfOk result (λ redone. redone.records ≤ 503 * (log.old.ring.hi - log.old.kept)) }
     ensures owed { IfOk result (λ redone. owed_for (listed redone.found.table)

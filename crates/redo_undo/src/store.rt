@@ -10,18 +10,19 @@ ghost use Rattle.log_records.specs.Log.{Entry};
 ghost use Rattle.log_records.specs.Spelling.{IsShort};
 ghost use Rattle.log_records.specs.Unfinished as unfinished;
 ghost use Rattle.log_laws.specs.Follow.{IsActive};
-ghost use Rattle.log_store.specs.Held.{end_of};
-ghost use Rattle.page_store.specs.Held.{IsStore};
+ghost use Rattle.log_store.specs.Representation.{end_of};
+ghost use Rattle.page_store.specs.Representation.{IsStore};
 ghost use Rattle.checkpoint.specs.declared.master.Master.{Master};
 ghost use Rattle.image_meaning.specs.Meaning.{master_of};
 ghost use Rattle.image_meaning.specs.Moments.{LeavesFor};
 ghost use Rattle.redo_undo.specs.Holding.{blocks_to};
 ghost use Rattle.redo_undo.specs.Holding as both;
-ghost use Rattle.redo_undo.specs.Stores.{sizes_of, MayWork, MayLog, Holds, MayGrow, IsInFront, shown_in, update_by};
+ghost use Rattle.redo_undo.specs.Stores.{sizes_of, MayWork, MayLog, Represents, MayGrow, IsInFront, shown_in};
+ghost use Rattle.redo_undo.specs.Stores.{update_by};
 ghost use Rattle.redo_undo.specs.StoreRollback.{RollsBack};
-ghost use Rattle.redo_undo.specs.StoreCalls.{Works, Keeps};
+ghost use Rattle.redo_undo.specs.StoreCalls.{KeepsInvariant, Keeps};
 ghost use Rattle.record_model.specs.Touches.{write_touch};
-ghost use Rattle.redo_undo.specs.Works.{Asks, one_touch};
+ghost use Rattle.redo_undo.specs.MachineSteps.{StepsMachine, one_touch};
 ghost use Rattle.page_store.specs.Caching.{cache_of, rules, with_change};
 ghost use Rattle.site.specs.Calls.{SameReads};
 ghost use Rattle.page_store.specs.Caching.{next_group};
@@ -90,21 +91,21 @@ impl Store {
 
         // Of an honest site whose log and pages hold these records.
         ensures holds { (newest : Option Master) (records : List Entry) (table : List Content) (commits : ℕ)
-            → Holds self.old (S.state site.old) newest records table commits
+            → Represents self.old (S.state site.old) newest records table commits
             → IfOk result (λ lsn. MayGrow self.old (S.state site.old) newest records
             (record { lsn = lsn; rec = LogRecord.Begin })
-            → Holds self.new (S.state site.new) newest (records ++ record { lsn = lsn; rec = LogRecord.Begin } ∷ [])
-            table commits) }
+            → Represents self.new (S.state site.new) newest
+            (records ++ record { lsn = lsn; rec = LogRecord.Begin } ∷ []) table commits) }
         ensures keeps { (newest : Option Master) (records : List Entry) (table : List Content) (commits : ℕ)
-            → Holds self.old (S.state site.old) newest records table commits
+            → Represents self.old (S.state site.old) newest records table commits
             → Keeps result self.old self.new (S.state site.old) (S.state site.new)
             (LeavesFor (sizes_of self.old) table commits (S.state site.old).told) 1 0 }
 
         // Of every site.
-        ensures works { Works result self.old self.new (S.state site.old) (S.state site.new) 1 }
+        ensures works { KeepsInvariant result self.old self.new (S.state site.old) (S.state site.new) 1 }
         ensures rises { IfOk result (λ lsn. (end_of self.old.log ≤ lsn) × (lsn < end_of self.new.log)) }
         ensures last_block { IfOk result (λ lsn. 512 * self.new.log.ring.hi ≤ lsn) }
-        ensures asks { Asks result ([]) self.old.pages self.new.pages
+        ensures asks { StepsMachine result ([]) self.old.pages self.new.pages
             (S.state site.old) (S.state site.new) }
         ensures pages { self.new.pages ≡ self.old.pages }
         ensures stops { IfErr result (λ stop. (stop ≡ Stop.Device Dev.Log) ⊎ (stop ≡ Stop.Worn Dev.Log)) }
@@ -125,19 +126,19 @@ impl Store {
 
         // Of an honest site whose log and pages hold these records.
         ensures holds { (newest : Option Master) (records : List Entry) (table : List Content) (commits : ℕ)
-            → Holds self.old (S.state site.old) newest records table commits
-            → OnOk result (Holds self.new (S.state site.new) newest records table commits) }
+            → Represents self.old (S.state site.old) newest records table commits
+            → OnOk result (Represents self.new (S.state site.new) newest records table commits) }
         ensures keeps { (newest : Option Master) (records : List Entry) (table : List Content) (commits : ℕ)
-            → Holds self.old (S.state site.old) newest records table commits
+            → Represents self.old (S.state site.old) newest records table commits
             → Keeps result self.old self.new (S.state site.old) (S.state site.new)
             (LeavesFor (sizes_of self.old) table commits (S.state site.old).told) 0 0 }
 
         // Of every site.
-        ensures works { Works result self.old self.new (S.state site.old) (S.state site.new) 0 }
+        ensures works { KeepsInvariant result self.old self.new (S.state site.old) (S.state site.new) 0 }
         ensures front { OnOk result (IsInFront self.new number) }
         ensures made { self.new.made ≡ self.old.made }
         ensures blocks { OnOk result (blocks_to self.new.log ≡ blocks_to self.old.log) }
-        ensures asks { Asks result (one_touch (number / 32)) self.old.pages self.new.pages
+        ensures asks { StepsMachine result (one_touch (number / 32)) self.old.pages self.new.pages
             (S.state site.old) (S.state site.new) }
     {
         touch(site, &mut self.log, &mut self.pages, number / SLOTS)
@@ -149,7 +150,7 @@ impl Store {
         requires front { IsInFront self.now number }
         ensures shown { (site : State) (newest : Option Master) (records : List Entry) (table : List Content)
             (commits : ℕ)
-            → Holds self.now site newest records table commits → result ≡ shown_in self.now site records number }
+            → Represents self.now site newest records table commits → result ≡ shown_in self.now site records number }
         ensures short { IsShort result }
     {
         hold_together();
@@ -177,14 +178,14 @@ impl Store {
 
         // Of an honest site whose log and pages hold these records.
         ensures holds { (newest : Option Master) (records : List Entry) (table : List Content) (commits : ℕ)
-            → Holds self.old (S.state site.old) newest records table commits
+            → Represents self.old (S.state site.old) newest records table commits
             → IfOk result (λ lsn. MayGrow self.old (S.state site.old) newest records
             (record {
               lsn = lsn;
               rec = update_by txn prev number (shown_in self.old (S.state site.old) records number)
                   after.now;
             })
-            → Holds self.new (S.state site.new) newest (records
+            → Represents self.new (S.state site.new) newest (records
             ++ record {
               lsn = lsn;
               rec = update_by txn prev number (shown_in self.old (S.state site.old) records number)
@@ -192,12 +193,12 @@ impl Store {
             } ∷ [])
             table commits) }
         ensures keeps { (newest : Option Master) (records : List Entry) (table : List Content) (commits : ℕ)
-            → Holds self.old (S.state site.old) newest records table commits
+            → Represents self.old (S.state site.old) newest records table commits
             → Keeps result self.old self.new (S.state site.old) (S.state site.new)
             (LeavesFor (sizes_of self.old) table commits (S.state site.old).told) 1 0 }
 
         // Of every site.
-        ensures works { Works result self.old self.new (S.state site.old) (S.state site.new) 1 }
+        ensures works { KeepsInvariant result self.old self.new (S.state site.old) (S.state site.new) 1 }
         ensures rises { IfOk result (λ lsn. (end_of self.old.log ≤ lsn) × (lsn < end_of self.new.log)) }
         ensures machine { OnOk result (cache_of self.new.pages ≡ with_change (cache_of self.old.pages)) }
         ensures rules_stay { rules self.new.pages ≡ rules self.old.pages }
@@ -235,25 +236,26 @@ impl Store {
 
         // Of an honest site whose log and pages hold these records.
         ensures undone { (newest : Option Master) (records : List Entry) (table : List Content) (commits : ℕ)
-            → Holds self.old (S.state site.old) newest records table commits
+            → Represents self.old (S.state site.old) newest records table commits
             → (writes : List Write) → IsActive (master_of newest) records entry.begin entry.last writes
             → length writes ≡ entry.writes
             → OnOk result (RollsBack self.new (S.state site.new) newest records table commits entry.begin
             entry.writes) }
         ensures keeps { (newest : Option Master) (records : List Entry) (table : List Content) (commits : ℕ)
-            → Holds self.old (S.state site.old) newest records table commits
+            → Represents self.old (S.state site.old) newest records table commits
             → (writes : List Write) → IsActive (master_of newest) records entry.begin entry.last writes
             → length writes ≡ entry.writes → unfinished.owed records ≡ owed + (entry.writes + 1)
             → Keeps result self.old self.new (S.state site.old) (S.state site.new)
             (LeavesFor (sizes_of self.old) table commits (S.state site.old).told) (entry.writes + 1) 0 }
         ensures asks { (newest : Option Master) (records : List Entry) (table : List Content) (commits : ℕ)
-            → Holds self.old (S.state site.old) newest records table commits
+            → Represents self.old (S.state site.old) newest records table commits
             → (writes : List Write) → IsActive (master_of newest) records entry.begin entry.last writes
-            → Asks result (map (λ write. write_touch write.0) (reverse writes)) self.old.pages self.new.pages
+            → StepsMachine result (map (λ write. write_touch write.0) (reverse writes)) self.old.pages self.new.pages
             (S.state site.old) (S.state site.new) }
 
         // Of every site.
-        ensures works { Works result self.old self.new (S.state site.old) (S.state site.new) (entry.writes + 1) }
+        ensures works { KeepsInvariant result self.old self.new (S.state site.old) (S.state site.new)
+            (entry.writes + 1) }
         ensures room { OnOk result (blocks_to self.new.log + owed < self.new.log.kept + (sizes_of self.new).blocks) }
     {
         sessions_are_undone();

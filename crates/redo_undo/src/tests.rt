@@ -4,11 +4,11 @@ ghost use Rattle.site.specs.Geometry.{HasLengths};
 ghost use Rattle.site.specs.MemState.{state_of};
 ghost use Rattle.log_records.specs.Spelling.{HasForm};
 ghost use Rattle.checkpoint.specs.Actives.{Ascend};
-ghost use Rattle.log_store.specs.Held as log_held;
-ghost use Rattle.log_store.specs.Held.{end_of};
+ghost use Rattle.log_store.specs.Representation as log_store;
+ghost use Rattle.log_store.specs.Representation.{end_of};
 ghost use Rattle.image_meaning.specs.Flushed.{first_block};
 ghost use Rattle.redo_undo.specs.Checkpointing.{begins_of};
-ghost use Rattle.redo_undo.specs.Holding.{MayGoOn, IsOnPage, blocks_to};
+ghost use Rattle.redo_undo.specs.Holding.{Invariant, IsOnPage, blocks_to};
 ghost use Rattle.redo_undo.specs.Stores.{MayWork, MayLog, sizes_of};
 
 use crate::logging::{log_change, log_record, touch};
@@ -46,7 +46,7 @@ fn update() -> LogRecord
 // Log and pages of devices of these sizes.
 fn opened(alloc: Global, site: &mut MemSite) -> Result<(LogStore, PageStore), Stop>
     requires { HasLengths (record { pages = 1; groups = 8; blocks = 16 }) (state_of site.old).image }
-    ensures going { IfOk result (λ both. MayGoOn both.0 both.1 (state_of site.new)) }
+    ensures going { IfOk result (λ both. Invariant both.0 both.1 (state_of site.new)) }
     ensures room { IfOk result (λ both. blocks_to both.0 + 5 < both.0.kept + both.0.geometry.blocks) }
     ensures geometry { IfOk result (λ both. both.0.geometry ≡ record { pages = 1; groups = 8; blocks = 16 }) }
     ensures pages { IfOk result (λ both. both.1.flash.geometry.pages ≡ 1) }
@@ -61,7 +61,7 @@ fn opened(alloc: Global, site: &mut MemSite) -> Result<(LogStore, PageStore), St
 // A transaction has begun, and has changed record 5. The last is the LSN of its Update.
 fn changed(alloc: Global, site: &mut MemSite) -> Result<(LogStore, PageStore, u64), Stop>
     requires { HasLengths (record { pages = 1; groups = 8; blocks = 16 }) (state_of site.old).image }
-    ensures going { IfOk result (λ all. MayGoOn all.0 all.1 (state_of site.new)) }
+    ensures going { IfOk result (λ all. Invariant all.0 all.1 (state_of site.new)) }
     ensures last { IfOk result (λ all. all.2 < end_of all.0) }
     ensures room { IfOk result (λ all. blocks_to all.0 + 3 < all.0.kept + all.0.geometry.blocks) }
     ensures geometry { IfOk result (λ all. all.0.geometry ≡ record { pages = 1; groups = 8; blocks = 16 }) }
@@ -81,9 +81,9 @@ fn has_value(
     pages: &mut PageStore,
     octet: u8,
 ) -> Result<bool, Stop>
-    requires going { MayGoOn log.old pages.old (state_of site.old) }
+    requires going { Invariant log.old pages.old (state_of site.old) }
     requires pages { pages.old.flash.geometry.pages ≡ 1 }
-    ensures going { OnOk result (MayGoOn log.new pages.new (state_of site.new)) }
+    ensures going { OnOk result (Invariant log.new pages.new (state_of site.new)) }
     ensures there { OnOk result (0 < length pages.new.pool.frames) }
 {
     touch(site, log, pages, 0)?;
@@ -132,7 +132,7 @@ fn crashed(site: MemSite) -> MemSite
 
 // Log and pages with the ring of master units, where all records count that the log has room for.
 fn stored(site: &mut MemSite, log: LogStore, pages: PageStore) -> Result<Store, Stop>
-    requires going { MayGoOn log pages (state_of site.old) }
+    requires going { Invariant log pages (state_of site.old) }
     requires room { blocks_to log + 3 < log.kept + log.geometry.blocks }
     requires sizes { log.geometry ≡ record { pages = 1; groups = 8; blocks = 16 } }
     ensures may { IfOk result (λ store. MayLog store (state_of site.new)) }
@@ -151,7 +151,7 @@ fn stored(site: &mut MemSite, log: LogStore, pages: PageStore) -> Result<Store, 
 
 // Whether the record with LSN 29 is sealed, and is the Commit of transaction 2 as commit 1.
 fn is_committed(log: &LogStore, site: &mut MemSite) -> Result<bool, Stop>
-    requires going { log_held.MayGoOn log.now (state_of site.old) }
+    requires going { log_store.Invariant log.now (state_of site.old) }
 {
     if log.kept() > 0 {
         return Ok(false);
@@ -193,7 +193,7 @@ fn earlier(alloc: Global, site: &mut MemSite) -> Result<(), Stop>
 // Log and pages after analysis and redo of what stands on a site.
 fn reopened(alloc: Global, site: &mut MemSite) -> Result<(LogStore, PageStore, Redone), Stop>
     requires { HasLengths (record { pages = 1; groups = 8; blocks = 16 }) (state_of site.old).image }
-    ensures going { IfOk result (λ all. MayGoOn all.0 all.1 (state_of site.new)) }
+    ensures going { IfOk result (λ all. Invariant all.0 all.1 (state_of site.new)) }
     ensures pages { IfOk result (λ all. all.1.flash.geometry.pages ≡ 1) }
     ensures lengths { OnOk result (HasLengths (record { pages = 1; groups = 8; blocks = 16 })
         (state_of site.new).image) }

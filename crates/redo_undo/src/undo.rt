@@ -10,17 +10,17 @@ ghost use Rattle.log_records.specs.Spelling.{IsShort};
 ghost use Rattle.log_records.specs.Unfinished.{left_open};
 ghost use Rattle.log_laws.specs.Analysis.{Unfinished, IsUnfinished};
 ghost use Rattle.log_laws.specs.UndoLaws.{next_by};
-ghost use Rattle.log_store.specs.Held as log_held;
-ghost use Rattle.log_store.specs.Held.{end_of};
+ghost use Rattle.log_store.specs.Representation as log_store;
+ghost use Rattle.log_store.specs.Representation.{end_of};
 ghost use Rattle.page_store.specs.declared.store.PageStore.{PageStore};
 ghost use Rattle.checkpoint.specs.declared.master.Master.{Master};
 ghost use Rattle.image_meaning.specs.Moments.{LeavesTableUnder};
-ghost use Rattle.redo_undo.specs.Holding.{MayGoOn, Holds, MayGrow, blocks_to};
+ghost use Rattle.redo_undo.specs.Holding.{Invariant, Represents, MayGrow, blocks_to};
 ghost use Rattle.redo_undo.specs.Undoing.{IsAt, IsWanted, Undone};
 ghost use Rattle.redo_undo.specs.Rollback.{Compensates, RollsBack};
-ghost use Rattle.redo_undo.specs.Works.{Asks, one_change, undo_one_works};
+ghost use Rattle.redo_undo.specs.MachineSteps.{StepsMachine, one_change, undo_one_works};
 ghost use Rattle.redo_undo.specs.UndoWorks.{works_of};
-ghost use Rattle.redo_undo.specs.Calls.{Works, ReadsOne, Keeps};
+ghost use Rattle.redo_undo.specs.Calls.{KeepsInvariant, ReadsOne, Keeps};
 
 use crate::laws::{beside_laws, found_laws, page_laws, undo_laws};
 use crate::logging::{log_change, log_record, touch};
@@ -66,27 +66,27 @@ pub(crate) fn has_room(log: &LogStore) -> bool
 // Reads the Update of a transaction that is to be compensated. It stands in the kept log, is on a page that exists, and
 // names an earlier record.
 fn read_update<S: Site>(log: &LogStore, site: &mut S, at: &Undoing) -> Result<Wanted, Stop>
-    requires going { log_held.MayGoOn log.now (S.state site.old) }
+    requires going { log_store.Invariant log.now (S.state site.old) }
     requires last { at.now.last < end_of log.now }
 
     // Of an honest site on which log and pages hold together.
     ensures wanted { (pages : PageStore) (newest : Option Master) (records : List Entry) (table : List Content)
         (commits : ℕ) (x : Unfinished)
         → log.now.geometry ≡ pages.flash.geometry
-        → Holds log.now pages (S.state site.old) newest records table commits
+        → Represents log.now pages (S.state site.old) newest records table commits
         → IsUnfinished records x → IsAt at.now x → 0 < x.remaining
         → IfOk result (IsWanted pages.flash.geometry (S.state site.old).image newest records x) }
     ensures readable { (pages : PageStore) (newest : Option Master) (records : List Entry) (table : List Content)
         (commits : ℕ) (x : Unfinished)
         → log.now.geometry ≡ pages.flash.geometry
-        → Holds log.now pages (S.state site.old) newest records table commits
+        → Represents log.now pages (S.state site.old) newest records table commits
         → IsUnfinished records x → IsAt at.now x → 0 < x.remaining
         → IfErr result (λ stop. stop ≢ Stop.Foreign) }
     ensures last_left { (pages : PageStore) (newest : Option Master) (records : List Entry) (table : List Content)
         (commits : ℕ) (x : Unfinished)
         (u : Entry) (rest : List Entry)
         → log.now.geometry ≡ pages.flash.geometry
-        → Holds log.now pages (S.state site.old) newest records table commits
+        → Represents log.now pages (S.state site.old) newest records table commits
         → IsUnfinished records x → IsAt at.now x → left_open records x.txn ≡ u ∷ rest
         → IfOk result (λ wanted. number_of u.rec ≡ Some (32 * wanted.page + wanted.slot)) }
 
@@ -146,21 +146,21 @@ fn compensate<S: Site>(
     at: &Undoing,
     wanted: Wanted,
 ) -> Result<u64, Stop>
-    requires going { MayGoOn log.old pages.old (S.state site.old) }
+    requires going { Invariant log.old pages.old (S.state site.old) }
     requires form { (wanted.slot < 32) × IsShort wanted.before }
     requires exists { wanted.page < pages.old.flash.geometry.pages }
     requires room { blocks_to log.old + 1 < log.old.kept + log.old.geometry.blocks }
 
     // Of an honest site on which log and pages hold together.
     ensures holds { (newest : Option Master) (records : List Entry) (table : List Content) (commits : ℕ)
-        → Holds log.old pages.old (S.state site.old) newest records table commits
+        → Represents log.old pages.old (S.state site.old) newest records table commits
         → IfOk result (λ lsn. MayGrow log.old pages.old (S.state site.old).image newest records
         (record {
           lsn = lsn;
           rec = LogRecord.Clr at.now.txn at.now.last wanted.prev wanted.page wanted.slot
               wanted.before;
         })
-        → Holds log.new pages.new (S.state site.new) newest (records
+        → Represents log.new pages.new (S.state site.new) newest (records
         ++ record {
           lsn = lsn;
           rec = LogRecord.Clr at.now.txn at.now.last wanted.prev wanted.page wanted.slot
@@ -168,7 +168,7 @@ fn compensate<S: Site>(
         } ∷ [])
         table commits) }
     ensures orderly { (newest : Option Master) (records : List Entry) (table : List Content) (commits : ℕ)
-        → Holds log.old pages.old (S.state site.old) newest records table commits
+        → Represents log.old pages.old (S.state site.old) newest records table commits
         → IfOk result (λ lsn. MayGrow log.old pages.old (S.state site.old).image newest records
         (record {
           lsn = lsn;
@@ -182,14 +182,15 @@ fn compensate<S: Site>(
               wanted.before;
         } ∷ [])) }
     ensures keeps { (newest : Option Master) (records : List Entry) (table : List Content) (commits : ℕ)
-        → Holds log.old pages.old (S.state site.old) newest records table commits
+        → Represents log.old pages.old (S.state site.old) newest records table commits
         → Keeps result pages.old.flash.geometry log.old log.new (S.state site.old) (S.state site.new)
         (LeavesTableUnder newest pages.old.flash.geometry table commits (S.state site.old).told) 1 0 }
 
     // Of every site.
-    ensures asks { Asks result (one_change wanted.page) pages.old pages.new (S.state site.old) (S.state site.new) }
+    ensures asks { StepsMachine result (one_change wanted.page) pages.old pages.new (S.state site.old)
+        (S.state site.new) }
     ensures before { IfOk result (λ lsn. lsn < end_of log.new) }
-    ensures works { Works result log.old log.new pages.old pages.new (S.state site.old) (S.state site.new) }
+    ensures works { KeepsInvariant result log.old log.new pages.old pages.new (S.state site.old) (S.state site.new) }
     ensures blocks { OnOk result (blocks_to log.new ≤ blocks_to log.old + 1) }
     ensures log_reads { (S.state site.new).log_reads ≡ (S.state site.old).log_reads }
 {
@@ -218,33 +219,33 @@ pub(crate) fn undo_update<S: Site>(
     pages: &mut PageStore,
     at: Undoing,
 ) -> Result<Undoing, Stop>
-    requires going { MayGoOn log.old pages.old (S.state site.old) }
+    requires going { Invariant log.old pages.old (S.state site.old) }
     requires last { at.last < end_of log.old }
 
     // Of an honest site on which log and pages hold together.
     ensures undone { (newest : Option Master) (records : List Entry) (table : List Content) (commits : ℕ)
         (x : Unfinished)
-        → Holds log.old pages.old (S.state site.old) newest records table commits
+        → Represents log.old pages.old (S.state site.old) newest records table commits
         → IsUnfinished records x → IsAt at x → 0 < x.remaining
         → IfOk result (Undone log.new pages.new (S.state site.new) newest records table commits x) }
     ensures keeps { (newest : Option Master) (records : List Entry) (table : List Content) (commits : ℕ)
         (x : Unfinished)
-        → Holds log.old pages.old (S.state site.old) newest records table commits
+        → Represents log.old pages.old (S.state site.old) newest records table commits
         → IsUnfinished records x → IsAt at x → 0 < x.remaining
         → Keeps result pages.old.flash.geometry log.old log.new (S.state site.old) (S.state site.new)
         (LeavesTableUnder newest pages.old.flash.geometry table commits (S.state site.old).told) 1 0 }
 
     ensures asks { (newest : Option Master) (records : List Entry) (table : List Content) (commits : ℕ) (x : Unfinished)
         (u : Entry) (rest : List Entry)
-        → Holds log.old pages.old (S.state site.old) newest records table commits
+        → Represents log.old pages.old (S.state site.old) newest records table commits
         → IsUnfinished records x → IsAt at x → left_open records x.txn ≡ u ∷ rest
-        → Asks result (works_of (u ∷ [])) pages.old pages.new (S.state site.old) (S.state site.new) }
+        → StepsMachine result (works_of (u ∷ [])) pages.old pages.new (S.state site.old) (S.state site.new) }
 
     // Of every site.
     ensures last { IfOk result (λ now. now.last < end_of log.new) }
     ensures falls { IfOk result (λ now. now.next < at.next) }
     ensures same { IfOk result (λ now. now.txn ≡ at.txn) }
-    ensures works { Works result log.old log.new pages.old pages.new (S.state site.old) (S.state site.new) }
+    ensures works { KeepsInvariant result log.old log.new pages.old pages.new (S.state site.old) (S.state site.new) }
     ensures blocks { OnOk result (blocks_to log.new ≤ blocks_to log.old + 1) }
     ensures log_reads { (S.state site.new).log_reads ≤ (S.state site.old).log_reads + 1 }
 {
@@ -277,36 +278,36 @@ fn undo_updates<S: Site>(
     pages: &mut PageStore,
     first: Undoing,
 ) -> Result<Undoing, Stop>
-    requires going { MayGoOn log.old pages.old (S.state site.old) }
+    requires going { Invariant log.old pages.old (S.state site.old) }
     requires last { first.last < end_of log.old }
 
     // Of an honest site on which log and pages hold together.
     ensures undone { (newest : Option Master) (records : List Entry) (table : List Content) (commits : ℕ)
         (x : Unfinished)
-        → Holds log.old pages.old (S.state site.old) newest records table commits
+        → Represents log.old pages.old (S.state site.old) newest records table commits
         → IsUnfinished records x → IsAt first x
         → IfOk result (Compensates log.new pages.new (S.state site.new) newest records table commits x.txn
         (blocks_to log.old) (S.state site.old).log_reads) }
     ensures keeps { (newest : Option Master) (records : List Entry) (table : List Content) (commits : ℕ)
         (x : Unfinished)
-        → Holds log.old pages.old (S.state site.old) newest records table commits
+        → Represents log.old pages.old (S.state site.old) newest records table commits
         → IsUnfinished records x → IsAt first x
         → Keeps result pages.old.flash.geometry log.old log.new (S.state site.old) (S.state site.new)
         (LeavesTableUnder newest pages.old.flash.geometry table commits (S.state site.old).told) x.remaining 0 }
     ensures log_reads { (newest : Option Master) (records : List Entry) (table : List Content) (commits : ℕ)
         (x : Unfinished)
-        → Holds log.old pages.old (S.state site.old) newest records table commits
+        → Represents log.old pages.old (S.state site.old) newest records table commits
         → IsUnfinished records x → IsAt first x
         → (S.state site.new).log_reads ≤ (S.state site.old).log_reads + x.remaining }
     ensures asks { (newest : Option Master) (records : List Entry) (table : List Content) (commits : ℕ) (x : Unfinished)
-        → Holds log.old pages.old (S.state site.old) newest records table commits
+        → Represents log.old pages.old (S.state site.old) newest records table commits
         → IsUnfinished records x → IsAt first x
-        → Asks result (undo_one_works records x.txn) pages.old pages.new (S.state site.old) (S.state site.new) }
+        → StepsMachine result (undo_one_works records x.txn) pages.old pages.new (S.state site.old) (S.state site.new) }
 
     // Of every site.
     ensures none { IfOk result (λ now. now.next ≡ now.txn) }
     ensures same { IfOk result (λ now. now.txn ≡ first.txn) }
-    ensures works { Works result log.old log.new pages.old pages.new (S.state site.old) (S.state site.new) }
+    ensures works { KeepsInvariant result log.old log.new pages.old pages.new (S.state site.old) (S.state site.new) }
 {
     page_laws();
     undo_laws();
@@ -338,20 +339,20 @@ fn goes_on(rec: &LogRecord, lsn: u64) -> Option<(u64, u64)>
 // the record that this names, and with a Begin nowhere. The record is of the transaction, and what a CLR names stands
 // before it.
 fn read_last<S: Site>(log: &LogStore, site: &mut S, txn: u64, last: u64) -> Result<Undoing, Stop>
-    requires going { log_held.MayGoOn log.now (S.state site.old) }
+    requires going { log_store.Invariant log.now (S.state site.old) }
     requires last { last < end_of log.now }
 
     // Of an honest site on which log and pages hold together, and of an unfinished transaction.
     ensures at { (pages : PageStore) (newest : Option Master) (records : List Entry) (table : List Content)
         (commits : ℕ) (x : Unfinished)
         → log.now.geometry ≡ pages.flash.geometry
-        → Holds log.now pages (S.state site.old) newest records table commits
+        → Represents log.now pages (S.state site.old) newest records table commits
         → IsUnfinished records x → x.txn ≡ txn → x.last ≡ last
         → IfOk result (λ at. IsAt at x) }
     ensures readable { (pages : PageStore) (newest : Option Master) (records : List Entry) (table : List Content)
         (commits : ℕ) (x : Unfinished)
         → log.now.geometry ≡ pages.flash.geometry
-        → Holds log.now pages (S.state site.old) newest records table commits
+        → Represents log.now pages (S.state site.old) newest records table commits
         → IsUnfinished records x → x.txn ≡ txn → x.last ≡ last
         → IfErr result (λ stop. stop ≢ Stop.Foreign) }
 
@@ -393,39 +394,39 @@ pub fn undo_one<S: Site>(
     txn: u64,
     last: u64,
 ) -> Result<(), Stop>
-    requires going { MayGoOn log.old pages.old (S.state site.old) }
+    requires going { Invariant log.old pages.old (S.state site.old) }
     requires last { last < end_of log.old }
 
     // Of an honest site on which log and pages hold together, and of an unfinished transaction.
     ensures undone { (newest : Option Master) (records : List Entry) (table : List Content) (commits : ℕ)
         (x : Unfinished)
-        → Holds log.old pages.old (S.state site.old) newest records table commits
+        → Represents log.old pages.old (S.state site.old) newest records table commits
         → IsUnfinished records x → x.txn ≡ txn → x.last ≡ last
         → OnOk result (RollsBack log.new pages.new (S.state site.new) newest records table commits txn) }
     ensures keeps { (newest : Option Master) (records : List Entry) (table : List Content) (commits : ℕ)
         (x : Unfinished)
-        → Holds log.old pages.old (S.state site.old) newest records table commits
+        → Represents log.old pages.old (S.state site.old) newest records table commits
         → IsUnfinished records x → x.txn ≡ txn → x.last ≡ last
         → Keeps result pages.old.flash.geometry log.old log.new (S.state site.old) (S.state site.new)
         (LeavesTableUnder newest pages.old.flash.geometry table commits (S.state site.old).told) (x.remaining + 1) 0 }
 
     ensures blocks { (newest : Option Master) (records : List Entry) (table : List Content) (commits : ℕ)
         (x : Unfinished)
-        → Holds log.old pages.old (S.state site.old) newest records table commits
+        → Represents log.old pages.old (S.state site.old) newest records table commits
         → IsUnfinished records x → x.txn ≡ txn → x.last ≡ last
         → OnOk result (blocks_to log.new ≤ blocks_to log.old + (x.remaining + 1)) }
     ensures log_reads { (newest : Option Master) (records : List Entry) (table : List Content) (commits : ℕ)
         (x : Unfinished)
-        → Holds log.old pages.old (S.state site.old) newest records table commits
+        → Represents log.old pages.old (S.state site.old) newest records table commits
         → IsUnfinished records x → x.txn ≡ txn → x.last ≡ last
         → (S.state site.new).log_reads ≤ (S.state site.old).log_reads + (x.remaining + 1) }
     ensures asks { (newest : Option Master) (records : List Entry) (table : List Content) (commits : ℕ) (x : Unfinished)
-        → Holds log.old pages.old (S.state site.old) newest records table commits
+        → Represents log.old pages.old (S.state site.old) newest records table commits
         → IsUnfinished records x → x.txn ≡ txn → x.last ≡ last
-        → Asks result (undo_one_works records txn) pages.old pages.new (S.state site.old) (S.state site.new) }
+        → StepsMachine result (undo_one_works records txn) pages.old pages.new (S.state site.old) (S.state site.new) }
 
     // Of every site.
-    ensures works { Works result log.old log.new pages.old pages.new (S.state site.old) (S.state site.new) }
+    ensures works { KeepsInvariant result log.old log.new pages.old pages.new (S.state site.old) (S.state site.new) }
 {
     page_laws();
     undo_laws();

@@ -5,8 +5,8 @@ ghost use Rattle.site.specs.declared.outside.Dev.{Dev};
 ghost use Rattle.site.specs.declared.outside.Stop.{Stop};
 ghost use Rattle.record_model.specs.State.{Content};
 ghost use Rattle.log_records.specs.Log.{Entry};
-ghost use Rattle.log_store.specs.Held as log_held;
-ghost use Rattle.log_store.specs.Held.{end_of, has_tail};
+ghost use Rattle.log_store.specs.Representation as log_store;
+ghost use Rattle.log_store.specs.Representation.{end_of, has_tail};
 ghost use Rattle.page_store.specs.declared.store.PageStore.{PageStore};
 ghost use Rattle.checkpoint.specs.declared.master.Master.{Master};
 ghost use Rattle.image_meaning.specs.Moments.{LeavesTableUnder};
@@ -14,11 +14,11 @@ ghost use Rattle.analysis.specs.Open.{found_in, Replaces, Remains, TakesOut, owe
 ghost use Rattle.analysis.specs.Table.{listed};
 ghost use Rattle.analysis.specs.Read as analysis;
 ghost use Rattle.analysis.specs.Read.{IsTable};
-ghost use Rattle.redo_undo.specs.Holding.{MayGoOn, Holds, blocks_to};
-ghost use Rattle.redo_undo.specs.Works.{Asks, undo_works};
+ghost use Rattle.redo_undo.specs.Holding.{Invariant, Represents, blocks_to};
+ghost use Rattle.redo_undo.specs.MachineSteps.{StepsMachine, undo_works};
 ghost use Rattle.redo_undo.specs.UndoWorks.{works_of, IsLastAt, UndoesUpdates};
 ghost use Rattle.redo_undo.specs.UndoingAll.{IsHeard, IsOf, Remain, HasNone, IsUndoing, UndoesAll};
-ghost use Rattle.redo_undo.specs.Calls.{Works, WorksBeside, Keeps};
+ghost use Rattle.redo_undo.specs.Calls.{KeepsInvariant, KeepsInvariantBeside, Keeps};
 
 use crate::laws::{found_laws, page_laws, undo_laws};
 use crate::logging::log_record;
@@ -31,7 +31,7 @@ use site::{Site, Stop};
 
 // The first transaction of which nothing remains to be undone.
 fn first_undone(found: &Analysis) -> Option<u64>
-    requires { analysis.MayGoOn found.now }
+    requires { analysis.Invariant found.now }
     ensures none { IfSome result (λ txn. HasNone (listed found.now.table) txn) }
     ensures remain { IfNone result (Remain (listed found.now.table)) }
 {
@@ -48,7 +48,7 @@ fn first_undone(found: &Analysis) -> Option<u64>
 
 // An unfinished transaction by its name.
 fn loser_named(found: &Analysis, txn: u64) -> Option<Loser>
-    requires { analysis.MayGoOn found.now }
+    requires { analysis.Invariant found.now }
     ensures there { IfSome result (λ loser. IsOf (listed found.now.table) loser) }
     ensures named { IfSome result (λ loser. loser.txn ≡ txn) }
     ensures absent { IfNone result (found_in (listed found.now.table) txn ≡ None) }
@@ -71,14 +71,14 @@ fn end_one<S: Site>(
     found: &mut Analysis,
     txn: u64,
 ) -> Result<u64, Stop>
-    requires going { log_held.MayGoOn log.old (S.state site.old) }
-    requires found { analysis.MayGoOn found.old }
+    requires going { log_store.Invariant log.old (S.state site.old) }
+    requires found { analysis.Invariant found.old }
     requires none { HasNone (listed found.old.table) txn }
 
     // Of an honest site on which log and pages hold together.
     ensures keeps { (pages : PageStore) (newest : Option Master) (records : List Entry) (table : List Content)
         (commits known : ℕ)
-        → MayGoOn log.old pages (S.state site.old)
+        → Invariant log.old pages (S.state site.old)
         → IsUndoing log.old pages (S.state site.old) newest records table commits found.old known
         → Keeps result pages.flash.geometry log.old log.new (S.state site.old) (S.state site.new)
         (LeavesTableUnder newest pages.flash.geometry table commits (S.state site.old).told) 1 0 }
@@ -92,7 +92,7 @@ fn end_one<S: Site>(
     // Of every site.
     ensures before { IfOk result (λ lsn. lsn < end_of log.new) }
     ensures rises { OnOk result (end_of log.old ≤ end_of log.new) }
-    ensures works { WorksBeside result log.old log.new (S.state site.old) (S.state site.new) }
+    ensures works { KeepsInvariantBeside result log.old log.new (S.state site.old) (S.state site.new) }
     ensures found { IsHeard found.old found.new }
     ensures takes { OnOk result (TakesOut (listed found.old.table) (listed found.new.table) txn) }
     ensures falls { OnOk result (owed_for (listed found.new.table) < owed_for (listed found.old.table)) }
@@ -124,21 +124,21 @@ fn end_undone<S: Site>(
     found: &mut Analysis,
     known: u64,
 ) -> Result<u64, Stop>
-    requires going { log_held.MayGoOn log.old (S.state site.old) }
-    requires found { analysis.MayGoOn found.old }
+    requires going { log_store.Invariant log.old (S.state site.old) }
+    requires found { analysis.Invariant found.old }
     requires known { known < end_of log.old }
 
     // Of an honest site on which log and pages hold together.
     ensures keeps { (pages : PageStore) (newest : Option Master) (records : List Entry) (table : List Content)
         (commits : ℕ)
-        → MayGoOn log.old pages (S.state site.old)
+        → Invariant log.old pages (S.state site.old)
         → IsUndoing log.old pages (S.state site.old) newest records table commits found.old known
         → Keeps result pages.flash.geometry log.old log.new (S.state site.old) (S.state site.new)
         (LeavesTableUnder newest pages.flash.geometry table commits (S.state site.old).told)
         (owed_for (listed found.old.table)) 0 }
     ensures updates { (pages : PageStore) (newest : Option Master) (records : List Entry) (table : List Content)
         (commits : ℕ)
-        → MayGoOn log.old pages (S.state site.old)
+        → Invariant log.old pages (S.state site.old)
         → IsUndoing log.old pages (S.state site.old) newest records table commits found.old known
         → IfOk result (λ lsn. UndoesUpdates log.new pages (S.state site.new) newest records table commits
         found.new lsn []) }
@@ -146,7 +146,7 @@ fn end_undone<S: Site>(
     // Of every site.
     ensures before { IfOk result (λ lsn. lsn < end_of log.new) }
     ensures rises { OnOk result (end_of log.old ≤ end_of log.new) }
-    ensures works { WorksBeside result log.old log.new (S.state site.old) (S.state site.new) }
+    ensures works { KeepsInvariantBeside result log.old log.new (S.state site.old) (S.state site.new) }
     ensures found { IsHeard found.old found.new }
     ensures remain { OnOk result (Remain (listed found.new.table)) }
     ensures fewer { OnOk result (owed_for (listed found.new.table) ≤ owed_for (listed found.old.table)) }
@@ -176,8 +176,8 @@ fn undo_greatest<S: Site>(
     loser: Loser,
     lsn: u64,
 ) -> Result<u64, Stop>
-    requires going { MayGoOn log.old pages.old (S.state site.old) }
-    requires found { analysis.MayGoOn found.old }
+    requires going { Invariant log.old pages.old (S.state site.old) }
+    requires found { analysis.Invariant found.old }
     requires last { loser.last < end_of log.old }
     requires there { IsOf (listed found.old.table) loser }
     requires greatest { Remains (listed found.old.table) loser.txn lsn }
@@ -198,11 +198,11 @@ fn undo_greatest<S: Site>(
         (u : Entry)
         → IsUndoing log.old pages.old (S.state site.old) newest records table commits found.old known
         → IsLastAt records loser.txn lsn u
-        → Asks result (works_of (u ∷ [])) pages.old pages.new (S.state site.old) (S.state site.new) }
+        → StepsMachine result (works_of (u ∷ [])) pages.old pages.new (S.state site.old) (S.state site.new) }
 
     // Of every site.
     ensures before { IfOk result (λ last. last < end_of log.new) }
-    ensures works { Works result log.old log.new pages.old pages.new (S.state site.old) (S.state site.new) }
+    ensures works { KeepsInvariant result log.old log.new pages.old pages.new (S.state site.old) (S.state site.new) }
     ensures found { IsHeard found.old found.new }
     ensures replaces { IfOk result (λ last. Replaces (listed found.old.table) (listed found.new.table) loser.txn
         (λ x. record x { last = last; updates = drop 1 x.updates })) }
@@ -237,8 +237,8 @@ fn undo_next<S: Site>(
     next: (u64, u64),
     known: u64,
 ) -> Result<u64, Stop>
-    requires going { MayGoOn log.old pages.old (S.state site.old) }
-    requires found { analysis.MayGoOn found.old }
+    requires going { Invariant log.old pages.old (S.state site.old) }
+    requires found { analysis.Invariant found.old }
     requires known { known < end_of log.old }
     requires greatest { Remains (listed found.old.table) next.0 next.1 }
     requires remain { Remain (listed found.old.table) }
@@ -258,11 +258,11 @@ fn undo_next<S: Site>(
     ensures asks { (newest : Option Master) (records : List Entry) (table : List Content) (commits : ℕ) (u : Entry)
         → IsUndoing log.old pages.old (S.state site.old) newest records table commits found.old known
         → IsLastAt records next.0 next.1 u
-        → Asks result (works_of (u ∷ [])) pages.old pages.new (S.state site.old) (S.state site.new) }
+        → StepsMachine result (works_of (u ∷ [])) pages.old pages.new (S.state site.old) (S.state site.new) }
 
     // Of every site.
     ensures before { IfOk result (λ last. last < end_of log.new) }
-    ensures works { Works result log.old log.new pages.old pages.new (S.state site.old) (S.state site.new) }
+    ensures works { KeepsInvariant result log.old log.new pages.old pages.new (S.state site.old) (S.state site.new) }
     ensures found { IsHeard found.old found.new }
     ensures remain { OnOk result (Remain (listed found.new.table)) }
     ensures falls { OnOk result (owed_for (listed found.new.table) < owed_for (listed found.old.table)) }
@@ -298,31 +298,31 @@ pub fn undo_all<S: Site>(
     pages: &mut PageStore,
     found: &mut Analysis,
 ) -> Result<(), Stop>
-    requires going { MayGoOn log.old pages.old (S.state site.old) }
-    requires found { analysis.MayGoOn found.old }
+    requires going { Invariant log.old pages.old (S.state site.old) }
+    requires found { analysis.Invariant found.old }
 
     // Of an honest site on which log and pages hold together, where each record is sealed and analysis has taken all of
     // them.
     ensures undone { (newest : Option Master) (records : List Entry) (table : List Content) (commits : ℕ)
         → has_tail log.old ≡ false
-        → Holds log.old pages.old (S.state site.old) newest records table commits
+        → Represents log.old pages.old (S.state site.old) newest records table commits
         → IsTable [] records (listed found.old.table)
         → OnOk result (UndoesAll log.new pages.new (S.state site.new) newest records table commits) }
     ensures keeps { (newest : Option Master) (records : List Entry) (table : List Content) (commits : ℕ)
         → has_tail log.old ≡ false
-        → Holds log.old pages.old (S.state site.old) newest records table commits
+        → Represents log.old pages.old (S.state site.old) newest records table commits
         → IsTable [] records (listed found.old.table)
         → Keeps result pages.old.flash.geometry log.old log.new (S.state site.old) (S.state site.new)
         (LeavesTableUnder newest pages.old.flash.geometry table commits (S.state site.old).told)
         (owed_for (listed found.old.table)) 0 }
     ensures asks { (newest : Option Master) (records : List Entry) (table : List Content) (commits : ℕ)
         → has_tail log.old ≡ false
-        → Holds log.old pages.old (S.state site.old) newest records table commits
+        → Represents log.old pages.old (S.state site.old) newest records table commits
         → IsTable [] records (listed found.old.table)
-        → Asks result (undo_works records) pages.old pages.new (S.state site.old) (S.state site.new) }
+        → StepsMachine result (undo_works records) pages.old pages.new (S.state site.old) (S.state site.new) }
 
     // Of every site.
-    ensures works { Works result log.old log.new pages.old pages.new (S.state site.old) (S.state site.new) }
+    ensures works { KeepsInvariant result log.old log.new pages.old pages.new (S.state site.old) (S.state site.new) }
     ensures none { OnOk result (listed found.new.table ≡ []) }
     ensures commits { found.new.commits ≡ found.old.commits }
     ensures blocks { OnOk result (blocks_to log.new ≤ blocks_to log.old + owed_for (listed found.old.table)) }

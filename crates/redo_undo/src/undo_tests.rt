@@ -3,9 +3,9 @@ ghost use Rattle.std.specs.Prelude.{◌≡◌, ◌+◌, ◌<◌, ◌≤◌, IfOk
 ghost use Rattle.site.specs.Geometry.{HasLengths};
 ghost use Rattle.site.specs.MemState.{state_of};
 ghost use Rattle.log_records.specs.Spelling.{HasForm};
-ghost use Rattle.log_store.specs.Held as log_held;
+ghost use Rattle.log_store.specs.Representation as log_store;
 ghost use Rattle.analysis.specs.Read as analysis;
-ghost use Rattle.redo_undo.specs.Holding.{MayGoOn, blocks_to};
+ghost use Rattle.redo_undo.specs.Holding.{Invariant, blocks_to};
 
 use crate::logging::{log_record, touch};
 use crate::{undo_all, undo_one};
@@ -58,7 +58,7 @@ fn clr(txn: u64, prev: u64, undo_next: u64, slot: u8) -> LogRecord
 // Log and pages of devices of these sizes.
 fn opened(alloc: Global, site: &mut MemSite) -> Result<(LogStore, PageStore), Stop>
     requires { HasLengths (record { pages = 1; groups = 8; blocks = 16 }) (state_of site.old).image }
-    ensures going { IfOk result (λ both. MayGoOn both.0 both.1 (state_of site.new)) }
+    ensures going { IfOk result (λ both. Invariant both.0 both.1 (state_of site.new)) }
     ensures pages { IfOk result (λ both. both.1.flash.geometry.pages ≡ 1) }
 {
     let pages = PageStore::start(alloc, site, &SMALL, 4)?;
@@ -73,16 +73,16 @@ fn note(
     found: &mut Analysis,
     rec: &LogRecord,
 ) -> Result<(), Stop>
-    requires going { log_held.MayGoOn log.old (state_of site.old) }
+    requires going { log_store.Invariant log.old (state_of site.old) }
     requires room { blocks_to log.old + 1 < log.old.kept + log.old.geometry.blocks }
     requires form { HasForm rec.now }
-    requires found { analysis.MayGoOn found.old }
+    requires found { analysis.Invariant found.old }
     requires lengths { HasLengths (record { pages = 1; groups = 8; blocks = 16 }) (state_of site.old).image }
-    ensures going { OnOk result (log_held.MayGoOn log.new (state_of site.new)) }
+    ensures going { OnOk result (log_store.Invariant log.new (state_of site.new)) }
     ensures blocks { OnOk result (blocks_to log.new ≤ blocks_to log.old + 1) }
     ensures kept { log.new.kept ≡ log.old.kept }
     ensures geometry { log.new.geometry ≡ log.old.geometry }
-    ensures found { analysis.MayGoOn found.new }
+    ensures found { analysis.Invariant found.new }
     ensures lengths { HasLengths (record { pages = 1; groups = 8; blocks = 16 }) (state_of site.new).image }
 {
     let lsn = log_record(site, log, rec)?;
@@ -93,7 +93,7 @@ fn note(
 // sealed.
 fn crashed(alloc: Global, site: &mut MemSite) -> Result<Analysis, Stop>
     requires { HasLengths (record { pages = 1; groups = 8; blocks = 16 }) (state_of site.old).image }
-    ensures found { IfOk result (λ found. analysis.MayGoOn found) }
+    ensures found { IfOk result (λ found. analysis.Invariant found) }
     ensures lengths { HasLengths (record { pages = 1; groups = 8; blocks = 16 }) (state_of site.new).image }
 {
     let mut found = Analysis::start(alloc, &Master::blank())?;
@@ -116,10 +116,10 @@ fn is_before(
     pages: &mut PageStore,
     slot: u8,
 ) -> Result<bool, Stop>
-    requires going { MayGoOn log.old pages.old (state_of site.old) }
+    requires going { Invariant log.old pages.old (state_of site.old) }
     requires pages { pages.old.flash.geometry.pages ≡ 1 }
     requires slot { slot < 32 }
-    ensures going { OnOk result (MayGoOn log.new pages.new (state_of site.new)) }
+    ensures going { OnOk result (Invariant log.new pages.new (state_of site.new)) }
     ensures pages { pages.new.flash.geometry.pages ≡ 1 }
     ensures there { OnOk result (0 < length pages.new.pool.frames) }
 {

@@ -1,5 +1,5 @@
 // Laws on what calls on pages ask of the cache. The functions do nothing.
-ghost use Rattle.redo_undo.specs.Works.{WorksAddUp, ReadsAddUp, ReadsForMore, NumbersRise, OverflowsWithMore};
+ghost use Rattle.redo_undo.specs.MachineSteps.{WorksAddUp, ReadsAddUp, ReadsForMore, NumbersRise, OverflowsWithMore};
 
 /// Law: work adds up, and so do the pages that it reads; the numbers of the groups that it appends never fall. So what
 /// overflows, and what was read, stays so with more work behind it.

@@ -74,7 +74,7 @@ pub length-units : (s : Shape) (c : List ℕ) (first k : ℕ) → length (units_
 length-units s c first zero = refl
 length-units s c first (suc k) = ap suc (length-units s c (first + 1) k)
 
-units_push : (s : Shape) (c : List ℕ) (first k : ℕ) → units_from s c first (suc k) ≡ units_from s c first k ++ content_at s c ((first + k) % s.slots) ∷ []
+pub units_push : (s : Shape) (c : List ℕ) (first k : ℕ) → units_from s c first (suc k) ≡ units_from s c first k ++ content_at s c ((first + k) % s.slots) ∷ []
 units_push s c first zero = let e : first ≡ first + 0 = omega arith in ap (λ (n : ℕ). content_at s c (n % s.slots) ∷ []) e
 units_push s c first (suc k) =
     let e : first + 1 + k ≡ first + suc k = omega arith in

@@ -2,6 +2,7 @@ pub mod Alters
 pub mod Examples
 pub mod Heads
 pub mod Highest
+pub mod InRow
 pub mod Others
 pub mod Outcome
 pub mod Places

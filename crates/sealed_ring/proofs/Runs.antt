@@ -1,7 +1,7 @@
 -- The two halves of an append, call by call.
 use Rattle.std.proofs.Common.{◌≡◌, ℕ, ◌+◌, ◌%◌, ◌^◌, ◌≤◌, ◌<◌, List, [], ◌∷◌, ◌++◌, length, sym, ◌∙◌, ap, subst, arith}
 use Rattle.std.specs.Int.{to_be_bytes, w64}
-use Rattle.std.specs.Prelude.{Result, Ok, Err, OnOk}
+use Rattle.std.specs.Prelude.{Result}
 use Rattle.std.proofs.lemmas.Nat.{mod_below}
 use Rattle.site.specs.declared.outside.Failed.{Failed}
 use Rattle.site.specs.State.{State, content_of, loose_of}
@@ -14,10 +14,6 @@ use Rattle.sealed_ring.specs.Ready.{region, IsAtRest, LeavesKept, LeavesEither}
 use Rattle.sealed_ring.proofs.Places.{body_fits}
 pub use Rattle.site.specs.Laws.{wrote_changes, synced_changes, changes_in_sequence, synced_settles}
 use Rattle.sealed_ring.proofs.Steps.{first_leaves, second_leaves, staged_by, open_leaves, opened_by}
-
-pub on_ok : {T E : Type 0} (r : Result T E) (P : Type 0) → P → OnOk r P
-on_ok (Ok x) P p = p
-on_ok (Err e) P p = tt
 
 -- what stands in the device after a write
 pub lies_region : (s : Shape) (at : ℕ) (bytes : List ℕ) (old new : State) → Lies s.dev at bytes old new → region s new ≡ put (region s old) at bytes

@@ -4,7 +4,7 @@ use Rattle.site.specs.State.{State}
 use Rattle.sealed_ring.specs.declared.slots.Shape.{Shape}
 use Rattle.sealed_ring.specs.declared.ring.Ring.{Ring}
 use Rattle.sealed_ring.specs.Ring.{gate, number, IsRing, IsLive}
-use Rattle.sealed_ring.specs.Ready.{region, Fits}
+use Rattle.sealed_ring.specs.Ready.{region, Matches}
 
 -- the slot of the live unit n holds its number behind an open gate; of the oldest, where as many live as can, any gate
 -- serves
@@ -25,5 +25,5 @@ UnusedAreBare s hi c = (j : ℕ) → j < s.slots → hi < j → number s c j % s
 
 -- this ring stands there, and is of the form; where none is named, what stands there isn't of the form
 abbrev pub IsJudged : Shape → Option Ring → State → Type 0
-IsJudged s (Some ring) site = IsRing s (region s site) × Fits ring site
+IsJudged s (Some ring) site = IsRing s (region s site) × Matches ring site
 IsJudged s None site = IsRing s (region s site) → ⊥

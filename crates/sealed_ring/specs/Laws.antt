@@ -1,7 +1,7 @@
 -- Laws for the crates above.
 use Rattle.std.specs.Prelude.{◌≡◌, ◌⊎◌, ℕ, ◌+◌, ◌-◌, ◌*◌, ◌<◌, ◌≤◌, min, true, List, [], ◌∷◌, ◌++◌, length, slice_index}
 use Rattle.site.specs.State.{State, IsSettled}
-use Rattle.site.specs.Calls.{Goes}
+use Rattle.site.specs.Calls.{Preserves}
 use Rattle.site.specs.Moments.{Untouched}
 use Rattle.sealed_ring.specs.declared.slots.Shape.{Shape}
 use Rattle.sealed_ring.specs.declared.ring.Ring.{Ring}
@@ -20,7 +20,7 @@ LeavesOthers = (s t : Shape) (old new : List ℕ) → Apart s t → FitsIn s (le
 
 -- a ring can be used after any calls, since no length changes
 abbrev pub UsableStays : Type 0
-UsableStays = (ring : Ring) (old new : State) → IsUsable ring old → Goes old new → IsUsable ring new
+UsableStays = (ring : Ring) (old new : State) → IsUsable ring old → Preserves old new → IsUsable ring new
 
 -- a ring stays ready where its device stays as it is
 abbrev pub ReadyElsewhere : Type 0
@@ -30,7 +30,7 @@ ReadyElsewhere = (ring : Ring) (old new : State) → Untouched ring.shape.dev ol
 -- and where only another ring of its device changes and nothing is loose in the end
 abbrev pub ReadyBeside : Type 0
 ReadyBeside = (ring : Ring) (s : Shape) (old new : State) → Apart s ring.shape
-    → FitsIn s (length (region ring.shape old)) → IsUsable ring old → Goes old new
+    → FitsIn s (length (region ring.shape old)) → IsUsable ring old → Preserves old new
     → SameOutside s (region ring.shape old) (region ring.shape new) → IsSettled ring.shape.dev new → IsReady ring old
     → IsReady ring new
 

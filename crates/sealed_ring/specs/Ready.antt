@@ -27,19 +27,19 @@ pub record IsUsable (ring : Ring) (site : State) : Type 0 where
   pub bounded : ring.hi ≤ 2 ^ 40
 
 -- over an honest site: the ring's next unit is that of the content
-abbrev pub Fits : Ring → State → Type 0
-Fits ring site = ring.hi ≡ hi_of ring.shape (region ring.shape site)
+abbrev pub Matches : Ring → State → Type 0
+Matches ring site = ring.hi ≡ hi_of ring.shape (region ring.shape site)
 
 -- over an honest site: the ring fits, nothing of its device is loose, and its content is of the form
 pub record IsReady (ring : Ring) (site : State) : Type 0 where
   pub settled : IsSettled ring.shape.dev site
   pub form : IsRing ring.shape (region ring.shape site)
-  pub hi : Fits ring site
+  pub hi : Matches ring site
 
 -- over an honest site, whatever of its device is loose: the content is of the form, and the ring's next unit is its
 pub record Finds (ring : Ring) (site : State) : Type 0 where
   pub form : IsRing ring.shape (region ring.shape site)
-  pub hi : Fits ring site
+  pub hi : Matches ring site
 
 -- each snapshot has the old units, or the new one too
 abbrev pub LeavesOldOrNew : Shape → List ℕ → List ℕ → Snapshot → Type 0

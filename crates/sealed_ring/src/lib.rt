@@ -11,5 +11,5 @@ mod tests;
 
 pub use judging::judge;
 pub use laws::{appends, blank_is_ring, hi_is_highest, leaves_others, ready_stays, usable_stays};
-pub use ring::Ring;
+pub use ring::{CONTENT_AT, Ring};
 pub use slots::Shape;

@@ -1,15 +1,17 @@
 // A ring on a device: finding it, reading its units, appending to it.
-ghost use Rattle.std.specs.Prelude.{◌≡◌, ◌≢◌, ◌⊎◌, ◌↔◌, ◌+◌, ◌-◌, ◌%◌, ◌^◌, ◌<◌, ◌≤◌, length, take, drop, true, false};
+ghost use Rattle.std.specs.Prelude.{◌≡◌, ◌≢◌, ◌⊎◌, ◌↔◌, ◌+◌, ◌-◌, ◌*◌, ◌/◌, ◌%◌, ◌^◌, ◌<◌, ◌≤◌};
+ghost use Rattle.std.specs.Prelude.{length, take, drop, true, false};
 ghost use Rattle.std.specs.Prelude.{IsTrue, IfOk, OnOk, OnErr, IfErr, IsErrOf};
 ghost use Rattle.site.specs.declared.outside.Dev.{Dev};
 ghost use Rattle.site.specs.State.{reads_of, IsSettled, IsQuiet};
-ghost use Rattle.site.specs.Calls.{Goes, SameReads, ReadsMore, IsUnchanged};
+ghost use Rattle.site.specs.Calls.{Preserves, SameReads, ReadsMore, IsUnchanged};
 ghost use Rattle.site.specs.Faults.{CallFaults, WorkFaults};
 ghost use Rattle.site.specs.Moments.{LeavesOnly};
 ghost use Rattle.sealed_ring.specs.Ring.{FitsIn, IsRing, SameOutside, Seals, appended, gate, number, first_number};
 ghost use Rattle.sealed_ring.specs.Ring.{unit_at, IsLive};
+ghost use Rattle.sealed_ring.specs.Row.{in_row, HaveContents, HaveNumbers, StandInRow};
 ghost use Rattle.sealed_ring.specs.Near.{IsFirstMissing, IsNear};
-ghost use Rattle.sealed_ring.specs.Ready.{region, units_in, FaultRose, IsUsable, Fits, Finds, IsReady, ChangesOnly};
+ghost use Rattle.sealed_ring.specs.Ready.{region, units_in, FaultRose, IsUsable, Matches, Finds, IsReady, ChangesOnly};
 ghost use Rattle.sealed_ring.specs.Ready.{LeavesOldOrNew};
 
 use crate::Shape;
@@ -20,8 +22,8 @@ use site::{Failed, Site, Stop};
 // A ring is worn once it took this many units.
 const HI_MAX: u64 = 1 << 40;
 
-// Where the content of a slot begins, behind its gate and its number.
-const CONTENT_AT: u64 = 9;
+/// Where the content of a slot begins, behind its gate and its number.
+pub const CONTENT_AT: usize = 9;
 
 /// A ring, by its shape and the number of its next unit. It is ended once an append gave an error.
 #[derive(Debug, PartialEq, Eq, Drop)]
@@ -41,13 +43,13 @@ impl Ring {
         ensures usable { IfOk result (λ ring. IsUsable ring (S.state site.new)) }
         ensures ended { IfOk result (λ ring. ring.ended ≡ false) }
         ensures fits { IsTrue (S.state site.old).honest
-            → IfOk result (λ ring. Fits ring (S.state site.new)) }
+            → IfOk result (λ ring. Matches ring (S.state site.new)) }
         ensures closed { IsTrue (S.state site.old).honest
             → IfOk result (λ ring.
             gate shape (region shape (S.state site.old)) (ring.hi % shape.slots) ≢ 165) }
         ensures same { IsTrue (S.state site.old).honest
             → IsUnchanged (S.state site.old) (S.state site.new) }
-        ensures goes { Goes (S.state site.old) (S.state site.new) }
+        ensures goes { Preserves (S.state site.old) (S.state site.new) }
         ensures faults { WorkFaults result (S.state site.old) (S.state site.new) }
         ensures reads { reads_of shape.dev (S.state site.new)
             ≤ reads_of shape.dev (S.state site.old) + (shape.slots + 1) }
@@ -103,10 +105,10 @@ impl Ring {
             → IfOk result (λ ring. IsFirstMissing shape (region shape (S.state site.old)) first ring.hi) }
         ensures fits { IsTrue (S.state site.old).honest
             → IsNear shape (region shape (S.state site.old)) first
-            → IfOk result (λ ring. Fits ring (S.state site.new)) }
+            → IfOk result (λ ring. Matches ring (S.state site.new)) }
         ensures same { IsTrue (S.state site.old).honest
             → IsUnchanged (S.state site.old) (S.state site.new) }
-        ensures goes { Goes (S.state site.old) (S.state site.new) }
+        ensures goes { Preserves (S.state site.old) (S.state site.new) }
         ensures faults { WorkFaults result (S.state site.old) (S.state site.new) }
         ensures reads { reads_of shape.dev (S.state site.new)
             ≤ reads_of shape.dev (S.state site.old) + 5 }
@@ -171,12 +173,12 @@ impl Ring {
         requires number { 8 ≤ length into.old }
         requires room { length into.old ≤ 8 + self.now.shape.room }
 
-        ensures unit { IsTrue (S.state site.old).honest → Fits self.now (S.state site.old)
+        ensures unit { IsTrue (S.state site.old).honest → Matches self.now (S.state site.old)
             → OnOk result (drop 8 into.new
             ≡ take (length into.old - 8) (unit_at self.now.shape (units_in self.now.shape (S.state site.old)) n)) }
         ensures same { IsTrue (S.state site.old).honest
             → IsUnchanged (S.state site.old) (S.state site.new) }
-        ensures goes { Goes (S.state site.old) (S.state site.new) }
+        ensures goes { Preserves (S.state site.old) (S.state site.new) }
         ensures faults { WorkFaults result (S.state site.old) (S.state site.new) }
         ensures reads { ReadsMore self.now.shape.dev (length into.old) (S.state site.old) (S.state site.new) }
 
@@ -204,6 +206,63 @@ impl Ring {
         Ok(())
     }
 
+    /// Reads the slots of live units by one read: of the unit `n` and of as many behind it as stand in the slots behind
+    /// its own and have room in `into`, whole slots of `stride` octets one behind the other. In each the content stands
+    /// behind a gate and the number, from octet 9 on. Answers how many units were read.
+    pub fn read_units<S: Site>(&self, site: &mut S, n: u64, into: &mut [u8]) -> Result<u64, Stop>
+        requires usable { IsUsable self.now (S.state site.old) }
+        requires live { IsLive self.now.shape self.now.hi n }
+
+        ensures count { IfOk result (λ count.
+            count ≡ in_row self.now.shape self.now.hi n (length into.old / self.now.shape.stride)) }
+        ensures units { IsTrue (S.state site.old).honest → Matches self.now (S.state site.old)
+            → IfOk result (λ count.
+            HaveContents self.now.shape (units_in self.now.shape (S.state site.old)) n count into.new) }
+        ensures same { IsTrue (S.state site.old).honest
+            → IsUnchanged (S.state site.old) (S.state site.new) }
+        ensures goes { Preserves (S.state site.old) (S.state site.new) }
+        ensures faults { WorkFaults result (S.state site.old) (S.state site.new) }
+        ensures reads { ReadsMore self.now.shape.dev
+            (in_row self.now.shape self.now.hi n (length into.old / self.now.shape.stride) * self.now.shape.stride)
+            (S.state site.old) (S.state site.new) }
+
+        // When each answer comes.
+        ensures device { IsErrOf result (Stop.Device self.now.shape.dev)
+            → FaultRose self.now.shape.dev (S.state site.old) (S.state site.new) }
+        ensures read_foreign { IsErrOf result Stop.Foreign → HaveNumbers self.now.shape n
+            (in_row self.now.shape self.now.hi n (length into.old / self.now.shape.stride)) into.new → ⊥ }
+        ensures read_own { IfOk result (λ count. HaveNumbers self.now.shape n count into.new) }
+        ensures foreign { IsErrOf result Stop.Foreign → IsTrue (S.state site.old).honest
+            → StandInRow self.now.shape n
+            (in_row self.now.shape self.now.hi n (length into.old / self.now.shape.stride))
+            (region self.now.shape (S.state site.old)) → ⊥ }
+        ensures own { IsTrue (S.state site.old).honest
+            → IfOk result (λ count. StandInRow self.now.shape n count (region self.now.shape (S.state site.old))) }
+        ensures stops { IfErr result (λ e. (e ≡ Stop.Device self.now.shape.dev)
+            ⊎ (e ≡ Stop.Foreign)) }
+    {
+        let shape = self.shape;
+        let count = self.count_in_row(n, into.len() as u64 / shape.stride);
+        let slots = &mut into[..(count * shape.stride) as usize];
+        let at = shape.base + n % shape.slots * shape.stride;
+        let Ok(()) = site.read_at(shape.dev, at, slots) else {
+            return Err(Stop::Device(shape.dev));
+        };
+        if !have_numbers(slots, shape, n, count) {
+            return Err(Stop::Foreign);
+        }
+        Ok(count)
+    }
+
+    // How many units from the live unit `n` on stand in slots one behind the other, at most `most`.
+    fn count_in_row(&self, n: u64, most: u64) -> u64
+        requires live { IsLive self.now.shape self.now.hi n }
+        ensures { result ≡ in_row self.now.shape self.now.hi n most }
+    {
+        most.min(self.hi - n)
+            .min(self.shape.slots - n % self.shape.slots)
+    }
+
     /// Reads a part of the content of the live unit `n`, from its octet `at` on, by one read. The one error is that of
     /// the ring's device.
     pub fn read_part<S: Site>(
@@ -217,12 +276,12 @@ impl Ring {
         requires live { IsLive self.now.shape self.now.hi n }
         requires inside { at + length into.old ≤ self.now.shape.room }
 
-        ensures part { IsTrue (S.state site.old).honest → Fits self.now (S.state site.old)
+        ensures part { IsTrue (S.state site.old).honest → Matches self.now (S.state site.old)
             → OnOk result (into.new ≡ take (length into.old) (drop at
             (unit_at self.now.shape (units_in self.now.shape (S.state site.old)) n))) }
         ensures same { IsTrue (S.state site.old).honest
             → IsUnchanged (S.state site.old) (S.state site.new) }
-        ensures goes { Goes (S.state site.old) (S.state site.new) }
+        ensures goes { Preserves (S.state site.old) (S.state site.new) }
         ensures faults { WorkFaults result (S.state site.old) (S.state site.new) }
         ensures reads { ReadsMore self.now.shape.dev (length into.old) (S.state site.old) (S.state site.new) }
 
@@ -232,7 +291,7 @@ impl Ring {
         ensures stops { IfErr result (λ e. e ≡ Stop.Device self.now.shape.dev) }
     {
         let shape = self.shape;
-        let from = shape.base + n % shape.slots * shape.stride + CONTENT_AT + at;
+        let from = shape.base + n % shape.slots * shape.stride + CONTENT_AT as u64 + at;
         let Ok(()) = site.read_at(shape.dev, from, into) else {
             return Err(Stop::Device(shape.dev));
         };
@@ -271,15 +330,15 @@ impl Ring {
             → OnOk result (IsSettled self.old.shape.dev (S.state site.new)) }
         ensures quiet { IsTrue (S.state site.old).honest → IsQuiet (S.state site.old)
             → OnOk result (IsQuiet (S.state site.new)) }
-        ensures fits { IsTrue (S.state site.old).honest → Fits self.old (S.state site.old)
-            → OnOk result (Fits self.new (S.state site.new)) }
+        ensures fits { IsTrue (S.state site.old).honest → Matches self.old (S.state site.old)
+            → OnOk result (Matches self.new (S.state site.new)) }
 
         // Of every site.
         ensures ok { OnOk result (self.new ≡ record self.old { hi = self.old.hi + 1 }) }
         ensures err { OnErr result (self.new ≡ record self.old { ended = true }) }
         ensures shape { self.new.shape ≡ self.old.shape }
         ensures usable { IsUsable self.new (S.state site.new) }
-        ensures goes { Goes (S.state site.old) (S.state site.new) }
+        ensures goes { Preserves (S.state site.old) (S.state site.new) }
         ensures faults { WorkFaults result (S.state site.old) (S.state site.new) }
         ensures reads { SameReads (S.state site.old) (S.state site.new) }
 
@@ -305,6 +364,21 @@ impl Ring {
     }
 }
 
+// Whether `count` slots have the numbers from `n` on, as they were read.
+fn have_numbers(slots: &[u8], shape: Shape, n: u64, count: u64) -> bool
+    requires stride { 9 ≤ shape.stride }
+    requires size { length slots.now ≡ count * shape.stride }
+    requires bounded { n + count ≤ 2 ^ 40 }
+    ensures { IsTrue result ↔ HaveNumbers shape n count slots.now }
+{
+    for place in 0..count {
+        if get_u64(slots, (place * shape.stride + 1) as usize) != n + place {
+            return false;
+        }
+    }
+    true
+}
+
 #[derive(Clone, Copy, Debug, PartialEq, Eq, Drop)]
 struct Head {
     gate: u8,
@@ -321,7 +395,7 @@ fn read_head<S: Site>(site: &mut S, shape: Shape, slot: u64) -> Result<Head, Fai
         → IfOk result (λ head. head.number ≡ number shape (region shape (S.state site.old)) slot) }
     ensures same { IsTrue (S.state site.old).honest
         → IsUnchanged (S.state site.old) (S.state site.new) }
-    ensures goes { Goes (S.state site.old) (S.state site.new) }
+    ensures goes { Preserves (S.state site.old) (S.state site.new) }
     ensures faults { CallFaults shape.dev result (S.state site.old) (S.state site.new) }
     ensures reads { reads_of shape.dev (S.state site.new)
         ≤ reads_of shape.dev (S.state site.old) + 1 }

@@ -2,7 +2,7 @@
 ghost use Rattle.std.specs.Prelude.{◌≡◌, ◌+◌, ◌^◌, ◌++◌, ◌<◌, ◌≤◌, length, IsTrue, OnOk, OnErr};
 ghost use Rattle.std.specs.Int.{to_be_bytes, w64};
 ghost use Rattle.site.specs.State.{IsSettled};
-ghost use Rattle.site.specs.Calls.{Goes, SameReads};
+ghost use Rattle.site.specs.Calls.{Preserves, SameReads};
 ghost use Rattle.site.specs.Faults.{CallFaults};
 ghost use Rattle.site.specs.Moments.{LeavesOnly};
 ghost use Rattle.sealed_ring.specs.Ring.{FitsIn, IsStaged, Opens};
@@ -28,7 +28,7 @@ pub fn seal<S: Site>(site: &mut S, shape: Shape, hi: u64, content: &[u8]) -> Res
 
     ensures sealed { IsTrue (S.state site.old).honest
         → HasSealed shape hi content.now (S.state site.old) (S.state site.new) result }
-    ensures goes { Goes (S.state site.old) (S.state site.new) }
+    ensures goes { Preserves (S.state site.old) (S.state site.new) }
     ensures faults { CallFaults shape.dev result (S.state site.old) (S.state site.new) }
     ensures reads { SameReads (S.state site.old) (S.state site.new) }
     ensures cause { OnErr result (FaultRose shape.dev (S.state site.old) (S.state site.new)) }
@@ -45,7 +45,7 @@ fn stage<S: Site>(site: &mut S, shape: Shape, hi: u64, content: &[u8]) -> Result
 
     ensures staged { IsTrue (S.state site.old).honest
         → HasStaged shape hi content.now (S.state site.old) (S.state site.new) result }
-    ensures goes { Goes (S.state site.old) (S.state site.new) }
+    ensures goes { Preserves (S.state site.old) (S.state site.new) }
     ensures faults { CallFaults shape.dev result (S.state site.old) (S.state site.new) }
     ensures reads { SameReads (S.state site.old) (S.state site.new) }
     ensures cause { OnErr result (FaultRose shape.dev (S.state site.old) (S.state site.new)) }
@@ -66,7 +66,7 @@ fn stage_short<S: Site>(site: &mut S, shape: Shape, hi: u64, content: &[u8]) -> 
 
     ensures staged { IsTrue (S.state site.old).honest
         → HasStaged shape hi content.now (S.state site.old) (S.state site.new) result }
-    ensures goes { Goes (S.state site.old) (S.state site.new) }
+    ensures goes { Preserves (S.state site.old) (S.state site.new) }
     ensures faults { CallFaults shape.dev result (S.state site.old) (S.state site.new) }
     ensures reads { SameReads (S.state site.old) (S.state site.new) }
     ensures cause { OnErr result (FaultRose shape.dev (S.state site.old) (S.state site.new)) }
@@ -83,7 +83,7 @@ fn stage_long<S: Site>(site: &mut S, shape: Shape, hi: u64, content: &[u8]) -> R
 
     ensures staged { IsTrue (S.state site.old).honest
         → HasStaged shape hi content.now (S.state site.old) (S.state site.new) result }
-    ensures goes { Goes (S.state site.old) (S.state site.new) }
+    ensures goes { Preserves (S.state site.old) (S.state site.new) }
     ensures faults { CallFaults shape.dev result (S.state site.old) (S.state site.new) }
     ensures reads { SameReads (S.state site.old) (S.state site.new) }
     ensures cause { OnErr result (FaultRose shape.dev (S.state site.old) (S.state site.new)) }
@@ -107,7 +107,7 @@ fn stage_by<S: Site>(
 
     ensures staged { IsTrue (S.state site.old).honest
         → HasStaged shape hi content.now (S.state site.old) (S.state site.new) result }
-    ensures goes { Goes (S.state site.old) (S.state site.new) }
+    ensures goes { Preserves (S.state site.old) (S.state site.new) }
     ensures faults { CallFaults shape.dev result (S.state site.old) (S.state site.new) }
     ensures reads { SameReads (S.state site.old) (S.state site.new) }
     ensures cause { OnErr result (FaultRose shape.dev (S.state site.old) (S.state site.new)) }
@@ -146,7 +146,7 @@ fn open<S: Site>(site: &mut S, shape: Shape, hi: u64) -> Result<(), Failed>
         (Opens shape hi (region shape (S.state site.old)) (region shape (S.state site.new))) }
     ensures settled { IsTrue (S.state site.old).honest
         → OnOk result (IsSettled shape.dev (S.state site.new)) }
-    ensures goes { Goes (S.state site.old) (S.state site.new) }
+    ensures goes { Preserves (S.state site.old) (S.state site.new) }
     ensures faults { CallFaults shape.dev result (S.state site.old) (S.state site.new) }
     ensures reads { SameReads (S.state site.old) (S.state site.new) }
     ensures cause { OnErr result (FaultRose shape.dev (S.state site.old) (S.state site.new)) }

@@ -81,6 +81,23 @@ fn a_part_of_a_unit(rt: HostRuntime) -> Result<(), Fail> {
 }
 
 #[test]
+fn slots_one_behind_the_other(rt: HostRuntime) -> Result<(), Fail> {
+    let mut site = MemSite::new(rt.alloc(), &SMALL)?;
+    let mut ring = Ring::scan(&mut site, SIX)?;
+    ring.append(&mut site, &[10; 503])?;
+    ring.append(&mut site, &[11; 503])?;
+    assert_eq!(rt; ring.hi(), 2);
+    assert_eq!(rt; site.reads(Dev::Log), 7);
+    let mut slots = [0xEE; 1_600];
+    assert_eq!(rt; ring.read_units(&mut site, 0, &mut slots), Ok(2));
+    assert_eq!(rt; site.reads(Dev::Log), 8);
+    assert!(rt; slots.starts_with(&[0xA5, 0, 0, 0, 0, 0, 0, 0, 0, 10]));
+    assert!(rt; slots[520..].starts_with(&[0xA5, 0, 0, 0, 0, 0, 0, 0, 1, 11]));
+    assert_eq!(rt; slots[1_040], 0xEE);
+    Ok(())
+}
+
+#[test]
 fn a_worn_ring_makes_no_call(rt: HostRuntime) -> Result<(), Fail> {
     let mut site = MemSite::new(rt.alloc(), &SMALL)?;
     site.write_at(Dev::Log, 0, &[0xA5, 0, 0, 0, 0xFF, 0xFF, 0xFF, 0xFF, 0xFF])?;

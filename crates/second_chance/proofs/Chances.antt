@@ -5,17 +5,18 @@ use Rattle.std.proofs.lemmas.Bool.{and_parts, eq-eqb}
 use Rattle.std.proofs.lemmas.List.{length-take}
 use Rattle.std.proofs.lemmas.List.Elements.{All-from_recursion}
 use Rattle.std.proofs.lemmas.List.FromFn.{length-enumerate_from}
+use Rattle.std_lemmas.proofs.AllOf.{all_both, all_passed, all_take}
 use Rattle.byte_fields.specs.declared.frame_head.Mark.{Mark}
 use Rattle.second_chance.specs.Plans.{Placed, chances_of, is_among}
 use Rattle.second_chance.specs.Laws.{IsChanceIn, ChancesStand, ChancesFew, ChancesAreNotStaged}
-use Rattle.second_chance.proofs.Pushes.{chances_stand, all_take, all_pass, all_both}
+use Rattle.second_chance.proofs.Pushes.{chances_stand}
 
 -- whether a frame is wanted
 abbrev wanted : Placed → Bool
 wanted f = f.1.valid && f.1.referenced
 
 chances_pass : (given : Bool) (front : List Mark) → AllByRecursion (λ f. wanted f ≡ true) (chances_of given front)
-chances_pass true front = all_take (λ f. wanted f ≡ true) 7 _ (all_pass wanted (enumerate_from 0 front))
+chances_pass true front = all_take (λ f. wanted f ≡ true) 7 _ (all_passed wanted (enumerate_from 0 front))
 chances_pass false front = tt
 
 pub chances_stand_in : ChancesStand

@@ -1,9 +1,9 @@
 -- A flush, push by push.
-use Rattle.std.proofs.Common.{◌≡◌, ℕ, zero, suc, ◌+◌, ◌-◌, ◌<◌, ◌≤◌, ◌==◌, Bool, true, false, not, ◌&&◌, ◌||◌, cond, List, [], ◌∷◌, ◌++◌, length, take, map, reverse, filter, arith, refl, sym, ap, ◌∙◌}
+use Rattle.std.proofs.Common.{◌≡◌, ℕ, zero, suc, ◌+◌, ◌-◌, ◌<◌, ◌≤◌, ◌==◌, Bool, true, false, not, ◌&&◌, ◌||◌, cond, List, [], ◌∷◌, ◌++◌, length, take, reverse, filter, arith, refl, sym, ap, ◌∙◌}
 use Rattle.std.specs.List.{list_any, enumerate_from}
 use Rattle.std.proofs.lemmas.List.{length-map}
-use Rattle.std.proofs.lemmas.Grind.{reverse_onto}
 use Rattle.std.proofs.lemmas.Bool.{eq-eqb}
+use Rattle.std_lemmas.proofs.Lists.{any_map, any_reverse}
 use Rattle.byte_fields.specs.declared.frame_head.Mark.{Mark}
 use Rattle.second_chance.specs.declared.plan.PoolMark.{PoolMark}
 use Rattle.second_chance.specs.Plans.{Placed, chances_of, pulled_at_flush}
@@ -12,7 +12,7 @@ use Rattle.second_chance.specs.Laws.{changed_count}
 
 -- A push saves a page.
 
-few_chances : (given : Bool) (front : List Mark) → length (chances_of given front) ≤ 7
+pub few_chances : (given : Bool) (front : List Mark) → length (chances_of given front) ≤ 7
 few_chances true front = take_few 7 (filter (λ f. f.1.valid && f.1.referenced) (enumerate_from 0 front))
   where
     take_few : (n : ℕ) (xs : List Placed) → length (take n xs) ≤ n
@@ -20,10 +20,6 @@ few_chances true front = take_few 7 (filter (λ f. f.1.valid && f.1.referenced) 
     take_few (suc n) [] = omega arith
     take_few (suc n) (x ∷ xs) = omega (arith, take_few n xs)
 few_chances false front = omega arith
-
-or_true : (b : Bool) → (b || true) ≡ true
-or_true true = refl
-or_true false = refl
 
 -- some page that is changed is among the first of the changed ones
 one_pulled : (n : ℕ) (marks : List PoolMark) → list_any (λ p. p.changed) marks ≡ true
@@ -42,30 +38,6 @@ one_pulled n (mark ∷ marks) some = by mark.changed refl some (one_pulled n mar
         ap (λ t. (t || is_pulled (take n (filter (λ q. q.changed) marks)) mark.page)
         || list_any (λ p. p.changed && is_pulled (take (suc n) (mark ∷ filter (λ q. q.changed) marks)) p.page) marks) here
     by false is any rest = rest any
-
-any_map : {X Y : Type 0} (test : Y → Bool) (f : X → Y) (xs : List X) → list_any test (map f xs) ≡ list_any (λ x. test (f x)) xs
-any_map test f [] = refl
-any_map test f (x ∷ xs) = ap (λ b. test (f x) || b) (any_map test f xs)
-
-or_swap : (a b c : Bool) → ((a || b) || c) ≡ (b || (a || c))
-or_swap true true c = refl
-or_swap true false c = refl
-or_swap false true c = refl
-or_swap false false c = refl
-
-any_append : {X : Type 0} (test : X → Bool) (xs : List X) (y : X) → list_any test (xs ++ y ∷ []) ≡ (test y || list_any test xs)
-any_append test [] y = refl
-any_append test (x ∷ xs) y = ap (λ b. test x || b) (any_append test xs y) ∙ turn (test x) (test y) (list_any test xs)
-  where
-    turn : (a b c : Bool) → (a || (b || c)) ≡ (b || (a || c))
-    turn true true c = refl
-    turn true false c = refl
-    turn false true c = refl
-    turn false false c = refl
-
-any_reverse : {X : Type 0} (test : X → Bool) (xs : List X) → list_any test (reverse xs) ≡ list_any test xs
-any_reverse test [] = refl
-any_reverse test (x ∷ xs) = ap (list_any test) (reverse_onto xs x []) ∙ any_append test (reverse xs) x ∙ ap (λ b. test x || b) (any_reverse test xs)
 
 any_marks : (test : PoolMark → Bool) (cache : Cache) → list_any test (pool_marks cache) ≡ list_any (λ p. test (pool_mark cache.queue p)) cache.pool
 any_marks test cache = any_map test (pool_mark cache.queue) (reverse cache.pool) ∙ any_reverse (λ p. test (pool_mark cache.queue p)) cache.pool

@@ -2,5 +2,6 @@ pub mod Chosen
 pub mod Planned
 mod Pushes
 pub mod Flushes
-pub mod Apart
+pub mod DistinctStaged
 pub mod Chances
+pub mod Unread

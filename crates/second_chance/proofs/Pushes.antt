@@ -1,10 +1,10 @@
 -- A push, by the places and the page numbers of its plan.
-use Rattle.std.proofs.Common.{◌≡◌, ℕ, zero, suc, ◌+◌, ◌==◌, Bool, true, false, ◌&&◌, ◌||◌, cond, List, [], ◌∷◌, ◌++◌, length, take, map, reverse, filter, filter_map, append_assoc, length-append, slice_get, option_map, Some, arith, refl, sym, ap, subst, ◌∙◌}
+use Rattle.std.proofs.Common.{◌≡◌, ℕ, suc, ◌+◌, ◌==◌, Bool, true, false, ◌&&◌, ◌||◌, List, [], ◌∷◌, ◌++◌, length, map, reverse, filter, filter_map, append_assoc, length-append, slice_get, option_map, Some, arith, refl, sym, ap, subst, ◌∙◌}
 use Rattle.std.specs.List.{enumerate_from, AllByRecursion}
-use Rattle.std.proofs.lemmas.Grind.{reverse_onto}
 use Rattle.std.proofs.lemmas.Bool.{ne_eqb, eqb-false}
 use Rattle.std.proofs.lemmas.List.Elements.{recursion_from_All}
 use Rattle.std.proofs.lemmas.Bool.Decides.{nat_tests}
+use Rattle.std_lemmas.proofs.AllOf.{all_both, all_filter, all_passed, all_map, all_reverse, all_take}
 use Rattle.byte_fields.specs.declared.frame_head.Mark.{Mark}
 use Rattle.second_chance.specs.declared.frame.Frame.{Frame}
 use Rattle.second_chance.specs.declared.plan.PoolMark.{PoolMark}
@@ -16,39 +16,6 @@ use Rattle.second_chance.specs.Laws.{names, given_again, staged_from, AreApart, 
 -- each of these frames stands at its place in the front group
 abbrev pub StandIn : List Mark → List Placed → Type 0
 StandIn front frames = AllByRecursion (λ f. slice_get front f.0 ≡ Some f.1) frames
-
-pub all_filter : {X : Type 0} (P : X → Type 0) (test : X → Bool) (xs : List X) → AllByRecursion P xs → AllByRecursion P (filter test xs)
-all_filter P test [] all = tt
-all_filter P test (x ∷ xs) all = by (test x) (all_filter P test xs all.1)
-  where
-    by : (b : Bool) → AllByRecursion P (filter test xs) → AllByRecursion P (cond b (x ∷ filter test xs) (filter test xs))
-    by true rest = (all.0, rest)
-    by false rest = rest
-
-pub all_take : {X : Type 0} (P : X → Type 0) (n : ℕ) (xs : List X) → AllByRecursion P xs → AllByRecursion P (take n xs)
-all_take P zero xs all = tt
-all_take P (suc n) [] all = tt
-all_take P (suc n) (x ∷ xs) all = (all.0, all_take P n xs all.1)
-
-all_map : {X Y : Type 0} (P : Y → Type 0) (f : X → Y) (xs : List X) → AllByRecursion (λ x. P (f x)) xs → AllByRecursion P (map f xs)
-all_map P f [] all = tt
-all_map P f (x ∷ xs) all = (all.0, all_map P f xs all.1)
-
-all_append : {X : Type 0} (P : X → Type 0) (xs ys : List X) → AllByRecursion P xs → AllByRecursion P ys → AllByRecursion P (xs ++ ys)
-all_append P [] ys all others = others
-all_append P (x ∷ xs) ys all others = (all.0, all_append P xs ys all.1 others)
-
-all_reverse : {X : Type 0} (P : X → Type 0) (xs : List X) → AllByRecursion P xs → AllByRecursion P (reverse xs)
-all_reverse P [] all = tt
-all_reverse P (x ∷ xs) all = rw (reverse_onto xs x []) (all_append P (reverse xs) (x ∷ []) (all_reverse P xs all.1) (all.0, tt))
-
-same_map : {X Y : Type 0} (f g : X → Y) (xs : List X) → AllByRecursion (λ x. f x ≡ g x) xs → map f xs ≡ map g xs
-same_map f g [] all = refl
-same_map f g (x ∷ xs) all = ap (λ y. y ∷ map f xs) all.0 ∙ ap (λ l. g x ∷ l) (same_map f g xs all.1)
-
-map_map : {X Y Z : Type 0} (g : Y → Z) (f : X → Y) (xs : List X) → map g (map f xs) ≡ map (λ x. g (f x)) xs
-map_map g f [] = refl
-map_map g f (x ∷ xs) = ap (λ l. g (f x) ∷ l) (map_map g f xs)
 
 -- the numbered marks stand at their places
 behind_is : (before : List Mark) (mark : Mark) (front : List Mark) → slice_get (before ++ mark ∷ front) (length before) ≡ Some mark
@@ -99,10 +66,6 @@ abbrev Apart : List PoolPage → Type 0
 Apart [] = Unit {0}
 Apart (p ∷ pool) = AllByRecursion (λ other. (other.page == p.page) ≡ false) pool × Apart pool
 
-pub all_both : {X : Type 0} (P Q R : X → Type 0) → ((x : X) → P x → Q x → R x) → (xs : List X) → AllByRecursion P xs → AllByRecursion Q xs → AllByRecursion R xs
-all_both P Q R join [] ps qs = tt
-all_both P Q R join (x ∷ xs) ps qs = (join x ps.0 qs.0, all_both P Q R join xs ps.1 qs.1)
-
 apart_from : (pool : List PoolPage) → AreApart pool → Apart pool
 apart_from [] apart = tt
 apart_from (p ∷ pool) apart = (
@@ -126,14 +89,6 @@ pulled_here : (pulls given : Bool) (front : List Mark) (P : PoolMark → Type 0)
     → AllByRecursion P (pulled_at_eviction pulls given front pool)
 pulled_here true given front P pool all = all_take P _ _ (all_filter P _ pool all)
 pulled_here false given front P pool all = tt
-
-pub all_pass : {X : Type 0} (test : X → Bool) (xs : List X) → AllByRecursion (λ x. test x ≡ true) (filter test xs)
-all_pass test [] = tt
-all_pass test (x ∷ xs) = by (test x) refl (all_pass test xs)
-  where
-    by : (b : Bool) → test x ≡ b → AllByRecursion (λ y. test y ≡ true) (filter test xs) → AllByRecursion (λ y. test y ≡ true) (cond b (x ∷ filter test xs) (filter test xs))
-    by true is rest = (is, rest)
-    by false is rest = rest
 
 frames_here : (dirty : ℕ → Bool) (pulled : List PoolMark) → AllByRecursion (λ m. dirty m.page ≡ m.changed) pulled
     → map pool_frame pulled ≡ map (λ page. frame_of page (dirty page)) (map (λ m. m.page) pulled)
@@ -169,7 +124,7 @@ flush_is_planned r cache =
     let pulled : List PoolMark = pulled_at_flush r.chances front (pool_marks cache) in
     let pages : is_pulled pulled ≡ names (map (λ m. m.page) pulled) = λ i page. names_pulled pulled page i in
     let frames : map pool_frame pulled ≡ map (λ page. frame_of page true) (map (λ m. m.page) pulled) =
-    frames_here (λ page. true) pulled (all_take _ _ _ (turned (filter (λ m. m.changed) (pool_marks cache)) (all_pass (λ m. m.changed) (pool_marks cache)))) in
+    frames_here (λ page. true) pulled (all_take _ _ _ (turned (filter (λ m. m.changed) (pool_marks cache)) (all_passed (λ m. m.changed) (pool_marks cache)))) in
     done _ _ pages _ _ (ap (λ l. l ++ map pool_frame pulled) (chances_again r.chances front)
     ∙ ap (λ l. given_again front (map (λ f. f.0) (chances_of r.chances front)) ++ l) frames)
   where

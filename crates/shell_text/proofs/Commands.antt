@@ -3,21 +3,21 @@ use Rattle.std.proofs.Common.{◌≡◌, ℕ, ◌≤◌, Bool, List, [], ◌∷�
 use Rattle.std.specs.Prelude.{◌&&◌, nat_le, option_map, option_and_then, if◌then◌else◌, codes, decimal}
 use Rattle.std.specs.Str.{bytes_eq}
 use Rattle.std.proofs.lemmas.Bool.{and_parts, and_from, leb-true, le-leb}
-use Rattle.std.proofs.lemmas.Option.{option_and_then_some}
+use Rattle.std.proofs.lemmas.Option.{option_and_then_some, same_Some}
 use Rattle.std.proofs.lemmas.Slice.Eq.{bytes_eq-Decides}
 use Rattle.record_model.specs.declared.words.Command.{Command}
 use Rattle.record_model.specs.declared.words.Command.TheVariants.{Begin, Read, Write, Erase, Scan, Commit, Abort, Get, Set, Checkpoint, Cache, Stat, Quit}
 use Rattle.shell_text.specs.declared.grammar.TheConstants.{COUNT_MAX}
 use Rattle.shell_text.specs.Grammar.{IsNumber, IsSpelled}
 use Rattle.shell_text.specs.Reading.{number_of, value_of, bare_command, command_of_one, command_of_two, scan_of, two_words, three_words, command_in}
-use Rattle.shell_text.proofs.Numbers.{chosen, some_is, number_of-some, number_of-decimal}
+use Rattle.shell_text.proofs.Numbers.{chosen, number_of-some, number_of-decimal}
 use Rattle.shell_text.proofs.Values.{value_of-some, value_of-hex}
 
 -- a test for a name: where it is the name, the command is this one
 by_name : (name text : List ℕ) (this : Command) (others : Option Command) (c : Command) (P : Command → Type 0) → (name ≡ text → P this) → (others ≡ Some c → P c) → (if bytes_eq name text then Some this else others) ≡ Some c → P c
 by_name name text this others c P here there e =
     elim (chosen (bytes_eq name text) (Some this) others (Some c) e) [
-      | inl is ↦ subst P (some_is this c is.1) (here ((bytes_eq-Decides name text).0 is.0))
+      | inl is ↦ subst P (same_Some this c is.1) (here ((bytes_eq-Decides name text).0 is.0))
       | inr other ↦ there other.1
     ]
 
@@ -45,7 +45,7 @@ numbers_spelled name a b n m c first second =
 
 -- a command with a value
 with_value : (make : List ℕ → Command) (o : Option (List ℕ)) (c : Command) → option_map make o ≡ Some c → (value : List ℕ) × (o ≡ Some value) × (make value ≡ c)
-with_value make (Some value) c e = (value, refl, some_is (make value) c e)
+with_value make (Some value) c e = (value, refl, same_Some (make value) c e)
 with_value make None c e = cc e
 
 two_spelled : (name a b : List ℕ) (n : ℕ) (c : Command) → IsNumber n × (a ≡ decimal n) → two_words name b n ≡ Some c → IsSpelled (name ∷ a ∷ b ∷ []) c
@@ -66,7 +66,7 @@ scan_spelled name a b d n m k c is first second third e =
           let parts = and_parts (nat_le 1 k) (nat_le k COUNT_MAX) within.0 in
           let scan : IsSpelled (name ∷ a ∷ b ∷ d ∷ []) (Scan n m k) =
           (((λ i. is i ∷ first.1 i ∷ second.1 i ∷ third.1 i ∷ []), (first.0, (second.0, (third.0, tt)))), leb-true 1 k parts.0, leb-true k COUNT_MAX parts.1) in
-          subst (IsSpelled (name ∷ a ∷ b ∷ d ∷ [])) (some_is _ c within.1) scan
+          subst (IsSpelled (name ∷ a ∷ b ∷ d ∷ [])) (same_Some _ c within.1) scan
       | inr outside ↦ cc outside.1
     ]
 

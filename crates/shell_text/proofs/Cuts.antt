@@ -1,8 +1,7 @@
 -- How a text is cut at its spaces.
-use Rattle.std.proofs.Common.{◌≡◌, ℕ, ◌+◌, ◌-◌, ◌≤◌, ◌<◌, Bool, List, [], ◌∷◌, length, take, drop, Option, Some, None, refl, sym, ap, ◌∙◌, arith, inl, inr, length-drop}
+use Rattle.std.proofs.Common.{◌≡◌, ℕ, ◌+◌, ◌≤◌, ◌<◌, Bool, List, [], ◌∷◌, length, take, drop, Option, Some, None, refl, sym, ap, ◌∙◌, arith, inl, inr}
 use Rattle.std.specs.Prelude.{◌==◌, position, not, if◌then◌else◌, IfNone}
 use Rattle.std.specs.List.{position_or_len, onto_first}
-use Rattle.std.proofs.lemmas.List.{take_all}
 use Rattle.std.proofs.lemmas.List.Splits.{slice_split_first, length-slice_split}
 use Rattle.std.proofs.lemmas.Bool.{cases_Bool, cases_lt, lt-ltb, le-ltb}
 use Rattle.shell_text.specs.Reading.{words_of, command_in}
@@ -46,10 +45,6 @@ pub words_of-some : (text : List ℕ) (place : ℕ) → position is_space text �
 words_of-some text place some =
     let at = place_is text place some in
     slice_split_first is_space text 0 at.1 ∙ ap (λ (n : ℕ). take n text ∷ words_of (drop (n + 1) text)) at.0
-
--- all that stands behind a place
-pub rest_of : (text : List ℕ) (place : ℕ) → take (length text - place) (drop place text) ≡ drop place text
-rest_of text place = take_all (length text - place) (drop place text) (let len = length-drop place text in omega arith)
 
 pub if_none : {X : Type 0} (o : Option X) (P : Type 0) → P → IfNone o P
 if_none None P p = p

@@ -6,6 +6,7 @@ use Rattle.std.specs.Str.Parse.{digits_value}
 use Rattle.std.proofs.lemmas.Bool.{and_parts, and_from, ltb-true, lt-ltb, eqb-false, ne_eqb, cases_eq}
 use Rattle.std.proofs.lemmas.Str.Parse.{IsNumeralModel, numerals_by_value, tells_all_ascii_digits}
 use Rattle.std.proofs.lemmas.Fmt.{digits_decimal, digits_value-decimal, decimal_nonempty, first_decimal, decimal_digit, decimal-digits_value}
+use Rattle.std.proofs.lemmas.Option.{same_Some}
 use Rattle.shell_text.specs.Grammar.{IsNumber}
 use Rattle.shell_text.specs.Reading.{small_number, number_of}
 
@@ -13,9 +14,6 @@ use Rattle.shell_text.specs.Reading.{small_number, number_of}
 pub chosen : {X : Type 0} (b : Bool) (x y z : X) → (if b then x else y) ≡ z → ((b ≡ true) × (x ≡ z)) ⊎ ((b ≡ false) × (y ≡ z))
 chosen true x y z e = inl (refl, e)
 chosen false x y z e = inr (refl, e)
-
-pub some_is : {X : Type 0} (x y : X) → Some x ≡ Some y → x ≡ y
-some_is x y e = cc
 
 pub own_digits : IsNumeralModel (λ ds. all_ascii_digits ds ≡ true) (digits_value 10)
 own_digits = numerals_by_value _ tells_all_ascii_digits
@@ -31,7 +29,7 @@ small_number-some text n e =
     elim (chosen (all_ascii_digits text && nat_lt (digits_value 10 text) 1000000000) (Some (digits_value 10 text)) None (Some n) e) [
       | inl taken ↦
           let parts = and_parts (all_ascii_digits text) (nat_lt (digits_value 10 text) 1000000000) taken.0 in
-          record { digits = parts.0; small = ltb-true (digits_value 10 text) 1000000000 parts.1; value = some_is _ _ taken.1 }
+          record { digits = parts.0; small = ltb-true (digits_value 10 text) 1000000000 parts.1; value = same_Some _ _ taken.1 }
       | inr left ↦ cc left.1
     ]
 

@@ -5,13 +5,14 @@ use Rattle.std.specs.List.{join_with_byte}
 use Rattle.std.specs.Result.{result_ok}
 use Rattle.std.proofs.lemmas.Bool.{ltb-false, le-ltb}
 use Rattle.std.proofs.lemmas.List.Splits.{join_with_byte-slice_split}
+use Rattle.std.proofs.lemmas.Option.{same_Some}
 use Rattle.record_model.specs.declared.words.Command.{Command}
 use Rattle.shell_text.specs.declared.grammar.TheConstants.{LINE_MAX}
 use Rattle.shell_text.specs.declared.grammar.BadLine.{BadLine}
 use Rattle.shell_text.specs.Grammar.{IsCommandLine, IsSpelled}
 use Rattle.shell_text.specs.Reading.{words_of, command_in, line_of}
 use Rattle.shell_text.specs.Laws.{LinesAreRead, LinesAreOneCommand}
-use Rattle.shell_text.proofs.Numbers.{chosen, some_is}
+use Rattle.shell_text.proofs.Numbers.{chosen}
 use Rattle.shell_text.proofs.Commands.{command_in-some, command_in-spelled}
 use Rattle.shell_text.proofs.Spacing.{words_of-join, spelled_words}
 
@@ -42,7 +43,7 @@ pub lines_are_read : LinesAreRead
 lines_are_read line c = (line_of-some line c, line_of-command line c)
 
 pub lines_are_one_command : LinesAreOneCommand
-lines_are_one_command line one other first second = some_is one other (sym (line_of-command line one first) ∙ line_of-command line other second)
+lines_are_one_command line one other first second = same_Some one other (sym (line_of-command line one first) ∙ line_of-command line other second)
 
 -- what was read, and what wasn't
 pub is_no_command : (r : Result Command BadLine) (line : List ℕ) → result_ok r ≡ line_of line → IsErr r → (c : Command) → IsCommandLine line c → ⊥

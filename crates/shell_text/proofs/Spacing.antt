@@ -1,6 +1,6 @@
 -- Words that have no spaces, joined by spaces, are cut into the same words again.
 use Rattle.std.proofs.Common.{◌≡◌, ℕ, Bool, true, false, List, [], ◌∷◌, ◌++◌, refl, ap, ◌∙◌, arith, inl, inr}
-use Rattle.std.specs.Prelude.{◌==◌, ◌&&◌, not, if◌then◌else◌, codes, decimal}
+use Rattle.std.specs.Prelude.{◌==◌, not, if◌then◌else◌, codes, decimal}
 use Rattle.std.specs.List.{list_all, join_with_byte, onto_first, AllPass}
 use Rattle.std.specs.Str.{all_ascii_digits}
 use Rattle.std.specs.Char.{is_ascii_digit}
@@ -44,7 +44,7 @@ words_of-join word (next ∷ words) none =
 digit_is_no_space : (x : ℕ) → is_ascii_digit x ≡ true → not (x == 32) ≡ true
 digit_is_no_space x digit = grind arith
 
-digits_have_none : (word : List ℕ) → all_ascii_digits word ≡ true → has_no_space word ≡ true
+pub digits_have_none : (word : List ℕ) → all_ascii_digits word ≡ true → has_no_space word ≡ true
 digits_have_none [] digits = refl
 digits_have_none (x ∷ word) digits =
     let p = and_parts (is_ascii_digit x) (all_ascii_digits word) digits in
@@ -59,15 +59,12 @@ hex_has_none (x ∷ word) digits =
     let P : ℕ → Type 0 = λ c. is_hex_digit c ≡ true in
     and_from (not (x == 32)) (has_no_space word) (hex_is_no_space x (All-head P x word digits)) (hex_has_none word (All-tail P x word digits))
 
-number_has_none : (n : ℕ) → IsNumber n → has_no_space (decimal n) ≡ true
+pub number_has_none : (n : ℕ) → IsNumber n → has_no_space (decimal n) ≡ true
 number_has_none n small = digits_have_none (decimal n) (decimal_digits n small)
 
 value_has_none : (text value : List ℕ) → IsHex text value → has_no_space text ≡ true
 value_has_none text value (inl dash) = ap has_no_space dash.0
 value_has_none text value (inr digits) = hex_has_none text (decode_of-ok text value digits.1).1
-
-both : (a b : Bool) → a ≡ true → b ≡ true → (a && b) ≡ true
-both a b = and_from a b
 
 -- there is a first word, and no word has a space
 pub record AreWords (words : List (List ℕ)) : Type 0 where
@@ -81,7 +78,7 @@ one_number name words n none are small = record {
   name = name;
   others = decimal n ∷ [];
   are = are;
-  none = both (has_no_space name) _ none (both (has_no_space (decimal n)) true (number_has_none n small) refl);
+  none = and_from (has_no_space name) _ none (and_from (has_no_space (decimal n)) true (number_has_none n small) refl);
 }
 
 one_more : (name : List ℕ) (words : List (List ℕ)) (n : ℕ) (word : List ℕ) → has_no_space name ≡ true → words ≡ name ∷ decimal n ∷ word ∷ [] → IsNumber n → has_no_space word ≡ true → AreWords words
@@ -89,7 +86,7 @@ one_more name words n word none are small last = record {
   name = name;
   others = decimal n ∷ word ∷ [];
   are = are;
-  none = both (has_no_space name) _ none (both (has_no_space (decimal n)) _ (number_has_none n small) (both (has_no_space word) true last refl));
+  none = and_from (has_no_space name) _ none (and_from (has_no_space (decimal n)) _ (number_has_none n small) (and_from (has_no_space word) true last refl));
 }
 
 two_more : (name : List ℕ) (words : List (List ℕ)) (n m : ℕ) (word : List ℕ) → has_no_space name ≡ true → words ≡ name ∷ decimal n ∷ decimal m ∷ word ∷ [] → IsNumber n → IsNumber m → has_no_space word ≡ true → AreWords words
@@ -97,7 +94,7 @@ two_more name words n m word none are first second last = record {
   name = name;
   others = decimal n ∷ decimal m ∷ word ∷ [];
   are = are;
-  none = both (has_no_space name) _ none (both (has_no_space (decimal n)) _ (number_has_none n first) (both (has_no_space (decimal m)) _ (number_has_none m second) (both (has_no_space word) true last refl)));
+  none = and_from (has_no_space name) _ none (and_from (has_no_space (decimal n)) _ (number_has_none n first) (and_from (has_no_space (decimal m)) _ (number_has_none m second) (and_from (has_no_space word) true last refl)));
 }
 
 pub spelled_words : (words : List (List ℕ)) (c : Command) → IsSpelled words c → AreWords words

@@ -5,20 +5,21 @@ use Rattle.std.specs.Result.{result_ok}
 use Rattle.std.specs.Str.{bytes_eq}
 use Rattle.std.proofs.lemmas.Bool.{ltb-false, le-ltb, false_from_ne_true}
 use Rattle.std.proofs.lemmas.Slice.Eq.{bytes_eq-Decides}
+use Rattle.std.proofs.lemmas.Option.{same_Some}
 use Rattle.hex.specs.Hex.{decode_of}
 use Rattle.hex.specs.declared.error.FromHexError.{FromHexError}
 use Rattle.shell_text.specs.Grammar.{IsHex}
 use Rattle.shell_text.specs.Reading.{value_of}
-use Rattle.shell_text.proofs.Numbers.{chosen, some_is}
+use Rattle.shell_text.proofs.Numbers.{chosen}
 
 ok_is : (r : Result (List ℕ) FromHexError) (value : List ℕ) → result_ok r ≡ Some value → r ≡ Ok value
-ok_is (Ok x) value e = ap Ok (some_is x value e)
+ok_is (Ok x) value e = ap Ok (same_Some x value e)
 ok_is (Err f) value e = cc e
 
 pub value_of-some : (text value : List ℕ) → value_of text ≡ Some value → IsHex text value
 value_of-some text value e =
     elim (chosen (bytes_eq text (codes "-")) (Some []) (if nat_lt (length text) 2 then None else result_ok (decode_of text)) (Some value) e) [
-      | inl dash ↦ inl ((bytes_eq-Decides text (codes "-")).0 dash.0, sym (some_is [] value dash.1))
+      | inl dash ↦ inl ((bytes_eq-Decides text (codes "-")).0 dash.0, sym (same_Some [] value dash.1))
       | inr digits ↦
           elim (chosen (nat_lt (length text) 2) None (result_ok (decode_of text)) (Some value) digits.1) [
             | inl short ↦ cc short.1

@@ -1,13 +1,19 @@
 -- Work one after the other, known by its record; and what is said of a result.
-use Rattle.std.proofs.Common.{◌≡◌, ◌≢◌, refl, sym, subst, ap, ◌∙◌}
+use Rattle.std.proofs.Common.{◌≡◌, ◌≢◌, refl, sym, subst, ap, ◌∙◌, ◌⊎◌, inl, inr}
 use Rattle.std.specs.Prelude.{Result, Ok, Err, OnOk, IfErr, IsErrOf}
+pub use Rattle.std_lemmas.proofs.Results.{on_ok as ok_always}
 use Rattle.site.specs.declared.outside.Dev.{Dev}
 use Rattle.site.specs.declared.outside.Stop.{Stop}
 use Rattle.site.specs.declared.outside.Stop.TheVariants.{Device, Worn, Foreign, Memory}
 use Rattle.site.specs.State.{State}
-use Rattle.site.specs.Faults.{Faults, faults_in, after_work}
+use Rattle.site.specs.Faults.{Faults, faults_in, after_work, TellFaults, with_output_fault}
 use Rattle.site.specs.Laws.{stays_honest, fault_since, goes_in_sequence, goes_nowhere, unchanged_in_sequence}
 use Rattle.site.specs.Work.{Calls, OnlyReads}
+use Rattle.site.specs.declared.outside.Dev.TheVariants.{Log, Flash, Disk}
+use Rattle.site.specs.declared.outside.Failed.{Failed}
+use Rattle.site.specs.declared.geometry.Geometry.{Geometry}
+use Rattle.site.specs.Geometry.{HasLengths}
+use Rattle.site.specs.Calls.{Preserves}
 
 -- Results.
 
@@ -36,11 +42,17 @@ pub ok_as : {T E : Type 0} (r : Result T E) (P Q : Type 0) → (P → Q) → OnO
 ok_as (Ok x) P Q f p = f p
 ok_as (Err e) P Q f p = tt
 
-pub ok_always : {T E : Type 0} (r : Result T E) (P : Type 0) → P → OnOk r P
-ok_always (Ok x) P p = p
-ok_always (Err e) P p = tt
+-- No length changes.
+
+pub lengths_later : (g : Geometry) (old new : State) → Preserves old new → HasLengths g old.image → HasLengths g new.image
+lengths_later g old new goes lengths = record { log = goes.sizes Log ∙ lengths.log; flash = goes.sizes Flash ∙ lengths.flash; disk = goes.sizes Disk ∙ lengths.disk }
 
 -- Counts of faults.
+
+-- a telling adds one of its own at most
+pub tell_faults_cases : {T : Type 0} (result : Result T Failed) (old new : State) → TellFaults result old new → (faults_in new ≡ faults_in old) ⊎ (faults_in new ≡ with_output_fault (faults_in old))
+tell_faults_cases (Ok x) old new tells = inl tells
+tell_faults_cases (Err e) old new tells = inr tells
 
 -- of an error the answer's type says nothing
 pub same_error : (A B : Type 0) (stop : Stop) (f : Faults) → after_work {T = A} (Err stop) f ≡ after_work {T = B} (Err stop) f

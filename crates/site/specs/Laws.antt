@@ -16,8 +16,8 @@ use Rattle.site.specs.declared.outside.Failed.{Failed}
 use Rattle.site.specs.State.{State, Image, Loose, Range, Moment, Snapshot, MayStand, MayLeave, content_of, with_content}
 use Rattle.site.specs.State.{loose_of, with_loose, is_loose, is_within, faults_of, reads_of, now_of, snapshot_of}
 use Rattle.site.specs.State.{IsSettled, IsQuiet, no_loose}
-use Rattle.site.specs.Calls.{IsUnchanged, HasRead, Goes, Rose, put, range, within_write, within_tell, Adds, Lies, Stays}
-use Rattle.site.specs.Calls.{Wrote, Synced, Took, Told}
+use Rattle.site.specs.Calls.{IsUnchanged, HasRead, Preserves, Rose, put, range, within_write, within_tell, Adds, Lies}
+use Rattle.site.specs.Calls.{Stays, Wrote, Synced, Took, Told}
 use Rattle.site.specs.Moments.{Leaves, since, EachMoment, LeavesOnly, SameBut, OnlyDevice, ChangesOnly, SameAt}
 use Rattle.site.specs.Moments.{Untouched}
 use Rattle.site.specs.Telling.{TellsPart, SameDevices}
@@ -397,7 +397,7 @@ only_in_sequence dev a b c first second =
       loose = λ d ne. s.loose d ne ∙ first.now.loose d ne;
     }) second)
 
-pub goes_in_sequence : (a b c : State) → Goes a b → Goes b c → Goes a c
+pub goes_in_sequence : (a b c : State) → Preserves a b → Preserves b c → Preserves a c
 goes_in_sequence a b c f s = record {
   honest = s.honest ∙ f.honest;
   kept = s.kept ∙ f.kept;
@@ -419,7 +419,7 @@ no_call s Q now =
       now = now;
     }
 
-pub stays_honest : (a b : State) → Goes a b → IsTrue a.honest → IsTrue b.honest
+pub stays_honest : (a b : State) → Preserves a b → IsTrue a.honest → IsTrue b.honest
 stays_honest a b goes honest = subst IsTrue (sym goes.honest) honest
 
 -- one write more
@@ -460,7 +460,7 @@ unchanged_in_sequence a b c f s = record {
   past = s.past ∙ f.past;
 }
 
-pub goes_nowhere : (a : State) → Goes a a
+pub goes_nowhere : (a : State) → Preserves a a
 goes_nowhere a = record {
   honest = refl;
   kept = refl;
@@ -693,11 +693,11 @@ rose_since a b c more rose = le_trans
     (min-le_right (a + 1) (2 ^ 64 - 1))) rose
 
 -- the same of a device
-pub fault_then : (dev : Dev) (a b c : State) → Rose (faults_of dev a) (faults_of dev b) → Goes b c
+pub fault_then : (dev : Dev) (a b c : State) → Rose (faults_of dev a) (faults_of dev b) → Preserves b c
     → Rose (faults_of dev a) (faults_of dev c)
 fault_then dev a b c rose goes = rose_then (faults_of dev a) (faults_of dev b) (faults_of dev c) rose (goes.faults dev)
 
-pub fault_since : (dev : Dev) (a b c : State) → Goes a b → Rose (faults_of dev b) (faults_of dev c)
+pub fault_since : (dev : Dev) (a b c : State) → Preserves a b → Rose (faults_of dev b) (faults_of dev c)
     → Rose (faults_of dev a) (faults_of dev c)
 fault_since dev a b c goes rose =
     rose_since (faults_of dev a) (faults_of dev b) (faults_of dev c) (goes.faults dev) rose

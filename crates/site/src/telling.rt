@@ -1,6 +1,6 @@
 // Telling a whole piece.
 ghost use Rattle.std.specs.Prelude.{◌≡◌, ◌++◌, IsTrue, OnOk, OnErr};
-ghost use Rattle.site.specs.Calls.{Goes, SameReads, Rose};
+ghost use Rattle.site.specs.Calls.{Preserves, SameReads, Rose};
 ghost use Rattle.site.specs.Faults.{TellFaults};
 ghost use Rattle.site.specs.Moments.{EachMoment};
 ghost use Rattle.site.specs.Telling.{TellsPart, SameDevices};
@@ -16,7 +16,7 @@ pub fn tell_all<S: Site>(site: &mut S, piece: &[u8]) -> Result<(), Failed>
         → OnOk result ((S.state site.new).told ≡ (S.state site.old).told ++ piece.now) }
     ensures same { IsTrue (S.state site.old).honest → SameDevices (S.state site.old) (S.state site.new) }
     ensures reads { SameReads (S.state site.old) (S.state site.new) }
-    ensures goes { Goes (S.state site.old) (S.state site.new) }
+    ensures goes { Preserves (S.state site.old) (S.state site.new) }
     ensures cause { OnErr result (Rose (S.state site.old).output_faults (S.state site.new).output_faults) }
     ensures faults { TellFaults result (S.state site.old) (S.state site.new) }
 {

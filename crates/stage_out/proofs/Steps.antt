@@ -1,9 +1,9 @@
 -- Staging, write by write.
-use Rattle.std.proofs.Common.{◌≡◌, ◌≢◌, inl, inr, ℕ, ◌+◌, ◌*◌, ◌<◌, Bool, ◌||◌, false, List, [], ◌∷◌, length, get_or, refl, sym, ◌∙◌, ap, arith}
-use Rattle.std.proofs.lemmas.Bool.{cases_lt}
+use Rattle.std.proofs.Common.{◌≡◌, ◌≢◌, inl, inr, ℕ, ◌+◌, ◌*◌, ◌<◌, false, List, [], ◌∷◌, length, get_or, refl, sym, ◌∙◌, ap, arith}
+use Rattle.std.proofs.lemmas.Bool.{cases_lt, or_from}
 use Rattle.std.proofs.lemmas.List.{length-append, get_or_default}
 use Rattle.std.specs.List.{All, AllPairs, Contains}
-use Rattle.std.specs.Prelude.{Result, Ok, Err, OnOk, OnErr}
+use Rattle.std.specs.Prelude.{Result, Ok, Err, OnErr}
 use Rattle.site.specs.declared.outside.Dev.TheVariants.{Disk}
 use Rattle.site.specs.State.{State, Snapshot, Range, MayLeave, content_of, loose_of, is_loose, is_within, now_of}
 use Rattle.site.specs.Calls.{range, Lies, Adds}
@@ -17,9 +17,6 @@ use Rattle.stage_out.specs.Staged.{IsBesideAll, LeavesBeside, HasLeft, HasWritte
 -- a page of a list is one of its pages
 pub listed : (pages : List ℕ) (k : ℕ) → k < length pages → Contains pages (get_or pages k 0)
 listed pages k lt = (k, lt, get_or_default pages k (get_or pages k 0) 0 lt)
-
-or_false : (a b : Bool) → a ≡ false → b ≡ false → (a || b) ≡ false
-or_false a b is also = ap (λ (x : Bool). x || b) is ∙ also
 
 -- before the first write
 none_left : (pages : List ℕ) (old : State) → Leaves (LeavesBeside pages old) (now_of old)
@@ -52,7 +49,7 @@ module _ (pages : List ℕ) (contents : List (List ℕ)) (n : ℕ) (old mid new 
 
   -- beside all pages, what was stable is stable within the write too
   within : (place : ℕ) → IsBesideAll pages place → is_loose old.loose.disk place ≡ false → is_loose (range (4096 * page) 4096 ∷ mid.loose.disk) place ≡ false
-  within place out stable = or_false (is_within (range (4096 * page) 4096) place) _ (within_not (4096 * page) 4096 place (out page (listed pages n few))) (so_far.loose place out stable)
+  within place out stable = or_from (is_within (range (4096 * page) 4096) place) _ (within_not (4096 * page) 4096 place (out page (listed pages n few))) (so_far.loose place out stable)
 
   one_left : (s : Snapshot) → MayLeave (within_page page mid) s → LeavesBeside pages old s
   one_left s may = record {
@@ -99,14 +96,6 @@ module _ (pages : List ℕ) (contents : List (List ℕ)) (n : ℕ) (old mid new 
       own : (k : ℕ) → k ≡ n → page_on (get_or pages k 0) new.image.disk ≡ get_or contents k []
       own k is = ap (λ (m : ℕ). page_on (get_or pages m 0) new.image.disk) is ∙ ap (page_on page) disk ∙ page_written.here ∙ ap (λ (m : ℕ). get_or contents m []) (sym is)
 
-pub on_err : {T E : Type 0} (r : Result T E) (P : Type 0) → P → OnErr r P
-on_err (Ok x) P p = tt
-on_err (Err e) P p = p
-
 pub on_err_weaker : {T E : Type 0} (r : Result T E) {P Q : Type 0} → (P → Q) → OnErr r P → OnErr r Q
 on_err_weaker (Ok x) f p = tt
 on_err_weaker (Err e) f p = f p
-
-pub on_ok : {T E : Type 0} (r : Result T E) (P : Type 0) → P → OnOk r P
-on_ok (Ok x) P p = p
-on_ok (Err e) P p = tt

@@ -6,7 +6,7 @@ ghost use Rattle.site.specs.declared.outside.Dev.{Dev};
 ghost use Rattle.site.specs.declared.outside.Stop.{Stop};
 ghost use Rattle.site.specs.Geometry.{HasLengths};
 ghost use Rattle.site.specs.State.{IsSettled, IsQuiet};
-ghost use Rattle.site.specs.Calls.{Goes, SameReads, FaultRose};
+ghost use Rattle.site.specs.Calls.{Preserves, SameReads, FaultRose};
 ghost use Rattle.site.specs.Faults.{WorkFaults};
 ghost use Rattle.site.specs.Moments.{LeavesOnly, ChangesOnly};
 ghost use Rattle.disk_pages.specs.Pages.{LiesOn};
@@ -47,7 +47,7 @@ pub fn stage<S: Site>(site: &mut S, pages: &[u32], contents: &[Page]) -> Result<
 
     // Of every site.
     ensures none { pages.now ≡ [] → (site.new ≡ site.old) × IsOk result }
-    ensures goes { Goes (S.state site.old) (S.state site.new) }
+    ensures goes { Preserves (S.state site.old) (S.state site.new) }
     ensures faults { WorkFaults result (S.state site.old) (S.state site.new) }
     ensures reads { SameReads (S.state site.old) (S.state site.new) }
 
@@ -81,7 +81,7 @@ fn write_all<S: Site>(site: &mut S, pages: &[u32], contents: &[Page]) -> Result<
         → HasLeft pages.now (S.state site.old) (S.state site.new) }
     ensures written { IsTrue (S.state site.old).honest → OnOk result (HasWritten pages.now contents.now
         (length pages.now) (S.state site.old) (S.state site.new)) }
-    ensures goes { Goes (S.state site.old) (S.state site.new) }
+    ensures goes { Preserves (S.state site.old) (S.state site.new) }
     ensures faults { WorkFaults result (S.state site.old) (S.state site.new) }
     ensures reads { SameReads (S.state site.old) (S.state site.new) }
     ensures device { OnErr result (FaultRose Dev.Disk (S.state site.old) (S.state site.new)) }

@@ -1,6 +1,6 @@
 -- Calls that only read the flash, in sequence.
 use Rattle.std.proofs.Common.{ℕ, ◌+◌, ◌≤◌, ap, ◌∙◌, arith}
-use Rattle.std.specs.Prelude.{Result, Ok, Err}
+use Rattle.std.specs.Prelude.{Result, Ok, Err, IfOk}
 use Rattle.site.specs.declared.outside.Dev.TheVariants.{Flash}
 use Rattle.site.specs.declared.outside.Stop.{Stop}
 use Rattle.site.specs.declared.outside.Stop.TheVariants.{Device}
@@ -44,3 +44,8 @@ reads_failed stop n k a b most reads = record {
   device = λ says. reads.device (err_again stop (Device Flash) says);
   stops = reads.stops;
 }
+
+-- what follows from two facts on an answer
+pub ok_both : {T E : Type 0} (r : Result T E) (P Q R : T → Type 0) → IfOk r P → IfOk r Q → ((x : T) → P x → Q x → R x) → IfOk r R
+ok_both (Ok x) P Q R p q follows = follows x p q
+ok_both (Err e) P Q R p q follows = tt

@@ -3,12 +3,12 @@ use Rattle.std.proofs.Common.{◌≡◌, ◌⊎◌, inl, inr, ℕ, zero, suc, �
 use Rattle.std.specs.List.{AllByRecursion, flat_map}
 use Rattle.std.proofs.lemmas.Bool.{cases_lt}
 use Rattle.std.proofs.lemmas.List.{length-map, length-append, length-drop, map-append, drop-map, get_or-drop, get_or-map}
+use Rattle.std_lemmas.proofs.AllOf.{all_push, all_drop, all_at}
 use Rattle.site.specs.declared.geometry.Geometry.{Geometry}
 use Rattle.site.specs.State.{Image}
 use Rattle.sealed_ring.specs.Ring.{Units, hi_of, last_of}
 use Rattle.byte_fields.specs.declared.frame_head.FrameHead.{FrameHead}
 use Rattle.byte_fields.specs.FrameHeads.{spelling_of_all, FitsFields, AreGroupHeads}
-use Rattle.byte_fields.proofs.HeadLists.{all_more, all_at}
 use Rattle.image_changes.specs.Rings.{Groups, Segments, group_shape, segment_shape, KeepsUnits}
 use Rattle.frame_group.specs.Groups.{Frame, group, heads_of}
 use Rattle.frame_group.proofs.Front.{heads_are_group, begins_with_heads}
@@ -54,11 +54,6 @@ stands_again g first groups segments old new same has holds =
 
 -- Lists of units with one more.
 
-all_dropped : {X : Type 0} (P : X → Type 0) (n : ℕ) (xs : List X) → AllByRecursion P xs → AllByRecursion P (drop n xs)
-all_dropped P zero xs all = all
-all_dropped P (suc n) [] all = tt
-all_dropped P (suc n) (x ∷ xs) all = all_dropped P n xs all.1
-
 -- as many live as can
 live_more : {X : Type 0} (f : X → List ℕ) (xs : List X) (x : X) (m n : ℕ) → m ≡ n → last_of m (map f xs ++ f x ∷ []) ≡ map f (drop (length xs + 1 - n) (xs ++ x ∷ []))
 live_more f xs x m n same =
@@ -76,7 +71,7 @@ last_four : (g : Geometry) (groups : List (List Frame)) → AllByRecursion (λ f
 last_four g groups all four i less =
     let n = length groups - 4 in
     let long = length-drop n groups in
-    group_of_flat heads_of (λ frames. HasFrames g frames (group frames)) (drop n groups) i [] (λ frames has. frames_eight g frames has) (all_dropped (λ frames. HasFrames g frames (group frames)) n groups all)
+    group_of_flat heads_of (λ frames. HasFrames g frames (group frames)) (drop n groups) i [] (λ frames has. frames_eight g frames has) (all_drop (λ frames. HasFrames g frames (group frames)) n groups all)
     (omega (arith, long, four, less))
     ∙ ap heads_of (get_or-drop n groups i [])
 
@@ -84,7 +79,7 @@ pub are_segment : (g : Geometry) (groups : List (List Frame)) → AllByRecursion
 are_segment g groups all four =
     let n = length groups - 4 in
     let long = length-drop n groups in
-    let last = all_dropped (λ frames. HasFrames g frames (group frames)) n groups all in
+    let last = all_drop (λ frames. HasFrames g frames (group frames)) n groups all in
     record {
       spelled = refl;
       are_heads = record {
@@ -106,7 +101,7 @@ exist_flat g [] all k d lt = absurd (omega (arith, lt))
 exist_flat g (frames ∷ groups) all k d lt = exist_both g.pages (heads_of frames) (flat_map heads_of groups) (group_exists g frames (group frames) all.0) (exist_flat g groups all.1) k d lt
 
 pages_exist : (g : Geometry) (groups : List (List Frame)) → AllByRecursion (λ frames. HasFrames g frames (group frames)) groups → PagesExist g.pages (segment_of groups)
-pages_exist g groups all = exist_flat g (drop (length groups - 4) groups) (all_dropped (λ frames. HasFrames g frames (group frames)) (length groups - 4) groups all)
+pages_exist g groups all = exist_flat g (drop (length groups - 4) groups) (all_drop (λ frames. HasFrames g frames (group frames)) (length groups - 4) groups all)
 
 -- A segment that is due is saved.
 
@@ -140,10 +135,10 @@ segment_saved g first groups segments old new limits due appends has holds =
       record {
         has = record {
           form = appends.form;
-          are_segments = all_dropped (λ hs. IsSegment (spelling_of_all hs) hs) gone (segments ++ heads ∷ [])
-              (all_more (λ hs. IsSegment (spelling_of_all hs) hs) segments heads holds.has.are_segments (are_segment g groups has.are_groups four));
-          exist = all_dropped (PagesExist g.pages) gone (segments ++ heads ∷ [])
-              (all_more (PagesExist g.pages) segments heads holds.has.exist (pages_exist g groups has.are_groups));
+          are_segments = all_drop (λ hs. IsSegment (spelling_of_all hs) hs) gone (segments ++ heads ∷ [])
+              (all_push (λ hs. IsSegment (spelling_of_all hs) hs) segments heads holds.has.are_segments (are_segment g groups has.are_groups four));
+          exist = all_drop (PagesExist g.pages) gone (segments ++ heads ∷ [])
+              (all_push (PagesExist g.pages) segments heads holds.has.exist (pages_exist g groups has.are_groups));
           live = ap (λ (u : Units). u.live) appends.units ∙ ap (λ (l : List (List ℕ)). last_of (g.groups / 4 + 3 - 1) (l ++ spelling_of_all heads ∷ [])) holds.has.live
               ∙ live_more spelling_of_all segments heads (g.groups / 4 + 3 - 1) (g.groups / 4 + 2) (omega arith);
         };
@@ -172,7 +167,7 @@ group_pushed g first groups segments frames old new limits room own appends has 
       record {
         form = appends.form;
         next = omega (arith, long, more, next, before, eight);
-        are_groups = all_dropped (λ fs. HasFrames g fs (group fs)) gone (groups ++ frames ∷ []) (all_more (λ fs. HasFrames g fs (group fs)) groups frames has.are_groups own);
+        are_groups = all_drop (λ fs. HasFrames g fs (group fs)) gone (groups ++ frames ∷ []) (all_push (λ fs. HasFrames g fs (group fs)) groups frames has.are_groups own);
         live = ap (λ (u : Units). u.live) appends.units ∙ ap (λ (l : List (List ℕ)). last_of (g.groups - 1) (l ++ group frames ∷ [])) has.live
             ∙ live_more group groups frames (g.groups - 1) (g.groups - 1) refl;
       },

@@ -7,7 +7,7 @@ use Rattle.site.specs.declared.outside.Dev.TheVariants.{Flash}
 use Rattle.site.specs.declared.outside.Stop.{Stop}
 use Rattle.site.specs.Geometry.{HasLimits, HasLengths}
 use Rattle.site.specs.State.{State, Image, Snapshot, IsQuiet}
-use Rattle.site.specs.Calls.{Goes, IsUnchanged}
+use Rattle.site.specs.Calls.{Preserves, IsUnchanged}
 use Rattle.site.specs.Moments.{LeavesOnly, OnlyDevice, SameBut, ChangesOnly}
 use Rattle.site.specs.Laws.{leaves_weaker, unchanged, unchanged_calm, no_call, quiet_settled}
 use Rattle.sealed_ring.specs.declared.slots.Shape.{Shape}
@@ -90,7 +90,7 @@ module _ (g : Geometry) (groups segments : Ring) (first : ℕ) (stand : List (Li
       (subst (λ (s : Shape). LeavesOnly mid new (LeavesOldOrNew s (region s mid) content)) rings.segments_shape leaves)
       (subst (λ (s : Shape). OnlyDevice s.dev mid new) rings.segments_shape only))))
 
-  module _ (new : State) (ring : Ring) (content : List ℕ) (is : content ≡ bytes) (size : length content ≡ 512) (goes : Goes mid new) (shape : ring.shape ≡ segments.shape) (ready : IsReady ring new)
+  module _ (new : State) (ring : Ring) (content : List ℕ) (is : content ≡ bytes) (size : length content ≡ 512) (goes : Preserves mid new) (shape : ring.shape ≡ segments.shape) (ready : IsReady ring new)
       (outside : SameOutside segments.shape (region segments.shape mid) (region segments.shape new)) (only : OnlyDevice segments.shape.dev mid new)
       (units : units_in segments.shape new ≡ appended segments.shape (units_in segments.shape mid) content) (honest : IsTrue new.honest) where
     appends : Appends g Segments bytes old.image new.image
@@ -136,7 +136,7 @@ finds_later ring old mid same finds = record {
 }
 
 -- both rings are found behind an append to that of the segments
-pub both_found : (g : Geometry) (groups segments ring : Ring) (mid new : State) (content : List ℕ) → HasLimits g → HasLengths g mid.image → groups.shape ≡ group_shape g → segments.shape ≡ segment_shape g → length content ≡ 512 → Goes mid new
+pub both_found : (g : Geometry) (groups segments ring : Ring) (mid new : State) (content : List ℕ) → HasLimits g → HasLengths g mid.image → groups.shape ≡ group_shape g → segments.shape ≡ segment_shape g → length content ≡ 512 → Preserves mid new
     → ring.shape ≡ segments.shape → IsReady ring new → SameOutside segments.shape (region segments.shape mid) (region segments.shape new) → OnlyDevice segments.shape.dev mid new
     → units_in segments.shape new ≡ appended segments.shape (units_in segments.shape mid) content → Finds groups mid → Finds groups new × Finds ring new
 both_found g groups segments ring mid new content limits lengths groups_shape segments_shape size goes shape ready outside only units finds =

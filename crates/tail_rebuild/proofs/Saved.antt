@@ -1,23 +1,24 @@
 -- The segments that stand on flash, what was read of one, and which groups it has.
-use Rattle.std.proofs.Common.{◌≡◌, ℕ, ◌+◌, ◌-◌, ◌*◌, ◌/◌, ◌%◌, ◌<◌, ◌≤◌, min, max, List, [], length, get_or, map, take, drop, arith, sym, ap, subst, ◌∙◌}
-use Rattle.std.proofs.lemmas.List.{take-take, take_all, length-map, get_or-map}
+use Rattle.std.proofs.Common.{◌≡◌, ℕ, ◌+◌, ◌-◌, ◌*◌, ◌/◌, ◌%◌, ◌<◌, ◌≤◌, min, max, List, [], length, get_or, map, take, drop, refl, arith, sym, ap, subst, ◌∙◌}
+use Rattle.std.proofs.lemmas.List.{length-map, get_or-map}
+use Rattle.std_lemmas.proofs.AllOf.{all_at}
 use Rattle.site.specs.declared.geometry.Geometry.{Geometry}
 use Rattle.site.specs.State.{State, Image}
 use Rattle.sealed_ring.specs.declared.slots.Shape.{Shape}
 use Rattle.sealed_ring.specs.declared.ring.Ring.{Ring}
-use Rattle.sealed_ring.specs.Ring.{hi_of, units_of, unit_at, IsLive}
-use Rattle.sealed_ring.specs.Ready.{region, units_in, Fits as RingFits}
+use Rattle.sealed_ring.specs.Ring.{hi_of, units_of, unit_at, number, IsLive}
+use Rattle.sealed_ring.specs.Row.{HaveContents, StandInRow}
+use Rattle.sealed_ring.specs.Ready.{region, units_in, Matches as RingFits}
 use Rattle.sealed_ring.specs.Near.{IsNear}
 use Rattle.sealed_ring.proofs.Units.{live_count}
 use Rattle.byte_fields.specs.declared.frame_head.FrameHead.{FrameHead}
 use Rattle.byte_fields.specs.FrameHeads.{spelling_of_all}
-use Rattle.byte_fields.proofs.HeadLists.{length_all, all_at}
 use Rattle.image_changes.specs.Rings.{group_shape, segment_shape, units_on}
 use Rattle.frame_group.specs.Groups.{Frame, heads_of}
 use Rattle.meta_segments.specs.Segments.{heads_of_group, IsSegment}
 use Rattle.meta_segments.specs.Following.{IsLive as Live, heads_with}
 use Rattle.tail_rebuild.specs.Standing.{HasGroups, HasSegments, HasSaved, PagesExist, segment_on}
-use Rattle.tail_rebuild.specs.Listing.{GoesOnWith}
+use Rattle.tail_rebuild.specs.Listing.{GoesOnWith, HoldSegments, RowGoesOn}
 use Rattle.tail_rebuild.specs.Rebuilt.{AreRings}
 use Rattle.tail_rebuild.proofs.Standing.{first_is, heads_at_exist}
 
@@ -27,10 +28,10 @@ segment_count g segments image has =
     let all : length segments ≡ min (hi_of (segment_shape g) image.flash) (g.groups / 4 + 3 - 1) = sym (length-map segments spelling_of_all) ∙ ap length (sym has.live) ∙ live_count (segment_shape g) image.flash in
     omega (arith, all)
 
--- the heads of a live segment, as its octets were read
-pub segment_read : (g : Geometry) (ring : Ring) (site : State) (n : ℕ) (segments : List (List FrameHead)) (into : List ℕ) → ring.shape ≡ segment_shape g → RingFits ring site → IsLive ring.shape ring.hi n
-    → HasSegments g segments site.image → drop 8 into ≡ take 512 (unit_at ring.shape (units_in ring.shape site) n) → IsSegment (take 512 (drop 8 into)) (heads_with ring.hi segments n)
-segment_read g ring site n segments into shape fits live has read =
+-- the content of a live segment
+segment_is : (g : Geometry) (ring : Ring) (site : State) (n : ℕ) (segments : List (List FrameHead)) (content : List ℕ) → ring.shape ≡ segment_shape g → RingFits ring site → IsLive ring.shape ring.hi n
+    → HasSegments g segments site.image → content ≡ unit_at ring.shape (units_in ring.shape site) n → IsSegment content (heads_with ring.hi segments n)
+segment_is g ring site n segments content shape fits live has read =
     let slots : ring.shape.slots ≡ g.groups / 4 + 3 = ap (λ (s : Shape). s.slots) shape in
     let hi : ring.hi ≡ hi_of (segment_shape g) site.image.flash = fits ∙ ap (λ (s : Shape). hi_of s (region s site)) shape in
     let all = segment_count g segments site.image has in
@@ -43,11 +44,27 @@ segment_read g ring site n segments into shape fits live has read =
     let there : segment_on g site.image n ≡ spelling_of_all heads =
     ap (λ (i : ℕ). get_or (units_on (segment_shape g) site.image).live i []) at ∙ ap (λ (l : List (List ℕ)). get_or l (n + length segments - ring.hi) []) has.live
     ∙ get_or-map spelling_of_all segments (n + length segments - ring.hi) [] [] less in
-    let long : length (spelling_of_all heads) ≤ 512 = let size = is.are_heads.size in let each = length_all heads in omega (arith, size, each) in
-    let content : take 512 (drop 8 into) ≡ spelling_of_all heads =
-    ap (take 512) read ∙ take-take 512 512 (unit_at ring.shape (units_in ring.shape site) n) (omega arith)
-    ∙ ap (λ (s : Shape). take 512 (unit_at s (units_of s (region s site)) n)) shape ∙ ap (take 512) there ∙ take_all 512 (spelling_of_all heads) long in
-    subst (λ (l : List ℕ). IsSegment l heads) (sym content) is
+    let own : content ≡ spelling_of_all heads = read ∙ ap (λ (s : Shape). unit_at s (units_of s (region s site)) n) shape ∙ there in
+    subst (λ (l : List ℕ). IsSegment l heads) (sym own) is
+
+-- live segments, as their slots were read
+module _ (g : Geometry) (ring : Ring) (site : State) (n count : ℕ) (segments : List (List FrameHead)) (shape : ring.shape ≡ segment_shape g) (fits : RingFits ring site) (live : IsLive ring.shape ring.hi n) (most : n + count ≤ ring.hi)
+    (has : HasSegments g segments site.image) where
+  lives : (i : ℕ) → i < count → IsLive ring.shape ring.hi (n + i)
+  lives i less = let near = live.near in record { below = omega (arith, less, most); near = omega (arith, near) }
+
+  pub hold_segments : (slots : List ℕ) → HaveContents ring.shape (units_in ring.shape site) n count slots → HoldSegments slots count (λ i. heads_with ring.hi segments (n + i))
+  hold_segments slots have i less =
+      segment_is g ring site (n + i) segments (take 512 (drop (i * 1024 + 9) slots)) shape fits (lives i less) has
+      (sym (ap (λ (s : Shape). take s.room (drop (i * s.stride + 9) slots)) shape) ∙ have i less)
+
+  pub stand_in_row : StandInRow ring.shape n count (region ring.shape site)
+  stand_in_row i less =
+      let slots : ring.shape.slots ≡ g.groups / 4 + 3 = ap (λ (s : Shape). s.slots) shape in
+      let hi : ring.hi ≡ hi_of (segment_shape g) site.image.flash = fits ∙ ap (λ (s : Shape). hi_of s (region s site)) shape in
+      let near = live.near in
+      subst (λ (s : Shape). number s (region s site) ((n + i) % s.slots) ≡ n + i) (sym shape)
+      (has.form.numbers (n + i) (omega (arith, less, most, hi)) (omega (arith, near, hi, slots)))
 
 -- the list of live heads goes on with those of a live segment
 pub goes_on : (g : Geometry) (first : ℕ) (stand : List (List Frame)) (saved : List (List FrameHead)) (image : Image) (s at : ℕ) → HasGroups g first stand image → HasSaved g stand saved image
@@ -97,6 +114,19 @@ lists_on g groups segments site first own s at skip heads stand saved rings grou
     let apart : first - 4 * s ≡ skip = omega (arith, same, skipped) in
     let other : heads_with (hi_of (segment_shape g) site.image.flash) saved s ≡ heads = sym (read ∙ ap (λ (n : ℕ). heads_with n saved s) next) in
     subst (λ (n : ℕ). GoesOnWith heads n (map heads_of stand) at) apart (subst (λ (l : List FrameHead). GoesOnWith l (first - 4 * s) (map heads_of stand) at) other goes)
+
+-- and the same for segments that follow each other
+module _ (g : Geometry) (groups segments : Ring) (site : State) (first own segment count : ℕ) (stand : List (List Frame)) (saved : List (List FrameHead)) (rings : AreRings g groups segments site)
+    (groups_fit : RingFits groups site) (segments_fit : RingFits segments site) (has : HasGroups g first stand site.image) (holds : HasSaved g stand saved site.image)
+    (oldest : own ≡ groups.hi - (groups.shape.slots - 1)) (least : own / 4 ≤ segment) (most : segment + count ≤ segments.hi) where
+  pub row_goes_on : RowGoesOn (λ i. heads_with segments.hi saved (segment + i)) count own segment (map heads_of stand)
+  row_goes_on i less =
+      lists_on g groups segments site first own (segment + i) (max own (4 * (segment + i)) - own) (own - 4 * (segment + i)) (heads_with segments.hi saved (segment + i)) stand saved
+      rings groups_fit segments_fit has holds oldest (omega (arith, least)) (omega (arith, less, most)) (omega arith) refl refl
+
+  pub row_exists : (i : ℕ) → i < count → (group : ℕ) → own - 4 * (segment + i) ≤ group → group < 4 → PagesExist g.pages (heads_of_group (heads_with segments.hi saved (segment + i)) group)
+  row_exists i less group skipped below =
+      saved_exist g first stand site.image (heads_with segments.hi saved (segment + i)) (own - 4 * (segment + i)) (max own (4 * (segment + i)) - own) group has (row_goes_on i less) skipped below
 
 -- the ring of groups is near the number that the segments tell
 pub near_segments : (g : Geometry) (segments : Ring) (site : State) (first : ℕ) (stand : List (List Frame)) (saved : List (List FrameHead)) (shape : Shape) → shape ≡ group_shape g → segments.shape ≡ segment_shape g → RingFits segments site

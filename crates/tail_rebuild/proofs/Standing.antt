@@ -2,16 +2,16 @@
 use Rattle.std.proofs.Common.{◌≡◌, ℕ, zero, suc, ◌+◌, ◌-◌, ◌*◌, ◌<◌, ◌≤◌, min, true≢false, List, [], ◌∷◌, ◌++◌, length, get_or, map, take, drop, replicate, arith, sym, ap, subst, ◌∙◌}
 use Rattle.std.proofs.lemmas.List.{take-take, length-map, get_or-map, get_or-replicate, length-replicate}
 use Rattle.std.specs.List.{AllByRecursion}
+use Rattle.std_lemmas.proofs.AllOf.{all_at}
 use Rattle.site.specs.declared.geometry.Geometry.{Geometry}
 use Rattle.site.specs.State.{State, Image}
 use Rattle.sealed_ring.specs.declared.slots.Shape.{Shape}
 use Rattle.sealed_ring.specs.declared.ring.Ring.{Ring}
 use Rattle.sealed_ring.specs.Ring.{hi_of, units_of, unit_at, IsLive}
-use Rattle.sealed_ring.specs.Ready.{region, units_in, Fits as RingFits}
+use Rattle.sealed_ring.specs.Ready.{region, units_in, Matches as RingFits}
 use Rattle.sealed_ring.proofs.Units.{live_count}
 use Rattle.byte_fields.specs.declared.frame_head.FrameHead.{FrameHead}
 use Rattle.byte_fields.specs.FrameHeads.{blank}
-use Rattle.byte_fields.proofs.HeadLists.{all_at}
 use Rattle.image_changes.specs.Rings.{group_shape, units_on}
 use Rattle.frame_group.specs.Groups.{Frame, group, head_of, heads_of, HasHeads}
 use Rattle.frame_group.proofs.Front.{begins_with_heads, one_heads}

@@ -1,16 +1,16 @@
 -- Lists of heads, as they are read one group after the other.
-use Rattle.std.specs.Prelude.{◌≡◌, ◌≢◌, ◌⊎◌, ℕ, ◌+◌, ◌-◌, ◌≤◌, ◌<◌, IsTrue, List, [], length, take, slice_index_or}
-use Rattle.std.specs.Prelude.{Result, IfErr, IsErrOf}
+use Rattle.std.specs.Prelude.{◌≡◌, ◌≢◌, ◌⊎◌, ℕ, ◌+◌, ◌-◌, ◌*◌, ◌≤◌, ◌<◌, max, IsTrue, List, []}
+use Rattle.std.specs.Prelude.{length, take, drop, slice_index_or, Result, IfErr, IsErrOf}
 use Rattle.site.specs.declared.outside.Dev.{Dev}
 use Rattle.site.specs.declared.outside.Dev.TheVariants.{Flash}
 use Rattle.site.specs.declared.outside.Stop.{Stop}
 use Rattle.site.specs.declared.outside.Stop.TheVariants.{Device, Memory, Foreign}
 use Rattle.site.specs.State.{State, reads_of}
-use Rattle.site.specs.Calls.{Goes, FaultRose, IsUnchanged}
+use Rattle.site.specs.Calls.{Preserves, FaultRose, IsUnchanged}
 use Rattle.site.specs.Faults.{WorkFaults}
 use Rattle.byte_fields.specs.declared.frame_head.FrameHead.{FrameHead}
 use Rattle.byte_fields.specs.FrameHeads.{AreGroupHeads}
-use Rattle.meta_segments.specs.Segments.{heads_of_group}
+use Rattle.meta_segments.specs.Segments.{heads_of_group, IsSegment}
 use Rattle.tail_rebuild.specs.Standing.{PagesExist}
 
 -- the heads of a group, all of pages that exist
@@ -27,12 +27,22 @@ pub record GoesOnWith (heads : List FrameHead) (skip : ℕ) (all : List (List Fr
   pub inside : at + (4 - skip) ≤ length all
   pub same : (i : ℕ) → i < 4 - skip → slice_index_or all (at + i) [] ≡ heads_of_group heads (skip + i)
 
+-- slots one behind the other hold segments with these heads
+abbrev pub HoldSegments : List ℕ → ℕ → (ℕ → List FrameHead) → Type 0
+HoldSegments slots count each = (i : ℕ) → i < count → IsSegment (take 512 (drop (i * 1024 + 9) slots)) (each i)
+
+-- Where group `first` is the oldest live one, the list of live groups' heads goes on at the place of each of these
+-- segments with the heads that it has, from `segment` on.
+abbrev pub RowGoesOn : (ℕ → List FrameHead) → ℕ → ℕ → ℕ → List (List FrameHead) → Type 0
+RowGoesOn each count first segment all = (i : ℕ) → i < count
+    → GoesOnWith (each i) (first - 4 * (segment + i)) all (max first (4 * (segment + i)) - first)
+
 -- What a call that only reads the flash leaves: of an honest site nothing changes but counts, and of each site at most
 -- n flash reads are made and no other; an error is that of the flash, want of memory, or content that isn't of the
 -- form.
 pub record ReadsFlash {T : Type 0} (result : Result T Stop) (n : ℕ) (old new : State) : Type 0 where
   pub same : IsTrue old.honest → IsUnchanged old new
-  pub goes : Goes old new
+  pub goes : Preserves old new
   pub faults : WorkFaults result old new
   pub reads : new.flash_reads ≤ old.flash_reads + n
   pub others : (d : Dev) → d ≢ Flash → reads_of d new ≡ reads_of d old

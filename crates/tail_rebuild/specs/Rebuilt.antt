@@ -4,7 +4,7 @@ use Rattle.std.specs.List.{All}
 use Rattle.site.specs.declared.geometry.Geometry.{Geometry}
 use Rattle.site.specs.State.{State}
 use Rattle.sealed_ring.specs.declared.ring.Ring.{Ring}
-use Rattle.sealed_ring.specs.Ready.{IsUsable, Fits}
+use Rattle.sealed_ring.specs.Ready.{IsUsable, Matches}
 use Rattle.image_changes.specs.Rings.{group_shape, segment_shape}
 use Rattle.frame_group.specs.Groups.{Frame, heads_of}
 use Rattle.tail_rebuild.specs.declared.heads.Heads.{Heads}
@@ -31,6 +31,6 @@ pub record MayStart (g : Geometry) (heads : Heads) (site : State) : Type 0 where
 -- of an honest site whose flash has these groups: the two rings are the ones that stand there, and the heads those of
 -- the groups
 pub record Finds (heads : Heads) (groups : List (List Frame)) (site : State) : Type 0 where
-  pub groups_fit : Fits heads.groups site
-  pub segments_fit : Fits heads.segments site
+  pub groups_fit : Matches heads.groups site
+  pub segments_fit : Matches heads.segments site
   pub list : heads.list ≡ map heads_of groups

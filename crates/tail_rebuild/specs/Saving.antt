@@ -5,7 +5,7 @@ use Rattle.site.specs.declared.outside.Stop.{Stop}
 use Rattle.site.specs.declared.geometry.Geometry.{Geometry}
 use Rattle.site.specs.State.{State, IsQuiet}
 use Rattle.sealed_ring.specs.declared.ring.Ring.{Ring}
-use Rattle.sealed_ring.specs.Ready.{Fits}
+use Rattle.sealed_ring.specs.Ready.{Matches}
 use Rattle.byte_fields.specs.declared.frame_head.FrameHead.{FrameHead}
 use Rattle.byte_fields.specs.FrameHeads.{spelling_of_all}
 use Rattle.image_changes.specs.Changes.{Change, AppendsSegment, Reaches}
@@ -37,8 +37,8 @@ saved_after due g groups segments = if due then with_segment g segments (segment
 pub record Stands (g : Geometry) (groups segments : Ring) (first : ℕ) (stand : List (List Frame))
     (saved : List (List FrameHead)) (site : State) : Type 0 where
   pub honest : IsTrue site.honest
-  pub groups_fit : Fits groups site
-  pub segments_fit : Fits segments site
+  pub groups_fit : Matches groups site
+  pub segments_fit : Matches segments site
   pub has : HasGroups g first stand site.image
   pub holds : HasSaved g stand saved site.image
 

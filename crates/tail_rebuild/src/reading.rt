@@ -1,24 +1,28 @@
-// The heads of a live group, and of a live segment, each by one read.
-ghost use Rattle.std.specs.Prelude.{◌≡◌, ◌↔◌, ◌-◌, ◌<◌, ℕ, List, [], map, slice_index_or, IsTrue, IfOk, IsErrOf};
+// The heads of a live group, and the slots of live segments, each by one read.
+ghost use Rattle.std.specs.Prelude.{◌≡◌, ◌↔◌, ◌+◌, ◌-◌, ◌/◌, ◌<◌, ℕ, List, [], length, map, slice_index_or};
+ghost use Rattle.std.specs.Prelude.{IsTrue, IfOk, IsErrOf};
 ghost use Rattle.site.specs.declared.outside.Stop.{Stop};
 ghost use Rattle.sealed_ring.specs.Ring.{IsLive};
-ghost use Rattle.sealed_ring.specs.Ready.{IsUsable, Fits as RingFits};
+ghost use Rattle.sealed_ring.specs.Row.{in_row};
+ghost use Rattle.sealed_ring.specs.Ready.{IsUsable, Matches as RingFits};
 ghost use Rattle.byte_fields.specs.declared.frame_head.FrameHead.{FrameHead};
 ghost use Rattle.image_changes.specs.Rings.{group_shape as group_ring, segment_shape as segment_ring};
 ghost use Rattle.frame_group.specs.Groups.{Frame, heads_of};
-ghost use Rattle.meta_segments.specs.Segments.{AreSegmentHeads};
 ghost use Rattle.meta_segments.specs.Following.{heads_with};
 ghost use Rattle.tail_rebuild.specs.Standing.{HasGroups, HasSegments, PagesExist};
-ghost use Rattle.tail_rebuild.specs.Listing.{AreHeadsIn, ReadsFlash};
+ghost use Rattle.tail_rebuild.specs.Listing.{AreHeadsIn, HoldSegments, ReadsFlash};
 
 use byte_fields::FrameHead;
 use frame_group::{GROUP_LEN, HEADS_LEN, group_heads};
-use meta_segments::{SEGMENT_LEN, segment_heads};
+use meta_segments::SEGMENT_LEN;
 use sealed_ring::{Ring, Shape};
 use site::{Dev, Geometry, Site, Stop};
 
 // The octets of a slot of the ring of groups.
 const GROUP_STRIDE: u64 = 33_280;
+
+// The octets of a slot of the ring of segments.
+pub const SEGMENT_STRIDE: usize = 1_024;
 
 // Where the groups lie: at the front of the flash.
 pub fn group_shape(geometry: &Geometry) -> Shape
@@ -41,7 +45,7 @@ pub fn segment_shape(geometry: &Geometry) -> Shape
         dev: Dev::Flash,
         base: GROUP_STRIDE * geometry.groups as u64,
         slots: geometry.groups as u64 / 4 + 3,
-        stride: 1_024,
+        stride: SEGMENT_STRIDE as u64,
         room: SEGMENT_LEN as u64,
     }
 }
@@ -91,30 +95,30 @@ pub fn read_group<S: Site>(
     }
 }
 
-// The heads of four groups, as a live segment has them.
-pub fn read_segment<S: Site>(
+// Reads the slots of live segments by one read, whole slots one behind the other: of this segment and of those behind
+// it that have room in `slots`. Answers how many.
+pub fn read_segments<S: Site>(
     site: &mut S,
     geometry: &Geometry,
     ring: &Ring,
     segment: u64,
-) -> Result<[FrameHead; 32], Stop>
+    slots: &mut [u8],
+) -> Result<u64, Stop>
     requires usable { IsUsable ring.now (S.state site.old) }
     requires shape { ring.now.shape ≡ segment_ring geometry.now }
     requires live { IsLive ring.now.shape ring.now.hi segment }
 
-    ensures are_heads { IfOk result (λ heads. AreSegmentHeads heads) }
-    ensures heads { IsTrue (S.state site.old).honest → RingFits ring.now (S.state site.old)
+    ensures count { IfOk result (λ count.
+        count ≡ in_row ring.now.shape ring.now.hi segment (length slots.old / SEGMENT_STRIDE)) }
+    ensures hold { IsTrue (S.state site.old).honest → RingFits ring.now (S.state site.old)
         → (segments : List (List FrameHead)) → HasSegments geometry.now segments (S.state site.old).image
-        → IfOk result (λ heads. heads ≡ heads_with ring.now.hi segments segment) }
-    ensures reads { ReadsFlash result 1 (S.state site.old) (S.state site.new) }
+        → IfOk result (λ count. HoldSegments slots.new count (λ i. heads_with ring.now.hi segments (segment + i))) }
+    ensures reads { ReadsFlash result (in_row ring.now.shape ring.now.hi segment (length slots.old / SEGMENT_STRIDE))
+        (S.state site.old) (S.state site.new) }
+    ensures no_memory { IsErrOf result Stop.Memory → ⊥ }
     ensures foreign { IsErrOf result Stop.Foreign → IsTrue (S.state site.old).honest
         → RingFits ring.now (S.state site.old)
         → (segments : List (List FrameHead)) → HasSegments geometry.now segments (S.state site.old).image → ⊥ }
 {
-    let mut unit = [0u8; 8 + SEGMENT_LEN];
-    ring.read_unit(site, segment, &mut unit)?;
-    let Ok(heads) = segment_heads(&unit[8..]) else {
-        return Err(Stop::Foreign);
-    };
-    Ok(heads)
+    ring.read_units(site, segment, slots)
 }

@@ -5,10 +5,10 @@ ghost use Rattle.site.specs.declared.outside.Dev.{Dev};
 ghost use Rattle.site.specs.declared.outside.Stop.{Stop};
 ghost use Rattle.site.specs.Geometry.{HasLimits, HasLengths};
 ghost use Rattle.site.specs.State.{reads_of, IsQuiet};
-ghost use Rattle.site.specs.Calls.{Goes, FaultRose};
+ghost use Rattle.site.specs.Calls.{Preserves, FaultRose};
 ghost use Rattle.site.specs.Faults.{WorkFaults};
 ghost use Rattle.site.specs.Moments.{ChangesOnly};
-ghost use Rattle.sealed_ring.specs.Ready.{IsUsable, Fits as RingFits, Finds as RingFinds};
+ghost use Rattle.sealed_ring.specs.Ready.{IsUsable, Matches as RingFits, Finds as RingFinds};
 ghost use Rattle.byte_fields.specs.declared.frame_head.FrameHead.{FrameHead};
 ghost use Rattle.image_changes.specs.Rings.{group_shape as group_ring};
 ghost use Rattle.frame_group.specs.Groups.{Frame};
@@ -97,7 +97,7 @@ pub fn save_due<S: Site>(
     ensures none_due { OnOk result (is_due groups.now.hi segments.new.hi ≡ false) }
     ensures ok { OnOk result (segments.new.ended ≡ segments.old.ended) }
     ensures err { OnErr result (segments.new.hi ≡ segments.old.hi) }
-    ensures goes { Goes (S.state site.old) (S.state site.new) }
+    ensures goes { Preserves (S.state site.old) (S.state site.new) }
     ensures faults { WorkFaults result (S.state site.old) (S.state site.new) }
     ensures reads { (S.state site.new).flash_reads ≤ (S.state site.old).flash_reads + 4 }
     ensures others { (d : Dev) → d ≢ Dev.Flash

@@ -1,12 +1,13 @@
 -- The first failed call decides the status.
-use Rattle.std.proofs.Common.{◌≡◌, ◌⊎◌, inl, inr, ℕ, refl, sym, ap, ◌∙◌, arith}
-use Rattle.std.specs.Prelude.{Result, Ok, Err}
+use Rattle.std.proofs.Common.{◌≡◌, ◌⊎◌, inl, inr, ℕ, refl, ap, ◌∙◌, arith}
+use Rattle.std.specs.Prelude.{Result}
 use Rattle.site.specs.State.{State}
 use Rattle.site.specs.Faults.{faults_in, with_output_fault, TellFaults}
 use Rattle.site.specs.declared.outside.Failed.{Failed}
 use Rattle.trace_report.specs.declared.halt.Halt.{Halt}
 use Rattle.trace_report.specs.declared.halt.Halt.TheVariants as halt
 use Rattle.trace_report.specs.Contract.{FirstFails, after_halt, halt_status}
+use Rattle.site.proofs.Working.{tell_faults_cases}
 
 -- the report is told
 pub first_told : (old mid new : State) → faults_in mid ≡ faults_in old → faults_in new ≡ faults_in mid → FirstFails 0 old new
@@ -39,10 +40,6 @@ first_untold old mid new same told = record {
   line = inl (told ∙ ap with_output_fault same);
 }
 
-line_told : {T : Type 0} (result : Result T Failed) (mid new : State) → TellFaults result mid new → (faults_in new ≡ faults_in mid) ⊎ (faults_in new ≡ with_output_fault (faults_in mid))
-line_told (Ok x) mid new tells = inl tells
-line_told (Err e) mid new tells = inr tells
-
 -- the line of a halt is told
 pub first_halted : {T : Type 0} (h : Halt) (old mid new : State) (result : Result T Failed) → faults_in mid ≡ after_halt h (faults_in old) → TellFaults result mid new → FirstFails (halt_status h) old new
 first_halted halt.Memory old mid new result same tells = record {
@@ -50,19 +47,19 @@ first_halted halt.Memory old mid new result same tells = record {
   input = λ e. absurd (omega (arith, e));
   output = λ e. absurd (omega (arith, e));
   none = λ other. same;
-  line = line_told result mid new tells;
+  line = tell_faults_cases result mid new tells;
 }
 first_halted halt.Input old mid new result same tells = record {
   after = faults_in mid;
   input = λ e. same;
   output = λ e. absurd (omega (arith, e));
   none = λ other. absurd (otherwise 5 (inl refl) other);
-  line = line_told result mid new tells;
+  line = tell_faults_cases result mid new tells;
 }
 first_halted (halt.Trace number) old mid new result same tells = record {
   after = faults_in mid;
   input = λ e. absurd (omega (arith, e));
   output = λ e. absurd (omega (arith, e));
   none = λ other. same;
-  line = line_told result mid new tells;
+  line = tell_faults_cases result mid new tells;
 }

@@ -3,7 +3,7 @@ use Rattle.std.proofs.Common.{◌≡◌, ◌⊎◌, ℕ, List, [], ◌++◌, tak
 use Rattle.std.specs.Prelude.{Result, Ok, Err, OnOk, OnErr}
 use Rattle.std.proofs.lemmas.List.{take_all}
 use Rattle.site.specs.State.{State, Moment, now_of}
-use Rattle.site.specs.Calls.{Goes, Rose, SameReads}
+use Rattle.site.specs.Calls.{Preserves, Rose, SameReads}
 use Rattle.site.specs.Moments.{EachMoment}
 use Rattle.site.specs.Telling.{TellsPart}
 use Rattle.site.specs.Laws.{no_call, calm, now_same, in_sequence, each_weaker, rose_since, rose_then, stays_honest}
@@ -38,10 +38,10 @@ pub record Tells (text : List ℕ) (mid new : State) (result : Result (Unit {0})
   pub any_moment : IsTrue mid.honest → EachMoment mid new (TellsPart text mid)
   pub told : IsTrue mid.honest → OnOk result (new.told ≡ mid.told ++ text)
   pub reads : SameReads mid new
-  pub goes : Goes mid new
+  pub goes : Preserves mid new
   pub cause : OnErr result (Rose mid.output_faults new.output_faults)
 
-module _ (text : List ℕ) (old mid new : State) (goes : Goes old mid) (same : IsTrue old.honest → HearsOnly old mid) where
+module _ (text : List ℕ) (old mid new : State) (goes : Preserves old mid) (same : IsTrue old.honest → HearsOnly old mid) where
   moments : IsTrue old.honest → EachMoment mid new (TellsPart text mid) → EachMoment old new (TellsPart text old)
   moments honest tells =
       let h = same honest in
@@ -61,7 +61,7 @@ module _ (text : List ℕ) (old mid new : State) (goes : Goes old mid) (same : I
   whole (Err e) honest told cause none = absurd (none (rose_since old.output_faults mid.output_faults new.output_faults goes.output_faults cause))
 
 -- the contract, by what is known of the status
-pub contract : (groups pool : ℕ) (text : List ℕ) (old mid new : State) (result : Result (Unit {0}) Failed) (status : ℕ) → Goes old mid → (IsTrue old.honest → HearsOnly old mid) → SameReads old mid → Tells text mid new result
+pub contract : (groups pool : ℕ) (text : List ℕ) (old mid new : State) (result : Result (Unit {0}) Failed) (status : ℕ) → Preserves old mid → (IsTrue old.honest → HearsOnly old mid) → SameReads old mid → Tells text mid new result
     → (IsTrue old.honest → IsAnswer groups pool old.input.left status text)
     → (IsTrue old.honest → status ≡ 0 → new.told ≡ old.told ++ text)
     → (status ≡ 0) ⊎ ((status ≡ 4) ⊎ ((status ≡ 5) ⊎ ((status ≡ 6) ⊎ (status ≡ 16))))
@@ -86,7 +86,7 @@ contract groups pool text old mid new result status goes same reads tells answer
 abbrev IsReport : ℕ → ℕ → List ℕ → List ℕ → Type 0
 IsReport groups pool octets text = (touches : List Touch) × IsTrace octets touches × (text ≡ report groups pool touches)
 
-pub told_report : (groups pool : ℕ) (text : List ℕ) (old mid new : State) (x : Unit {0}) → Goes old mid → (IsTrue old.honest → HearsOnly old mid) → SameReads old mid → Tells text mid new (Ok x)
+pub told_report : (groups pool : ℕ) (text : List ℕ) (old mid new : State) (x : Unit {0}) → Preserves old mid → (IsTrue old.honest → HearsOnly old mid) → SameReads old mid → Tells text mid new (Ok x)
     → (IsTrue old.honest → IsReport groups pool old.input.left text) → SimulateContract groups pool old new 0
 told_report groups pool text old mid new x goes same reads tells is =
     contract groups pool text old mid new (Ok x) 0 goes same reads tells
@@ -94,7 +94,7 @@ told_report groups pool text old mid new x goes same reads tells is =
     (λ honest zero. told_all text old mid new goes same honest (tells.told (stays_honest old mid goes honest)))
     (inl refl) (λ bad. absurd (omega (arith, bad))) (λ bad. absurd (omega (arith, bad)))
 
-pub untold_report : (groups pool : ℕ) (text : List ℕ) (old mid new : State) (e : Failed) → Goes old mid → (IsTrue old.honest → HearsOnly old mid) → SameReads old mid → Tells text mid new (Err e)
+pub untold_report : (groups pool : ℕ) (text : List ℕ) (old mid new : State) (e : Failed) → Preserves old mid → (IsTrue old.honest → HearsOnly old mid) → SameReads old mid → Tells text mid new (Err e)
     → (IsTrue old.honest → IsReport groups pool old.input.left text) → SimulateContract groups pool old new 6
 untold_report groups pool text old mid new e goes same reads tells is =
     contract groups pool text old mid new (Err e) 6 goes same reads tells
@@ -129,7 +129,7 @@ halt_others halt.Memory = inr (inl refl)
 halt_others halt.Input = inr (inr (inl refl))
 halt_others (halt.Trace number) = inr (inr (inr (inr refl)))
 
-pub told_halt : (groups pool : ℕ) (h : Halt) (old mid new : State) (result : Result (Unit {0}) Failed) → Goes old mid → (IsTrue old.honest → HearsOnly old mid) → SameReads old mid → Tells (halt_line h) mid new result
+pub told_halt : (groups pool : ℕ) (h : Halt) (old mid new : State) (result : Result (Unit {0}) Failed) → Preserves old mid → (IsTrue old.honest → HearsOnly old mid) → SameReads old mid → Tells (halt_line h) mid new result
     → HasCause h old mid → SimulateContract groups pool old new (halt_status h)
 told_halt groups pool h old mid new result goes same reads tells cause =
     contract groups pool (halt_line h) old mid new result (halt_status h) goes same reads tells

@@ -1,6 +1,6 @@
 // The work of `simulate`.
 ghost use Rattle.std.specs.Prelude.{◌≡◌, ◌≤◌, List, IsTrue, IfOk, IfErr};
-ghost use Rattle.site.specs.Calls.{Goes, SameReads};
+ghost use Rattle.site.specs.Calls.{Preserves, SameReads};
 ghost use Rattle.site.specs.Faults.{faults_in};
 ghost use Rattle.trace_report.specs.Traces.{Touch, IsTrace};
 ghost use Rattle.trace_report.specs.Reports.{report};
@@ -28,7 +28,7 @@ fn work<S: Site>(alloc: Global, groups: u32, pool: u32, site: &mut S) -> Result<
         (touches : List Touch) × IsTrace (S.state site.old).input.left touches × (text ≡ report groups pool touches)) }
     ensures cause { IfErr result (λ halt. HasCause halt (S.state site.old) (S.state site.new)) }
     ensures same { IsTrue (S.state site.old).honest → HearsOnly (S.state site.old) (S.state site.new) }
-    ensures goes { Goes (S.state site.old) (S.state site.new) }
+    ensures goes { Preserves (S.state site.old) (S.state site.new) }
     ensures reads { SameReads (S.state site.old) (S.state site.new) }
     ensures faults { HearFaults result (S.state site.old) (S.state site.new) }
 {
@@ -68,7 +68,7 @@ pub fn simulate<S: Site>(alloc: Global, groups: u32, pool: u32, site: &mut S) ->
     requires pool_least { 1 ≤ pool }
     requires pool_most { pool ≤ 4096 }
     ensures simulate { SimulateContract groups pool (S.state site.old) (S.state site.new) result }
-    ensures goes { Goes (S.state site.old) (S.state site.new) }
+    ensures goes { Preserves (S.state site.old) (S.state site.new) }
     ensures faults { result ≡ 0 → faults_in (S.state site.new) ≡ faults_in (S.state site.old) }
     ensures first { FirstFails result (S.state site.old) (S.state site.new) }
 {

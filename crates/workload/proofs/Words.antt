@@ -1,16 +1,16 @@
 -- What stop lines say.
 use Rattle.std.proofs.Common.{◌≡◌, ℕ, ◌+◌, true, List, [], ◌∷◌, length, Option, Some, None, refl, sym, ap, ◌∙◌, arith, inl, inr}
-use Rattle.std.specs.Prelude.{◌==◌, not, codes, decimal, IfSome, IfNone}
+use Rattle.std.specs.Prelude.{◌==◌, codes, decimal, IfSome, IfNone}
 use Rattle.std.specs.List.{list_all, join_with_byte}
-use Rattle.std.specs.Str.{all_ascii_digits, bytes_eq}
-use Rattle.std.specs.Char.{is_ascii_digit}
-use Rattle.std.proofs.lemmas.Bool.{and_parts, and_from}
+use Rattle.std.specs.Str.{bytes_eq}
+use Rattle.std.proofs.lemmas.Bool.{and_from}
 use Rattle.std.proofs.lemmas.List.Splits.{join_with_byte-slice_split, length-slice_split}
 use Rattle.std.proofs.lemmas.Slice.Eq.{bytes_eq-Decides}
+use Rattle.std.proofs.lemmas.Option.{same_Some}
 use Rattle.shell_text.specs.Grammar.{IsNumber}
 use Rattle.shell_text.specs.Reading.{words_of, number_of}
-use Rattle.shell_text.proofs.Numbers.{chosen, some_is, number_of-some, number_of-decimal, decimal_digits}
-use Rattle.shell_text.proofs.Spacing.{has_no_space, words_of-join}
+use Rattle.shell_text.proofs.Numbers.{chosen, number_of-some, number_of-decimal}
+use Rattle.shell_text.proofs.Spacing.{has_no_space, words_of-join, number_has_none}
 use Rattle.workload.specs.Scripts.{pair_of, stop_in, stop_of}
 use Rattle.workload.specs.Laws.{stop_text, StopLinesAreRead}
 
@@ -34,7 +34,7 @@ many_words line one two three name k seed first second third =
 -- What is read as a stop line is one.
 pair_parts : (a b : Option ℕ) (k seed : ℕ) → pair_of a b ≡ Some (k, seed) → (a ≡ Some k) × (b ≡ Some seed)
 pair_parts (Some n) (Some m) k seed is =
-    let same : (n, m) ≡ (k, seed) = some_is (n, m) (k, seed) is in
+    let same : (n, m) ≡ (k, seed) = same_Some (n, m) (k, seed) is in
     (ap (λ (p : ℕ × ℕ). Some p.0) same, ap (λ (p : ℕ × ℕ). Some p.1) same)
 pair_parts (Some n) None k seed is = cc is
 pair_parts None (Some m) k seed is = cc is
@@ -56,22 +56,10 @@ said (name ∷ a ∷ b ∷ []) k seed is =
     ]
 said (name ∷ a ∷ b ∷ c ∷ words) k seed is = cc is
 
--- And a stop line is read as one.
-no_space_in_digits : (word : List ℕ) → all_ascii_digits word ≡ true → has_no_space word ≡ true
-no_space_in_digits [] digits = refl
-no_space_in_digits (x ∷ word) digits =
-    let p = and_parts (is_ascii_digit x) (all_ascii_digits word) digits in
-    and_from (not (x == 32)) (has_no_space word) (digit_is_no_space x p.0) (no_space_in_digits word p.1) where
-      digit_is_no_space : (x : ℕ) → is_ascii_digit x ≡ true → not (x == 32) ≡ true
-      digit_is_no_space x digit = grind arith
-
-no_space_in_number : (n : ℕ) → IsNumber n → has_no_space (decimal n) ≡ true
-no_space_in_number n small = no_space_in_digits (decimal n) (decimal_digits n small)
-
 words_of_stop : (k seed : ℕ) → IsNumber k → IsNumber seed → words_of (stop_text k seed) ≡ codes "stop" ∷ decimal k ∷ decimal seed ∷ []
 words_of_stop k seed first second =
-    let last = and_from (has_no_space (decimal seed)) true (no_space_in_number seed second) refl in
-    let both = and_from (has_no_space (decimal k)) (list_all has_no_space (decimal seed ∷ [])) (no_space_in_number k first) last in
+    let last = and_from (has_no_space (decimal seed)) true (number_has_none seed second) refl in
+    let both = and_from (has_no_space (decimal k)) (list_all has_no_space (decimal seed ∷ [])) (number_has_none k first) last in
     words_of-join (codes "stop") (decimal k ∷ decimal seed ∷ []) both
 
 pub stop_lines_are_read : StopLinesAreRead

@@ -1,16 +1,17 @@
 use Rattle.std.proofs.Common.{◌≡◌, arith, sym, subst, ◌∙◌, true≢false}
+use Rattle.std_lemmas.proofs.Results.{on_err}
 use Rattle.byte_fields.specs.declared.frame_head.FrameHead.{FrameHead}
 use Rattle.byte_fields.specs.FrameHeads.{HasForm}
-use Rattle.byte_fields.proofs.HeadParts.{HasParts, parts_of, spelled_by_parts, one_by_parts, if_err}
+use Rattle.byte_fields.proofs.HeadParts.{HasParts, parts_of, spelled_by_parts, one_by_parts}
 use Rattle.byte_fields.proofs.frame_head.read_head.Goals as goal
 
 pub returns-in_err-present-clause-bad : goal.returns-in_err-present-clause-bad
 returns-in_err-present-clause-bad c =
-    if_err c.from_residual.result _ (λ head is. c.in_err-present.ensures.bad head.present (parts_of c.args.bytes.now c.args.at head is).present)
+    on_err c.from_residual.result _ (λ head is. c.in_err-present.ensures.bad head.present (parts_of c.args.bytes.now c.args.at head is).present)
 
 pub returns-in_err-dirty-clause-bad : goal.returns-in_err-dirty-clause-bad
 returns-in_err-dirty-clause-bad c =
-    if_err c.from_residual-in_err-dirty.result _ (λ head is. c.in_err-dirty.ensures.bad head.dirty (parts_of c.args.bytes.now c.args.at head is).dirty)
+    on_err c.from_residual-in_err-dirty.result _ (λ head is. c.in_err-dirty.ensures.bad head.dirty (parts_of c.args.bytes.now c.args.at head is).dirty)
 
 pub returns-then-get_u16-ne0-clause-bad : goal.returns-then-get_u16-ne0-clause-bad
 returns-then-get_u16-ne0-clause-bad c = λ head is. c.if-get_u16-ne0.true (c.get_u16.ensures ∙ (parts_of c.args.bytes.now c.args.at head is).zero)

@@ -1,7 +1,7 @@
 use Rattle.std.proofs.Common.{◌*◌, arith, subst, sym, get_or, take}
 use Rattle.std.proofs.lemmas.List.{take_more_set, length-take-le}
+use Rattle.std_lemmas.proofs.Results.{on_err}
 use Rattle.byte_fields.specs.FrameHeads.{AreHeads, blank}
-use Rattle.byte_fields.proofs.HeadParts.{on_err}
 use Rattle.byte_fields.proofs.HeadLists.{heads_more, head_at}
 use Rattle.byte_fields.proofs.frame_head.read_heads.Goals as goal
 

@@ -1,9 +1,10 @@
 use Rattle.std.proofs.Common.{◌≡◌, ◌≤◌, ◌*◌, ◌+◌, arith, ℕ, length, sym, subst, ◌∙◌, get_or, drop, true≢false}
 use Rattle.std.specs.List.{AllByRecursion}
+use Rattle.std.proofs.lemmas.List.{take_rest}
 use Rattle.checkpoint.specs.declared.master.Master.{Master}
 use Rattle.checkpoint.specs.Actives.{Ascend}
 use Rattle.checkpoint.proofs.PairLists.{one_list}
-use Rattle.checkpoint.proofs.UnitParts.{HasParts, parts_of, unit_of_parts, to_the_end}
+use Rattle.checkpoint.proofs.UnitParts.{HasParts, parts_of, unit_of_parts}
 use Rattle.checkpoint.proofs.codec.read_master.Goals as goal
 
 pub returns-then-count-gt-ACTIVE_MAX-clause-bad : goal.returns-then-count-gt-ACTIVE_MAX-clause-bad
@@ -23,7 +24,7 @@ returns-then-not-are_zero-clause-bad c m is =
     let octets = c.args.content.now in
     let parts = parts_of octets m is in
     let zeros = subst (λ n. AllByRecursion (λ (octet : ℕ). octet ≡ 0) (drop (25 + 16 * n) octets)) (sym parts.count) parts.rest in
-    true≢false (sym (c.are_zero.ensures.1 (subst (AllByRecursion (λ (octet : ℕ). octet ≡ 0)) (sym (to_the_end octets (25 + 16 * get_or octets 24 0))) zeros)) ∙ c.if-not-are_zero.true)
+    true≢false (sym (c.are_zero.ensures.1 (subst (AllByRecursion (λ (octet : ℕ). octet ≡ 0)) (sym (take_rest octets (25 + 16 * get_or octets 24 0))) zeros)) ∙ c.if-not-are_zero.true)
 
 pub returns-clause-found : goal.returns-clause-found
 returns-clause-found c =
@@ -36,7 +37,7 @@ returns-clause-found c =
       commits = c.get_u64-3.ensures;
       count = sym c.read_pairs-active.ensures.count;
       pairs = c.read_pairs-active.ensures.spelled;
-      rest = subst (λ n. AllByRecursion (λ (octet : ℕ). octet ≡ 0) (drop (25 + 16 * n) octets)) (sym c.read_pairs-active.ensures.count) (subst (AllByRecursion (λ (octet : ℕ). octet ≡ 0)) (to_the_end octets (25 + 16 * get_or octets 24 0)) (c.are_zero.ensures.0 c.if-not-are_zero.false));
+      rest = subst (λ n. AllByRecursion (λ (octet : ℕ). octet ≡ 0) (drop (25 + 16 * n) octets)) (sym c.read_pairs-active.ensures.count) (subst (AllByRecursion (λ (octet : ℕ). octet ≡ 0)) (take_rest octets (25 + 16 * get_or octets 24 0)) (c.are_zero.ensures.0 c.if-not-are_zero.false));
     } in
     record {
       spelled = unit_of_parts octets m (λ i. omega (arith, c.type_inv.content i)) c.requires few parts;

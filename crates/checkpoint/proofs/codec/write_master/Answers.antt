@@ -2,8 +2,9 @@ use Rattle.std.proofs.Common.{arith, refl, [], ◌∷◌, length, replicate, sub
 use Rattle.std.specs.Int.{w64, to_be_bytes}
 use Rattle.byte_fields.specs.Writes.{Writes}
 use Rattle.checkpoint.specs.Units.{spelling}
-use Rattle.checkpoint.proofs.Texts.{writes_then, length-written}
+use Rattle.checkpoint.proofs.Texts.{length-written}
 use Rattle.checkpoint.proofs.UnitParts.{octet_written, written_unit}
+use Rattle.byte_fields.proofs.Texts.{writes_then}
 use Rattle.checkpoint.proofs.codec.write_master.Goals as goal
 
 pub returns-clause-written : goal.returns-clause-written

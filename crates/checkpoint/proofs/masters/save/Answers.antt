@@ -1,4 +1,5 @@
-use Rattle.checkpoint.proofs.Saving.{ok_maps, ok_three, stands_as, master_is, beside_as, saved_moments, saved_front, saved_reaches}
+use Rattle.std.proofs.lemmas.Result.{on_ok_weaker}
+use Rattle.checkpoint.proofs.Saving.{ok_three, stands_as, master_is, beside_as, saved_moments, saved_front, saved_reaches}
 use Rattle.checkpoint.proofs.masters.save.Goals as goal
 
 pub returns-clause-any_moment : goal.returns-clause-any_moment
@@ -13,7 +14,7 @@ returns-clause-front g c geometry limits lengths honest ready quiet =
 
 pub returns-clause-master : goal.returns-clause-master
 returns-clause-master g c honest finds =
-    ok_maps c.append.result _ _
+    on_ok_weaker c.append.result
     (master_is c.args.ring.now (g.S.Site.state c.args.site.now) (g.S.Site.state c.append.new.site) c.write_master-content.result c.args.master.now c.requires.shape
     (c.write_master-content.ensures.spelled c.requires.ascend)) (c.append.ensures.stands honest finds)
 
@@ -26,12 +27,12 @@ returns-clause-reaches g c geometry limits lengths honest finds =
 
 pub returns-clause-stands : goal.returns-clause-stands
 returns-clause-stands g c honest finds =
-    ok_maps c.append.result _ _
+    on_ok_weaker c.append.result
     (stands_as c.args.ring.now (g.S.Site.state c.args.site.now) (g.S.Site.state c.append.new.site) c.write_master-content.result c.args.master.now c.requires.shape
     (c.write_master-content.ensures.spelled c.requires.ascend)) (c.append.ensures.stands honest finds)
 
 pub returns-clause-beside : goal.returns-clause-beside
 returns-clause-beside g c honest =
-    ok_maps c.append.result _ _
+    on_ok_weaker c.append.result
     (beside_as c.args.ring.now (g.S.Site.state c.args.site.now) (g.S.Site.state c.append.new.site) c.write_master-content.result c.args.master.now c.requires.shape
     (c.write_master-content.ensures.spelled c.requires.ascend)) (c.append.ensures.outside honest)

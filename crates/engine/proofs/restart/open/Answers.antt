@@ -7,14 +7,14 @@ use Rattle.site.specs.declared.geometry.Geometry.{Geometry}
 use Rattle.checkpoint.specs.declared.master.Master.{Master}
 use Rattle.log_records.specs.declared.log_record.LogRecord.{LogRecord}
 use Rattle.log_store.specs.declared.store.LogStore.{LogStore}
-use Rattle.log_store.specs.Held as log_held
+use Rattle.log_store.specs.Representation as log_store
 use Rattle.sealed_ring.specs.Ring.{hi_of}
 use Rattle.image_changes.specs.Rings.{log_shape}
 use Rattle.engine.specs.Image.{IsSound}
 use Rattle.site.specs.Laws.{stays_honest, unchanged_in_sequence, goes_in_sequence}
 use Rattle.site.specs.declared.outside.Stop.TheVariants.{Foreign}
 use Rattle.image_meaning.specs.Meaning.{AreOctetsSoundUnder, kept_by, saved_by}
-use Rattle.flash_cache.specs.Held.{groups_on}
+use Rattle.flash_cache.specs.Representation.{groups_on}
 use Rattle.engine.proofs.Openings.{has_groups, first_on, there_is_newest, masters_form, kept_is, both_go_on, ready_now}
 use Rattle.std.specs.Prelude.{IsTrue}
 use Rattle.site.specs.Calls.{IsUnchanged}
@@ -70,7 +70,7 @@ returns-in-Ok-keep_from-clause-ready g c honest newest blocks table commits soun
     let master = c.in-Ok-newest.master in
     let is = c.one_master.ensures.newest found.image master (saved_by newest) (c.in-Ok-newest.ensures.master honest_found) (there_is_newest newest k found.image there_found.masters) in
     let keeps = c.in-Ok-keep_from.ensures.keeps in
-    let finds = subst (λ (log : LogStore). log_held.Finds log mid) (sym keeps) (record { honest = (c.in-Ok.ensures.found honest sound.held.form).honest; form = (c.in-Ok.ensures.found honest sound.held.form).form; hi = (c.in-Ok.ensures.found honest sound.held.form).hi }) in
+    let finds = subst (λ (log : LogStore). log_store.Finds log mid) (sym keeps) (record { honest = (c.in-Ok.ensures.found honest sound.held.form).honest; form = (c.in-Ok.ensures.found honest sound.held.form).form; hi = (c.in-Ok.ensures.found honest sound.held.form).hi }) in
     let held = c.in-Ok.ensures.holds honest (kept_by newest) blocks sound.held in
     ready_now c.stays_beside.ensures.fits k c.keep_from.new.log c.in-Ok-start.pages old mid found new c.start.ensures.goes same_first c.start-2.ensures.goes
     (c.start-2.ensures.same honest_mid) c.newest.ensures.goes (c.newest.ensures.same honest_found)
@@ -78,15 +78,12 @@ returns-in-Ok-keep_from-clause-ready g c honest newest blocks table commits soun
     (c.in-Ok-start.ensures.fits honest_mid (first_on k mid.image) (groups_on k mid.image)
     (has_groups k mid.image there_mid.groups) there_mid.segments there_mid.clean there_mid.versions)
     (c.in-Ok-newest.ensures.found honest_found (masters_form newest k found.image there_found.masters)) finds
-    (subst (λ (log : LogStore). log_held.HasBlocks log.geometry (kept_by newest) blocks mid.image) (sym keeps) held.blocks)
-    (subst (λ (log : LogStore). log_held.HasTail log.tail log.used []) (sym keeps) held.tail) sound means
+    (subst (λ (log : LogStore). log_store.HasBlocks log.geometry (kept_by newest) blocks mid.image) (sym keeps) held.blocks)
+    (subst (λ (log : LogStore). log_store.HasTail log.tail log.used []) (sym keeps) held.tail) sound means
 
 pub returns-in-Ok-keep_from-clause-goes : goal.returns-in-Ok-keep_from-clause-goes
 returns-in-Ok-keep_from-clause-goes g c =
-    let mid = g.S.Site.state c.start.new.site in
-    let found = g.S.Site.state c.start-2.new.site in
-    let new = g.S.Site.state c.newest.new.site in
-    goes_in_sequence (g.S.Site.state c.args.site.now) mid new c.start.ensures.goes (goes_in_sequence mid found new c.start-2.ensures.goes c.newest.ensures.goes)
+    goes_in_sequence (g.S.Site.state c.args.site.now) _ _ c.start.ensures.goes (goes_in_sequence _ _ _ c.start-2.ensures.goes c.newest.ensures.goes)
 
 pub returns-in-Ok-keep_from-clause-going : goal.returns-in-Ok-keep_from-clause-going
 returns-in-Ok-keep_from-clause-going g c = record {
@@ -119,10 +116,9 @@ pub returns-in-Err-newest-clause-readable : goal.returns-in-Err-newest-clause-re
 returns-in-Err-newest-clause-readable g c honest newest blocks sound is =
     let s = (goal.at.returns-in-Err-newest-clause-readable g c).After-newest in
     let found = g.S.Site.state c.start-2.new.site in
-    let k = c.args.geometry.now in
     let masters = (there g s honest newest sound.octets).masters in
-    c.in-Err-newest.ensures.foreign (err_again c.in-Err-newest.stop Foreign is) (honest_found g s honest) (masters_form newest k found.image masters)
-    (saved_by newest) (there_is_newest newest k found.image masters)
+    c.in-Err-newest.ensures.foreign (err_again c.in-Err-newest.stop Foreign is) (honest_found g s honest) (masters_form newest _ found.image masters)
+    (saved_by newest) (there_is_newest newest _ found.image masters)
 
 pub returns-in-Ok-keep_from-clause-cache : goal.returns-in-Ok-keep_from-clause-cache
 returns-in-Ok-keep_from-clause-cache g c honest newest blocks sound =

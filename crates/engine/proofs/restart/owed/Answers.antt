@@ -8,8 +8,7 @@ use Rattle.engine.proofs.restart.owed.Goals as goal
 pub overflow_add-sum : goal.overflow_add-sum
 overflow_add-sum c =
     let table = listed c.args.found.now.table in
-    let bounded = c.requires.bounded in
-    omega (arith, owed_more table c.loop-place.place c.loser.result c.loser.ensures.loser, sum_by-take-le owed_one table (suc c.loop-place.place), bounded)
+    omega (arith, owed_more table c.loop-place.place c.loser.result c.loser.ensures.loser, sum_by-take-le owed_one table (suc c.loop-place.place), c.requires.bounded)
 
 pub overflow_add-sum-in-loop-place : goal.overflow_add-sum-in-loop-place
 overflow_add-sum-in-loop-place c =

@@ -13,18 +13,19 @@ use Rattle.redo_undo.specs.Numbers.{SkipsNone}
 use Rattle.redo_undo.specs.declared.store.Store.{Store}
 use Rattle.engine.specs.declared.restart.Restarted.{Restarted}
 use Rattle.engine.specs.Restarting.{IsReady, RestartedAs}
-use Rattle.log_store.specs.Held.{has_tail}
+use Rattle.log_store.specs.Representation.{has_tail}
 use Rattle.page_store.specs.Caching.{rules}
 use Rattle.checkpoint.specs.declared.pairs.Pair.{Pair}
 use Rattle.image_meaning.specs.Meaning.{picture_under}
 use Rattle.image_meaning.proofs.Leaving.{under_leaves_for}
 use Rattle.redo_undo.specs.Holding as both
-use Rattle.redo_undo.specs.Works.{Asks, redo_works, undo_works, checkpoint_works}
+use Rattle.redo_undo.specs.MachineSteps.{StepsMachine, redo_works, undo_works, checkpoint_works}
 use Rattle.redo_undo.proofs.Saved.{finds_kept}
 use Rattle.redo_undo.specs.declared.redo_pass.Redone.{Redone}
 use Rattle.second_chance.specs.Machine.{Rules}
 use Rattle.engine.specs.Calls.{Ends}
-use Rattle.engine.proofs.Calling.{ends_ok, ends_failed, ends_answered, ends_then, ends_of}
+use Rattle.engine.proofs.Calling.{ends_then}
+use Rattle.redo_undo.proofs.Endings.{ends_failed, ends_answered, ends_leaving}
 use Rattle.redo_undo.specs.Stores.{HasCheckpoint}
 use Rattle.engine.specs.Image.{log_under}
 use Rattle.engine.specs.Leaves.{LeavesTable}
@@ -37,7 +38,7 @@ use Rattle.redo_undo.proofs.RingNumbers.{skips_on, then_skips}
 use Rattle.std.specs.Prelude.{Ok, OnOk, Option, Result}
 use Rattle.analysis.specs.Open.{owed_for}
 use Rattle.analysis.specs.Table.{listed}
-use Rattle.site.proofs.Working.{calls_then, calls_failed, calls_answered, calls_refused, err_again}
+use Rattle.site.proofs.Working.{calls_then, calls_failed, calls_answered, calls_refused}
 use Rattle.redo_undo.proofs.Asking.{asks_then, asks_stopped}
 use Rattle.engine.proofs.restart.recover.Given.{Over}
 use Rattle.engine.proofs.restart.recover.Goals.{After-checkpoint}
@@ -46,23 +47,15 @@ use Rattle.engine.proofs.restart.recover.Goals as goal
 pub returns-in-Err-clause-recovers : goal.returns-in-Err-clause-recovers
 returns-in-Err-clause-recovers g c newest blocks table commits h =
     let old = g.S.Site.state c.args.site.now in
-    let mid = g.S.Site.state c.redo.new.site in
-    let k = c.args.opened.pages.flash.geometry in
-    let p = picture_under newest k old.image blocks in
+    let p = picture_under newest c.args.opened.pages.flash.geometry old.image blocks in
     let next = opened_next c.args.opened old newest blocks table commits h c.requires.may.going.sizes c.requires.empty in
     let some : 1 ≤ (rules c.args.opened.pages).groups = (let least = c.requires.may.going.pages_going.flash.limits.groups in omega (arith, least)) in
-    let two : Asks {T = Unit {0}} (Err c.in-Err.stop) (redo_works p ++ undo_works p.log) c.args.opened.pages c.redo.new.pages old mid = asks_stopped c.in-Err.stop (redo_works p) (undo_works p.log) _ _ old mid some (c.in-Err.ensures.asks newest blocks table commits h.master h.opened_is) in
-    let ends : Ends {T = Redone} (Err c.in-Err.stop) k old mid (LeavesTable k table commits old.told) = record {
-      any_moment = λ quiet. under_leaves_for newest _ _ _ table commits _ ((c.redo.ensures.keeps newest blocks table commits h.master h.opened_is).any_moment quiet);
-      quiet = (c.in-Err.ensures.keeps newest blocks table commits h.master h.opened_is).quiet;
-      worn_log = (c.in-Err.ensures.keeps newest blocks table commits h.master h.opened_is).worn_log;
-      worn = (c.in-Err.ensures.keeps newest blocks table commits h.master h.opened_is).worn;
-      readable = (c.in-Err.ensures.keeps newest blocks table commits h.master h.opened_is).readable;
-    } in
+    let two : StepsMachine {T = Unit {0}} (Err c.in-Err.stop) (redo_works p ++ undo_works p.log) c.args.opened.pages c.redo.new.pages old (g.S.Site.state c.redo.new.site) = asks_stopped c.in-Err.stop (redo_works p) (undo_works p.log) _ _ old _ some (c.in-Err.ensures.asks newest blocks table commits h.master h.opened_is) in
+    let keeps = c.in-Err.ensures.keeps newest blocks table commits h.master h.opened_is in
     record {
       restarted = tt;
-      ends = ends_failed ends;
-      numbers = λ quiet. restart_failed c.in-Err.stop _ k (log_under newest blocks) c.args.opened.log c.redo.new.log old mid 0 0 next (omega arith) (omega arith) ((c.in-Err.ensures.keeps newest blocks table commits h.master h.opened_is).numbers quiet);
+      ends = ends_failed (ends_leaving (under_leaves_for newest _ _ _ table commits _) keeps.ends);
+      numbers = λ quiet. restart_failed c.in-Err.stop _ _ (log_under newest blocks) c.args.opened.log c.redo.new.log old _ 0 0 next (omega arith) (omega arith) (keeps.numbers quiet);
       asks = from_stopped c.in-Err.stop _ (redo_works p ++ undo_works p.log) checkpoint_works _ _ _ _ some two;
       writes = writes_stopped c.in-Err.stop (redo_works p ++ undo_works p.log) checkpoint_works _ _ _ _ some two (fits_queue c.args.opened.pages old c.requires.may.going.pages_going h.opened_is.ready.pages);
     }
@@ -76,62 +69,46 @@ returns-then-sealed_end-owed-clause-recovers g c newest blocks table commits h =
     let owes = owed_found c.recovery_laws.ensures.one c.recovery_laws.ensures.unfinished c.recovery_laws.ensures.owed newest c.args.opened.pages.flash.geometry site.image blocks c.in-Ok.redone.found h.opened_is.sound read in
     let sizes = ap (λ (k : Geometry). k.blocks) c.in-Ok.ensures.works.going.sizes in
     let asked = ap (λ (k : Geometry). k.blocks) c.geometry-blocks.ensures in
-    let owed_is = c.owed-owed.ensures in
-    let full = c.if-sealed_end-owed.true in
-    let kept = c.kept.ensures in
-    let kept_is = c.redo.ensures.works.kept in
-    absurd (omega (arith, owes, holds.log_holds.room, holds.log_holds.rings.limits.blocks, sizes, asked, c.sealed_end.ensures, owed_is, full, kept, kept_is))
+    absurd (omega (arith, owes, holds.log_holds.room, holds.log_holds.rings.limits.blocks, sizes, asked, c.sealed_end.ensures, c.owed-owed.ensures, c.if-sealed_end-owed.true, c.kept.ensures, c.redo.ensures.works.kept))
 
 pub returns-in-Err-undo_all-clause-recovers : goal.returns-in-Err-undo_all-clause-recovers
 returns-in-Err-undo_all-clause-recovers g c newest blocks table commits h =
     let old = g.S.Site.state c.args.site.now in
     let mid = g.S.Site.state c.redo.new.site in
-    let k = c.args.opened.pages.flash.geometry in
-    let p = picture_under newest k old.image blocks in
+    let p = picture_under newest c.args.opened.pages.flash.geometry old.image blocks in
     let next = opened_next c.args.opened old newest blocks table commits h c.requires.may.going.sizes c.requires.empty in
     let some : 1 ≤ (rules c.args.opened.pages).groups = (let least = c.requires.may.going.pages_going.flash.limits.groups in omega (arith, least)) in
     let records = log_under newest blocks in
     let holds = c.in-Ok.ensures.holds newest blocks table commits h.master h.opened_is in
     let read = c.in-Ok.ensures.unfinished newest blocks table commits h.master h.opened_is in
     let none : has_tail c.redo.new.log ≡ false = no_tail_still c.args.opened.log c.redo.new.log c.requires.empty c.in-Ok.ensures.blocks c.in-Ok.ensures.rises in
-    let owes = owed_found c.recovery_laws.ensures.one c.recovery_laws.ensures.unfinished c.recovery_laws.ensures.owed newest k old.image blocks c.in-Ok.redone.found h.opened_is.sound read in
+    let owes = owed_found c.recovery_laws.ensures.one c.recovery_laws.ensures.unfinished c.recovery_laws.ensures.owed newest _ old.image blocks c.in-Ok.redone.found h.opened_is.sound read in
     let n = owed_for (listed c.in-Ok.redone.found.table) in
-    let und = g.S.Site.state c.undo_all.new.site in
     let calm = c.in-Ok.ensures.works.calls.stays_quiet h.opened_is.ready.blocks.honest in
-    let first : Ends {T = Redone} (Ok c.in-Ok.redone) k old mid (LeavesTable k table commits old.told) = ends_ok (λ quiet. under_leaves_for newest _ _ _ table commits _ ((c.redo.ensures.keeps newest blocks table commits h.master h.opened_is).any_moment quiet)) in
-    let second : Ends {T = Unit {0}} (Err c.in-Err-undo_all.stop) c.redo.new.pages.flash.geometry mid und (LeavesTable c.redo.new.pages.flash.geometry table commits mid.told) = record {
-      any_moment = λ quiet. under_leaves_for newest _ _ _ table commits _ ((c.undo_all.ensures.keeps newest records table commits none holds read).any_moment quiet);
-      quiet = (c.in-Err-undo_all.ensures.keeps newest records table commits none holds read).quiet;
-      worn_log = (c.in-Err-undo_all.ensures.keeps newest records table commits none holds read).worn_log;
-      worn = (c.in-Err-undo_all.ensures.keeps newest records table commits none holds read).worn;
-      readable = λ is. (c.in-Err-undo_all.ensures.keeps newest records table commits none holds read).readable (err_again c.in-Err-undo_all.stop Foreign is);
-    } in
+    let first = c.in-Ok.ensures.keeps newest blocks table commits h.master h.opened_is in
+    let second = c.in-Err-undo_all.ensures.keeps newest records table commits none holds read in
+    let asks = asks_then c.in-Ok.redone _ (redo_works p) (undo_works p.log) _ _ _ _ _ _ (c.in-Ok.ensures.asks newest blocks table commits h.master h.opened_is) (c.in-Err-undo_all.ensures.asks newest records table commits none holds read) in
     record {
       restarted = tt;
-      ends = ends_failed (ends_then calm c.redo.ensures.works.geometry first second);
+      ends = ends_failed (ends_then calm c.redo.ensures.works.geometry (ends_leaving (under_leaves_for newest _ _ _ table commits _) first.ends) (ends_leaving (under_leaves_for newest _ _ _ table commits _) second.ends));
       numbers = λ quiet.
-          let mine = skips_on (Err c.in-Err-undo_all.stop) c.redo.new.pages.flash.geometry k c.redo.new.log c.undo_all.new.log mid und n 0 c.redo.ensures.works.geometry ((c.in-Err-undo_all.ensures.keeps newest records table commits none holds read).numbers (calm quiet)) in
-          let two = then_skips (Err c.in-Err-undo_all.stop) c.in-Ok.redone k c.args.opened.log c.redo.new.log c.undo_all.new.log old mid und 0 0 n 0 n 0 ((c.in-Ok.ensures.keeps newest blocks table commits h.master h.opened_is).numbers quiet) mine (omega arith) (omega arith) in
-          restart_failed c.in-Err-undo_all.stop _ k records c.args.opened.log c.undo_all.new.log old und n 0 next (omega (arith, owes)) (omega arith) two;
-      asks = from_stopped c.in-Err-undo_all.stop _ (redo_works p ++ undo_works p.log) checkpoint_works _ _ _ _ some
-          (asks_then c.in-Ok.redone _ (redo_works p) (undo_works p.log) _ _ _ old mid und (c.in-Ok.ensures.asks newest blocks table commits h.master h.opened_is) (c.in-Err-undo_all.ensures.asks newest records table commits none holds read));
-      writes = writes_stopped c.in-Err-undo_all.stop (redo_works p ++ undo_works p.log) checkpoint_works _ _ _ _ some
-          (asks_then c.in-Ok.redone _ (redo_works p) (undo_works p.log) _ _ _ old mid und (c.in-Ok.ensures.asks newest blocks table commits h.master h.opened_is) (c.in-Err-undo_all.ensures.asks newest records table commits none holds read)) (fits_queue c.args.opened.pages old c.requires.may.going.pages_going h.opened_is.ready.pages);
+          let mine = skips_on (Err c.in-Err-undo_all.stop) c.redo.new.pages.flash.geometry _ c.redo.new.log c.undo_all.new.log mid _ n 0 c.redo.ensures.works.geometry (second.numbers (calm quiet)) in
+          let two = then_skips (Err c.in-Err-undo_all.stop) c.in-Ok.redone _ c.args.opened.log c.redo.new.log c.undo_all.new.log old mid _ 0 0 n 0 n 0 (first.numbers quiet) mine (omega arith) (omega arith) in
+          restart_failed c.in-Err-undo_all.stop _ _ records c.args.opened.log c.undo_all.new.log old _ n 0 next (omega (arith, owes)) (omega arith) two;
+      asks = from_stopped c.in-Err-undo_all.stop _ (redo_works p ++ undo_works p.log) checkpoint_works _ _ _ _ some asks;
+      writes = writes_stopped c.in-Err-undo_all.stop (redo_works p ++ undo_works p.log) checkpoint_works _ _ _ _ some asks (fits_queue c.args.opened.pages old c.requires.may.going.pages_going h.opened_is.ready.pages);
     }
 
 -- there are no more commits than blocks
 pub returns-then-commits-sealed_end-clause-recovers : goal.returns-then-commits-sealed_end-clause-recovers
 returns-then-commits-sealed_end-clause-recovers g c newest blocks table commits h =
-    let old = g.S.Site.state c.args.site.now in
     let records = log_under newest blocks in
     let holds = c.in-Ok.ensures.holds newest blocks table commits h.master h.opened_is in
     let read = c.in-Ok.ensures.unfinished newest blocks table commits h.master h.opened_is in
     let none : has_tail c.redo.new.log ≡ false = no_tail_still c.args.opened.log c.redo.new.log c.requires.empty c.in-Ok.ensures.blocks c.in-Ok.ensures.rises in
-    let und = g.S.Site.state c.undo_all.new.site in
     let undone = c.in-Ok-undo_all.ensures.undone newest records table commits none holds read in
-    let bounded = c.requires.may.going.log_going.usable.bounded in
-    let found = commits_found c.recovery_laws.ensures.commits c.args.opened old newest blocks table commits c.in-Ok.redone.found h (c.in-Ok.ensures.read newest blocks table commits h.master h.opened_is) bounded in
-    let few = commits_fit c.undo_all.new.log c.undo_all.new.pages und newest (records ++ undone.more) table commits undone.holds in
+    let found = commits_found c.recovery_laws.ensures.commits c.args.opened _ newest blocks table commits c.in-Ok.redone.found h (c.in-Ok.ensures.read newest blocks table commits h.master h.opened_is) c.requires.may.going.log_going.usable.bounded in
+    let few = commits_fit c.undo_all.new.log c.undo_all.new.pages _ newest (records ++ undone.more) table commits undone.holds in
     absurd (omega (arith, found, few, c.sealed_end-2.ensures, c.undo_all.ensures.commits, c.commits-commits.ensures.commits, c.if-commits-sealed_end.true))
 
 -- Behind undo a checkpoint is made, however that ends.
@@ -152,7 +129,7 @@ module _ (g : Over) (c : After-checkpoint g) (newest : Option Master) (blocks : 
   abbrev Behind : Result (Unit {0}) Stop → Type 0
   Behind r = Ends r k old new (LeavesTable k table commits old.told)
       × (IsQuiet old → SkipsNone r k c.args.opened.log c.checkpoint.new.self.log old new (owed (log_under newest blocks)) 1)
-      × Asks r ((redo_works p ++ undo_works p.log) ++ checkpoint_works) c.args.opened.pages c.checkpoint.new.self.pages old new
+      × StepsMachine r ((redo_works p ++ undo_works p.log) ++ checkpoint_works) c.args.opened.pages c.checkpoint.new.self.pages old new
       × ((x : Restarted) → x.store ≡ c.checkpoint.new.self → x.commits ≡ c.commits-commits.result → OnOk r (RestartedAs x new table commits))
 
   behind : (r : Result (Unit {0}) Stop) → c.checkpoint.result ≡ r → Behind r
@@ -166,25 +143,24 @@ module _ (g : Over) (c : After-checkpoint g) (newest : Option Master) (blocks : 
       let n = owed_for (listed c.in-Ok.redone.found.table) in
       let und = g.S.Site.state c.undo_all.new.site in
       let calm = c.in-Ok.ensures.works.calls.stays_quiet h.opened_is.ready.blocks.honest in
-      let first : Ends {T = Redone} (Ok c.in-Ok.redone) k old mid (LeavesTable k table commits old.told) = ends_ok (λ quiet. under_leaves_for newest _ _ _ table commits _ ((c.redo.ensures.keeps newest blocks table commits h.master h.opened_is).any_moment quiet)) in
+      let first = c.in-Ok.ensures.keeps newest blocks table commits h.master h.opened_is in
+      let second = c.in-Ok-undo_all.ensures.keeps newest records table commits none holds read in
       let undone = c.in-Ok-undo_all.ensures.undone newest records table commits none holds read in
-      let bounded = c.requires.may.going.log_going.usable.bounded in
-      let found = commits_found c.recovery_laws.ensures.commits c.args.opened old newest blocks table commits c.in-Ok.redone.found h (c.in-Ok.ensures.read newest blocks table commits h.master h.opened_is) bounded in
+      let found = commits_found c.recovery_laws.ensures.commits c.args.opened old newest blocks table commits c.in-Ok.redone.found h (c.in-Ok.ensures.read newest blocks table commits h.master h.opened_is) c.requires.may.going.log_going.usable.bounded in
       let all = records ++ undone.more in
       let counted : c.commits-commits.result ≡ commits = c.commits-commits.ensures.commits ∙ c.undo_all.ensures.commits ∙ found in
-      let held = subst (both.Holds c.undo_all.new.log c.undo_all.new.pages und newest all table) (sym counted) undone.holds in
-      let ring = finds_kept c.args.opened.masters old mid c.requires.may.shape ((c.in-Ok.ensures.keeps newest blocks table commits h.master h.opened_is).masters refl) h.masters in
-      let stands = finds_kept c.args.opened.masters mid und c.requires.may.shape ((c.in-Ok-undo_all.ensures.keeps newest records table commits none holds read).masters refl) ring in
+      let held = subst (both.Represents c.undo_all.new.log c.undo_all.new.pages und newest all table) (sym counted) undone.holds in
+      let ring = finds_kept c.args.opened.masters old mid c.requires.may.shape (first.masters refl) h.masters in
+      let stands = finds_kept c.args.opened.masters mid und c.requires.may.shape (second.masters refl) ring in
       let may = may_be_made c.args.opened.masters und all c.new.result stands undone.none c.new.ensures in
-      let k' = c.undo_all.new.pages.flash.geometry in
       let same = c.undo_all.ensures.works.geometry ∙ c.redo.ensures.works.geometry in
       let calm_und : IsQuiet old → IsQuiet und = λ quiet. c.in-Ok-undo_all.ensures.works.calls.stays_quiet holds.log_holds.ready.blocks.honest (calm quiet) in
       let keeps = c.checkpoint.ensures.keeps newest all table held may in
-      let second : Ends {T = Unit {0}} (Ok c.in-Ok-undo_all.field-0) c.redo.new.pages.flash.geometry mid und (LeavesTable c.redo.new.pages.flash.geometry table commits mid.told) = ends_ok (λ quiet. under_leaves_for newest _ _ _ table commits _ ((c.undo_all.ensures.keeps newest records table commits none holds read).any_moment quiet)) in
-      let third = subst (λ (i : ℕ). Ends c.checkpoint.result k' und new (LeavesTable k' table i und.told)) counted (ends_of keeps) in
+      let k' = c.undo_all.new.pages.flash.geometry in
+      let third = subst (λ (i : ℕ). Ends c.checkpoint.result k' und new (LeavesTable k' table i und.told)) counted keeps.ends in
       let skips : IsQuiet old → SkipsNone c.checkpoint.result k c.args.opened.log c.checkpoint.new.self.log old new (owed records) 1 = λ quiet.
-      let mine = skips_on (Ok c.in-Ok-undo_all.field-0) c.redo.new.pages.flash.geometry k c.redo.new.log c.undo_all.new.log mid und n 0 c.redo.ensures.works.geometry ((c.in-Ok-undo_all.ensures.keeps newest records table commits none holds read).numbers (calm quiet)) in
-      let two = then_skips (Ok c.in-Ok-undo_all.field-0) c.in-Ok.redone k c.args.opened.log c.redo.new.log c.undo_all.new.log old mid und 0 0 n 0 n 0 ((c.in-Ok.ensures.keeps newest blocks table commits h.master h.opened_is).numbers quiet) mine (omega arith) (omega arith) in
+      let mine = skips_on (Ok c.in-Ok-undo_all.field-0) c.redo.new.pages.flash.geometry k c.redo.new.log c.undo_all.new.log mid und n 0 c.redo.ensures.works.geometry (second.numbers (calm quiet)) in
+      let two = then_skips (Ok c.in-Ok-undo_all.field-0) c.in-Ok.redone k c.args.opened.log c.redo.new.log c.undo_all.new.log old mid und 0 0 n 0 n 0 (first.numbers quiet) mine (omega arith) (omega arith) in
       let last = skips_on c.checkpoint.result k' k c.undo_all.new.log c.checkpoint.new.self.log und new 0 1 same (keeps.numbers (calm_und quiet)) in
       then_skips c.checkpoint.result c.in-Ok-undo_all.field-0 k c.args.opened.log c.undo_all.new.log c.checkpoint.new.self.log old und new n 0 0 1
       (owed records) 1 two last (omega (arith, owes)) (omega arith) in
@@ -200,36 +176,34 @@ module _ (g : Over) (c : After-checkpoint g) (newest : Option Master) (blocks : 
       where_two _ _ _ c.checkpoint.result empty c.checkpoint.ensures.made (λ checkpoint made. restarted_as x new all table commits 0 undone.none
       (subst (λ (y : Store). HasCheckpoint y new all table commits []) (sym store) checkpoint)
       (let same = ap (λ (y : Store). y.made) store in omega (arith, same, made)) (are ∙ counted)) in
-      subst Behind result (ends_then calm_und same (ends_then calm c.redo.ensures.works.geometry first second) third, skips, asks, restarted)
+      subst Behind result (ends_then calm_und same (ends_then calm c.redo.ensures.works.geometry (ends_leaving (under_leaves_for newest _ _ _ table commits _) first.ends) (ends_leaving (under_leaves_for newest _ _ _ table commits _) second.ends)) third, skips, asks, restarted)
 
 pub returns-in-Ok-checkpoint-clause-recovers : goal.returns-in-Ok-checkpoint-clause-recovers
 returns-in-Ok-checkpoint-clause-recovers g c newest blocks table commits h =
-    let old = g.S.Site.state c.args.site.now in
     let s = (goal.at.returns-in-Ok-checkpoint-clause-recovers g c).After-checkpoint in
     let behind = behind g s newest blocks table commits h (Ok c.in-Ok-checkpoint.field-0) c.in-Ok-checkpoint.is in
-    let next = opened_next c.args.opened old newest blocks table commits h c.requires.may.going.sizes c.requires.empty in
+    let next = opened_next c.args.opened _ newest blocks table commits h c.requires.may.going.sizes c.requires.empty in
     record {
       restarted = behind.3 _ refl refl;
       ends = ends_answered behind.0;
       numbers = λ quiet. restart_done c.in-Ok-checkpoint.field-0 _ _ _ _ c.args.opened.log c.checkpoint.new.self.log _ _ _ next (omega arith) refl
           (behind.1 quiet);
       asks = from_ok c.in-Ok-checkpoint.field-0 _ _ _ _ _ _ _ _ refl (λ dev. refl) behind.2;
-      writes = behind.2.stages.writes (fits_queue c.args.opened.pages old c.requires.may.going.pages_going h.opened_is.ready.pages);
+      writes = behind.2.stages.writes (fits_queue c.args.opened.pages _ c.requires.may.going.pages_going h.opened_is.ready.pages);
     }
 
 pub returns-clause-recovers : goal.returns-clause-recovers
 returns-clause-recovers g c newest blocks table commits h =
-    let old = g.S.Site.state c.args.site.now in
     let s = (goal.at.returns-clause-recovers g c).After-checkpoint in
     let behind = behind g s newest blocks table commits h (Err c.in-Err-checkpoint.stop) c.in-Err-checkpoint.is in
-    let next = opened_next c.args.opened old newest blocks table commits h c.requires.may.going.sizes c.requires.empty in
+    let next = opened_next c.args.opened _ newest blocks table commits h c.requires.may.going.sizes c.requires.empty in
     record {
       restarted = tt;
       ends = ends_failed behind.0;
       numbers = λ quiet. restart_failed c.in-Err-checkpoint.stop _ _ _ c.args.opened.log c.checkpoint.new.self.log _ _ _ 1 next (omega arith) (omega arith)
           (behind.1 quiet);
       asks = from_err c.in-Err-checkpoint.stop _ _ _ _ _ _ behind.2;
-      writes = behind.2.stages.writes (fits_queue c.args.opened.pages old c.requires.may.going.pages_going h.opened_is.ready.pages);
+      writes = behind.2.stages.writes (fits_queue c.args.opened.pages _ c.requires.may.going.pages_going h.opened_is.ready.pages);
     }
 
 pub returns-in-Ok-checkpoint-clause-restarts : goal.returns-in-Ok-checkpoint-clause-restarts

@@ -1,4 +1,4 @@
-use Rattle.flash_cache.specs.Held.{start_reads}
+use Rattle.flash_cache.specs.Representation.{start_reads}
 use Rattle.engine.specs.Paging.{cache_on, restart_works}
 use Rattle.second_chance.specs.Machine.{rules_of}
 use Rattle.site.specs.declared.outside.Dev.TheVariants.{Log, Flash}
@@ -12,13 +12,14 @@ use Rattle.site.specs.State.{IsQuiet}
 use Rattle.site.specs.declared.geometry.Geometry.{Geometry}
 use Rattle.log_records.specs.Sound.{Means, commit_count}
 use Rattle.image_meaning.specs.Meaning.{picture_under}
-use Rattle.engine.specs.Going.{sizes_of}
+use Rattle.engine.specs.Invariant.{sizes_of}
 use Rattle.engine.specs.Image.{IsSound}
 use Rattle.engine.specs.Restarting.{IsReady, RestartedAs}
 use Rattle.engine.specs.declared.restart.Opened.{Opened}
 use Rattle.engine.specs.Leaves.{LeavesTable}
 use Rattle.engine.specs.Calls.{Ends}
-use Rattle.engine.proofs.Calling.{calls_stopped, calls_behind, ends_ok, ends_then}
+use Rattle.engine.proofs.Calling.{calls_stopped, calls_behind, ends_then}
+use Rattle.redo_undo.proofs.Endings.{ends_ok}
 use Rattle.site.proofs.Working.{calls_failed, err_again}
 use Rattle.engine.proofs.Openings.{stands_still}
 use Rattle.engine.proofs.RingCounts.{restart_unmoved, restart_behind}
@@ -29,15 +30,13 @@ pub returns : goal.returns
 returns g c =
     let old = g.S.Site.state c.args.site.now in
     let mid = g.S.Site.state c.open.new.site in
-    let new = g.S.Site.state c.recover.new.site in
     let behind = c.recover.ensures.restarts in
-    let flash = c.open.ensures.flash_reads in
     record {
       opens = λ honest k newest blocks table commits sound means.
           let same : c.in-Ok.geometry ≡ k = (c.in-Ok.ensures.found k sound.octets.limits sound.octets.lengths).1 in
           let ready : IsReady c.in-Ok-open.opened mid newest blocks table commits = c.in-Ok-open.ensures.ready honest newest blocks table commits
           (subst (λ (x : Geometry). IsSound newest x old.image blocks) (sym same) sound) (subst (λ (x : Geometry). Means (picture_under newest x old.image blocks) table commits) (sym same) means) in
-          if_ok_two c.recover.result (λ r. RestartedAs r new table commits) (λ r. sizes_of r.store ≡ c.in-Ok-open.opened.pages.flash.geometry) (λ r. RestartedAs r new table commits × (sizes_of r.store ≡ k))
+          if_ok_two c.recover.result (λ r. RestartedAs r _ table commits) (λ r. sizes_of r.store ≡ c.in-Ok-open.opened.pages.flash.geometry) (λ r. RestartedAs r _ table commits × (sizes_of r.store ≡ k))
           (λ r done sizes. (done, sizes ∙ c.in-Ok-open.ensures.sizes ∙ same)) (c.recover.ensures.recovers newest blocks table commits ready).restarted c.recover.ensures.sizes;
       ends = λ honest k table commits stands.
           let same : c.in-Ok.geometry ≡ k = (c.in-Ok.ensures.found k stands.stands.sound.octets.limits stands.stands.sound.octets.lengths).1 in
@@ -54,7 +53,7 @@ returns g c =
           let ready : IsReady c.in-Ok-open.opened mid newest blocks (table_of p.log p.pages) (commit_count p) = c.in-Ok-open.ensures.ready honest newest blocks (table_of p.log p.pages) (commit_count p) there (subst (λ (x : Geometry). Means (picture_under newest x old.image blocks) (table_of p.log p.pages) (commit_count p)) (sym same) means) in
           let unchanged = c.open.ensures.same honest in
           let quiet_mid : IsQuiet mid = unchanged.loose ∙ quiet in
-          restart_behind c.recover.result _ c.in-Ok-open.opened.pages.flash.geometry k _ old mid new (c.in-Ok-open.ensures.sizes ∙ same) unchanged.image ((c.recover.ensures.recovers newest blocks (table_of p.log p.pages) (commit_count p) ready).numbers quiet_mid);
+          restart_behind c.recover.result _ c.in-Ok-open.opened.pages.flash.geometry k _ old mid _ (c.in-Ok-open.ensures.sizes ∙ same) unchanged.image ((c.recover.ensures.recovers newest blocks (table_of p.log p.pages) (commit_count p) ready).numbers quiet_mid);
       asks = λ honest k newest blocks sound.
           let same : c.in-Ok.geometry ≡ k = (c.in-Ok.ensures.found k sound.octets.limits sound.octets.lengths).1 in
           let groups = ap (λ (x : Geometry). x.groups) same in
@@ -67,18 +66,17 @@ returns g c =
           from_found _ _ _ (rules_of c.args.pool k.groups) _ (restart_works p) _ (cache_on k old.image) (start_reads k) old mid
           (g.S.Site.state c.recover.new.site)
           (λ i. rules_of (c.in-Ok-open.ensures.pool i) (sizes i).groups) (λ i. restart_works (picture_under newest (sizes i) (unchanged.image i) blocks)) (c.in-Ok-open.ensures.cache honest newest blocks there ∙ ap (λ (x : Geometry). cache_on x old.image) same)
-          (omega (arith, flash, groups)) c.open.ensures.disk_reads (c.recover.ensures.recovers newest blocks (table_of p.log p.pages) (commit_count p)
+          (omega (arith, c.open.ensures.flash_reads, groups)) c.open.ensures.disk_reads (c.recover.ensures.recovers newest blocks (table_of p.log p.pages) (commit_count p)
           ready).asks;
       writes = λ honest quiet k newest blocks sound.
           let same : c.in-Ok.geometry ≡ k = (c.in-Ok.ensures.found k sound.octets.limits sound.octets.lengths).1 in
-          let least = sound.octets.limits.groups in
           let there = subst (λ (x : Geometry). IsSound newest x old.image blocks) (sym same) sound in
           let p = picture_under newest k old.image blocks in
           let means : Means (picture_under newest k old.image blocks) (table_of p.log p.pages) (commit_count p) = record { table_is = refl; count_is = refl } in
           let ready : IsReady c.in-Ok-open.opened mid newest blocks (table_of p.log p.pages) (commit_count p) = c.in-Ok-open.ensures.ready honest newest blocks (table_of p.log p.pages) (commit_count p) there (subst (λ (x : Geometry). Means (picture_under newest x old.image blocks) (table_of p.log p.pages) (commit_count p)) (sym same) means) in
           let sizes = c.in-Ok-open.ensures.sizes ∙ same in
           let unchanged = c.open.ensures.same honest in
-          writes_found c.works_add_up.ensures.rise k (rules_of c.args.pool k.groups) (restart_works p) c.in-Ok-open.opened.pages.flash.geometry (rules c.in-Ok-open.opened.pages) (restart_works (picture_under newest c.in-Ok-open.opened.pages.flash.geometry mid.image blocks)) (cache_of c.in-Ok-open.opened.pages) old mid new (omega (arith, least)) quiet unchanged sizes
+          writes_found c.works_add_up.ensures.rise k (rules_of c.args.pool k.groups) (restart_works p) c.in-Ok-open.opened.pages.flash.geometry (rules c.in-Ok-open.opened.pages) (restart_works (picture_under newest c.in-Ok-open.opened.pages.flash.geometry mid.image blocks)) (cache_of c.in-Ok-open.opened.pages) old mid _ (omega (arith, sound.octets.limits.groups)) quiet unchanged sizes
           (λ i. rules_of (c.in-Ok-open.ensures.pool i) (sizes i).groups) (λ i. restart_works (picture_under newest (sizes i) (unchanged.image i) blocks)) (c.in-Ok-open.ensures.cache honest newest blocks there ∙ ap (λ (x : Geometry). cache_on x old.image) same)
           ((c.recover.ensures.recovers newest blocks (table_of p.log p.pages) (commit_count p) ready).writes (unchanged.loose ∙ quiet));
       restarts =
@@ -98,8 +96,6 @@ returns g c =
 pub returns-in-Err-open : goal.returns-in-Err-open
 returns-in-Err-open g c =
     let old = g.S.Site.state c.args.site.now in
-    let stop = c.in-Err-open.stop in
-    let flash = c.open.ensures.flash_reads in
     record {
       opens = search rules;
       ends = λ honest k table commits stands.
@@ -108,20 +104,18 @@ returns-in-Err-open g c =
           record {
             any_moment = λ quiet. stands_still k old (g.S.Site.state c.open.new.site) table commits quiet unchanged stands;
             quiet = λ quiet other. unchanged.loose ∙ quiet;
-            worn_log = λ is. absurd (c.in-Err-open.ensures.unworn Log (err_again stop (Worn Log) is));
-            worn = λ is. absurd (c.in-Err-open.ensures.unworn Flash (err_again stop (Worn Flash) is));
-            readable = λ is. c.in-Err-open.ensures.readable honest stands.newest stands.stands.blocks (subst (λ (x : Geometry). IsSound stands.newest x old.image stands.stands.blocks) (sym same) stands.stands.sound) (err_again stop Foreign is);
+            worn_log = λ is. absurd (c.in-Err-open.ensures.unworn Log (err_again _ (Worn Log) is));
+            worn = λ is. absurd (c.in-Err-open.ensures.unworn Flash (err_again _ (Worn Flash) is));
+            readable = λ is. c.in-Err-open.ensures.readable honest stands.newest stands.stands.blocks (subst (λ (x : Geometry). IsSound stands.newest x old.image stands.stands.blocks) (sym same) stands.stands.sound) (err_again _ Foreign is);
           };
       numbers = λ honest quiet k newest blocks sound.
           restart_unmoved c.in-Err-open.stop _ k _ (g.S.Site.state c.args.site.now) (g.S.Site.state c.open.new.site) (c.open.ensures.same honest).image;
       asks = λ honest k newest blocks sound.
           let same : c.in-Ok.geometry ≡ k = (c.in-Ok.ensures.found k sound.octets.limits sound.octets.lengths).1 in
           let groups = ap (λ (x : Geometry). x.groups) same in
-          let least = sound.octets.limits.groups in
-          not_found c.works_add_up.ensures.rise c.in-Err-open.stop _ (rules_of c.args.pool k.groups) _ _ (start_reads k) _ _ (omega (arith, least)) (λ is. c.in-Err-open.ensures.unworn Flash (err_again c.in-Err-open.stop (Worn Flash) is)) (omega (arith, flash, groups)) c.open.ensures.disk_reads;
+          not_found c.works_add_up.ensures.rise c.in-Err-open.stop _ (rules_of c.args.pool k.groups) _ _ (start_reads k) _ _ (omega (arith, sound.octets.limits.groups)) (λ is. c.in-Err-open.ensures.unworn Flash (err_again c.in-Err-open.stop (Worn Flash) is)) (omega (arith, c.open.ensures.flash_reads, groups)) c.open.ensures.disk_reads;
       writes = λ honest quiet k newest blocks sound.
-          let least = sound.octets.limits.groups in
-          still_writes c.works_add_up.ensures.rise k (rules_of c.args.pool k.groups) (restart_works (picture_under newest k (g.S.Site.state c.args.site.now).image blocks)) (g.S.Site.state c.args.site.now) (g.S.Site.state c.open.new.site) (omega (arith, least)) quiet (c.open.ensures.same honest);
+          still_writes c.works_add_up.ensures.rise k (rules_of c.args.pool k.groups) (restart_works (picture_under newest k (g.S.Site.state c.args.site.now).image blocks)) (g.S.Site.state c.args.site.now) (g.S.Site.state c.open.new.site) (omega (arith, sound.octets.limits.groups)) quiet (c.open.ensures.same honest);
       restarts =
           record {
             calls = calls_failed (calls_stopped c.open.ensures.goes c.open.ensures.same c.in-Err-open.ensures.device c.in-Err-open.ensures.faults);

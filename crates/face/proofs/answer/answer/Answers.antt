@@ -6,7 +6,7 @@ use Rattle.site.specs.Moments.{EachMoment}
 use Rattle.site.specs.Laws.{holds_now, stays_honest}
 use Rattle.site.specs.Telling.{TellsPart}
 use Rattle.shell_text.specs.Texts.{reply_text}
-use Rattle.engine.specs.Going.{sizes_of}
+use Rattle.engine.specs.Invariant.{sizes_of}
 use Rattle.engine.specs.Listings.{listing_of}
 use Rattle.face.specs.declared.halt.Halt.TheVariants as halt
 use Rattle.face.specs.Run.{step, StandsFor}

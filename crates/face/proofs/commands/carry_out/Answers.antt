@@ -1,5 +1,5 @@
 use Rattle.face.proofs.Pagings.{listing_asks}
-use Rattle.redo_undo.specs.Works.{Asks}
+use Rattle.redo_undo.specs.MachineSteps.{StepsMachine}
 use Rattle.record_model.specs.Touches.{line_touches}
 use Rattle.std.proofs.Common.{◌≡◌, ◌∙◌, List, IfOk, OnOk, sym, ap, subst, true, []}
 use Rattle.site.specs.Moments.{LeavesOnly}
@@ -7,8 +7,8 @@ use Rattle.record_model.specs.declared.words.CacheLine.{CacheLine}
 use Rattle.record_model.specs.declared.words.Reply.TheVariants as reply
 use Rattle.record_model.specs.Run.{Line}
 use Rattle.record_model.specs.Step.{Outcome}
-use Rattle.engine.specs.Fits.{Fits}
-use Rattle.engine.specs.Going.{sizes_of}
+use Rattle.engine.specs.Representation.{Matches}
+use Rattle.engine.specs.Invariant.{sizes_of}
 use Rattle.engine.specs.Leaves.{LeavesEither}
 use Rattle.face.specs.Run.{line_checkpoints, step}
 use Rattle.face.proofs.Counted.{counts_idle}
@@ -32,8 +32,8 @@ returns-then-asks_for_listing-clause-reply g c s listing asked fits =
 pub returns-then-asks_for_listing-clause-after : goal.returns-then-asks_for_listing-clause-after
 returns-then-asks_for_listing-clause-after g c s listing asked fits =
     let asks = sym c.asks_for_listing.ensures ∙ c.if-asks_for_listing.true in
-    subst (λ (l : Line). OnOk c.cache.result (Fits c.args.engine.now (g.S.Site.state c.args.site.now) (step s l listing).after)) (sym (cache_line c.args.line asks))
-    (on_ok c.cache.result (Fits c.args.engine.now (g.S.Site.state c.args.site.now) s) fits)
+    subst (λ (l : Line). OnOk c.cache.result (Matches c.args.engine.now (g.S.Site.state c.args.site.now) (step s l listing).after)) (sym (cache_line c.args.line asks))
+    (on_ok c.cache.result (Matches c.args.engine.now (g.S.Site.state c.args.site.now) s) fits)
 
 pub returns-then-asks_for_listing-clause-any_moment : goal.returns-then-asks_for_listing-clause-any_moment
 returns-then-asks_for_listing-clause-any_moment g c s listing asked fits quiet =
@@ -48,7 +48,7 @@ returns-clause-reply g c s listing asked fits =
 
 pub returns-clause-after : goal.returns-clause-after
 returns-clause-after g c s listing asked fits =
-    subst (λ (o : Outcome). OnOk c.carry_out_plain.result (Fits c.carry_out_plain.new.engine (g.S.Site.state c.carry_out_plain.new.site) o.after))
+    subst (λ (o : Outcome). OnOk c.carry_out_plain.result (Matches c.carry_out_plain.new.engine (g.S.Site.state c.carry_out_plain.new.site) o.after))
     (sym (same_step s c.args.line listing (sym c.asks_for_listing.ensures ∙ c.if-asks_for_listing.false))) (c.carry_out_plain.ensures.after s fits)
 
 pub returns-clause-any_moment : goal.returns-clause-any_moment
@@ -60,7 +60,7 @@ returns-clause-any_moment g c s listing asked fits quiet =
 pub returns-then-asks_for_listing-clause-asks : goal.returns-then-asks_for_listing-clause-asks
 returns-then-asks_for_listing-clause-asks g c s fits =
     let asks = sym c.asks_for_listing.ensures ∙ c.if-asks_for_listing.true in
-    subst (λ (l : Line). Asks c.cache.result (line_touches true s l) c.args.engine.now.store.pages c.args.engine.now.store.pages (g.S.Site.state c.args.site.now) (g.S.Site.state c.args.site.now)) (sym (cache_line c.args.line asks))
+    subst (λ (l : Line). StepsMachine c.cache.result (line_touches true s l) c.args.engine.now.store.pages c.args.engine.now.store.pages (g.S.Site.state c.args.site.now) (g.S.Site.state c.args.site.now)) (sym (cache_line c.args.line asks))
     (listing_asks c.cache.result c.args.engine.now.store.pages (g.S.Site.state c.args.site.now) c.cache.ensures.stops)
 
 pub returns-then-asks_for_listing-clause-numbers : goal.returns-then-asks_for_listing-clause-numbers

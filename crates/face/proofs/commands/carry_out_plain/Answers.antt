@@ -1,12 +1,12 @@
 use Rattle.face.proofs.Pagings.{idle_line}
-use Rattle.redo_undo.specs.Works.{Asks}
+use Rattle.redo_undo.specs.MachineSteps.{StepsMachine}
 use Rattle.record_model.specs.Touches.{line_touches}
 use Rattle.std.proofs.Common.{◌≡◌, IfOk, OnOk, sym, ap, subst, ◌∙◌, true}
 use Rattle.std.specs.Prelude.{Some, []}
 use Rattle.site.specs.Moments.{LeavesOnly}
 use Rattle.record_model.specs.Run.{Line}
-use Rattle.engine.specs.Fits.{Fits}
-use Rattle.engine.specs.Going.{sizes_of}
+use Rattle.engine.specs.Representation.{Matches}
+use Rattle.engine.specs.Invariant.{sizes_of}
 use Rattle.engine.specs.Leaves.{LeavesEither}
 use Rattle.engine.specs.Numbers.{CountsOn}
 use Rattle.face.specs.Run.{line_checkpoints, step}
@@ -39,37 +39,37 @@ pub returns-in-Get-clause-reply : goal.returns-in-Get-clause-reply
 returns-in-Get-clause-reply g c s fits = subst (λ (l : Line). IfOk c.get.result (λ reply. reply ≡ (step s l []).reply)) (sym (c.in-Some.is ∙ ap Some c.in-Get.is)) ((c.get.ensures.answers s fits).reply)
 
 pub returns-in-Begin-clause-after : goal.returns-in-Begin-clause-after
-returns-in-Begin-clause-after g c s fits = subst (λ (l : Line). OnOk c.begin.result (Fits c.begin.new.self (g.S.Site.state c.begin.new.site) (step s l []).after)) (sym (c.in-Some.is ∙ ap Some c.in-Begin.is)) ((c.begin.ensures.answers s fits).does.after_fits)
+returns-in-Begin-clause-after g c s fits = subst (λ (l : Line). OnOk c.begin.result (Matches c.begin.new.self (g.S.Site.state c.begin.new.site) (step s l []).after)) (sym (c.in-Some.is ∙ ap Some c.in-Begin.is)) ((c.begin.ensures.answers s fits).does.after_fits)
 
 pub returns-in-Read-clause-after : goal.returns-in-Read-clause-after
-returns-in-Read-clause-after g c s fits = subst (λ (l : Line). OnOk c.read.result (Fits c.read.new.self (g.S.Site.state c.read.new.site) (step s l []).after)) (sym (c.in-Some.is ∙ ap Some c.in-Read.is)) ((c.read.ensures.answers s fits).does.after_fits)
+returns-in-Read-clause-after g c s fits = subst (λ (l : Line). OnOk c.read.result (Matches c.read.new.self (g.S.Site.state c.read.new.site) (step s l []).after)) (sym (c.in-Some.is ∙ ap Some c.in-Read.is)) ((c.read.ensures.answers s fits).does.after_fits)
 
 pub returns-in-Write-clause-after : goal.returns-in-Write-clause-after
-returns-in-Write-clause-after g c s fits = subst (λ (l : Line). OnOk c.write.result (Fits c.write.new.self (g.S.Site.state c.write.new.site) (step s l []).after)) (sym (c.in-Some.is ∙ ap Some c.in-Write.is)) ((c.write.ensures.answers s fits).does.after_fits)
+returns-in-Write-clause-after g c s fits = subst (λ (l : Line). OnOk c.write.result (Matches c.write.new.self (g.S.Site.state c.write.new.site) (step s l []).after)) (sym (c.in-Some.is ∙ ap Some c.in-Write.is)) ((c.write.ensures.answers s fits).does.after_fits)
 
 pub returns-in-Erase-clause-after : goal.returns-in-Erase-clause-after
-returns-in-Erase-clause-after g c s fits = subst (λ (l : Line). OnOk c.erase.result (Fits c.erase.new.self (g.S.Site.state c.erase.new.site) (step s l []).after)) (sym (c.in-Some.is ∙ ap Some c.in-Erase.is)) ((c.erase.ensures.answers s fits).does.after_fits)
+returns-in-Erase-clause-after g c s fits = subst (λ (l : Line). OnOk c.erase.result (Matches c.erase.new.self (g.S.Site.state c.erase.new.site) (step s l []).after)) (sym (c.in-Some.is ∙ ap Some c.in-Erase.is)) ((c.erase.ensures.answers s fits).does.after_fits)
 
 pub returns-in-Scan-clause-after : goal.returns-in-Scan-clause-after
-returns-in-Scan-clause-after g c s fits = subst (λ (l : Line). OnOk c.scan.result (Fits c.scan.new.self (g.S.Site.state c.scan.new.site) (step s l []).after)) (sym (c.in-Some.is ∙ ap Some c.in-Scan.is)) ((c.scan.ensures.answers s fits).does.after_fits)
+returns-in-Scan-clause-after g c s fits = subst (λ (l : Line). OnOk c.scan.result (Matches c.scan.new.self (g.S.Site.state c.scan.new.site) (step s l []).after)) (sym (c.in-Some.is ∙ ap Some c.in-Scan.is)) ((c.scan.ensures.answers s fits).does.after_fits)
 
 pub returns-in-Commit-clause-reply : goal.returns-in-Commit-clause-reply
 returns-in-Commit-clause-reply g c s fits = subst (λ (l : Line). IfOk c.commit.result (λ reply. reply ≡ (step s l []).reply)) (sym (c.in-Some.is ∙ ap Some c.in-Commit.is)) ((c.commit.ensures.answers s fits).reply)
 
 pub returns-in-Commit-clause-after : goal.returns-in-Commit-clause-after
-returns-in-Commit-clause-after g c s fits = subst (λ (l : Line). OnOk c.commit.result (Fits c.commit.new.self (g.S.Site.state c.commit.new.site) (step s l []).after)) (sym (c.in-Some.is ∙ ap Some c.in-Commit.is)) ((c.commit.ensures.answers s fits).does.after_fits)
+returns-in-Commit-clause-after g c s fits = subst (λ (l : Line). OnOk c.commit.result (Matches c.commit.new.self (g.S.Site.state c.commit.new.site) (step s l []).after)) (sym (c.in-Some.is ∙ ap Some c.in-Commit.is)) ((c.commit.ensures.answers s fits).does.after_fits)
 
 pub returns-in-Abort-clause-reply : goal.returns-in-Abort-clause-reply
 returns-in-Abort-clause-reply g c s fits = subst (λ (l : Line). IfOk c.abort.result (λ reply. reply ≡ (step s l []).reply)) (sym (c.in-Some.is ∙ ap Some c.in-Abort.is)) ((c.abort.ensures.answers s fits).reply)
 
 pub returns-in-Abort-clause-after : goal.returns-in-Abort-clause-after
-returns-in-Abort-clause-after g c s fits = subst (λ (l : Line). OnOk c.abort.result (Fits c.abort.new.self (g.S.Site.state c.abort.new.site) (step s l []).after)) (sym (c.in-Some.is ∙ ap Some c.in-Abort.is)) ((c.abort.ensures.answers s fits).does.after_fits)
+returns-in-Abort-clause-after g c s fits = subst (λ (l : Line). OnOk c.abort.result (Matches c.abort.new.self (g.S.Site.state c.abort.new.site) (step s l []).after)) (sym (c.in-Some.is ∙ ap Some c.in-Abort.is)) ((c.abort.ensures.answers s fits).does.after_fits)
 
 pub returns-in-Get-clause-after : goal.returns-in-Get-clause-after
-returns-in-Get-clause-after g c s fits = subst (λ (l : Line). OnOk c.get.result (Fits c.get.new.self (g.S.Site.state c.get.new.site) (step s l []).after)) (sym (c.in-Some.is ∙ ap Some c.in-Get.is)) ((c.get.ensures.answers s fits).does.after_fits)
+returns-in-Get-clause-after g c s fits = subst (λ (l : Line). OnOk c.get.result (Matches c.get.new.self (g.S.Site.state c.get.new.site) (step s l []).after)) (sym (c.in-Some.is ∙ ap Some c.in-Get.is)) ((c.get.ensures.answers s fits).does.after_fits)
 
 pub returns-in-Set-clause-after : goal.returns-in-Set-clause-after
-returns-in-Set-clause-after g c s fits = subst (λ (l : Line). OnOk c.set.result (Fits c.set.new.self (g.S.Site.state c.set.new.site) (step s l []).after)) (sym (c.in-Some.is ∙ ap Some c.in-Set.is)) ((c.set.ensures.answers s fits).does.after_fits)
+returns-in-Set-clause-after g c s fits = subst (λ (l : Line). OnOk c.set.result (Matches c.set.new.self (g.S.Site.state c.set.new.site) (step s l []).after)) (sym (c.in-Some.is ∙ ap Some c.in-Set.is)) ((c.set.ensures.answers s fits).does.after_fits)
 
 pub returns-in-Begin-clause-any_moment : goal.returns-in-Begin-clause-any_moment
 returns-in-Begin-clause-any_moment g c s fits quiet = table_stays (sizes_of c.args.engine.now.store) (g.S.Site.state c.args.site.now) (g.S.Site.state c.begin.new.site) s _ ((c.begin.ensures.answers s fits).does.any_moment quiet)
@@ -103,34 +103,34 @@ pub returns-in-Get-clause-any_moment : goal.returns-in-Get-clause-any_moment
 returns-in-Get-clause-any_moment g c s fits quiet = table_stays (sizes_of c.args.engine.now.store) (g.S.Site.state c.args.site.now) (g.S.Site.state c.get.new.site) s _ ((c.get.ensures.answers s fits).does.any_moment quiet)
 
 pub returns-in-Begin-clause-cause : goal.returns-in-Begin-clause-cause
-returns-in-Begin-clause-cause g c = fails_by c.begin.result c.args.engine.now (g.S.Site.state c.args.site.now) (g.S.Site.state c.begin.new.site) c.begin.ensures.serves.stops c.begin.ensures.serves.calls.device (λ s fits is. (c.begin.ensures.answers s fits).does.worn_log is) (λ s fits is. (c.begin.ensures.answers s fits).does.worn is) (λ is s fits. (c.begin.ensures.answers s fits).does.foreign is)
+returns-in-Begin-clause-cause g c = fails_by c.begin.result c.args.engine.now (g.S.Site.state c.args.site.now) (g.S.Site.state c.begin.new.site) c.begin.ensures.serves.stops c.begin.ensures.serves.calls.device (λ s fits is. (c.begin.ensures.answers s fits).does.worn_log is) (λ s fits is. (c.begin.ensures.answers s fits).does.worn is) (λ is s fits. (c.begin.ensures.answers s fits).does.readable is)
 
 pub returns-in-Checkpoint-clause-cause : goal.returns-in-Checkpoint-clause-cause
-returns-in-Checkpoint-clause-cause g c = fails_by c.checkpoint.result c.args.engine.now (g.S.Site.state c.args.site.now) (g.S.Site.state c.checkpoint.new.site) c.checkpoint.ensures.serves.stops c.checkpoint.ensures.serves.calls.device (λ s fits is. (c.checkpoint.ensures.answers s fits).does.worn_log is) (λ s fits is. (c.checkpoint.ensures.answers s fits).does.worn is) (λ is s fits. (c.checkpoint.ensures.answers s fits).does.foreign is)
+returns-in-Checkpoint-clause-cause g c = fails_by c.checkpoint.result c.args.engine.now (g.S.Site.state c.args.site.now) (g.S.Site.state c.checkpoint.new.site) c.checkpoint.ensures.serves.stops c.checkpoint.ensures.serves.calls.device (λ s fits is. (c.checkpoint.ensures.answers s fits).does.worn_log is) (λ s fits is. (c.checkpoint.ensures.answers s fits).does.worn is) (λ is s fits. (c.checkpoint.ensures.answers s fits).does.readable is)
 
 pub returns-in-Commit-clause-cause : goal.returns-in-Commit-clause-cause
 returns-in-Commit-clause-cause g c = log_fails c.commit.result c.args.engine.now (g.S.Site.state c.args.site.now) (g.S.Site.state c.commit.new.site) c.commit.ensures.stops c.commit.ensures.serves.calls.device (λ s fits is. (c.commit.ensures.answers s fits).does.worn_log is)
 
 pub returns-in-Read-clause-cause : goal.returns-in-Read-clause-cause
-returns-in-Read-clause-cause g c = fails_by c.read.result c.args.engine.now (g.S.Site.state c.args.site.now) (g.S.Site.state c.read.new.site) c.read.ensures.serves.stops c.read.ensures.serves.calls.device (λ s fits is. (c.read.ensures.answers s fits).does.worn_log is) (λ s fits is. (c.read.ensures.answers s fits).does.worn is) (λ is s fits. (c.read.ensures.answers s fits).does.foreign is)
+returns-in-Read-clause-cause g c = fails_by c.read.result c.args.engine.now (g.S.Site.state c.args.site.now) (g.S.Site.state c.read.new.site) c.read.ensures.serves.stops c.read.ensures.serves.calls.device (λ s fits is. (c.read.ensures.answers s fits).does.worn_log is) (λ s fits is. (c.read.ensures.answers s fits).does.worn is) (λ is s fits. (c.read.ensures.answers s fits).does.readable is)
 
 pub returns-in-Write-clause-cause : goal.returns-in-Write-clause-cause
-returns-in-Write-clause-cause g c = fails_by c.write.result c.args.engine.now (g.S.Site.state c.args.site.now) (g.S.Site.state c.write.new.site) c.write.ensures.serves.stops c.write.ensures.serves.calls.device (λ s fits is. (c.write.ensures.answers s fits).does.worn_log is) (λ s fits is. (c.write.ensures.answers s fits).does.worn is) (λ is s fits. (c.write.ensures.answers s fits).does.foreign is)
+returns-in-Write-clause-cause g c = fails_by c.write.result c.args.engine.now (g.S.Site.state c.args.site.now) (g.S.Site.state c.write.new.site) c.write.ensures.serves.stops c.write.ensures.serves.calls.device (λ s fits is. (c.write.ensures.answers s fits).does.worn_log is) (λ s fits is. (c.write.ensures.answers s fits).does.worn is) (λ is s fits. (c.write.ensures.answers s fits).does.readable is)
 
 pub returns-in-Erase-clause-cause : goal.returns-in-Erase-clause-cause
-returns-in-Erase-clause-cause g c = fails_by c.erase.result c.args.engine.now (g.S.Site.state c.args.site.now) (g.S.Site.state c.erase.new.site) c.erase.ensures.serves.stops c.erase.ensures.serves.calls.device (λ s fits is. (c.erase.ensures.answers s fits).does.worn_log is) (λ s fits is. (c.erase.ensures.answers s fits).does.worn is) (λ is s fits. (c.erase.ensures.answers s fits).does.foreign is)
+returns-in-Erase-clause-cause g c = fails_by c.erase.result c.args.engine.now (g.S.Site.state c.args.site.now) (g.S.Site.state c.erase.new.site) c.erase.ensures.serves.stops c.erase.ensures.serves.calls.device (λ s fits is. (c.erase.ensures.answers s fits).does.worn_log is) (λ s fits is. (c.erase.ensures.answers s fits).does.worn is) (λ is s fits. (c.erase.ensures.answers s fits).does.readable is)
 
 pub returns-in-Scan-clause-cause : goal.returns-in-Scan-clause-cause
-returns-in-Scan-clause-cause g c = fails_by c.scan.result c.args.engine.now (g.S.Site.state c.args.site.now) (g.S.Site.state c.scan.new.site) c.scan.ensures.serves.stops c.scan.ensures.serves.calls.device (λ s fits is. (c.scan.ensures.answers s fits).does.worn_log is) (λ s fits is. (c.scan.ensures.answers s fits).does.worn is) (λ is s fits. (c.scan.ensures.answers s fits).does.foreign is)
+returns-in-Scan-clause-cause g c = fails_by c.scan.result c.args.engine.now (g.S.Site.state c.args.site.now) (g.S.Site.state c.scan.new.site) c.scan.ensures.serves.stops c.scan.ensures.serves.calls.device (λ s fits is. (c.scan.ensures.answers s fits).does.worn_log is) (λ s fits is. (c.scan.ensures.answers s fits).does.worn is) (λ is s fits. (c.scan.ensures.answers s fits).does.readable is)
 
 pub returns-in-Abort-clause-cause : goal.returns-in-Abort-clause-cause
-returns-in-Abort-clause-cause g c = fails_by c.abort.result c.args.engine.now (g.S.Site.state c.args.site.now) (g.S.Site.state c.abort.new.site) c.abort.ensures.serves.stops c.abort.ensures.serves.calls.device (λ s fits is. (c.abort.ensures.answers s fits).does.worn_log is) (λ s fits is. (c.abort.ensures.answers s fits).does.worn is) (λ is s fits. (c.abort.ensures.answers s fits).does.foreign is)
+returns-in-Abort-clause-cause g c = fails_by c.abort.result c.args.engine.now (g.S.Site.state c.args.site.now) (g.S.Site.state c.abort.new.site) c.abort.ensures.serves.stops c.abort.ensures.serves.calls.device (λ s fits is. (c.abort.ensures.answers s fits).does.worn_log is) (λ s fits is. (c.abort.ensures.answers s fits).does.worn is) (λ is s fits. (c.abort.ensures.answers s fits).does.readable is)
 
 pub returns-in-Get-clause-cause : goal.returns-in-Get-clause-cause
-returns-in-Get-clause-cause g c = fails_by c.get.result c.args.engine.now (g.S.Site.state c.args.site.now) (g.S.Site.state c.get.new.site) c.get.ensures.serves.stops c.get.ensures.serves.calls.device (λ s fits is. (c.get.ensures.answers s fits).does.worn_log is) (λ s fits is. (c.get.ensures.answers s fits).does.worn is) (λ is s fits. (c.get.ensures.answers s fits).does.foreign is)
+returns-in-Get-clause-cause g c = fails_by c.get.result c.args.engine.now (g.S.Site.state c.args.site.now) (g.S.Site.state c.get.new.site) c.get.ensures.serves.stops c.get.ensures.serves.calls.device (λ s fits is. (c.get.ensures.answers s fits).does.worn_log is) (λ s fits is. (c.get.ensures.answers s fits).does.worn is) (λ is s fits. (c.get.ensures.answers s fits).does.readable is)
 
 pub returns-in-Set-clause-cause : goal.returns-in-Set-clause-cause
-returns-in-Set-clause-cause g c = fails_by c.set.result c.args.engine.now (g.S.Site.state c.args.site.now) (g.S.Site.state c.set.new.site) c.set.ensures.serves.stops c.set.ensures.serves.calls.device (λ s fits is. (c.set.ensures.answers s fits).does.worn_log is) (λ s fits is. (c.set.ensures.answers s fits).does.worn is) (λ is s fits. (c.set.ensures.answers s fits).does.foreign is)
+returns-in-Set-clause-cause g c = fails_by c.set.result c.args.engine.now (g.S.Site.state c.args.site.now) (g.S.Site.state c.set.new.site) c.set.ensures.serves.stops c.set.ensures.serves.calls.device (λ s fits is. (c.set.ensures.answers s fits).does.worn_log is) (λ s fits is. (c.set.ensures.answers s fits).does.worn is) (λ is s fits. (c.set.ensures.answers s fits).does.readable is)
 
 pub returns-in-Stat-clause-reply : goal.returns-in-Stat-clause-reply
 returns-in-Stat-clause-reply g c s fits = c.stat.ensures s (g.S.Site.state c.args.site.now) fits ∙ (λ i. (step s (sym (c.in-Some.is ∙ ap Some c.in-Stat.is) i) []).reply)
@@ -143,39 +143,39 @@ returns-in-Quit-clause-any_moment g c s fits quiet = no_change (sizes_of c.args.
 
 pub returns-in-Begin-clause-asks : goal.returns-in-Begin-clause-asks
 returns-in-Begin-clause-asks g c s fits =
-    subst (λ (l : Line). Asks c.begin.result (line_touches true s l) c.args.engine.now.store.pages c.begin.new.self.store.pages (g.S.Site.state c.args.site.now) (g.S.Site.state c.begin.new.site)) (sym (c.in-Some.is ∙ ap Some c.in-Begin.is)) ((c.begin.ensures.answers s fits).asks)
+    subst (λ (l : Line). StepsMachine c.begin.result (line_touches true s l) c.args.engine.now.store.pages c.begin.new.self.store.pages (g.S.Site.state c.args.site.now) (g.S.Site.state c.begin.new.site)) (sym (c.in-Some.is ∙ ap Some c.in-Begin.is)) ((c.begin.ensures.answers s fits).asks)
 
 pub returns-in-Read-clause-asks : goal.returns-in-Read-clause-asks
 returns-in-Read-clause-asks g c s fits =
-    subst (λ (l : Line). Asks c.read.result (line_touches true s l) c.args.engine.now.store.pages c.read.new.self.store.pages (g.S.Site.state c.args.site.now) (g.S.Site.state c.read.new.site)) (sym (c.in-Some.is ∙ ap Some c.in-Read.is)) ((c.read.ensures.answers s fits).asks)
+    subst (λ (l : Line). StepsMachine c.read.result (line_touches true s l) c.args.engine.now.store.pages c.read.new.self.store.pages (g.S.Site.state c.args.site.now) (g.S.Site.state c.read.new.site)) (sym (c.in-Some.is ∙ ap Some c.in-Read.is)) ((c.read.ensures.answers s fits).asks)
 
 pub returns-in-Write-clause-asks : goal.returns-in-Write-clause-asks
 returns-in-Write-clause-asks g c s fits =
-    subst (λ (l : Line). Asks c.write.result (line_touches true s l) c.args.engine.now.store.pages c.write.new.self.store.pages (g.S.Site.state c.args.site.now) (g.S.Site.state c.write.new.site)) (sym (c.in-Some.is ∙ ap Some c.in-Write.is)) ((c.write.ensures.answers s fits).asks)
+    subst (λ (l : Line). StepsMachine c.write.result (line_touches true s l) c.args.engine.now.store.pages c.write.new.self.store.pages (g.S.Site.state c.args.site.now) (g.S.Site.state c.write.new.site)) (sym (c.in-Some.is ∙ ap Some c.in-Write.is)) ((c.write.ensures.answers s fits).asks)
 
 pub returns-in-Erase-clause-asks : goal.returns-in-Erase-clause-asks
 returns-in-Erase-clause-asks g c s fits =
-    subst (λ (l : Line). Asks c.erase.result (line_touches true s l) c.args.engine.now.store.pages c.erase.new.self.store.pages (g.S.Site.state c.args.site.now) (g.S.Site.state c.erase.new.site)) (sym (c.in-Some.is ∙ ap Some c.in-Erase.is)) ((c.erase.ensures.answers s fits).asks)
+    subst (λ (l : Line). StepsMachine c.erase.result (line_touches true s l) c.args.engine.now.store.pages c.erase.new.self.store.pages (g.S.Site.state c.args.site.now) (g.S.Site.state c.erase.new.site)) (sym (c.in-Some.is ∙ ap Some c.in-Erase.is)) ((c.erase.ensures.answers s fits).asks)
 
 pub returns-in-Scan-clause-asks : goal.returns-in-Scan-clause-asks
 returns-in-Scan-clause-asks g c s fits =
-    subst (λ (l : Line). Asks c.scan.result (line_touches true s l) c.args.engine.now.store.pages c.scan.new.self.store.pages (g.S.Site.state c.args.site.now) (g.S.Site.state c.scan.new.site)) (sym (c.in-Some.is ∙ ap Some c.in-Scan.is)) ((c.scan.ensures.answers s fits).asks)
+    subst (λ (l : Line). StepsMachine c.scan.result (line_touches true s l) c.args.engine.now.store.pages c.scan.new.self.store.pages (g.S.Site.state c.args.site.now) (g.S.Site.state c.scan.new.site)) (sym (c.in-Some.is ∙ ap Some c.in-Scan.is)) ((c.scan.ensures.answers s fits).asks)
 
 pub returns-in-Commit-clause-asks : goal.returns-in-Commit-clause-asks
 returns-in-Commit-clause-asks g c s fits =
-    subst (λ (l : Line). Asks c.commit.result (line_touches true s l) c.args.engine.now.store.pages c.commit.new.self.store.pages (g.S.Site.state c.args.site.now) (g.S.Site.state c.commit.new.site)) (sym (c.in-Some.is ∙ ap Some c.in-Commit.is)) ((c.commit.ensures.answers s fits).asks)
+    subst (λ (l : Line). StepsMachine c.commit.result (line_touches true s l) c.args.engine.now.store.pages c.commit.new.self.store.pages (g.S.Site.state c.args.site.now) (g.S.Site.state c.commit.new.site)) (sym (c.in-Some.is ∙ ap Some c.in-Commit.is)) ((c.commit.ensures.answers s fits).asks)
 
 pub returns-in-Abort-clause-asks : goal.returns-in-Abort-clause-asks
 returns-in-Abort-clause-asks g c s fits =
-    subst (λ (l : Line). Asks c.abort.result (line_touches true s l) c.args.engine.now.store.pages c.abort.new.self.store.pages (g.S.Site.state c.args.site.now) (g.S.Site.state c.abort.new.site)) (sym (c.in-Some.is ∙ ap Some c.in-Abort.is)) ((c.abort.ensures.answers s fits).asks)
+    subst (λ (l : Line). StepsMachine c.abort.result (line_touches true s l) c.args.engine.now.store.pages c.abort.new.self.store.pages (g.S.Site.state c.args.site.now) (g.S.Site.state c.abort.new.site)) (sym (c.in-Some.is ∙ ap Some c.in-Abort.is)) ((c.abort.ensures.answers s fits).asks)
 
 pub returns-in-Get-clause-asks : goal.returns-in-Get-clause-asks
 returns-in-Get-clause-asks g c s fits =
-    subst (λ (l : Line). Asks c.get.result (line_touches true s l) c.args.engine.now.store.pages c.get.new.self.store.pages (g.S.Site.state c.args.site.now) (g.S.Site.state c.get.new.site)) (sym (c.in-Some.is ∙ ap Some c.in-Get.is)) ((c.get.ensures.answers s fits).asks)
+    subst (λ (l : Line). StepsMachine c.get.result (line_touches true s l) c.args.engine.now.store.pages c.get.new.self.store.pages (g.S.Site.state c.args.site.now) (g.S.Site.state c.get.new.site)) (sym (c.in-Some.is ∙ ap Some c.in-Get.is)) ((c.get.ensures.answers s fits).asks)
 
 pub returns-in-Set-clause-asks : goal.returns-in-Set-clause-asks
 returns-in-Set-clause-asks g c s fits =
-    subst (λ (l : Line). Asks c.set.result (line_touches true s l) c.args.engine.now.store.pages c.set.new.self.store.pages (g.S.Site.state c.args.site.now) (g.S.Site.state c.set.new.site)) (sym (c.in-Some.is ∙ ap Some c.in-Set.is)) ((c.set.ensures.answers s fits).asks)
+    subst (λ (l : Line). StepsMachine c.set.result (line_touches true s l) c.args.engine.now.store.pages c.set.new.self.store.pages (g.S.Site.state c.args.site.now) (g.S.Site.state c.set.new.site)) (sym (c.in-Some.is ∙ ap Some c.in-Set.is)) ((c.set.ensures.answers s fits).asks)
 
 pub returns-in-Stat-clause-asks : goal.returns-in-Stat-clause-asks
 returns-in-Stat-clause-asks g c s fits = idle_line _ _ c.args.engine.now.store.pages _ (ap (line_touches true s) (c.in-Some.is ∙ ap Some c.in-Stat.is))
@@ -187,11 +187,11 @@ pub returns-in-Checkpoint-clause-reply : goal.returns-in-Checkpoint-clause-reply
 returns-in-Checkpoint-clause-reply g c s fits = subst (λ (l : Line). IfOk c.checkpoint.result (λ reply. reply ≡ (step s l []).reply)) (sym (c.in-Some.is ∙ ap Some c.in-Checkpoint.is)) ((c.checkpoint.ensures.answers s fits).reply)
 
 pub returns-in-Checkpoint-clause-after : goal.returns-in-Checkpoint-clause-after
-returns-in-Checkpoint-clause-after g c s fits = subst (λ (l : Line). OnOk c.checkpoint.result (Fits c.checkpoint.new.self (g.S.Site.state c.checkpoint.new.site) (step s l []).after)) (sym (c.in-Some.is ∙ ap Some c.in-Checkpoint.is)) ((c.checkpoint.ensures.answers s fits).does.after_fits)
+returns-in-Checkpoint-clause-after g c s fits = subst (λ (l : Line). OnOk c.checkpoint.result (Matches c.checkpoint.new.self (g.S.Site.state c.checkpoint.new.site) (step s l []).after)) (sym (c.in-Some.is ∙ ap Some c.in-Checkpoint.is)) ((c.checkpoint.ensures.answers s fits).does.after_fits)
 
 pub returns-in-Checkpoint-clause-asks : goal.returns-in-Checkpoint-clause-asks
 returns-in-Checkpoint-clause-asks g c s fits =
-    subst (λ (l : Line). Asks c.checkpoint.result (line_touches true s l) c.args.engine.now.store.pages c.checkpoint.new.self.store.pages (g.S.Site.state c.args.site.now) (g.S.Site.state c.checkpoint.new.site)) (sym (c.in-Some.is ∙ ap Some c.in-Checkpoint.is)) ((c.checkpoint.ensures.answers s fits).asks)
+    subst (λ (l : Line). StepsMachine c.checkpoint.result (line_touches true s l) c.args.engine.now.store.pages c.checkpoint.new.self.store.pages (g.S.Site.state c.args.site.now) (g.S.Site.state c.checkpoint.new.site)) (sym (c.in-Some.is ∙ ap Some c.in-Checkpoint.is)) ((c.checkpoint.ensures.answers s fits).asks)
 
 pub returns-in-Checkpoint-clause-any_moment : goal.returns-in-Checkpoint-clause-any_moment
 returns-in-Checkpoint-clause-any_moment g c s fits quiet = table_stays (sizes_of c.args.engine.now.store) (g.S.Site.state c.args.site.now) (g.S.Site.state c.checkpoint.new.site) s _ ((c.checkpoint.ensures.answers s fits).does.any_moment quiet)

@@ -1,9 +1,9 @@
 use Rattle.std.proofs.Common.{◌∙◌, ap, refl, sym, true≢false, []}
-use Rattle.engine.specs.Going.{sizes_of}
+use Rattle.engine.specs.Invariant.{sizes_of}
 use Rattle.face.specs.declared.halt.Halt.TheVariants as halt
 use Rattle.face.proofs.Writings.{tells_none}
 use Rattle.face.proofs.Counted.{counts_err, counts_line, counts_then}
-use Rattle.face.proofs.Courses.{last_line, leaves_line, serves_line}
+use Rattle.face.proofs.UntoldLines.{last_line, leaves_line, serves_line}
 use Rattle.face.proofs.Pagings.{serves_ok, serves_err}
 use Rattle.face.proofs.load.carry_on.Goals as goal
 

@@ -6,9 +6,9 @@ use Rattle.record_model.specs.Run.{Line, turns}
 use Rattle.workload.specs.Generator.{following, generated}
 use Rattle.face.specs.Loads.{CarriesFirst, CarriesOut}
 use Rattle.face.specs.Workload.{found_in, get_line, get_lines, is_value}
-use Rattle.face.proofs.Courses.{carries_all, carries_more, carries_none, carries_some, carries_with}
-use Rattle.face.proofs.Stated.{front_lines}
-use Rattle.face.proofs.Tallies.{is_get, found_more, one_line_more, one_most}
+use Rattle.face.proofs.UntoldLines.{carries_all, carries_more, carries_none, carries_some, carries_with}
+use Rattle.face.proofs.LinesBeforeQuit.{front_lines}
+use Rattle.face.proofs.LoadCounts.{is_get, found_more, one_line_more, one_most}
 use Rattle.face.proofs.load.make_gets.Goals as goal
 
 pub loop-get-init : goal.loop-get-init

@@ -7,9 +7,9 @@ use Rattle.workload.specs.Generator.{following, generated}
 use Rattle.face.specs.declared.load.Made.{Made}
 use Rattle.face.specs.Loads.{CarriesFirst, CarriesOut, HasMade}
 use Rattle.face.specs.Workload.{set_line, set_lines}
-use Rattle.face.proofs.Courses.{carries_all, carries_more, carries_none, carries_some, carries_with}
-use Rattle.face.proofs.Stated.{front_lines}
-use Rattle.face.proofs.Tallies.{is_set, made_more, one_line_more, one_most}
+use Rattle.face.proofs.UntoldLines.{carries_all, carries_more, carries_none, carries_some, carries_with}
+use Rattle.face.proofs.LinesBeforeQuit.{front_lines}
+use Rattle.face.proofs.LoadCounts.{is_set, made_more, one_line_more, one_most}
 use Rattle.face.proofs.load.make_sets.Goals as goal
 
 pub loop-set-init : goal.loop-set-init

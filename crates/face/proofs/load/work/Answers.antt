@@ -8,11 +8,11 @@ use Rattle.face.specs.Loads.{CarriesFirst, CarriesOut, HasMade}
 use Rattle.face.specs.Range.{run_of}
 use Rattle.face.specs.Run.{after_lines}
 use Rattle.face.specs.Workload.{found_in, get_lines, set_lines}
-use Rattle.face.proofs.Courses.{all_carried, carries_more, carries_on, carries_with, some_carried}
+use Rattle.face.proofs.UntoldLines.{all_carried, carries_more, carries_on, carries_with, some_carried}
 use Rattle.face.proofs.Ends.{answer_cause, answer_takes_nothing}
 use Rattle.face.proofs.Faults.{begins}
 use Rattle.face.proofs.Loadings.{load_finished, load_never_opened, load_stopped}
-use Rattle.face.proofs.Tallies.{has_counted}
+use Rattle.face.proofs.LoadCounts.{has_counted}
 use Rattle.face.proofs.load.work.Goals as goal
 
 pub returns-in-Err-clause-works : goal.returns-in-Err-clause-works

@@ -1,6 +1,6 @@
 use Rattle.std.proofs.Common.{◌-◌, ◌≤◌, IsTrue}
 use Rattle.site.specs.State.{content_of}
-use Rattle.site.specs.Calls.{Goes, IsUnchanged}
+use Rattle.site.specs.Calls.{Preserves, IsUnchanged}
 use Rattle.face.specs.New.{AreZero}
 use Rattle.face.specs.Causes.{SameFaults}
 use Rattle.face.proofs.new_database.find_nonzero.Given as goal
@@ -11,7 +11,7 @@ invariant-loop-at g l =
     let now = g.S.Site.state l.site in
     record {
       at : l.at ≤ l.len;
-      goes : Goes old now;
+      goes : Preserves old now;
       faults : SameFaults old now;
       same : IsTrue old.honest → IsUnchanged old now;
       zeros : IsTrue old.honest → AreZero (content_of l.dev old.image) 0 l.at;

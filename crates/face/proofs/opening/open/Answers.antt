@@ -14,7 +14,7 @@ use Rattle.shell_text.specs.Texts.{open_text}
 use Rattle.face.specs.Texts.{status_of}
 use Rattle.face.specs.declared.halt.Halt.TheVariants as halt
 use Rattle.face.proofs.Meanings.{stands_by, opens_where_it_stands}
-use Rattle.face.proofs.Works.{not_opened, opening_lost, opened}
+use Rattle.face.proofs.RunsSoFar.{not_opened, opening_lost, opened}
 use Rattle.face.proofs.Logs.{goes_on, still_fits}
 use Rattle.face.proofs.CommandLaws.{start_cause}
 use Rattle.face.proofs.opening.open.Goals as goal

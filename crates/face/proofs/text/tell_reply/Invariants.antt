@@ -1,5 +1,5 @@
 use Rattle.std.proofs.Common.{◌≡◌, ◌++◌, IsTrue}
-use Rattle.site.specs.Calls.{Goes, SameReads}
+use Rattle.site.specs.Calls.{Preserves, SameReads}
 use Rattle.site.specs.Moments.{EachMoment}
 use Rattle.site.specs.Telling.{TellsPart, SameDevices}
 use Rattle.shell_text.specs.Texts.{reply_text, reply_lines}
@@ -12,7 +12,7 @@ invariant-loop-place g l =
     let old = g.S.Site.state l.fn.site in
     let now = g.S.Site.state l.site in
     record {
-      goes : Goes old now;
+      goes : Preserves old now;
       faults : SameFaults old now;
       reads : SameReads old now;
       same : IsTrue old.honest → SameDevices old now;

@@ -22,7 +22,7 @@ use Rattle.face.proofs.Cuts.{Cut, no_cut, cut_more, cut_stays, line_is, cut_few_
 use Rattle.face.proofs.Ends.{lists_nothing, never_opened, taking_failed, finished, answer_failed, heard_end, line_heard, quitted, taking_cause, answer_takes_nothing, answer_cause}
 use Rattle.face.proofs.Waits.{answers_none, answers_next, answers_still}
 use Rattle.face.proofs.Listed.{with_line, going_before, answers_before, is_asked, left_after, listed_next}
-use Rattle.face.proofs.Works.{begun_after, moved, cut_short, goes_on}
+use Rattle.face.proofs.RunsSoFar.{begun_after, moved, cut_short, goes_on}
 use Rattle.face.proofs.Logs.{still_fits, goes_on as engine_goes_on}
 use Rattle.face.proofs.top.work.Goals as goal
 

@@ -3,13 +3,13 @@ use Rattle.checkpoint.specs.declared.master.Master.{Master}
 use Rattle.site.specs.declared.geometry.Geometry.{Geometry}
 use Rattle.record_model.specs.State.{State, Content}
 use Rattle.engine.specs.Image.{IsSound, Stands, log_under}
-use Rattle.engine.specs.Fits.{Fits}
-use Rattle.site.specs.Calls.{Goes}
+use Rattle.engine.specs.Representation.{Matches}
+use Rattle.site.specs.Calls.{Preserves}
 use Rattle.face.specs.Going.{IsUnderWay, IsPaged, IsCounted}
 use Rattle.face.specs.Run.{Run, Begins, first_lines}
 use Rattle.face.specs.Range.{AsksNoMore}
 use Rattle.log_records.specs.declared.log_record.LogRecord.{LogRecord}
-use Rattle.engine.specs.Going.{MayGoOn, sizes_of}
+use Rattle.engine.specs.Invariant.{Invariant, sizes_of}
 use Rattle.face.specs.Lines.{IsSource}
 use Rattle.face.proofs.Cuts.{Cut}
 use Rattle.face.specs.Causes.{SameFaults}
@@ -20,12 +20,12 @@ invariant-loop-line g l =
     let old = g.S.Site.state l.fn.site in
     let now = g.S.Site.state l.site in
     record {
-      goes : Goes old now;
+      goes : Preserves old now;
       faults : SameFaults old now;
       source : IsSource l.source;
-      engine : MayGoOn l.engine now;
+      engine : Invariant l.engine now;
       cut : IsTrue old.honest → Cut old.input.left l.source now l._line;
-      fits : IsTrue old.honest → (g : Geometry) (table : List Content) (commits : ℕ) → Stands g old.image table commits → ((s : State) × Fits l.engine now s) × (sizes_of l.engine.store ≡ g);
+      fits : IsTrue old.honest → (g : Geometry) (table : List Content) (commits : ℕ) → Stands g old.image table commits → ((s : State) × Matches l.engine now s) × (sizes_of l.engine.store ≡ g);
       under_way : IsUnderWay l.pool old now l.engine l._line;
       paged : (run : Run) → Begins run old → (newest : Option Master) (blocks : List (List LogRecord)) → IsSound newest run.geometry old.image blocks → IsPaged l.pool run newest old.image blocks l.engine l._line;
       reads : (run : Run) → Begins run old → AsksNoMore l.pool (first_lines run l._line) old now;

@@ -1,5 +1,5 @@
 use Rattle.std.proofs.Common.{◌≡◌, ◌<◌, IsTrue, length}
-use Rattle.site.specs.Calls.{Goes, SameReads}
+use Rattle.site.specs.Calls.{Preserves, SameReads}
 use Rattle.site.specs.declared.geometry.Geometry.{Geometry}
 use Rattle.workload.specs.Scripts.{lives_of}
 use Rattle.face.specs.Causes.{SameFaults}
@@ -12,7 +12,7 @@ invariant-loop-place g l =
     let old = g.S.Site.state l.fn.site in
     let now = g.S.Site.state l.site in
     record {
-      goes : Goes old now;
+      goes : Preserves old now;
       devices : IsTrue old.honest → LeavesDevices old now;
       left : IsTrue old.honest → now.input ≡ old.input;
       reads : SameReads old now;

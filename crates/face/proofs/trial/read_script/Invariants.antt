@@ -1,5 +1,5 @@
 use Rattle.std.proofs.Common.{◌≡◌, ◌≤◌, ◌-◌, ◌++◌, IsTrue, length}
-use Rattle.site.specs.Calls.{Goes, SameReads}
+use Rattle.site.specs.Calls.{Preserves, SameReads}
 use Rattle.face.specs.Causes.{SameFaults}
 use Rattle.face.specs.Lines.{HearsOnly}
 use Rattle.face.proofs.trial.read_script.Given as goal
@@ -9,7 +9,7 @@ invariant-loop-script g l =
     let old = g.S.Site.state l.fn.site in
     let now = g.S.Site.state l.site in
     record {
-      goes : Goes old now;
+      goes : Preserves old now;
       few : length l.script.items ≤ 65536;
       all : IsTrue old.honest → l.script.items ++ now.input.left ≡ old.input.left;
       same : IsTrue old.honest → HearsOnly old now;

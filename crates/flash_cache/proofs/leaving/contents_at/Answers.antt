@@ -3,7 +3,7 @@ use Rattle.std.proofs.lemmas.List.{length-append}
 use Rattle.site.specs.State.{State, Image}
 use Rattle.site.specs.Laws.{stays_honest, goes_in_sequence, unchanged_in_sequence}
 use Rattle.sealed_ring.specs.Ring.{hi_of, unit_at}
-use Rattle.sealed_ring.specs.Ready.{region, units_in, Fits as RingFits}
+use Rattle.sealed_ring.specs.Ready.{region, units_in, Matches as RingFits}
 use Rattle.flash_cache.specs.Leaving.{page_at}
 use Rattle.flash_cache.proofs.Gathering.{mapped_more}
 use Rattle.flash_cache.proofs.leaving.contents_at.Goals as goal

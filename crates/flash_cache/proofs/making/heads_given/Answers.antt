@@ -2,10 +2,11 @@ use Rattle.std.proofs.Common.{rules, ◌≡◌, ◌<◌, ◌^◌, ℕ, List, [],
 use Rattle.std.specs.Prelude.{slice_set}
 use Rattle.std.proofs.lemmas.List.{get_or_default, take_all, length-take-le}
 use Rattle.std.specs.List.{AllByRecursion}
+use Rattle.std_lemmas.proofs.AllOf.{all_push}
 use Rattle.byte_fields.specs.declared.frame_head.FrameHead.{FrameHead}
 use Rattle.frame_group.specs.Groups.{Frame, IsFrame, heads_of, lsn_of}
 use Rattle.flash_cache.specs.Pushed.{frames_given}
-use Rattle.flash_cache.proofs.Given.{given_before, frame_at_place, same_lsn, length-given, one_more, all_more}
+use Rattle.flash_cache.proofs.Given.{given_before, frame_at_place, same_lsn, length-given, one_more}
 use Rattle.flash_cache.proofs.Heads.{next_head}
 use Rattle.flash_cache.proofs.making.heads_given.Goals as goal
 
@@ -32,7 +33,7 @@ loop-index-preserved c =
           ∙ ap heads_of (sym more)
           ∙ ap (λ (k : ℕ). heads_of (given_before pages changed contents k)) (sym (add-one n));
       are_frames = subst (λ (k : ℕ). AllByRecursion IsFrame (given_before pages changed contents k)) (sym (add-one n))
-          (subst (AllByRecursion IsFrame) (sym more) (all_more IsFrame so_far frame c.loop-index.invariant.are_frames (record {
+          (subst (AllByRecursion IsFrame) (sym more) (all_push IsFrame so_far frame c.loop-index.invariant.are_frames (record {
             size = ap length (sym taken) ∙ ap length (sym c.bytes-octets.ensures.octets) ∙ c.bytes-octets.ensures.size;
             fits = ((let low : get_or pages n 0 < 4294967296 = search rules in omega (arith, low)), subst (λ (l : ℕ). l < 2 ^ 64) lsn (let low = c.lsn.type_inv in omega (arith, low)));
           })));

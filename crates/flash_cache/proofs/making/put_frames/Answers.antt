@@ -1,12 +1,12 @@
 use Rattle.std.proofs.Common.{◌≡◌, ◌+◌, ◌<◌, ◌≤◌, ℕ, List, [], ◌∷◌, ◌++◌, length, get_or, take, sym, ◌∙◌, ap, subst, arith, append_assoc, length-append}
 use Rattle.std.proofs.lemmas.List.{get_or_default, take_all, take_more, length-take-le}
 use Rattle.std.specs.List.{AllByRecursion}
+use Rattle.std_lemmas.proofs.AllOf.{all_push}
 use Rattle.byte_fields.specs.declared.frame_head.FrameHead.{FrameHead}
 use Rattle.byte_fields.specs.FrameHeads.{blank}
 use Rattle.frame_group.specs.Groups.{Frame, IsFrame, group, frame_of, lsn_of}
 use Rattle.flash_cache.specs.Leaving.{frames_with}
 use Rattle.flash_cache.specs.Pushed.{no_frame}
-use Rattle.flash_cache.proofs.Given.{all_more}
 use Rattle.flash_cache.proofs.Heads.{is_with, is_with_all}
 use Rattle.flash_cache.proofs.making.put_frames.Goals as goal
 
@@ -42,7 +42,7 @@ loop-index-preserved c =
           ∙ ap (λ (f : Frame). group ((before ++ take n frames) ++ f ∷ [])) own
           ∙ ap group (append_assoc before (take n frames) (get_or frames n no_frame ∷ []))
           ∙ ap (λ (l : List Frame). group (before ++ l)) (sym more);
-      are_frames = subst (AllByRecursion IsFrame) (sym more) (all_more IsFrame (take n frames) (get_or frames n no_frame) c.loop-index.invariant.are_frames (subst IsFrame own c.put_frame.ensures.frame));
+      are_frames = subst (AllByRecursion IsFrame) (sym more) (all_push IsFrame (take n frames) (get_or frames n no_frame) c.loop-index.invariant.are_frames (subst IsFrame own c.put_frame.ensures.frame));
     }
 
 whole : (heads : List FrameHead) (contents : List (List ℕ)) (n : ℕ) → length (frames_with heads contents) ≤ n → take n (frames_with heads contents) ≡ frames_with heads contents

@@ -2,7 +2,7 @@ use Rattle.std.proofs.Common.{rules, ◌≡◌, ◌-◌, ◌≤◌, ◌<◌, ℕ
 use Rattle.std.specs.Prelude.{Err}
 use Rattle.site.specs.declared.geometry.Geometry.{Geometry}
 use Rattle.site.specs.State.{State, Image}
-use Rattle.log_store.specs.Held.{Finds, block_on}
+use Rattle.log_store.specs.Representation.{Finds, block_on}
 use Rattle.image_check.specs.Octets.{IsBlockOn}
 use Rattle.image_check.proofs.BlocksJudged.{finds_later, going_later, one_is_not, one_is}
 use Rattle.image_check.proofs.blocks.rule_blocks.Goals as goal

@@ -1,6 +1,6 @@
-use Rattle.std.proofs.Common.{◌≡◌, ◌+◌, inl, inr, ℕ, Bool, not, List, true, false, true≢false, get_or, drop, Some, Ok, Err, refl, sym, ap, ◌∙◌, subst, arith}
+use Rattle.std.proofs.Common.{◌≡◌, ◌+◌, inl, inr, ℕ, List, true, false, true≢false, get_or, drop, Some, Ok, Err, refl, sym, ap, ◌∙◌, subst, arith}
 use Rattle.std.specs.Prelude.{slice_get}
-use Rattle.std.proofs.lemmas.Bool.{cases_Bool, not-true}
+use Rattle.std.proofs.lemmas.Bool.{cases_Bool, not-true, not-false}
 use Rattle.site.specs.State.{State, Image}
 use Rattle.site.specs.Laws.{stays_honest}
 use Rattle.site.proofs.Working.{looks_then}
@@ -8,16 +8,12 @@ use Rattle.byte_fields.specs.declared.frame_head.FrameHead.{FrameHead}
 use Rattle.byte_fields.specs.FrameHeads.{blank}
 use Rattle.frame_group.specs.Groups.{Frame, head_of, heads_of}
 use Rattle.tail_rebuild.specs.Standing.{group_on}
-use Rattle.flash_cache.specs.Held.{disk_on}
+use Rattle.flash_cache.specs.Representation.{disk_on}
 use Rattle.image_check.specs.Octets.{AreGroups}
 use Rattle.image_check.specs.Framing.{has_frame, IsNamedFrom}
 use Rattle.image_check.proofs.Lasting.{found_later, may_read_later}
 use Rattle.image_check.proofs.CleanOnes.{head_there, octets_there, page_exists, present_there}
 use Rattle.image_check.proofs.clean.is_clean_frame.Goals as goal
-
-is_present : (b : Bool) → not b ≡ false → b ≡ true
-is_present true is = refl
-is_present false is = absurd (true≢false is)
 
 -- the head that was read is that of a frame there
 own : (heads : List FrameHead) (frames : List Frame) (i : ℕ) (frame : Frame) → heads ≡ heads_of frames → slice_get frames i ≡ Some frame → get_or heads i blank ≡ head_of frame
@@ -37,7 +33,7 @@ returns-then-head-clause-clean g c frames honest found groups on is = (
 
 pub returns-then-head-geometry-clause-clean : goal.returns-then-head-geometry-clause-clean
 returns-then-head-geometry-clause-clean g c frames honest found groups on is =
-    let frame = present_there c.args.geometry.now _ frames c.args.heads.now c.args.index on is c.requires.index (is_present _ c.if-not-head.false) in
+    let frame = present_there c.args.geometry.now _ frames c.args.heads.now c.args.index on is c.requires.index (not-false _ c.if-not-head.false) in
     let exists = page_exists c.args.geometry.now _ frames c.args.index frame.0 on frame.1 in
     let page : (get_or c.args.heads.now c.args.index blank).page ≡ frame.0.page = ap (λ (h : FrameHead). h.page) (own c.args.heads.now frames c.args.index frame.0 is frame.1) in
     absurd (omega (arith, exists, page, c.if-head-geometry.true))
@@ -79,7 +75,7 @@ returns-in-Ok-is_named_from-clause-clean g c frames honest found groups on is =
       λ clean. elim (cases_Bool c.in-Ok-is_named_from.named) [
         | inl there ↦ there
         | inr off ↦
-            let f = present_there geometry _ frames c.args.heads.now c.args.index on is c.requires.index (is_present _ c.if-not-head.false) in
+            let f = present_there geometry _ frames c.args.heads.now c.args.index on is c.requires.index (not-false _ c.if-not-head.false) in
             let mine = own c.args.heads.now frames c.args.index f.0 is f.1 in
             let page : head.page ≡ f.0.page = ap (λ (h : FrameHead). h.page) mine in
             let calm : f.0.dirty ≡ false = sym (ap (λ (h : FrameHead). h.dirty) mine) ∙ c.if-head.false in

@@ -2,7 +2,7 @@ use Rattle.std.proofs.Common.{List}
 use Rattle.std.specs.Prelude.{Ok}
 use Rattle.log_records.specs.declared.log_record.LogRecord.{LogRecord}
 use Rattle.log_records.specs.Log.{log_from}
-use Rattle.log_store.specs.Held.{MayGoOn, Finds, HasBlocks}
+use Rattle.log_store.specs.Representation.{Invariant, Finds, HasBlocks}
 use Rattle.site.specs.Work.{OnlyReads}
 use Rattle.image_check.specs.Unended.{AreLeft}
 use Rattle.image_check.specs.Walking.{MayWalk, to_go}
@@ -16,7 +16,7 @@ invariant-loop-held g l =
     let old = g.S.Site.state l.fn.site in
     let now = g.S.Site.state l.site in
     record {
-      going : MayGoOn l.log now;
+      going : Invariant l.log now;
       walks : MayWalk l.log l.walk;
       heard : (blocks : List (List LogRecord)) → Finds l.log old → HasBlocks l.log.geometry l.master.kept blocks old.image →
           Rule4 (picture_of (record { g = l.log.geometry; master = l.master; blocks = blocks }) old.image) → AreLeft (log_from l.master.kept blocks) l.left.left.items →

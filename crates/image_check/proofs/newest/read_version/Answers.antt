@@ -1,8 +1,8 @@
 use Rattle.std.proofs.Common.{◌≡◌, ◌+◌, ◌-◌, ◌*◌, rules, ℕ, length, take, drop, sym, ap, ◌∙◌, subst, arith}
+use Rattle.std.proofs.lemmas.Result.{on_ok_weaker}
 use Rattle.sealed_ring.specs.declared.slots.Shape.{Shape}
 use Rattle.sealed_ring.specs.Ring.{IsLive, unit_at}
 use Rattle.site.specs.State.{State}
-use Rattle.site.proofs.Working.{ok_as}
 use Rattle.image_changes.specs.Rings.{units_on}
 use Rattle.image_check.proofs.NewestRead.{disk_version, frame_version}
 use Rattle.image_check.proofs.newest.read_version.Goals as goal
@@ -12,7 +12,7 @@ returns-in_default-clause-version g c honest found groups shows =
     let geometry = c.args.geometry.now in
     let old : State = g.S.Site.state c.args.site.now in
     let some = c.requires.may_read.sizes.limits.groups in
-    ok_as c.read_page.result _ _ (λ read. read ∙ disk_version geometry old.image c.args.frames.now c.args.page (omega (arith, some)) groups shows (sym c.in_default.is ∙ c.newest.ensures.newest)) (c.read_page.ensures.read honest)
+    on_ok_weaker c.read_page.result (λ read. read ∙ disk_version geometry old.image c.args.frames.now c.args.page (omega (arith, some)) groups shows (sym c.in_default.is ∙ c.newest.ensures.newest)) (c.read_page.ensures.read honest)
 
 pub read_part-requires-clause-live : goal.read_part-requires-clause-live
 read_part-requires-clause-live g c =
@@ -31,7 +31,7 @@ returns-clause-version g c honest found groups shows =
     let at = 128 + 4096 * place.index in
     let some = c.requires.may_read.sizes.limits.groups in
     let long : length c.args.into.now ≡ 4096 = search rules in
-    ok_as c.read_part.result _ _ (λ read. read
+    on_ok_weaker c.read_part.result (λ read. read
     ∙ ap (λ (n : ℕ). take n (drop at (unit_at c.args.rings.now.groups.shape (units_on c.args.rings.now.groups.shape old.image) place.group))) long
     ∙ ap (λ (s : Shape). take 4096 (drop at (unit_at s (units_on s old.image) place.group))) c.requires.may_read.groups_shape
     ∙ frame_version geometry old.image c.args.frames.now c.args.page (omega (arith, some)) groups shows place (sym c.in-Some.is ∙ c.newest.ensures.newest))

@@ -2,14 +2,15 @@ use Rattle.std.proofs.Common.{◌≡◌, IsTrue, sym, ◌∙◌, subst}
 use Rattle.std.specs.Prelude.{Ok, Err}
 use Rattle.site.specs.State.{State, Image}
 use Rattle.site.specs.Laws.{stays_honest, goes_in_sequence}
-use Rattle.site.specs.Calls.{Goes}
+use Rattle.site.specs.Calls.{Preserves}
 use Rattle.sealed_ring.specs.declared.slots.Shape.{Shape}
 use Rattle.sealed_ring.specs.Ring.{IsRing}
 use Rattle.sealed_ring.specs.Ready.{region}
 use Rattle.image_changes.specs.Rings.{master_shape, log_shape, group_shape}
 use Rattle.site.proofs.Working.{looks_then, looks_failed, looks_answered}
 use Rattle.image_check.specs.declared.rings.Rings.{Rings}
-use Rattle.image_check.proofs.Lasting.{judged_some, usable_some, shape_some, usable_later, fits_later, sizes_later}
+use Rattle.image_check.proofs.Lasting.{judged_some, usable_some, shape_some, fits_later, sizes_later}
+use Rattle.sealed_ring.proofs.Stays.{usable_later}
 use Rattle.image_check.proofs.rings.rule_rings.Goals as goal
 
 pub returns-clause-rings : goal.returns-clause-rings
@@ -53,10 +54,10 @@ returns-clause-may_read g c =
     let s2 : State = g.S.Site.state c.judge-2.new.site in
     let s3 : State = g.S.Site.state c.judge-3.new.site in
     let s4 : State = g.S.Site.state c.judge-4.new.site in
-    let g1 : Goes s0 s1 = c.in-Ok-Some.ensures.reads.goes in
-    let g4 : Goes s3 s4 = c.in-Ok-Some-judge-3.ensures.reads.goes in
-    let g3 : Goes s2 s4 = goes_in_sequence s2 s3 s4 c.in-Ok-Some-judge-2.ensures.reads.goes g4 in
-    let g2 : Goes s1 s4 = goes_in_sequence s1 s2 s4 c.in-Ok-Some-judge.ensures.reads.goes g3 in
+    let g1 : Preserves s0 s1 = c.in-Ok-Some.ensures.reads.goes in
+    let g4 : Preserves s3 s4 = c.in-Ok-Some-judge-3.ensures.reads.goes in
+    let g3 : Preserves s2 s4 = goes_in_sequence s2 s3 s4 c.in-Ok-Some-judge-2.ensures.reads.goes g4 in
+    let g2 : Preserves s1 s4 = goes_in_sequence s1 s2 s4 c.in-Ok-Some-judge.ensures.reads.goes g3 in
     record {
       sizes = sizes_later c.args.geometry.now s0 s4 (goes_in_sequence s0 s1 s4 g1 g2) c.requires;
       masters = usable_later c.in-Ok-Some.ring s1 s4 g2 (usable_some c.in-Ok-Some.field-0 c.in-Ok-Some.ring s1 c.in-Ok-Some.field-0-is c.in-Ok-Some.ensures.usable);

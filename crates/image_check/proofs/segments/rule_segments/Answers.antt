@@ -3,7 +3,7 @@ use Rattle.site.specs.State.{State, Image}
 use Rattle.site.specs.Laws.{stays_honest}
 use Rattle.sealed_ring.specs.declared.slots.Shape.{Shape}
 use Rattle.sealed_ring.specs.Ring.{IsLive, unit_at, hi_of}
-use Rattle.sealed_ring.specs.Ready.{region, units_in, Fits}
+use Rattle.sealed_ring.specs.Ready.{region, units_in, Matches}
 use Rattle.image_changes.specs.Rings.{segment_shape}
 use Rattle.byte_fields.specs.declared.frame_head.FrameHead.{FrameHead}
 use Rattle.tail_rebuild.specs.Standing.{segment_on}
@@ -22,7 +22,7 @@ returns-then-not-is_segment_on-clause-segments g c honest found =
     let same : now.image ≡ old.image = (reads.same honest).image in
     let honest_now : IsTrue now.honest = stays_honest old now reads.goes honest in
     let shape : ring.shape ≡ segment_shape geometry = c.requires.segments_shape in
-    let fits : Fits ring now = fits_later ring old now same found.segments in
+    let fits : Matches ring now = fits_later ring old now same found.segments in
     let groups = c.requires.sizes.limits.groups in
     let slots : ring.shape.slots ≡ geometry.groups / 4 + 3 = ap (λ (s : Shape). s.slots) shape in
     let room : ring.shape.room ≡ 512 = ap (λ (s : Shape). s.room) shape in
@@ -55,7 +55,7 @@ loop-segment-preserved g c =
           let same : now.image ≡ old.image = (reads.same honest).image in
           let honest_now : IsTrue now.honest = stays_honest old now reads.goes honest in
           let shape : ring.shape ≡ segment_shape geometry = c.requires.segments_shape in
-          let fits : Fits ring now = fits_later ring old now same found.segments in
+          let fits : Matches ring now = fits_later ring old now same found.segments in
           let slots : ring.shape.slots ≡ geometry.groups / 4 + 3 = ap (λ (s : Shape). s.slots) shape in
           let room : ring.shape.room ≡ 512 = ap (λ (s : Shape). s.room) shape in
           let whole : 512 ≡ ring.shape.room = sym room in

@@ -2,7 +2,7 @@ use Rattle.std.proofs.Common.{List}
 use Rattle.std.specs.Prelude.{Ok}
 use Rattle.log_records.specs.declared.log_record.LogRecord.{LogRecord}
 use Rattle.log_records.specs.Log.{log_from}
-use Rattle.log_store.specs.Held.{MayGoOn, Finds, HasBlocks}
+use Rattle.log_store.specs.Representation.{Invariant, Finds, HasBlocks}
 use Rattle.site.specs.Work.{OnlyReads}
 use Rattle.image_check.specs.Walking.{MayWalk, to_go}
 use Rattle.image_check.specs.Unended.{AreLeft}
@@ -15,7 +15,7 @@ invariant-loop-strays g l =
     let old = g.S.Site.state l.fn.site in
     let now = g.S.Site.state l.site in
     record {
-      going : MayGoOn l.log now;
+      going : Invariant l.log now;
       walks : MayWalk l.log l.walk;
       heard : (blocks : List (List LogRecord)) → Finds l.log old → HasBlocks l.log.geometry l.kept blocks old.image → AreLeft (log_from l.kept blocks) l.left.left.items →
           (w : Walked l.walk l.log old.image (log_from l.kept blocks)) × AreStrays (log_from l.kept blocks) w.done l.strays.txns.items;

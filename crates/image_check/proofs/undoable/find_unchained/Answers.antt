@@ -5,7 +5,7 @@ use Rattle.std.proofs.lemmas.List.{take_all}
 use Rattle.site.specs.State.{State}
 use Rattle.log_records.specs.Log.{log_from, entries_of}
 use Rattle.log_records.specs.Sound.{IsLoserChain}
-use Rattle.log_store.specs.Held.{HasBlocks}
+use Rattle.log_store.specs.Representation.{HasBlocks}
 use Rattle.image_check.specs.declared.unfinished.Left.{Left}
 use Rattle.image_check.proofs.BlocksJudged.{finds_later, going_later}
 use Rattle.image_check.proofs.HeldOnes.{has_is}

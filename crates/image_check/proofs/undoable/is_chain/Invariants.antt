@@ -5,7 +5,7 @@ use Rattle.log_records.specs.declared.log_record.LogRecord.{LogRecord}
 use Rattle.log_records.specs.Log.{log_from, entries_of}
 use Rattle.log_records.specs.Unfinished.{losers}
 use Rattle.log_records.specs.Sound.{HaveBegunBefore}
-use Rattle.log_store.specs.Held.{MayGoOn, Finds, HasBlocks}
+use Rattle.log_store.specs.Representation.{Invariant, Finds, HasBlocks}
 use Rattle.site.specs.Work.{OnlyReads}
 use Rattle.image_check.specs.Walking.{MayWalk, to_go}
 use Rattle.image_check.specs.Chaining.{IsKept}
@@ -17,7 +17,7 @@ invariant-loop-chain g l =
     let old = g.S.Site.state l.fn.site in
     let now = g.S.Site.state l.site in
     record {
-      going : MayGoOn l.log now;
+      going : Invariant l.log now;
       walks : MayWalk l.log l.walk;
       heard : (blocks : List (List LogRecord)) → Finds l.log old → HasBlocks l.log.geometry l.kept blocks old.image → HaveBegunBefore (log_from l.kept blocks) →
           list_any (λ t. t == l.txn) (losers (log_from l.kept blocks)) ≡ true →

@@ -2,7 +2,7 @@ use Rattle.std.proofs.Common.{◌≡◌, ◌==◌, ℕ, true≢false, List, sym,
 use Rattle.std.specs.List.{list_any}
 use Rattle.site.specs.State.{State}
 use Rattle.log_records.specs.Log.{Entry, log_from}
-use Rattle.log_store.specs.Held.{HasBlocks}
+use Rattle.log_store.specs.Representation.{HasBlocks}
 use Rattle.image_check.specs.Chaining.{AreStrays}
 use Rattle.image_check.specs.Verdict.{picture_of}
 use Rattle.image_check.proofs.BlocksJudged.{finds_later, going_later}

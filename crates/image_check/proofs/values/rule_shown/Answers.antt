@@ -4,7 +4,7 @@ use Rattle.site.specs.declared.geometry.Geometry.{Geometry}
 use Rattle.site.specs.State.{State, Image}
 use Rattle.site.proofs.Working.{looks_then}
 use Rattle.second_chance.specs.Queue.{Queue}
-use Rattle.log_store.specs.Held.{HasBlocks}
+use Rattle.log_store.specs.Representation.{HasBlocks}
 use Rattle.image_check.specs.Octets.{AreGroups, AreVersions}
 use Rattle.image_check.specs.Findings.{AreFound}
 use Rattle.image_check.specs.Newest.{ShowsFrames}

@@ -5,7 +5,7 @@ use Rattle.site.specs.declared.geometry.Geometry.{Geometry}
 use Rattle.site.specs.State.{State, Image}
 use Rattle.site.proofs.Working.{looks_then, looks_answered, looks_failed}
 use Rattle.log_records.specs.Log.{Entry, Version, table_of, log_from}
-use Rattle.log_store.specs.Held.{HasBlocks}
+use Rattle.log_store.specs.Representation.{HasBlocks}
 use Rattle.image_meaning.specs.Meaning.{versions_on}
 use Rattle.image_check.specs.declared.place.Place.{Place}
 use Rattle.image_check.specs.declared.values.Logged.{Logged}

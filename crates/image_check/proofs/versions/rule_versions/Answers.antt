@@ -3,7 +3,7 @@ use Rattle.std.proofs.lemmas.Bool.{cases_eq}
 use Rattle.site.specs.State.{State, Image}
 use Rattle.site.specs.Laws.{stays_honest}
 use Rattle.slotted_page.specs.Layout.{IsSound}
-use Rattle.flash_cache.specs.Held.{version_on}
+use Rattle.flash_cache.specs.Representation.{version_on}
 use Rattle.image_check.specs.Octets.{AreGroups}
 use Rattle.image_check.proofs.Lasting.{found_later, may_read_later}
 use Rattle.image_check.proofs.versions.rule_versions.Goals as goal

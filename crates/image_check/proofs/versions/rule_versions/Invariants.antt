@@ -1,7 +1,7 @@
 use Rattle.std.proofs.Common.{ℕ, ◌<◌, IsTrue}
 use Rattle.std.specs.Prelude.{Ok}
 use Rattle.slotted_page.specs.Layout.{IsSound}
-use Rattle.flash_cache.specs.Held.{version_on}
+use Rattle.flash_cache.specs.Representation.{version_on}
 use Rattle.site.specs.Work.{OnlyReads}
 use Rattle.image_check.specs.Octets.{AreGroups}
 use Rattle.image_check.specs.Findings.{MayRead, AreFound}

@@ -1,4 +1,4 @@
-use Rattle.image_meaning.proofs.Sames.{same_is_sound, same_means}
+use Rattle.image_meaning.proofs.UnchangedImages.{same_is_sound, same_means}
 use Rattle.image_meaning.proofs.laws.reads_the_same.Goals as goal
 
 pub returns-clause-sound : goal.returns-clause-sound

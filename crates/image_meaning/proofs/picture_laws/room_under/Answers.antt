@@ -1,4 +1,4 @@
-use Rattle.image_meaning.proofs.Sames.{next_block_is}
+use Rattle.image_meaning.proofs.UnchangedImages.{next_block_is}
 use Rattle.image_meaning.proofs.Rooms.{room_for_block, room_for_tail}
 use Rattle.image_meaning.proofs.picture_laws.room_under.Goals as goal
 

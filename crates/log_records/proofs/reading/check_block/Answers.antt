@@ -1,6 +1,6 @@
 use Rattle.std.proofs.Common.{◌≡◌, arith, subst, sym, ◌∙◌, true≢false}
+use Rattle.std_lemmas.proofs.Results.{on_err}
 use Rattle.log_records.proofs.Blocks.{ReadTo, read_more, not_block, is_block, zeros_behind, zero_to_the_end, zero_from_the_end, used_is, used_low, some_octet}
-use Rattle.log_records.proofs.Places.{if_err}
 use Rattle.log_records.proofs.reading.check_block.Goals as goal
 use Rattle.log_records.proofs.reading.check_block.Goals.{then-used-lt3-via-then-used-lt3, then-used-lt3-via-else-used-lt3+then-used-gt-BLOCK_LEN}
 
@@ -15,7 +15,7 @@ returns-then-used-lt3-clause-bad c = λ all is.
     ]
 
 pub returns-in_err-_rec-clause-bad : goal.returns-in_err-_rec-clause-bad
-returns-in_err-_rec-clause-bad c = if_err c.from_residual.result _
+returns-in_err-_rec-clause-bad c = on_err c.from_residual.result _
     (not_block c.args.content.now c.get_u16-used.result c.loop-at.at c.loop-at.invariant c.get_u16-used.ensures c.loop-at-test.true c.in_err-_rec.ensures.bad)
 
 pub loop-at-preserved : goal.loop-at-preserved

@@ -1,6 +1,7 @@
 use Rattle.std.proofs.Common.{rules, ◌≡◌, false}
+use Rattle.log_store.proofs.SealLaws.{none_front, none_left}
 use Rattle.page_store.specs.Ahead.{forces}
-use Rattle.page_store.proofs.Sealing.{none_left, none_front, none_wanted}
+use Rattle.page_store.proofs.Sealing.{none_wanted}
 use Rattle.page_store.proofs.forcing.force_for.Goals as goal
 
 pub returns-then-not-wants_force-clause-front : goal.returns-then-not-wants_force-clause-front

@@ -1,5 +1,4 @@
-use Rattle.page_store.proofs.Bringing.{ok_two}
-use Rattle.std.proofs.Common.{append-nil, Bool, sym, subst, ◌∙◌, arith, inl, refl}
+use Rattle.std.proofs.Common.{append-nil, Bool, sym, subst, ◌∙◌, arith, refl}
 use Rattle.record_model.specs.Touches.{flush}
 use Rattle.page_store.specs.Caching.{cache_of, rules}
 use Rattle.page_store.proofs.StagingLaws.{stages_as}
@@ -11,12 +10,14 @@ use Rattle.log_store.specs.LogList.{LogList}
 use Rattle.page_store.specs.Ahead.{forces}
 use Rattle.page_store.specs.Flushing.{flushed_contents}
 use Rattle.image_meaning.specs.Meaning.{kept_by}
-use Rattle.redo_undo.specs.Holding.{HoldsIn, Holds}
+use Rattle.redo_undo.specs.Holding.{RepresentsIn, Represents}
+use Rattle.redo_undo.proofs.Endings.{ends_by_pages}
 use Rattle.redo_undo.proofs.Touched.{forced_tail, leaves_table, touched_holds}
 use Rattle.site.proofs.Working.{ok_as}
-use Rattle.page_store.specs.Held.{current}
+use Rattle.page_store.specs.Representation.{current}
 use Rattle.redo_undo.proofs.LeftNumbers.{pages_skip, ready_next}
 use Rattle.std.proofs.lemmas.Grind.{common_steps}
+use Rattle.std_lemmas.proofs.Results.{ok_both}
 use Rattle.redo_undo.proofs.checkpointing.flush.Goals as goal
 
 pub returns : goal.returns
@@ -30,8 +31,8 @@ returns g c =
     record {
       holds = λ newest records table commits h.
           let list : LogList = record { first = kept_by newest; blocks = h.log_holds.blocks; tail = h.log_holds.tail } in
-          ok_two c.flush_all.result _ _ (Holds c.flush_all.new.log c.flush_all.new.self new newest records table commits)
-          (λ stands end. subst (λ (x : Geometry). HoldsIn x c.flush_all.new.log c.flush_all.new.self new newest records table commits) (sym c.flush_all.ensures.works.geometry)
+          ok_both c.flush_all.result _ _ (Represents c.flush_all.new.log c.flush_all.new.self new newest records table commits)
+          (λ stands end. subst (λ (x : Geometry). RepresentsIn x c.flush_all.new.log c.flush_all.new.self new newest records table commits) (sym c.flush_all.ensures.works.geometry)
           (touched_holds c.log_laws.ensures c.page_laws.ensures log pages site newest records table commits h c.flush_all.new.log c.flush_all.new.self new (c.flush_all.ensures.works.forces.geometry ∙ c.requires.going.sizes)
           c.flush_all.ensures.works.forces.kept stands.current (stands.ahead h.log_holds.ahead) end (stands.sealed h.log_holds.ahead) (stands.rings newest h.log_holds.rings) c.requires.going.log_going.high sealing (forced_tail log (flushed_contents pages)) stands.ready stands.leaves))
           (c.flush_all.ensures.stands list h.log_holds.ready) c.flush_all.ensures.works.forces.end;
@@ -39,13 +40,9 @@ returns g c =
           let ready = h.log_holds.ready in
           let list : LogList = record { first = kept_by newest; blocks = h.log_holds.blocks; tail = h.log_holds.tail } in
           record {
-            any_moment = λ quiet. leaves_table c.log_laws.ensures c.page_laws.ensures log pages site newest records table commits h c.requires.going.pages_going.own sealing tail new
-                ((c.flush_all.ensures.keeps list ready).any_moment quiet) ((c.flush_all.ensures.keeps list ready).ahead_moment quiet h.log_holds.ahead) ((c.flush_all.ensures.keeps list ready).rings_moment newest quiet h.log_holds.rings);
+            ends = ends_by_pages (c.flush_all.ensures.keeps list ready) (λ quiet. leaves_table c.log_laws.ensures c.page_laws.ensures log pages site newest records table commits h c.requires.going.pages_going.own sealing tail new
+                ((c.flush_all.ensures.keeps list ready).any_moment quiet) ((c.flush_all.ensures.keeps list ready).ahead_moment quiet h.log_holds.ahead) ((c.flush_all.ensures.keeps list ready).rings_moment newest quiet h.log_holds.rings));
             numbers = λ quiet. pages_skip c.flush_all.result pages.flash.geometry (current pages site.image) log c.flush_all.new.log list sealing site new (ready_next pages log list site ready) tail ((c.flush_all.ensures.keeps list ready).any_moment quiet) c.flush_all.ensures.works.forces.end;
-            quiet = (c.flush_all.ensures.keeps list ready).quiet;
-            worn_log = λ worn. inl ((c.flush_all.ensures.keeps list ready).worn_log worn);
-            worn = (c.flush_all.ensures.keeps list ready).worn;
-            readable = (c.flush_all.ensures.keeps list ready).readable;
             masters = λ none. ok_as c.flush_all.result _ (KeepsUnits master_shape site.image new.image) (λ stands. stands.leaves.masters) (c.flush_all.ensures.stands list ready);
           };
       asks =

@@ -9,11 +9,12 @@ use Rattle.image_changes.specs.Rings.{master_shape}
 use Rattle.checkpoint.specs.declared.master.Master.{Master}
 use Rattle.image_meaning.specs.Flushed.{first_block}
 use Rattle.redo_undo.specs.Checkpointing.{begins_of, MayBeMade}
+use Rattle.redo_undo.proofs.Endings.{ends_ok}
 use Rattle.redo_undo.proofs.Saved.{needed_there, save_leaves, is_saved, log_still}
 use Rattle.site.specs.declared.outside.Stop.TheVariants.{Worn}
 use Rattle.redo_undo.proofs.WornLogs.{masters_at_end}
 use Rattle.sealed_ring.specs.Ring.{Units}
-use Rattle.redo_undo.specs.Holding.{blocks_to, Holds}
+use Rattle.redo_undo.specs.Holding.{blocks_to, Represents}
 use Rattle.redo_undo.proofs.RingNumbers.{hi_on}
 use Rattle.redo_undo.proofs.LeftNumbers.{save_skips}
 use Rattle.redo_undo.proofs.AskingFlush.{never_worn_flash}
@@ -50,7 +51,7 @@ returns-clause-log_going g c = c.keep.ensures.going (g.S.Site.state c.save.new.s
 
 module _ (g : Over) (c : After-save g) (pages : PageStore) (newest : Option Master) (records : List Entry) (table : List Content)
     (sizes : c.args.log.now.geometry ≡ pages.flash.geometry)
-    (h : Holds c.args.log.now pages (g.S.Site.state c.args.site.now) newest records table c.args.commits) (empty : c.args.log.now.used ≡ 2)
+    (h : Represents c.args.log.now pages (g.S.Site.state c.args.site.now) newest records table c.args.commits) (empty : c.args.log.now.used ≡ 2)
     (clean : wants_flush (cache_of pages) ≡ false)
     (may : MayBeMade c.args.masters.now (g.S.Site.state c.args.site.now) records c.args.active) where
   abbrev m : Master
@@ -79,40 +80,40 @@ module _ (g : Over) (c : After-save g) (pages : PageStore) (newest : Option Mast
 
 pub returns-clause-saved : goal.returns-clause-saved
 returns-clause-saved g c pages newest records table sizes h empty clean may =
-    let new = g.S.Site.state c.save.new.site in
     let s = (goal.at.returns-clause-saved g c).After-save in
     let ready = c.in-Ok.ensures.ready h.log_holds.ready.blocks.honest may.ring in
     is_saved c.save_laws.ensures c.log_laws.ensures c.page_laws.ensures c.beside_laws.ensures c.args.log.now pages (g.S.Site.state c.args.site.now) newest
     records table c.args.commits h sizes empty clean
     (m g s pages newest records table sizes h empty clean may) (redo g s pages newest records table sizes h empty clean may) refl c.requires.ascend
     may.unfinished (kept g s pages newest records table sizes h empty clean may)
-    c.save.ensures.unit may.orderly new (c.in-Ok.ensures.reaches pages.flash.geometry h.log_holds.rings.limits h.log_holds.rings.lengths
+    c.save.ensures.unit may.orderly _ (c.in-Ok.ensures.reaches pages.flash.geometry h.log_holds.rings.limits h.log_holds.rings.lengths
     h.log_holds.ready.blocks.honest may.ring)
-    (c.save.ensures.changes h.log_holds.ready.blocks.honest) c.save.ensures.goes c.keep.new.self c.keep.ensures.kept (c.keep.ensures.finds new)
-    (c.keep.ensures.holds new _ (log_still c.args.log.now (g.S.Site.state c.args.site.now) new c.save.ensures.goes c.requires.going)) c.save.new.ring
+    (c.save.ensures.changes h.log_holds.ready.blocks.honest) c.save.ensures.goes c.keep.new.self c.keep.ensures.kept (c.keep.ensures.finds _)
+    (c.keep.ensures.holds _ _ (log_still c.args.log.now (g.S.Site.state c.args.site.now) _ c.save.ensures.goes c.requires.going)) c.save.new.ring
     (record { form = ready.form; hi = ready.hi })
 
 pub returns-in-Err-clause-keeps : goal.returns-in-Err-clause-keeps
 returns-in-Err-clause-keeps g c pages newest records table sizes h empty clean may =
     let site = g.S.Site.state c.args.site.now in
-    let new = g.S.Site.state c.save.new.site in
     let log = c.args.log.now in
     let s = (goal.at.returns-in-Err-clause-keeps g c).After-save in
     record {
-      any_moment = leaves g s pages newest records table sizes h empty clean may;
-      numbers = λ quiet. save_skips _ pages.flash.geometry log log (unit (m g s pages newest records table sizes h empty clean may)) site new
+      ends = record {
+        any_moment = leaves g s pages newest records table sizes h empty clean may;
+        quiet = λ quiet other. elim c.in-Err.ensures.stops [
+          | inl device ↦ absurd (other Log device)
+          | inr worn ↦ subst IsQuiet (ap g.S.Site.state (sym (c.save.ensures.unchanged (c.in-Err.ensures.worn.0 (ap Err worn))))) quiet
+        ];
+        worn_log = λ is.
+            let same : c.in-Err.stop ≡ Worn Log = cc in
+            let worn = c.in-Err.ensures.worn.0 (ap Err same) in
+            inr (masters_at_end c.args.masters.now site _ c.requires.shape may.ring (ap g.S.Site.state (c.save.ensures.unchanged worn)) worn);
+        worn = λ is. absurd (never_worn_flash (Err c.in-Err.stop) c.in-Err.ensures.stops is);
+        readable = appends_foreign (Err c.in-Err.stop) c.in-Err.ensures.stops;
+      };
+      numbers = λ quiet. save_skips _ pages.flash.geometry log log (unit (m g s pages newest records table sizes h empty clean may)) site _
           (hi_on log.geometry pages.flash.geometry log site.image sizes h.log_holds.ready.blocks.hi)
           (front g s pages newest records table sizes h empty clean may quiet) tt tt;
-      quiet = λ quiet other. elim c.in-Err.ensures.stops [
-        | inl device ↦ absurd (other Log device)
-        | inr worn ↦ subst IsQuiet (ap g.S.Site.state (sym (c.save.ensures.unchanged (c.in-Err.ensures.worn.0 (ap Err worn))))) quiet
-      ];
-      worn_log = λ is.
-          let same : c.in-Err.stop ≡ Worn Log = cc in
-          let worn = c.in-Err.ensures.worn.0 (ap Err same) in
-          inr (masters_at_end c.args.masters.now site new c.requires.shape may.ring (ap g.S.Site.state (c.save.ensures.unchanged worn)) worn);
-      worn = λ is. absurd (never_worn_flash (Err c.in-Err.stop) c.in-Err.ensures.stops is);
-      readable = appends_foreign (Err c.in-Err.stop) c.in-Err.ensures.stops;
       masters = λ none. tt;
     }
 
@@ -122,15 +123,11 @@ returns-clause-keeps g c pages newest records table sizes h empty clean may =
     let log = c.args.log.now in
     let s = (goal.at.returns-clause-keeps g c).After-save in
     record {
-      any_moment = leaves g s pages newest records table sizes h empty clean may;
+      ends = ends_ok (leaves g s pages newest records table sizes h empty clean may);
       numbers = λ quiet. save_skips _ pages.flash.geometry log c.keep.new.self (unit (m g s pages newest records table sizes h empty clean may)) site
           (g.S.Site.state c.save.new.site)
           (hi_on log.geometry pages.flash.geometry log site.image sizes h.log_holds.ready.blocks.hi)
           (front g s pages newest records table sizes h empty clean may quiet)
           (ap blocks_to c.keep.ensures.kept) (ap (λ (u : Units). u.hi) (c.in-Ok.ensures.stands h.log_holds.ready.blocks.honest may.ring));
-      quiet = λ quiet. tt;
-      worn_log = λ is. cc;
-      worn = λ is. cc;
-      readable = λ is. cc;
       masters = λ none. absurd (omega (arith, none));
     }

@@ -1,13 +1,13 @@
-use Rattle.page_store.proofs.Bringing.{ok_two}
+use Rattle.std_lemmas.proofs.Results.{ok_both}
 use Rattle.page_store.proofs.PushLaws.{log_fits}
 use Rattle.std.proofs.Common.{◌≡◌, ◌∙◌, true, sym, ap, inr, refl, true≢false}
 use Rattle.log_store.specs.LogList.{LogList, changes_if}
-use Rattle.log_store.specs.Held.{has_tail}
+use Rattle.log_store.specs.Representation.{has_tail}
 use Rattle.image_meaning.specs.Meaning.{kept_by}
 use Rattle.image_changes.specs.Rings.{Masters, KeepsUnits, master_shape}
-use Rattle.redo_undo.specs.Holding.{Holds}
+use Rattle.redo_undo.specs.Holding.{Represents}
 use Rattle.site.proofs.Working.{ok_as}
-use Rattle.redo_undo.proofs.Sames.{nothing_happens}
+use Rattle.redo_undo.proofs.CallsInSequence.{nothing_happens}
 use Rattle.redo_undo.proofs.Appended.{append_leaves}
 use Rattle.redo_undo.proofs.Forced.{forced_holds, some_now, ok_five, quiet_stops, seals_only}
 use Rattle.redo_undo.proofs.WornLogs.{log_at_end}
@@ -25,7 +25,7 @@ returns-clause-holds g c pages newest records table commits sizes h =
     let finds = ready.blocks in
     let changes = c.force.ensures.changes ready.blocks.honest in
     let some : has_tail log ≡ true = some_now log c.requires.going.low (λ two. true≢false (sym (c.tail_empty.ensures.1 two) ∙ c.if-tail_empty.false)) in
-    ok_five c.force.result _ _ _ _ _ (Holds c.force.new.self pages new newest records table commits)
+    ok_five c.force.result _ _ _ _ _ (Represents c.force.new.self pages new newest records table commits)
     (λ holds finds' reaches next empty.
     forced_holds c.log_laws.ensures c.page_laws.ensures c.beside_laws.ensures log pages site newest records table commits h sizes c.force.new.self new some c.requires.going.high
     (record { next = next; empty = empty; kept = c.force.ensures.kept; geometry = c.force.ensures.geometry; holds = holds; finds = finds'; reaches = reaches; changes = changes; goes = c.force.ensures.goes }))
@@ -54,7 +54,7 @@ returns-clause-keeps g c pages newest records table commits h =
           (c.force.ensures.front list (log_fits log site quiet ready.blocks) ready.records quiet) going.pages_going.own (λ tail. tail);
       numbers = λ going quiet. log_skips c.ring_kept.ensures c.force.result log.geometry log c.force.new.self list (has_tail log) site new 0 (ready_next pages log list site ready) (λ tail. tail)
           (c.force.ensures.any_moment list (log_fits log site quiet ready.blocks) ready.records) (c.force.ensures.front list (log_fits log site quiet ready.blocks) ready.records quiet)
-          (ok_two c.force.result _ _ _ (λ next empty. same_at_most log c.force.new.self some next empty) c.force.ensures.next c.force.ensures.empty);
+          (ok_both c.force.result _ _ _ (λ next empty. same_at_most log c.force.new.self some next empty) c.force.ensures.next c.force.ensures.empty);
       quiet = λ quiet. quiet_stops c.force.result new site quiet (λ is. ap g.S.Site.state (c.force.ensures.unchanged (inr (c.force.ensures.worn.0 is).1))) c.force.ensures.stops;
       worn_log = λ is. (let worn = (c.force.ensures.worn.0 is).1 in log_at_end log site new ready.blocks (ap g.S.Site.state (c.force.ensures.unchanged (inr worn))) worn);
       masters = ok_as c.force.result _ (KeepsUnits master_shape site.image new.image)

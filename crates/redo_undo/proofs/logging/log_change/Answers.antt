@@ -1,9 +1,9 @@
 use Rattle.std.proofs.Common.{refl, ◌≡◌, ◌∷◌, [], ◌++◌, sym, ap, subst, arith}
 use Rattle.slotted_page.specs.Layout.{lsn_of}
 use Rattle.site.specs.declared.geometry.Geometry.{Geometry}
-use Rattle.page_store.specs.Held.{current}
+use Rattle.page_store.specs.Representation.{current}
 use Rattle.flash_cache.specs.declared.cache.FlashCache.{FlashCache}
-use Rattle.redo_undo.specs.Holding.{HoldsIn}
+use Rattle.redo_undo.specs.Holding.{RepresentsIn}
 use Rattle.redo_undo.proofs.Changed.{holds_on, other_pages, front_exists, front_is_current}
 use Rattle.page_store.proofs.StagingLaws.{stages_between, stages_ok, stages_err}
 use Rattle.redo_undo.proofs.Asking.{stages_log}
@@ -24,7 +24,7 @@ returns-clause-holds g c newest records table commits h may =
     let front = (front_of pages.pool.frames).page in
     let holds = c.in-Ok.ensures.log_holds pages newest records table commits c.requires.going.sizes h may in
     let is : lsn_of (current pages new.image front) ≡ lsn_of (front_of pages.pool.frames).content = ap lsn_of (front_is_current pages new.image c.requires.there) in
-    subst (λ (x : Geometry). HoldsIn x log' pages' new newest (records ++ record { lsn = lsn; rec = rec } ∷ []) table commits) (sym (ap (λ (f : FlashCache). f.geometry) c.change_front.ensures.flash))
+    subst (λ (x : Geometry). RepresentsIn x log' pages' new newest (records ++ record { lsn = lsn; rec = rec } ∷ []) table commits) (sym (ap (λ (f : FlashCache). f.geometry) c.change_front.ensures.flash))
     (holds_on c.log_laws.ensures k c.args.log.now log' pages site new newest records table commits h (c.log_record.ensures.pages pages newest records table commits h) pages' rec lsn c.requires.on_page.0 front
     c.requires.on_page.1 c.requires.on_page.2 (omega (arith, is, c.front_lsn.ensures, c.if-front_lsn-lsn.false)) (c.change_front.ensures.redoes new.image c.requires.on_page.0 c.requires.on_page.1)
     (c.change_front.ensures.others new.image) c.in-Ok.ensures.rises.0 c.in-Ok.ensures.rises.1

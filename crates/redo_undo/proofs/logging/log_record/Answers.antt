@@ -5,11 +5,11 @@ use Rattle.log_records.specs.Sound.{AreOrderly}
 use Rattle.image_meaning.specs.Meaning.{versions_on}
 use Rattle.redo_undo.proofs.Forced.{quiet_stops, seals_only}
 use Rattle.redo_undo.proofs.Orderlies.{ends_orderly}
-use Rattle.log_store.specs.Held.{overflows, next_lsn, end_of, has_tail}
+use Rattle.log_store.specs.Representation.{overflows, next_lsn, end_of, has_tail}
 use Rattle.log_store.specs.LogList.{LogList, changes_if}
 use Rattle.page_store.specs.Ahead.{AreSealed}
 use Rattle.image_meaning.specs.Meaning.{kept_by}
-use Rattle.redo_undo.specs.Holding.{MayGrow, HoldsLog, Holds}
+use Rattle.redo_undo.specs.Holding.{MayGrow, RepresentsLog, Represents}
 use Rattle.redo_undo.proofs.Appended.{appended, ends_with, append_leaves, rings_now, sealed_now, versions_same, current_same, IsNumbered, IsAppended, if_ok_four, if_ok_one, if_ok_two, if_ok_three, ok_by, most_blocks}
 use Rattle.redo_undo.specs.Committing.{EndsWith}
 use Rattle.image_meaning.specs.Beside.{AreRingsSoundUnder}
@@ -29,12 +29,10 @@ use Rattle.redo_undo.proofs.logging.log_record.Goals as goal
 
 pub returns-clause-pages : goal.returns-clause-pages
 returns-clause-pages g c pages newest records table commits h =
-    let site = g.S.Site.state c.args.site.now in
-    let new = g.S.Site.state c.append.new.site in
     let changes = c.append.ensures.changes h.log_holds.ready.blocks.honest in
     record {
-      versions = versions_same c.beside_laws.ensures pages site new changes;
-      current = current_same c.beside_laws.ensures pages site new changes;
+      versions = versions_same c.beside_laws.ensures pages _ _ changes;
+      current = current_same c.beside_laws.ensures pages _ _ changes;
     }
 
 module _ (g : Over) (c : After-append g) where
@@ -45,7 +43,7 @@ module _ (g : Over) (c : After-append g) where
       c.append.ensures.next c.append.ensures.lsn c.append.ensures.rises
 
 module _ (g : Over) (c : After-append g) (pages : PageStore) (newest : Option Master) (records : List Entry) (table : List Content) (commits : ℕ)
-    (h : Holds c.args.log.now pages (g.S.Site.state c.args.site.now) newest records table commits) where
+    (h : Represents c.args.log.now pages (g.S.Site.state c.args.site.now) newest records table commits) where
   abbrev site : State
   site = g.S.Site.state c.args.site.now
 
@@ -88,7 +86,7 @@ returns-clause-log_holds g c pages newest records table commits sizes h =
     let new = g.S.Site.state c.append.new.site in
     let log = c.args.log.now in
     if_ok_one c.append.result (Stands g c pages newest records table commits h)
-    (λ lsn. MayGrow log pages site.image newest records (record { lsn = lsn; rec = c.args.rec.now }) → HoldsLog pages.flash.geometry c.append.new.self pages new newest (records ++ record { lsn = lsn; rec = c.args.rec.now } ∷ []) table commits)
+    (λ lsn. MayGrow log pages site.image newest records (record { lsn = lsn; rec = c.args.rec.now }) → RepresentsLog pages.flash.geometry c.append.new.self pages new newest (records ++ record { lsn = lsn; rec = c.args.rec.now } ∷ []) table commits)
     (λ lsn stands. appended c.log_laws.ensures c.page_laws.ensures c.beside_laws.ensures log pages site newest records table commits h sizes c.append.new.self
     new c.args.rec.now lsn stands.rings stands.are_sealed
     (overflows log c.args.rec.now) (full g c pages newest records table commits h) stands.appended_is)
@@ -102,9 +100,9 @@ returns-clause-holds g c pages newest records table commits sizes h none =
     let rec = c.args.rec.now in
     let k = pages.flash.geometry in
     if_ok_two c.append.result
-    (λ lsn. MayGrow log pages site.image newest records (record { lsn = lsn; rec = rec }) → HoldsLog k c.append.new.self pages new newest (records ++ record { lsn = lsn; rec = rec } ∷ []) table commits)
+    (λ lsn. MayGrow log pages site.image newest records (record { lsn = lsn; rec = rec }) → RepresentsLog k c.append.new.self pages new newest (records ++ record { lsn = lsn; rec = rec } ∷ []) table commits)
     (λ lsn. (end_of log ≤ lsn) × (lsn < end_of c.append.new.self))
-    (λ lsn. MayGrow log pages site.image newest records (record { lsn = lsn; rec = rec }) → Holds c.append.new.self pages new newest (records ++ record { lsn = lsn; rec = rec } ∷ []) table commits)
+    (λ lsn. MayGrow log pages site.image newest records (record { lsn = lsn; rec = rec }) → Represents c.append.new.self pages new newest (records ++ record { lsn = lsn; rec = rec } ∷ []) table commits)
     (λ lsn holds rises may. holds_off c.log_laws.ensures k log c.append.new.self pages site new newest records table commits h (returns-clause-pages g c pages newest records table commits h) rec lsn none rises.0 rises.1 (holds may))
     (returns-clause-log_holds g c pages newest records table commits sizes h) c.append.ensures.rises
 
@@ -125,13 +123,11 @@ returns-clause-last g c pages newest records table commits sizes h =
 pub returns-clause-orderly : goal.returns-clause-orderly
 returns-clause-orderly g c pages newest records table commits sizes h =
     let site = g.S.Site.state c.args.site.now in
-    let new = g.S.Site.state c.append.new.site in
-    let log = c.args.log.now in
     let rec = c.args.rec.now in
     let k = pages.flash.geometry in
-    if_ok_one c.append.result (λ lsn. EndsWith k c.append.new.self pages new newest records table commits (record { lsn = lsn; rec = rec }))
-    (λ lsn. MayGrow log pages site.image newest records (record { lsn = lsn; rec = rec }) → AreOrderly records → AreOrderly (records ++ record { lsn = lsn; rec = rec } ∷ []))
-    (λ lsn ends may. ends_orderly c.log_laws.ensures c.orderly_goes_on.ensures.orderly k c.append.new.self pages new newest records table commits rec lsn (versions_on k site.image) ends
+    if_ok_one c.append.result (λ lsn. EndsWith k c.append.new.self pages _ newest records table commits (record { lsn = lsn; rec = rec }))
+    (λ lsn. MayGrow _ pages site.image newest records (record { lsn = lsn; rec = rec }) → AreOrderly records → AreOrderly (records ++ record { lsn = lsn; rec = rec } ∷ []))
+    (λ lsn ends may. ends_orderly c.log_laws.ensures c.orderly_goes_on.ensures.orderly k c.append.new.self pages _ newest records table commits rec lsn (versions_on k site.image) ends
     (returns-clause-pages g c pages newest records table commits h).versions may.follows)
     (returns-clause-last g c pages newest records table commits sizes h)
 

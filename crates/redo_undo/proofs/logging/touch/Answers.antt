@@ -1,10 +1,10 @@
-use Rattle.page_store.proofs.Bringing.{ok_two}
-use Rattle.std.proofs.Common.{Bool, false, [], arith, ◌∙◌, inl, List}
+use Rattle.std.proofs.Common.{Bool, false, [], arith, ◌∙◌, List}
 use Rattle.std.specs.Prelude.{◌≡◌, OnOk}
 use Rattle.page_store.specs.Ahead.{forces, pushed_by_touch}
 use Rattle.log_store.specs.LogList.{LogList}
 use Rattle.redo_undo.specs.Redoing.{IsRedoing, Opening}
-use Rattle.redo_undo.proofs.Sames.{some_group}
+use Rattle.redo_undo.proofs.Endings.{ends_by_pages}
+use Rattle.redo_undo.proofs.CallsInSequence.{some_group}
 use Rattle.redo_undo.proofs.Redoings.{never_forced, rings_given, rings_of, touch_leaves, touched}
 use Rattle.record_model.specs.Touches.{touch}
 use Rattle.page_store.proofs.StagingLaws.{stages_as}
@@ -18,14 +18,15 @@ use Rattle.image_changes.specs.Rings.{KeepsUnits, master_shape}
 use Rattle.site.proofs.Working.{ok_as}
 use Rattle.std.proofs.Common.{sym, subst, append-nil}
 use Rattle.site.specs.declared.geometry.Geometry.{Geometry}
-use Rattle.redo_undo.specs.Holding.{HoldsIn, Holds}
+use Rattle.redo_undo.specs.Holding.{RepresentsIn, Represents}
 use Rattle.redo_undo.proofs.Touched.{forced_tail, leaves_table, touched_holds}
-use Rattle.page_store.specs.Held.{current}
+use Rattle.page_store.specs.Representation.{current}
 use Rattle.redo_undo.proofs.LeftNumbers.{pages_skip, ready_next}
 use Rattle.redo_undo.proofs.logging.touch.Given.{Over}
 use Rattle.redo_undo.proofs.logging.touch.Goals.{After-touch}
 use Rattle.log_records.specs.Log.{Entry}
 use Rattle.std.proofs.lemmas.Grind.{common_steps}
+use Rattle.std_lemmas.proofs.Results.{ok_both}
 use Rattle.redo_undo.proofs.logging.touch.Goals as goal
 
 redoing_now : (g : Over) (c : After-touch g) (o : Opening) (front : List Entry) →
@@ -54,8 +55,8 @@ returns g c =
     record {
       holds = λ newest records table commits h.
           let list : LogList = record { first = kept_by newest; blocks = h.log_holds.blocks; tail = h.log_holds.tail } in
-          ok_two c.touch.result _ _ (Holds c.touch.new.log c.touch.new.self new newest records table commits)
-          (λ stands end. subst (λ (x : Geometry). HoldsIn x c.touch.new.log c.touch.new.self new newest records table commits)
+          ok_both c.touch.result _ _ (Represents c.touch.new.log c.touch.new.self new newest records table commits)
+          (λ stands end. subst (λ (x : Geometry). RepresentsIn x c.touch.new.log c.touch.new.self new newest records table commits)
           (sym c.touch.ensures.works.geometry)
           (touched_holds c.log_laws.ensures c.page_laws.ensures log pages site newest records table commits h c.touch.new.log c.touch.new.self new (c.touch.ensures.works.forces.geometry ∙ c.requires.going.sizes) c.touch.ensures.works.forces.kept stands.current (stands.ahead h.log_holds.ahead) end
           (stands.sealed h.log_holds.ahead) (stands.rings newest h.log_holds.rings) c.requires.going.log_going.high sealing (forced_tail log (pushed_by_touch pages c.args.page)) stands.ready stands.leaves))
@@ -64,27 +65,19 @@ returns g c =
           let ready = h.log_holds.ready in
           let list : LogList = record { first = kept_by newest; blocks = h.log_holds.blocks; tail = h.log_holds.tail } in
           record {
-            any_moment = λ quiet. leaves_table c.log_laws.ensures c.page_laws.ensures log pages site newest records table commits h c.requires.going.pages_going.own sealing tail new
-                ((c.touch.ensures.keeps list ready).any_moment quiet) ((c.touch.ensures.keeps list ready).ahead_moment quiet h.log_holds.ahead) ((c.touch.ensures.keeps list ready).rings_moment newest quiet h.log_holds.rings);
+            ends = ends_by_pages (c.touch.ensures.keeps list ready) (λ quiet. leaves_table c.log_laws.ensures c.page_laws.ensures log pages site newest records table commits h c.requires.going.pages_going.own sealing tail new
+                ((c.touch.ensures.keeps list ready).any_moment quiet) ((c.touch.ensures.keeps list ready).ahead_moment quiet h.log_holds.ahead) ((c.touch.ensures.keeps list ready).rings_moment newest quiet h.log_holds.rings));
             numbers = λ quiet. pages_skip c.touch.result pages.flash.geometry (current pages site.image) log c.touch.new.log list sealing site new (ready_next pages log list site ready) tail ((c.touch.ensures.keeps list ready).any_moment quiet) c.touch.ensures.works.forces.end;
-            quiet = (c.touch.ensures.keeps list ready).quiet;
-            worn_log = λ worn. inl ((c.touch.ensures.keeps list ready).worn_log worn);
-            worn = (c.touch.ensures.keeps list ready).worn;
             masters = λ none. ok_as c.touch.result _ (KeepsUnits master_shape site.image new.image) (λ stands. stands.leaves.masters) (c.touch.ensures.stands list ready);
-            readable = λ is. (c.touch.ensures.keeps list ready).readable is;
           };
       redoing = redoing_now g c;
       keeps_opened = λ o front h.
           let list : LogList = record { first = kept_by o.newest; blocks = o.blocks; tail = [] } in
           let never : sealing ≡ false = never_forced log (pushed_by_touch pages c.args.page) h.ready.records.tail.end in
           record {
-            any_moment = λ quiet. touch_leaves c.page_laws.ensures c.redo_laws.ensures o log pages site front h sealing never new ((c.touch.ensures.keeps list h.ready).any_moment quiet)
-                (rings_of o log pages site front h new ((c.touch.ensures.keeps list h.ready).rings_moment o.newest quiet (rings_given o log pages site front h))) c.requires.going.pages_going.own;
+            ends = ends_by_pages (c.touch.ensures.keeps list h.ready) (λ quiet. touch_leaves c.page_laws.ensures c.redo_laws.ensures o log pages site front h sealing never new ((c.touch.ensures.keeps list h.ready).any_moment quiet)
+                (rings_of o log pages site front h new ((c.touch.ensures.keeps list h.ready).rings_moment o.newest quiet (rings_given o log pages site front h))) c.requires.going.pages_going.own);
             numbers = λ quiet. skips_touch c.page_laws.ensures c.redo_laws.ensures o log pages site front h sealing never new c.touch.result c.touch.new.log c.touch.new.self ((c.touch.ensures.keeps list h.ready).any_moment quiet) (redoing_now g c o front h);
-            quiet = (c.touch.ensures.keeps list h.ready).quiet;
-            worn_log = λ worn. inl ((c.touch.ensures.keeps list h.ready).worn_log worn);
-            worn = (c.touch.ensures.keeps list h.ready).worn;
-            readable = λ is. (c.touch.ensures.keeps list h.ready).readable is;
             masters = λ none. ok_as c.touch.result _ (KeepsUnits master_shape site.image new.image) (λ stands. stands.leaves.masters) (c.touch.ensures.stands list h.ready);
           };
       asks =

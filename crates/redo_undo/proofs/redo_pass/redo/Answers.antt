@@ -7,7 +7,7 @@ use Rattle.image_meaning.specs.Meaning.{kept_by, saved_by, picture_under}
 use Rattle.analysis.specs.Read.{IsAnalysis}
 use Rattle.redo_undo.specs.Redoing.{Opening, IsOpened, asked_of, HasTaken}
 use Rattle.redo_undo.proofs.LogBlocks.{block_of, log_split}
-use Rattle.redo_undo.proofs.Sames.{going_still, opened_holds, some_group}
+use Rattle.redo_undo.proofs.CallsInSequence.{going_still, opened_holds, some_group}
 use Rattle.redo_undo.proofs.Redoings.{begins, holds_all}
 use Rattle.redo_undo.proofs.TakenRecords.{IsUpTo, IsNextBlock, asks_first, up_to_none, opened_count, finds, next_block, one_more_block, all_blocks, same_stop, unfinished_by}
 use Rattle.site.specs.declared.outside.Stop.TheVariants.{Worn, Device, Foreign}
@@ -15,7 +15,7 @@ use Rattle.site.specs.declared.outside.Dev.TheVariants.{Log}
 use Rattle.redo_undo.proofs.Asking.{stages_read}
 use Rattle.redo_undo.proofs.RedoWorks.{stops_first, stops_reading, asks_with_read, asks_more, asks_all, stops_within}
 use Rattle.redo_undo.specs.Calls.{Keeps, ReadsOne}
-use Rattle.redo_undo.specs.Works.{Asks}
+use Rattle.redo_undo.specs.MachineSteps.{StepsMachine}
 use Rattle.image_meaning.specs.Moments.{LeavesTableUnder}
 use Rattle.log_records.specs.declared.log_record.LogRecord.{LogRecord}
 use Rattle.record_model.specs.State.{Content}
@@ -60,9 +60,8 @@ loop-block-init g c =
           up_to_none c.page_laws.ensures c.redo_laws.ensures c.args.log.now c.args.pages.now (g.S.Site.state c.args.site.now) newest blocks table commits c.in-Ok.found c.kept-block.result c.requires.going.sizes h
           (subst (λ (m : Master). IsAnalysis (seen m) [] c.in-Ok.found) own c.in-Ok.ensures.read) (omega (arith, kept, h.kept));
       asked = λ newest blocks table commits own h.
-          let first = h.kept in
           asks_first (opening c.args.pages.now (g.S.Site.state c.args.site.now) newest blocks table commits) c.args.pages.now (g.S.Site.state c.args.site.now)
-          c.kept-block.result (omega (arith, kept, first));
+          c.kept-block.result (omega (arith, kept, h.kept));
       keeps = λ newest blocks table commits own h. keeps_redoing c.page_laws.ensures c.redo_laws.ensures c.requires.going.sizes
           (begins c.page_laws.ensures c.redo_laws.ensures c.args.log.now c.args.pages.now (g.S.Site.state c.args.site.now) newest blocks table commits h);
     }
@@ -115,7 +114,7 @@ module _ (g : Over) (c : In-Ok-read_block g) (newest : Option Master) (blocks : 
       (c.in-Ok-read_block.ensures.holds (record { first = kept_by newest; blocks = blocks; tail = [] }) found up.taken.pages_are.ready.records
       (let from = up.from in omega (arith, from)))
 
-  asked_now : Asks {T = ⊤} (Ok tt) (asked_of o (log_from (kept_by newest) (take (c.loop-block.block - kept_by newest) blocks))) c.args.pages.now
+  asked_now : StepsMachine {T = ⊤} (Ok tt) (asked_of o (log_from (kept_by newest) (take (c.loop-block.block - kept_by newest) blocks))) c.args.pages.now
       c.loop-block.pages old read
   asked_now = asks_with_read o c.args.pages.now c.loop-block.pages old mid read (log_from (kept_by newest) (take (c.loop-block.block - kept_by newest) blocks))
       (c.loop-block.invariant.asked newest blocks table commits own h) c.read_block.ensures.reads.others (stages_read c.read_block.ensures.same c.read_block.ensures.goes)
@@ -182,9 +181,8 @@ module _ (g : Over) (c : After-loop-block g) (newest : Option Master) (blocks : 
   all_are : log_from (kept_by newest) (take (c.loop-block.block - kept_by newest) blocks) ≡ log_from (kept_by newest) blocks
   all_are =
       let count = opened_count c.args.log.now c.args.pages.now (g.S.Site.state c.args.site.now) newest blocks table commits h in
-      let most = c.loop-block.auto.block-end in
       all_blocks (opening c.args.pages.now (g.S.Site.state c.args.site.now) newest blocks table commits) c.loop-block.block
-      (omega (arith, count, c.sealed_end-block-end.ensures, c.loop-block-test.false, most))
+      (omega (arith, count, c.sealed_end-block-end.ensures, c.loop-block-test.false, c.loop-block.auto.block-end))
 
   all_taken : HasTaken (opening c.args.pages.now (g.S.Site.state c.args.site.now) newest blocks table commits) c.loop-block.log c.loop-block.pages
       (g.S.Site.state c.loop-block.site) c.loop-block.so_far

@@ -8,11 +8,11 @@ use Rattle.analysis.specs.Table.{listed}
 use Rattle.analysis.specs.Read as read
 use Rattle.redo_undo.specs.Holding.{blocks_to}
 use Rattle.redo_undo.specs.Redoing.{IsOpened, asked_of}
-use Rattle.redo_undo.specs.Works.{Asks}
+use Rattle.redo_undo.specs.MachineSteps.{StepsMachine}
 use Rattle.redo_undo.proofs.TakenRecords.{IsUpTo}
 use Rattle.image_meaning.specs.Meaning.{kept_by, saved_by}
 use Rattle.checkpoint.specs.declared.master.Master.{Master}
-use Rattle.redo_undo.specs.Calls.{Keeps, Works}
+use Rattle.redo_undo.specs.Calls.{Keeps, KeepsInvariant}
 use Rattle.image_meaning.specs.Moments.{LeavesTableUnder}
 use Rattle.redo_undo.proofs.redo_pass.redo.Given as goal
 
@@ -21,8 +21,8 @@ invariant-loop-block g l =
     let old = g.S.Site.state l.fn.site in
     let now = g.S.Site.state l.site in
     record {
-      works : Works {T = Unit {0}} (Ok tt) l.fn.log l.log l.fn.pages l.pages old now;
-      found_going : read.MayGoOn l.so_far.found;
+      works : KeepsInvariant {T = Unit {0}} (Ok tt) l.fn.log l.log l.fn.pages l.pages old now;
+      found_going : read.Invariant l.so_far.found;
       room : length l.content ≡ 503;
       some : l.block ≤ l.fn.log.kept + l.so_far.records;
       few : l.so_far.records ≤ 503 * (l.block - l.fn.log.kept);
@@ -33,7 +33,7 @@ invariant-loop-block g l =
       up_to : (newest : Option Master) (blocks : List (List LogRecord)) (table : List Content) (commits : ℕ) → l.master ≡ saved_by newest → IsOpened l.fn.pages.flash.geometry l.fn.log l.fn.pages old newest blocks table commits →
           IsUpTo (record { sizes = l.fn.pages.flash.geometry; image = old.image; newest = newest; blocks = blocks; table = table; commits = commits }) l.log l.pages old now l.so_far l.block;
       asked : (newest : Option Master) (blocks : List (List LogRecord)) (table : List Content) (commits : ℕ) → l.master ≡ saved_by newest → IsOpened l.fn.pages.flash.geometry l.fn.log l.fn.pages old newest blocks table commits →
-          Asks {T = ⊤} (Ok tt) (asked_of (record { sizes = l.fn.pages.flash.geometry; image = old.image; newest = newest; blocks = blocks; table = table; commits = commits }) (log_from (kept_by newest) (take (l.block - kept_by newest) blocks))) l.fn.pages l.pages old now;
+          StepsMachine {T = ⊤} (Ok tt) (asked_of (record { sizes = l.fn.pages.flash.geometry; image = old.image; newest = newest; blocks = blocks; table = table; commits = commits }) (log_from (kept_by newest) (take (l.block - kept_by newest) blocks))) l.fn.pages l.pages old now;
       keeps : (newest : Option Master) (blocks : List (List LogRecord)) (table : List Content) (commits : ℕ) → l.master ≡ saved_by newest → IsOpened l.fn.pages.flash.geometry l.fn.log l.fn.pages old newest blocks table commits →
           Keeps {T = Unit {0}} (Ok tt) l.fn.pages.flash.geometry l.fn.log l.log old now (LeavesTableUnder newest l.fn.pages.flash.geometry table commits old.told) 0 0;
     }

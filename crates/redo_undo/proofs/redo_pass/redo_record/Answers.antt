@@ -8,8 +8,8 @@ use Rattle.slotted_page.specs.Layout.{lsn_of}
 use Rattle.buffer_pool.specs.Frames.{front_of}
 use Rattle.flash_cache.specs.declared.cache.FlashCache.{FlashCache}
 use Rattle.second_chance.specs.Machine.{rules_of}
-use Rattle.page_store.specs.Held.{current}
-use Rattle.redo_undo.proofs.Sames.{some_group}
+use Rattle.page_store.specs.Representation.{current}
+use Rattle.redo_undo.proofs.CallsInSequence.{some_group}
 use Rattle.redo_undo.proofs.Changed.{front_is_current}
 use Rattle.redo_undo.proofs.NextRecords.{page_exists, lsn_sealed, no_change, changed, front_knows}
 use Rattle.redo_undo.proofs.RedoWorks.{stops_first, asks_no_page, stops_in_touch, asks_known, asks_redone}
@@ -50,7 +50,6 @@ returns-then-front_lsn-lsn g c =
 
 pub returns : goal.returns
 returns g c =
-    let log = c.touch.new.log in
     let pages = c.touch.new.pages in
     let site = g.S.Site.state c.touch.new.site in
     let on = c.in-Some.ensures.on in
@@ -60,10 +59,10 @@ returns g c =
     record {
       redoing = λ o front rest h is.
           let now = c.in-Ok.ensures.redoing o front h in
-          changed c.page_laws.ensures c.redo_laws.ensures o log pages site front now e rest is c.change_front.new.pages first on.0 on.1 (on.2 ∙ sym c.in-Ok.ensures.front)
+          changed c.page_laws.ensures c.redo_laws.ensures o _ pages site front now e rest is c.change_front.new.pages first on.0 on.1 (on.2 ∙ sym c.in-Ok.ensures.front)
           (omega (arith, content, c.front_lsn.ensures, c.if-front_lsn-lsn.false)) (c.change_front.ensures.redoes site.image on.0 on.1) (c.change_front.ensures.others site.image)
           (ap (λ (f : FlashCache). f.geometry) c.change_front.ensures.flash) (c.change_front.ensures.fit site now.ready.pages)
-          (c.change_front.ensures.ahead log site.image now.ahead (lsn_sealed c.page_laws.ensures c.redo_laws.ensures o log pages site front now e rest is));
+          (c.change_front.ensures.ahead _ site.image now.ahead (lsn_sealed c.page_laws.ensures c.redo_laws.ensures o _ pages site front now e rest is));
       keeps = λ o front rest h is. c.in-Ok.ensures.keeps_opened o front h;
       asks = λ o front rest h is.
           let content : lsn_of (current pages site.image c.in-Some.page) ≡ lsn_of (front_of pages.pool.frames).content =

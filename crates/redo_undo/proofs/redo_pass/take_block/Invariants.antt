@@ -20,7 +20,7 @@ invariant-loop-at g l =
       low : 2 ≤ l.at;
       high : l.at ≤ l.used;
       logs : LogsNothing {T = Unit {0}} (Ok tt) l.fn.log l.log l.fn.pages l.pages old now;
-      found_going : read.MayGoOn l.so_far.found;
+      found_going : read.Invariant l.so_far.found;
       few : l.so_far.records + 2 ≤ l.fn.so_far.records + l.at;
       more : l.fn.so_far.records ≤ l.so_far.records;
       some : 2 < l.at → l.fn.so_far.records < l.so_far.records;

@@ -4,7 +4,7 @@ use Rattle.log_records.specs.Log.{Entry}
 use Rattle.checkpoint.specs.declared.master.Master.{Master}
 use Rattle.redo_undo.specs.Redoing.{asked_of}
 use Rattle.site.proofs.Working.{ok_as}
-use Rattle.redo_undo.proofs.Sames.{some_group}
+use Rattle.redo_undo.proofs.CallsInSequence.{some_group}
 use Rattle.redo_undo.proofs.NextRecords.{may_step, known_before, no_change}
 use Rattle.redo_undo.proofs.RedoWorks.{stops_first, not_worn, asks_early, asks_late}
 use Rattle.redo_undo.proofs.TakenRecords.{analysis_to, analysis_back, step_to}
@@ -15,45 +15,41 @@ use Rattle.redo_undo.proofs.redo_pass.take_record.Goals as goal
 pub returns-in-Err-clause-takes : goal.returns-in-Err-clause-takes
 returns-in-Err-clause-takes g c o front rest own h is =
     let e : Entry = record { lsn = c.args.lsn; rec = c.args.rec.now } in
-    let site = g.S.Site.state c.args.site.now in
     let to = analysis_to o c.args.master.now own front c.args.so_far.now.found h.analysis in
-    let step = step_to o c.args.master.now own front e (may_step c.page_laws.ensures c.redo_laws.ensures o c.args.log.now c.args.pages.now site front h.pages_are e rest is) in
+    let step = step_to o c.args.master.now own front e (may_step c.page_laws.ensures c.redo_laws.ensures o c.args.log.now c.args.pages.now _ front h.pages_are e rest is) in
     record {
       taken = tt;
       keeps = keeps_refused_by c.page_laws.ensures c.redo_laws.ensures c.in-Err.ensures.stops c.requires.going.sizes h.pages_are (λ same. c.in-Err.ensures.readable front to step (ap Err same));
-      asks = stops_first c.in-Err.stop (asked_of o (e ∷ [])) c.args.pages.now site (some_group c.requires.going)
+      asks = stops_first c.in-Err.stop (asked_of o (e ∷ [])) c.args.pages.now _ (some_group c.requires.going)
           (not_worn c.in-Err.stop c.in-Err.ensures.stops);
     }
 
 pub returns-then-lsn-master-clause-takes : goal.returns-then-lsn-master-clause-takes
 returns-then-lsn-master-clause-takes g c o front rest own h is =
     let e : Entry = record { lsn = c.args.lsn; rec = c.args.rec.now } in
-    let site = g.S.Site.state c.args.site.now in
-    let step = step_to o c.args.master.now own front e (may_step c.page_laws.ensures c.redo_laws.ensures o c.args.log.now c.args.pages.now site front h.pages_are e rest is) in
+    let step = step_to o c.args.master.now own front e (may_step c.page_laws.ensures c.redo_laws.ensures o c.args.log.now c.args.pages.now _ front h.pages_are e rest is) in
     let heard = c.in_default.ensures.heard front (analysis_to o c.args.master.now own front c.args.so_far.now.found h.analysis) step in
     let redo = ap (λ (m : Master). m.redo) own in
     record {
       taken = record {
-        pages_are = no_change c.page_laws.ensures c.redo_laws.ensures o c.args.log.now c.args.pages.now site front h.pages_are e rest is
-            (known_before c.page_laws.ensures c.redo_laws.ensures o c.args.log.now c.args.pages.now site front h.pages_are e rest is (omega (arith, redo, c.if-lsn-master.true)));
+        pages_are = no_change c.page_laws.ensures c.redo_laws.ensures o c.args.log.now c.args.pages.now _ front h.pages_are e rest is
+            (known_before c.page_laws.ensures c.redo_laws.ensures o c.args.log.now c.args.pages.now _ front h.pages_are e rest is (omega (arith, redo, c.if-lsn-master.true)));
         analysis = analysis_back o c.args.master.now own (front ++ e ∷ []) _ heard;
         count = omega (arith, h.count, length-append front (e ∷ []));
       };
       keeps = keeps_redoing c.page_laws.ensures c.redo_laws.ensures c.requires.going.sizes h.pages_are;
-      asks = asks_early _ o e c.args.pages.now site (omega (arith, redo, c.if-lsn-master.true));
+      asks = asks_early _ o e c.args.pages.now _ (omega (arith, redo, c.if-lsn-master.true));
     }
 
 pub returns-clause-takes : goal.returns-clause-takes
 returns-clause-takes g c o front rest own h is =
     let e : Entry = record { lsn = c.args.lsn; rec = c.args.rec.now } in
-    let site = g.S.Site.state c.args.site.now in
-    let step = step_to o c.args.master.now own front e (may_step c.page_laws.ensures c.redo_laws.ensures o c.args.log.now c.args.pages.now site front h.pages_are e rest is) in
+    let step = step_to o c.args.master.now own front e (may_step c.page_laws.ensures c.redo_laws.ensures o c.args.log.now c.args.pages.now _ front h.pages_are e rest is) in
     let heard = c.in_default.ensures.heard front (analysis_to o c.args.master.now own front c.args.so_far.now.found h.analysis) step in
     let redo = ap (λ (m : Master). m.redo) own in
-    let count = h.count in
     record {
-      taken = ok_as c.redo_record.result _ _ (λ pages_are. record { pages_are = pages_are; analysis = analysis_back o c.args.master.now own (front ++ e ∷ []) _ heard; count = omega (arith, count, length-append front (e ∷ [])) })
+      taken = ok_as c.redo_record.result _ _ (λ pages_are. record { pages_are = pages_are; analysis = analysis_back o c.args.master.now own (front ++ e ∷ []) _ heard; count = omega (arith, h.count, length-append front (e ∷ [])) })
           (c.redo_record.ensures.redoing o front rest h.pages_are is);
       keeps = c.redo_record.ensures.keeps o front rest h.pages_are is;
-      asks = asks_late c.redo_record.result o e c.args.pages.now c.redo_record.new.pages site (g.S.Site.state c.redo_record.new.site) (omega (arith, redo, c.if-lsn-master.false)) (c.redo_record.ensures.asks o front rest h.pages_are is);
+      asks = asks_late c.redo_record.result o e c.args.pages.now c.redo_record.new.pages _ (g.S.Site.state c.redo_record.new.site) (omega (arith, redo, c.if-lsn-master.false)) (c.redo_record.ensures.asks o front rest h.pages_are is);
     }

@@ -3,8 +3,8 @@ use Rattle.site.specs.declared.outside.Dev.TheVariants.{Log}
 use Rattle.log_records.specs.declared.log_record.LogRecord.TheVariants.{Clr}
 use Rattle.log_records.specs.Log.{Entry}
 use Rattle.log_records.specs.Sound.{AreOrderly}
-use Rattle.redo_undo.specs.Holding.{Holds, MayGrow}
-use Rattle.redo_undo.proofs.Sames.{some_group}
+use Rattle.redo_undo.specs.Holding.{Represents, MayGrow}
+use Rattle.redo_undo.proofs.CallsInSequence.{some_group}
 use Rattle.redo_undo.proofs.Compensations.{may_moved}
 use Rattle.redo_undo.proofs.Appended.{if_ok_one}
 use Rattle.second_chance.specs.Machine.{rules_of}
@@ -18,8 +18,6 @@ log_change-requires-clause-on_page g c = (32 * c.args.wanted.page + c.args.wante
 
 pub returns-in-Ok : goal.returns-in-Ok
 returns-in-Ok g c =
-    let log = c.args.log.now in
-    let pages = c.args.pages.now in
     let site = g.S.Site.state c.args.site.now in
     let mid = g.S.Site.state c.touch.new.site in
     let new = g.S.Site.state c.log_change.new.site in
@@ -29,23 +27,21 @@ returns-in-Ok g c =
     record {
       holds = λ newest records table commits h.
           if_ok_one c.log_change.result
-          (λ lsn. MayGrow c.touch.new.log c.touch.new.pages mid.image newest records (entry lsn) → Holds c.log_change.new.log c.log_change.new.pages new newest (records ++ entry lsn ∷ []) table commits)
-          (λ lsn. MayGrow log pages site.image newest records (entry lsn) → Holds c.log_change.new.log c.log_change.new.pages new newest (records ++ entry lsn ∷ []) table commits)
-          (λ lsn grown may. grown (may_moved c.page_laws.ensures log c.touch.new.log pages c.touch.new.pages site.image mid.image newest records (entry lsn) refl c.touch.ensures.logs_nothing.works.geometry c.in-Ok.ensures.logs_nothing.blocks c.touch.ensures.logs_nothing.works.kept may))
+          (λ lsn. MayGrow c.touch.new.log c.touch.new.pages mid.image newest records (entry lsn) → Represents c.log_change.new.log c.log_change.new.pages new newest (records ++ entry lsn ∷ []) table commits)
+          (λ lsn. MayGrow _ _ site.image newest records (entry lsn) → Represents c.log_change.new.log c.log_change.new.pages new newest (records ++ entry lsn ∷ []) table commits)
+          (λ lsn grown may. grown (may_moved c.page_laws.ensures _ c.touch.new.log _ c.touch.new.pages site.image mid.image newest records (entry lsn) refl c.touch.ensures.logs_nothing.works.geometry c.in-Ok.ensures.logs_nothing.blocks c.touch.ensures.logs_nothing.works.kept may))
           (c.log_change.ensures.holds newest records table commits (c.in-Ok.ensures.holds newest records table commits h));
       orderly = λ newest records table commits h.
           if_ok_one c.log_change.result
           (λ lsn. MayGrow c.touch.new.log c.touch.new.pages mid.image newest records (entry lsn) → AreOrderly records → AreOrderly (records ++ entry lsn ∷ []))
-          (λ lsn. MayGrow log pages site.image newest records (entry lsn) → AreOrderly records → AreOrderly (records ++ entry lsn ∷ []))
-          (λ lsn grown may. grown (may_moved c.page_laws.ensures log c.touch.new.log pages c.touch.new.pages site.image mid.image newest records (entry lsn) refl c.touch.ensures.logs_nothing.works.geometry c.in-Ok.ensures.logs_nothing.blocks c.touch.ensures.logs_nothing.works.kept may))
+          (λ lsn. MayGrow _ _ site.image newest records (entry lsn) → AreOrderly records → AreOrderly (records ++ entry lsn ∷ []))
+          (λ lsn grown may. grown (may_moved c.page_laws.ensures _ c.touch.new.log _ c.touch.new.pages site.image mid.image newest records (entry lsn) refl c.touch.ensures.logs_nothing.works.geometry c.in-Ok.ensures.logs_nothing.blocks c.touch.ensures.logs_nothing.works.kept may))
           (c.log_change.ensures.orderly newest records table commits (c.in-Ok.ensures.holds newest records table commits h));
       keeps = λ newest records table commits h.
           keeps_then h.log_holds.ready.blocks.honest first.geometry first.geometry first.calls (c.in-Ok.ensures.keeps newest records table commits h)
           (c.log_change.ensures.keeps newest records table commits (c.in-Ok.ensures.holds newest records table commits h));
       asks =
-          let mid = c.touch.new.pages in
-          let new = c.log_change.new.pages in
-          change_made tt c.log_change.result c.args.wanted.page pages mid new (g.S.Site.state c.args.site.now) (g.S.Site.state c.touch.new.site) (g.S.Site.state c.log_change.new.site) (some_group c.requires.going) c.touch_then_change.ensures
+          change_made tt c.log_change.result c.args.wanted.page _ _ _ (g.S.Site.state c.args.site.now) (g.S.Site.state c.touch.new.site) (g.S.Site.state c.log_change.new.site) (some_group c.requires.going) c.touch_then_change.ensures
           c.in-Ok.ensures.asks c.log_change.ensures.machine (λ i. rules_of (c.log_change.ensures.works.size i) (c.log_change.ensures.works.geometry i).groups) c.log_change.ensures.reads
           (never_worn c.log_change.result c.log_change.ensures.stops) c.log_change.ensures.stages;
       before = grind (arith, common_steps);
@@ -56,8 +52,7 @@ returns-in-Ok g c =
 
 pub returns-in-Err-clause-asks : goal.returns-in-Err-clause-asks
 returns-in-Err-clause-asks g c =
-    let pages = c.args.pages.now in
-    change_stopped c.in-Err.stop c.args.wanted.page pages c.touch.new.pages (g.S.Site.state c.args.site.now) (g.S.Site.state c.touch.new.site) (some_group c.requires.going) c.in-Err.ensures.asks
+    change_stopped c.in-Err.stop c.args.wanted.page _ c.touch.new.pages (g.S.Site.state c.args.site.now) (g.S.Site.state c.touch.new.site) (some_group c.requires.going) c.in-Err.ensures.asks
 
 pub returns-in-Err-clause-keeps : goal.returns-in-Err-clause-keeps
 returns-in-Err-clause-keeps g c newest records table commits h = keeps_few (omega arith) (keeps_failed (c.in-Err.ensures.keeps newest records table commits h))

@@ -5,7 +5,7 @@ use Rattle.site.specs.declared.outside.Dev.TheVariants.{Log, Flash}
 use Rattle.site.specs.declared.outside.Stop.TheVariants.{Worn, Foreign}
 use Rattle.log_records.specs.declared.log_record.LogRecord.TheVariants.{End}
 use Rattle.log_records.specs.Unfinished.{left_open, owed}
-use Rattle.redo_undo.specs.Holding.{Holds, MayGrow, blocks_to}
+use Rattle.redo_undo.specs.Holding.{Represents, MayGrow, blocks_to}
 use Rattle.redo_undo.specs.Calls.{Keeps}
 use Rattle.image_meaning.specs.Moments.{LeavesTableUnder}
 use Rattle.checkpoint.specs.declared.master.Master.{Master}
@@ -18,10 +18,10 @@ use Rattle.page_store.specs.Caching.{cache_of, next_group}
 use Rattle.page_store.specs.Staging.{Stages}
 use Rattle.redo_undo.specs.Rollback.{AreClrsOf, Compensates}
 use Rattle.redo_undo.specs.Undoing.{IsAt}
-use Rattle.redo_undo.proofs.Sames.{going_still, some_group}
+use Rattle.redo_undo.proofs.CallsInSequence.{going_still, some_group}
 use Rattle.redo_undo.proofs.Rollbacks.{none_remains, room_for_end, may_end, owes_all, rolls_back}
 use Rattle.page_store.specs.Caching.{rules}
-use Rattle.redo_undo.specs.Works.{Asks, undo_one_works}
+use Rattle.redo_undo.specs.MachineSteps.{StepsMachine, undo_one_works}
 use Rattle.redo_undo.proofs.AskingUndo.{SameElse, log_alone, none_read, not_worn, not_worn_flash, asks_refused, asks_later, asks_before}
 use Rattle.redo_undo.proofs.Calling.{calls_read, held_read, keeps_answered, keeps_appended, keeps_failed, keeps_few, keeps_read, keeps_then, works_answered, works_appended, works_foreign, works_read, works_stopped, works_then}
 use Rattle.site.proofs.Working.{calls_then}
@@ -37,7 +37,7 @@ undo_updates-requires-clause-going g c = going_still c.args.log.now c.args.pages
 -- What its Updates' undoing reads, however that ends.
 
 module _ (g : Over) (c : After-undo_updates g) (newest : Option Master) (records : List Entry) (table : List Content) (commits : ℕ) (x : Unfinished)
-    (h : Holds c.args.log.now c.args.pages.now (g.S.Site.state c.args.site.now) newest records table commits) (unfinished : IsUnfinished records x)
+    (h : Represents c.args.log.now c.args.pages.now (g.S.Site.state c.args.site.now) newest records table commits) (unfinished : IsUnfinished records x)
     (own : x.txn ≡ c.args.txn) (last : x.last ≡ c.args.last) where
   few_reads : (g.S.Site.state c.undo_updates.new.site).log_reads ≤ (g.S.Site.state c.args.site.now).log_reads + (x.remaining + 1)
   few_reads =
@@ -49,7 +49,7 @@ module _ (g : Over) (c : After-undo_updates g) (newest : Option Master) (records
 -- All of them are undone.
 
 module _ (g : Over) (c : In-Ok-undo_updates g) (newest : Option Master) (records : List Entry) (table : List Content) (commits : ℕ) (x : Unfinished)
-    (h : Holds c.args.log.now c.args.pages.now (g.S.Site.state c.args.site.now) newest records table commits) (unfinished : IsUnfinished records x)
+    (h : Represents c.args.log.now c.args.pages.now (g.S.Site.state c.args.site.now) newest records table commits) (unfinished : IsUnfinished records x)
     (own : x.txn ≡ c.args.txn) (last : x.last ≡ c.args.last) where
   abbrev old : State
   old = g.S.Site.state c.args.site.now
@@ -60,7 +60,7 @@ module _ (g : Over) (c : In-Ok-undo_updates g) (newest : Option Master) (records
   abbrev site : State
   site = g.S.Site.state c.undo_updates.new.site
 
-  still : Holds c.args.log.now c.args.pages.now mid newest records table commits
+  still : Represents c.args.log.now c.args.pages.now mid newest records table commits
   still = held_read c.beside_laws.ensures.fits h c.read_last.ensures.reads
 
   at : IsAt c.in-Ok.first x
@@ -84,11 +84,11 @@ module _ (g : Over) (c : In-Ok-undo_updates g) (newest : Option Master) (records
   -- a call behind it asks no more
   asks_all : (r : Result ⊤ Stop) (new : State) → SameElse site new → (IsErrOf r (Worn Flash) → ⊥) →
       Stages r [] (next_group (cache_of c.undo_updates.new.pages)) c.undo_updates.new.pages c.undo_updates.new.pages site new →
-      Asks r (undo_one_works records c.args.txn) c.args.pages.now c.undo_updates.new.pages old new
+      StepsMachine r (undo_one_works records c.args.txn) c.args.pages.now c.undo_updates.new.pages old new
   asks_all r new same other stages =
       let pages = c.args.pages.now in
       let pages' = c.undo_updates.new.pages in
-      subst (λ (t : ℕ). Asks r (undo_one_works records t) pages pages' old new) own
+      subst (λ (t : ℕ). StepsMachine r (undo_one_works records t) pages pages' old new) own
       (asks_before c.in-Ok-undo_updates.at r (undo_one_works records x.txn) pages pages' old site new (some_group c.requires.going) same other stages
       (asks_later (Ok c.in-Ok-undo_updates.at) (undo_one_works records x.txn) pages pages' old mid site (log_alone old mid c.read_last.ensures.reads.others)
       (stages_read c.read_last.ensures.reads.same c.read_last.ensures.reads.goes)
@@ -147,7 +147,6 @@ pub returns-then-not-has_room : goal.returns-then-not-has_room
 returns-then-not-has_room g c =
     let s = (goal.at.returns-then-not-has_room g c).In-Ok-undo_updates in
     let all = ap (λ (k : Geometry). k.blocks) c.in-Ok-undo_updates.ensures.works.going.sizes in
-    let many = c.in-Ok-undo_updates.ensures.works.going.log_going.limits.blocks in
     record {
       undone = search rules;
       keeps = λ newest records table commits x h unfinished own last.
@@ -156,7 +155,7 @@ returns-then-not-has_room g c =
           (blocks_to c.args.log.now) (g.S.Site.state c.read_last.new.site).log_reads c.in-Ok-undo_updates.at
           (done g s newest records table commits x h unfinished own last)
           (none g s newest records table commits x h unfinished own last) in
-          absurd (true≢false (sym (c.has_room.ensures.1 (omega (arith, room, all, many))) ∙ c.if-not-has_room.true));
+          absurd (true≢false (sym (c.has_room.ensures.1 (omega (arith, room, all, c.in-Ok-undo_updates.ensures.works.going.log_going.limits.blocks))) ∙ c.if-not-has_room.true));
       blocks = search rules;
       log_reads = few_reads g (goal.at.returns-then-not-has_room g c).After-undo_updates;
       asks = λ newest records table commits x h unfinished own last.
@@ -196,9 +195,7 @@ returns-in-Err-log_record g c =
 
 pub returns-in-Err-clause-asks : goal.returns-in-Err-clause-asks
 returns-in-Err-clause-asks g c newest records table commits x h unfinished own last =
-    let old = g.S.Site.state c.args.site.now in
-    let mid = g.S.Site.state c.read_last.new.site in
-    asks_refused c.in-Err.stop (undo_one_works records c.args.txn) c.args.pages.now old mid (some_group c.requires.going) (not_worn c.in-Err.stop c.in-Err.ensures.reads.stops) (log_alone old mid c.read_last.ensures.reads.others)
+    asks_refused c.in-Err.stop (undo_one_works records c.args.txn) c.args.pages.now _ _ (some_group c.requires.going) (not_worn c.in-Err.stop c.in-Err.ensures.reads.stops) (log_alone _ _ c.read_last.ensures.reads.others)
     (stages_read c.in-Err.ensures.reads.same c.in-Err.ensures.reads.goes)
 
 pub returns-in-Err-undo_updates-clause-asks : goal.returns-in-Err-undo_updates-clause-asks
@@ -211,7 +208,7 @@ returns-in-Err-undo_updates-clause-asks g c newest records table commits x h unf
     let now = g.S.Site.state c.undo_updates.new.site in
     let new = c.undo_updates.new.pages in
     let stop = c.in-Err-undo_updates.stop in
-    subst (λ (t : ℕ). Asks {T = ⊤} (Err stop) (undo_one_works records t) pages new old now) own
+    subst (λ (t : ℕ). StepsMachine {T = ⊤} (Err stop) (undo_one_works records t) pages new old now) own
     (asks_err stop (undo_one_works records x.txn) pages new old now
     (asks_later (Err stop) (undo_one_works records x.txn) pages new old mid now (log_alone old mid read.others) (stages_read read.same read.goes)
     (c.in-Err-undo_updates.ensures.asks newest records table commits x (held_read c.beside_laws.ensures.fits h read) unfinished at)))

@@ -3,7 +3,7 @@ use Rattle.site.specs.declared.geometry.Geometry.{Geometry}
 use Rattle.site.specs.State.{Image}
 use Rattle.log_records.specs.declared.log_record.LogRecord.TheVariants.{Clr}
 use Rattle.redo_undo.specs.Undoing.{IsWanted}
-use Rattle.redo_undo.proofs.Sames.{holds_still, going_still, some_group}
+use Rattle.redo_undo.proofs.CallsInSequence.{holds_still, going_still, some_group}
 use Rattle.redo_undo.proofs.Compensations.{may_compensate, room_for_clr, owes_less, undone}
 use Rattle.site.specs.declared.outside.Stop.TheVariants.{Foreign}
 use Rattle.page_store.specs.Caching.{rules}
@@ -19,32 +19,28 @@ compensate-requires-clause-going g c = going_still c.args.log.now c.args.pages.n
 
 pub returns : goal.returns
 returns g c =
-    let log = c.args.log.now in
     let pages = c.args.pages.now in
-    let old = g.S.Site.state c.args.site.now in
     let mid = g.S.Site.state c.read_update.new.site in
     let w = c.in-Ok.wanted in
-    let new = c.compensate.new.pages in
-    let now = g.S.Site.state c.compensate.new.site in
     let read = c.in-Ok.ensures.reads in
     record {
       undone = λ newest records table commits x h unfinished at some.
           let same = c.read_update.ensures.reads.same h.log_holds.ready.blocks.honest in
-          let still = holds_still c.beside_laws.ensures.fits log pages old mid newest records table commits c.read_update.ensures.reads.goes same h in
+          let still = holds_still c.beside_laws.ensures.fits _ pages _ mid newest records table commits c.read_update.ensures.reads.goes same h in
           let wanted = c.in-Ok.ensures.wanted pages newest records table commits x c.requires.going.sizes h unfinished at some in
           let there : IsWanted pages.flash.geometry mid.image newest records x w = subst (λ (i : Image). IsWanted pages.flash.geometry i newest records x w) (sym same.image) wanted in
-          let may = may_compensate c.page_laws.ensures c.undo_laws.ensures log pages mid newest records table commits still x unfinished c.args.at w c.in-Ok-compensate.last at some there in
+          let may = may_compensate c.page_laws.ensures c.undo_laws.ensures _ pages mid newest records table commits still x unfinished c.args.at w c.in-Ok-compensate.last at some there in
           undone c.undo_laws.ensures c.compensate.new.log c.compensate.new.pages (g.S.Site.state c.compensate.new.site) newest records table commits x c.args.at w c.in-Ok-compensate.last unfinished at some
           (c.in-Ok-compensate.ensures.holds newest records table commits still may)
-          (owes_less c.page_laws.ensures c.undo_laws.ensures log pages mid newest records table commits still x unfinished (record { lsn = c.in-Ok-compensate.last; rec = Clr c.args.at.txn c.args.at.last w.prev w.page w.slot w.before }) refl at.txn some)
+          (owes_less c.page_laws.ensures c.undo_laws.ensures _ pages mid newest records table commits still x unfinished (record { lsn = c.in-Ok-compensate.last; rec = Clr c.args.at.txn c.args.at.last w.prev w.page w.slot w.before }) refl at.txn some)
           (c.in-Ok-compensate.ensures.orderly newest records table commits still may);
       keeps = λ newest records table commits x h unfinished at some.
           keeps_answered (keeps_then h.log_holds.ready.blocks.honest refl refl (calls_read read) (keeps_read c.requires.going.sizes h read tt)
           (c.in-Ok-compensate.ensures.keeps newest records table commits (held_read c.beside_laws.ensures.fits h read)));
       asks = λ newest records table commits x u rest h unfinished at left.
-          asks_ok c.in-Ok-compensate.last _ (works_of (u ∷ [])) pages new old now
-          (asks_of_update (Ok c.in-Ok-compensate.last) u c.in-Ok.wanted.page c.in-Ok.wanted.slot pages new old mid now c.in-Ok.ensures.form.0
-          (c.in-Ok.ensures.last_left pages newest records table commits x u rest c.requires.going.sizes h unfinished at left) (log_alone old mid c.read_update.ensures.reads.others) (stages_read c.read_update.ensures.reads.same c.read_update.ensures.reads.goes) c.in-Ok-compensate.ensures.asks);
+          asks_ok c.in-Ok-compensate.last _ (works_of (u ∷ [])) pages _ _ _
+          (asks_of_update (Ok c.in-Ok-compensate.last) u c.in-Ok.wanted.page c.in-Ok.wanted.slot pages _ _ mid _ c.in-Ok.ensures.form.0
+          (c.in-Ok.ensures.last_left pages newest records table commits x u rest c.requires.going.sizes h unfinished at left) (log_alone _ mid c.read_update.ensures.reads.others) (stages_read c.read_update.ensures.reads.same c.read_update.ensures.reads.goes) c.in-Ok-compensate.ensures.asks);
       last = grind (arith, common_steps);
       falls = grind (arith, common_steps);
       same = search rules;
@@ -55,27 +51,20 @@ returns g c =
 
 pub returns-in-Err-clause-asks : goal.returns-in-Err-clause-asks
 returns-in-Err-clause-asks g c newest records table commits x u rest h unfinished at left =
-    let pages = c.args.pages.now in
-    asks_refused c.in-Err.stop (works_of (u ∷ [])) pages (g.S.Site.state c.args.site.now) (g.S.Site.state c.read_update.new.site) (some_group c.requires.going) (not_worn c.in-Err.stop c.in-Err.ensures.reads.stops)
+    asks_refused c.in-Err.stop (works_of (u ∷ [])) _ (g.S.Site.state c.args.site.now) (g.S.Site.state c.read_update.new.site) (some_group c.requires.going) (not_worn c.in-Err.stop c.in-Err.ensures.reads.stops)
     (log_alone (g.S.Site.state c.args.site.now) (g.S.Site.state c.read_update.new.site) c.read_update.ensures.reads.others) (stages_read c.read_update.ensures.reads.same c.read_update.ensures.reads.goes)
 
 pub returns-then-not-has_room-clause-asks : goal.returns-then-not-has_room-clause-asks
 returns-then-not-has_room-clause-asks g c newest records table commits x u rest h unfinished at left =
-    let pages = c.args.pages.now in
-    asks_refused Foreign (works_of (u ∷ [])) pages (g.S.Site.state c.args.site.now) (g.S.Site.state c.read_update.new.site)
+    asks_refused Foreign (works_of (u ∷ [])) _ (g.S.Site.state c.args.site.now) (g.S.Site.state c.read_update.new.site)
     (some_group c.requires.going) (not_worn Foreign (inr refl))
     (log_alone (g.S.Site.state c.args.site.now) (g.S.Site.state c.read_update.new.site) c.read_update.ensures.reads.others) (stages_read c.read_update.ensures.reads.same c.read_update.ensures.reads.goes)
 
 pub returns-in-Err-compensate-clause-asks : goal.returns-in-Err-compensate-clause-asks
 returns-in-Err-compensate-clause-asks g c newest records table commits x u rest h unfinished at left =
-    let pages = c.args.pages.now in
-    let new = c.compensate.new.pages in
-    let old = g.S.Site.state c.args.site.now in
-    let mid = g.S.Site.state c.read_update.new.site in
-    let now = g.S.Site.state c.compensate.new.site in
-    asks_err c.in-Err-compensate.stop (works_of (u ∷ [])) pages new old now
-    (asks_of_update (Err c.in-Err-compensate.stop) u c.in-Ok.wanted.page c.in-Ok.wanted.slot pages new old mid now c.in-Ok.ensures.form.0
-    (c.in-Ok.ensures.last_left pages newest records table commits x u rest c.requires.going.sizes h unfinished at left) (log_alone old mid c.read_update.ensures.reads.others) (stages_read c.read_update.ensures.reads.same c.read_update.ensures.reads.goes) c.in-Err-compensate.ensures.asks)
+    asks_err c.in-Err-compensate.stop (works_of (u ∷ [])) _ _ _ _
+    (asks_of_update (Err c.in-Err-compensate.stop) u c.in-Ok.wanted.page c.in-Ok.wanted.slot _ _ _ _ _ c.in-Ok.ensures.form.0
+    (c.in-Ok.ensures.last_left _ newest records table commits x u rest c.requires.going.sizes h unfinished at left) (log_alone _ _ c.read_update.ensures.reads.others) (stages_read c.read_update.ensures.reads.same c.read_update.ensures.reads.goes) c.in-Err-compensate.ensures.asks)
 
 pub returns-in-Err-clause-keeps : goal.returns-in-Err-clause-keeps
 returns-in-Err-clause-keeps g c newest records table commits x h unfinished at some =

@@ -1,7 +1,7 @@
 use Rattle.std.proofs.Common.{◌≡◌, List, [], ◌∷◌, ◌++◌, append-nil, refl, sym, ap, ◌∙◌, arith}
 use Rattle.redo_undo.specs.Holding.{blocks_to}
 use Rattle.redo_undo.specs.Rollback.{left_of}
-use Rattle.redo_undo.proofs.Sames.{some_group}
+use Rattle.redo_undo.proofs.CallsInSequence.{some_group}
 use Rattle.redo_undo.proofs.Rollbacks.{remains, none_remains}
 use Rattle.log_records.specs.Log.{Entry}
 use Rattle.log_records.specs.Unfinished.{left_open}
@@ -27,8 +27,6 @@ loop-at-init g c = record {
 pub loop-at-preserved : goal.loop-at-preserved
 loop-at-preserved g c =
     let old = g.S.Site.state c.args.site.now in
-    let mid = g.S.Site.state c.loop-at.site in
-    let new = g.S.Site.state c.undo_update.new.site in
     let inv = c.loop-at.invariant in
     record {
       works = works_answered (works_then inv.works c.in-Ok.ensures.works);
@@ -37,10 +35,10 @@ loop-at-preserved g c =
       undone = λ newest records table commits x h unfinished at.
           let both = inv.undone newest records table commits x h unfinished at in
           let before = both.0.0 in
-          let some = remains c.page_laws.ensures c.undo_laws.ensures c.loop-at.log c.loop-at.pages mid newest records table commits x.txn (blocks_to c.args.log.now) old.log_reads c.loop-at.at before c.loop-at-test.true in
+          let some = remains c.page_laws.ensures c.undo_laws.ensures c.loop-at.log c.loop-at.pages _ newest records table commits x.txn (blocks_to c.args.log.now) old.log_reads c.loop-at.at before c.loop-at-test.true in
           let there : IsAt c.loop-at.at (left_of c.loop-at.at before.remaining) = record { txn = refl; last = refl; next = refl } in
           let u = first_of (left_open (records ++ before.clrs) c.loop-at.at.txn) (omega (arith, some, before.left.remaining_is)) in
-          let more = goes_on_asking c.page_laws.ensures c.undo_laws.ensures c.loop-at.log c.loop-at.pages mid newest records table commits x.txn (blocks_to c.args.log.now) c.loop-at.at c.args.pages.now old both.0 c.undo_update.new.log c.undo_update.new.pages new c.in-Ok.next u.0 u.1 u.2
+          let more = goes_on_asking c.page_laws.ensures c.undo_laws.ensures c.loop-at.log c.loop-at.pages _ newest records table commits x.txn (blocks_to c.args.log.now) c.loop-at.at c.args.pages.now old both.0 c.undo_update.new.log c.undo_update.new.pages _ c.in-Ok.next u.0 u.1 u.2
           (c.in-Ok.ensures.undone newest _ table commits (left_of c.loop-at.at before.remaining) before.holds before.left there some) c.in-Ok.ensures.blocks c.in-Ok.ensures.log_reads
           (c.in-Ok.ensures.asks newest _ table commits (left_of c.loop-at.at before.remaining) u.0 u.1 before.holds before.left there u.2) in (
             more.0,
@@ -52,7 +50,6 @@ loop-at-preserved g c =
 pub returns : goal.returns
 returns g c =
     let old = g.S.Site.state c.args.site.now in
-    let mid = g.S.Site.state c.loop-at.site in
     record {
       undone = λ newest records table commits x h unfinished at. (c.loop-at.invariant.undone newest records table commits x h unfinished at).0.0;
       keeps = λ newest records table commits x h unfinished at.
@@ -64,10 +61,9 @@ returns g c =
       asks = λ newest records table commits x h unfinished at.
           let both = (c.loop-at.invariant.undone newest records table commits x h unfinished at).0 in
           let before = both.0 in
-          let none = none_remains c.page_laws.ensures c.undo_laws.ensures c.loop-at.log c.loop-at.pages mid newest records table commits x.txn (blocks_to c.args.log.now) old.log_reads c.loop-at.at before c.loop-at-test.false in
-          let count = before.left.remaining_is in
-          let empty : left_open (records ++ before.clrs) x.txn ≡ [] = sym (ap (left_open (records ++ before.clrs)) before.same) ∙ none_of (left_open (records ++ before.clrs) c.loop-at.at.txn) (omega (arith, none, count)) in
-          all_work tt _ (left_open records x.txn) both.1.done c.args.pages.now c.loop-at.pages old mid
+          let none = none_remains c.page_laws.ensures c.undo_laws.ensures c.loop-at.log c.loop-at.pages _ newest records table commits x.txn (blocks_to c.args.log.now) old.log_reads c.loop-at.at before c.loop-at-test.false in
+          let empty : left_open (records ++ before.clrs) x.txn ≡ [] = sym (ap (left_open (records ++ before.clrs)) before.same) ∙ none_of (left_open (records ++ before.clrs) c.loop-at.at.txn) (omega (arith, none, before.left.remaining_is)) in
+          all_work tt _ (left_open records x.txn) both.1.done c.args.pages.now c.loop-at.pages old _
           (both.1.are ∙ ap (λ (l : List Entry). both.1.done ++ l) empty ∙ append-nil both.1.done) both.1.asks;
       none = search rules;
       same = search rules;
@@ -80,9 +76,7 @@ returns-in-Err-clause-keeps g c newest records table commits x h unfinished at =
     let both = inv.undone newest records table commits x h unfinished at in
     let before = both.0.0 in
     let some = remains c.page_laws.ensures c.undo_laws.ensures c.loop-at.log c.loop-at.pages (g.S.Site.state c.loop-at.site) newest records table commits x.txn (blocks_to c.args.log.now) (g.S.Site.state c.args.site.now).log_reads c.loop-at.at before c.loop-at-test.true in
-    let count = before.count in
-    let all = unfinished.remaining_is in
-    keeps_few (omega (arith, some, count, all)) (keeps_failed (keeps_then h.log_holds.ready.blocks.honest inv.works.geometry inv.works.geometry inv.works.calls both.1
+    keeps_few (omega (arith, some, before.count, unfinished.remaining_is)) (keeps_failed (keeps_then h.log_holds.ready.blocks.honest inv.works.geometry inv.works.geometry inv.works.calls both.1
     (c.in-Err.ensures.keeps newest _ table commits (left_of c.loop-at.at before.remaining) before.holds before.left (record { txn = refl; last = refl; next = refl }) some)))
 
 pub returns-in-Err-clause-log_reads : goal.returns-in-Err-clause-log_reads
@@ -94,13 +88,11 @@ returns-in-Err-clause-log_reads g c newest records table commits x h unfinished 
 pub returns-in-Err-clause-asks : goal.returns-in-Err-clause-asks
 returns-in-Err-clause-asks g c newest records table commits x h unfinished at =
     let old = g.S.Site.state c.args.site.now in
-    let mid = g.S.Site.state c.loop-at.site in
-    let new = g.S.Site.state c.undo_update.new.site in
     let both = (c.loop-at.invariant.undone newest records table commits x h unfinished at).0 in
     let before = both.0 in
-    let remain = remains c.page_laws.ensures c.undo_laws.ensures c.loop-at.log c.loop-at.pages mid newest records table commits x.txn (blocks_to c.args.log.now) old.log_reads c.loop-at.at before c.loop-at-test.true in
+    let remain = remains c.page_laws.ensures c.undo_laws.ensures c.loop-at.log c.loop-at.pages _ newest records table commits x.txn (blocks_to c.args.log.now) old.log_reads c.loop-at.at before c.loop-at-test.true in
     let u = first_of (left_open (records ++ before.clrs) c.loop-at.at.txn) (omega (arith, remain, before.left.remaining_is)) in
     let left : left_open (records ++ before.clrs) x.txn ≡ u.0 ∷ u.1 = sym (ap (left_open (records ++ before.clrs)) before.same) ∙ u.2 in
     let all : left_open records x.txn ≡ both.1.done ++ u.0 ∷ u.1 = both.1.are ∙ ap (λ (l : List Entry). both.1.done ++ l) left in
-    more_work_stopped tt c.in-Err.stop (left_open records x.txn) both.1.done u.1 u.0 c.args.pages.now c.loop-at.pages c.undo_update.new.pages old mid new (some_group c.requires.going) all both.1.asks
+    more_work_stopped tt c.in-Err.stop (left_open records x.txn) both.1.done u.1 u.0 c.args.pages.now c.loop-at.pages c.undo_update.new.pages old _ _ (some_group c.requires.going) all both.1.asks
     (c.in-Err.ensures.asks newest _ table commits (left_of c.loop-at.at before.remaining) u.0 u.1 before.holds before.left (record { txn = refl; last = refl; next = refl }) u.2)

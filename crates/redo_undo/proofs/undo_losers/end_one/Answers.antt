@@ -11,30 +11,23 @@ use Rattle.redo_undo.proofs.undo_losers.end_one.Goals as goal
 
 pub returns-clause-updates : goal.returns-clause-updates
 returns-clause-updates g c pages newest records table commits known sizes h =
-    let log = c.args.log.now in
-    let site = g.S.Site.state c.args.site.now in
-    let new = g.S.Site.state c.log_record.new.site in
-    let lsn = c.in-Ok.lsn in
     let n = c.requires.none in
     let x : Unfinished = record { txn = c.args.txn; last = n.x.last; next = next_of records c.args.txn; remaining = length n.x.updates } in
-    let u = unfinished_of c.found_laws.ensures c.undo_laws.ensures log pages site newest records table commits c.args.found.now h.holds h.analysis c.args.txn n.x n.there in
-    end_updates c.undo_laws.ensures c.log_record.new.log pages new newest records table commits c.finished.new.self c.args.txn lsn
+    let u = unfinished_of c.found_laws.ensures c.undo_laws.ensures _ pages _ newest records table commits c.args.found.now h.holds h.analysis c.args.txn n.x n.there in
+    end_updates c.undo_laws.ensures c.log_record.new.log pages _ newest records table commits c.finished.new.self c.args.txn _
     (none_of (left_open records c.args.txn) (sym (ap length n.none) ∙ u.remaining_is))
-    (c.in-Ok.ensures.holds pages newest records table commits sizes h.holds refl (end_may c.page_laws.ensures c.undo_laws.ensures log pages site newest records table commits h.holds x u (ap length n.none) lsn))
-    (c.finished.ensures.table [] records lsn h.analysis)
-    (owes_end c.page_laws.ensures c.undo_laws.ensures log pages site newest records table commits h.holds x u (ap length n.none) lsn)
-    (c.in-Ok.ensures.orderly pages newest records table commits sizes h.holds (end_may c.page_laws.ensures c.undo_laws.ensures log pages site newest records table commits h.holds x u (ap length n.none) lsn))
+    (c.in-Ok.ensures.holds pages newest records table commits sizes h.holds refl (end_may c.page_laws.ensures c.undo_laws.ensures _ pages _ newest records table commits h.holds x u (ap length n.none) _))
+    (c.finished.ensures.table [] records _ h.analysis)
+    (owes_end c.page_laws.ensures c.undo_laws.ensures _ pages _ newest records table commits h.holds x u (ap length n.none) _)
+    (c.in-Ok.ensures.orderly pages newest records table commits sizes h.holds (end_may c.page_laws.ensures c.undo_laws.ensures _ pages _ newest records table commits h.holds x u (ap length n.none) _))
 
 pub returns-then-not-has_room-clause-keeps : goal.returns-then-not-has_room-clause-keeps
 returns-then-not-has_room-clause-keeps g c pages newest records table commits known going h =
-    let log = c.args.log.now in
-    let site = g.S.Site.state c.args.site.now in
     let n = c.requires.none in
     let x : Unfinished = record { txn = c.args.txn; last = n.x.last; next = next_of records c.args.txn; remaining = length n.x.updates } in
-    let u = unfinished_of c.found_laws.ensures c.undo_laws.ensures log pages site newest records table commits c.args.found.now h.holds h.analysis c.args.txn n.x n.there in
-    let room = room_to_end c.page_laws.ensures c.undo_laws.ensures log pages site newest records table commits h.holds x u (ap length n.none) in
-    let many = c.requires.going.limits.blocks in
-    absurd (true≢false (sym (c.has_room.ensures.1 (omega (arith, room, ap (λ (k : Geometry). k.blocks) going.sizes, many))) ∙ c.if-not-has_room.true))
+    let u = unfinished_of c.found_laws.ensures c.undo_laws.ensures _ pages _ newest records table commits c.args.found.now h.holds h.analysis c.args.txn n.x n.there in
+    let room = room_to_end c.page_laws.ensures c.undo_laws.ensures _ pages _ newest records table commits h.holds x u (ap length n.none) in
+    absurd (true≢false (sym (c.has_room.ensures.1 (omega (arith, room, ap (λ (k : Geometry). k.blocks) going.sizes, c.requires.going.limits.blocks))) ∙ c.if-not-has_room.true))
 
 pub returns-in-Err-clause-keeps : goal.returns-in-Err-clause-keeps
 returns-in-Err-clause-keeps g c pages newest records table commits known going h = keeps_appended going c.in-Err.ensures.stops (c.in-Err.ensures.keeps pages newest records table commits h.holds)

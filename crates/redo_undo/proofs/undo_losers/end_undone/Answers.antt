@@ -48,8 +48,7 @@ returns-in-Err-clause-keeps g c pages newest records table commits going h =
     let inv = c.loop-txn.invariant in
     let none = c.in-Some.ensures.none in
     let some = some_owed (listed c.loop-txn.found.table) c.in-Some.txn none.x none.there in
-    let fewer = inv.fewer in
-    keeps_few (omega (arith, some, fewer)) (keeps_then h.holds.log_holds.ready.blocks.honest refl refl inv.works.calls (inv.keeps pages newest records table commits going h)
+    keeps_few (omega (arith, some, inv.fewer)) (keeps_then h.holds.log_holds.ready.blocks.honest refl refl inv.works.calls (inv.keeps pages newest records table commits going h)
     (c.in-Err.ensures.keeps pages newest _ table commits c.loop-txn.last (inv.works.going pages going) (inv.updates pages newest records table commits going h).some.now))
 
 pub returns-clause-keeps : goal.returns-clause-keeps

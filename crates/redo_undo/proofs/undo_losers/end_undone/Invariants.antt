@@ -1,17 +1,17 @@
 use Rattle.std.proofs.Common.{◌≡◌, ◌+◌, ◌-◌, ◌≤◌, ◌<◌, ℕ, List, [], Option}
 use Rattle.record_model.specs.State.{Content}
 use Rattle.log_records.specs.Log.{Entry}
-use Rattle.log_store.specs.Held.{end_of}
+use Rattle.log_store.specs.Representation.{end_of}
 use Rattle.page_store.specs.declared.store.PageStore.{PageStore}
 use Rattle.checkpoint.specs.declared.master.Master.{Master}
 use Rattle.image_meaning.specs.Moments.{LeavesTableUnder}
 use Rattle.analysis.specs.Open.{owed_for}
 use Rattle.analysis.specs.Table.{listed}
 use Rattle.analysis.specs.Read as analysis
-use Rattle.redo_undo.specs.Holding.{MayGoOn, blocks_to}
+use Rattle.redo_undo.specs.Holding.{Invariant, blocks_to}
 use Rattle.redo_undo.specs.UndoingAll.{IsUndoing}
 use Rattle.redo_undo.specs.UndoWorks.{UndoesUpdates}
-use Rattle.redo_undo.specs.Calls.{Keeps, WorksBeside}
+use Rattle.redo_undo.specs.Calls.{Keeps, KeepsInvariantBeside}
 use Rattle.std.specs.Prelude.{Ok}
 use Rattle.redo_undo.proofs.undo_losers.end_undone.Given as goal
 
@@ -20,16 +20,16 @@ invariant-loop-txn g l =
     let old = g.S.Site.state l.fn.site in
     let now = g.S.Site.state l.site in
     record {
-      works : WorksBeside {T = Unit {0}} (Ok tt) l.fn.log l.log old now;
-      found_going : analysis.MayGoOn l.found;
+      works : KeepsInvariantBeside {T = Unit {0}} (Ok tt) l.fn.log l.log old now;
+      found_going : analysis.Invariant l.found;
       before : l.last < end_of l.log;
       rises : end_of l.fn.log ≤ end_of l.log;
       commits : l.found.commits ≡ l.fn.found.commits;
       blocks : blocks_to l.log + owed_for (listed l.found.table) ≤ blocks_to l.fn.log + owed_for (listed l.fn.found.table);
       fewer : owed_for (listed l.found.table) ≤ owed_for (listed l.fn.found.table);
-      updates : (pages : PageStore) (newest : Option Master) (records : List Entry) (table : List Content) (commits : ℕ) → MayGoOn l.fn.log pages old → IsUndoing l.fn.log pages old newest records table commits l.fn.found l.fn.known →
+      updates : (pages : PageStore) (newest : Option Master) (records : List Entry) (table : List Content) (commits : ℕ) → Invariant l.fn.log pages old → IsUndoing l.fn.log pages old newest records table commits l.fn.found l.fn.known →
           UndoesUpdates l.log pages now newest records table commits l.found l.last [];
-      keeps : (pages : PageStore) (newest : Option Master) (records : List Entry) (table : List Content) (commits : ℕ) → MayGoOn l.fn.log pages old → IsUndoing l.fn.log pages old newest records table commits l.fn.found l.fn.known →
+      keeps : (pages : PageStore) (newest : Option Master) (records : List Entry) (table : List Content) (commits : ℕ) → Invariant l.fn.log pages old → IsUndoing l.fn.log pages old newest records table commits l.fn.found l.fn.known →
           Keeps {T = Unit {0}} (Ok tt) pages.flash.geometry l.fn.log l.log old now (LeavesTableUnder newest pages.flash.geometry table commits old.told) (owed_for (listed l.fn.found.table) - owed_for (listed l.found.table)) 0;
     }
 

@@ -2,13 +2,13 @@ use Rattle.std.proofs.Common.{true, false, ℕ, List, ◌≡◌, ◌++◌, ◌+�
 use Rattle.std.specs.Prelude.{⊤, IsErrOf, Option, option_map}
 use Rattle.std.specs.List.{AllByRecursion}
 use Rattle.analysis.specs.Table.{listed}
-use Rattle.redo_undo.proofs.Sames.{some_group}
+use Rattle.redo_undo.proofs.CallsInSequence.{some_group}
 use Rattle.redo_undo.proofs.Opens.{none_listed, if_none, some_owed}
 use Rattle.image_meaning.specs.Meaning.{kept_by}
 use Rattle.redo_undo.proofs.Found.{order, all_undone, sealed_up_to, own_known}
 use Rattle.site.specs.declared.outside.Stop.TheVariants.{Worn}
 use Rattle.site.specs.declared.outside.Dev.TheVariants.{Flash, Log}
-use Rattle.redo_undo.specs.Works.{undo_works}
+use Rattle.redo_undo.specs.MachineSteps.{undo_works}
 use Rattle.page_store.proofs.StagingLaws.{stages_ok, stages_err}
 use Rattle.redo_undo.proofs.Asking.{asks_nothing, stages_log}
 use Rattle.redo_undo.proofs.AskingUndo.{none_read, not_worn_either, asks_refused}
@@ -17,8 +17,8 @@ use Rattle.record_model.specs.State.{Content}
 use Rattle.log_records.specs.Log.{Entry, txn_of, last_where}
 use Rattle.log_records.specs.Unfinished.{pending}
 use Rattle.analysis.specs.Read.{IsTable}
-use Rattle.log_store.specs.Held.{has_tail}
-use Rattle.redo_undo.specs.Holding.{Holds}
+use Rattle.log_store.specs.Representation.{has_tail}
+use Rattle.redo_undo.specs.Holding.{Represents}
 use Rattle.redo_undo.proofs.UndoneUpdates.{AsksUpdates, next_is_last, none_is_next, updates_asked_more, updates_asked_stopped, updates_asked}
 use Rattle.redo_undo.specs.UndoingAll.{IsUndoing}
 use Rattle.redo_undo.proofs.Calling.{keeps_answered, keeps_counted, keeps_failed, keeps_few, keeps_then, works_answered, works_beside, works_then}
@@ -28,7 +28,7 @@ use Rattle.redo_undo.proofs.undo_losers.undo_all.Goals as goal
 
 module _ (g : Over) (c : After-end_undone g) (newest : Option Master) (records : List Entry) (table : List Content) (commits : ℕ)
     (none : has_tail c.args.log.now ≡ false)
-    (h : Holds c.args.log.now c.args.pages.now (g.S.Site.state c.args.site.now) newest records table commits)
+    (h : Represents c.args.log.now c.args.pages.now (g.S.Site.state c.args.site.now) newest records table commits)
     (is : IsTable [] records (listed c.args.found.now.table)) where
   undoing : IsUndoing c.args.log.now c.args.pages.now (g.S.Site.state c.args.site.now) newest records table commits c.args.found.now
       (c.sealed_end-sealed.result + 1)
@@ -43,7 +43,7 @@ module _ (g : Over) (c : After-end_undone g) (newest : Option Master) (records :
 -- the Update that is undone next is the last one
 module _ (g : Over) (c : After-next_undo g) (newest : Option Master) (records : List Entry) (table : List Content) (commits : ℕ)
     (none : has_tail c.args.log.now ≡ false)
-    (h : Holds c.args.log.now c.args.pages.now (g.S.Site.state c.args.site.now) newest records table commits)
+    (h : Represents c.args.log.now c.args.pages.now (g.S.Site.state c.args.site.now) newest records table commits)
     (is : IsTable [] records (listed c.args.found.now.table)) where
   before : AsksUpdates c.loop-next.log c.loop-next.pages (g.S.Site.state c.loop-next.site) newest records table commits c.loop-next.found c.loop-next.known c.args.pages.now (g.S.Site.state c.args.site.now)
   before = c.loop-next.invariant.asked newest records table commits none h is
@@ -51,16 +51,14 @@ module _ (g : Over) (c : After-next_undo g) (newest : Option Master) (records : 
   next_is : c.next_undo.result ≡ option_map (λ (u : Entry). record { 0 = txn_of u; 1 = u.lsn })
       (last_where (λ v. true) (pending (records ++ before.updates.some.more)))
   next_is =
-      let mid = g.S.Site.state c.loop-next.site in
       let now = before.updates.some.now in
       let all = records ++ before.updates.some.more in
       c.next_undo.ensures.of_table [] all (512 * kept_by newest) _ now.analysis
-      (own_known c.found_laws.ensures c.undo_laws.ensures c.loop-next.log c.loop-next.pages mid newest all table commits c.loop-next.found now.holds now.analysis)
-      (order c.found_laws.ensures c.undo_laws.ensures c.loop-next.log c.loop-next.pages mid newest all table commits c.loop-next.found now.holds now.analysis)
+      (own_known c.found_laws.ensures c.undo_laws.ensures c.loop-next.log c.loop-next.pages _ newest all table commits c.loop-next.found now.holds now.analysis)
+      (order c.found_laws.ensures c.undo_laws.ensures c.loop-next.log c.loop-next.pages _ newest all table commits c.loop-next.found now.holds now.analysis)
 
 pub loop-next-init : goal.loop-next-init
 loop-next-init g c =
-    let old = g.S.Site.state c.args.site.now in
     let fewer = c.in-Ok.ensures.fewer in
     let few = c.in-Ok.ensures.blocks in
     record {
@@ -76,7 +74,7 @@ loop-next-init g c =
         done = [];
         updates = c.in-Ok.ensures.updates c.args.pages.now newest records table commits c.requires.going
             (undoing g (goal.at.loop-next-init g c).After-end_undone newest records table commits none h is);
-        asks = asks_nothing {T = ⊤} (Ok tt) c.args.pages.now old (g.S.Site.state c.end_undone.new.site) c.end_undone.ensures.works.reads (λ (worn : IsErrOf {T = ⊤} (Ok tt) (Worn Flash)). cc) (stages_ok (stages_log c.in-Ok.ensures.works));
+        asks = asks_nothing {T = ⊤} (Ok tt) c.args.pages.now _ (g.S.Site.state c.end_undone.new.site) c.end_undone.ensures.works.reads (λ (worn : IsErrOf {T = ⊤} (Ok tt) (Worn Flash)). cc) (stages_ok (stages_log c.in-Ok.ensures.works));
       };
       keeps = λ newest records table commits none h is.
           let undoing = undoing g (goal.at.loop-next-init g c).After-end_undone newest records table commits none h is in
@@ -86,9 +84,6 @@ loop-next-init g c =
 
 pub loop-next-preserved : goal.loop-next-preserved
 loop-next-preserved g c =
-    let old = g.S.Site.state c.args.site.now in
-    let mid = g.S.Site.state c.loop-next.site in
-    let new = g.S.Site.state c.undo_next.new.site in
     let inv = c.loop-next.invariant in
     let few = inv.blocks in
     let less = c.in-Ok-undo_next.ensures.blocks in
@@ -110,7 +105,7 @@ loop-next-preserved g c =
           let undone = before.updates.some in
           let all = records ++ undone.more in
           let last = next_is_last all c.next_undo.result c.in-Some.next c.in-Some.is (next_is g s newest records table commits none h is) in
-          updates_asked_more c.in-Ok-undo_next.lsn c.loop-next.log c.undo_next.new.log c.loop-next.pages c.undo_next.new.pages mid new newest records table commits c.loop-next.found c.undo_next.new.found c.loop-next.known c.in-Ok-undo_next.lsn c.args.pages.now old
+          updates_asked_more c.in-Ok-undo_next.lsn c.loop-next.log c.undo_next.new.log c.loop-next.pages c.undo_next.new.pages _ _ newest records table commits c.loop-next.found c.undo_next.new.found c.loop-next.known c.in-Ok-undo_next.lsn c.args.pages.now _
           before last.0 (c.in-Ok-undo_next.ensures.updates newest all table commits last.0 undone.now last.1) (c.in-Ok-undo_next.ensures.asks newest all table commits last.0 undone.now last.1);
       keeps = λ newest records table commits none h is.
           let undone = (before g s newest records table commits none h is).updates.some in
@@ -132,28 +127,20 @@ returns-clause-undone g c newest records table commits none h is =
 pub returns-in-Err-undo_next-clause-log_reads : goal.returns-in-Err-undo_next-clause-log_reads
 returns-in-Err-undo_next-clause-log_reads g c =
     let remains = c.in-Some.ensures.remains in
-    let one = c.undo_next.ensures.log_reads in
-    omega (arith, some_owed (listed c.loop-next.found.table) c.in-Some.next.0 remains.x remains.there, c.loop-next.invariant.log_reads, one)
+    omega (arith, some_owed (listed c.loop-next.found.table) c.in-Some.next.0 remains.x remains.there, c.loop-next.invariant.log_reads, c.undo_next.ensures.log_reads)
 
 pub returns-in-Err-clause-asks : goal.returns-in-Err-clause-asks
 returns-in-Err-clause-asks g c newest records table commits none h is =
-    let pages = c.args.pages.now in
-    let old = g.S.Site.state c.args.site.now in
-    let new = g.S.Site.state c.end_undone.new.site in
-    asks_refused c.in-Err.stop (undo_works records) pages old new (some_group c.requires.going) (not_worn_either c.in-Err.stop c.in-Err.ensures.stops) (none_read old new c.end_undone.ensures.works.reads) (stages_err (stages_log c.in-Err.ensures.works))
+    asks_refused c.in-Err.stop (undo_works records) _ _ _ (some_group c.requires.going) (not_worn_either c.in-Err.stop c.in-Err.ensures.stops) (none_read _ _ c.end_undone.ensures.works.reads) (stages_err (stages_log c.in-Err.ensures.works))
 
 pub returns-in-Err-undo_next-clause-asks : goal.returns-in-Err-undo_next-clause-asks
 returns-in-Err-undo_next-clause-asks g c newest records table commits none h is =
-    let pages = c.args.pages.now in
-    let old = g.S.Site.state c.args.site.now in
-    let mid = g.S.Site.state c.loop-next.site in
-    let new = g.S.Site.state c.undo_next.new.site in
     let s = (goal.at.returns-in-Err-undo_next-clause-asks g c).After-next_undo in
     let before = before g s newest records table commits none h is in
     let undone = before.updates.some in
     let all = records ++ undone.more in
     let last = next_is_last all c.next_undo.result c.in-Some.next c.in-Some.is (next_is g s newest records table commits none h is) in
-    updates_asked_stopped c.in-Err-undo_next.stop c.loop-next.log c.loop-next.pages c.undo_next.new.pages mid new newest records table commits c.loop-next.found c.loop-next.known pages old (some_group c.requires.going) before last.0 c.in-Some.next.0 c.in-Some.next.1 last.1
+    updates_asked_stopped c.in-Err-undo_next.stop c.loop-next.log c.loop-next.pages c.undo_next.new.pages _ _ newest records table commits c.loop-next.found c.loop-next.known _ _ (some_group c.requires.going) before last.0 c.in-Some.next.0 c.in-Some.next.1 last.1
     (c.in-Err-undo_next.ensures.asks newest all table commits last.0 undone.now last.1)
 
 pub returns-clause-asks : goal.returns-clause-asks
@@ -176,8 +163,7 @@ returns-in-Err-undo_next-clause-keeps g c newest records table commits none h is
     let undone = (before g s newest records table commits none h is).updates.some in
     let all = records ++ undone.more in
     let last = next_is_last all c.next_undo.result c.in-Some.next c.in-Some.is (next_is g s newest records table commits none h is) in
-    let fewer = inv.fewer in
-    keeps_few (omega (arith, fewer)) (keeps_failed (keeps_then h.log_holds.ready.blocks.honest inv.works.geometry inv.works.geometry inv.works.calls (inv.keeps newest records table commits none h is)
+    keeps_few (omega (arith, inv.fewer)) (keeps_failed (keeps_then h.log_holds.ready.blocks.honest inv.works.geometry inv.works.geometry inv.works.calls (inv.keeps newest records table commits none h is)
     (c.in-Err-undo_next.ensures.keeps newest all table commits last.0 undone.now last.1)))
 
 pub returns-clause-keeps : goal.returns-clause-keeps

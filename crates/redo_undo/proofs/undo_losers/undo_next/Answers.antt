@@ -2,7 +2,7 @@ use Rattle.std.proofs.Common.{◌++◌, [], ◌∷◌, inr, refl, drop, sym, sub
 use Rattle.analysis.specs.Open.{Open, Replaces, TakesOut}
 use Rattle.analysis.specs.Table.{listed}
 use Rattle.redo_undo.specs.UndoingAll.{Remain, HasNone}
-use Rattle.redo_undo.proofs.Sames.{some_group}
+use Rattle.redo_undo.proofs.CallsInSequence.{some_group}
 use Rattle.redo_undo.proofs.Appended.{if_ok_one}
 use Rattle.redo_undo.proofs.Opens.{still_remain, none_remains_of, others_remain}
 use Rattle.redo_undo.proofs.Found.{last_known}
@@ -44,20 +44,16 @@ returns-then-loser-gt1-clause-updates g c newest records table commits u h last 
 
 pub returns-clause-updates : goal.returns-clause-updates
 returns-clause-updates g c newest records table commits u h last =
-    let mid = g.S.Site.state c.undo_greatest.new.site in
-    let new = g.S.Site.state c.end_one.new.site in
-    let pages = c.undo_greatest.new.pages in
     let first = c.in-Ok.ensures.updates newest records table commits c.args.known u h (subst (λ (t : ℕ). IsLastAt records t c.args.next.1 u) (sym c.in-Some.ensures.named) last) in
     if_ok_one c.end_one.result
-    (λ lsn. UndoesUpdates c.end_one.new.log pages new newest (records ++ first.some.more) table commits c.end_one.new.found lsn [])
-    (λ lsn. UndoesUpdates c.end_one.new.log pages new newest records table commits c.end_one.new.found lsn (u ∷ []))
-    (λ lsn second. more_updates c.undo_greatest.new.log c.end_one.new.log pages pages mid new newest records table commits c.undo_greatest.new.found c.end_one.new.found c.in-Ok.last lsn (u ∷ []) [] first second)
-    (c.end_one.ensures.updates pages newest (records ++ first.some.more) table commits c.in-Ok.last c.in-Ok.ensures.works.going.sizes first.some.now)
+    (λ lsn. UndoesUpdates c.end_one.new.log _ _ newest (records ++ first.some.more) table commits c.end_one.new.found lsn [])
+    (λ lsn. UndoesUpdates c.end_one.new.log _ _ newest records table commits c.end_one.new.found lsn (u ∷ []))
+    (λ lsn second. more_updates c.undo_greatest.new.log c.end_one.new.log _ _ _ _ newest records table commits c.undo_greatest.new.found c.end_one.new.found c.in-Ok.last lsn (u ∷ []) [] first second)
+    (c.end_one.ensures.updates _ newest (records ++ first.some.more) table commits c.in-Ok.last c.in-Ok.ensures.works.going.sizes first.some.now)
 
 pub returns-then-loser-known-clause-asks : goal.returns-then-loser-known-clause-asks
 returns-then-loser-known-clause-asks g c newest records table commits u h last =
-    let pages = c.args.pages.now in
-    asks_refused Foreign (works_of (u ∷ [])) pages (g.S.Site.state c.args.site.now) (g.S.Site.state c.args.site.now) (some_group c.requires.going) (not_worn Foreign (inr refl)) (record { flash = refl; disk = refl }) (stages_none (omega arith) refl)
+    asks_refused Foreign (works_of (u ∷ [])) _ (g.S.Site.state c.args.site.now) (g.S.Site.state c.args.site.now) (some_group c.requires.going) (not_worn Foreign (inr refl)) (record { flash = refl; disk = refl }) (stages_none (omega arith) refl)
 
 pub returns-in-Err-clause-asks : goal.returns-in-Err-clause-asks
 returns-in-Err-clause-asks g c newest records table commits u h last =
@@ -69,10 +65,7 @@ returns-then-loser-gt1-clause-asks g c newest records table commits u h last =
 
 pub returns-clause-asks : goal.returns-clause-asks
 returns-clause-asks g c newest records table commits u h last =
-    let pages = c.args.pages.now in
-    let mid = g.S.Site.state c.undo_greatest.new.site in
-    let new = g.S.Site.state c.end_one.new.site in
-    asks_before c.in-Ok.last c.end_one.result (works_of (u ∷ [])) pages c.undo_greatest.new.pages (g.S.Site.state c.args.site.now) mid new (some_group c.requires.going) (none_read mid new c.end_one.ensures.works.reads)
+    asks_before c.in-Ok.last c.end_one.result (works_of (u ∷ [])) _ c.undo_greatest.new.pages (g.S.Site.state c.args.site.now) _ _ (some_group c.requires.going) (none_read _ _ c.end_one.ensures.works.reads)
     (never_worn c.end_one.result c.end_one.ensures.stops) (stages_log c.end_one.ensures.works)
     (c.in-Ok.ensures.asks newest records table commits c.args.known u h (subst (λ (t : ℕ). IsLastAt records t c.args.next.1 u) (sym c.in-Some.ensures.named) last))
 
@@ -97,8 +90,7 @@ returns-clause-keeps g c newest records table commits u h last =
     let works = c.in-Ok.ensures.works in
     let none = none_remains_of (listed c.args.found.now.table) (listed c.undo_greatest.new.found.table) c.in-Some.loser c.in-Ok.last c.requires.found c.undo_greatest.ensures.found.going c.in-Some.ensures.there (omega (arith, c.if-loser-gt1.false)) c.in-Ok.ensures.replaces in
     let some = some_owed (listed c.undo_greatest.new.found.table) c.in-Some.loser.txn none.x none.there in
-    let less = c.in-Ok.ensures.owed in
-    keeps_few (omega (arith, some, less)) (keeps_then h.holds.log_holds.ready.blocks.honest works.geometry works.geometry works.calls (c.in-Ok.ensures.keeps newest records table commits c.args.known h)
+    keeps_few (omega (arith, some, c.in-Ok.ensures.owed)) (keeps_then h.holds.log_holds.ready.blocks.honest works.geometry works.geometry works.calls (c.in-Ok.ensures.keeps newest records table commits c.args.known h)
     (c.end_one.ensures.keeps c.undo_greatest.new.pages newest (records ++ first.some.more) table commits c.in-Ok.last works.going first.some.now))
 
 pub returns-clause-log_reads : goal.returns-clause-log_reads

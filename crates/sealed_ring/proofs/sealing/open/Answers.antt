@@ -1,7 +1,8 @@
+use Rattle.std_lemmas.proofs.Results.{on_ok}
 use Rattle.site.specs.Laws.{then_sync, stays_honest}
 use Rattle.sealed_ring.specs.Ring.{Opens}
 use Rattle.sealed_ring.specs.Ready.{region, LeavesEither}
-use Rattle.sealed_ring.proofs.Runs.{opening, opened, on_ok, wrote_changes, synced_changes, changes_in_sequence}
+use Rattle.sealed_ring.proofs.Runs.{opening, opened, wrote_changes, synced_changes, changes_in_sequence}
 use Rattle.sealed_ring.proofs.sealing.open.Goals as goal
 
 pub returns-in_err-write_at-clause-any_moment : goal.returns-in_err-write_at-clause-any_moment

@@ -1,10 +1,11 @@
 use Rattle.std.proofs.Common.{◌≡◌, ◌+◌, length, ◌∙◌, ap, arith, rules}
 use Rattle.std.proofs.lemmas.List.{length-append}
 use Rattle.std.specs.Int.{to_be_bytes, w64}
+use Rattle.std_lemmas.proofs.Results.{on_ok}
 use Rattle.site.specs.Laws.{then_sync, stays_honest}
 use Rattle.sealed_ring.specs.Ring.{Stages}
 use Rattle.sealed_ring.specs.Ready.{region, LeavesKept}
-use Rattle.sealed_ring.proofs.Runs.{first, second, staged, on_ok, wrote_changes, synced_changes, changes_in_sequence, synced_settles}
+use Rattle.sealed_ring.proofs.Runs.{first, second, staged, wrote_changes, synced_changes, changes_in_sequence, synced_settles}
 use Rattle.sealed_ring.proofs.sealing.stage_by.Goals as goal
 
 pub returns-in_err-write_at-clause-staged : goal.returns-in_err-write_at-clause-staged

@@ -1,4 +1,4 @@
-use Rattle.second_chance.proofs.Apart.{staged_stand_in, staged_apart}
+use Rattle.second_chance.proofs.DistinctStaged.{staged_stand_in, staged_apart}
 use Rattle.second_chance.proofs.laws.staged_frames_are_apart.Goals as goal
 
 pub returns-clause-stand : goal.returns-clause-stand

@@ -1,5 +1,5 @@
 use Rattle.std.proofs.Common.{◌≡◌, ◌++◌, ◌-◌, ◌≤◌, length, take, IsTrue}
-use Rattle.site.specs.Calls.{Goes, SameReads}
+use Rattle.site.specs.Calls.{Preserves, SameReads}
 use Rattle.site.specs.Faults.{faults_in}
 use Rattle.site.specs.Moments.{EachMoment}
 use Rattle.site.specs.Telling.{TellsPart, SameDevices}
@@ -11,7 +11,7 @@ invariant-loop-at g l =
     let now = g.S.Site.state l.site in
     record {
       at : l.at ≤ length l.piece;
-      goes : Goes old now;
+      goes : Preserves old now;
       reads : SameReads old now;
       faults : faults_in now ≡ faults_in old;
       same : IsTrue old.honest → SameDevices old now;

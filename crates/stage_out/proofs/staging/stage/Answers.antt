@@ -1,8 +1,9 @@
 use Rattle.std.proofs.Common.{◌<◌, length, arith}
 use Rattle.std.proofs.lemmas.Result.{on_ok_weaker}
+use Rattle.std_lemmas.proofs.Results.{on_ok}
 use Rattle.site.specs.declared.outside.Dev.TheVariants.{Disk}
 use Rattle.site.specs.Laws.{stays_honest, fault_since, changes_in_sequence, quiet_again}
-use Rattle.stage_out.proofs.Steps.{nothing_left, on_ok, on_err_weaker}
+use Rattle.stage_out.proofs.Steps.{nothing_left, on_err_weaker}
 use Rattle.stage_out.proofs.Done.{left_staged, front, none_front, staged, staged_reaches, sync_left}
 use Rattle.stage_out.proofs.staging.stage.Goals as goal
 

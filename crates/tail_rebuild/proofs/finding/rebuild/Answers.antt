@@ -5,7 +5,7 @@ use Rattle.site.proofs.Working.{err_again}
 use Rattle.sealed_ring.specs.declared.slots.Shape.{Shape}
 use Rattle.sealed_ring.specs.Ring.{hi_of}
 use Rattle.sealed_ring.specs.Near.{IsNear}
-use Rattle.sealed_ring.specs.Ready.{region, Fits as RingFits}
+use Rattle.sealed_ring.specs.Ready.{region, Matches as RingFits}
 use Rattle.image_changes.specs.Rings.{group_shape}
 use Rattle.frame_group.specs.Groups.{heads_of}
 use Rattle.tail_rebuild.specs.Standing.{HasGroups, HasSaved}

@@ -1,7 +1,7 @@
 use Rattle.std.proofs.Common.{◌≡◌, ℕ, ◌+◌, ◌-◌, ◌*◌, ◌/◌, ◌≤◌, max, List, length, map, IsTrue}
 use Rattle.std.specs.List.{All}
 use Rattle.std.specs.Prelude.{Ok}
-use Rattle.sealed_ring.specs.Ready.{Fits as RingFits}
+use Rattle.sealed_ring.specs.Ready.{Matches as RingFits}
 use Rattle.byte_fields.specs.declared.frame_head.FrameHead.{FrameHead}
 use Rattle.frame_group.specs.Groups.{Frame, heads_of}
 use Rattle.tail_rebuild.specs.Standing.{HasGroups, HasSaved}
@@ -14,9 +14,13 @@ invariant-loop-segment g l =
     let now = g.S.Site.state l.site in
     record {
       least : l.first / 4 ≤ l.segment;
+      most : l.segment ≤ max (l.first / 4) l.segments.hi;
       listed : All (AreHeadsIn l.geometry.pages) l.list.items;
       count : l.first + length l.list.items ≡ max l.first (4 * l.segment);
       front : IsTrue old.honest → RingFits l.segments old → RingFits l.groups old → (first : ℕ) (stand : List (List Frame)) (saved : List (List FrameHead))
           → HasGroups l.geometry first stand old.image → HasSaved l.geometry stand saved old.image → IsFront (map heads_of stand) l.list.items;
       reads : ReadsFlash {T = Unit {0}} (Ok tt) (l.segment - l.first / 4) old now;
     }
+
+abbrev pub decreases-loop-segment : goal.decreases-loop-segment
+decreases-loop-segment g l = l.segments.hi - l.segment

@@ -1,7 +1,7 @@
 use Rattle.std.proofs.Common.{◌≡◌, ℕ, ◌+◌, ◌-◌, ◌≤◌, List, length, map, IsTrue}
 use Rattle.std.specs.List.{All}
 use Rattle.std.specs.Prelude.{Ok}
-use Rattle.sealed_ring.specs.Ready.{Fits as RingFits}
+use Rattle.sealed_ring.specs.Ready.{Matches as RingFits}
 use Rattle.frame_group.specs.Groups.{Frame, heads_of}
 use Rattle.tail_rebuild.specs.Standing.{HasGroups}
 use Rattle.tail_rebuild.specs.Listing.{AreHeadsIn, IsFront, ReadsFlash}

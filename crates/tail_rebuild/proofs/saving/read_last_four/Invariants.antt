@@ -1,7 +1,7 @@
 use Rattle.std.proofs.Common.{◌≡◌, ℕ, ◌-◌, ◌*◌, ◌<◌, ◌≤◌, List, length, take, drop, IsTrue}
 use Rattle.std.specs.Prelude.{Ok}
 use Rattle.std.specs.List.{flat_map}
-use Rattle.sealed_ring.specs.Ready.{Fits as RingFits}
+use Rattle.sealed_ring.specs.Ready.{Matches as RingFits}
 use Rattle.byte_fields.specs.FrameHeads.{AreGroupHeads}
 use Rattle.frame_group.specs.Groups.{Frame, heads_of}
 use Rattle.meta_segments.specs.Segments.{heads_of_group}

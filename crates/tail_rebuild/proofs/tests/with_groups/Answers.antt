@@ -1,6 +1,6 @@
 use Rattle.std.proofs.Common.{◌∙◌}
 use Rattle.site.specs.MemState.{state_of}
-use Rattle.tail_rebuild.proofs.Tries.{lengths_later}
+use Rattle.site.proofs.Working.{lengths_later}
 use Rattle.tail_rebuild.proofs.tests.with_groups.Goals as goal
 
 pub append_pages-requires : goal.append_pages-requires

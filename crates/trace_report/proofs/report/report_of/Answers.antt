@@ -1,8 +1,5 @@
-use Rattle.std.proofs.Common.{◌≡◌, ◌++◌, List, append-nil, refl, sym, ap, subst, ◌∙◌}
-use Rattle.policy_sim.specs.declared.policy.Policy.{Policy}
+use Rattle.std.proofs.Common.{◌≡◌, ◌++◌, append-nil, refl, sym, ap, ◌∙◌}
 use Rattle.policy_sim.specs.declared.policy.Policy.TheVariants.{Fifo, Group, Chance}
-use Rattle.trace_report.specs.Traces.{Touch}
-use Rattle.trace_report.specs.Counting.{HaveServed}
 use Rattle.trace_report.proofs.report.report_of.Goals as goal
 
 pub returns-clause-report : goal.returns-clause-report

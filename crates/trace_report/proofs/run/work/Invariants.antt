@@ -1,5 +1,5 @@
 use Rattle.std.proofs.Common.{◌≡◌, ◌≤◌, IsTrue}
-use Rattle.site.specs.Calls.{Goes, SameReads}
+use Rattle.site.specs.Calls.{Preserves, SameReads}
 use Rattle.site.specs.Faults.{faults_in}
 use Rattle.trace_report.specs.Counting.{HaveMade}
 use Rattle.trace_report.specs.Hearing.{IsUsable, HasEnded, to_hear, HearsOnly}
@@ -11,7 +11,7 @@ invariant-loop-number g l =
     let old = g.S.Site.state l.fn.site in
     let now = g.S.Site.state l.site in
     record {
-      goes : Goes old now;
+      goes : Preserves old now;
       reads : SameReads old now;
       faults : faults_in now ≡ faults_in old;
       usable : IsUsable l.trace;

@@ -1,5 +1,6 @@
-use Rattle.std.proofs.Common.{◌≡◌, ◌≤◌, ◌||◌, Bool, true, false, refl, ℕ, length, Option, ◌+◌, ◌∷◌, [], ◌++◌, List, map, take, sym, subst, ap, ◌∙◌}
+use Rattle.std.proofs.Common.{◌≡◌, ◌≤◌, ℕ, length, Option, ◌+◌, ◌∷◌, [], ◌++◌, List, map, take, sym, subst, ap, ◌∙◌}
 use Rattle.std.proofs.lemmas.List.{take_more, take_all, map-append}
+use Rattle.std.proofs.lemmas.Bool.{or_parts}
 use Rattle.log_records.specs.Log.{is_closed}
 use Rattle.log_records.specs.Sound.{is_known}
 use Rattle.analysis.specs.declared.table.Transaction.{Transaction}
@@ -28,10 +29,6 @@ returns-clause-remains c =
     (subst (λ (l : List Transaction). IsNext (map open_of l) c.loop-transaction.next) c.as_slice-transaction-items.ensures.value
     (whole items c.loop-transaction.transaction-index c.loop-transaction.next c.loop-transaction-test.false c.loop-transaction.invariant))
 
-or_none : (a b : Bool) → (a || b) ≡ false → a ≡ false
-or_none true b none = none
-or_none false b none = refl
-
 pub returns-clause-of_table : goal.returns-clause-of_table
 returns-clause-of_table c named records from to is known order =
     let items = c.as_slice-transaction-items.result.now in
@@ -42,7 +39,7 @@ returns-clause-of_table c named records from to is known order =
 pub returns-clause-of_records : goal.returns-clause-of_records
 returns-clause-of_records c m records from to is order =
     let items = c.as_slice-transaction-items.result.now in
-    next_is m.active records (listed c.args.self.now.table) is.table (λ t none. is.known t (or_none (is_known m.active records t) (is_closed records t) none)) from to order c.loop-transaction.next
+    next_is m.active records (listed c.args.self.now.table) is.table (λ t none. is.known t (or_parts (is_known m.active records t) (is_closed records t) none).0) from to order c.loop-transaction.next
     (subst (λ (l : List Transaction). IsNext (map open_of l) c.loop-transaction.next) c.as_slice-transaction-items.ensures.value
     (whole items c.loop-transaction.transaction-index c.loop-transaction.next c.loop-transaction-test.false c.loop-transaction.invariant))
 

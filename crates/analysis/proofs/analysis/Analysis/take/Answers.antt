@@ -1,11 +1,12 @@
 use Rattle.std.proofs.Common.{◌∷◌, [], ◌++◌, drop, refl, sym, ap, subst, arith}
+use Rattle.std.proofs.lemmas.Result.{on_ok_weaker}
 use Rattle.log_records.specs.declared.log_record.LogRecord.{LogRecord}
 use Rattle.log_records.specs.declared.log_record.LogRecord.TheVariants.{Begin, Update, Clr, Commit, End}
 use Rattle.log_records.specs.Log.{Entry}
 use Rattle.analysis.specs.Open.{Open, AscendFrom, owed_for}
 use Rattle.analysis.specs.Table.{listed}
 use Rattle.analysis.specs.Read.{IsAnalysis, MayCome}
-use Rattle.analysis.proofs.Lists.{ok_maps, either_way}
+use Rattle.analysis.proofs.Lists.{either_way}
 use Rattle.analysis.proofs.Tables.{owed_replaced, owed_taken, length-drop_one}
 use Rattle.analysis.proofs.Reading.{no_commit, begin_read, goes_read, closes_read}
 use Rattle.analysis.proofs.analysis.Analysis.take.Goals as goal
@@ -13,7 +14,7 @@ use Rattle.analysis.proofs.analysis.Analysis.take.Goals as goal
 pub returns-in-Begin-clause-read : goal.returns-in-Begin-clause-read
 returns-in-Begin-clause-read c m records is comes =
     let comes_here : MayCome records (record { lsn = c.args.lsn; rec = Begin }) = subst (λ (r : LogRecord). MayCome records (record { lsn = c.args.lsn; rec = r })) c.in-Begin.is comes in
-    ok_maps c.begin.result _ _ (λ begun.
+    on_ok_weaker c.begin.result (λ begun.
     subst (λ (r : LogRecord). IsAnalysis m (records ++ record { lsn = c.args.lsn; rec = r } ∷ []) (record c.args.self.now { table = c.begin.new.self })) (sym c.in-Begin.is)
     (begin_read m records c.args.lsn c.args.self.now (record c.args.self.now { table = c.begin.new.self }) is refl comes_here begun)) (c.begin.ensures.begun is.table.ascend)
 
@@ -22,7 +23,7 @@ returns-in_ok-place-in-Update-clause-read c m records is comes =
     let u = c.in-Update in
     let rec : LogRecord = Update u.txn u.prev u.page u.slot u.before u.after in
     let e : Entry = record { lsn = c.args.lsn; rec = rec } in
-    ok_maps c.update.result _ _ (λ more.
+    on_ok_weaker c.update.result (λ more.
     subst (λ (r : LogRecord). IsAnalysis m (records ++ record { lsn = c.args.lsn; rec = r } ∷ []) (record c.args.self.now { table = c.update.new.self })) (sym u.is)
     (goes_read m records e c.args.self.now (record c.args.self.now { table = c.update.new.self }) is (no_commit m records c.args.self.now is) more refl))
     (c.update.ensures.becomes u.txn c.in_ok-place-in-Update.ensures.there is.table.ascend)

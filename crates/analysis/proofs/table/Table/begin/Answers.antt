@@ -1,8 +1,9 @@
 use Rattle.std.proofs.Common.{List, arith, subst, map, refl}
+use Rattle.std.proofs.lemmas.Result.{on_ok_weaker}
 use Rattle.analysis.specs.declared.table.Transaction.{Transaction}
 use Rattle.analysis.specs.Open.{Open}
 use Rattle.analysis.specs.Table.{open_of, StandsAt, GoesAt}
-use Rattle.analysis.proofs.Lists.{becomes_at, absent_at, ok_maps, owed_set}
+use Rattle.analysis.proofs.Lists.{becomes_at, absent_at, owed_set}
 use Rattle.analysis.proofs.Tables.{begins_again, begins_new}
 use Rattle.analysis.proofs.table.Table.begin.Goals as goal
 
@@ -18,7 +19,7 @@ pub returns-in-Err-clause-begun : goal.returns-in-Err-clause-begun
 returns-in-Err-clause-begun c ascend =
     let items = c.args.self.now.transactions.items in
     let at : GoesAt items c.in-Err.place c.args.lsn = subst (λ (l : List Transaction). GoesAt l c.in-Err.place c.args.lsn) c.deref.ensures.value c.in-Err.ensures.absent in
-    ok_maps c.add.result _ _ (begins_new (map open_of items) _ c.args.lsn (absent_at items c.in-Err.place c.args.lsn at ascend)) (c.add.ensures.added ascend)
+    on_ok_weaker c.add.result (begins_new (map open_of items) _ c.args.lsn (absent_at items c.in-Err.place c.args.lsn at ascend)) (c.add.ensures.added ascend)
 
 pub returns-in-Ok-clause-owed : goal.returns-in-Ok-clause-owed
 returns-in-Ok-clause-owed c =

@@ -1,41 +1,98 @@
-use Rattle.std.proofs.Common.{◌≡◌, ℕ, List, Some, is_some, ap, sym, ◌∙◌}
+use Rattle.std.proofs.Common.{◌≡◌, ◌<◌, ◌∷◌, nat_eq, List, length, Some, ap, refl, sym, subst, ◌∙◌}
+use Rattle.std.specs.Map.{lookup, remove_entry, set_value}
+use Rattle.lru.specs.LruCache.{promoted}
 use Rattle.buffer_pool.specs.declared.frame.Frame.{Frame}
 use Rattle.buffer_pool.specs.declared.kept.Kept.{Kept}
-use Rattle.buffer_pool.specs.Entries.{frames_in}
-use Rattle.buffer_pool.specs.Frames.{frame_of, front_of}
+use Rattle.buffer_pool.specs.Entries.{frames_in, framed_pages, state_in}
+use Rattle.buffer_pool.specs.Frames.{IsPool, KnowsSame, frame_of, touched, front_of}
+use Rattle.buffer_pool.specs.Listing.{IsIndex, struck, enlisted}
 use Rattle.buffer_pool.proofs.Order.{touched-absent}
-use Rattle.buffer_pool.proofs.Cached.{state, frames-promoted, pool-promoted, front-promoted, is_some-lookup, is_none}
+use Rattle.buffer_pool.proofs.Cached.{Entry, state, found, missing, front-promoted, some-promoted}
+use Rattle.buffer_pool.proofs.Known.{framed-promoted, frames-renewed, knows_same, pool-renewed, set_promoted}
+use Rattle.buffer_pool.proofs.Listed.{index_enters, index_leaves}
 use Rattle.buffer_pool.proofs.pool.Pool.touch.Goals as goal
 
--- the answer tells whether the page has a frame
-tells : (c : goal.After-promote) → c.promote.result ≡ is_some (frame_of (frames_in c.self.inside.pages.entries) c.args.page)
-tells c = c.promote.ensures.value ∙ is_some-lookup c.self.inside.pages.entries c.args.page
+-- the page isn't there
 
-pub invariant_of-self : goal.invariant_of-self
-invariant_of-self c =
-    rw c.promote.ensures.entries (c.self.invariant.0, pool-promoted c.self.inside.size c.self.inside.pages.entries c.args.page c.self.invariant.1)
+pub returns-in_default-clause-found : goal.returns-in_default-clause-found
+returns-in_default-clause-found c = rw (← c.self.view_is, missing c.self.inside.pages.entries c.args.page (sym c.in_default.ensures.value)) refl
+
+pub returns-in_default-clause-after : goal.returns-in_default-clause-after
+returns-in_default-clause-after c =
+    let es : List Entry = c.self.inside.pages.entries in
+    rw (← c.self.view_is) (ap (state c.self.inside.size (framed_pages es)) (sym (touched-absent (frames_in es) c.args.page (missing es c.args.page (sym c.in_default.ensures.value)))))
+
+pub returns-in_default-clause-absent : goal.returns-in_default-clause-absent
+returns-in_default-clause-absent c = λ is. rw (← c.self.view_is) (missing c.self.inside.pages.entries c.args.page (sym c.in_default.ensures.value))
+
+-- it is
+
+pub invariant_of-self-2 : goal.invariant_of-self-2
+invariant_of-self-2 c =
+    let es : List Entry = c.self.inside.pages.entries in
+    let kept : Kept = c.in-Some.kept.now in
+    let now : Kept = record { changed = kept.changed; framed = kept.framed; stamp = c.add-kept.result; content = kept.content } in
+    let is : lookup (nat_eq c.args.page) es ≡ Some kept = sym c.in-Some.ensures.value in
+    let entries : set_value (nat_eq c.args.page) (promoted (nat_eq c.args.page) es) now ≡ (c.args.page, now) ∷ remove_entry (nat_eq c.args.page) es = set_promoted es c.args.page kept now is in
+    let left = index_leaves c.self.inside.index c.strike.new.self es c.args.page kept is c.self.invariant.2
+    (c.strike.ensures.listed ∙ ap (λ b. struck kept.stamp b c.self.inside.index.listed.entries) c.is_listed-listed.ensures) c.strike.ensures.next c.strike.ensures.whole in
+    let entered : IsIndex c.add-kept.new.self ((c.args.page, now) ∷ remove_entry (nat_eq c.args.page) es) =
+    index_enters c.strike.new.self c.add-kept.new.self (remove_entry (nat_eq c.args.page) es) c.args.page now c.add-kept.ensures.stamp left
+    (λ whole. c.add-kept.ensures.listed whole ∙ ap (λ b. enlisted c.strike.new.self.next (c.args.page, kept.changed) b c.strike.new.self.listed.entries) c.is_listed-listed.ensures)
+    c.add-kept.ensures.next c.add-kept.ensures.whole in
+    let pool : IsPool (state_in c.self.inside.size ((c.args.page, now) ∷ remove_entry (nat_eq c.args.page) es)) = pool-renewed c.self.inside.size es c.args.page kept now is refl refl c.self.invariant.1 in
+    rw entries (c.self.invariant.0, pool, entered)
 
 pub returns-clause-found : goal.returns-clause-found
-returns-clause-found c = rw (← c.self.view_is) (tells c)
+returns-clause-found c = rw (← c.self.view_is, found c.self.inside.pages.entries c.args.page c.in-Some.kept.now (sym c.in-Some.ensures.value)) refl
 
 pub returns-clause-after : goal.returns-clause-after
 returns-clause-after c =
-    rw (← c.self.view_is, c.promote.ensures.entries) (ap (state c.self.inside.size) (frames-promoted c.self.inside.pages.entries c.args.page c.self.invariant.1.distinct))
+    let es : List Entry = c.self.inside.pages.entries in
+    let kept : Kept = c.in-Some.kept.now in
+    let now : Kept = record { changed = kept.changed; framed = kept.framed; stamp = c.add-kept.result; content = kept.content } in
+    let is : lookup (nat_eq c.args.page) es ≡ Some kept = sym c.in-Some.ensures.value in
+    let entries : set_value (nat_eq c.args.page) (promoted (nat_eq c.args.page) es) now ≡ (c.args.page, now) ∷ remove_entry (nat_eq c.args.page) es = set_promoted es c.args.page kept now is in
+    let after : state_in c.self.inside.size ((c.args.page, now) ∷ remove_entry (nat_eq c.args.page) es)
+    ≡ state c.self.inside.size (framed_pages ((c.args.page, now) ∷ remove_entry (nat_eq c.args.page) es)) (touched (frames_in es) c.args.page) =
+    ap (state c.self.inside.size (framed_pages ((c.args.page, now) ∷ remove_entry (nat_eq c.args.page) es))) (frames-renewed es c.args.page kept now c.self.invariant.1.distinct is refl refl) in
+    rw (← c.self.view_is, entries) after
+
+pub returns-clause-framed : goal.returns-clause-framed
+returns-clause-framed c =
+    let es : List Entry = c.self.inside.pages.entries in
+    let kept : Kept = c.in-Some.kept.now in
+    let now : Kept = record { changed = kept.changed; framed = kept.framed; stamp = c.add-kept.result; content = kept.content } in
+    let is : lookup (nat_eq c.args.page) es ≡ Some kept = sym c.in-Some.ensures.value in
+    let entries : set_value (nat_eq c.args.page) (promoted (nat_eq c.args.page) es) now ≡ (c.args.page, now) ∷ remove_entry (nat_eq c.args.page) es = set_promoted es c.args.page kept now is in
+    let same : KnowsSame (state_in c.self.inside.size es) (state_in c.self.inside.size ((c.args.page, now) ∷ remove_entry (nat_eq c.args.page) es)) =
+    knows_same c.self.inside.size es ((c.args.page, now) ∷ remove_entry (nat_eq c.args.page) es) c.self.invariant.1.distinct
+    (pool-renewed c.self.inside.size es c.args.page kept now is refl refl c.self.invariant.1).distinct (framed-promoted es c.args.page kept now c.self.invariant.1.distinct is refl) in
+    rw (← c.self.view_is, entries) same
 
 pub returns-clause-pool : goal.returns-clause-pool
-returns-clause-pool c = (invariant_of-self c).1
+returns-clause-pool c = (invariant_of-self-2 c).1
 
 pub returns-clause-front : goal.returns-clause-front
-returns-clause-front c = λ is.
-    let es : List (ℕ × Kept) = c.self.inside.pages.entries in
-    rw (← c.self.view_is, c.promote.ensures.entries) (front-promoted es c.args.page c.self.invariant.1.distinct (sym (tells c) ∙ is)
-    ∙ ap (λ (xs : List Frame). Some (front_of xs)) (sym (frames-promoted es c.args.page c.self.invariant.1.distinct)))
+returns-clause-front c = λ really.
+    let es : List Entry = c.self.inside.pages.entries in
+    let kept : Kept = c.in-Some.kept.now in
+    let now : Kept = record { changed = kept.changed; framed = kept.framed; stamp = c.add-kept.result; content = kept.content } in
+    let is : lookup (nat_eq c.args.page) es ≡ Some kept = sym c.in-Some.ensures.value in
+    let entries : set_value (nat_eq c.args.page) (promoted (nat_eq c.args.page) es) now ≡ (c.args.page, now) ∷ remove_entry (nat_eq c.args.page) es = set_promoted es c.args.page kept now is in
+    let frames = frames-renewed es c.args.page kept now c.self.invariant.1.distinct is refl refl in
+    let front : frame_of (frames_in es) c.args.page ≡ Some (front_of (frames_in ((c.args.page, now) ∷ remove_entry (nat_eq c.args.page) es))) =
+    front-promoted es c.args.page c.self.invariant.1.distinct (rw (found es c.args.page kept is) refl) ∙ ap (λ (xs : List Frame). Some (front_of xs)) (sym frames) in
+    rw (← c.self.view_is, entries) front
 
-pub returns-clause-absent : goal.returns-clause-absent
-returns-clause-absent c = λ is. rw (← c.self.view_is) (is_none _ (sym (tells c) ∙ is))
-
-pub returns-clause-same : goal.returns-clause-same
-returns-clause-same c = λ is.
-    let es : List (ℕ × Kept) = c.self.inside.pages.entries in
-    rw (← c.self.view_is, c.promote.ensures.entries) (ap (state c.self.inside.size) (frames-promoted es c.args.page c.self.invariant.1.distinct
-    ∙ touched-absent (frames_in es) c.args.page (is_none _ (sym (tells c) ∙ is))))
+pub returns-clause-there : goal.returns-clause-there
+returns-clause-there c = λ really.
+    let es : List Entry = c.self.inside.pages.entries in
+    let kept : Kept = c.in-Some.kept.now in
+    let now : Kept = record { changed = kept.changed; framed = kept.framed; stamp = c.add-kept.result; content = kept.content } in
+    let is : lookup (nat_eq c.args.page) es ≡ Some kept = sym c.in-Some.ensures.value in
+    let entries : set_value (nat_eq c.args.page) (promoted (nat_eq c.args.page) es) now ≡ (c.args.page, now) ∷ remove_entry (nat_eq c.args.page) es = set_promoted es c.args.page kept now is in
+    let frames = frames-renewed es c.args.page kept now c.self.invariant.1.distinct is refl refl in
+    let there : 0 < length (frames_in ((c.args.page, now) ∷ remove_entry (nat_eq c.args.page) es)) =
+    subst (λ (l : List Frame). 0 < length l) (sym frames) (some-promoted (frames_in es) c.args.page (rw (found es c.args.page kept is) refl)) in
+    rw entries there

@@ -10,7 +10,7 @@ use Rattle.record_model.specs.declared.words.Command.TheVariants.{Abort}
 use Rattle.txn_table.specs.declared.active.Active.{Active}
 use Rattle.txn_table.specs.Entries.{entry_of}
 use Rattle.engine.specs.declared.engine.Engine.{Engine}
-use Rattle.engine.specs.Fits.{Fits, IsCarriedOut}
+use Rattle.engine.specs.Representation.{Matches, IsCarriedOut}
 use Rattle.engine.specs.Calls.{Does}
 use Rattle.engine.proofs.Actives.{some_active}
 use Rattle.engine.proofs.Owing.{entry_is}
@@ -18,7 +18,7 @@ use Rattle.engine.proofs.Replies.{carried_out, wants_active_is, refused_session}
 use Rattle.engine.proofs.Calling.{answered, does_nothing, does_failed, asks_rest, still}
 use Rattle.engine.proofs.engine.Engine.abort.Goals as goal
 
-runs : (engine : Engine) (site : Site) (s : State) (n : ℕ) (entry : Active) → Fits engine site s → entry_of engine.active n ≡ Some entry → IsCarriedOut s (Abort n)
+runs : (engine : Engine) (site : Site) (s : State) (n : ℕ) (entry : Active) → Matches engine site s → entry_of engine.active n ≡ Some entry → IsCarriedOut s (Abort n)
 runs engine site s n entry fits at =
     let found = some_active fits.newest fits.records engine.active s fits.sessions n entry at in
     carried_out s (Abort n) (wants_active_is s n found.session found.is) refl
@@ -33,16 +33,13 @@ carry_out_abort-requires-clause-active g c =
 
 pub returns-in_default-clause-answers : goal.returns-in_default-clause-answers
 returns-in_default-clause-answers g c s fits =
-    let old = g.S.Site.state c.args.site.now in
-    answered (refused_session c.args.self.now old s (Abort c.args.session) c.args.session fits (sym c.find.ensures.entry ∙ c.in_default.is) refl)
+    answered (refused_session c.args.self.now _ s (Abort c.args.session) c.args.session fits (sym c.find.ensures.entry ∙ c.in_default.is) refl)
     (does_nothing fits c.requires.going (still c.hold_together.ensures.moment fits c.requires.going)) refl asks_rest
 
 pub returns-in-Ok-clause-answers : goal.returns-in-Ok-clause-answers
 returns-in-Ok-clause-answers g c s fits =
-    let old = g.S.Site.state c.args.site.now in
-    answered ((runs c.args.self.now old s c.args.session c.in-Some.entry fits (sym c.find.ensures.entry ∙ c.in-Some.is)).0, (runs c.args.self.now old s c.args.session c.in-Some.entry fits (sym c.find.ensures.entry ∙ c.in-Some.is)).1 ∙ ap (λ (n : ℕ). record_touches s (Abort n)) (sym (entry_is c.args.self.now.active c.args.session c.in-Some.entry c.requires.going.table (sym c.find.ensures.entry ∙ c.in-Some.is)).session)) (of_session _ _ (entry_is c.args.self.now.active c.args.session c.in-Some.entry c.requires.going.table (sym c.find.ensures.entry ∙ c.in-Some.is)).session (c.in-Ok.ensures.does s fits)) c.in-Ok.ensures.done (c.in-Ok.ensures.asks s fits)
+    answered ((runs c.args.self.now _ s c.args.session c.in-Some.entry fits (sym c.find.ensures.entry ∙ c.in-Some.is)).0, (runs c.args.self.now _ s c.args.session c.in-Some.entry fits (sym c.find.ensures.entry ∙ c.in-Some.is)).1 ∙ ap (λ (n : ℕ). record_touches s (Abort n)) (sym (entry_is c.args.self.now.active c.args.session c.in-Some.entry c.requires.going.table (sym c.find.ensures.entry ∙ c.in-Some.is)).session)) (of_session _ _ (entry_is c.args.self.now.active c.args.session c.in-Some.entry c.requires.going.table (sym c.find.ensures.entry ∙ c.in-Some.is)).session (c.in-Ok.ensures.does s fits)) c.in-Ok.ensures.done (c.in-Ok.ensures.asks s fits)
 
 pub returns-in-Err-clause-answers : goal.returns-in-Err-clause-answers
 returns-in-Err-clause-answers g c s fits =
-    let old = g.S.Site.state c.args.site.now in
-    answered ((runs c.args.self.now old s c.args.session c.in-Some.entry fits (sym c.find.ensures.entry ∙ c.in-Some.is)).0, (runs c.args.self.now old s c.args.session c.in-Some.entry fits (sym c.find.ensures.entry ∙ c.in-Some.is)).1 ∙ ap (λ (n : ℕ). record_touches s (Abort n)) (sym (entry_is c.args.self.now.active c.args.session c.in-Some.entry c.requires.going.table (sym c.find.ensures.entry ∙ c.in-Some.is)).session)) (does_failed (omega arith) (of_session _ _ (entry_is c.args.self.now.active c.args.session c.in-Some.entry c.requires.going.table (sym c.find.ensures.entry ∙ c.in-Some.is)).session (c.in-Err.ensures.does s fits))) tt (c.in-Err.ensures.asks s fits)
+    answered ((runs c.args.self.now _ s c.args.session c.in-Some.entry fits (sym c.find.ensures.entry ∙ c.in-Some.is)).0, (runs c.args.self.now _ s c.args.session c.in-Some.entry fits (sym c.find.ensures.entry ∙ c.in-Some.is)).1 ∙ ap (λ (n : ℕ). record_touches s (Abort n)) (sym (entry_is c.args.self.now.active c.args.session c.in-Some.entry c.requires.going.table (sym c.find.ensures.entry ∙ c.in-Some.is)).session)) (does_failed (omega arith) (of_session _ _ (entry_is c.args.self.now.active c.args.session c.in-Some.entry c.requires.going.table (sym c.find.ensures.entry ∙ c.in-Some.is)).session (c.in-Err.ensures.does s fits))) tt (c.in-Err.ensures.asks s fits)

@@ -32,15 +32,11 @@ returns-in-Ok-clause-does g c s fits =
     let found = some_active fits.newest fits.records engine.active s fits.sessions c.args.entry.session c.args.entry c.requires.active in
     let count = sym found.under_way.count in
     let part = owes engine.active c.args.entry.session c.args.entry c.requires.going.table c.requires.active in
-    let are = fits.sessions.owes in
-    let all = c.owed.ensures in
-    let old = g.S.Site.state c.args.site.now in
-    let new = g.S.Site.state c.roll_back.new.site in
     let mid : Engine = record engine { store = c.roll_back.new.self } in
     does_of (omega (arith, count, ap (λ (o : Option Session). length (writes_of o)) found.is))
-    (aborted_fits engine mid _ old new s c.args.entry fits c.requires.going.table c.requires.active (stays_honest old new c.roll_back.ensures.works.calls.goes fits.honest) (c.in-Ok.ensures.undone fits.newest fits.records s.table s.commits fits.holds found.session.writes found.under_way.is_active count)
+    (aborted_fits engine mid _ _ _ s c.args.entry fits c.requires.going.table c.requires.active (stays_honest _ _ c.roll_back.ensures.works.calls.goes fits.honest) (c.in-Ok.ensures.undone fits.newest fits.records s.table s.commits fits.holds found.session.writes found.under_way.is_active count)
     refl c.in-Ok.ensures.works.made c.release.ensures c.remove.ensures.entry c.remove.ensures.owed refl refl refl)
-    (keeps_answered (c.in-Ok.ensures.keeps fits.newest fits.records s.table s.commits fits.holds found.session.writes found.under_way.is_active count (omega (arith, are, all, part))))
+    (keeps_answered (c.in-Ok.ensures.keeps fits.newest fits.records s.table s.commits fits.holds found.session.writes found.under_way.is_active count (omega (arith, fits.sessions.owes, c.owed.ensures, part))))
 
 pub returns-in-Err-clause-does : goal.returns-in-Err-clause-does
 returns-in-Err-clause-does g c s fits =
@@ -48,9 +44,7 @@ returns-in-Err-clause-does g c s fits =
     let count = sym found.under_way.count in
     let many = ap (λ (o : Option Session). length (writes_of o)) found.is in
     let part = owes c.args.self.now.active c.args.entry.session c.args.entry c.requires.going.table c.requires.active in
-    let are = fits.sessions.owes in
-    let all = c.owed.ensures in
-    does_of (omega (arith, count, many)) tt (keeps_failed (c.in-Err.ensures.keeps fits.newest fits.records s.table s.commits fits.holds found.session.writes found.under_way.is_active count (omega (arith, are, all, part))))
+    does_of (omega (arith, count, many)) tt (keeps_failed (c.in-Err.ensures.keeps fits.newest fits.records s.table s.commits fits.holds found.session.writes found.under_way.is_active count (omega (arith, fits.sessions.owes, c.owed.ensures, part))))
 
 undone_by : Option Session → List CacheWork
 undone_by o = map (λ write. write_touch write.0) (reverse (writes_of o))

@@ -15,25 +15,20 @@ returns-in-Err-clause-does g c s fits = does_of (omega arith) tt (keeps_failed (
 pub returns-clause-does : goal.returns-clause-does
 returns-clause-does g c s fits =
     let engine = c.args.self.now in
-    let old = g.S.Site.state c.args.site.now in
-    let lsn = c.in-Ok.begin in
-    let n = c.args.session in
     let behind = c.in-Ok.ensures.rises.0 in
-    let may = may_begin engine old s fits lsn behind c.requires.may.room c.requires.going.store.blocks c.requires.going.cap in
-    let fresh = fresh_behind engine.store old fits.newest fits.records s.table s.commits lsn fits.holds behind in
-    let late = begins_late engine.store old fits.newest fits.records s.table s.commits lsn fits.holds behind in
-    let none = none_active fits.newest fits.records engine.active s fits.sessions n c.requires.may.absent in
+    let may = may_begin engine _ s fits _ behind c.requires.may.room c.requires.going.store.blocks c.requires.going.cap in
+    let fresh = fresh_behind engine.store _ fits.newest fits.records s.table s.commits _ fits.holds behind in
+    let late = begins_late engine.store _ fits.newest fits.records s.table s.commits _ fits.holds behind in
+    let none = none_active fits.newest fits.records engine.active s fits.sessions _ c.requires.may.absent in
     let count = fits.sessions.count in
     let small = c.requires.may.session in
-    let made = c.in-Ok.ensures.works.made in
-    let more = c.add.ensures.owed in
     does_of (omega arith) (record {
-      honest = stays_honest old (g.S.Site.state c.begin.new.site) c.begin.ensures.works.calls.goes fits.honest;
+      honest = stays_honest _ (g.S.Site.state c.begin.new.site) c.begin.ensures.works.calls.goes fits.honest;
       newest = fits.newest;
-      records = fits.records ++ begin_at lsn ∷ [];
+      records = fits.records ++ begin_at _ ∷ [];
       holds = c.in-Ok.ensures.holds fits.newest fits.records s.table s.commits fits.holds may;
-      counts = record { commits = fits.counts.commits; made = let before = fits.counts.made in omega (arith, made, before); cap = fits.counts.cap };
-      sessions = begun fits.newest fits.records engine.active c.add.new.active s n lsn engine.store.made _ fits.sessions small c.requires.may.absent c.add.ensures.entry (omega (arith, more)) fresh late refl refl fits.counts.made refl;
-      locks_are = locks_stay engine.locks s _ (at_set writes_of s.sessions n _ None (omega (arith, small, count)) none refl) (at_set reads_of s.sessions n _ None (omega (arith, small, count)) none refl) fits.locks_are;
+      counts = record { commits = fits.counts.commits; made = let before = fits.counts.made in omega (arith, c.in-Ok.ensures.works.made, before); cap = fits.counts.cap };
+      sessions = begun fits.newest fits.records engine.active c.add.new.active s _ _ engine.store.made _ fits.sessions small c.requires.may.absent c.add.ensures.entry (omega (arith, c.add.ensures.owed)) fresh late refl refl fits.counts.made refl;
+      locks_are = locks_stay engine.locks s _ (at_set writes_of s.sessions _ _ None (omega (arith, small, count)) none refl) (at_set reads_of s.sessions _ _ None (omega (arith, small, count)) none refl) fits.locks_are;
     })
     (keeps_answered (c.in-Ok.ensures.keeps fits.newest fits.records s.table s.commits fits.holds))

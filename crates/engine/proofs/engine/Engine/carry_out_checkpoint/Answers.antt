@@ -6,7 +6,7 @@ use Rattle.image_meaning.specs.Flushed.{first_block}
 use Rattle.redo_undo.specs.Holding as both
 use Rattle.redo_undo.specs.Holding.{blocks_to}
 use Rattle.redo_undo.specs.Checkpointing.{MayBeMade, begins_of}
-use Rattle.engine.specs.Going.{sizes_of}
+use Rattle.engine.specs.Invariant.{sizes_of}
 use Rattle.redo_undo.specs.Stores.{HasCheckpoint}
 use Rattle.engine.specs.Leaves.{LeavesTable}
 use Rattle.engine.proofs.Keeping.{LetsGo, lets_go}
@@ -47,7 +47,7 @@ returns-in-Ok g c =
     let go = subst (LetsGo engine) (sym c.unwrap_or-first.ensures) (lets_go engine old c.oldest_born.result c.requires.going c.oldest_born.ensures) in
     record {
       does = λ s fits.
-          let holds = subst (λ (n : ℕ). both.Holds engine.store.log engine.store.pages old fits.newest fits.records s.table n) (sym fits.counts.commits) fits.holds.both in
+          let holds = subst (λ (n : ℕ). both.Represents engine.store.log engine.store.pages old fits.newest fits.records s.table n) (sym fits.counts.commits) fits.holds.both in
           let may = subst (MayBeMade engine.store.masters old fits.records) (sym c.named-named.ensures.named) (may_be_made engine old s fits c.requires.going.table) in
           let made = c.in-Ok.ensures.checkpoint fits.newest fits.records s.table holds may in
           let has = subst (λ (n : ℕ). HasCheckpoint c.checkpoint.new.self new fits.records s.table n c.named-named.result) fits.counts.commits made in
@@ -72,7 +72,7 @@ returns-in-Err-clause-does g c s fits =
     let engine = c.args.self.now in
     let old = g.S.Site.state c.args.site.now in
     let new = g.S.Site.state c.checkpoint.new.site in
-    let holds = subst (λ (n : ℕ). both.Holds engine.store.log engine.store.pages old fits.newest fits.records s.table n) (sym fits.counts.commits) fits.holds.both in
+    let holds = subst (λ (n : ℕ). both.Represents engine.store.log engine.store.pages old fits.newest fits.records s.table n) (sym fits.counts.commits) fits.holds.both in
     let may = subst (MayBeMade engine.store.masters old fits.records) (sym c.named-named.ensures.named) (may_be_made engine old s fits c.requires.going.table) in
     does_of (omega arith) tt
     (keeps_failed (subst (λ (n : ℕ). Keeps {T = Unit {0}} (Err c.in-Err.stop) engine.store c.checkpoint.new.self old new (LeavesTable (sizes_of engine.store) s.table n old.told) 0 1) fits.counts.commits (c.in-Err.ensures.keeps fits.newest fits.records s.table holds may)))

@@ -9,19 +9,15 @@ use Rattle.engine.proofs.engine.Engine.carry_out_commit.Goals as goal
 pub seal_commit-requires-clause-may : goal.seal_commit-requires-clause-may
 seal_commit-requires-clause-may g c =
     let part = owes c.args.self.now.active c.args.entry.session c.args.entry c.requires.going.table c.requires.active in
-    let bounded = c.requires.going.bounded in
-    record { going = c.requires.going.store; room = omega (arith, part, c.requires.going.room, c.requires.going.cap); few = omega (arith, part, bounded) }
+    record { going = c.requires.going.store; room = omega (arith, part, c.requires.going.room, c.requires.going.cap); few = omega (arith, part, c.requires.going.bounded) }
 
 pub returns-in-Err-clause-does : goal.returns-in-Err-clause-does
 returns-in-Err-clause-does g c s fits = does_of (omega arith) tt (keeps_weaker (commits_either c.args.self.now s c.args.entry fits c.requires.active) (keeps_failed (c.in-Err.ensures.keeps fits.newest fits.records s.table s.commits fits.holds (may_commit c.args.self.now (g.S.Site.state c.args.site.now) s c.args.entry fits c.requires.active))))
 
 pub returns-in-Ok-clause-does : goal.returns-in-Ok-clause-does
 returns-in-Ok-clause-does g c s fits =
-    let engine = c.args.self.now in
-    let old = g.S.Site.state c.args.site.now in
-    let new = g.S.Site.state c.seal_commit.new.site in
-    let sealed = c.in-Ok.ensures.holds fits.newest fits.records s.table s.commits fits.holds (may_commit engine old s c.args.entry fits c.requires.active) in
+    let sealed = c.in-Ok.ensures.holds fits.newest fits.records s.table s.commits fits.holds (may_commit _ _ s c.args.entry fits c.requires.active) in
     does_of (omega arith)
-    (committed_fits engine c.seal_commit.new.self _ old new s c.args.entry sealed.0 fits c.requires.going.table c.requires.active (stays_honest old new c.seal_commit.ensures.works.calls.goes fits.honest) sealed.1
+    (committed_fits _ c.seal_commit.new.self _ _ _ s c.args.entry sealed.0 fits c.requires.going.table c.requires.active (stays_honest _ _ c.seal_commit.ensures.works.calls.goes fits.honest) sealed.1
     c.seal_commit.ensures.rest c.in-Ok.ensures.commits c.in-Ok.ensures.works.made c.release.ensures c.remove.ensures.entry c.remove.ensures.owed refl refl refl)
     (keeps_weaker (commits_either c.args.self.now s c.args.entry fits c.requires.active) (c.in-Ok.ensures.keeps fits.newest fits.records s.table s.commits fits.holds (may_commit c.args.self.now (g.S.Site.state c.args.site.now) s c.args.entry fits c.requires.active)))

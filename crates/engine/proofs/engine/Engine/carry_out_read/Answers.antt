@@ -1,59 +1,40 @@
-use Rattle.redo_undo.specs.Works.{one_touch}
+use Rattle.redo_undo.specs.MachineSteps.{one_touch}
 use Rattle.redo_undo.proofs.Asking.{asks_ok}
-use Rattle.std.proofs.Common.{◌≡◌, ◌*◌, ◌<◌, None, Some, sym, ap, ◌∙◌, arith, ◌/◌, rules}
+use Rattle.std.proofs.Common.{◌≡◌, ◌*◌, ◌<◌, None, Some, refl, sym, ap, ◌∙◌, arith, ◌/◌, rules}
 use Rattle.site.specs.declared.geometry.Geometry.{Geometry}
 use Rattle.site.specs.Laws.{stays_honest}
 use Rattle.record_model.specs.State as model
 use Rattle.engine.specs.declared.engine.Engine.{Engine}
-use Rattle.engine.specs.Going.{sizes_of}
-use Rattle.engine.specs.Fits.{Fits}
+use Rattle.engine.specs.Invariant.{sizes_of}
+use Rattle.engine.specs.Representation.{Matches}
 use Rattle.engine.proofs.Meanings.{busy_read_is, seen_is}
 use Rattle.engine.proofs.Replies.{has}
 use Rattle.engine.proofs.Writes.{read_fits, touched_fits}
-use Rattle.engine.proofs.Calling.{does_of, serves_of}
+use Rattle.engine.proofs.Calling.{does_of, serves_still}
 use Rattle.redo_undo.proofs.StoreCalling.{keeps_failed, keeps_answered, keeps_no_memory, works_answered}
 use Rattle.engine.proofs.engine.Engine.carry_out_read.Goals as goal
 
 pub returns-in-Ok-add : goal.returns-in-Ok-add
 returns-in-Ok-add g c =
     let engine = c.args.self.now in
-    let old = g.S.Site.state c.args.site.now in
-    let new = g.S.Site.state c.touch.new.site in
     let number = c.args.number in
     let mid : Engine = record engine { store = c.touch.new.self } in
-    let some = c.requires.may.shown.number in
-    let less : number < 32 * (sizes_of c.touch.new.self).pages = omega (arith, ap (λ (x : Geometry). x.pages) c.touch.ensures.works.sizes, some) in
+    let less : number < 32 * (sizes_of c.touch.new.self).pages = omega (arith, ap (λ (x : Geometry). x.pages) c.touch.ensures.works.sizes, c.requires.may.shown.number) in
     let n = c.args.session in
     let own = has _ c.requires.may.active in
     let going = c.requires.going in
-    let blocks = c.in-Ok.ensures.blocks in
-    let made = c.touch.ensures.made in
-    let rises = c.in-Ok.ensures.works.rises in
     record {
       content = λ s fits.
           let holds = c.in-Ok.ensures.holds fits.newest fits.records s.table s.commits fits.holds in
-          let fits_mid : Fits mid new s = touched_fits engine c.touch.new.self old new s fits (stays_honest old new c.touch.ensures.works.calls.goes fits.honest) holds c.touch.ensures.made in
+          let fits_mid : Matches mid _ s = touched_fits engine c.touch.new.self _ _ s fits (stays_honest _ _ c.touch.ensures.works.calls.goes fits.honest) holds c.touch.ensures.made in
           let free : model.busy_read s (Some n) number ≡ None = sym (busy_read_is engine.locks s fits.locks_are (Some n) number) ∙ c.requires.may.shown.free in
-          c.shown.ensures.shown new fits.newest fits.records s.table s.commits holds ∙ sym (seen_is mid new s fits_mid n number own.own c.requires.going.table less own.is free);
+          c.shown.ensures.shown _ fits.newest fits.records s.table s.commits holds ∙ sym (seen_is mid _ s fits_mid n number own.own c.requires.going.table less own.is free);
       does = λ s fits.
           let holds = c.in-Ok.ensures.holds fits.newest fits.records s.table s.commits fits.holds in
-          let fits_mid : Fits mid new s = touched_fits engine c.touch.new.self old new s fits (stays_honest old new c.touch.ensures.works.calls.goes fits.honest) holds c.touch.ensures.made in
-          does_of (omega arith) (read_fits mid c.add.new.self new s c.args.session number own.own fits_mid c.requires.going.table own.is c.in-Ok-add.ensures.ok)
+          let fits_mid : Matches mid _ s = touched_fits engine c.touch.new.self _ _ s fits (stays_honest _ _ c.touch.ensures.works.calls.goes fits.honest) holds c.touch.ensures.made in
+          does_of (omega arith) (read_fits mid c.add.new.self _ s c.args.session number own.own fits_mid c.requires.going.table own.is c.in-Ok-add.ensures.ok)
           (keeps_answered (c.in-Ok.ensures.keeps fits.newest fits.records s.table s.commits fits.holds));
-      serves =
-          serves_of (works_answered c.in-Ok.ensures.works) (record {
-            store = c.in-Ok.ensures.works.going;
-            going = going.going;
-            cap = going.cap ∙ ap (λ (x : Geometry). x.blocks) (sym c.touch.ensures.works.sizes);
-            table = going.table;
-            room = let room = going.room in omega (arith, blocks, room, c.touch.ensures.works.kept);
-            since = λ n entry at. let since = going.since n entry at in omega (arith, blocks, made, since);
-            bounded = let bounded = going.bounded in omega (arith, bounded, made);
-            budget = let budget = going.budget in omega (arith, budget, made);
-            commits = let commits = going.commits in omega (arith, commits, rises);
-            lasts = λ n entry at. let lasts = going.lasts n entry at in (lasts.0, omega (arith, lasts.1, rises));
-            differ = going.differ;
-          });
+      serves = serves_still going (works_answered c.in-Ok.ensures.works) refl refl refl (omega (arith, going.budget)) (omega (arith, going.commits, c.in-Ok.ensures.works.rises));
       asks = asks_ok c.in-Ok.field-0 _ (one_touch (c.args.number / 32)) _ _ _ _ c.in-Ok.ensures.asks;
       locks = search rules;
       active = search rules;

@@ -6,8 +6,8 @@ use Rattle.txn_table.specs.Entries.{entry_of}
 use Rattle.std.specs.List.{range_with_len}
 use Rattle.record_model.specs.State.{State}
 use Rattle.record_model.specs.Touches.{read_touch}
-use Rattle.engine.specs.Going.{sizes_of}
-use Rattle.engine.specs.Fits.{with_reads}
+use Rattle.engine.specs.Invariant.{sizes_of}
+use Rattle.engine.specs.Representation.{with_reads}
 use Rattle.engine.specs.Leaves.{LeavesTable}
 use Rattle.engine.specs.Scans.{items_seen}
 use Rattle.engine.specs.Calls.{Does}
@@ -33,12 +33,11 @@ loop-offset-init g c =
 pub carry_out_read-requires-clause-may : goal.carry_out_read-requires-clause-may
 carry_out_read-requires-clause-may g c =
     let inv = c.loop-offset.invariant in
-    let there = c.requires.may.there in
     record {
       session = c.requires.may.session;
       active = subst (λ (l : List Active). IsSome (entry_of l c.args.session)) (sym inv.active) c.requires.may.active;
       shown = record {
-        number = subst (λ (k : Geometry). c.args.number + c.loop-offset.offset < 32 * k.pages) (sym inv.serves.sizes) (omega (arith, there, c.loop-offset-test.true));
+        number = subst (λ (k : Geometry). c.args.number + c.loop-offset.offset < 32 * k.pages) (sym inv.serves.sizes) (omega (arith, c.requires.may.there, c.loop-offset-test.true));
         free = inv.busy (c.args.number + c.loop-offset.offset) ∙ free_at c.args.self.now.locks c.args.session c.args.number c.args.count c.loop-offset.offset c.loop-offset-test.true c.requires.may.free;
       };
     }
@@ -58,9 +57,8 @@ loop-offset-preserved g c =
       busy = λ r. still_busy c.loop-offset.self.locks c.carry_out_read.new.self.locks c.args.session (number + offset) c.in-Ok.ensures.locks c.args.session r ∙ inv.busy r;
       kept = c.carry_out_read.ensures.kept ∙ inv.kept;
       does = λ s fits.
-          let count = fits.sessions.count in
           subst (λ (u : State). Does {T = Unit {0}} (Ok tt) c.args.self.now c.carry_out_read.new.self old new s u (LeavesTable (sizes_of c.args.self.now.store) s.table s.commits old.told) 0)
-          (reads_more s c.args.session (number + offset) (range_with_len number offset) (omega (arith, eight, count)) ∙ ap (with_reads s c.args.session) (sym (range_more number offset)))
+          (reads_more s c.args.session (number + offset) (range_with_len number offset) (omega (arith, eight, fits.sessions.count)) ∙ ap (with_reads s c.args.session) (sym (range_more number offset)))
           (does_answered (does_then fits.honest refl (λ x p. p) (late_table inv.serves.sizes) inv.serves (inv.does s fits) (c.in-Ok.ensures.does (with_reads s c.args.session (range_with_len c.args.number c.loop-offset.offset)) (inv.does s fits).after_fits)));
       items = λ s fits.
           items_next s c.args.session number offset c.loop-offset.items c.add_item.new.items _ (omega (arith, eight, fits.sessions.count)) (inv.items s fits)

@@ -2,19 +2,19 @@ use Rattle.engine.proofs.Asking.{has_group, change_ok}
 use Rattle.std.proofs.Common.{◌≡◌, ◌+◌, ◌*◌, ◌<◌, ◌≤◌, ⊎_elim, refl, sym, ap, subst, ◌∙◌, arith, ◌/◌, rules}
 use Rattle.std.proofs.lemmas.Option.{same_Some}
 use Rattle.std.proofs.lemmas.Bool.{cases_eq}
-use Rattle.log_store.specs.Held.{end_of}
+use Rattle.log_store.specs.Representation.{end_of}
 use Rattle.txn_table.specs.declared.active.Active.{Active}
 use Rattle.txn_table.specs.Entries.{entry_of}
 use Rattle.site.specs.declared.geometry.Geometry.{Geometry}
 use Rattle.site.specs.Laws.{stays_honest, goes_in_sequence}
 use Rattle.engine.specs.declared.engine.Engine.{Engine}
-use Rattle.engine.specs.Going.{sizes_of}
+use Rattle.engine.specs.Invariant.{sizes_of}
 use Rattle.redo_undo.specs.Stores.{shown_in}
-use Rattle.engine.specs.Fits.{Fits}
+use Rattle.engine.specs.Representation.{Matches}
 use Rattle.redo_undo.specs.Holding.{blocks_to}
 use Rattle.engine.proofs.Owing.{entry_is, owes}
 use Rattle.engine.proofs.Writes.{touched_fits, may_write, write_fits}
-use Rattle.engine.proofs.Apart.{below_wrote, apart_wrote}
+use Rattle.engine.proofs.DistinctBegins.{below_wrote, apart_wrote}
 use Rattle.engine.proofs.Calling.{does_of, serves_of}
 use Rattle.redo_undo.proofs.StoreCalling.{works_then, works_answered, keeps_failed, keeps_answered, keeps_both, keeps_no_memory}
 use Rattle.std.specs.Prelude.{Err}
@@ -56,9 +56,7 @@ returns-in-Ok-update g c =
     let after = c.args.after.now in
     let made = c.touch.ensures.made in
     let blocks = c.in-Ok.ensures.blocks in
-    let few = going.store.blocks in
     let count = ap (λ (x : Geometry). x.blocks) c.touch.ensures.works.sizes in
-    let cap = going.cap in
     let room = c.requires.may.room in
     let n = c.args.entry.session in
     let changes = c.wrote.ensures.entry in
@@ -70,8 +68,8 @@ returns-in-Ok-update g c =
       done = search rules;
       does = λ s fits.
           let holds = c.in-Ok.ensures.holds fits.newest fits.records s.table s.commits fits.holds in
-          let fits_mid : Fits mid new s = touched_fits engine c.touch.new.self old new s fits (stays_honest old new c.touch.ensures.works.calls.goes fits.honest) holds c.touch.ensures.made in
-          let may = may_write mid new s fits_mid entry number lsn after going.table c.requires.active less c.requires.may.free (omega (arith, made, room)) (let kept = c.touch.ensures.works.kept in omega (arith, blocks, few, made, kept)) (omega (arith, cap, count)) in
+          let fits_mid : Matches mid new s = touched_fits engine c.touch.new.self old new s fits (stays_honest old new c.touch.ensures.works.calls.goes fits.honest) holds c.touch.ensures.made in
+          let may = may_write mid new s fits_mid entry number lsn after going.table c.requires.active less c.requires.may.free (omega (arith, made, room)) (let kept = c.touch.ensures.works.kept in omega (arith, blocks, going.store.blocks, made, kept)) (omega (arith, going.cap, count)) in
           does_of (omega arith)
           (write_fits mid _ new last s entry number lsn (shown_in c.touch.new.self new fits.records number) after fits_mid going.table c.requires.active
           (stays_honest old last (goes_in_sequence old new last c.touch.ensures.works.calls.goes c.update.ensures.works.calls.goes) fits.honest)

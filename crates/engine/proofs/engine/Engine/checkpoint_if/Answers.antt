@@ -1,10 +1,10 @@
 use Rattle.std.proofs.Common.{◌≡◌, Bool, true, false, sym, subst, rules, arith}
 use Rattle.std.specs.Prelude.{Ok, Err, [], if◌then◌else◌}
-use Rattle.engine.specs.Going.{sizes_of}
-use Rattle.engine.specs.Fits.{checkpointed_if}
+use Rattle.engine.specs.Invariant.{sizes_of}
+use Rattle.engine.specs.Representation.{checkpointed_if}
 use Rattle.engine.specs.Leaves.{LeavesTable}
 use Rattle.engine.specs.Calls.{Does}
-use Rattle.redo_undo.specs.Works.{Asks, checkpoint_works}
+use Rattle.redo_undo.specs.MachineSteps.{StepsMachine, checkpoint_works}
 use Rattle.engine.proofs.Calling.{does_nothing, does_answered, does_failed, serves_nothing, still, asks_rest}
 use Rattle.engine.proofs.engine.Engine.checkpoint_if.Goals as goal
 
@@ -19,7 +19,7 @@ returns-then-not-wanted g c =
           (does_nothing fits c.requires.going (still c.hold_together.ensures.moment fits c.requires.going));
       serves = serves_nothing c.requires.going;
       ended = search rules;
-      asks = subst (λ (b : Bool). Asks {T = Unit {0}} (Ok tt) (if b then checkpoint_works else []) pages pages old old) (sym is) asks_rest;
+      asks = subst (λ (b : Bool). StepsMachine {T = Unit {0}} (Ok tt) (if b then checkpoint_works else []) pages pages old old) (sym is) asks_rest;
     }
 
 pub returns-in-Ok-clause-does : goal.returns-in-Ok-clause-does

@@ -1,4 +1,4 @@
-use Rattle.redo_undo.specs.Works.{one_change}
+use Rattle.redo_undo.specs.MachineSteps.{one_change}
 use Rattle.engine.proofs.Asking.{has_group, store_has_group, change_ok}
 use Rattle.std.proofs.Common.{◌++◌, ◌∷◌, [], ◌∙◌, arith, ◌/◌, rules}
 use Rattle.record_model.specs.State.{Content}
@@ -14,7 +14,6 @@ use Rattle.engine.proofs.engine.Engine.log_set.Goals as goal
 pub returns-in-Ok-update : goal.returns-in-Ok-update
 returns-in-Ok-update g c =
     let going = c.requires.going in
-    let room = c.requires.may.room in
     let behind = c.in-Ok.ensures.rises.0 in
     let engine = c.args.self.now in
     let old = g.S.Site.state c.args.site.now in
@@ -23,20 +22,18 @@ returns-in-Ok-update g c =
     let number = c.args.number in
     let after = c.args.after.now in
     let lsn = c.in-Ok-update.field-0 in
-    let blocks = c.in-Ok.ensures.works.blocks in
-    let same = c.in-Ok-touch.ensures.blocks in
     record {
       logged = λ s fits.
           let log = fits.records ++ begin_at c.in-Ok.txn ∷ [] in
           let may = may_begin engine old s fits c.in-Ok.txn behind (omega (arith, c.requires.may.room)) going.store.blocks going.cap in
           let holds = c.in-Ok.ensures.holds fits.newest fits.records s.table s.commits fits.holds may in
           let before : Content = shown_in c.touch.new.self two log number in
-          let may = may_update engine old s number fits going.table c.requires.may.number c.requires.may.room going.store.blocks going.cap c.requires.may.free txn behind c.touch.new.self two lsn after (c.touch.ensures.works.sizes ∙ c.begin.ensures.works.sizes) (c.touch.ensures.works.kept ∙ c.begin.ensures.works.kept) (omega (arith, blocks, same)) in
+          let may = may_update engine old s number fits going.table c.requires.may.number c.requires.may.room going.store.blocks going.cap c.requires.may.free txn behind c.touch.new.self two lsn after (c.touch.ensures.works.sizes ∙ c.begin.ensures.works.sizes) (c.touch.ensures.works.kept ∙ c.begin.ensures.works.kept) (omega (arith, c.in-Ok.ensures.works.blocks, c.in-Ok-touch.ensures.blocks)) in
           one_write engine old s number fits going.table c.requires.may.number c.requires.may.room going.store.blocks going.cap c.requires.may.free txn behind c.update.new.self (g.S.Site.state c.update.new.site) lsn before after
           (c.in-Ok-update.ensures.holds fits.newest log s.table s.commits (c.in-Ok-touch.ensures.holds fits.newest log s.table s.commits holds) may);
       keeps = λ s fits.
           let log = fits.records ++ begin_at c.in-Ok.txn ∷ [] in
-          let may = may_begin c.args.self.now (g.S.Site.state c.args.site.now) s fits c.in-Ok.txn behind (omega (arith, room)) going.store.blocks going.cap in
+          let may = may_begin c.args.self.now (g.S.Site.state c.args.site.now) s fits c.in-Ok.txn behind (omega (arith, c.requires.may.room)) going.store.blocks going.cap in
           let holds = c.in-Ok.ensures.holds fits.newest fits.records s.table s.commits fits.holds may in
           let held = c.in-Ok-touch.ensures.holds fits.newest log s.table s.commits holds in
           let touched = keeps_both fits.honest c.in-Ok.ensures.works (c.in-Ok.ensures.keeps fits.newest fits.records s.table s.commits fits.holds) (c.in-Ok-touch.ensures.keeps fits.newest log s.table s.commits holds) in
@@ -54,20 +51,16 @@ returns-in-Err-clause-keeps g c s fits = keeps_before (omega arith) (c.in-Err.en
 pub returns-in-Err-touch-clause-keeps : goal.returns-in-Err-touch-clause-keeps
 returns-in-Err-touch-clause-keeps g c s fits =
     let going = c.requires.going in
-    let room = c.requires.may.room in
-    let behind = c.in-Ok.ensures.rises.0 in
     let log = fits.records ++ begin_at c.in-Ok.txn ∷ [] in
-    let may = may_begin c.args.self.now (g.S.Site.state c.args.site.now) s fits c.in-Ok.txn behind (omega (arith, room)) going.store.blocks going.cap in
+    let may = may_begin c.args.self.now (g.S.Site.state c.args.site.now) s fits c.in-Ok.txn c.in-Ok.ensures.rises.0 (omega (arith, c.requires.may.room)) going.store.blocks going.cap in
     let holds = c.in-Ok.ensures.holds fits.newest fits.records s.table s.commits fits.holds may in
     keeps_before (omega arith) (keeps_both fits.honest c.in-Ok.ensures.works (c.in-Ok.ensures.keeps fits.newest fits.records s.table s.commits fits.holds) (c.in-Err-touch.ensures.keeps fits.newest log s.table s.commits holds))
 
 pub returns-in-Err-update-clause-keeps : goal.returns-in-Err-update-clause-keeps
 returns-in-Err-update-clause-keeps g c s fits =
     let going = c.requires.going in
-    let room = c.requires.may.room in
-    let behind = c.in-Ok.ensures.rises.0 in
     let log = fits.records ++ begin_at c.in-Ok.txn ∷ [] in
-    let may = may_begin c.args.self.now (g.S.Site.state c.args.site.now) s fits c.in-Ok.txn behind (omega (arith, room)) going.store.blocks going.cap in
+    let may = may_begin c.args.self.now (g.S.Site.state c.args.site.now) s fits c.in-Ok.txn c.in-Ok.ensures.rises.0 (omega (arith, c.requires.may.room)) going.store.blocks going.cap in
     let holds = c.in-Ok.ensures.holds fits.newest fits.records s.table s.commits fits.holds may in
     let held = c.in-Ok-touch.ensures.holds fits.newest log s.table s.commits holds in
     let touched = keeps_both fits.honest c.in-Ok.ensures.works (c.in-Ok.ensures.keeps fits.newest fits.records s.table s.commits fits.holds) (c.in-Ok-touch.ensures.keeps fits.newest log s.table s.commits holds) in

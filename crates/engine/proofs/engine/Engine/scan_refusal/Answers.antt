@@ -2,7 +2,7 @@ use Rattle.std.proofs.Common.{◌≡◌, ◌∙◌, ◌+◌, ◌-◌, ◌*◌, �
 use Rattle.std.specs.List.{range_with_len}
 use Rattle.record_model.specs.Step.{first_refusal, may_read}
 use Rattle.record_model.specs.declared.words.Command.TheVariants.{Scan}
-use Rattle.engine.specs.Going.{sizes_of}
+use Rattle.engine.specs.Invariant.{sizes_of}
 use Rattle.engine.proofs.Replies.{refused, carried_out, has_record, lacks_record, is_active, has}
 use Rattle.engine.proofs.Scans.{busy_is, past_all}
 use Rattle.engine.proofs.Owing.{entry_is}

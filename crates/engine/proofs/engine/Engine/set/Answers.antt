@@ -1,9 +1,9 @@
 use Rattle.std.proofs.Common.{◌/◌, inr, refl}
 use Rattle.record_model.specs.declared.words.Command.TheVariants.{Set}
-use Rattle.redo_undo.specs.Works.{one_change}
+use Rattle.redo_undo.specs.MachineSteps.{one_change}
 use Rattle.page_store.specs.Caching.{cache_of, rules}
-use Rattle.engine.specs.Going.{sizes_of}
-use Rattle.engine.specs.Fits.{checkpointed_if}
+use Rattle.engine.specs.Invariant.{sizes_of}
+use Rattle.engine.specs.Representation.{checkpointed_if}
 use Rattle.engine.specs.Leaves.{LeavesEither}
 use Rattle.site.proofs.Working.{err_again}
 use Rattle.engine.proofs.Asking.{has_group}

@@ -6,7 +6,7 @@ use Rattle.record_model.specs.State.{Content, State}
 use Rattle.record_model.specs.Step.{making, committed}
 use Rattle.record_model.specs.declared.words.Reply.{Reply}
 use Rattle.engine.specs.declared.engine.Engine.{Engine}
-use Rattle.engine.specs.Going.{sizes_of}
+use Rattle.engine.specs.Invariant.{sizes_of}
 use Rattle.engine.specs.Leaves.{LeavesEither}
 use Rattle.engine.specs.Calls.{Does}
 use Rattle.engine.proofs.Calling.{answered_as, does_nothing, does_weaker, does_failed, asks_rest, early, still}

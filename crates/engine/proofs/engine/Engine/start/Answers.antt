@@ -2,7 +2,7 @@ use Rattle.engine.proofs.Asking.{from_other, from_other_fails, memory_only}
 use Rattle.std.proofs.Common.{◌∙◌, refl, ap, rules}
 use Rattle.site.specs.Laws.{stays_honest}
 use Rattle.site.specs.declared.geometry.Geometry.{Geometry}
-use Rattle.engine.proofs.Calling.{ends_failed, ends_answered, ends_no_memory}
+use Rattle.redo_undo.proofs.Endings.{ends_failed, ends_answered, ends_no_memory}
 use Rattle.engine.proofs.Starts.{started}
 use Rattle.engine.proofs.RingCounts.{restart_again, restart_stopped, restart_answered}
 use Rattle.engine.proofs.engine.Engine.start.Goals as goal
@@ -10,16 +10,15 @@ use Rattle.engine.proofs.engine.Engine.start.Goals as goal
 pub returns-clause-opens : goal.returns-clause-opens
 returns-clause-opens g c honest k s opening =
     let old = g.S.Site.state c.args.site.now in
-    let new = g.S.Site.state c.restart.new.site in
     let done = c.in-Ok.ensures.opens honest k opening.newest opening.blocks s.table s.commits opening.sound opening.means in
     let blocks = c.in-Ok.ensures.restarts.blocks ∙ ap (λ (x : Geometry). x.blocks) done.1 in
-    (started c.owed_none.ensures k old.image new s c.in-Ok.restarted _ (stays_honest old new c.restart.ensures.restarts.calls.goes honest) opening done.0 blocks refl refl refl (search rules) (search rules), done.1)
+    (started c.owed_none.ensures k old.image _ s c.in-Ok.restarted _ (stays_honest old _ c.restart.ensures.restarts.calls.goes honest) opening done.0 blocks refl refl refl (search rules) (search rules), done.1)
 
 pub returns-in-Err-clause-ends : goal.returns-in-Err-clause-ends
 returns-in-Err-clause-ends g c honest k table commits stands = ends_failed (c.in-Err.ensures.ends honest k table commits stands)
 
 pub returns-in-Err-new-clause-ends : goal.returns-in-Err-new-clause-ends
-returns-in-Err-new-clause-ends g c honest k table commits stands = ends_no_memory c.in-Err-new.ensures.memory honest c.in-Ok.ensures.restarts.calls (c.in-Ok.ensures.ends honest k table commits stands)
+returns-in-Err-new-clause-ends g c honest k table commits stands = ends_no_memory c.in-Err-new.ensures.memory (c.in-Ok.ensures.restarts.calls.stays_quiet honest) (c.in-Ok.ensures.ends honest k table commits stands)
 
 pub returns-clause-ends : goal.returns-clause-ends
 returns-clause-ends g c honest k table commits stands = ends_answered (c.in-Ok.ensures.ends honest k table commits stands)

@@ -1,6 +1,6 @@
 use Rattle.std.proofs.Common.{◌≡◌, ◌≤◌, ◌<◌, length, IsTrue}
 use Rattle.std.specs.Prelude.{false}
-use Rattle.site.specs.Calls.{Goes}
+use Rattle.site.specs.Calls.{Preserves}
 use Rattle.face.specs.Lines.{to_hear, total, IsSource, HasEnded, HearsOnly, TakesWithin}
 use Rattle.face.proofs.Heard.{HeardSoFar}
 use Rattle.face.specs.Causes.{SameFaults}
@@ -11,7 +11,7 @@ invariant-loop-octet g l =
     let old = g.S.Site.state l.fn.site in
     let now = g.S.Site.state l.site in
     record {
-      goes : Goes old now;
+      goes : Preserves old now;
       faults : SameFaults old now;
       source : IsSource l.self;
       len : l.len ≤ 501;

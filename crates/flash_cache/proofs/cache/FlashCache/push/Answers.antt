@@ -11,7 +11,7 @@ use Rattle.frame_group.specs.Groups.{Frame, IsFrame, group, heads_of}
 use Rattle.frame_group.proofs.Front.{begins_with_heads}
 use Rattle.second_chance.specs.declared.frame.Frame.{Frame as Known}
 use Rattle.second_chance.specs.Queue.{front_marks}
-use Rattle.flash_cache.specs.Held.{PagesExist}
+use Rattle.flash_cache.specs.Representation.{PagesExist}
 use Rattle.flash_cache.specs.Leaving.{again}
 use Rattle.flash_cache.specs.Pushed.{staged_marks, chance_marks, frames_given, pushed_queue, changes_of_push, LeavesPush}
 use Rattle.flash_cache.proofs.Heads.{heads_make}

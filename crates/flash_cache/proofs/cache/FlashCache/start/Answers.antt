@@ -12,10 +12,10 @@ use Rattle.second_chance.specs.Queue.{Queue}
 use Rattle.flash_directory.specs.Heads.{frames_in}
 use Rattle.tail_rebuild.proofs.Standing.{first_is}
 use Rattle.flash_cache.specs.declared.cache.FlashCache.{FlashCache}
-use Rattle.flash_cache.specs.Held.{HasGroups, AreSaved, MayGoOn, Holds}
+use Rattle.flash_cache.specs.Representation.{HasGroups, AreSaved, Invariant, Represents}
 use Rattle.flash_cache.proofs.Queues.{err_again}
 use Rattle.flash_cache.proofs.Standing.{known_groups, all_shown, sizes_known, exist_known, length-mapped}
-use Rattle.flash_cache.proofs.Fetching.{lengths_later}
+use Rattle.site.proofs.Working.{lengths_later}
 use Rattle.flash_cache.proofs.cache.FlashCache.start.Goals as goal
 
 pub of_groups-requires-clause-groups : goal.of_groups-requires-clause-groups
@@ -64,7 +64,7 @@ returns-clause-holds g c honest first groups has saved =
     let new = g.S.Site.state c.rebuild.new.site in
     let geometry = c.args.geometry.now in
     let same = sym (c.in-Ok.ensures.reads.same honest).image in
-    subst (λ (q : Queue). let cache : FlashCache = record { alloc = c.args.alloc; geometry = geometry; ring = c.in-Ok.heads.groups; segments = c.in-Ok.heads.segments; directory = q; ended = false } in Holds cache new.image groups)
+    subst (λ (q : Queue). let cache : FlashCache = record { alloc = c.args.alloc; geometry = geometry; ring = c.in-Ok.heads.groups; segments = c.in-Ok.heads.segments; directory = q; ended = false } in Represents cache new.image groups)
     (sym (returns-clause-queue g c honest first groups has saved))
     (record { has = subst (HasGroups geometry first groups) same has; saved = subst (AreSaved geometry groups) same saved; shown = all_shown groups })
 
@@ -82,7 +82,7 @@ returns-clause-going g c =
     let many = length-mapped frames_in lists in
     let oldest = c.oldest.ensures in
     let count = start.count in
-    subst (λ (q : Queue). let cache : FlashCache = record { alloc = c.args.alloc; geometry = geometry; ring = ring; segments = c.in-Ok.heads.segments; directory = q; ended = false } in MayGoOn cache new) (sym is) (record {
+    subst (λ (q : Queue). let cache : FlashCache = record { alloc = c.args.alloc; geometry = geometry; ring = ring; segments = c.in-Ok.heads.segments; directory = q; ended = false } in Invariant cache new) (sym is) (record {
       limits = c.requires.limits;
       lengths = lengths_later geometry old new c.in-Ok.ensures.reads.goes c.requires.lengths;
       rings = start.rings;

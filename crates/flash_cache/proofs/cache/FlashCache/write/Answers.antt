@@ -1,14 +1,14 @@
 use Rattle.std.proofs.Common.{◌≡◌, sym, ap, subst}
 use Rattle.std.proofs.lemmas.Result.{on_ok_weaker}
+use Rattle.std_lemmas.proofs.Results.{on_ok}
 use Rattle.site.specs.declared.outside.Dev.TheVariants.{Flash, Disk}
 use Rattle.site.specs.State.{State}
 use Rattle.site.specs.Laws.{stays_honest, others_untouched, quiet_settled}
 use Rattle.site.specs.Moments.{Untouched}
 use Rattle.stage_out.specs.Staged.{HasStaged}
-use Rattle.flash_cache.proofs.Queues.{on_ok}
 use Rattle.flash_cache.proofs.PushLaws.{push_leaves, stage_only}
-use Rattle.flash_cache.proofs.Fetching.{lengths_later}
 use Rattle.flash_cache.proofs.Staging.{goes_on_later, fits_on, pages_changed, pages_in_sequence, all_made}
+use Rattle.site.proofs.Working.{lengths_later}
 use Rattle.flash_cache.proofs.cache.FlashCache.write.Goals as goal
 
 pub returns-in-Err-clause-any_moment : goal.returns-in-Err-clause-any_moment

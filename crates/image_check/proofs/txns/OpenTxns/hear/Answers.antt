@@ -1,10 +1,11 @@
 use Rattle.std.proofs.Common.{◌≡◌, ◌*◌, ◌==◌, ◌++◌, ◌∷◌, [], not, true, filter, ℕ, nat_le, sym, ap, subst, ◌∙◌, arith}
 use Rattle.std.proofs.lemmas.Bool.Decides.{nat_tests}
-use Rattle.site.proofs.Working.{ok_as}
+use Rattle.std.proofs.lemmas.Result.{on_ok_weaker}
 use Rattle.log_records.specs.Log.{Entry, is_closing}
 use Rattle.log_records.specs.Unfinished.{is_begin}
 use Rattle.image_check.specs.Opening.{AreOpen}
-use Rattle.image_check.proofs.OpenOnes.{open_more, open_without, closing_is_old, begins_go_on}
+use Rattle.image_check.proofs.OpenOnes.{open_more, open_without, begins_go_on}
+use Rattle.log_records.proofs.Entries.{closing_is_no_begin}
 use Rattle.image_check.proofs.txns.OpenTxns.hear.Goals as goal
 
 pub returns-then-closes-clause-heard : goal.returns-then-closes-clause-heard
@@ -13,7 +14,7 @@ returns-then-closes-clause-heard c m records redo is fresh =
     let items = c.args.self.now.txns.items in
     let closing : is_closing c.args.rec.now ≡ true = sym c.closes.ensures ∙ c.if-closes.true in
     subst (AreOpen m (records ++ e ∷ [])) (sym (c.close.ensures ∙ ap (λ (n : ℕ). filter (λ x. not (x == n)) items) c.txn_of.ensures))
-    (open_without m records e items closing (closing_is_old c.args.rec.now closing) is)
+    (open_without m records e items closing (closing_is_no_begin c.args.rec.now closing) is)
 
 pub returns-clause-heard : goal.returns-clause-heard
 returns-clause-heard c m records redo is fresh =
@@ -22,5 +23,5 @@ returns-clause-heard c m records redo is fresh =
     let begins : is_begin c.args.rec.now ≡ true = sym c.begins.ensures ∙ c.if-not-begins.false in
     let behind = c.if-lsn-redo.false in
     let late : nat_le (512 * m.redo) c.args.lsn ≡ true = grind (arith, nat_tests, behind, redo) in
-    ok_as c.begin.result (c.begin.new.self.txns.items ≡ items ++ c.args.lsn ∷ []) (AreOpen m (records ++ e ∷ []) c.begin.new.self.txns.items)
+    on_ok_weaker {P = c.begin.new.self.txns.items ≡ items ++ c.args.lsn ∷ []} {Q = AreOpen m (records ++ e ∷ []) c.begin.new.self.txns.items} c.begin.result
     (λ pushed. subst (AreOpen m (records ++ e ∷ [])) (sym pushed) (open_more m records e items (begins_go_on c.args.rec.now begins) begins late fresh is)) c.begin.ensures.items

@@ -1,5 +1,5 @@
 use Rattle.std.proofs.Common.{◌≡◌, ◌++◌, ◌∷◌, [], true, sym, subst, ◌∙◌}
-use Rattle.site.proofs.Working.{ok_as}
+use Rattle.std.proofs.lemmas.Result.{on_ok_weaker}
 use Rattle.log_records.specs.Log.{Entry}
 use Rattle.log_records.specs.Unfinished.{is_begin}
 use Rattle.image_check.specs.declared.unfinished.Left.{Left}
@@ -13,5 +13,5 @@ returns-then-begins-clause-heard c records from order few fresh is =
     let items = c.args.self.now.left.items in
     let first : Left = record { txn = c.args.lsn; last = c.args.lsn; remaining = 0 } in
     let begins : is_begin c.args.rec.now ≡ true = sym c.begins.ensures ∙ c.if-begins.true in
-    ok_as c.begin.result (c.begin.new.self.left.items ≡ items ++ first ∷ []) (AreLeft (records ++ e ∷ []) c.begin.new.self.left.items)
+    on_ok_weaker {P = c.begin.new.self.left.items ≡ items ++ first ∷ []} {Q = AreLeft (records ++ e ∷ []) c.begin.new.self.left.items} c.begin.result
     (λ pushed. subst (AreLeft (records ++ e ∷ [])) (sym pushed) (left_begins records c.args.lsn c.args.rec.now items begins fresh is)) c.begin.ensures.items

@@ -2,7 +2,7 @@ use Rattle.std.proofs.Common.{◌≡◌, sym, ap, ◌∙◌}
 use Rattle.site.specs.State.{State}
 use Rattle.image_meaning.specs.Meaning.{version_in, versions_on}
 use Rattle.image_meaning.proofs.Versions.{version_is}
-use Rattle.flash_cache.specs.Held.{version_on}
+use Rattle.flash_cache.specs.Representation.{version_on}
 use Rattle.image_check.proofs.values.Logged.count_page.Goals as goal
 
 pub returns-clause-values : goal.returns-clause-values

@@ -4,7 +4,7 @@ use Rattle.std.proofs.lemmas.Bool.{cases_eq}
 use Rattle.site.specs.State.{State, Image}
 use Rattle.site.proofs.Working.{looks_then, looks_answered}
 use Rattle.log_records.specs.Log.{value_of}
-use Rattle.flash_cache.specs.Held.{version_on}
+use Rattle.flash_cache.specs.Representation.{version_on}
 use Rattle.image_meaning.specs.Meaning.{versions_on}
 use Rattle.image_check.specs.Octets.{AreVersions}
 use Rattle.image_check.specs.Showing.{HasContents}

@@ -1,14 +1,13 @@
 use Rattle.std.proofs.Common.{rules, ◌≡◌, ◌++◌, ◌∷◌, [], ℕ, true≢false, List, Option, Err, refl, sym, ap, ◌∙◌, subst}
 use Rattle.std.specs.List.{AllByRecursion}
 use Rattle.std.proofs.lemmas.Result.{err_from_is_err_and}
+use Rattle.std_lemmas.proofs.AllOf.{all_push, all_right}
 use Rattle.site.specs.State.{State}
 use Rattle.site.proofs.Working.{looks_then, looks_answered, looks_failed}
-use Rattle.log_laws.proofs.Lists.{all_push}
-use Rattle.log_laws.proofs.Parts.{all_right}
 use Rattle.log_records.specs.declared.log_record.LogRecord.{LogRecord}
 use Rattle.log_records.specs.Log.{Entry, log_from}
 use Rattle.log_records.specs.Sound.{Pairwise, HoldsOff}
-use Rattle.log_store.specs.Held.{Finds, HasBlocks}
+use Rattle.log_store.specs.Representation.{Finds, HasBlocks}
 use Rattle.image_check.specs.Walking.{Gives}
 use Rattle.image_check.specs.Showing.{IsKnownEarly}
 use Rattle.image_check.proofs.BlocksJudged.{finds_later, going_later}

@@ -3,7 +3,7 @@ use Rattle.std.specs.Prelude.{Ok}
 use Rattle.site.specs.Work.{OnlyReads}
 use Rattle.log_records.specs.declared.log_record.LogRecord.{LogRecord}
 use Rattle.log_records.specs.Log.{log_from}
-use Rattle.log_store.specs.Held.{MayGoOn, Finds, HasBlocks}
+use Rattle.log_store.specs.Representation.{Invariant, Finds, HasBlocks}
 use Rattle.image_check.specs.Walking.{MayWalk, to_go}
 use Rattle.image_check.proofs.Walks.{Walked}
 use Rattle.image_check.proofs.ValuesCounted.{Hears}
@@ -14,7 +14,7 @@ invariant-loop-logged g l =
     let old = g.S.Site.state l.fn.site in
     let now = g.S.Site.state l.site in
     record {
-      going : MayGoOn l.log now;
+      going : Invariant l.log now;
       walks : MayWalk l.log l.walk;
       heard : (blocks : List (List LogRecord)) → Finds l.log old → HasBlocks l.log.geometry l.master.kept blocks old.image →
           (w : Walked l.walk l.log old.image (log_from l.master.kept blocks)) × Hears l.master.redo l.lsns (log_from l.master.kept blocks) l.logged w.done;

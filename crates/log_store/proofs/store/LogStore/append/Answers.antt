@@ -7,7 +7,7 @@ use Rattle.sealed_ring.specs.Ready.{IsUsable}
 use Rattle.log_records.specs.Log.{Entry}
 use Rattle.log_store.specs.declared.store.LogStore.{LogStore}
 use Rattle.log_store.specs.LogList.{sealed_if, entries, with_record}
-use Rattle.log_store.specs.Held.{overflows}
+use Rattle.log_store.specs.Representation.{overflows}
 use Rattle.log_store.proofs.TailLaws.{spelling_short, full_tail, room_made, end_rises}
 use Rattle.log_records.proofs.Blocks.{some_octet}
 use Rattle.log_store.proofs.EntryLaws.{sealing_keeps, one_more, next_place}

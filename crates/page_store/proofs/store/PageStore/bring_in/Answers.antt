@@ -12,7 +12,7 @@ use Rattle.second_chance.specs.Machine.{Staged}
 use Rattle.page_store.specs.Caching.{cache_of, next_group, is_full, rules as rules_for}
 use Rattle.page_store.specs.Staging.{staged_by_eviction}
 use Rattle.page_store.proofs.Numbers.{way_next}
-use Rattle.page_store.specs.Held.{current}
+use Rattle.page_store.specs.Representation.{current}
 use Rattle.page_store.specs.Ahead.{AreSealed, forces, pushed_for_room}
 use Rattle.page_store.specs.Changing.{room_changes}
 use Rattle.page_store.specs.Leaves.{LeavesPages}

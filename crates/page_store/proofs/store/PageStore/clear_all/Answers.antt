@@ -6,6 +6,7 @@ use Rattle.buffer_pool.specs.Frames.{State as Pool, frame_of, cleared}
 use Rattle.page_store.specs.declared.store.PageStore.{PageStore}
 use Rattle.page_store.specs.Flushing.{cleared_all}
 use Rattle.page_store.proofs.Clearing.{still_there, cleared_push}
+use Rattle.page_store.proofs.ToldPages.{told_cleared}
 use Rattle.page_store.proofs.store.PageStore.clear_all.Goals as goal
 
 pub clear_changed-requires : goal.clear_changed-requires
@@ -16,18 +17,20 @@ clear_changed-requires c =
 
 pub loop-page-preserved : goal.loop-page-preserved
 loop-page-preserved c =
-    let pages = c.args.pages.now in
     let k = c.loop-page.page-index in
-    let page = get_or pages k 0 in
+    let page = get_or _ k 0 in
     let first = c.args.self.now in
     let frames = first.pool.frames in
     let so_far = c.loop-page.invariant.cleared in
-    let all : cleared (cleared_all (take k pages) frames) page ≡ cleared_all (take (k + 1) pages) frames =
-    sym (cleared_push (take k pages) page frames) ∙ ap (λ (ps : List ℕ). cleared_all ps frames) (sym (take_more pages k 0 c.loop-page-test.true)) in
-    let pool : c.clear_changed.new.self ≡ record first.pool { frames = cleared_all (take (k + 1) pages) frames } =
-    c.clear_changed.ensures.after ∙ ap (λ (s : PageStore). let p : Pool = record s.pool { frames = cleared s.pool.frames page } in p) so_far
-    ∙ ap (λ (l : List Frame). let p : Pool = record first.pool { frames = l } in p) all in
+    let all : cleared (cleared_all (take k _) frames) page ≡ cleared_all (take (k + 1) _) frames =
+    sym (cleared_push (take k _) page frames) ∙ ap (λ (ps : List ℕ). cleared_all ps frames) (sym (take_more _ k 0 c.loop-page-test.true)) in
+    let framed = c.clear_changed.new.self.framed in
+    let pool : c.clear_changed.new.self ≡ record first.pool { frames = cleared_all (take (k + 1) _) frames; framed = framed } =
+    c.clear_changed.ensures.after ∙ ap (λ (s : PageStore). let p : Pool = record s.pool { frames = cleared s.pool.frames page; framed = framed } in p) so_far
+    ∙ ap (λ (l : List Frame). let p : Pool = record first.pool { frames = l; framed = framed } in p) all in
     record {
       cleared = λ i. let s : PageStore = record { alloc = (so_far i).alloc; pool = pool i; flash = (so_far i).flash; ended = (so_far i).ended } in s;
       pool = c.clear_changed.ensures.pool;
+      told = λ told. told_cleared c.frames_of_pages.ensures.cleared c.loop-page.self c.clear_changed.new.self page (ap (λ (p : Pool). p.frames) c.clear_changed.ensures.after)
+          c.clear_changed.ensures.framed (c.loop-page.invariant.told told);
     }

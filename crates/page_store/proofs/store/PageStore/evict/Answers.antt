@@ -1,12 +1,13 @@
 use Rattle.std.proofs.Common.{rules, ◌+◌, ◌≡◌, ◌<◌, ℕ, [], length, map, sym, subst, ◌∙◌, ap, arith, refl}
 use Rattle.std.specs.Prelude.{All}
+use Rattle.std_lemmas.proofs.Results.{ok_both}
 use Rattle.buffer_pool.specs.declared.frame.Frame.{Frame}
 use Rattle.buffer_pool.specs.Frames.{State as Pool, AreDistinct, frame_of}
 use Rattle.second_chance.specs.Machine.{Cache, evict_coldest, rules_of, staged_in_push}
 use Rattle.flash_cache.specs.declared.cache.FlashCache.{FlashCache}
 use Rattle.site.proofs.Working.{ok_as, calls_nothing}
 use Rattle.page_store.specs.declared.store.PageStore.{PageStore}
-use Rattle.page_store.specs.Held.{MayGoOn}
+use Rattle.page_store.specs.Representation.{IsStore, Invariant}
 use Rattle.page_store.specs.Caching.{pool_page, cache_of, rules as rules_for}
 use Rattle.page_store.specs.Ahead.{end_forced, forces, evicted}
 use Rattle.page_store.specs.Changing.{given_changes, eviction_changes}
@@ -17,7 +18,6 @@ use Rattle.page_store.proofs.Departures.{HasLeft, Departs, departs, going_left, 
 use Rattle.page_store.proofs.Calling.{pushes_as, pushes_still, pushes_with, keeps_as, keeps_still, stands_as, keeps_nothing, stands_still, keeps_given, stands_given}
 use Rattle.page_store.proofs.Changing.{eviction_is}
 use Rattle.page_store.proofs.PushLaws.{ok_under}
-use Rattle.page_store.proofs.Bringing.{ok_two}
 use Rattle.page_store.proofs.StagingLaws.{stages_none, stages_as, stages_between, evicted_staged, evicted_next}
 use Rattle.page_store.proofs.store.PageStore.evict.Given.{Over}
 use Rattle.page_store.proofs.store.PageStore.evict.Goals.{In-Some, After-deref-in-Ok-2}
@@ -38,6 +38,7 @@ has_left g c = record {
   is = c.in-Some.ensures.some;
   one = c.frames_of_pages.ensures.last _ _ (subst AreDistinct c.in-Some.ensures.some c.requires.going.pages_going.own.pool.distinct);
   size = c.take_coldest.ensures.size;
+  knows = c.in-Some.ensures.framed;
 }
 
 -- and isn't pushed
@@ -76,6 +77,7 @@ departed g c =
       is = is;
       one = laws.last _ _ (subst AreDistinct is whole.pool.distinct);
       size = c.take_coldest.ensures.size;
+      knows = c.in-Some.ensures.framed;
     } in
     departs _ _ _ h c.unframed_is_disk.ensures laws.without whole (sym c.must_be_pushed.ensures ∙ c.if-not-must_be_pushed.false) c.take_with.new.self.pool
     c.in-Ok.taken _ _ _
@@ -86,7 +88,7 @@ push-requires-clause-going g c =
     let site = g.S.Site.state c.args.site.now in
     let h = has_left g (goal.at.push-requires-clause-going g c).In-Some in
     subst (λ (s : PageStore). MayWork c.args.log.now s site) (sym c.take_with.ensures.kept)
-    (going_left _ _ _ h c.take_with.new.self.pool c.take_with.ensures.part c.args.log.now site c.take_with.ensures.size c.requires.going)
+    (going_left _ _ _ h c.take_with.new.self.pool c.take_with.ensures.part c.args.log.now site (subst IsStore c.take_with.ensures.kept c.take_with.ensures.store) c.requires.going)
 
 pub push-requires-clause-exist : goal.push-requires-clause-exist
 push-requires-clause-exist g c = subst (λ (s : PageStore). All (λ (page : ℕ). page < s.flash.geometry.pages) c.deref.result.now) (sym c.take_with.ensures.kept)
@@ -127,8 +129,8 @@ returns-in-Ok-clause-stands g c list ready =
     let own = d.own log old ready.pages in
     let after = c.push.new.self in
     let geometry : after.flash.geometry ≡ store.flash.geometry = c.push.ensures.pushes.works.geometry ∙ ap (λ (s : PageStore). s.flash.geometry) kept in
-    let pool : after.pool ≡ c.take_with.new.self.pool = c.push.ensures.pool in
-    ok_two c.push.result _ _ (Stands log log' store after old new list (forces log (evicted store)) (eviction_changes log list store old.image))
+    let pool : after.pool.frames ≡ c.take_with.new.self.pool.frames = ap (λ (p : Pool). p.frames) c.push.ensures.pool in
+    ok_both c.push.result _ _ (Stands log log' store after old new list (forces log (evicted store)) (eviction_changes log list store old.image))
     (λ given logged.
     let stands = subst (λ (s : PageStore). StandsGiven log log' s after pages changed contents old new list (given_changes log list s old.image pages changed contents)) kept given in
     stands_as (d.forced log) (d.changes log list old.image)
@@ -175,9 +177,9 @@ returns-in-Err-clause-pushes g c =
     let site = g.S.Site.state c.args.site.now in
     let h = has_left g (goal.at.returns-in-Err-clause-pushes g c).In-Some in
     let kept = c.take_with.ensures.kept in
-    let going = (going_left _ _ _ h c.take_with.new.self.pool c.take_with.ensures.part c.args.log.now site c.take_with.ensures.size
+    let going = (going_left _ _ _ h c.take_with.new.self.pool c.take_with.ensures.part c.args.log.now site (subst IsStore kept c.take_with.ensures.store)
     c.requires.going).pages_going in
-    pushes_still _ (search rules) (search rules) tt c.requires.going (subst (λ (s : PageStore). MayGoOn s site) (sym kept) going)
+    pushes_still _ (search rules) (search rules) tt c.requires.going (subst (λ (s : PageStore). Invariant s site) (sym kept) going)
     (ap (λ (s : PageStore). s.flash.geometry) kept) (c.take_with.ensures.size ∙ h.size)
     (ap (λ (s : PageStore). s.ended) kept) (logged_left _ _ _ h c.take_with.new.self.pool c.take_with.ensures.part (end_forced c.args.log.now))
 

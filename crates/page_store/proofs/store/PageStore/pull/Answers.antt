@@ -7,7 +7,7 @@ use Rattle.buffer_pool.specs.Frames.{State as Pool, frame_of, without}
 use Rattle.page_store.specs.declared.store.PageStore.{PageStore}
 use Rattle.page_store.specs.Pulling.{without_all, pulled}
 use Rattle.page_store.specs.Taking.{Has}
-use Rattle.page_store.proofs.Removing.{page_of, without_push, next_pulled}
+use Rattle.page_store.proofs.Removing.{page_of, without_push, next_pulled, store_without}
 use Rattle.page_store.proofs.store.PageStore.pull.Goals as goal
 
 abbrev no_frame : Frame
@@ -28,12 +28,15 @@ unreachable-requires c =
 
 pub returns-in_err-push-clause-part : goal.returns-in_err-push-clause-part
 returns-in_err-push-clause-part c =
-    let frames = c.args.self.now.pool.frames in
     let pages : List ℕ = take c.loop-place.place (map page_of (pulled c.args.self.now)) in
     record {
       pages = pages ++ c.at-page.result ∷ [];
-      left = ap (λ (p : Pool). p.frames) c.take_page.ensures.after ∙ ap (λ (s : PageStore). without s.pool.frames c.at-page.result) c.loop-place.invariant.kept ∙ sym (without_push pages c.at-page.result frames);
+      left = ap (λ (p : Pool). p.frames) c.take_page.ensures.after ∙ ap (λ (s : PageStore). without s.pool.frames c.at-page.result) c.loop-place.invariant.kept ∙ sym (without_push pages c.at-page.result _);
     }
+
+pub returns-in_err-push-clause-store : goal.returns-in_err-push-clause-store
+returns-in_err-push-clause-store c =
+    store_without c.frames_of_pages.ensures.without c.loop-place.self c.take_page.new.self c.at-page.result c.take_page.ensures.after c.take_page.ensures.framed c.loop-place.invariant.store
 
 pub loop-place-preserved : goal.loop-place-preserved
 loop-place-preserved c =
@@ -57,11 +60,13 @@ loop-place-preserved c =
     let all : without (without_all (take k ps) frames) page ≡ without_all (take (k + 1) ps) frames =
     sym (without_push (take k ps) page frames)
     ∙ ap (λ (l : List ℕ). without_all l frames) (ap (λ (n : ℕ). take k ps ++ n ∷ []) (sym own) ∙ sym (take_more ps k 0 (omega (arith, less, length-map xs page_of)))) in
-    let pool : c.take_page.new.self ≡ record store.pool { frames = without_all (take (k + 1) ps) frames } =
-    c.take_page.ensures.after ∙ ap (λ (s : PageStore). let p : Pool = record s.pool { frames = without s.pool.frames page } in p) so_far
-    ∙ ap (λ (l : List Frame). let p : Pool = record store.pool { frames = l } in p) all in
+    let framed = c.take_page.new.self.framed in
+    let pool : c.take_page.new.self ≡ record store.pool { frames = without_all (take (k + 1) ps) frames; framed = framed } =
+    c.take_page.ensures.after ∙ ap (λ (s : PageStore). let p : Pool = record s.pool { frames = without s.pool.frames page; framed = framed } in p) so_far
+    ∙ ap (λ (l : List Frame). let p : Pool = record store.pool { frames = l; framed = framed } in p) all in
     record {
       kept = λ i. let s : PageStore = record { alloc = (so_far i).alloc; pool = pool i; flash = (so_far i).flash; ended = (so_far i).ended } in s;
+      store = store_without c.frames_of_pages.ensures.without c.loop-place.self c.take_page.new.self page c.take_page.ensures.after c.take_page.ensures.framed c.loop-place.invariant.store;
       taken = λ before has. subst (Has c.push.new.self) (append_assoc before (take k xs) (f ∷ []) ∙ ap (λ (l : List Frame). before ++ l) (ap (λ (x : Frame). take k xs ++ x ∷ []) is ∙ sym (take_more xs k no_frame less)))
           (c.in_ok-push.ensures.has (before ++ take k xs) (c.loop-place.invariant.taken before has));
     }

@@ -10,11 +10,12 @@ use Rattle.log_store.specs.LogList.{LogList, sealed_if, changes_if}
 use Rattle.flash_cache.specs.Pushed.{pushed_groups, frames_pushed, changes_of_group}
 use Rattle.slotted_page.specs.Layout.{IsSound}
 use Rattle.flash_cache.specs.Kept.{GivesVersions}
-use Rattle.log_store.specs.Held.{HasBlocks, LeavesLog}
+use Rattle.log_store.specs.Representation.{HasBlocks, LeavesLog}
 use Rattle.image_changes.specs.Changes.{Reaches, Change}
 use Rattle.image_changes.specs.Reached.{LeavesFront}
 use Rattle.page_store.specs.declared.store.PageStore.{PageStore}
-use Rattle.page_store.specs.Ahead.{LeavesSealed, sealed_end, forces}
+use Rattle.buffer_pool.specs.declared.frame.Frame.{Frame}
+use Rattle.page_store.specs.Ahead.{IsLogged, LeavesSealed, end_forced, sealed_end, forces}
 use Rattle.page_store.specs.Calls.{StandsGiven}
 use Rattle.page_store.specs.Leaves.{AreReady, LeavesPages, LeavesRings}
 use Rattle.page_store.specs.Stopping.{IsLogAtEnd}
@@ -25,10 +26,14 @@ use Rattle.page_store.specs.Changing.{given_changes}
 use Rattle.page_store.proofs.Changing.{front_more}
 use Rattle.second_chance.specs.Machine.{staged_in_push}
 use Rattle.page_store.specs.Caching.{cache_of, rules as rules_for, next_group}
-use Rattle.page_store.specs.Staging.{Stages}
+use Rattle.page_store.specs.Staging.{HasQueueOn, Stages}
 use Rattle.tail_rebuild.specs.Saving.{is_due}
-use Rattle.flash_cache.specs.Held.{groups_on}
-use Rattle.page_store.proofs.StagingLaws.{stages_beside, stages_then, push_leaves as push_writes, queue_pushed}
+use Rattle.flash_cache.specs.Representation.{groups_on}
+use Rattle.page_store.proofs.StagingLaws.{stages_beside, stages_between, stages_then, push_leaves as push_writes, queue_pushed}
+use Rattle.site.proofs.Working.{ok_as}
+use Rattle.flash_cache.specs.declared.cache.FlashCache.{FlashCache}
+use Rattle.page_store.specs.Representation.{AreTold, Invariant}
+use Rattle.page_store.proofs.ToldPages.{fits_told, going_told, told_pushed}
 use Rattle.page_store.proofs.store.PageStore.push.Goals as goal
 
 pub returns-in-Err-clause-reads : goal.returns-in-Err-clause-reads
@@ -72,9 +77,19 @@ pub returns-in-Ok : goal.returns-in-Ok
 returns-in-Ok g c =
     let old = g.S.Site.state c.args.site.now in
     let mid = g.S.Site.state c.force_for.new.site in
-    let new = g.S.Site.state c.push_group.new.site in
+    let new = g.S.Site.state c.push_group-pushed.new.site in
     let store = c.args.self.now in
-    let store' : PageStore = record store { flash = c.push_group.new.self } in
+    let cache = c.push_group-pushed.new.self in
+    let after = c.tell_pages.new.self in
+    let store' : PageStore = record store { flash = cache } in
+    let first_told : c.tell_marks.new.self ≡ record store' { pool = record store.pool { framed = c.tell_marks.new.self.pool.framed } } = c.tell_marks.ensures.kept in
+    let told : after ≡ record store' { pool = record store.pool { framed = after.pool.framed } } =
+    c.tell_pages.ensures.kept ∙ ap (λ (s : PageStore). let t : PageStore = record s { pool = record s.pool { framed = after.pool.framed } } in t) first_told in
+    let flash : after.flash ≡ cache = ap (λ (s : PageStore). s.flash) told in
+    let frames : after.pool.frames ≡ store.pool.frames = ap (λ (s : PageStore). s.pool.frames) told in
+    let are_told : AreTold after = told_pushed c.push_group-pushed.result store cache _ c.args.pages.now c.args.changed.now c.tell_marks.new.self after c.requires.going.pages_going.own.told
+    c.push_group-pushed.ensures.directory c.push_group-pushed.ensures.kept c.leaving-count.ensures.marks
+    (ap (λ (s : PageStore). s.pool.frames) first_told) (ap (λ (s : PageStore). s.pool.frames) c.tell_pages.ensures.kept) c.tell_marks.ensures.told c.tell_pages.ensures.told in
     let h = store.flash.geometry in
     let log = c.args.log.now in
     let log' = c.force_for.new.log in
@@ -90,7 +105,7 @@ returns-in-Ok g c =
     let b = λ (list : LogList) (ready : AreReady store log list old). between store log log' sealing list old mid ready
     (c.force_for.ensures.changes ready.blocks.honest) c.force_for.ensures.calls.goes (c.in-Ok.ensures.finds ready.blocks)
     (c.in-Ok.ensures.holds list ready.blocks ready.records) in
-    let has = λ (list : LogList) (ready : AreReady store log list old). c.push_group.ensures.frames ready.pages.groups (b list ready).fits
+    let has = λ (list : LogList) (ready : AreReady store log list old). c.push_group-pushed.ensures.frames ready.pages.groups (b list ready).fits
     (b list ready).holds in
     let same = λ (list : LogList) (ready : AreReady store log list old). group_changes_since store.flash pages changed contents old.image mid.image
     (b list ready).flash (b list ready).disk in
@@ -117,16 +132,16 @@ returns-in-Ok g c =
           let fits = λ (quiet : IsQuiet old). log_fits log old quiet ready.blocks in
           let leaves = λ (quiet : IsQuiet old). subst (λ (k : Geometry). LeavesOnly old mid (LeavesLog k sealing list old.told)) sizes (c.force_for.ensures.any_moment list (fits quiet) ready.records) in
           let front = λ (quiet : IsQuiet old). subst (λ (k : Geometry). LeavesFront k (first list) old mid) sizes (c.force_for.ensures.front list (fits quiet) ready.records quiet) in
-          let pushing = λ (quiet : IsQuiet old). c.push_group.ensures.front groups b.fits b.holds (still quiet) in
-          let versions = λ (quiet : IsQuiet old). c.push_group.ensures.versions groups b.fits b.holds (still quiet) b.clean in
-          let untouched = (c.push_group.ensures.changes b.honest).log in
+          let pushing = λ (quiet : IsQuiet old). c.push_group-pushed.ensures.front groups b.fits b.holds (still quiet) in
+          let versions = λ (quiet : IsQuiet old). c.push_group-pushed.ensures.versions groups b.fits b.holds (still quiet) b.clean in
+          let untouched = (c.push_group-pushed.ensures.changes b.honest).log in
           record {
             any_moment = λ given quiet are clean.
                 let forced = force_leaves h sealing list old mid (leaves quiet) changes quiet c.ring_kept.ensures (front quiet) (record { first = store.flash.directory.first; groups = groups; has = ready.pages.holds.has; saved = ready.pages.holds.saved }) given ready.pages.clean in
                 in_sequence old mid new (Leaves (LeavesPages h given sealing list old)) forced
                 (push_leaves store.flash groups pages changed contents old mid new b.flash b.disk b.told c.ring_kept.ensures (quiet_settled Log mid (still quiet)) (versions quiet) untouched (pushing quiet)
                 (holds_now old mid (LeavesPages h given sealing list old) forced).masters given sealing list are (sealed_blocks list ready)
-                (c.push_group.ensures.clean_moment groups b.fits b.holds (still quiet) b.clean (clean_given_same store.flash pages changed contents old.image mid.image b.disk clean)));
+                (c.push_group-pushed.ensures.clean_moment groups b.fits b.holds (still quiet) b.clean (clean_given_same store.flash pages changed contents old.image mid.image b.disk clean)));
             ahead_moment = λ quiet sealed logged.
                 let at_first = before list ready in
                 in_sequence old mid new (Leaves (LeavesSealed h))
@@ -140,19 +155,19 @@ returns-in-Ok g c =
                 (rings_front newest (c.rings_kept_under.ensures newest) h _ mid new (holds_now old mid (LeavesRings newest h) forced)
                 (kept_rings list ready sound) (pushing quiet));
             front_moment = λ quiet. subst (λ (l : List Change). LeavesFront h (first list ++ l) old new) (same list ready) (c.fronts_add_up.ensures h (first list) second old mid new (front quiet) (reached list ready) b.told (pushing quiet));
-            quiet = λ quiet. c.push_group.ensures.quiet_err b.honest (still quiet);
+            quiet = λ quiet. c.push_group-pushed.ensures.quiet_err b.honest (still quiet);
             worn_log = search rules;
-            worn = c.push_group.ensures.worn_end b.fits;
-            readable = c.push_group.ensures.foreign groups b.fits b.holds;
+            worn = c.push_group-pushed.ensures.worn_end b.fits;
+            readable = c.push_group-pushed.ensures.foreign groups b.fits b.holds;
           };
       -- what stands behind the push, whatever is loose
       stands = λ list ready.
           let b = b list ready in
           let groups = ready.pages.groups in
-          let own = c.push_group.ensures.changes b.honest in
+          let own = c.push_group-pushed.ensures.changes b.honest in
           let units = log_units_same log'.geometry mid.image new.image own.log.now.content in
           let cleaned = clean_given_same store.flash pages changed contents old.image mid.image b.disk in
-          ok_six c.push_group.result _ _ _ _ _ _ (StandsGiven log log' store store' pages changed contents old new list (given_changes log list store old.image pages changed contents))
+          ok_six c.push_group-pushed.result _ _ _ _ _ _ (StandsGiven log log' store after pages changed contents old new list (given_changes log list store old.image pages changed contents))
           (λ queue is reaches clean fits holds.
           let gives = gives_since h pages contents old.image mid.image new.image b.flash b.disk (record { given = is.given; others = is.others }) in
           let now = pushed_now store.flash groups pages changed contents old mid new b.flash b.disk b.told (sym own.log.now.content) own.told
@@ -169,26 +184,43 @@ returns-in-Ok g c =
             rings = λ newest rings sound.
                 (c.rings_kept_under.ensures newest) h _ mid.image new.image ((c.rings_kept_under.ensures newest) h (first list) old.image mid.image rings (sealing_keeps h old.image sealing list) (reached list ready)) (kept_rings list ready sound) reaches;
             ready = λ given_clean sound marked. record {
-              pages = fits_behind store c.push_group.new.self log list old ready c.push_group.ensures.geometry pages contents new _ fits holds (clean (cleaned given_clean)) gives c.requires.lists sound marked;
-              blocks = log_found log' mid new units c.push_group.ensures.goes b.log_fits;
+              pages = fits_told store' after new told (fits_behind store cache log list old ready c.push_group-pushed.ensures.geometry pages contents new _ fits holds (clean (cleaned given_clean)) gives c.requires.lists sound marked);
+              blocks = log_found log' mid new units c.push_group-pushed.ensures.goes b.log_fits;
               records = c.stays_beside.ensures.holds log' mid.image new.image (sealed_if sealing list) units b.log_holds;
             };
           })
-          c.push_group.ensures.directory (c.push_group.ensures.gives groups b.fits b.holds b.clean) (c.push_group.ensures.reaches groups b.fits b.holds)
-          (ok_under c.push_group.result _ _ (c.push_group.ensures.clean groups b.fits b.holds b.clean)) (c.push_group.ensures.fits b.fits) (c.push_group.ensures.holds groups b.fits b.holds);
-      pushes = (let log_reads = c.push_group.ensures.others Log (λ same. cc) ∙ c.force_for.ensures.reads Log in search rules);
-      stages = stages_then {more = staged_in_push (rules_for store) store.flash.directory} {next' = next_group (cache_of store) + 1} (λ has. omega arith)
+          c.push_group-pushed.ensures.directory (c.push_group-pushed.ensures.gives groups b.fits b.holds b.clean) (c.push_group-pushed.ensures.reaches groups b.fits b.holds)
+          (ok_under c.push_group-pushed.result _ _ (c.push_group-pushed.ensures.clean groups b.fits b.holds b.clean)) (c.push_group-pushed.ensures.fits b.fits) (c.push_group-pushed.ensures.holds groups b.fits b.holds);
+      pushes =
+          let log_reads = c.push_group-pushed.ensures.others Log (λ same. cc) ∙ c.force_for.ensures.reads Log in
+          let going : Invariant after new = going_told store cache after old new c.push_group-pushed.ensures.geometry told c.push_group-pushed.ensures.going are_told c.requires.going.pages_going in
+          record {
+            works = record {
+              calls = search rules;
+              forces = search rules;
+              going = going;
+              log_going = search rules;
+              geometry = ap (λ (f : FlashCache). f.geometry) flash ∙ c.push_group-pushed.ensures.geometry;
+              size = ap (λ (s : PageStore). s.pool.size) told;
+              log_reads = log_reads;
+              stops = search rules;
+            };
+            logged = λ all. (let all_told = subst (AllByRecursion (λ (f : Frame). IsLogged (end_forced log) f.content)) (sym frames) all in search rules);
+            ended = ap (λ (s : PageStore). s.ended) told;
+            others = search rules;
+          };
+      stages = stages_between {mid = store} refl flash (stages_then {more = staged_in_push (rules_for store) store.flash.directory} {next = next_group (cache_of store)} {next' = next_group (cache_of store) + 1} (λ (has : HasQueueOn store old). omega arith)
           by_forcing (record {
-            holds = λ has. queue_pushed c.push_group.result c.push_group.new.self store _ new c.push_group.ensures.going (c.push_group.ensures.fits has.fits) (c.push_group.ensures.holds has.groups has.fits has.holds);
-            quiet = λ has quiet. c.push_group.ensures.quiet has.fits.honest quiet;
-            writes = λ has quiet. push_writes store (is_due store.flash.ring.hi store.flash.segments.hi) (groups_on store.flash.geometry mid.image) _ mid new has (c.push_group.ensures.front has.groups has.fits has.holds quiet);
-            sizes = c.push_group.ensures.geometry;
-          });
+            holds = λ has. queue_pushed c.push_group-pushed.result c.push_group-pushed.new.self store _ new c.push_group-pushed.ensures.going (c.push_group-pushed.ensures.fits has.fits) (c.push_group-pushed.ensures.holds has.groups has.fits has.holds);
+            quiet = λ has quiet. c.push_group-pushed.ensures.quiet has.fits.honest quiet;
+            writes = λ has quiet. push_writes store (is_due store.flash.ring.hi store.flash.segments.hi) (groups_on store.flash.geometry mid.image) _ mid new has (c.push_group-pushed.ensures.front has.groups has.fits has.holds quiet);
+            sizes = c.push_group-pushed.ensures.geometry;
+          }));
       worn = search rules;
       worn_at = λ says.
-          let kept = ap (λ (q : Queue). q.first + length q.groups) (kept_where c.push_group.result _ _ says c.push_group.ensures.kept) in
-          omega (arith, c.push_group.ensures.worn says, c.push_group.ensures.going.next, c.requires.going.pages_going.flash.next, kept);
-      pool = refl;
-      directory = c.push_group.ensures.directory;
-      reads = omega (arith, c.force_for.ensures.reads Flash, c.push_group.ensures.reads);
+          let kept = ap (λ (q : Queue). q.first + length q.groups) (kept_where c.push_group-pushed.result _ _ says c.push_group-pushed.ensures.kept) in
+          ap (λ (f : FlashCache). f.ring.hi) flash ∙ omega (arith, c.push_group-pushed.ensures.worn says, c.push_group-pushed.ensures.going.next, c.requires.going.pages_going.flash.next, kept);
+      pool = ap (λ (s : PageStore). s.pool) told;
+      directory = ok_as c.push_group-pushed.result _ _ (λ is. ap (λ (f : FlashCache). f.directory) flash ∙ is) c.push_group-pushed.ensures.directory;
+      reads = omega (arith, c.force_for.ensures.reads Flash, c.push_group-pushed.ensures.reads);
     }

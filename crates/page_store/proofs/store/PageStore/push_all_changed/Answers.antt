@@ -1,12 +1,13 @@
 use Rattle.std.proofs.Common.{rules, ℕ, [], ◌≡◌, Bool, ◌++◌, true, false, refl, sym, ap, subst, ◌∙◌, arith, ◌≤◌, map}
+use Rattle.std.proofs.Math.Bool.{or-false}
 use Rattle.std.specs.Prelude.{nat_lt, ◌||◌}
-use Rattle.std.proofs.lemmas.Bool.{true≢false}
+use Rattle.std.proofs.lemmas.Bool.{true≢false, or_left, or_right, and_left, and_parts}
 use Rattle.std.proofs.lemmas.Bool.Decides.{nat_tests}
 use Rattle.site.proofs.Working.{calls_nothing}
 use Rattle.second_chance.specs.Machine.{Rules, rules_of, Cache, push_changed, flushed, wants_flush}
 use Rattle.second_chance.specs.Laws.{changed_count}
 use Rattle.log_store.specs.LogList.{LogList, sealed_if}
-use Rattle.log_store.specs.Held.{has_tail}
+use Rattle.log_store.specs.Representation.{has_tail}
 use Rattle.page_store.specs.declared.store.PageStore.{PageStore}
 use Rattle.page_store.specs.Caching.{next_group, cache_of, rules as rules_for}
 use Rattle.page_store.specs.Ahead.{forces, is_unsealed, end_now}
@@ -17,9 +18,9 @@ use Rattle.page_store.specs.Pulling.{room_for_pages}
 use Rattle.page_store.proofs.Choosing.{first_changed}
 use Rattle.page_store.specs.Changing.{standing, push_changes, flush_changes, after_push, pushes_changes}
 use Rattle.page_store.proofs.Left.{some_left, none_left, front_pages, back_pages, all_changed}
-use Rattle.page_store.proofs.Unsealed.{next_round, nothing_forced, forced_by_first, or_first, or_second}
+use Rattle.page_store.proofs.Unsealed.{next_round, nothing_forced, forced_by_first}
 use Rattle.page_store.proofs.Numbers.{changed_next, flushed_next, flushed_more}
-use Rattle.page_store.proofs.Rounds.{kept_block, no_tail, risen, sealed_again, and_left, not_forced}
+use Rattle.page_store.proofs.Rounds.{kept_block, no_tail, risen, sealed_again}
 use Rattle.page_store.proofs.Appending.{has_pushed}
 use Rattle.page_store.proofs.Changing.{HasMade, gives_versions, standing_after, none_to_come, one_to_come}
 use Rattle.page_store.proofs.Calling.{pushes_as, pushes_still, pushes_then, pushes_failed, keeps_as, keeps_still, keeps_nothing, keeps_then, keeps_more, stands_as, stands_still, stands_then}
@@ -81,7 +82,7 @@ module _ (g : Over) (c : After-room_for_pages-room g) where
   once is =
       let log0 = c.args.log.now in
       let log = c.loop-rest.log in
-      not_forced (has_tail log) _ (no_tail log0.ring.hi log.ring.hi (has_tail log0) (has_tail log) c.loop-rest.invariant.pushes.works.forces.end is)
+      and_left (has_tail log) _ (no_tail log0.ring.hi log.ring.hi (has_tail log0) (has_tail log) c.loop-rest.invariant.pushes.works.forces.end is)
 
 pub push_changed-requires-clause-pages : goal.push_changed-requires-clause-pages
 push_changed-requires-clause-pages g c =
@@ -114,8 +115,8 @@ returns-in-Err g c =
           let so_far = inv.so_far list ready in
           let now = standing log (sealed_if b list) store mid.image in
           let next = one_to_come (flush_changes log0 list first old.image) so_far.made now (changed_count (cache_of store).pool) so_far.has (wants g s) 0 (omega (arith, saves)) (after_push now) refl in
-          keeps_more (pushes_changes next.pushes (after_push now)) (either b (forces log (flushed_first store)) (λ is. inv.forced ∙ or_first b _ is)
-          (λ is. inv.forced ∙ or_second b _ (by_first is))) next.split
+          keeps_more (pushes_changes next.pushes (after_push now)) (either b (forces log (flushed_first store)) (λ is. inv.forced ∙ or_left b _ is)
+          (λ is. inv.forced ∙ or_right b _ (by_first is))) next.split
           (keeps_then c.fronts_add_up.ensures (once g s) works.geometry (works.calls.stays_quiet ready.pages.flash.honest) so_far.stands so_far.keeps (c.in-Err.ensures.keeps (sealed_if b list) so_far.stands.ready));
       stands = λ list ready. tt;
       pushes = pushes_failed (pushes_then (once g s) inv.pushes c.in-Err.ensures.pushes);
@@ -129,8 +130,8 @@ returns-in-Err g c =
         overflows = λ is. (let full = push.worn_flash is in let next = inv.going.pages_going.flash.next in omega (arith, more, same, full, next));
         worn_log = λ says.
             let both = push.worn_log says in
-            let kept : log0.ring.hi ≡ log.ring.hi = kept_block log0.ring.hi log.ring.hi (has_tail log0) (has_tail log) works.forces.end works.forces.rises (and_left (has_tail log) _ both.0) in
-            (inv.forced ∙ or_second b _ (by_first both.0), kept ∙ both.1);
+            let kept : log0.ring.hi ≡ log.ring.hi = kept_block log0.ring.hi log.ring.hi (has_tail log0) (has_tail log) works.forces.end works.forces.rises (and_parts (has_tail log) _ both.0).0 in
+            (inv.forced ∙ or_right b _ (by_first both.0), kept ∙ both.1);
         worn_flash = push.worn_at;
         never_past = λ wants past. tt;
       };
@@ -208,11 +209,7 @@ loop-rest-preserved g c =
 
 module _ (b wanted rest : Bool) (is : wanted ≡ (b || rest)) (none : rest ≡ false) where
   all_forced : b ≡ wanted
-  all_forced = sym (or_false b) ∙ ap (λ (t : Bool). b || t) (sym none) ∙ sym is
-    where
-      or_false : (t : Bool) → (t || false) ≡ t
-      or_false true = refl
-      or_false false = refl
+  all_forced = sym (or-false b) ∙ ap (λ (t : Bool). b || t) (sym none) ∙ sym is
 
 pub returns : goal.returns
 returns g c =

@@ -1,10 +1,10 @@
 use Rattle.std.proofs.Common.{rules, refl, ◌≡◌, ◌<◌, None, false, List, ◌∷◌, map, length, sym, ap, subst, ◌∙◌}
-use Rattle.flash_cache.specs.Held.{version_on}
+use Rattle.flash_cache.specs.Representation.{version_on}
 use Rattle.buffer_pool.specs.declared.frame.Frame.{Frame}
 use Rattle.buffer_pool.specs.Frames.{State as Pool, frame_of}
 use Rattle.second_chance.specs.Queue.{with_read}
 use Rattle.second_chance.specs.Machine.{Cache, in_front}
-use Rattle.page_store.specs.Held.{Fits, IsPage}
+use Rattle.page_store.specs.Representation.{Matches, IsPage}
 use Rattle.page_store.specs.Caching.{pool_page, cache_of}
 use Rattle.site.proofs.Working.{ok_as, ok_always}
 use Rattle.page_store.proofs.Pools.{in_front_absent}
@@ -14,7 +14,6 @@ use Rattle.page_store.proofs.store.PageStore.read_in.Goals as goal
 
 pub returns-in-Ok-clause-reads : goal.returns-in-Ok-clause-reads
 returns-in-Ok-clause-reads g c =
-    let old = g.S.Site.state c.args.site.now in
     let new = g.S.Site.state c.read_version.new.site in
     let mid = c.read_version.new.self in
     let read = c.read_version.ensures.reads in
@@ -28,9 +27,9 @@ returns-in-Ok-clause-reads g c =
       fits = λ fits.
           let version : c.in-Ok.content ≡ version_on mid.flash.geometry new.image c.args.page =
           c.in-Ok.ensures.read fits ∙ (λ i. version_on (sym read.geometry i) (sym (read.same fits.flash.honest).image i) c.args.page) in
-          ok_as c.put.result _ (Fits (record mid { pool = c.put.new.self }) new)
+          ok_as c.put.result _ (Matches (record mid { pool = c.put.new.self }) new)
           (λ put. put_fits mid c.put.new.self frame new (ap (λ (p : Pool). p.frames) put) version (c.in-Ok.ensures.reads.fits fits)) c.put.ensures.ok;
-      going = put_going c.put.result mid c.put.new.self frame new c.put.ensures.ok c.put.ensures.err none room page read.going;
+      going = put_going c.put.result mid c.put.new.self frame c.holds-framed.result new c.put.ensures.ok c.put.ensures.framed c.put.ensures.err c.holds-framed.ensures none room page read.going;
       geometry = read.geometry;
       ended = read.ended;
       flash_reads = read.flash_reads;
@@ -42,9 +41,8 @@ returns-in-Ok-clause-reads g c =
 pub returns-in-Ok-clause-machine : goal.returns-in-Ok-clause-machine
 returns-in-Ok-clause-machine g c =
     let store = c.args.self.now in
-    let mid = c.read_version.new.self in
     let frames = ap (λ (p : Pool). p.frames) c.read_version.ensures.pool in
-    ok_as c.put.result _ (cache_of (record mid { pool = c.put.new.self }) ≡ in_front c.args.page false (cache_of store))
+    ok_as c.put.result _ (cache_of (record c.read_version.new.self { pool = c.put.new.self }) ≡ in_front c.args.page false (cache_of store))
     (λ put. (λ i. let k : Cache = record { pool = map pool_page (put i).frames; queue = c.in-Ok.ensures.queue i } in k)
     ∙ ap (λ (l : List Frame). let k : Cache = record { pool = record { page = c.args.page; changed = false } ∷ map pool_page l; queue = with_read c.args.page store.flash.directory } in k) frames
     ∙ in_front_absent store.pool.frames store.flash.directory c.args.page c.requires.absent)

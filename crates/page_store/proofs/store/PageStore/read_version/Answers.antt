@@ -2,6 +2,7 @@ use Rattle.std.specs.Prelude.{Ok, Bool}
 use Rattle.page_store.specs.declared.store.PageStore.{PageStore}
 use Rattle.page_store.specs.Staging.{HasQueueOn}
 use Rattle.std.proofs.Common.{rules, ◌≡◌, true, false, arith, sym, ap, subst, ◌∙◌, refl}
+use Rattle.second_chance.proofs.Unread.{with_read_none}
 use Rattle.site.specs.declared.outside.Dev.TheVariants.{Log, Disk}
 use Rattle.site.specs.declared.outside.Stop.TheVariants.{Foreign}
 use Rattle.site.specs.State.{Image}
@@ -11,10 +12,11 @@ use Rattle.site.specs.Laws.{unchanged_in_sequence, stays_honest}
 use Rattle.site.proofs.Working.{ok_as, ok_always}
 use Rattle.second_chance.specs.Queue.{has_frame, with_read}
 use Rattle.flash_cache.specs.declared.cache.FlashCache.{FlashCache}
-use Rattle.page_store.specs.Held.{MayGoOn, Fits}
+use Rattle.page_store.specs.Representation.{Invariant, Matches}
 use Rattle.page_store.proofs.PushLaws.{flash_fits_same, flash_holds_same, kept_where}
-use Rattle.page_store.proofs.Versions.{read_same, flash_later, store_with, fits_with}
+use Rattle.page_store.proofs.Versions.{flash_later, store_with, fits_with}
 use Rattle.page_store.proofs.StagingLaws.{stages_still, queue_same, queue_pushed}
+use Rattle.page_store.proofs.ToldPages.{read_has}
 use Rattle.page_store.proofs.store.PageStore.read_version.Given.{Over}
 use Rattle.page_store.proofs.store.PageStore.read_version.Goals.{After-read_disk}
 use Rattle.page_store.proofs.store.PageStore.read_version.Goals as goal
@@ -24,21 +26,22 @@ returns-in-Err-clause-reads g c =
     let same = c.fetch.ensures.same in
     let disk = c.fetch.ensures.others Disk (λ same. cc) in
     let log = c.fetch.ensures.others Log (λ same. cc) in
+    let going = store_with c.args.self.now c.fetch.new.self (g.S.Site.state c.args.site.now) (g.S.Site.state c.fetch.new.site) c.fetch.ensures.geometry
+    (λ n. ap (λ (f : FlashCache). has_frame f.directory n) c.in-Err.ensures.err) c.fetch.ensures.going c.requires.going in
     search rules
 
 pub returns-then-found-clause-reads : goal.returns-then-found-clause-reads
 returns-then-found-clause-reads g c =
-    let old = g.S.Site.state c.args.site.now in
-    let new = g.S.Site.state c.fetch.new.site in
     let store = c.args.self.now in
     let has : has_frame store.flash.directory c.args.page ≡ true = sym c.in-Ok.ensures.found ∙ c.if-found.true in
     record {
       calls = search rules;
       same = c.fetch.ensures.same;
       fits = λ fits.
-          ok_as c.sound_page.result _ (Fits (record store { flash = c.fetch.new.self }) new) (λ x. fits_with store c.fetch.new.self old new fits (ap (λ (f : FlashCache). f.geometry) (c.in-Ok.ensures.marked has)) (c.fetch.ensures.same fits.flash.honest)
+          ok_as c.sound_page.result _ (Matches (record store { flash = c.fetch.new.self }) _) (λ x. fits_with store c.fetch.new.self _ _ fits (ap (λ (f : FlashCache). f.geometry) (c.in-Ok.ensures.marked has)) (c.fetch.ensures.same fits.flash.honest)
           (c.in-Ok.ensures.fits fits.flash) (c.in-Ok.ensures.holds fits.groups fits.flash fits.holds)) c.sound_page.ensures.sound;
-      going = search rules;
+      going = store_with store c.fetch.new.self (g.S.Site.state c.args.site.now) (g.S.Site.state c.fetch.new.site) (ap (λ (f : FlashCache). f.geometry) (c.in-Ok.ensures.marked has))
+          (λ n. ap (λ (f : FlashCache). has_frame f.directory n) (c.in-Ok.ensures.marked has) ∙ read_has c.args.page store.flash.directory n) c.fetch.ensures.going c.requires.going;
       geometry = search rules;
       ended = refl;
       flash_reads = search rules;
@@ -57,11 +60,11 @@ module _ (g : Over) (c : After-read_disk g) where
   same_geometry : c.fetch.new.self.geometry ≡ c.args.self.now.flash.geometry
   same_geometry = ap (λ (f : FlashCache). f.geometry) (c.fetch.ensures.none unframed).1
 
-  goes_on : MayGoOn (record c.args.self.now { flash = c.fetch.new.self }) (g.S.Site.state c.read_disk.new.site)
+  goes_on : Invariant (record c.args.self.now { flash = c.fetch.new.self }) (g.S.Site.state c.read_disk.new.site)
   goes_on =
       let new = g.S.Site.state c.read_disk.new.site in
       let flash = flash_later c.fetch.new.self (g.S.Site.state c.fetch.new.site) new c.read_disk.ensures.calls.goes c.fetch.ensures.going in
-      store_with c.args.self.now c.fetch.new.self (g.S.Site.state c.args.site.now) new same_geometry flash c.requires.going
+      store_with c.args.self.now c.fetch.new.self (g.S.Site.state c.args.site.now) new same_geometry (λ n. ap (λ (f : FlashCache). has_frame f.directory n) (c.fetch.ensures.none unframed).1) flash c.requires.going
 
 pub returns-in-Ok-read_disk-clause-reads : goal.returns-in-Ok-read_disk-clause-reads
 returns-in-Ok-read_disk-clause-reads g c =
@@ -79,7 +82,7 @@ returns-in-Ok-read_disk-clause-reads g c =
           let honest = stays_honest old mid c.fetch.ensures.goes fits.flash.honest in
           let second = c.read_disk.ensures.same honest in
           let flash = ap (λ i. i.flash) second.image in
-          ok_as c.sound_page-in-Ok-read_disk.result _ (Fits (record store { flash = cache }) new) (λ x. fits_with store cache old new fits (same_geometry g s) (unchanged_in_sequence old mid new first second)
+          ok_as c.sound_page-in-Ok-read_disk.result _ (Matches (record store { flash = cache }) new) (λ x. fits_with store cache old new fits (same_geometry g s) (unchanged_in_sequence old mid new first second)
           (flash_fits_same cache mid new flash (stays_honest mid new c.read_disk.ensures.calls.goes honest) (c.in-Ok.ensures.fits fits.flash))
           (flash_holds_same cache mid.image new.image fits.groups flash (c.in-Ok.ensures.holds fits.groups fits.flash fits.holds))) c.sound_page-in-Ok-read_disk.ensures.sound;
       going = goes_on g s;
@@ -97,10 +100,9 @@ returns-in-Ok-read_disk-clause-reads g c =
 
 pub returns-in-Ok-read_disk-clause-queue : goal.returns-in-Ok-read_disk-clause-queue
 returns-in-Ok-read_disk-clause-queue g c =
-    let directory = c.args.self.now.flash.directory in
     let none = unframed g (goal.at.returns-in-Ok-read_disk-clause-queue g c).After-read_disk in
-    ok_always c.sound_page-in-Ok-read_disk.result (c.fetch.new.self.directory ≡ with_read c.args.page directory)
-    (ap (λ (f : FlashCache). f.directory) (c.fetch.ensures.none none).1 ∙ sym (read_same c.args.page directory none))
+    ok_always c.sound_page-in-Ok-read_disk.result (c.fetch.new.self.directory ≡ with_read c.args.page _)
+    (ap (λ (f : FlashCache). f.directory) (c.fetch.ensures.none none).1 ∙ sym (with_read_none c.args.page _ none))
 
 pub returns-in-Err-read_disk-clause-reads : goal.returns-in-Err-read_disk-clause-reads
 returns-in-Err-read_disk-clause-reads g c =

@@ -11,7 +11,7 @@ use Rattle.flash_cache.specs.Pushed.{chance_marks, pushed_queue}
 use Rattle.page_store.specs.Leaves.{Gives}
 use Rattle.second_chance.specs.Plans.{Placed}
 use Rattle.page_store.specs.declared.store.PageStore.{PageStore}
-use Rattle.page_store.specs.Held.{IsPage}
+use Rattle.page_store.specs.Representation.{IsPage, AreTold}
 use Rattle.page_store.specs.Caching.{pool_page, cache_of, rules as rules_for}
 use Rattle.page_store.specs.Ahead.{IsLogged, AreLogged, end_forced, forces}
 use Rattle.page_store.specs.Calls.{Pushes, Stands}
@@ -95,7 +95,9 @@ returns-in-Ok g c =
     let own = facts.own log old.image in
     let forced = ap (forces log) facts.chosen_are.first in
     let push = c.in-Ok.ensures.pushes in
-    let pool : Pool = record mid.pool { frames = cleared_all pages mid.pool.frames } in
+    let framed = c.clear_all.new.self.pool.framed in
+    let same_frames = ap (λ (p : Pool). p.frames) c.push.ensures.pool in
+    let pool : Pool = record mid.pool { frames = cleared_all pages mid.pool.frames; framed = framed } in
     let saved : PageStore = record mid { pool = pool } in
     let cleared : c.clear_all.new.self ≡ saved = c.clear_all.ensures.cleared in
     let exist = subst (λ (h : Geometry). AllByRecursion (IsPage h.pages) frames) (sym push.works.geometry) c.requires.going.pages_going.own.pages in
@@ -112,11 +114,11 @@ returns-in-Ok g c =
           subst (λ (s : PageStore). Stands log log' store s old new list (forces log (flushed_first store)) (push_changes (standing log list store old.image) (saved_next store))) (sym cleared)
           (stands_as {pages' = saved} forced (facts.changes log list old.image)
           (stands_given own push.works.geometry
-          (record { pages = saved_fits c.frames_of_pages.ensures.cleared store mid pages contents old new c.push.ensures.pool push.works.geometry stands.gives facts.chosen_are.each after.pages; blocks = after.blocks; records = after.records })
-          (saved_current c.frames_of_pages.ensures.cleared store mid pages contents old new c.push.ensures.pool push.works.geometry stands.gives facts.chosen_are.each facts.chosen_are.there) logged stands));
+          (record { pages = saved_fits c.frames_of_pages.ensures.cleared store mid pages contents old new same_frames push.works.geometry stands.gives facts.chosen_are.each framed after.pages; blocks = after.blocks; records = after.records })
+          (saved_current c.frames_of_pages.ensures.cleared store mid pages contents old new same_frames push.works.geometry stands.gives facts.chosen_are.each framed facts.chosen_are.there) logged stands));
       pushes = pushes_as forced (subst (λ (s : PageStore). Pushes (Ok tt) log log' store s old new (forces log contents)) (sym cleared)
           (pushes_with push (pool_going mid pool new refl (subst (λ (s : PageStore). IsPool s.pool) cleared c.clear_all.ensures.pool)
-          (pages_cleared mid.flash.geometry.pages pages mid.pool.frames exist_now) push.works.going)
+          (pages_cleared mid.flash.geometry.pages pages mid.pool.frames exist_now) (subst AreTold cleared (c.clear_all.ensures.told push.works.going.own.told)) push.works.going)
           push.works.geometry push.works.size push.ended logged));
       stages = stages_between refl (ap (λ (s : PageStore). s.flash) cleared) c.in-Ok.ensures.stages;
       saves = record {

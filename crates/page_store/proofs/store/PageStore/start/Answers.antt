@@ -1,4 +1,6 @@
-use Rattle.std.proofs.Common.{ap, map, false}
+use Rattle.std.proofs.Common.{rules, ap, map, false}
+use Rattle.page_store.specs.Representation.{AreTold}
+use Rattle.page_store.proofs.ToldPages.{told_none}
 use Rattle.buffer_pool.specs.Frames.{State as Pool}
 use Rattle.second_chance.specs.Machine.{Cache}
 use Rattle.page_store.specs.declared.store.PageStore.{PageStore}
@@ -23,3 +25,9 @@ returns-clause-fits g c honest first groups has saved clean sound =
     let store : PageStore = record { alloc = c.args.alloc; pool = c.in_ok-pool.pool; flash = c.in-Ok.flash; ended = false } in
     fits_at_start store c.args.geometry.now old new groups c.in-Ok.ensures.geometry (ap (λ (p : Pool). p.frames) c.in_ok-pool.ensures.empty) (c.start.ensures.same honest).image
     (c.in-Ok.ensures.fits honest first groups has saved) (c.in-Ok.ensures.holds honest first groups has saved) clean sound
+
+pub returns-clause-going : goal.returns-clause-going
+returns-clause-going g c =
+    let store : PageStore = record { alloc = c.args.alloc; pool = c.in_ok-pool.pool; flash = c.in-Ok.flash; ended = false } in
+    let told : AreTold store = told_none store (ap (λ (p : Pool). p.frames) c.in_ok-pool.ensures.empty) in
+    search rules

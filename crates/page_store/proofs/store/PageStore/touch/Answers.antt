@@ -1,4 +1,5 @@
 use Rattle.std.proofs.Common.{◌≡◌, ◌≤◌, ◌+◌, ℕ, false, Bool, map, Some, None, rules, arith, sym, ap, subst, ◌∙◌, refl}
+use Rattle.buffer_pool.proofs.Order.{frame_page}
 use Rattle.std.specs.Prelude.{if◌then◌else◌}
 use Rattle.std.specs.List.{AllByRecursion}
 use Rattle.std.proofs.lemmas.Bool.{true≢false}
@@ -6,14 +7,15 @@ use Rattle.buffer_pool.specs.declared.frame.Frame.{Frame}
 use Rattle.buffer_pool.specs.Frames.{State as Pool, frame_of, front_of}
 use Rattle.second_chance.specs.Queue.{has_frame}
 use Rattle.second_chance.specs.Machine.{Cache, in_front, misses, finds}
-use Rattle.page_store.specs.Held.{IsPage}
+use Rattle.page_store.specs.Representation.{IsPage}
 use Rattle.site.specs.State.{State}
 use Rattle.page_store.specs.Caching.{pushes, pool_page, rules as rules_for, cache_of, with_way}
 use Rattle.page_store.specs.Ahead.{IsLogged, end_forced, forces, pushed_for_room, pushed_by_touch}
-use Rattle.page_store.proofs.Pools.{page_is, touched_held}
+use Rattle.page_store.proofs.Pools.{touched_held}
 use Rattle.page_store.proofs.Touching.{way, pushed_same, pushes_same, finds_same, misses_same, not_there, count_if, other_count, nothing_forced, nothing_pushed, all_touched, order_fits, order_current, pool_going, changes_same, nothing_changes, room_staged, room_next}
 use Rattle.page_store.proofs.Calling.{forces_still, works_as, stops_as, keeps_as, stands_as, keeps_nothing, stands_still}
 use Rattle.page_store.proofs.StagingLaws.{stages_none, stages_as, stages_between}
+use Rattle.page_store.proofs.ToldPages.{told_touched}
 use Rattle.page_store.proofs.store.PageStore.touch.Given.{Over}
 use Rattle.page_store.proofs.store.PageStore.touch.Goals.{After-touch, After-bring_in}
 use Rattle.page_store.proofs.store.PageStore.touch.Goals as goal
@@ -43,7 +45,7 @@ returns-then-is_some-clause-stands g c list ready =
     (all_still g c (λ (f : Frame). IsLogged (end_forced log) f.content))
 
 pub returns-then-is_some-clause-front : goal.returns-then-is_some-clause-front
-returns-then-is_some-clause-front g c = page_is c.args.self.now.pool.frames c.args.page (front_of c.touch.new.self.frames) (is_there g c)
+returns-then-is_some-clause-front g c = frame_page c.args.self.now.pool.frames c.args.page (front_of c.touch.new.self.frames) (is_there g c)
 
 pub returns-then-is_some-clause-machine : goal.returns-then-is_some-clause-machine
 returns-then-is_some-clause-machine g c =
@@ -60,7 +62,8 @@ returns-then-is_some-clause-works g c =
       calls = search rules;
       forces = forces_still _ (nothing_forced store c.args.page _ (is_there g c) c.args.log.now) c.requires.going.room;
       going = pool_going store c.touch.new.self (g.S.Site.state c.args.site.now) size c.touch.ensures.pool
-          (all_still g c (IsPage store.flash.geometry.pages) going.own.pages) going;
+          (all_still g c (IsPage store.flash.geometry.pages) going.own.pages)
+          (told_touched c.frames_of_pages.ensures.touched store c.touch.new.self c.args.page (ap (λ (p : Pool). p.frames) c.touch.ensures.after) c.touch.ensures.framed going.own.told) going;
       log_going = c.requires.going.log_going;
       geometry = refl;
       size = size;

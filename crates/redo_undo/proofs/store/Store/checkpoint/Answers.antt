@@ -1,7 +1,7 @@
 use Rattle.std.proofs.Common.{◌≡◌, Err, refl, ap, arith, ◌≤◌}
 use Rattle.site.specs.declared.outside.Dev.TheVariants.{Flash}
 use Rattle.page_store.specs.Caching.{rules}
-use Rattle.redo_undo.specs.Works.{checkpoint_works}
+use Rattle.redo_undo.specs.MachineSteps.{checkpoint_works}
 use Rattle.redo_undo.proofs.AskingUndo.{asks_refused, log_alone, not_worn_flash}
 use Rattle.page_store.proofs.StagingLaws.{stages_ok, stages_err, stages_beside}
 use Rattle.redo_undo.proofs.Asking.{stages_log}
@@ -45,12 +45,10 @@ returns-in-Err-flush-clause-keeps g c newest records table h may =
     let old = g.S.Site.state c.args.site.now in
     let pages = c.args.self.now.pages in
     let going = c.requires.going.both in
-    let honest = h.log_holds.ready.blocks.honest in
     let begun = c.in-Ok.ensures.keeps pages newest records table c.args.commits h in
     let held = c.in-Ok.ensures.holds pages newest records table c.args.commits going.sizes h in
-    let flushed = g.S.Site.state c.flush.new.site in
-    keeps_of (λ leaves. leaves) (keeps_unsaved (c.under_some_master.ensures.table newest pages.flash.geometry old flushed table c.args.commits old.told)
-    (keeps_then honest refl refl c.in-Ok.ensures.works.calls (keeps_appended going tt begun) (c.in-Err-flush.ensures.keeps newest records table c.args.commits held)))
+    keeps_of (λ leaves. leaves) (keeps_unsaved (c.under_some_master.ensures.table newest pages.flash.geometry old _ table c.args.commits old.told)
+    (keeps_then h.log_holds.ready.blocks.honest refl refl c.in-Ok.ensures.works.calls (keeps_appended going tt begun) (c.in-Err-flush.ensures.keeps newest records table c.args.commits held)))
 
 pub returns-in-Err-save_master-clause-keeps : goal.returns-in-Err-save_master-clause-keeps
 returns-in-Err-save_master-clause-keeps g c newest records table h may =
@@ -65,9 +63,8 @@ returns-in-Err-save_master-clause-keeps g c newest records table h may =
     let held' = c.in-Ok-flush.ensures.holds newest records table c.args.commits held in
     let may' = may_still c.args.self.now.masters mid flushed records c.args.active c.requires.going.shape ((c.in-Ok-flush.ensures.keeps newest records table c.args.commits held).masters refl)
     (may_still c.args.self.now.masters old mid records c.args.active c.requires.going.shape begun.masters may) in
-    let k = pages.flash.geometry in
     let first = keeps_then honest refl refl c.in-Ok.ensures.works.calls (keeps_appended going tt begun) (c.in-Ok-flush.ensures.keeps newest records table c.args.commits held) in
-    keeps_of (λ leaves. leaves) (keeps_saved honest c.flush.ensures.works.geometry (calls_then c.in-Ok.ensures.works.calls c.in-Ok-flush.ensures.works.calls) (c.under_some_master.ensures.table newest k old flushed table c.args.commits old.told) first
+    keeps_of (λ leaves. leaves) (keeps_saved honest c.flush.ensures.works.geometry (calls_then c.in-Ok.ensures.works.calls c.in-Ok-flush.ensures.works.calls) (c.under_some_master.ensures.table newest pages.flash.geometry old flushed table c.args.commits old.told) first
     ((keeps_failed (c.in-Err-save_master.ensures.keeps c.flush.new.pages newest records table c.in-Ok-flush.ensures.works.going.sizes held' c.in-Ok-flush.ensures.sealed c.in-Ok-flush.ensures.clean may'))))
 
 pub returns-in-Ok-save_master-clause-keeps : goal.returns-in-Ok-save_master-clause-keeps
@@ -83,9 +80,8 @@ returns-in-Ok-save_master-clause-keeps g c newest records table h may =
     let held' = c.in-Ok-flush.ensures.holds newest records table c.args.commits held in
     let may' = may_still c.args.self.now.masters mid flushed records c.args.active c.requires.going.shape ((c.in-Ok-flush.ensures.keeps newest records table c.args.commits held).masters refl)
     (may_still c.args.self.now.masters old mid records c.args.active c.requires.going.shape begun.masters may) in
-    let k = pages.flash.geometry in
     let first = keeps_then honest refl refl c.in-Ok.ensures.works.calls (keeps_appended going tt begun) (c.in-Ok-flush.ensures.keeps newest records table c.args.commits held) in
-    keeps_of (λ leaves. leaves) (keeps_saved honest c.flush.ensures.works.geometry (calls_then c.in-Ok.ensures.works.calls c.in-Ok-flush.ensures.works.calls) (c.under_some_master.ensures.table newest k old flushed table c.args.commits old.told) first
+    keeps_of (λ leaves. leaves) (keeps_saved honest c.flush.ensures.works.geometry (calls_then c.in-Ok.ensures.works.calls c.in-Ok-flush.ensures.works.calls) (c.under_some_master.ensures.table newest pages.flash.geometry old flushed table c.args.commits old.told) first
     (keeps_answered (c.in-Ok-save_master.ensures.keeps c.flush.new.pages newest records table c.in-Ok-flush.ensures.works.going.sizes held' c.in-Ok-flush.ensures.sealed c.in-Ok-flush.ensures.clean may')))
 
 pub returns-in-Err-clause-asks : goal.returns-in-Err-clause-asks

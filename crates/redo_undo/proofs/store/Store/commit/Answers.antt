@@ -7,8 +7,8 @@ use Rattle.site.specs.declared.outside.Stop.TheVariants.{Worn}
 use Rattle.site.specs.declared.geometry.Geometry.{Geometry}
 use Rattle.log_records.specs.declared.log_record.LogRecord.TheVariants.{Commit}
 use Rattle.log_store.specs.LogList.{LogList, sealed_if, changes_if}
-use Rattle.log_store.specs.Held as log_held
-use Rattle.log_store.specs.Held.{has_tail}
+use Rattle.log_store.specs.Representation as log_store
+use Rattle.log_store.specs.Representation.{has_tail}
 use Rattle.image_changes.specs.Rings.{Masters, KeepsUnits, master_shape}
 use Rattle.image_meaning.specs.Meaning.{kept_by, versions_on, master_of}
 use Rattle.image_meaning.proofs.Leaving.{under_leaves_either_for}
@@ -35,7 +35,7 @@ use Rattle.log_laws.specs.Follow.{writes_in}
 use Rattle.checkpoint.specs.declared.master.Master.{Master}
 use Rattle.image_meaning.specs.Moments.{LeavesEitherFor}
 use Rattle.redo_undo.specs.Committing.{MayCommit, EndsWith}
-use Rattle.redo_undo.specs.Stores.{Holds}
+use Rattle.redo_undo.specs.Stores.{Represents}
 use Rattle.redo_undo.specs.Numbers.{SkipsNone}
 use Rattle.page_store.specs.declared.store.PageStore.{PageStore}
 use Rattle.log_store.specs.declared.store.LogStore.{LogStore}
@@ -44,7 +44,7 @@ use Rattle.redo_undo.proofs.store.Store.commit.Goals as goal
 -- The Commit is the last record, and is sealed.
 
 module _ (g : Over) (c : After-force g) (newest : Option Master) (records : List Entry) (table : List Content) (commits : ℕ)
-    (held : Holds c.args.self.now (g.S.Site.state c.args.site.now) newest records table commits)
+    (held : Represents c.args.self.now (g.S.Site.state c.args.site.now) newest records table commits)
     (may : MayCommit newest records c.args.txn c.args.number commits) where
   abbrev old : State
   old = g.S.Site.state c.args.site.now
@@ -73,7 +73,7 @@ module _ (g : Over) (c : After-force g) (newest : Option Master) (records : List
   calm : IsQuiet old → IsQuiet mid
   calm quiet = c.in-Ok.ensures.works.calls.stays_quiet held.both.log_holds.ready.blocks.honest quiet
 
-  fits : IsQuiet old → log_held.Fits log mid
+  fits : IsQuiet old → log_store.Matches log mid
   fits quiet = log_fits log mid (calm quiet) last.ready.blocks
 
   moments : IsQuiet old → LeavesOnly old new (LeavesEitherFor pages.flash.geometry table (table_with table (writes_in c.args.txn records)) commits old.told)
@@ -102,7 +102,6 @@ returns-in-Ok-force-clause-holds g c newest records table commits held may =
     let k = pages.flash.geometry in
     let log = c.log_record.new.log in
     let log' = c.force.new.self in
-    let lsn = c.in-Ok.lsn in
     let some = c.in-Ok.ensures.some in
     let s = (goal.at.returns-in-Ok-force-clause-holds g c).After-force in
     let sizes = sizes g s newest records table commits held may in
@@ -111,22 +110,22 @@ returns-in-Ok-force-clause-holds g c newest records table commits held may =
     let changes = c.force.ensures.changes m.ready.blocks.honest in
     let finds' = c.in-Ok-force.ensures.finds m.ready.blocks in
     let reaches = c.in-Ok-force.ensures.reaches list m.ready.blocks m.ready.records in
-    let holds : log_held.Holds log' new.image (sealed_if true list) =
-    subst (λ (b : Bool). log_held.Holds log' new.image (sealed_if b list)) some (c.in-Ok-force.ensures.holds list m.ready.blocks m.ready.records) in
+    let holds : log_store.Represents log' new.image (sealed_if true list) =
+    subst (λ (b : Bool). log_store.Represents log' new.image (sealed_if b list)) some (c.in-Ok-force.ensures.holds list m.ready.blocks m.ready.records) in
     let next : log'.ring.hi ≡ log.ring.hi + 1 = c.in-Ok-force.ensures.next ∙ ap (λ (b : Bool). if b then log.ring.hi + 1 else log.ring.hi) some in
     let first = (c.in-Ok.ensures.keeps pages newest records table commits held.both).masters in
     let second : KeepsUnits master_shape mid.image new.image =
     c.ring_kept.ensures log.geometry Masters (changes_if (has_tail log) list) mid.image new.image (seals_only (has_tail log) list) reaches in
     record {
-      both = commit_holds c.log_laws.ensures c.page_laws.ensures c.beside_laws.ensures c.commit_laws.ensures log pages mid newest records table commits c.args.txn c.args.number lsn m sizes some may log' new changes c.force.ensures.goes
-          (rings_then c.log_laws.ensures c.page_laws.ensures c.beside_laws.ensures c.commit_laws.ensures log pages mid newest records table commits c.args.txn c.args.number lsn m sizes some may new reaches)
-          (sealed_then c.log_laws.ensures c.page_laws.ensures c.beside_laws.ensures c.commit_laws.ensures log pages mid newest records table commits c.args.txn c.args.number lsn m sizes some may log' new
+      both = commit_holds c.log_laws.ensures c.page_laws.ensures c.beside_laws.ensures c.commit_laws.ensures log pages mid newest records table commits c.args.txn c.args.number _ m sizes some may log' new changes c.force.ensures.goes
+          (rings_then c.log_laws.ensures c.page_laws.ensures c.beside_laws.ensures c.commit_laws.ensures log pages mid newest records table commits c.args.txn c.args.number _ m sizes some may new reaches)
+          (sealed_then c.log_laws.ensures c.page_laws.ensures c.beside_laws.ensures c.commit_laws.ensures log pages mid newest records table commits c.args.txn c.args.number _ m sizes some may log' new
           changes c.force.ensures.geometry finds' c.force.ensures.at_most_one.0)
           finds' holds next c.force.ensures.kept c.in-Ok-force.ensures.empty c.log_record.ensures.works.log_going.high
           (ap (nat_lt 2) c.in-Ok-force.ensures.empty);
-      orderly = ends_orderly c.log_laws.ensures c.orderly_goes_on.ensures.orderly k log pages mid newest records table commits (Commit c.args.txn c.args.number) lsn (versions_on k old.image)
+      orderly = ends_orderly c.log_laws.ensures c.orderly_goes_on.ensures.orderly k log pages mid newest records table commits (Commit c.args.txn c.args.number) _ (versions_on k old.image)
           m (c.log_record.ensures.pages pages newest records table commits held.both).versions
-          (c.commit_laws.ensures.follows (master_of newest) (versions_on k old.image) records lsn c.args.txn c.args.number may.begun) held.orderly;
+          (c.commit_laws.ensures.follows (master_of newest) (versions_on k old.image) records _ c.args.txn c.args.number may.begun) held.orderly;
       masters = finds_kept c.args.self.now.masters old new c.requires.may.going.shape (record { units = second.units ∙ first.units; form = λ form. second.form (first.form form) }) held.masters;
     }
 
@@ -141,21 +140,23 @@ returns-in-Err-force-clause-keeps g c newest records table commits held may =
     let s = (goal.at.returns-in-Err-force-clause-keeps g c).After-force in
     let new = g.S.Site.state c.force.new.site in
     record {
-      any_moment = moments g s newest records table commits held may;
+      ends = record {
+        any_moment = moments g s newest records table commits held may;
+        quiet = λ quiet other. elim c.in-Err-force.ensures.stops [
+          | inl device ↦ absurd (other Log device)
+          | inr worn ↦ subst IsQuiet (ap g.S.Site.state (sym (c.force.ensures.unchanged (inr (c.in-Err-force.ensures.worn.0 (ap Err worn)).1))))
+              (calm g s newest records table commits held may quiet)
+        ];
+        worn_log = λ is.
+            let same : c.in-Err-force.stop ≡ Worn Log = cc in
+            let worn = (c.in-Err-force.ensures.worn.0 (ap Err same)).1 in
+            subst (λ (x : Geometry). IsLogWorn x new.image) (sizes g s newest records table commits held may)
+            (log_at_end c.log_record.new.log (g.S.Site.state c.log_record.new.site) new (last g s newest records table commits held may).ready.blocks
+            (ap g.S.Site.state (c.force.ensures.unchanged (inr worn))) worn);
+        worn = λ is. absurd (never_worn_flash (Err c.in-Err-force.stop) c.in-Err-force.ensures.stops is);
+        readable = appends_foreign (Err c.in-Err-force.stop) c.in-Err-force.ensures.stops;
+      };
       numbers = skips g s newest records table commits held may (Err c.in-Err-force.stop) tt;
-      quiet = λ quiet other. elim c.in-Err-force.ensures.stops [
-        | inl device ↦ absurd (other Log device)
-        | inr worn ↦ subst IsQuiet (ap g.S.Site.state (sym (c.force.ensures.unchanged (inr (c.in-Err-force.ensures.worn.0 (ap Err worn)).1))))
-            (calm g s newest records table commits held may quiet)
-      ];
-      worn_log = λ is.
-          let same : c.in-Err-force.stop ≡ Worn Log = cc in
-          let worn = (c.in-Err-force.ensures.worn.0 (ap Err same)).1 in
-          subst (λ (x : Geometry). IsLogWorn x new.image) (sizes g s newest records table commits held may)
-          (log_at_end c.log_record.new.log (g.S.Site.state c.log_record.new.site) new (last g s newest records table commits held may).ready.blocks
-          (ap g.S.Site.state (c.force.ensures.unchanged (inr worn))) worn);
-      worn = λ is. absurd (never_worn_flash (Err c.in-Err-force.stop) c.in-Err-force.ensures.stops is);
-      readable = appends_foreign (Err c.in-Err-force.stop) c.in-Err-force.ensures.stops;
     }
 
 pub returns-in-Ok-force-clause-keeps : goal.returns-in-Ok-force-clause-keeps

@@ -13,13 +13,11 @@ use Rattle.redo_undo.proofs.store.Store.roll_back.Goals as goal
 
 pub returns-clause-undone : goal.returns-clause-undone
 returns-clause-undone g c newest records table commits h writes active count =
-    let old = g.S.Site.state c.args.site.now in
-    let new = g.S.Site.state c.undo_one.new.site in
     let last : Store = record { log = c.undo_one.new.log; pages = c.undo_one.new.pages; masters = c.args.self.now.masters; made = c.args.self.now.made + (c.args.entry.writes + 1) } in
-    let unfinished = active_left c.args.self.now old newest records table commits c.args.entry.begin c.args.entry.last writes h active in
-    let back : RollsBack last new newest records table commits c.args.entry.begin c.args.entry.writes =
-    rolls_back c.args.self.now last old new newest records table commits c.args.entry.begin c.args.entry.last c.args.entry.writes writes h active count (c.in-Ok.ensures.undone newest records table commits _ h.both unfinished refl refl)
-    (finds_kept c.args.self.now.masters old new c.requires.going.shape ((c.in-Ok.ensures.keeps newest records table commits _ h.both unfinished refl refl).masters refl) h.masters) in
+    let unfinished = active_left c.args.self.now _ newest records table commits c.args.entry.begin c.args.entry.last writes h active in
+    let back : RollsBack last _ newest records table commits c.args.entry.begin c.args.entry.writes =
+    rolls_back c.args.self.now last _ _ newest records table commits c.args.entry.begin c.args.entry.last c.args.entry.writes writes h active count (c.in-Ok.ensures.undone newest records table commits _ h.both unfinished refl refl)
+    (finds_kept c.args.self.now.masters _ _ c.requires.going.shape ((c.in-Ok.ensures.keeps newest records table commits _ h.both unfinished refl refl).masters refl) h.masters) in
     back
 
 pub returns-in-Err-clause-keeps : goal.returns-in-Err-clause-keeps
@@ -30,23 +28,18 @@ returns-in-Err-clause-keeps g c newest records table commits h writes active cou
 -- as many blocks as the transaction may take are never exceeded
 pub returns-then-blocks-before-clause-keeps : goal.returns-then-blocks-before-clause-keeps
 returns-then-blocks-before-clause-keeps g c newest records table commits h writes active count owes =
-    let old = g.S.Site.state c.args.site.now in
-    let unfinished = active_left c.args.self.now old newest records table commits c.args.entry.begin c.args.entry.last writes h active in
-    let more = c.if-blocks-before.true in
-    let blocks = c.blocks-blocks.ensures in
-    absurd (omega (arith, c.in-Ok.ensures.blocks newest records table commits _ h.both unfinished refl refl, c.blocks-before.ensures, more, blocks, count))
+    let unfinished = active_left c.args.self.now _ newest records table commits c.args.entry.begin c.args.entry.last writes h active in
+    absurd (omega (arith, c.in-Ok.ensures.blocks newest records table commits _ h.both unfinished refl refl, c.blocks-before.ensures, c.if-blocks-before.true, c.blocks-blocks.ensures, count))
 
 -- there is room for what the others owe
 pub returns-then-blocks-owed-clause-keeps : goal.returns-then-blocks-owed-clause-keeps
 returns-then-blocks-owed-clause-keeps g c newest records table commits h writes active count owes =
-    let old = g.S.Site.state c.args.site.now in
-    let new = g.S.Site.state c.undo_one.new.site in
     let last : Store = record { log = c.undo_one.new.log; pages = c.undo_one.new.pages; masters = c.args.self.now.masters; made = c.args.self.now.made + (c.args.entry.writes + 1) } in
-    let unfinished = active_left c.args.self.now old newest records table commits c.args.entry.begin c.args.entry.last writes h active in
-    let back : RollsBack last new newest records table commits c.args.entry.begin c.args.entry.writes =
-    rolls_back c.args.self.now last old new newest records table commits c.args.entry.begin c.args.entry.last c.args.entry.writes writes h active count (c.in-Ok.ensures.undone newest records table commits _ h.both unfinished refl refl)
-    (finds_kept c.args.self.now.masters old new c.requires.going.shape ((c.in-Ok.ensures.keeps newest records table commits _ h.both unfinished refl refl).masters refl) h.masters) in
-    let room = has_room last new newest records table commits c.args.entry.begin c.args.entry.writes c.args.owed back owes in
+    let unfinished = active_left c.args.self.now _ newest records table commits c.args.entry.begin c.args.entry.last writes h active in
+    let back : RollsBack last _ newest records table commits c.args.entry.begin c.args.entry.writes =
+    rolls_back c.args.self.now last _ _ newest records table commits c.args.entry.begin c.args.entry.last c.args.entry.writes writes h active count (c.in-Ok.ensures.undone newest records table commits _ h.both unfinished refl refl)
+    (finds_kept c.args.self.now.masters _ _ c.requires.going.shape ((c.in-Ok.ensures.keeps newest records table commits _ h.both unfinished refl refl).masters refl) h.masters) in
+    let room = has_room last _ newest records table commits c.args.entry.begin c.args.entry.writes c.args.owed back owes in
     let going = c.in-Ok.ensures.works.going in
     let sizes = ap (λ (x : Geometry). x.blocks) (c.geometry.ensures ∙ going.sizes) in
     let own = ap (λ (x : Geometry). x.blocks) c.geometry.ensures in
@@ -59,24 +52,20 @@ returns-clause-keeps g c newest records table commits h writes active count owes
 
 pub returns-in-Err-clause-asks : goal.returns-in-Err-clause-asks
 returns-in-Err-clause-asks g c newest records table commits h writes active =
-    let old = g.S.Site.state c.args.site.now in
     asks_same _ _ _ _ _ _ _ (sym (c.sessions_are_undone.ensures newest records c.args.entry.begin c.args.entry.last writes active))
-    (asks_err c.in-Err.stop _ _ _ _ _ (c.in-Err.ensures.asks newest records table commits _ h.both (active_left c.args.self.now old newest records table commits c.args.entry.begin c.args.entry.last writes h active) refl refl))
+    (asks_err c.in-Err.stop _ _ _ _ _ (c.in-Err.ensures.asks newest records table commits _ h.both (active_left c.args.self.now _ newest records table commits c.args.entry.begin c.args.entry.last writes h active) refl refl))
 
 pub returns-then-blocks-before-clause-asks : goal.returns-then-blocks-before-clause-asks
 returns-then-blocks-before-clause-asks g c newest records table commits h writes active =
-    let old = g.S.Site.state c.args.site.now in
     asks_same _ _ _ _ _ _ _ (sym (c.sessions_are_undone.ensures newest records c.args.entry.begin c.args.entry.last writes active))
-    (asks_fails c.in-Ok.field-0 Foreign _ _ _ _ _ (λ is. cc) (c.in-Ok.ensures.asks newest records table commits _ h.both (active_left c.args.self.now old newest records table commits c.args.entry.begin c.args.entry.last writes h active) refl refl))
+    (asks_fails c.in-Ok.field-0 Foreign _ _ _ _ _ (λ is. cc) (c.in-Ok.ensures.asks newest records table commits _ h.both (active_left c.args.self.now _ newest records table commits c.args.entry.begin c.args.entry.last writes h active) refl refl))
 
 pub returns-then-blocks-owed-clause-asks : goal.returns-then-blocks-owed-clause-asks
 returns-then-blocks-owed-clause-asks g c newest records table commits h writes active =
-    let old = g.S.Site.state c.args.site.now in
     asks_same _ _ _ _ _ _ _ (sym (c.sessions_are_undone.ensures newest records c.args.entry.begin c.args.entry.last writes active))
-    (asks_fails c.in-Ok.field-0 Foreign _ _ _ _ _ (λ is. cc) (c.in-Ok.ensures.asks newest records table commits _ h.both (active_left c.args.self.now old newest records table commits c.args.entry.begin c.args.entry.last writes h active) refl refl))
+    (asks_fails c.in-Ok.field-0 Foreign _ _ _ _ _ (λ is. cc) (c.in-Ok.ensures.asks newest records table commits _ h.both (active_left c.args.self.now _ newest records table commits c.args.entry.begin c.args.entry.last writes h active) refl refl))
 
 pub returns-clause-asks : goal.returns-clause-asks
 returns-clause-asks g c newest records table commits h writes active =
-    let old = g.S.Site.state c.args.site.now in
     asks_same _ _ _ _ _ _ _ (sym (c.sessions_are_undone.ensures newest records c.args.entry.begin c.args.entry.last writes active))
-    (asks_ok c.in-Ok.field-0 _ _ _ _ _ _ (c.in-Ok.ensures.asks newest records table commits _ h.both (active_left c.args.self.now old newest records table commits c.args.entry.begin c.args.entry.last writes h active) refl refl))
+    (asks_ok c.in-Ok.field-0 _ _ _ _ _ _ (c.in-Ok.ensures.asks newest records table commits _ h.both (active_left c.args.self.now _ newest records table commits c.args.entry.begin c.args.entry.last writes h active) refl refl))

@@ -3,7 +3,7 @@ use Rattle.std.proofs.Common.{refl, ◌≡◌, ◌+◌, ◌++◌, ◌∷◌, [],
 use Rattle.log_records.specs.declared.log_record.LogRecord.{LogRecord}
 use Rattle.redo_undo.proofs.Saved.{finds_kept}
 use Rattle.redo_undo.proofs.StoreCalling.{keeps_of}
-use Rattle.redo_undo.specs.Stores.{Holds, MayGrow, shown_in, update_by}
+use Rattle.redo_undo.specs.Stores.{Represents, MayGrow, shown_in, update_by}
 use Rattle.redo_undo.proofs.store.Store.update.Goals as goal
 
 pub returns-in-Ok-clause-holds : goal.returns-in-Ok-clause-holds
@@ -15,7 +15,7 @@ returns-in-Ok-clause-holds g c newest records table commits h = λ may.
     let is : update_by c.args.txn c.args.prev c.args.number c.shown.result c.copy_of.result ≡ update_by c.args.txn c.args.prev c.args.number (shown_in store old records c.args.number) c.args.after.now =
     λ i. update_by c.args.txn c.args.prev c.args.number ((c.shown.ensures.shown old newest records table commits h) i) (c.copy_of.ensures i) in
     let grows = subst (λ (rec : LogRecord). MayGrow store old newest records (record { lsn = lsn; rec = rec })) (sym is) may in
-    subst (λ (rec : LogRecord). Holds (record { log = c.log_change.new.log; pages = c.log_change.new.pages; masters = store.masters; made = store.made + 1 }) new newest (records ++ record { lsn = lsn; rec = rec } ∷ []) table commits) is
+    subst (λ (rec : LogRecord). Represents (record { log = c.log_change.new.log; pages = c.log_change.new.pages; masters = store.masters; made = store.made + 1 }) new newest (records ++ record { lsn = lsn; rec = rec } ∷ []) table commits) is
     (record {
       both = c.in-Ok.ensures.holds newest records table commits h.both grows;
       orderly = c.in-Ok.ensures.orderly newest records table commits h.both grows h.orderly;

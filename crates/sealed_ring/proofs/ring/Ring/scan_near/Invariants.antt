@@ -1,7 +1,7 @@
 use Rattle.std.proofs.Common.{◌≡◌, ◌≢◌, ℕ, ◌+◌, ◌<◌, ◌≤◌, ◌^◌, length, IsTrue}
 use Rattle.site.specs.declared.outside.Dev.{Dev}
 use Rattle.site.specs.State.{reads_of}
-use Rattle.site.specs.Calls.{Goes, IsUnchanged}
+use Rattle.site.specs.Calls.{Preserves, IsUnchanged}
 use Rattle.site.specs.Faults.{faults_in}
 use Rattle.sealed_ring.specs.Ring.{FitsIn}
 use Rattle.sealed_ring.specs.Near.{IsThere}
@@ -18,7 +18,7 @@ invariant-loop-hi g l =
       bounded : l.hi ≤ 2 ^ 40;
       same : IsTrue old.honest → IsUnchanged old now;
       there : IsTrue old.honest → (n : ℕ) → l.first ≤ n → n < l.hi → IsThere l.shape (region l.shape old) n;
-      goes : Goes old now;
+      goes : Preserves old now;
       faults : faults_in now ≡ faults_in old;
       reads : reads_of l.shape.dev now + l.first ≤ reads_of l.shape.dev old + l.hi;
       others : (d : Dev) → d ≢ l.shape.dev → reads_of d now ≡ reads_of d old;

@@ -1,5 +1,5 @@
 use Rattle.std.proofs.Common.{◌≡◌, length, IsTrue}
-use Rattle.site.specs.Calls.{Goes, SameReads}
+use Rattle.site.specs.Calls.{Preserves, SameReads}
 use Rattle.site.specs.Faults.{faults_in}
 use Rattle.trace_report.specs.Hearing.{IsUsable, HasEnded, TakesNoMore, to_hear, HearsOnly}
 use Rattle.trace_report.proofs.Heard.{SoFar}
@@ -10,7 +10,7 @@ invariant-loop-octet g l =
     let old = g.S.Site.state l.fn.site in
     let now = g.S.Site.state l.site in
     record {
-      goes : Goes old now;
+      goes : Preserves old now;
       reads : SameReads old now;
       faults : faults_in now ≡ faults_in old;
       usable : IsUsable l.self;

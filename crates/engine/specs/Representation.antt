@@ -1,0 +1,115 @@
+-- The database of an honest site, and the model's state.
+use Rattle.std.specs.Prelude.{◌≡◌, ℕ, ◌+◌, ◌<◌, List, [], ◌∷◌, length, Option, Some, None, option_map, IsTrue, ⊤, Bool}
+use Rattle.std.specs.Prelude.{true, false, if◌then◌else◌}
+use Rattle.site.specs.State.{State as Site}
+use Rattle.record_model.specs.State.{Session, State, Write, session_at, kept_by_checkpoint}
+use Rattle.record_model.specs.State as model
+use Rattle.record_model.specs.declared.words.Command.{Command}
+use Rattle.record_model.specs.Step.{Outcome, step, effect, answer, making, with_session, having_written, having_read}
+use Rattle.record_model.specs.Touches.{command_touches, record_touches}
+use Rattle.record_model.specs.declared.words.Reply.{Reply}
+use Rattle.record_model.specs.declared.words.Reply.TheVariants as reply
+use Rattle.log_records.specs.Log.{Entry, is_loser}
+use Rattle.log_laws.specs.Follow.{IsActive}
+use Rattle.checkpoint.specs.declared.master.Master.{Master}
+use Rattle.image_meaning.specs.Meaning.{master_of}
+use Rattle.lock_table.specs.declared.lock.Lock.{Lock}
+use Rattle.lock_table.specs.Locks as locks
+use Rattle.txn_table.specs.declared.active.Active.{Active}
+use Rattle.txn_table.specs.Entries.{entry_of}
+use Rattle.txn_table.specs.Entries as entries
+use Rattle.log_records.specs.Unfinished as unfinished
+use Rattle.engine.specs.declared.engine.Engine.{Engine}
+use Rattle.redo_undo.specs.Stores.{Represents}
+
+-- a session's transaction: it is open, was never undone, and has made the session's writes; records are counted from
+-- the oldest kept one on
+pub record IsUnderWay (newest : Option Master) (kept : ℕ) (records : List Entry) (entry : Active)
+    (session : Session) : Type 0 where
+  pub is_active : IsActive (master_of newest) records entry.begin entry.last session.writes
+  pub born : entry.born + kept ≡ session.born
+  pub count : entry.writes ≡ length session.writes
+
+-- a session is active in both or in neither
+abbrev pub SessionIs : Option Master → ℕ → List Entry → Option Active → Option Session → Type 0
+SessionIs newest kept records None None = ⊤
+SessionIs newest kept records (Some entry) (Some session) = IsUnderWay newest kept records entry session
+SessionIs newest kept records _ _ = ⊥
+
+-- the active sessions are the unfinished transactions
+pub record SessionsAre (newest : Option Master) (records : List Entry) (active : List Active) (s : State) : Type 0 where
+  pub count : length s.sessions ≡ 8
+  pub each : (n : ℕ) → SessionIs newest s.kept records (entry_of active n) (session_at s n)
+  pub all : (t : ℕ) → IsTrue (is_loser records t) → (n : ℕ) × (entry : Active) × (entry_of active n ≡ Some entry)
+      × (entry.begin ≡ t)
+  -- what undo may take
+  pub owes : unfinished.owed records ≡ entries.owed active
+  pub differ : (n m : ℕ) (a b : Active) → entry_of active n ≡ Some a → entry_of active m ≡ Some b
+      → a.begin ≡ b.begin → n ≡ m
+
+-- the locks are the model's writes and reads
+pub record LocksAre (held : List Lock) (s : State) : Type 0 where
+  pub written : (n r : ℕ) → locks.has_written held n r ≡ model.has_written s n r
+  pub reads : (n r : ℕ) → locks.has_read held n r ≡ model.has_read s n r
+
+-- the counts; those of records begin with the oldest kept one
+pub record CountsAre (engine : Engine) (s : State) : Type 0 where
+  pub commits : engine.commits ≡ s.commits
+  pub made : engine.store.made + s.kept ≡ s.made
+  pub cap : engine.cap ≡ s.cap
+
+-- Of an honest site: the database stands for this state.
+pub record Matches (engine : Engine) (site : Site) (s : State) : Type 0 where
+  pub honest : IsTrue site.honest
+  pub newest : Option Master
+  pub records : List Entry
+  pub holds : Represents engine.store site newest records s.table s.commits
+  pub counts : CountsAre engine s
+  pub sessions : SessionsAre newest records engine.active s
+  pub locks_are : LocksAre engine.locks s
+
+-- what a command answers, and the state that it leaves
+abbrev pub run : State → Command → Outcome
+run s command = step true s command []
+
+-- the same where it makes no checkpoint first
+abbrev pub run_now : State → Command → Outcome
+run_now s command = step false s command []
+
+-- a checkpoint lets the records go that no active session needs
+abbrev pub checkpointed_if : Bool → State → State
+checkpointed_if wanted s = record s { kept = if wanted then kept_by_checkpoint s else s.kept }
+
+-- a session has made one write more
+abbrev pub with_write : State → ℕ → Write → State
+with_write s n write = making 1 (with_session s n (option_map (having_written write) (session_at s n)))
+
+-- a session has read a record
+abbrev pub with_read : State → ℕ → ℕ → State
+with_read s n number = with_session s n (option_map (having_read (number ∷ [])) (session_at s n))
+
+-- a session has read records
+abbrev pub with_reads : State → ℕ → List ℕ → State
+with_reads s n numbers = with_session s n (option_map (having_read numbers) (session_at s n))
+
+-- where no checkpoint comes first, a command is refused: it changes nothing, and asks nothing of the cache
+abbrev pub IsRefusedWith : State → Command → Reply → Type 0
+IsRefusedWith s command reply = (run_now s command ≡ record { after = s; reply = reply })
+    × (command_touches false s command ≡ [])
+
+-- where no checkpoint comes first, it is carried out, and touches the pages of its records
+abbrev pub IsCarriedOut : State → Command → Type 0
+IsCarriedOut s command = (run_now s command ≡ record { after = effect s command; reply = answer s command [] })
+    × (command_touches false s command ≡ record_touches s command)
+
+-- so it is in whatever state the database stands for
+abbrev pub Refuses : Engine → Command → Reply → Type 0
+Refuses engine command reply = (s : State) (site : Site) → Matches engine site s → IsRefusedWith s command reply
+
+abbrev pub Accepts : Engine → Command → Type 0
+Accepts engine command = (s : State) (site : Site) → Matches engine site s → IsCarriedOut s command
+
+-- so many more log records can't be made
+pub record IsFull (engine : Engine) (more : ℕ) (answered : Reply) : Type 0 where
+  pub full_is : answered ≡ reply.Full engine.store.made (entries.owed engine.active) engine.cap
+  pub no_room : engine.cap < engine.store.made + entries.owed engine.active + more

@@ -1,0 +1,98 @@
+-- What stays of an image whose groups and disk stay.
+use Rattle.std.proofs.Common.{◌≡◌, ℕ, ◌+◌, ◌<◌, List, length, map, refl, arith, Option, Some, None, sym, ap, subst, ◌∙◌}
+use Rattle.std.specs.List.{AllByRecursion}
+use Rattle.site.specs.declared.geometry.Geometry.{Geometry}
+use Rattle.site.specs.declared.outside.Dev.TheVariants.{Log, Flash, Disk}
+use Rattle.site.specs.Geometry.{HasLengths}
+use Rattle.site.specs.State.{Image}
+use Rattle.sealed_ring.specs.Ring.{Units}
+use Rattle.log_records.specs.declared.log_record.LogRecord.{LogRecord}
+use Rattle.log_records.specs.Sound.{Picture, Means}
+use Rattle.log_records.specs.Sound as lists
+use Rattle.slotted_page.specs.Layout as page
+use Rattle.frame_group.specs.Groups.{Frame, IsGroup, frames_in}
+use Rattle.frame_group.specs.Versions.{CleanAsDisk}
+use Rattle.checkpoint.specs.declared.master.Master.{Master}
+use Rattle.checkpoint.specs.Newest.{newest_of, IsOf}
+use Rattle.image_changes.specs.Rings.{RingName, Masters, Blocks, Groups, Segments, shape_of, group_shape, segment_shape, KeepsUnits}
+use Rattle.image_changes.specs.Changes.{SameSizes}
+use Rattle.log_store.proofs.BlockLaws.{blocks_stay}
+use Rattle.tail_rebuild.specs.Standing.{HasSaved}
+use Rattle.tail_rebuild.proofs.Following.{saved_again}
+use Rattle.flash_cache.specs.Representation.{frames_on, groups_on, disk_on}
+use Rattle.image_meaning.specs.Meaning.{kept_by, next_block_under, picture_under, IsUnused, HasNewest, IsFrameOf, AreGroups, AreSegments, AreOctetsSoundUnder, versions_on}
+use Rattle.image_meaning.specs.Pictures.{with_versions}
+use Rattle.image_meaning.specs.Laws.{SameIsSound, SameMeans}
+use Rattle.image_meaning.proofs.Versions.{versions_same, version_stays, frames_stay, disk_stays}
+
+pub next_block_is : (newest : Option Master) (blocks : List (List LogRecord)) → next_block_under newest blocks ≡ kept_by newest + length blocks
+next_block_is None blocks = omega arith
+next_block_is (Some m) blocks = refl
+
+pub lengths_stay : (g : Geometry) (old new : Image) → SameSizes old new → HasLengths g old → HasLengths g new
+lengths_stay g old new same lengths = record { log = same Log ∙ lengths.log; flash = same Flash ∙ lengths.flash; disk = same Disk ∙ lengths.disk }
+
+pub unused_stays : (g : Geometry) (ring : RingName) (old new : Image) → KeepsUnits (shape_of g ring) old new → IsUnused g ring old → IsUnused g ring new
+unused_stays g ring old new keeps unused = record { form = keeps.form unused.form; none = ap (λ (u : Units). u.hi) keeps.units ∙ unused.none }
+
+pub newest_stays : (newest : Option Master) (g : Geometry) (old new : Image) → KeepsUnits (shape_of g Masters) old new → HasNewest newest g old → HasNewest newest g new
+newest_stays None g old new keeps unused = unused_stays g Masters old new keeps unused
+newest_stays (Some m) g old new keeps is = record {
+  form = keeps.form is.form;
+  some = subst (λ (u : Units). 0 < u.hi) (sym keeps.units) is.some;
+  master = subst (λ (u : Units). IsOf (newest_of u.live) m) (sym keeps.units) is.master;
+}
+
+pub groups_stay : (g : Geometry) (old new : Image) → KeepsUnits (group_shape g) old new → AreGroups g old → AreGroups g new
+groups_stay g old new keeps groups = record {
+  form = keeps.form groups.form;
+  each = subst (λ (u : Units). AllByRecursion (λ content. IsGroup content (frames_in content)) u.live) (sym keeps.units) groups.each;
+  frames = subst (AllByRecursion (IsFrameOf g)) (sym (frames_stay g old new keeps)) groups.frames;
+}
+
+-- Segments that follow the groups follow them still.
+pub same_groups : (g : Geometry) (old new : Image) → KeepsUnits (group_shape g) old new → groups_on g new ≡ groups_on g old
+same_groups g old new keeps = ap (λ (u : Units). map frames_in u.live) keeps.units
+
+pub segments_stay : (g : Geometry) (old new : Image) → KeepsUnits (segment_shape g) old new → KeepsUnits (group_shape g) old new → AreSegments g old → AreSegments g new
+segments_stay g old new there here segments = record {
+  segments = segments.segments;
+  follow = subst (λ (groups : List (List Frame)). HasSaved g groups segments.segments new) (sym (same_groups g old new here)) (saved_again g (groups_on g old) segments.segments old new here there segments.follow);
+}
+
+-- The octets of an image whose groups and disk stay, and whose segments follow, are sound still, under whatever master is the newest then.
+pub octets_beside : (before after : Option Master) (g : Geometry) (old new : Image) → SameSizes old new → HasNewest after g new → AreSegments g new → KeepsUnits (group_shape g) old new →
+    new.disk ≡ old.disk → AreOctetsSoundUnder before g old → AreOctetsSoundUnder after g new
+octets_beside before after g old new sizes masters segments groups disk sound = record {
+  limits = sound.limits;
+  lengths = lengths_stay g old new sizes sound.lengths;
+  masters = masters;
+  segments = segments;
+  groups = groups_stay g old new groups sound.groups;
+  versions = λ number within. subst page.IsSound (sym (version_stays g old new groups disk number)) (sound.versions number within);
+  clean = subst (λ (d : ℕ → List ℕ). CleanAsDisk d (frames_on g new)) (sym (disk_stays old new disk)) (subst (CleanAsDisk (disk_on old)) (sym (frames_stay g old new groups)) sound.clean);
+}
+
+pub octets_stay : (newest : Option Master) (g : Geometry) (old new : Image) → SameSizes old new → KeepsUnits (shape_of g Masters) old new → KeepsUnits (shape_of g Segments) old new → KeepsUnits (group_shape g) old new →
+    new.disk ≡ old.disk → AreOctetsSoundUnder newest g old → AreOctetsSoundUnder newest g new
+octets_stay newest g old new sizes masters segments groups disk sound =
+    octets_beside newest newest g old new sizes (newest_stays newest g old new masters sound.masters) (segments_stay g old new segments groups sound.segments) groups disk sound
+
+-- What reads the same.
+
+pub same_picture : (newest : Option Master) (g : Geometry) (old new : Image) (blocks : List (List LogRecord)) → versions_on g new ≡ versions_on g old → picture_under newest g new blocks ≡ picture_under newest g old blocks
+same_picture newest g old new blocks same = ap (with_versions (picture_under newest g old blocks)) same
+
+pub same_is_sound : SameIsSound
+same_is_sound newest g old new blocks sound reads =
+    let versions = versions_same g old new (version_stays g old new (reads.rings Groups) reads.disk) in
+    record {
+      octets = octets_stay newest g old new reads.sizes (reads.rings Masters) (reads.rings Segments) (reads.rings Groups) reads.disk sound.octets;
+      held = blocks_stay g _ blocks old new sound.held (reads.rings Blocks);
+      records = subst lists.IsSound (sym (same_picture newest g old new blocks versions)) sound.records;
+    }
+
+pub same_means : SameMeans
+same_means newest g old new blocks reads table count means =
+    let versions = versions_same g old new (version_stays g old new (reads.rings Groups) reads.disk) in
+    subst (λ (p : Picture). Means p table count) (sym (same_picture newest g old new blocks versions)) means

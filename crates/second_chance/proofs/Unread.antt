@@ -1,0 +1,28 @@
+-- The queue where a page without a frame in it is read.
+use Rattle.std.proofs.Common.{◌≡◌, suc, ℕ, ◌==◌, ◌||◌, ◌&&◌, false, List, [], ◌∷◌, length, refl, ap, ◌∙◌}
+use Rattle.std.proofs.lemmas.Bool.{or_parts}
+use Rattle.std_lemmas.proofs.Bools.{or_false}
+use Rattle.second_chance.specs.declared.frame.Frame.{Frame}
+use Rattle.second_chance.specs.Queue.{Queue, in_group, in_groups, has_frame, is_last, group_read, groups_read, with_read}
+
+pub group_read_none : (page : ℕ) (group : List Frame) (later : List (List Frame)) → in_group group page ≡ false → group_read page group later ≡ group
+group_read_none page [] later none = refl
+group_read_none page (frame ∷ behind) later none =
+    let parts = or_parts (frame.page == page) (in_group behind page) none in
+    ap (λ b. record frame { referenced = frame.referenced || (b && is_last behind later frame) } ∷ group_read page behind later) parts.0
+    ∙ ap (λ b. record frame { referenced = b } ∷ group_read page behind later) (or_false frame.referenced)
+    ∙ ap (λ l. frame ∷ l) (group_read_none page behind later parts.1)
+
+pub groups_read_none : (page : ℕ) (groups : List (List Frame)) → in_groups groups page ≡ false → groups_read page groups ≡ groups
+groups_read_none page [] none = refl
+groups_read_none page (group ∷ later) none =
+    let parts = or_parts (in_group group page) (in_groups later page) none in
+    ap (λ g. g ∷ groups_read page later) (group_read_none page group later parts.0) ∙ ap (λ l. group ∷ l) (groups_read_none page later parts.1)
+
+pub with_read_none : (page : ℕ) (queue : Queue) → has_frame queue page ≡ false → with_read page queue ≡ queue
+with_read_none page queue none = ap (λ (groups : List (List Frame)). record queue { groups = groups }) (groups_read_none page queue.groups none)
+
+-- no group goes
+pub length-groups_read : (page : ℕ) (groups : List (List Frame)) → length (groups_read page groups) ≡ length groups
+length-groups_read page [] = refl
+length-groups_read page (group ∷ later) = ap suc (length-groups_read page later)

@@ -1,0 +1,5 @@
+pub mod AllOf
+pub mod Bools
+pub mod Lists
+pub mod Options
+pub mod Results
