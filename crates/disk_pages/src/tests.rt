@@ -1,6 +1,6 @@
 // Pages on a site in memory.
 use crate::{PAGE_LEN, read_page, sync_disk, write_page};
-use site::{Dev, Geometry, MemSite};
+use site::{Dev, Geometry, MemSite, Site};
 use std::test::Fail;
 
 const SMALL: Geometry = Geometry {
@@ -9,29 +9,32 @@ const SMALL: Geometry = Geometry {
     blocks: 16,
 };
 
+// The octets at these places.
+fn octets_at(octets: &[u8], places: [usize; 4]) -> [Option<u8>; 4] {
+    places.map(|place| octets.get(place).copied())
+}
+
 #[test]
 fn a_page_stands_in_its_place(rt: HostRuntime) -> Result<(), Fail> {
     let mut site = MemSite::new(rt.alloc(), &SMALL)?;
     write_page(&mut site, 1, &[7; PAGE_LEN])?;
-    assert_eq!(rt; site.changes(), 1);
-    let disk = site.content(Dev::Disk);
-    assert_eq!(rt; disk.get(4_095), Some(&0));
-    assert_eq!(rt; disk.get(4_096), Some(&7));
-    assert_eq!(rt; disk.get(8_191), Some(&7));
-    assert_eq!(rt; disk.get(8_192), Some(&0));
+    let found = octets_at(site.content(Dev::Disk), [4_095, 4_096, 8_191, 8_192]);
+    let changes = site.changes();
+    assert_eq!(rt; (changes, found), (1, [Some(0), Some(7), Some(7), Some(0)]));
     Ok(())
 }
 
 #[test]
 fn a_page_is_read(rt: HostRuntime) -> Result<(), Fail> {
     let mut site = MemSite::new(rt.alloc(), &SMALL)?;
-    site.poke(Dev::Disk, 4_096, 7);
-    site.poke(Dev::Disk, 8_191, 8);
+    let mut octets = [0; PAGE_LEN];
+    octets[0] = 7;
+    octets[4_095] = 8;
+    site.write_at(Dev::Disk, 4_096, &octets)?;
     let mut page = [1; PAGE_LEN];
     read_page(&mut site, 1, &mut page)?;
-    assert_eq!(rt; page.get(0), Some(&7));
-    assert_eq!(rt; page.get(1), Some(&0));
-    assert_eq!(rt; page.get(4_095), Some(&8));
+    let found = octets_at(&page, [0, 1, 4_094, 4_095]);
+    assert_eq!(rt; found, [Some(7), Some(0), Some(0), Some(8)]);
     assert_eq!(rt; site.reads(Dev::Disk), 1);
     Ok(())
 }
@@ -43,6 +46,7 @@ fn a_synced_page_stays(rt: HostRuntime) -> Result<(), Fail> {
     sync_disk(&mut site)?;
     assert_eq!(rt; site.changes(), 2);
     let site = site.crash(2);
-    assert_eq!(rt; site.content(Dev::Disk).get(4_095), Some(&7));
+    let found = octets_at(site.content(Dev::Disk), [0, 1, 4_095, 4_096]);
+    assert_eq!(rt; found, [Some(7), Some(7), Some(7), Some(0)]);
     Ok(())
 }

@@ -21,16 +21,18 @@ fn stage_two(site: &mut MemSite) -> Result<(), Stop>
     stage(site, &[2, 0], &contents)
 }
 
+// The octets at these places.
+fn octets_at(octets: &[u8], places: [usize; 4]) -> [Option<u8>; 4] {
+    places.map(|place| octets.get(place).copied())
+}
+
 #[test]
 fn two_pages_are_written_and_synced_once(rt: HostRuntime) -> Result<(), Fail> {
     let mut site = MemSite::new(rt.alloc(), &SMALL)?;
     stage_two(&mut site)?;
     assert_eq!(rt; site.changes(), 3);
     let site = site.crash(2);
-    let disk = site.content(Dev::Disk);
-    assert_eq!(rt; disk.get(4_095), Some(&8));
-    assert_eq!(rt; disk.get(4_096), Some(&0));
-    assert_eq!(rt; disk.get(8_191), Some(&0));
-    assert_eq!(rt; disk.get(8_192), Some(&7));
+    let found = octets_at(site.content(Dev::Disk), [4_095, 4_096, 8_191, 8_192]);
+    assert_eq!(rt; found, [Some(8), Some(0), Some(0), Some(7)]);
     Ok(())
 }
