@@ -59,6 +59,11 @@ pub next_of : (opened : Opened) (site : State) (newest : Option Master) (blocks 
 next_of opened site newest blocks table commits h =
     omega (arith, h.opened_is.ready.blocks.hi, h.opened_is.ready.records.blocks.next, next_block_is newest blocks)
 
+-- and it keeps these
+pub kept_of : (opened : Opened) (site : State) (newest : Option Master) (blocks : List (List LogRecord)) (table : List Content) (commits : ℕ) → IsReady opened site newest blocks table commits →
+    opened.log.ring.hi - opened.log.kept ≡ length blocks
+kept_of opened site newest blocks table commits h = omega (arith, h.opened_is.ready.blocks.hi, h.opened_is.ready.records.blocks.next, h.opened_is.kept)
+
 -- the commits that it stands for are no more
 pub few_commits : (opened : Opened) (site : State) (newest : Option Master) (blocks : List (List LogRecord)) (table : List Content) (commits : ℕ) → IsReady opened site newest blocks table commits → commits ≤ opened.log.ring.hi
 few_commits opened site newest blocks table commits h =

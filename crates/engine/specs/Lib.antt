@@ -3,6 +3,7 @@ pub mod Image
 pub mod Invariant
 pub mod Leaves
 pub mod Listings
+pub mod LogReads
 pub mod Numbers
 pub mod OneWrite
 pub mod Paging

@@ -7,6 +7,7 @@ use Rattle.record_model.specs.State.{Content}
 use Rattle.image_changes.specs.Rings.{master_shape}
 use Rattle.log_records.specs.declared.log_record.LogRecord.{LogRecord}
 use Rattle.log_records.specs.Log.{Entry, is_loser}
+use Rattle.log_records.specs.Unfinished.{pending}
 use Rattle.checkpoint.specs.Actives.{Ascend}
 use Rattle.checkpoint.specs.declared.master.Master.{Master}
 use Rattle.image_meaning.specs.Meaning.{saved_by, picture_under}
@@ -77,6 +78,7 @@ pub record Recovers (result : Result Restarted Stop) (opened : Opened) (before n
   pub asks : AsksFrom result (λ restarted. restarted.store.pages) (rules opened.pages)
       (restart_works (picture_under newest opened.pages.flash.geometry before.image blocks))
       (cache_of opened.pages) 0 before now
+  pub log_reads : now.log_reads ≤ before.log_reads + (length blocks + length (pending (log_under newest blocks)))
   pub writes : IsQuiet before → WritesFrom opened.pages.flash.geometry (rules opened.pages)
       (restart_works (picture_under newest opened.pages.flash.geometry before.image blocks))
       (cache_of opened.pages) before now

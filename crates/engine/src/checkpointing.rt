@@ -69,6 +69,7 @@ impl Engine {
 
         // Of every site.
         ensures serves { KeepsEngine result self.old self.new (S.state site.old) (S.state site.new) }
+        ensures log_reads { (S.state site.new).log_reads ≡ (S.state site.old).log_reads }
         ensures asks { StepsMachine result checkpoint_works self.old.store.pages self.new.store.pages
             (S.state site.old) (S.state site.new) }
     {
@@ -96,6 +97,8 @@ impl Engine {
 
         // Of every site.
         ensures serves { KeepsEngine result self.old self.new (S.state site.old) (S.state site.new) }
+        ensures log_reads { (S.state site.new).log_reads ≡ (S.state site.old).log_reads }
+        ensures rest { wanted ≡ false → self.new ≡ self.old }
         ensures ended { OnErr result (self.new.ended ≡ true) }
         ensures asks { StepsMachine result (if wanted then checkpoint_works else []) self.old.store.pages
             self.new.store.pages (S.state site.old) (S.state site.new) }
@@ -128,6 +131,7 @@ impl Engine {
 
         // Of every site.
         ensures serves { KeepsEngine result self.old self.new (S.state site.old) (S.state site.new) }
+        ensures log_reads { (S.state site.new).log_reads ≡ (S.state site.old).log_reads }
         ensures ended { OnErr result (self.new.ended ≡ true) }
         ensures worn_flash { IsErrOf result (Stop.Worn Dev.Flash)
             → Overflows (rules self.old.store.pages) checkpoint_works (cache_of self.old.store.pages) }

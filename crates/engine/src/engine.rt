@@ -24,6 +24,7 @@ ghost use Rattle.image_meaning.specs.Meaning.{picture_under};
 ghost use Rattle.engine.specs.Listings.{listing_of};
 ghost use Rattle.engine.specs.Calls.{Ends};
 ghost use Rattle.engine.specs.Numbers.{RestartsWithin};
+ghost use Rattle.engine.specs.LogReads.{restart_log_reads};
 ghost use Rattle.site.specs.Work.{Calls};
 ghost use Rattle.engine.specs.Paging.{WritesFrom};
 
@@ -80,6 +81,10 @@ impl Engine {
             (restart_works (picture_under newest g (S.state site.old).image blocks))
             (cache_on g (S.state site.old).image)
             (start_reads g) (S.state site.old) (S.state site.new) }
+        ensures log_reads { IsTrue (S.state site.old).honest
+            → (g : Geometry) (newest : Option Master) (blocks : List (List LogRecord))
+            → IsSound newest g (S.state site.old).image blocks
+            → (S.state site.new).log_reads ≤ (S.state site.old).log_reads + restart_log_reads g newest blocks }
         ensures writes { IsTrue (S.state site.old).honest → IsQuiet (S.state site.old)
             → (g : Geometry) (newest : Option Master) (blocks : List (List LogRecord))
             → IsSound newest g (S.state site.old).image blocks

@@ -11,6 +11,7 @@ ghost use Rattle.record_model.specs.declared.words.Reply.{Reply};
 ghost use Rattle.record_model.specs.State.{State, seen, content_at};
 ghost use Rattle.record_model.specs.Step.{found};
 ghost use Rattle.lock_table.specs.Locks.{AddsLock};
+ghost use Rattle.redo_undo.specs.Filling.{FindsRoom};
 ghost use Rattle.engine.specs.Invariant.{Invariant, sizes_of};
 ghost use Rattle.engine.specs.Permits.{MayShow, MayRead, MayScan};
 ghost use Rattle.engine.specs.Representation.{Matches, run, with_read, with_reads, Refuses, Accepts};
@@ -59,9 +60,13 @@ impl Engine {
             (run s (Command.Read session number)) (command_touches true s (Command.Read session number))
             (LeavesTable (sizes_of self.old.store) s.table s.commits (S.state site.old).told)
             (checkpoints_by s (Command.Read session number)) }
+        ensures fills { (s : State) → Matches self.old (S.state site.old) s
+            → OnOk result (FindsRoom 0 self.old.store.log self.new.store.log self.old.store.pages
+            self.new.store.pages) }
 
         // Of every site.
         ensures serves { KeepsEngine result self.old self.new (S.state site.old) (S.state site.new) }
+        ensures log_reads { (S.state site.new).log_reads ≡ (S.state site.old).log_reads }
         ensures ended { OnErr result (self.new.ended ≡ true) }
         ensures worn_flash { IsErrOf result (Stop.Worn Dev.Flash)
             → Overflows (rules self.old.store.pages) (one_touch (number / 32)) (cache_of self.old.store.pages) }
@@ -95,9 +100,13 @@ impl Engine {
         ensures does { (s : State) → Matches self.old (S.state site.old) s
             → Does result self.old self.new (S.state site.old) (S.state site.new) s (with_read s session number)
             (LeavesTable (sizes_of self.old.store) s.table s.commits (S.state site.old).told) 0 }
+        ensures fills { (s : State) → Matches self.old (S.state site.old) s
+            → OnOk result (FindsRoom 0 self.old.store.log self.new.store.log self.old.store.pages
+            self.new.store.pages) }
 
         // Of every site.
         ensures serves { KeepsEngine result self.old self.new (S.state site.old) (S.state site.new) }
+        ensures log_reads { (S.state site.new).log_reads ≡ (S.state site.old).log_reads }
         ensures asks { StepsMachine result (one_touch (number / 32)) self.old.store.pages self.new.store.pages
             (S.state site.old) (S.state site.new) }
         ensures locks { OnOk result (AddsLock self.old.locks self.new.locks session number false) }
@@ -152,9 +161,13 @@ impl Engine {
             (run s (Command.Scan session number count)) (command_touches true s (Command.Scan session number count))
             (LeavesTable (sizes_of self.old.store) s.table s.commits (S.state site.old).told)
             (checkpoints_by s (Command.Scan session number count)) }
+        ensures fills { (s : State) → Matches self.old (S.state site.old) s
+            → OnOk result (FindsRoom 0 self.old.store.log self.new.store.log self.old.store.pages
+            self.new.store.pages) }
 
         // Of every site.
         ensures serves { KeepsEngine result self.old self.new (S.state site.old) (S.state site.new) }
+        ensures log_reads { (S.state site.new).log_reads ≡ (S.state site.old).log_reads }
         ensures ended { OnErr result (self.new.ended ≡ true) }
         ensures worn_flash { IsErrOf result (Stop.Worn Dev.Flash)
             → Overflows (rules self.old.store.pages) (map read_touch (range_with_len number count))
@@ -191,9 +204,13 @@ impl Engine {
             → Does result self.old self.new (S.state site.old) (S.state site.new) s
             (with_reads s session (range_with_len number count))
             (LeavesTable (sizes_of self.old.store) s.table s.commits (S.state site.old).told) 0 }
+        ensures fills { (s : State) → Matches self.old (S.state site.old) s
+            → OnOk result (FindsRoom 0 self.old.store.log self.new.store.log self.old.store.pages
+            self.new.store.pages) }
 
         // Of every site.
         ensures serves { KeepsEngine result self.old self.new (S.state site.old) (S.state site.new) }
+        ensures log_reads { (S.state site.new).log_reads ≡ (S.state site.old).log_reads }
         ensures asks { StepsMachine result (map read_touch (range_with_len number count)) self.old.store.pages
             self.new.store.pages
             (S.state site.old) (S.state site.new) }
@@ -239,9 +256,13 @@ impl Engine {
             (command_touches true s (Command.Get number))
             (LeavesTable (sizes_of self.old.store) s.table s.commits (S.state site.old).told)
             (checkpoints_by s (Command.Get number)) }
+        ensures fills { (s : State) → Matches self.old (S.state site.old) s
+            → OnOk result (FindsRoom 0 self.old.store.log self.new.store.log self.old.store.pages
+            self.new.store.pages) }
 
         // Of every site.
         ensures serves { KeepsEngine result self.old self.new (S.state site.old) (S.state site.new) }
+        ensures log_reads { (S.state site.new).log_reads ≡ (S.state site.old).log_reads }
         ensures ended { OnErr result (self.new.ended ≡ true) }
         ensures worn_flash { IsErrOf result (Stop.Worn Dev.Flash)
             → Overflows (rules self.old.store.pages) (one_touch (number / 32)) (cache_of self.old.store.pages) }
@@ -270,9 +291,13 @@ impl Engine {
         ensures does { (s : State) → Matches self.old (S.state site.old) s
             → Does result self.old self.new (S.state site.old) (S.state site.new) s s
             (LeavesTable (sizes_of self.old.store) s.table s.commits (S.state site.old).told) 0 }
+        ensures fills { (s : State) → Matches self.old (S.state site.old) s
+            → OnOk result (FindsRoom 0 self.old.store.log self.new.store.log self.old.store.pages
+            self.new.store.pages) }
 
         // Of every site.
         ensures serves { KeepsEngine result self.old self.new (S.state site.old) (S.state site.new) }
+        ensures log_reads { (S.state site.new).log_reads ≡ (S.state site.old).log_reads }
         ensures asks { StepsMachine result (one_touch (number / 32)) self.old.store.pages self.new.store.pages
             (S.state site.old) (S.state site.new) }
     {

@@ -25,6 +25,7 @@ ghost use Rattle.engine.specs.Calls.{Ends};
 ghost use Rattle.flash_cache.specs.Representation.{start_reads};
 ghost use Rattle.engine.specs.Paging.{AsksFrom, cache_on, restart_works};
 ghost use Rattle.engine.specs.Numbers.{RestartsWithin};
+ghost use Rattle.engine.specs.LogReads.{restart_log_reads};
 ghost use Rattle.page_store.specs.Caching.{cache_of};
 ghost use Rattle.second_chance.specs.Machine.{rules_of};
 ghost use Rattle.engine.specs.Paging.{WritesFrom};
@@ -121,6 +122,7 @@ fn open<S: Site>(
 
     // Of every site.
     ensures going { IfOk result (λ opened. MayRecover opened (S.state site.new)) }
+    ensures log_reads { (S.state site.new).log_reads ≤ (S.state site.old).log_reads + (geometry.now.blocks + 6) }
     ensures flash_reads { (S.state site.new).flash_reads ≤ (S.state site.old).flash_reads + start_reads geometry.now }
     ensures disk_reads { (S.state site.new).disk_reads ≡ (S.state site.old).disk_reads }
     ensures sizes { IfOk result (λ opened. opened.pages.flash.geometry ≡ geometry.now) }
@@ -263,6 +265,10 @@ pub fn restart<S: Site>(alloc: Global, site: &mut S, pool: u32) -> Result<Restar
         → AsksFrom result (λ restarted. restarted.store.pages) (rules_of pool g.groups)
         (restart_works (picture_under newest g (S.state site.old).image blocks)) (cache_on g (S.state site.old).image)
         (start_reads g) (S.state site.old) (S.state site.new) }
+    ensures log_reads { IsTrue (S.state site.old).honest
+        → (g : Geometry) (newest : Option Master) (blocks : List (List LogRecord))
+        → IsSound newest g (S.state site.old).image blocks
+        → (S.state site.new).log_reads ≤ (S.state site.old).log_reads + restart_log_reads g newest blocks }
     ensures writes { IsTrue (S.state site.old).honest → IsQuiet (S.state site.old)
         → (g : Geometry) (newest : Option Master) (blocks : List (List LogRecord))
         → IsSound newest g (S.state site.old).image blocks

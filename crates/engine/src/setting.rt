@@ -53,6 +53,7 @@ impl Engine {
 
         // Of every site.
         ensures works { KeepsInvariant result self.old.store self.new.store (S.state site.old) (S.state site.new) 2 }
+        ensures log_reads { (S.state site.new).log_reads ≡ (S.state site.old).log_reads }
         ensures rest { self.new ≡ record self.old { store = self.new.store } }
         ensures asks { StepsMachine result (one_change (number / 32)) self.old.store.pages self.new.store.pages
             (S.state site.old) (S.state site.new) }
@@ -94,6 +95,7 @@ impl Engine {
 
         // Of every site.
         ensures serves { KeepsEngine result self.old self.new (S.state site.old) (S.state site.new) }
+        ensures log_reads { (S.state site.new).log_reads ≡ (S.state site.old).log_reads }
         ensures asks { StepsMachine result (one_change (number / 32)) self.old.store.pages self.new.store.pages
             (S.state site.old) (S.state site.new) }
     {
@@ -144,6 +146,7 @@ impl Engine {
 
         // Of every site.
         ensures serves { KeepsEngine result self.old self.new (S.state site.old) (S.state site.new) }
+        ensures log_reads { (S.state site.new).log_reads ≡ (S.state site.old).log_reads }
         ensures ended { OnErr result (self.new.ended ≡ true) }
         ensures worn_flash { IsErrOf result (Stop.Worn Dev.Flash)
             → Overflows (rules self.old.store.pages) (one_change (number / 32)) (cache_of self.old.store.pages) }
@@ -176,6 +179,7 @@ impl Engine {
 
         // Of every site.
         ensures serves { KeepsEngine result self.old self.new (S.state site.old) (S.state site.new) }
+        ensures log_reads { (S.state site.new).log_reads ≡ (S.state site.old).log_reads }
         ensures ended { OnErr result (self.new.ended ≡ true) }
         ensures worn_flash { IsErrOf result (Stop.Worn Dev.Flash)
             → Overflows (rules self.old.store.pages) (one_change (number / 32)) (cache_of self.old.store.pages)

@@ -8,7 +8,7 @@ ghost use Rattle.record_model.specs.declared.words.Command.{Command};
 ghost use Rattle.record_model.specs.declared.words.Why.{Why};
 ghost use Rattle.record_model.specs.declared.words.Reply.{Reply};
 ghost use Rattle.record_model.specs.State.{State, Content, table_with, writes_of, session_at};
-ghost use Rattle.record_model.specs.Step.{effect};
+ghost use Rattle.record_model.specs.Step.{effect, makes_checkpoint};
 ghost use Rattle.log_records.specs.declared.log_record.LogRecord.{LogRecord};
 ghost use Rattle.log_records.specs.Log.{Entry};
 ghost use Rattle.log_laws.specs.Follow.{writes_in};
@@ -16,6 +16,7 @@ ghost use Rattle.txn_table.specs.Entries.{entry_of, owed};
 ghost use Rattle.log_store.specs.Representation.{end_of};
 ghost use Rattle.image_meaning.specs.Moments as moments;
 ghost use Rattle.redo_undo.specs.Committing.{MayCommit};
+ghost use Rattle.redo_undo.specs.Filling.{Fills};
 ghost use Rattle.engine.specs.Invariant.{Invariant, sizes_of};
 ghost use Rattle.engine.specs.Permits.{MayBegin};
 ghost use Rattle.redo_undo.specs.Stores.{MayLog};
@@ -28,6 +29,7 @@ ghost use Rattle.page_store.specs.Caching.{cache_of, rules};
 ghost use Rattle.checkpoint.specs.declared.master.Master.{Master};
 ghost use Rattle.engine.specs.Calls.{KeepsEngine, Does, Answers};
 ghost use Rattle.engine.specs.Numbers.{checkpoints_by};
+ghost use Rattle.engine.specs.LogReads.{undo_reads};
 ghost use Rattle.redo_undo.specs.StoreCalls.{KeepsInvariant, Keeps};
 
 use crate::engine::{Engine, SESSIONS};
@@ -69,7 +71,10 @@ impl Engine {
 
         // Of every site.
         ensures serves { KeepsEngine result self.old self.new (S.state site.old) (S.state site.new) }
+        ensures log_reads { (S.state site.new).log_reads ≡ (S.state site.old).log_reads }
         ensures ended { OnErr result (self.new.ended ≡ true) }
+        ensures fills { OnOk result (Fills 1 self.old.store.log self.new.store.log self.old.store.pages
+            self.new.store.pages) }
         ensures stops { IfErr result (λ stop. (stop ≡ Stop.Device Dev.Log) ⊎ (stop ≡ Stop.Worn Dev.Log)) }
     {
         hold_together();
@@ -95,9 +100,14 @@ impl Engine {
             (command_touches true s (Command.Begin session))
             (LeavesTable (sizes_of self.old.store) s.table s.commits (S.state site.old).told)
             (checkpoints_by s (Command.Begin session)) }
+        ensures fills { (s : State) → Matches self.old (S.state site.old) s
+            → makes_checkpoint true s (Command.Begin session) ≡ false
+            → OnOk result (Fills 1 self.old.store.log self.new.store.log self.old.store.pages
+            self.new.store.pages) }
 
         // Of every site.
         ensures serves { KeepsEngine result self.old self.new (S.state site.old) (S.state site.new) }
+        ensures log_reads { (S.state site.new).log_reads ≡ (S.state site.old).log_reads }
         ensures ended { OnErr result (self.new.ended ≡ true) }
         ensures worn_flash { IsErrOf result (Stop.Worn Dev.Flash)
             → Overflows (rules self.old.store.pages) checkpoint_works (cache_of self.old.store.pages) }
@@ -122,8 +132,11 @@ impl Engine {
 
         // Of every site.
         ensures serves { KeepsEngine result self.old self.new (S.state site.old) (S.state site.new) }
+        ensures log_reads { (S.state site.new).log_reads ≡ (S.state site.old).log_reads }
         ensures asks { StepsMachine result ([]) self.old.store.pages self.new.store.pages
             (S.state site.old) (S.state site.new) }
+        ensures fills { OnOk result (Fills 1 self.old.store.log self.new.store.log self.old.store.pages
+            self.new.store.pages) }
         ensures stops { IfErr result (λ stop. (stop ≡ Stop.Device Dev.Log) ⊎ (stop ≡ Stop.Worn Dev.Log)) }
     {
         let born = self.store.made;
@@ -165,6 +178,7 @@ impl Engine {
 
         // Of every site.
         ensures works { KeepsInvariant result self.old.store self.new.store (S.state site.old) (S.state site.new) 1 }
+        ensures log_reads { (S.state site.new).log_reads ≡ (S.state site.old).log_reads }
         ensures reply { IfOk result (λ reply. reply ≡ Reply.Committed (self.old.commits + 1)) }
         ensures rest { self.new ≡ record self.old { store = self.new.store; commits = self.new.commits } }
         ensures commits { OnOk result (self.new.commits ≡ self.old.commits + 1) }
@@ -199,6 +213,7 @@ impl Engine {
 
         // Of every site.
         ensures serves { KeepsEngine result self.old self.new (S.state site.old) (S.state site.new) }
+        ensures log_reads { (S.state site.new).log_reads ≡ (S.state site.old).log_reads }
         ensures asks { StepsMachine result ([]) self.old.store.pages self.new.store.pages
             (S.state site.old) (S.state site.new) }
         ensures stops { IfErr result (λ stop. (stop ≡ Stop.Device Dev.Log) ⊎ (stop ≡ Stop.Worn Dev.Log)) }
@@ -226,6 +241,7 @@ impl Engine {
 
         // Of every site.
         ensures serves { KeepsEngine result self.old self.new (S.state site.old) (S.state site.new) }
+        ensures log_reads { (S.state site.new).log_reads ≡ (S.state site.old).log_reads }
         ensures ended { OnErr result (self.new.ended ≡ true) }
         ensures stops { IfErr result (λ stop. (stop ≡ Stop.Device Dev.Log) ⊎ (stop ≡ Stop.Worn Dev.Log)) }
     {
@@ -257,6 +273,8 @@ impl Engine {
             → StepsMachine result
             (map (λ write. write_touch write.0) (reverse (writes_of (session_at s entry.session))))
             self.old.store.pages self.new.store.pages (S.state site.old) (S.state site.new) }
+        ensures log_reads { (s : State) → Matches self.old (S.state site.old) s
+            → (S.state site.new).log_reads ≤ (S.state site.old).log_reads + undo_reads (session_at s entry.session) }
 
         // Of every site.
         ensures serves { KeepsEngine result self.old self.new (S.state site.old) (S.state site.new) }
@@ -282,6 +300,8 @@ impl Engine {
             (command_touches true s (Command.Abort session))
             (LeavesTable (sizes_of self.old.store) s.table s.commits (S.state site.old).told)
             (checkpoints_by s (Command.Abort session)) }
+        ensures log_reads { (s : State) → Matches self.old (S.state site.old) s
+            → (S.state site.new).log_reads ≤ (S.state site.old).log_reads + undo_reads (session_at s session) }
 
         // Of every site.
         ensures serves { KeepsEngine result self.old self.new (S.state site.old) (S.state site.new) }

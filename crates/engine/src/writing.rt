@@ -1,6 +1,6 @@
 // A session's writes.
 ghost use Rattle.std.specs.Prelude.{Option, ◌≡◌, ◌/◌, ◌<◌, ◌≤◌, length, true, Some, None, IsSome, IfSome, IfNone, IfOk};
-ghost use Rattle.std.specs.Prelude.{OnErr, IsErrOf};
+ghost use Rattle.std.specs.Prelude.{◌+◌, OnOk, OnErr, IsErrOf};
 ghost use Rattle.site.specs.declared.outside.Dev.{Dev};
 ghost use Rattle.site.specs.declared.outside.Stop.{Stop};
 ghost use Rattle.site.specs.State.{State as Site};
@@ -9,7 +9,8 @@ ghost use Rattle.record_model.specs.declared.words.Why.{Why};
 ghost use Rattle.record_model.specs.declared.words.Reply.{Reply};
 ghost use Rattle.record_model.specs.State.{State};
 ghost use Rattle.byte_fields.specs.declared.TheConstants.{VALUE_MAX};
-ghost use Rattle.log_records.specs.Spelling.{IsShort};
+ghost use Rattle.log_records.specs.Spelling.{IsShort, content_spelling};
+ghost use Rattle.redo_undo.specs.Filling.{Fills};
 ghost use Rattle.txn_table.specs.Entries.{entry_of};
 ghost use Rattle.engine.specs.Invariant.{Invariant, sizes_of};
 ghost use Rattle.engine.specs.Permits.{MayWrite};
@@ -50,9 +51,13 @@ impl Engine {
             → Does result self.old self.new (S.state site.old) (S.state site.new) s
             (with_write s entry.session (number, after.now))
             (LeavesTable (sizes_of self.old.store) s.table s.commits (S.state site.old).told) 0 }
+        ensures fills { (s : State) → Matches self.old (S.state site.old) s
+            → OnOk result (Fills (143 + length (content_spelling after.now)) self.old.store.log
+            self.new.store.log self.old.store.pages self.new.store.pages) }
 
         // Of every site.
         ensures serves { KeepsEngine result self.old self.new (S.state site.old) (S.state site.new) }
+        ensures log_reads { (S.state site.new).log_reads ≡ (S.state site.old).log_reads }
         ensures asks { StepsMachine result (one_change (number / 32)) self.old.store.pages self.new.store.pages
             (S.state site.old) (S.state site.new) }
     {
@@ -132,9 +137,13 @@ impl Engine {
             (command_touches true s (Command.Write session number value.now))
             (LeavesTable (sizes_of self.old.store) s.table s.commits (S.state site.old).told)
             (checkpoints_by s (Command.Write session number value.now)) }
+        ensures fills { (s : State) → Matches self.old (S.state site.old) s
+            → OnOk result (Fills (144 + length value.now) self.old.store.log self.new.store.log self.old.store.pages
+            self.new.store.pages) }
 
         // Of every site.
         ensures serves { KeepsEngine result self.old self.new (S.state site.old) (S.state site.new) }
+        ensures log_reads { (S.state site.new).log_reads ≡ (S.state site.old).log_reads }
         ensures ended { OnErr result (self.new.ended ≡ true) }
         ensures worn_flash { IsErrOf result (Stop.Worn Dev.Flash)
             → Overflows (rules self.old.store.pages) (one_change (number / 32)) (cache_of self.old.store.pages) }
@@ -187,9 +196,13 @@ impl Engine {
             (run s (Command.Erase session number)) (command_touches true s (Command.Erase session number))
             (LeavesTable (sizes_of self.old.store) s.table s.commits (S.state site.old).told)
             (checkpoints_by s (Command.Erase session number)) }
+        ensures fills { (s : State) → Matches self.old (S.state site.old) s
+            → OnOk result (Fills 144 self.old.store.log self.new.store.log self.old.store.pages
+            self.new.store.pages) }
 
         // Of every site.
         ensures serves { KeepsEngine result self.old self.new (S.state site.old) (S.state site.new) }
+        ensures log_reads { (S.state site.new).log_reads ≡ (S.state site.old).log_reads }
         ensures ended { OnErr result (self.new.ended ≡ true) }
         ensures worn_flash { IsErrOf result (Stop.Worn Dev.Flash)
             → Overflows (rules self.old.store.pages) (one_change (number / 32)) (cache_of self.old.store.pages) }

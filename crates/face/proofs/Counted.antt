@@ -1,5 +1,9 @@
 -- How many numbers a run gives to the rings on the log's device, line by line.
-use Rattle.std.proofs.Common.{◌≡◌, ℕ, suc, ◌+◌, ◌≤◌, Bool, true, false, List, [], ◌∷◌, ◌++◌, take, drop, refl, sym, ◌∙◌, ap, subst, arith}
+use Rattle.face.specs.Filled.{FillsBy, line_octets}
+use Rattle.face.proofs.Fillings.{filled_blocks, octets_next, first_fill}
+use Rattle.engine.specs.Paging.{cache_on}
+use Rattle.page_store.specs.Caching.{cache_of, next_group}
+use Rattle.std.proofs.Common.{◌≡◌, ℕ, suc, ◌+◌, ◌*◌, ◌≤◌, Bool, true, false, List, [], ◌∷◌, ◌++◌, take, drop, refl, sym, ◌∙◌, ap, subst, arith}
 use Rattle.std.specs.Prelude.{Result, Ok, Err, Some, None, if◌then◌else◌}
 use Rattle.std_lemmas.proofs.Results.{on_ok}
 use Rattle.std.proofs.lemmas.Result.{on_ok_weaker}
@@ -135,9 +139,11 @@ module _ (run : Run) (records : List Entry) (entry : Site) where
       }
 
   -- and where it doesn't
-  pub first_counted : (engine : Engine) (mid now : Site) → now.image ≡ mid.image → RestartsWithin {T = Engine} (Ok engine) (λ e. e.store.log) run.geometry records entry mid → IsCounted run records entry.image now.image engine 0
-  first_counted engine mid now same within = record {
+  pub first_counted : (engine : Engine) (mid now : Site) → now.image ≡ mid.image → RestartsWithin {T = Engine} (Ok engine) (λ e. e.store.log) run.geometry records entry mid → Invariant engine now →
+      next_group (cache_on run.geometry entry.image) ≤ next_group (cache_of engine.store.pages) → IsCounted run records entry.image now.image engine 0
+  first_counted engine mid now same within may rise = record {
     log = let few = within.log in omega (arith, few);
+    fills = let few = within.log in let filled = filled_blocks engine.store.log may.store.both.log_going.high in omega (arith, few, filled, rise);
     numbers = restart_fails (Ok engine) (λ e. e.store.log) mid now same within;
   }
 
@@ -173,14 +179,16 @@ module _ (run : Run) (records : List Entry) (entry : Site) where
         }
 
     -- it was answered
-    pub next_counted : {T E : Type 0} (x : T) → CountsOn {T = T} {E = E} (Ok x) engine engine' next new (state_at run i) (step (state_at run i) line []).after (line_checkpoints (state_at run i) line) → IsCounted run records entry.image new.image engine' (suc i)
-    next_counted {T} {E} x c =
+    pub next_counted : {T E : Type 0} (x : T) → CountsOn {T = T} {E = E} (Ok x) engine engine' next new (state_at run i) (step (state_at run i) line []).after (line_checkpoints (state_at run i) line) → FillsBy (line_octets (state_at run i) line) engine engine' →
+        IsCounted run records entry.image new.image engine' (suc i)
+    next_counted {T} {E} x c fills =
         let before = made_are run i in
         let made = made_next in
         let log = counted.log in
         record {
           log = let few = c.log in omega (arith, few, log, before, made);
           numbers = counts_next (Ok x) c;
+          fills = let so_far = counted.fills in let octets = octets_next run i line rest is in omega (arith, so_far, fills, octets);
         }
 
 -- it doesn't depend on what the cache lists
@@ -191,6 +199,7 @@ counted_on run listings records old now engine i counted =
     let checkpoints = checkpoints_are own i ∙ sym (checkpoints_are run i) in
     record {
       log = let log = counted.log in omega (arith, log, made);
+      fills = let fills = counted.fills in let there = first_fill i run.opening run.lines listings in let here = first_fill i run.opening run.lines run.listings in omega (arith, fills, there, here);
       numbers = record {
         blocks = let blocks = counted.numbers.blocks in omega (arith, blocks, made);
         masters = let masters = counted.numbers.masters in omega (arith, masters, checkpoints);

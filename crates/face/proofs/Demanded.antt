@@ -1,4 +1,8 @@
 -- What a run asks of the devices, by how it ends.
+use Rattle.face.proofs.Fillings.{seals_all}
+use Rattle.image_changes.specs.Rings.{log_shape}
+use Rattle.sealed_ring.specs.Ring.{hi_of}
+use Rattle.face.specs.Filled.{SealsNoMore}
 use Rattle.std.proofs.Common.{◌≡◌, ◌⊎◌, inl, inr, ⊎_elim, ℕ, ◌≤◌, List, length, sym, ◌∙◌, ap, subst, arith}
 use Rattle.std.specs.Prelude.{Ok, Err, IsErrOf}
 use Rattle.site.specs.declared.outside.Dev.TheVariants.{Flash}
@@ -27,21 +31,22 @@ same_halt : {T : Type 0} (h is : Halt) → IsErrOf {T = T} (Err h) is → h ≡ 
 same_halt h is same = cc
 
 module _ (pool : ℕ) (run : Run) (old new : Site) where
-  pub demands_ok : {T : Type 0} (x : T) → NeverWears pool run old.image → LeavesItsQueue pool run old.image new.image → LeavesVersions pool run old.image new.image → SkipsNoNumber run old.image new.image → AsksNoMore pool run old new →
+  pub demands_ok : {T : Type 0} (x : T) → NeverWears pool run old.image → LeavesItsQueue pool run old.image new.image → LeavesVersions pool run old.image new.image → SealsNoMore pool run old.image new.image → SkipsNoNumber run old.image new.image → AsksNoMore pool run old new →
       Demands pool run old new (Ok x)
-  demands_ok x room queue versions numbers reads = record { worn = λ is. absurd (no_error x (halt.Stop (Worn Flash)) is); room = room; queue = queue; versions = versions; numbers = numbers; reads = reads }
+  demands_ok x room queue versions seals numbers reads = record { seals = seals; worn = λ is. absurd (no_error x (halt.Stop (Worn Flash)) is); room = room; queue = queue; versions = versions; numbers = numbers; reads = reads }
 
   pub demands_err : {T : Type 0} (h : Halt) → (h ≡ halt.Stop (Worn Flash) → WearsOut pool run old.image) → SkipsNoNumber run old.image new.image → AsksNoMore pool run old new → Demands {T = T} pool run old new (Err h)
-  demands_err {T} h worn numbers reads = record { worn = λ is. worn (same_halt {T = T} h (halt.Stop (Worn Flash)) is); room = tt; queue = tt; versions = tt; numbers = numbers; reads = reads }
+  demands_err {T} h worn numbers reads = record { worn = λ is. worn (same_halt {T = T} h (halt.Stop (Worn Flash)) is); room = tt; queue = tt; versions = tt; seals = tt; numbers = numbers; reads = reads }
 
 -- where something more is told
 module _ (pool : ℕ) (run : Run) (old mid new : Site) (image : new.image ≡ mid.image) (reads : SameReads mid new) {piece : List ℕ} (tells : EachMoment mid new (TellsPart piece mid)) where
   still_reads : AsksNoMore pool run old mid → AsksNoMore pool run old new
-  still_reads few newest blocks sound = few_told _ _ _ _ old mid new reads tells (few newest blocks sound)
+  still_reads few newest blocks sound = few_told _ _ _ _ _ old mid new reads tells (few newest blocks sound)
 
   pub demands_done : {T U : Type 0} (x : T) (y : U) → Demands pool run old mid (Ok x) → Demands pool run old new (Ok y)
   demands_done x y d = demands_ok pool run old new y d.room (λ newest blocks sound. ap (λ (i : Image). cache_on run.geometry i) image ∙ d.queue newest blocks sound)
       (λ newest blocks sound. subst (λ (i : Image). VersionsAreSeen run.geometry (cache_by pool run (turns_of run) newest old.image blocks).pool i (left_by run.opening (turns_of run))) (sym image) (d.versions newest blocks sound))
+      (λ newest blocks sound. let same = ap (λ (i : Image). hi_of (log_shape run.geometry) i.log) image in let seals = d.seals newest blocks sound in omega (arith, same, seals))
       (skips_still run old.image mid.image new.image image d.numbers) (still_reads d.reads)
 
   pub demands_lost : {T U : Type 0} (x : T) → Demands pool run old mid (Ok x) → Demands {T = U} pool run old new (Err halt.Output)
@@ -58,6 +63,7 @@ module _ (pool : ℕ) (run : Run) (n : ℕ) (old new : Site) where
     room = λ zero. never_wears pool run n all old.image d.room;
     frames = λ zero. leaves_its_queue pool run n all old.image new.image d.queue;
     versions = λ zero. leaves_versions pool run n all old.image new.image d.versions;
+    seals = λ zero. seals_all pool run n all old.image new.image d.seals;
     numbers = d.numbers;
     reads = d.reads;
   }
@@ -68,6 +74,7 @@ module _ (pool : ℕ) (run : Run) (n : ℕ) (old new : Site) where
     room = λ zero. absurd (some zero);
     frames = λ zero. absurd (some zero);
     versions = λ zero. absurd (some zero);
+    seals = λ zero. absurd (some zero);
     numbers = d.numbers;
     reads = d.reads;
   }

@@ -1,4 +1,5 @@
 -- How a run comes to its end.
+use Rattle.face.specs.Filled.{SealsNoMore}
 use Rattle.std.proofs.Common.{◌≡◌, ◌≢◌, ◌⊎◌, inl, inr, ⊎_elim, IsTrue, ℕ, ◌≤◌, List, [], ◌∷◌, ◌++◌, length, suc, refl, sym, ◌∙◌, ap, subst, arith}
 use Rattle.std.specs.Prelude.{Ok, Err, true, false, Bool}
 use Rattle.std.proofs.lemmas.List.{append-nil}
@@ -105,9 +106,9 @@ module _ (pool : ℕ) (run : Run) (old mid new : Site) (engine : Engine) (source
       }
 
   -- there are no more lines
-  pub finished : {T : Type 0} (x : T) → to_hear source mid ≡ [] → new.input.left ≡ [] → NeverWears pool (first_lines run i) old.image → LeavesItsQueue pool (first_lines run i) old.image new.image → LeavesVersions pool (first_lines run i) old.image new.image → SkipsNoNumber (first_lines run i) old.image new.image →
+  pub finished : {T : Type 0} (x : T) → to_hear source mid ≡ [] → new.input.left ≡ [] → NeverWears pool (first_lines run i) old.image → LeavesItsQueue pool (first_lines run i) old.image new.image → LeavesVersions pool (first_lines run i) old.image new.image → SealsNoMore pool (first_lines run i) old.image new.image → SkipsNoNumber (first_lines run i) old.image new.image →
       RunOutcome pool run old new (Ok x)
-  finished x none left room queue versions numbers =
+  finished x none left room queue versions seals numbers =
       let f = has_heard_all old.input.left source mid i cut is_source old new refl none left in
       record {
         heard = i;
@@ -117,7 +118,7 @@ module _ (pool : ℕ) (run : Run) (old mid new : Site) (engine : Engine) (source
         stops = tt;
         begun = begun_before run old new engine i going;
         done = (inl refl, f.1, going.moments, ended run old new engine i going, going.quiet);
-        demands = demands_ok pool (first_lines run i) old new x room queue versions numbers reads;
+        demands = demands_ok pool (first_lines run i) old new x room queue versions seals numbers reads;
         listed = listed;
         answers = answers;
       }
@@ -143,9 +144,9 @@ module _ (pool : ℕ) (run : Run) (old mid next new : Site) (source source' : So
   }
 
   -- a quit was answered
-  pub quitted : {T : Type 0} (x : T) (engine : Engine) → is_quit line ≡ true → Going run old new engine (suc i) → NeverWears pool (first_lines run (suc i)) old.image → LeavesItsQueue pool (first_lines run (suc i)) old.image new.image → LeavesVersions pool (first_lines run (suc i)) old.image new.image → SkipsNoNumber (first_lines run (suc i)) old.image new.image →
+  pub quitted : {T : Type 0} (x : T) (engine : Engine) → is_quit line ≡ true → Going run old new engine (suc i) → NeverWears pool (first_lines run (suc i)) old.image → LeavesItsQueue pool (first_lines run (suc i)) old.image new.image → LeavesVersions pool (first_lines run (suc i)) old.image new.image → SealsNoMore pool (first_lines run (suc i)) old.image new.image → SkipsNoNumber (first_lines run (suc i)) old.image new.image →
       RunOutcome pool run old new (Ok x)
-  quitted x engine quits going room queue versions numbers =
+  quitted x engine quits going room queue versions seals numbers =
       let all = quit_is_last old.input.left source mid i cut is_source source' next line h last is' quits in
       record {
         heard = suc i;
@@ -155,7 +156,7 @@ module _ (pool : ℕ) (run : Run) (old mid next new : Site) (source source' : So
         stops = tt;
         begun = begun_before run old new engine (suc i) going;
         done = (inr all.1, all.0, going.moments, ended run old new engine (suc i) going, going.quiet);
-        demands = demands_ok pool (first_lines run (suc i)) old new x room queue versions numbers reads;
+        demands = demands_ok pool (first_lines run (suc i)) old new x room queue versions seals numbers reads;
         listed = listed;
         answers = answers;
       }

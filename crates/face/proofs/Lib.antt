@@ -9,6 +9,7 @@ mod Demanded
 mod Endings
 mod Ends
 mod Faults
+mod Fillings
 mod Firsts
 mod Fronts
 mod Heard

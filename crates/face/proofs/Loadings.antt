@@ -1,4 +1,8 @@
 -- What a load leaves: while it opens, while its lines are carried out, and when they are done.
+use Rattle.image_changes.specs.Rings.{log_shape}
+use Rattle.sealed_ring.specs.Ring.{hi_of}
+use Rattle.face.specs.Filled.{octets_of}
+use Rattle.face.proofs.Fillings.{first_fill, next_there}
 use Rattle.flash_cache.specs.Representation.{start_reads}
 use Rattle.std.proofs.Common.{◌≡◌, ◌⊎◌, inl, inr, ⊎_elim, ℕ, zero, suc, ◌+◌, ◌-◌, ◌*◌, ◌<◌, ◌≤◌, ◌^◌, Bool, true, List, [], ◌++◌, length, take, drop, refl, sym, ◌∙◌, ap, subst, arith, take-append-drop}
 use Rattle.std.specs.Prelude.{Option, Result, Ok, Err, IsErrOf, count_by}
@@ -34,8 +38,8 @@ use Rattle.face.specs.declared.request.Load.{Load}
 use Rattle.face.specs.Going.{Going, IsCounted, IsPaged}
 use Rattle.face.specs.Loads.{CarriesFirst, CarriesOut, HasBegunLoad, IsLeftOf, IsOpened, IsUntold, LeavesSome, LoadStops, LoadWorks}
 use Rattle.face.specs.Range.{AsksNoMore, IsLeft, SkipsNoNumber, StandsAfter, WearsOut, all_commits, cache_by, first_texts, run_of, texts}
-use Rattle.face.specs.Run.{AsksFew, Run, StandsFor, after_lines, answered, checkpoints_of, first_lines, works_of, turns_of}
-use Rattle.face.specs.Working.{StandsNear, Stops, asked_after}
+use Rattle.face.specs.Run.{AsksFew, Run, StandsFor, after_lines, answered, checkpoints_of, first_lines, works_of, turns_of, log_reads_of}
+use Rattle.face.specs.Working.{StandsNear, Stops, asked_after, log_reads_after}
 use Rattle.face.specs.Texts.{status_of}
 use Rattle.face.specs.Workload.{get_line, load_run, numbers_of, opening_text, set_line, set_lines, get_lines}
 use Rattle.face.proofs.Counted.{skips_course}
@@ -44,7 +48,7 @@ use Rattle.face.proofs.UntoldLines.{carries_all, leaves_first}
 use Rattle.face.proofs.Fronts.{state_by_turns}
 use Rattle.face.proofs.Lefts.{left_first, left_none, none_among}
 use Rattle.face.proofs.Demanded.{demands_err, demands_ok}
-use Rattle.face.proofs.Pagings.{first_ask}
+use Rattle.face.proofs.Pagings.{first_ask, first_log_reads}
 use Rattle.face.proofs.Ranges.{all_among, stands_after}
 use Rattle.face.proofs.LinesBeforeQuit.{NoneQuits, all_answered, count_join, none_quits_join, none_quits_map}
 use Rattle.face.proofs.LoadCounts.{get_goes, set_goes}
@@ -129,6 +133,12 @@ module _ (g : Geometry) (opening : State) (load : Load) where
         let restart = restart_works (picture_under newest g image blocks) in
         ap (λ (w : List CacheWork). restart ++ w) (first_ask n opening run.lines [] ∙ ap (λ (l : List Line). works_of opening (take n l)) all_lines)
         ∙ ap (λ (w : List CacheWork). w ++ works_of opening (take n run.lines)) (sym (append-nil restart))
+
+    -- and how often they read the log
+    first_read : (n : ℕ) (newest : Option Master) (blocks : List (List LogRecord)) → log_reads_after run newest blocks n ≡ log_reads_after opening_run newest blocks 0 + log_reads_of opening (take n run.lines)
+    first_read n newest blocks =
+        let lines = first_log_reads n opening run.lines [] ∙ ap (λ (l : List Line). log_reads_of opening (take n l)) all_lines in
+        omega (arith, lines)
 
     -- where it never opened no line was begun
     none_begun : (new : Site) (h : Halt) → Stops opening_run 0 old new h → HasBegunLoad run 0 old new
@@ -233,8 +243,9 @@ module _ (g : Geometry) (opening : State) (load : Load) where
             let p = paged newest blocks sound in
             let r = rules_of load.pool g.groups in
             let opening_works = asked_after opening_run newest old.image blocks 0 in
-            subst (λ (w : List CacheWork). AsksFew load.pool g w old new) (sym (first_asked some.begun newest old.image blocks))
+            subst (λ (w : List CacheWork). AsksFew load.pool g w (log_reads_after run newest blocks some.begun) old new) (sym (first_asked some.begun newest old.image blocks))
             (record {
+              log_reads = (let opened = (read newest blocks sound).log_reads in let later = (some.course.serves opening going.fits).log_reads in let all = first_read some.begun newest blocks in omega (arith, opened, later, all));
               reads = reads_add r opening_works (works_of opening first) (cache_on g old.image) (record old { flash_reads = old.flash_reads + start_reads g }) mid new (read newest blocks sound).reads
                   (subst (λ (c : Cache). ReadsFor r (works_of opening first) c mid new) p.machine
                   (subst (λ (x : Rules). ReadsFor x (works_of opening first) (cache_of before.store.pages) mid new) p.rules_are (some.course.serves opening going.fits).reads));
@@ -299,6 +310,16 @@ module _ (g : Geometry) (opening : State) (load : Load) where
                 (subst (λ (y : Geometry). VersionsAreSeen y cache.pool new.image (after_lines opening run.lines [])) (course.sizes ∙ going.geometry)
                 (subst (λ (c : Cache). VersionsAreSeen (sizes_of after.store) c.pool new.image (after_lines opening run.lines [])) ((some.course.serves opening going.fits).machine ∙ next_is (Ok x) some newest blocks sound)
                 (seen after new (after_lines opening run.lines []) (course.fits opening going.fits)))))
+                (λ newest blocks sound.
+                let there : after.store.log.ring.hi ≡ hi_of (log_shape run.geometry) new.image.log =
+                next_there after new (after_lines opening run.lines []) (course.fits opening going.fits) course.going ∙ ap (λ (y : Geometry). hi_of (log_shape y) new.image.log) (course.sizes ∙ going.geometry) in
+                let next = ap (λ (c : Cache). next_group c) ((some.course.serves opening going.fits).machine ∙ next_is (Ok x) some newest blocks sound) in
+                let opened = (counted newest blocks sound).fills in
+                let later = course.fills opening going.fits going.quiet in
+                let all : take some.begun (answered run) ≡ run.lines = take_all some.begun (answered run) (let same = ap length all_lines in omega (arith, same)) ∙ all_lines in
+                let lines = first_fill some.begun opening run.lines [] ∙ ap (λ (l : List Line). octets_of opening l) all in
+                let low = course.going.store.both.log_going.low in
+                omega (arith, there, next, opened, later, lines, low))
                 (numbers_are (Ok x) some) (reads_are (Ok x) some);
             left = left_new (Ok x) some;
           }

@@ -50,7 +50,7 @@ still g opening old good =
 
 -- nothing was read
 reads_nothing : NumbersRise → (pool : ℕ) (run : Run) (site : Site) → IsQuiet site → AsksNoMore pool (first_lines run 0) site site
-reads_nothing rise pool run site quiet newest blocks sound = none_read pool run.geometry _ site rise (let least = sound.octets.limits.groups in omega (arith, least)) quiet
+reads_nothing rise pool run site quiet newest blocks sound = none_read pool run.geometry _ _ site rise (let least = sound.octets.limits.groups in omega (arith, least)) quiet
 
 pub lacked_headline : Serial → NumbersRise → (pool : ℕ) (g : Geometry) (opening : State) (old new : Site) → {T : Type 0} (result : Result T Failed) → IsGood g opening old → Tells memory_fault old new result → Headline pool g opening old new 4
 lacked_headline law rise pool g opening old new result good tells =

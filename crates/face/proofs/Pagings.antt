@@ -1,10 +1,11 @@
 -- What a run asks of the page cache, line by line.
+use Rattle.engine.specs.LogReads.{restart_log_reads}
 use Rattle.flash_cache.specs.Representation.{start_reads}
 use Rattle.std.proofs.Common.{◌≡◌, ℕ, suc, ◌+◌, ◌^◌, ◌<◌, ◌≤◌, Bool, true, false, List, [], ◌∷◌, ◌++◌, length, take, drop, arith, refl, sym, ap, subst, ◌∙◌, append_assoc, take-append-drop, ◌-◌, IsTrue}
 use Rattle.std.specs.Prelude.{Result, Ok, Err, Option, Some, None, IfErr, IsErrOf, if◌then◌else◌}
 use Rattle.std.proofs.lemmas.List.{append-nil}
 use Rattle.site.specs.Calls.{SameReads}
-use Rattle.site.specs.declared.outside.Dev.TheVariants.{Flash, Disk}
+use Rattle.site.specs.declared.outside.Dev.TheVariants.{Flash, Disk, Log}
 use Rattle.site.specs.declared.outside.Stop.{Stop}
 use Rattle.site.specs.declared.outside.Stop.TheVariants.{Worn, Memory}
 use Rattle.site.specs.State.{State as Site, Image}
@@ -45,9 +46,9 @@ use Rattle.face.proofs.LinesBeforeQuit.{works_join}
 use Rattle.face.proofs.Turns.{first_answered}
 use Rattle.site.specs.declared.geometry.Geometry.{Geometry}
 use Rattle.face.specs.Going.{IsPaged, LineStepsMachine}
-use Rattle.face.specs.Range.{run_of, works_by, cache_by, LeavesItsQueue, LeavesVersions, WearsOut, NeverWears}
-use Rattle.face.specs.Run.{Run, answered, first_lines, step, after_lines, state_at, works_of, AsksFew, turns_of}
-use Rattle.face.specs.Working.{asked_after}
+use Rattle.face.specs.Range.{run_of, works_by, cache_by, LeavesItsQueue, LeavesVersions, WearsOut, NeverWears, log_reads_in}
+use Rattle.face.specs.Run.{Run, answered, first_lines, step, after_lines, state_at, works_of, AsksFew, turns_of, line_log_reads, log_reads_of}
+use Rattle.face.specs.Working.{asked_after, log_reads_after}
 
 -- Lines. What they ask doesn't depend on what the cache lists.
 
@@ -120,6 +121,44 @@ asked_next run newest image blocks i line rest is =
     ∙ ap (λ (w : List CacheWork). restart ++ w) (touches_join first (turn_at run i line rest is ∷ []) ∙ ap (λ (w : List CacheWork). run_touches true first ++ w) (append-nil own))
     ∙ sym (append_assoc restart (run_touches true first) own)
 
+-- How often the log is read.
+
+-- some turns, and those behind them
+log_reads_join : (first later : List Turn) → log_reads_in (first ++ later) ≡ log_reads_in first + log_reads_in later
+log_reads_join [] later = omega arith
+log_reads_join (t ∷ first) later = let rest = log_reads_join first later in omega (arith, rest)
+
+-- the turns of a run, as its lines
+turns_read_log : (s : State) (lines : List Line) (listings : List (List CacheLine)) → log_reads_in (turns true s lines listings) ≡ log_reads_of s (up_to_quit lines)
+turns_read_log s [] listings = refl
+turns_read_log s (line ∷ lines) listings =
+    by (is_quit line) (turns_read_log (step s line (next_listing listings)).after lines (later_listings line listings) ∙ ap (λ (x : State). log_reads_of x (up_to_quit lines)) (after_same s line (next_listing listings) []))
+  where
+    by : (b : Bool) → log_reads_in (turns true (step s line (next_listing listings)).after lines (later_listings line listings)) ≡ log_reads_of (step s line []).after (up_to_quit lines) →
+        line_log_reads s line + log_reads_in (if b then [] else turns true (step s line (next_listing listings)).after lines (later_listings line listings)) ≡ line_log_reads s line + log_reads_of (step s line []).after (if b then [] else up_to_quit lines)
+    by true later = refl
+    by false later = ap (λ (n : ℕ). line_log_reads s line + n) later
+
+-- its first turns, as its first lines
+pub first_log_reads : (n : ℕ) (s : State) (lines : List Line) (listings : List (List CacheLine)) → log_reads_in (turns true s (take n lines) listings) ≡ log_reads_of s (take n (up_to_quit lines))
+first_log_reads n s lines listings = turns_read_log s (take n lines) listings ∙ ap (log_reads_of s) (first_answered n lines)
+
+-- whatever the cache lists
+pub log_reads_with : (run : Run) (listings : List (List CacheLine)) (newest : Option Master) (blocks : List (List LogRecord)) (n : ℕ) → log_reads_after (record run { listings = listings }) newest blocks n ≡ log_reads_after run newest blocks n
+log_reads_with run listings newest blocks n =
+    let own = first_log_reads n run.opening run.lines listings in
+    let same = first_log_reads n run.opening run.lines run.listings in
+    omega (arith, own, same)
+
+-- a line more
+pub log_reads_next : (run : Run) (newest : Option Master) (blocks : List (List LogRecord)) (i : ℕ) (line : Line) (rest : List Line) → drop i (answered run) ≡ line ∷ rest →
+    log_reads_after run newest blocks (suc i) ≡ log_reads_after run newest blocks i + line_log_reads (state_at run i) line
+log_reads_next run newest blocks i line rest is =
+    let first = turns_of (first_lines run i) in
+    let all : log_reads_in (turns_of (first_lines run (suc i))) ≡ log_reads_in first + (line_log_reads (state_at run i) line + 0) =
+    ap log_reads_in (turns_next run i line rest is) ∙ log_reads_join first (turn_at run i line rest is ∷ []) in
+    omega (arith, all)
+
 -- Reads.
 
 -- where nothing is read
@@ -133,15 +172,17 @@ reads_still r works cache before mid now same few =
     }
 
 -- where something is told
-pub few_told : (pool : ℕ) (g : Geometry) (works : List CacheWork) (piece : List ℕ) (old mid now : Site) → SameReads mid now → EachMoment mid now (TellsPart piece mid) → AsksFew pool g works old mid → AsksFew pool g works old now
-few_told pool g works piece old mid now same tells few = record {
+pub few_told : (pool : ℕ) (g : Geometry) (works : List CacheWork) (n : ℕ) (piece : List ℕ) (old mid now : Site) → SameReads mid now → EachMoment mid now (TellsPart piece mid) → AsksFew pool g works n old mid → AsksFew pool g works n old now
+few_told pool g works n piece old mid now same tells few = record {
+  log_reads = let read = few.log_reads in let none : now.log_reads ≡ mid.log_reads = same Log in omega (arith, read, none);
   reads = reads_still (rules_of pool g.groups) works (cache_on g old.image) (record old { flash_reads = old.flash_reads + start_reads g }) mid now same few.reads;
   writes = writes_told g (rules_of pool g.groups) works (cache_on g old.image) piece old mid now few.writes tells;
 }
 
 -- or heard
-pub few_heard : (pool : ℕ) (g : Geometry) (works : List CacheWork) (old mid now : Site) → HearsOnly mid now → AsksFew pool g works old mid → AsksFew pool g works old now
-few_heard pool g works old mid now same few = record {
+pub few_heard : (pool : ℕ) (g : Geometry) (works : List CacheWork) (n : ℕ) (old mid now : Site) → HearsOnly mid now → AsksFew pool g works n old mid → AsksFew pool g works n old now
+few_heard pool g works n old mid now same few = record {
+  log_reads = let read = few.log_reads in let none : now.log_reads ≡ mid.log_reads = same.reads Log in omega (arith, read, none);
   reads = reads_still (rules_of pool g.groups) works (cache_on g old.image) (record old { flash_reads = old.flash_reads + start_reads g }) mid now same.reads few.reads;
   writes = writes_heard g (rules_of pool g.groups) works (cache_on g old.image) old mid now few.writes same;
 }
@@ -152,8 +193,9 @@ none_read_there r works cache extra site rise some = record {
   disk = omega arith;
 }
 
-pub none_read : (pool : ℕ) (g : Geometry) (works : List CacheWork) (site : Site) → NumbersRise → 1 ≤ g.groups - 1 → IsQuiet site → AsksFew pool g works site site
-none_read pool g works site rise some quiet = record {
+pub none_read : (pool : ℕ) (g : Geometry) (works : List CacheWork) (n : ℕ) (site : Site) → NumbersRise → 1 ≤ g.groups - 1 → IsQuiet site → AsksFew pool g works n site site
+none_read pool g works n site rise some quiet = record {
+  log_reads = omega arith;
   reads = none_read_there (rules_of pool g.groups) works (cache_on g site.image) (start_reads g) site rise some;
   writes = still_writes rise g (rules_of pool g.groups) works site site some quiet (unchanged site);
 }
@@ -173,11 +215,12 @@ module _ (pool : ℕ) (run : Run) (newest : Option Master) (image : Image) (bloc
   }
 
   pub first_reads : {T : Type 0} (result : Result T Stop) (pages : T → PageStore) (old mid new : Site) → SameReads mid new → WritesFrom run.geometry r (restart_works (picture_under newest run.geometry image blocks)) (cache_on run.geometry old.image) old new → AsksFrom result pages r (restart_works (picture_under newest run.geometry image blocks)) (cache_on run.geometry old.image) (start_reads run.geometry) old mid →
-      AsksFew pool run.geometry (asked_after run newest image blocks 0) old new
-  first_reads result pages old mid new same writes asks =
+      mid.log_reads ≤ old.log_reads + restart_log_reads run.geometry newest blocks → AsksFew pool run.geometry (asked_after run newest image blocks 0) (log_reads_after run newest blocks 0) old new
+  first_reads result pages old mid new same writes asks read =
       let restart = restart_works (picture_under newest run.geometry image blocks) in
-      subst (λ (w : List CacheWork). AsksFew pool run.geometry w old new) (sym (append-nil restart))
-      (record { reads = reads_still r restart (cache_on run.geometry old.image) (record old { flash_reads = old.flash_reads + start_reads run.geometry }) mid new same (record { flash = asks.flash; disk = asks.disk }); writes = writes })
+      let none : new.log_reads ≡ mid.log_reads = same Log in
+      subst (λ (w : List CacheWork). AsksFew pool run.geometry w (log_reads_after run newest blocks 0) old new) (sym (append-nil restart))
+      (record { log_reads = omega (arith, read, none); reads = reads_still r restart (cache_on run.geometry old.image) (record old { flash_reads = old.flash_reads + start_reads run.geometry }) mid new same (record { flash = asks.flash; disk = asks.disk }); writes = writes })
 
   pub never_paged : Overflows r (restart_works (picture_under newest run.geometry image blocks)) (cache_on run.geometry image) → Overflows r (asked_after run newest image blocks 0) (cache_on run.geometry image)
   never_paged over = subst (λ (w : List CacheWork). Overflows r w (cache_on run.geometry image)) (sym (append-nil (restart_works (picture_under newest run.geometry image blocks)))) over
@@ -191,22 +234,23 @@ module _ (pool : ℕ) (run : Run) (newest : Option Master) (image : Image) (bloc
         ∙ ap (λ (w : List CacheWork). after_works r w (cache_on run.geometry image)) (sym (asked_next run newest image blocks i line rest is))
 
     -- it is answered
-    pub next_paged : {T : Type 0} (x : T) (engine' : Engine) (before now : Site) → LineStepsMachine {T = T} (Ok x) (line_touches true (state_at run i) line) engine.store.pages engine'.store.pages before now → IsPaged pool run newest image blocks engine' (suc i)
+    pub next_paged : {T : Type 0} (x : T) (engine' : Engine) (before now : Site) → LineStepsMachine {T = T} (Ok x) (line_touches true (state_at run i) line) (line_log_reads (state_at run i) line) engine.store.pages engine'.store.pages before now → IsPaged pool run newest image blocks engine' (suc i)
     next_paged x engine' before now serves = record { machine = serves.machine ∙ next_is; rules_are = serves.rules_are ∙ paged.rules_are }
 
     -- however that ends, no more is read than it asks for
-    pub next_reads : ReadsAddUp → (entry mid next new : Site) → entry.image ≡ image → HearsOnly mid next → AsksFew pool run.geometry (asked_after run newest image blocks i) entry mid → engine.store.pages.flash.geometry ≡ run.geometry → 1 ≤ run.geometry.groups - 1 →
+    pub next_reads : ReadsAddUp → (entry mid next new : Site) → entry.image ≡ image → HearsOnly mid next → AsksFew pool run.geometry (asked_after run newest image blocks i) (log_reads_after run newest blocks i) entry mid → engine.store.pages.flash.geometry ≡ run.geometry → 1 ≤ run.geometry.groups - 1 →
         ReadsFor (rules engine.store.pages) (line_touches true (state_at run i) line) (cache_of engine.store.pages) next new → WritesFrom engine.store.pages.flash.geometry (rules engine.store.pages) (line_touches true (state_at run i) line) (cache_of engine.store.pages) next new →
-        AsksFew pool run.geometry (asked_after run newest image blocks (suc i)) entry new
-    next_reads reads_add entry mid next new at same so_far sizes some later written =
+        new.log_reads ≤ next.log_reads + line_log_reads (state_at run i) line → AsksFew pool run.geometry (asked_after run newest image blocks (suc i)) (log_reads_after run newest blocks (suc i)) entry new
+    next_reads reads_add entry mid next new at same so_far sizes some later written read =
         let before : Site = record entry { flash_reads = entry.flash_reads + start_reads run.geometry } in
         let first = reads_still r (asked_after run newest image blocks i) (cache_on run.geometry entry.image) before mid next same.reads so_far.reads in
         let there : cache_of engine.store.pages ≡ after_works r (asked_after run newest image blocks i) (cache_on run.geometry entry.image) =
         paged.machine ∙ ap (λ (x : Image). after_works r (asked_after run newest image blocks i) (cache_on run.geometry x)) (sym at) in
         let own : ReadsFor r (line_touches true (state_at run i) line) (after_works r (asked_after run newest image blocks i) (cache_on run.geometry entry.image)) next new =
         subst (λ (c : Cache). ReadsFor r (line_touches true (state_at run i) line) c next new) there (subst (λ (x : Rules). ReadsFor x (line_touches true (state_at run i) line) (cache_of engine.store.pages) next new) paged.rules_are later) in
-        subst (λ (w : List CacheWork). AsksFew pool run.geometry w entry new) (sym (asked_next run newest image blocks i line rest is))
+        subst (λ (w : List CacheWork). AsksFew pool run.geometry w (log_reads_after run newest blocks (suc i)) entry new) (sym (asked_next run newest image blocks i line rest is))
         (record {
+          log_reads = let few = so_far.log_reads in let none : next.log_reads ≡ mid.log_reads = same.reads Log in let more = log_reads_next run newest blocks i line rest is in omega (arith, few, none, read, more);
           reads = reads_add r (asked_after run newest image blocks i) (line_touches true (state_at run i) line) (cache_on run.geometry entry.image) before next new first own;
           writes = writes_then run.geometry r (asked_after run newest image blocks i) (line_touches true (state_at run i) line) (cache_on run.geometry entry.image) entry next new some
               (writes_heard run.geometry r (asked_after run newest image blocks i) (cache_on run.geometry entry.image) entry mid next so_far.writes same)
@@ -264,20 +308,20 @@ listing_asks (Ok x) pages now stops = idle_asks x pages now
 listing_asks (Err stop) pages now stops = idle_stops stop pages now stops
 
 -- a call of the engine, as a line is served
-pub serves_ok : {A B : Type 0} (a : A) (b : B) (works : List CacheWork) (old new : PageStore) (before mid now : Site) → SameReads mid now → {piece : List ℕ} → (IsTrue before.honest → EachMoment mid now (TellsPart piece mid)) → StepsMachine {T = A} (Ok a) works old new before mid → LineStepsMachine {T = B} (Ok b) works old new before now
-serves_ok {A} {B} a b works old new before mid now same {piece} tells asks = record { machine = asks.machine; worn = λ is. absurd (no_error is); reads = reads_still (rules old) works (cache_of old) before mid now same asks.reads; rules_are = asks.rules_are; writes = λ has quiet. writes_told old.flash.geometry (rules old) works (cache_of old) piece before mid now (asks.stages.writes has quiet) (tells has.fits.honest); geometry = asks.stages.sizes }
+pub serves_ok : {A B : Type 0} (a : A) (b : B) (works : List CacheWork) (n : ℕ) (old new : PageStore) (before mid now : Site) → SameReads mid now → mid.log_reads ≤ before.log_reads + n → {piece : List ℕ} → (IsTrue before.honest → EachMoment mid now (TellsPart piece mid)) → StepsMachine {T = A} (Ok a) works old new before mid → LineStepsMachine {T = B} (Ok b) works n old new before now
+serves_ok {A} {B} a b works n old new before mid now same read {piece} tells asks = record { log_reads = let none : now.log_reads ≡ mid.log_reads = same Log in omega (arith, read, none); machine = asks.machine; worn = λ is. absurd (no_error is); reads = reads_still (rules old) works (cache_of old) before mid now same asks.reads; rules_are = asks.rules_are; writes = λ has quiet. writes_told old.flash.geometry (rules old) works (cache_of old) piece before mid now (asks.stages.writes has quiet) (tells has.fits.honest); geometry = asks.stages.sizes }
   where
     no_error : IsErrOf {T = B} (Ok b) (halt.Stop (Worn Flash)) → ⊥
     no_error is = cc
 
-pub serves_err : {A B : Type 0} (stop : Stop) (works : List CacheWork) (old new : PageStore) (before now : Site) → StepsMachine {T = A} (Err stop) works old new before now → LineStepsMachine {T = B} (Err (halt.Stop stop)) works old new before now
-serves_err {A} {B} stop works old new before now asks = record { machine = tt; worn = λ is. asks.worn (ap Err (same is)); reads = asks.reads; rules_are = asks.rules_are; writes = asks.stages.writes; geometry = asks.stages.sizes }
+pub serves_err : {A B : Type 0} (stop : Stop) (works : List CacheWork) (n : ℕ) (old new : PageStore) (before now : Site) → now.log_reads ≤ before.log_reads + n → StepsMachine {T = A} (Err stop) works old new before now → LineStepsMachine {T = B} (Err (halt.Stop stop)) works n old new before now
+serves_err {A} {B} stop works n old new before now read asks = record { log_reads = read; machine = tt; worn = λ is. asks.worn (ap Err (same is)); reads = asks.reads; rules_are = asks.rules_are; writes = asks.stages.writes; geometry = asks.stages.sizes }
   where
     same : IsErrOf {T = B} (Err (halt.Stop stop)) (halt.Stop (Worn Flash)) → stop ≡ Worn Flash
     same is = cc
 
-pub serves_lost : {A B : Type 0} (a : A) (works : List CacheWork) (old new : PageStore) (before mid now : Site) → SameReads mid now → {piece : List ℕ} → (IsTrue before.honest → EachMoment mid now (TellsPart piece mid)) → StepsMachine {T = A} (Ok a) works old new before mid → LineStepsMachine {T = B} (Err halt.Output) works old new before now
-serves_lost {A} {B} a works old new before mid now same {piece} tells asks = record { machine = tt; worn = λ is. absurd (no_error is); reads = reads_still (rules old) works (cache_of old) before mid now same asks.reads; rules_are = asks.rules_are; writes = λ has quiet. writes_told old.flash.geometry (rules old) works (cache_of old) piece before mid now (asks.stages.writes has quiet) (tells has.fits.honest); geometry = asks.stages.sizes }
+pub serves_lost : {A B : Type 0} (a : A) (works : List CacheWork) (n : ℕ) (old new : PageStore) (before mid now : Site) → SameReads mid now → mid.log_reads ≤ before.log_reads + n → {piece : List ℕ} → (IsTrue before.honest → EachMoment mid now (TellsPart piece mid)) → StepsMachine {T = A} (Ok a) works old new before mid → LineStepsMachine {T = B} (Err halt.Output) works n old new before now
+serves_lost {A} {B} a works n old new before mid now same read {piece} tells asks = record { log_reads = let none : now.log_reads ≡ mid.log_reads = same Log in omega (arith, read, none); machine = tt; worn = λ is. absurd (no_error is); reads = reads_still (rules old) works (cache_of old) before mid now same asks.reads; rules_are = asks.rules_are; writes = λ has quiet. writes_told old.flash.geometry (rules old) works (cache_of old) piece before mid now (asks.stages.writes has quiet) (tells has.fits.honest); geometry = asks.stages.sizes }
   where
     no_error : IsErrOf {T = B} (Err halt.Output) (halt.Stop (Worn Flash)) → ⊥
     no_error is = cc

@@ -1,4 +1,6 @@
 -- Lines that are carried out while nothing is told: none, some and some more, and some of all.
+use Rattle.face.proofs.Fillings.{fills_same, ok_then, octets_of_both}
+use Rattle.face.specs.Filled.{octets_of}
 use Rattle.std.proofs.Common.{◌≡◌, ⊎_elim, true, suc, ℕ, ◌+◌, ◌<◌, ◌≤◌, ◌^◌, List, [], ◌∷◌, ◌++◌, length, take, refl, sym, ◌∙◌, ap, subst, arith, length-append}
 use Rattle.std.specs.Prelude.{Result, Ok, Err, IfErr, OnOk, IsErrOf}
 use Rattle.std.proofs.lemmas.List.{append-nil, take-append-le, take_all}
@@ -30,7 +32,7 @@ use Rattle.face.specs.declared.halt.Halt.TheVariants as halt
 use Rattle.face.specs.Causes.{AnswerFailsBy}
 use Rattle.face.specs.Going.{LineStepsMachine}
 use Rattle.face.specs.Loads.{CarriesFirst, CarriesOut, LeavesSome}
-use Rattle.face.specs.Run.{StandsFor, after_lines, checkpoints_of, step, works_of}
+use Rattle.face.specs.Run.{StandsFor, after_lines, checkpoints_of, step, works_of, log_reads_of, line_log_reads}
 use Rattle.engine.specs.Numbers.{RestCountsNothing}
 use Rattle.face.proofs.Counted.{checkpoints_join, counts_err, counts_join, counts_none, counts_then}
 use Rattle.face.proofs.Logs.{fits_stands}
@@ -87,8 +89,9 @@ carries_none {T} x engine site rest going = record {
   });
   last = λ s fits quiet snapshot left. (0, omega arith, subst (λ (i : Image). StandsFor (sizes_of engine.store) i s) (sym (image_is (now_of site) snapshot quiet left)) (fits_stands engine site s going.store.both.sizes fits));
   fits = λ s fits. fits;
-  serves = λ s fits. record { machine = refl; worn = λ is. absurd (no_error is); reads = record { flash = omega arith; disk = omega arith }; rules_are = refl; writes = λ has calm. writes_nothing engine.store.pages site has calm; geometry = refl };
+  serves = λ s fits. record { log_reads = omega arith; machine = refl; worn = λ is. absurd (no_error is); reads = record { flash = omega arith; disk = omega arith }; rules_are = refl; writes = λ has calm. writes_nothing engine.store.pages site has calm; geometry = refl };
   numbers = λ s fits quiet. counts_none (Ok x) engine site s rest fits going;
+  fills = λ s fits quiet. fills_same 0 engine;
   left = λ honest. refl;
   stays_quiet = λ honest quiet. quiet;
   quiet = λ s fits quiet. tt;
@@ -107,8 +110,9 @@ carries_with {T} {U} x y lines a b old new one = record {
   any_moment = one.any_moment;
   last = one.last;
   fits = one.fits;
-  serves = λ s fits. let serves = one.serves s fits in record { machine = serves.machine; worn = λ is. absurd (no_error is); reads = serves.reads; rules_are = serves.rules_are; writes = serves.writes; geometry = serves.geometry };
+  serves = λ s fits. let serves = one.serves s fits in record { log_reads = serves.log_reads; machine = serves.machine; worn = λ is. absurd (no_error is); reads = serves.reads; rules_are = serves.rules_are; writes = serves.writes; geometry = serves.geometry };
   numbers = λ s fits quiet. counts_then x (Ok y) a b old new new s _ _ refl (one.numbers s fits quiet);
+  fills = one.fills;
   left = one.left;
   stays_quiet = one.stays_quiet;
   quiet = λ s fits quiet. tt;
@@ -120,6 +124,14 @@ carries_with {T} {U} x y lines a b old new one = record {
   where
     no_error : IsErrOf {T = U} (Ok y) (halt.Stop (Worn Flash)) → ⊥
     no_error is = cc
+
+-- how often some lines read the log, and those behind them
+pub log_reads_of_both : (s : State) (first later : List Line) → log_reads_of s (first ++ later) ≡ log_reads_of s first + log_reads_of (after_lines s first []) later
+log_reads_of_both s [] later = omega arith
+log_reads_of_both s (line ∷ first) later =
+    let rest = log_reads_of_both (step s line []).after first later in
+    let same = ap (λ (x : State). log_reads_of x later) (after_cons s line first) in
+    omega (arith, rest, same)
 
 -- some lines, and then some more
 module _ {T U : Type 0} (add : WorksAddUp) (reads_add : ReadsAddUp) (x : T) (result : Result U Halt) (first later : List Line) (a b c : Engine) (old mid new : Site) (one : CarriesOut (Ok x) first a b old mid) (two : CarriesOut result later b c mid new) where
@@ -145,7 +157,7 @@ module _ {T U : Type 0} (add : WorksAddUp) (reads_add : ReadsAddUp) (x : T) (res
             (subst (λ (g : Geometry). StandsFor g snapshot.image (after_lines (after_lines s first []) (take l.0 later) [])) one.sizes l.2),
       )
 
-  serves_join : (s : State) → Matches a old s → LineStepsMachine result (works_of s (first ++ later)) a.store.pages c.store.pages old new
+  serves_join : (s : State) → Matches a old s → LineStepsMachine result (works_of s (first ++ later)) (log_reads_of s (first ++ later)) a.store.pages c.store.pages old new
   serves_join s fits =
       let front = one.serves s fits in
       let back = two.serves (after_lines s first []) (one.fits s fits) in
@@ -154,6 +166,7 @@ module _ {T U : Type 0} (add : WorksAddUp) (reads_add : ReadsAddUp) (x : T) (res
       ∙ sym (add (rules a.store.pages) (works_of s first) (works_of (after_lines s first []) later) (cache_of a.store.pages))
       ∙ ap (λ (w : List CacheWork). after_works (rules a.store.pages) w (cache_of a.store.pages)) (sym (works_join s first later)) in
       record {
+        log_reads = (let one_read = front.log_reads in let two_read = back.log_reads in let all = log_reads_of_both s first later in omega (arith, one_read, two_read, all));
         machine = subst (λ (z : Cache). OnOk result (cache_of c.store.pages ≡ z)) same back.machine;
         worn = λ is. subst (λ (z : Cache). 2 ^ 40 < next_group z) same (back.worn is);
         reads = subst (λ (w : List CacheWork). ReadsFor (rules a.store.pages) w (cache_of a.store.pages) old new) (sym (works_join s first later))
@@ -187,6 +200,7 @@ module _ {T U : Type 0} (add : WorksAddUp) (reads_add : ReadsAddUp) (x : T) (res
     fits = λ s fits. subst (λ (x : State). OnOk result (Matches c new x)) (sym (after_join s first later)) (two.fits (after_lines s first []) (one.fits s fits));
     serves = serves_join;
     numbers = numbers_join;
+    fills = λ s fits quiet. ok_then result (octets_of s first) (octets_of (after_lines s first []) later) (octets_of s (first ++ later)) a b c (octets_of_both s first later) (one.fills s fits quiet) (two.fills (after_lines s first []) (one.fits s fits) (one.stays_quiet fits.honest quiet));
     left = λ honest. two.left (stays_honest old mid one.goes honest) ∙ one.left honest;
     stays_quiet = λ honest quiet. two.stays_quiet (stays_honest old mid one.goes honest) (one.stays_quiet honest quiet);
     quiet = λ s fits quiet. two.quiet (after_lines s first []) (one.fits s fits) (one.stays_quiet fits.honest quiet);
@@ -202,8 +216,9 @@ carries_err {T} {U} h lines a b old new one = record {
   any_moment = one.any_moment;
   last = one.last;
   fits = λ s fits. tt;
-  serves = λ s fits. let serves = one.serves s fits in record { machine = tt; worn = λ is. serves.worn (ap Err (same_halt is)); reads = serves.reads; rules_are = serves.rules_are; writes = serves.writes; geometry = serves.geometry };
+  serves = λ s fits. let serves = one.serves s fits in record { log_reads = serves.log_reads; machine = tt; worn = λ is. serves.worn (ap Err (same_halt is)); reads = serves.reads; rules_are = serves.rules_are; writes = serves.writes; geometry = serves.geometry };
   numbers = λ s fits quiet. counts_err h h a b old new s _ _ (one.numbers s fits quiet);
+  fills = λ s fits quiet. tt;
   left = one.left;
   stays_quiet = λ honest quiet. tt;
   quiet = one.quiet;
@@ -272,5 +287,8 @@ leaves_line g s line old new leaves =
 pub last_line : (g : Geometry) (s : State) (line : Line) (old new : Site) → LeavesOnly old new (LeavesEither g s (step s line []).after old.told) → (snapshot : Snapshot) → MayLeave (now_of new) snapshot → (done : ℕ) × (length (line ∷ []) ≤ done + 1) × StandsFor g snapshot.image (after_lines s (take done (line ∷ [])) [])
 last_line g s line old new leaves snapshot left = let l = (leaves_line g s line old new leaves).now snapshot left in (l.done, omega arith, l.stands)
 
-pub serves_line : {T : Type 0} (result : Result T Halt) (s : State) (line : Line) (old new : PageStore) (before now : Site) → LineStepsMachine result (line_touches true s line) old new before now → LineStepsMachine result (works_of s (line ∷ [])) old new before now
-serves_line result s line old new before now serves = subst (λ (w : List CacheWork). LineStepsMachine result w old new before now) (sym (append-nil (line_touches true s line))) serves
+pub serves_line : {T : Type 0} (result : Result T Halt) (s : State) (line : Line) (old new : PageStore) (before now : Site) → LineStepsMachine result (line_touches true s line) (line_log_reads s line) old new before now → LineStepsMachine result (works_of s (line ∷ [])) (log_reads_of s (line ∷ [])) old new before now
+serves_line result s line old new before now serves =
+    let one : line_log_reads s line ≡ log_reads_of s (line ∷ []) = omega arith in
+    subst (λ (n : ℕ). LineStepsMachine result (works_of s (line ∷ [])) n old new before now) one
+    (subst (λ (w : List CacheWork). LineStepsMachine result w (line_log_reads s line) old new before now) (sym (append-nil (line_touches true s line))) serves)

@@ -1,5 +1,5 @@
 -- A run under way.
-use Rattle.std.specs.Prelude.{◌≡◌, ℕ, ◌+◌, ◌≤◌, [], ◌++◌, List, length, Option, Result, OnOk, IsErrOf}
+use Rattle.std.specs.Prelude.{◌≡◌, ℕ, ◌+◌, ◌*◌, ◌≤◌, [], ◌++◌, List, length, Option, Result, OnOk, IsErrOf}
 use Rattle.site.specs.State.{State as Site, Image, IsQuiet, no_loose}
 use Rattle.site.specs.Moments.{LeavesOnly}
 use Rattle.record_model.specs.declared.words.CacheLine.{CacheLine}
@@ -13,7 +13,7 @@ use Rattle.log_records.specs.declared.log_record.LogRecord.{LogRecord}
 use Rattle.checkpoint.specs.declared.master.Master.{Master}
 use Rattle.second_chance.specs.Machine.{rules_of, after_works}
 use Rattle.page_store.specs.declared.store.PageStore.{PageStore}
-use Rattle.page_store.specs.Caching.{cache_of, rules}
+use Rattle.page_store.specs.Caching.{cache_of, next_group, rules}
 use Rattle.redo_undo.specs.MachineSteps.{Overflows, ReadsFor}
 use Rattle.engine.specs.Paging.{WritesFrom, cache_on}
 use Rattle.page_store.specs.Staging.{HasQueueOn}
@@ -24,8 +24,9 @@ use Rattle.image_changes.specs.Rings.{log_shape}
 use Rattle.log_records.specs.Log.{Entry}
 use Rattle.log_records.specs.Unfinished.{owed}
 use Rattle.redo_undo.specs.Holding.{blocks_to}
+use Rattle.face.specs.Filled.{filled, octets_in}
 use Rattle.face.specs.Range.{GivesNumbers, IsLeft, ListsTheMachine, first_texts, made_by}
-use Rattle.face.specs.Run.{Run, Begins, answered, first_lines, state_at, listings_left}
+use Rattle.face.specs.Run.{Run, Begins, answered, first_lines, state_at, listings_left, turns_of}
 use Rattle.face.specs.Working.{AnswersFirst, asked_after}
 
 -- so many lines of the run were answered
@@ -61,18 +62,22 @@ pub record IsPaged (pool : ℕ) (run : Run) (newest : Option Master) (image : Im
   pub rules_are : rules engine.store.pages ≡ rules_of pool run.geometry.groups
 
 -- The rings on the log's device have no more numbers than the run has records and checkpoints so far, over an image
--- whose log has these records.
+-- whose log has these records, and no more of its blocks is filled.
 pub record IsCounted (run : Run) (records : List Entry) (old now : Image) (engine : Engine) (lines : ℕ) : Type 0 where
   pub log : blocks_to engine.store.log ≤
       hi_of (log_shape run.geometry) old.log + owed records + made_by (first_lines run lines)
   pub numbers : GivesNumbers (first_lines run lines) records old now
+  pub fills : filled engine.store.log + 238 * next_group (cache_on run.geometry old)
+      ≤ 238 * (hi_of (log_shape run.geometry) old.log + owed records) + 503
+      + octets_in (turns_of (first_lines run lines)) + 238 * next_group (cache_of engine.store.pages)
 
--- A line asks for this work, and no more is read and written than it needs.
-pub record LineStepsMachine {T : Type 0} (result : Result T Halt) (works : List CacheWork) (old new : PageStore)
-    (before now : Site) : Type 0 where
+-- A line asks for this work, no more is read and written than it needs, and the log is read no more often than so.
+pub record LineStepsMachine {T : Type 0} (result : Result T Halt) (works : List CacheWork) (times : ℕ)
+    (old new : PageStore) (before now : Site) : Type 0 where
   pub machine : OnOk result (cache_of new ≡ after_works (rules old) works (cache_of old))
   pub worn : IsErrOf result (Stop (Worn Flash)) → Overflows (rules old) works (cache_of old)
   pub reads : ReadsFor (rules old) works (cache_of old) before now
+  pub log_reads : now.log_reads ≤ before.log_reads + times
   pub writes : HasQueueOn old before → IsQuiet before →
       WritesFrom old.flash.geometry (rules old) works (cache_of old) before now
   pub geometry : new.flash.geometry ≡ old.flash.geometry

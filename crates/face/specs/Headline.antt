@@ -15,6 +15,7 @@ use Rattle.std.specs.List.{list_any}
 use Rattle.record_model.specs.Run.{Turn, is_quit}
 use Rattle.record_model.specs.Serial.{IsSerial}
 use Rattle.shell_text.specs.Serial.{IsToldSerial}
+use Rattle.face.specs.Filled.{SealsNoMore}
 use Rattle.face.specs.Lines.{HeardAll, limit, commands_of}
 use Rattle.face.specs.Run.{Run, IsFront, first_lines, turns_of}
 use Rattle.face.specs.Range.{run_of, texts, run_text, IsLeft, IsWhole, WearsOut, NeverWears}
@@ -101,6 +102,8 @@ pub record Resources (pool : ℕ) (run : Run) (begun : ℕ) (old new : Site) (st
   pub frames : status ≡ 0 → LeavesItsQueue pool run old.image new.image
   -- and the versions of pages that its pool doesn't hold as changed show what is seen of each record
   pub versions : status ≡ 0 → LeavesVersions pool run old.image new.image
+  -- and no more blocks of the log are sealed than what is logged fills
+  pub seals : status ≡ 0 → SealsNoMore pool run old.image new.image
   -- whatever the status, with these lines no ring number is skipped on the log's device
   pub numbers : SkipsNoNumber (first_lines run begun) old.image new.image
   -- no more is read and written than they ask for

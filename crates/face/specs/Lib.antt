@@ -1,5 +1,6 @@
 pub mod Causes
 pub mod Check
+pub mod Filled
 pub mod Going
 pub mod Headline
 pub mod Image

@@ -16,12 +16,13 @@ use Rattle.face.specs.declared.halt.Halt.{Halt}
 use Rattle.face.specs.declared.halt.Halt.TheVariants.{Stop, Output}
 use Rattle.face.specs.declared.request.Load.{Load}
 use Rattle.face.specs.Causes.{AnswerFailsBy}
+use Rattle.face.specs.Filled.{FillsBy, octets_of}
 use Rattle.face.specs.Going.{LineStepsMachine}
 use Rattle.face.specs.Headline.{IsFaultOf, Resources}
 use Rattle.face.specs.Tells.{EndsBehind}
 use Rattle.face.specs.Range.{all_commits, StandsAfter}
 use Rattle.face.specs.Run.{Run, IsFront, StandsFor, after_lines, answered, first_lines, works_of, checkpoints_of}
-use Rattle.face.specs.Run.{turns_of}
+use Rattle.face.specs.Run.{log_reads_of, turns_of}
 use Rattle.engine.specs.Numbers.{CountsOn}
 use Rattle.face.specs.Texts.{IsLineOf, status_of}
 use Rattle.face.specs.Working.{Demands}
@@ -152,9 +153,10 @@ pub record CarriesOut {T : Type 0} (result : Result T Halt) (lines : List Line) 
       × StandsFor (sizes_of before.store) snapshot.image (after_lines s (take done lines) [])
   pub fits : (s : State) → Matches before old s → OnOk result (Matches after new (after_lines s lines []))
   pub serves : (s : State) → Matches before old s →
-      LineStepsMachine result (works_of s lines) before.store.pages after.store.pages old new
+      LineStepsMachine result (works_of s lines) (log_reads_of s lines) before.store.pages after.store.pages old new
   pub numbers : (s : State) → Matches before old s → IsQuiet old →
       CountsOn result before after old new s (after_lines s lines []) (checkpoints_of s lines)
+  pub fills : (s : State) → Matches before old s → IsQuiet old → OnOk result (FillsBy (octets_of s lines) before after)
   pub left : IsTrue old.honest → new.input ≡ old.input
   pub stays_quiet : IsTrue old.honest → IsQuiet old → OnOk result (IsQuiet new)
   pub quiet : (s : State) → Matches before old s → IsQuiet old →

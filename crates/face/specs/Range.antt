@@ -16,6 +16,7 @@ use Rattle.second_chance.specs.Machine.{Cache, rules_of, after_works, listing, o
 use Rattle.redo_undo.specs.MachineSteps.{next_group}
 use Rattle.engine.specs.Paging.{restart_works, cache_on}
 use Rattle.engine.specs.Image.{IsSound, Stands, log_under}
+use Rattle.engine.specs.LogReads.{restart_log_reads}
 use Rattle.engine.specs.SeenVersions.{VersionsAreSeen}
 use Rattle.sealed_ring.specs.Ring.{hi_of}
 use Rattle.image_changes.specs.Rings.{log_shape, master_shape}
@@ -24,7 +25,7 @@ use Rattle.log_records.specs.Unfinished.{owed}
 use Rattle.face.specs.Workload.{checkpoints_in}
 use Rattle.shell_text.specs.Runs.{texts as run_texts}
 use Rattle.face.specs.Lines.{commands_of}
-use Rattle.face.specs.Run.{Run, IsFront, AsksFew, turns_of}
+use Rattle.face.specs.Run.{Run, IsFront, AsksFew, line_log_reads, turns_of}
 
 -- the run that opens with this state, over the lines of these octets, with these listings of the cache
 abbrev pub run_of : Geometry → State → Bool → List ℕ → List (List CacheLine) → Run
@@ -147,14 +148,26 @@ ListsTheMachine pool run image =
     → (before later : List Turn) (t : Turn) → turns_of run ≡ before ++ t ∷ later → is_cache t.line ≡ true
     → t.reply ≡ Listing (listing (cache_by pool run before newest image blocks))
 
+-- how often these turns read the log at most
+abbrev pub log_reads_in : List Turn → ℕ
+log_reads_in [] = 0
+log_reads_in (t ∷ turns) = line_log_reads t.before t.line + log_reads_in turns
+
+-- how often a run does that has these turns, over an image with these kept blocks: the restart's reads with them
+abbrev pub log_reads_by_turns : Run → List Turn → Option Master → List (List LogRecord) → ℕ
+log_reads_by_turns run done newest blocks = restart_log_reads run.geometry newest blocks + log_reads_in done
+
 -- No more is read and written than the run asks for. A crash at any moment leaves no more groups than it appends, and
 -- each disk page that it doesn't stage as it was at entry. Pages are read, of flash at most one for each touch that
 -- finds its page there, twelve for each group that is appended, and as many as a start may read; of the disk at most
--- one for each touch that misses its page on flash.
+-- one for each touch that misses its page on flash. Of the log each slot is read once and each kept block once more,
+-- six reads beside them, and one for each Update that the restart undoes; and for each session that a line aborts one
+-- and one more for each of its writes.
 abbrev pub AsksNoMore : ℕ → Run → Site → Site → Type 0
 AsksNoMore pool run old new =
     (newest : Option Master) (blocks : List (List LogRecord)) → IsSound newest run.geometry old.image blocks
-    → AsksFew pool run.geometry (works_by run (turns_of run) newest old.image blocks) old new
+    → AsksFew pool run.geometry (works_by run (turns_of run) newest old.image blocks)
+    (log_reads_by_turns run (turns_of run) newest blocks) old new
 
 -- So many lines were begun: what the run tells before the last of them is told, the opening's text and the replies of
 -- the others, then a front of the last one's reply, or all of it, and of a fault line a front.

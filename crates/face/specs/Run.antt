@@ -1,5 +1,5 @@
 -- A run, and what is said of it line by line.
-use Rattle.std.specs.Prelude.{◌≡◌, ◌⊎◌, ℕ, ◌+◌, List, [], ◌∷◌, ◌++◌, take, IsTrue, true, Some, None}
+use Rattle.std.specs.Prelude.{◌≡◌, ◌⊎◌, ℕ, ◌+◌, ◌≤◌, List, [], ◌∷◌, ◌++◌, take, IsTrue, true, Some, None}
 use Rattle.site.specs.State.{State as Site, Snapshot, Image, no_loose}
 use Rattle.site.specs.declared.geometry.Geometry.{Geometry}
 use Rattle.record_model.specs.State.{State}
@@ -13,6 +13,7 @@ use Rattle.redo_undo.specs.MachineSteps.{ReadsFor}
 use Rattle.engine.specs.Paging.{WritesFrom, cache_on}
 use Rattle.engine.specs.Image.{Stands, Opens}
 use Rattle.engine.specs.Numbers.{checkpoints_by}
+use Rattle.engine.specs.LogReads.{log_reads_by}
 use Rattle.face.specs.Lines.{commands_of, up_to_quit}
 
 -- what a line is answered, and the state that it leaves, where the cache has this listing
@@ -63,16 +64,26 @@ abbrev pub works_of : State → List Line → List CacheWork
 works_of s [] = []
 works_of s (line ∷ lines) = line_touches true s line ++ works_of (step s line []).after lines
 
+-- how often a line reads the log at most, and how often lines do, whatever the cache lists
+abbrev pub line_log_reads : State → Line → ℕ
+line_log_reads s None = 0
+line_log_reads s (Some command) = log_reads_by s command
+
+abbrev pub log_reads_of : State → List Line → ℕ
+log_reads_of s [] = 0
+log_reads_of s (line ∷ lines) = line_log_reads s line + log_reads_of (step s line []).after lines
+
 -- since the run opened on this site no more is read than this work needs, and of flash as often as a start may beside
 -- it
 abbrev pub ReadsFew : ℕ → Geometry → List CacheWork → Site → Site → Type 0
 ReadsFew pool g works old now = ReadsFor (rules_of pool g.groups) works (cache_on g old.image)
     (record old { flash_reads = old.flash_reads + start_reads g }) now
 
--- and no more is written: a crash at any moment leaves no more groups than this work appends, and each disk page that
--- it doesn't stage as it was when the run opened
-pub record AsksFew (pool : ℕ) (g : Geometry) (works : List CacheWork) (old now : Site) : Type 0 where
+-- the log no more often than so, and no more is written: a crash at any moment leaves no more groups than this work
+-- appends, and each disk page that it doesn't stage as it was when the run opened
+pub record AsksFew (pool : ℕ) (g : Geometry) (works : List CacheWork) (times : ℕ) (old now : Site) : Type 0 where
   pub reads : ReadsFew pool g works old now
+  pub log_reads : now.log_reads ≤ old.log_reads + times
   pub writes : WritesFrom g (rules_of pool g.groups) works (cache_on g old.image) old now
 
 -- how many checkpoints a line makes, and how many lines make, whatever the cache lists

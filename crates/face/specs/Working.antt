@@ -13,9 +13,11 @@ use Rattle.log_records.specs.declared.log_record.LogRecord.{LogRecord}
 use Rattle.checkpoint.specs.declared.master.Master.{Master}
 use Rattle.face.specs.declared.halt.Halt.{Halt}
 use Rattle.face.specs.declared.halt.Halt.TheVariants.{Stop, Output, Input, Limit}
+use Rattle.face.specs.Filled.{SealsNoMore}
 use Rattle.face.specs.Lines.{HeardAll, answered_of, commands_of, limit}
 use Rattle.face.specs.Range.{AsksNoMore, HasBegun, IsLeft, IsWhole, LeavesItsQueue, LeavesVersions, ListsTheMachine}
-use Rattle.face.specs.Range.{NeverWears, SkipsNoNumber, StandsAfter, WearsOut, first_texts, texts, works_by}
+use Rattle.face.specs.Range.{NeverWears, SkipsNoNumber, StandsAfter, WearsOut, first_texts, log_reads_by_turns, texts}
+use Rattle.face.specs.Range.{works_by}
 use Rattle.face.specs.Run.{Run, first_lines, turns_of}
 use Rattle.face.specs.Texts.{status_of}
 use Rattle.face.specs.Waiting.{NobodyWaits}
@@ -23,6 +25,10 @@ use Rattle.face.specs.Waiting.{NobodyWaits}
 -- what a run over this image has asked once it has answered so many lines
 abbrev pub asked_after : Run → Option Master → Image → List (List LogRecord) → ℕ → List CacheWork
 asked_after run newest image blocks lines = works_by run (turns_of (first_lines run lines)) newest image blocks
+
+-- and how often it may have read the log by then
+abbrev pub log_reads_after : Run → Option Master → List (List LogRecord) → ℕ → ℕ
+log_reads_after run newest blocks lines = log_reads_by_turns run (turns_of (first_lines run lines)) newest blocks
 
 -- where so many texts were told whole, the devices stand for the table after some number of commits that this allows
 abbrev pub StandsNear : Run → ℕ → Image → Type 0
@@ -80,6 +86,7 @@ pub record Demands {T : Type 0} (pool : ℕ) (run : Run) (old new : Site) (resul
   pub room : OnOk result (NeverWears pool run old.image)
   pub queue : OnOk result (LeavesItsQueue pool run old.image new.image)
   pub versions : OnOk result (LeavesVersions pool run old.image new.image)
+  pub seals : OnOk result (SealsNoMore pool run old.image new.image)
   pub numbers : SkipsNoNumber run old.image new.image
   pub reads : AsksNoMore pool run old new
 

@@ -14,7 +14,8 @@ ghost use Rattle.engine.specs.Listings.{listing_of};
 ghost use Rattle.engine.specs.Numbers.{CountsOn};
 ghost use Rattle.face.specs.Causes.{AnswerFailsBy};
 ghost use Rattle.shell_text.specs.Texts.{reply_text};
-ghost use Rattle.face.specs.Run.{step, IsAsked, LeavesAnswer, line_checkpoints};
+ghost use Rattle.face.specs.Filled.{FillsBy, line_octets};
+ghost use Rattle.face.specs.Run.{step, IsAsked, LeavesAnswer, line_checkpoints, line_log_reads};
 ghost use Rattle.record_model.specs.Touches.{line_touches};
 ghost use Rattle.face.specs.Going.{LineStepsMachine};
 
@@ -48,12 +49,15 @@ pub fn answer<S: Site>(engine: &mut Engine, site: &mut S, line: Option<Command>)
         → IsQuiet (S.state site.old)
         → IfErr result (λ halt. halt ≢ Halt.Output → (S.state site.new).told ≡ (S.state site.old).told) }
     ensures asks { (s : State) → Matches engine.old (S.state site.old) s
-        → LineStepsMachine result (line_touches true s line) engine.old.store.pages engine.new.store.pages
-        (S.state site.old) (S.state site.new) }
+        → LineStepsMachine result (line_touches true s line) (line_log_reads s line) engine.old.store.pages
+        engine.new.store.pages (S.state site.old) (S.state site.new) }
     ensures numbers { (s : State) → Matches engine.old (S.state site.old) s
         → IsQuiet (S.state site.old)
         → CountsOn result engine.old engine.new (S.state site.old) (S.state site.new)
         s (step s line []).after (line_checkpoints s line) }
+    ensures fills { (s : State) → Matches engine.old (S.state site.old) s
+        → IsQuiet (S.state site.old)
+        → OnOk result (FillsBy (line_octets s line) engine.old engine.new) }
     ensures left { IsTrue (S.state site.old).honest → (S.state site.new).input ≡ (S.state site.old).input }
     ensures stays_quiet { IsTrue (S.state site.old).honest → IsQuiet (S.state site.old)
         → OnOk result (IsQuiet (S.state site.new)) }

@@ -1,5 +1,5 @@
 // The commands are carried out.
-ghost use Rattle.std.specs.Prelude.{◌≡◌, ◌≢◌, false, true, [], List, IsTrue, IfOk, IfErr, OnOk};
+ghost use Rattle.std.specs.Prelude.{◌≡◌, ◌≢◌, ◌+◌, ◌≤◌, false, true, [], List, IsTrue, IfOk, IfErr, OnOk};
 ghost use Rattle.site.specs.Faults.{WorkFaults};
 ghost use Rattle.site.specs.declared.outside.Dev.{Dev};
 ghost use Rattle.site.specs.declared.outside.Stop.{Stop};
@@ -15,7 +15,8 @@ ghost use Rattle.engine.specs.Leaves.{LeavesEither};
 ghost use Rattle.engine.specs.Listings.{listing_of};
 ghost use Rattle.engine.specs.Numbers.{CountsOn};
 ghost use Rattle.face.specs.Causes.{FailsBy};
-ghost use Rattle.face.specs.Run.{step, IsAsked, line_checkpoints};
+ghost use Rattle.face.specs.Filled.{FillsBy, line_octets};
+ghost use Rattle.face.specs.Run.{step, IsAsked, line_checkpoints, line_log_reads};
 ghost use Rattle.record_model.specs.Touches.{line_touches};
 ghost use Rattle.redo_undo.specs.MachineSteps.{StepsMachine};
 
@@ -44,10 +45,15 @@ fn carry_out_plain<S: Site>(
     ensures asks { (s : State) → Matches engine.old (S.state site.old) s
         → StepsMachine result (line_touches true s line) engine.old.store.pages engine.new.store.pages
         (S.state site.old) (S.state site.new) }
+    ensures log_reads { (s : State) → Matches engine.old (S.state site.old) s
+        → (S.state site.new).log_reads ≤ (S.state site.old).log_reads + line_log_reads s line }
     ensures numbers { (s : State) → Matches engine.old (S.state site.old) s
         → IsQuiet (S.state site.old)
         → CountsOn result engine.old engine.new (S.state site.old) (S.state site.new)
         s (step s line []).after (line_checkpoints s line) }
+    ensures fills { (s : State) → Matches engine.old (S.state site.old) s
+        → IsQuiet (S.state site.old)
+        → OnOk result (FillsBy (line_octets s line) engine.old engine.new) }
     ensures left { IsTrue (S.state site.old).honest
         → (S.state site.new).input ≡ (S.state site.old).input }
     ensures stays_quiet { IsTrue (S.state site.old).honest → IsQuiet (S.state site.old)
@@ -123,10 +129,15 @@ pub fn carry_out<S: Site>(
     ensures asks { (s : State) → Matches engine.old (S.state site.old) s
         → StepsMachine result (line_touches true s line) engine.old.store.pages engine.new.store.pages
         (S.state site.old) (S.state site.new) }
+    ensures log_reads { (s : State) → Matches engine.old (S.state site.old) s
+        → (S.state site.new).log_reads ≤ (S.state site.old).log_reads + line_log_reads s line }
     ensures numbers { (s : State) → Matches engine.old (S.state site.old) s
         → IsQuiet (S.state site.old)
         → CountsOn result engine.old engine.new (S.state site.old) (S.state site.new)
         s (step s line []).after (line_checkpoints s line) }
+    ensures fills { (s : State) → Matches engine.old (S.state site.old) s
+        → IsQuiet (S.state site.old)
+        → OnOk result (FillsBy (line_octets s line) engine.old engine.new) }
     ensures left { IsTrue (S.state site.old).honest
         → (S.state site.new).input ≡ (S.state site.old).input }
     ensures stays_quiet { IsTrue (S.state site.old).honest → IsQuiet (S.state site.old)

@@ -8,6 +8,7 @@ pub mod CallsInSequence
 pub mod Rollbacks
 pub mod Empties
 pub mod Committed
+pub mod Fillings
 pub mod Forced
 pub mod Orderlies
 pub mod Saved

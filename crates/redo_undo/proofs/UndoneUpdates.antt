@@ -1,5 +1,6 @@
 -- Undoing what analysis has found: which Updates are compensated, and what the cache has done for them.
-use Rattle.std.proofs.Common.{◌≡◌, ℕ, ◌+◌, ◌≤◌, ◌<◌, ◌==◌, true, List, [], ◌∷◌, ◌++◌, length, Option, None, Some, refl, sym, ap, subst, ◌∙◌, append_assoc, append-nil, ◌*◌}
+use Rattle.std.proofs.Common.{◌≡◌, ℕ, ◌+◌, ◌≤◌, ◌<◌, ◌==◌, true, List, [], ◌∷◌, ◌++◌, length, Option, None, Some, refl, sym, ap, subst, ◌∙◌, append_assoc, append-nil, ◌*◌, arith, length-append, add-one}
+use Rattle.std.proofs.lemmas.List.{length-reverse}
 use Rattle.std.specs.Prelude.{Ok, Err, ⊤, find, reverse, option_map}
 use Rattle.std.proofs.lemmas.Option.{none-some, same_Some}
 use Rattle.site.specs.declared.outside.Stop.{Stop}
@@ -128,15 +129,17 @@ pub record AsksUpdates (log : LogStore) (pages : PageStore) (site : State) (newe
   pub done : List Entry
   pub updates : UndoesUpdates log pages site newest records table commits found known done
   pub asks : StepsMachine {T = ⊤} (Ok tt) (works_of done) old pages before site
+  pub read : site.log_reads ≤ before.log_reads + length done
 
 -- one Update more is undone
 pub updates_asked_more : {B : Type 0} (b : B) (log log' : LogStore) (pages pages' : PageStore) (site site' : State) (newest : Option Master) (records : List Entry) (table : List Content) (commits : ℕ) (found found' : Analysis) (known known' : ℕ) (old : PageStore) (before : State) →
     (a : AsksUpdates log pages site newest records table commits found known old before) (u : Entry) → UndoesUpdates log' pages' site' newest (records ++ a.updates.some.more) table commits found' known' (u ∷ []) → StepsMachine {T = B} (Ok b) (works_of (u ∷ [])) pages pages' site site' →
-    AsksUpdates log' pages' site' newest records table commits found' known' old before
-updates_asked_more b log log' pages pages' site site' newest records table commits found found' known known' old before a u more asks = record {
+    site'.log_reads ≤ site.log_reads + 1 → AsksUpdates log' pages' site' newest records table commits found' known' old before
+updates_asked_more b log log' pages pages' site site' newest records table commits found found' known known' old before a u more asks one = record {
   done = a.done ++ u ∷ [];
   updates = more_updates log log' pages pages' site site' newest records table commits found found' known known' a.done (u ∷ []) a.updates more;
   asks = one_more_work tt b a.done u old pages pages' before site site' a.asks asks;
+  read = let so_far = a.read in let long : length (a.done ++ u ∷ []) ≡ length a.done + 1 = length-append a.done (u ∷ []) in omega (arith, so_far, one, long);
 }
 
 -- it stops there
@@ -152,3 +155,24 @@ pub updates_asked : {B : Type 0} (b : B) (log : LogStore) (pages : PageStore) (s
     (a : AsksUpdates log pages site newest records table commits found known old before) → pending (records ++ a.updates.some.more) ≡ [] → StepsMachine {T = B} (Ok b) (undo_works records) old pages before site
 updates_asked b log pages site newest records table commits found known old before a none =
     all_work tt b (reverse (pending records)) a.done old pages before site (a.updates.left ∙ ap (λ (l : List Entry). a.done ++ reverse l) none ∙ append-nil a.done) a.asks
+
+-- No more of the log is read than there are Updates that remain: where it stops
+pub reads_stopped : (log : LogStore) (pages : PageStore) (site site' : State) (newest : Option Master) (records : List Entry) (table : List Content) (commits : ℕ) (found : Analysis) (known : ℕ) (old : PageStore) (before : State) →
+    (a : AsksUpdates log pages site newest records table commits found known old before) (u : Entry) (txn lsn : ℕ) → IsLastAt (records ++ a.updates.some.more) txn lsn u → site'.log_reads ≤ site.log_reads + 1 → site'.log_reads ≤ before.log_reads + length (pending records)
+reads_stopped log pages site site' newest records table commits found known old before a u txn lsn last one =
+    let front = last_in_front (records ++ a.updates.some.more) txn lsn u last in
+    let so_far = a.read in
+    let all : length (pending records) ≡ length (a.done ++ u ∷ front.0) = sym (length-reverse (pending records)) ∙ ap length (a.updates.left ∙ ap (λ (l : List Entry). a.done ++ l) front.1) in
+    let long = length-append a.done (u ∷ front.0) in
+    let last_one : length (u ∷ front.0) ≡ length front.0 + 1 = sym (add-one (length front.0)) in
+    omega (arith, so_far, one, all, long, last_one)
+
+-- and where all are undone
+pub reads_asked : (log : LogStore) (pages : PageStore) (site : State) (newest : Option Master) (records : List Entry) (table : List Content) (commits : ℕ) (found : Analysis) (known : ℕ) (old : PageStore) (before : State) →
+    AsksUpdates log pages site newest records table commits found known old before → site.log_reads ≤ before.log_reads + length (pending records)
+reads_asked log pages site newest records table commits found known old before a =
+    let rest = reverse (pending (records ++ a.updates.some.more)) in
+    let so_far = a.read in
+    let all : length (pending records) ≡ length (a.done ++ rest) = sym (length-reverse (pending records)) ∙ ap length a.updates.left in
+    let long = length-append a.done rest in
+    omega (arith, so_far, all, long)

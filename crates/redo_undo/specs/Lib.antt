@@ -1,5 +1,6 @@
 pub mod Calls
 pub mod Running
+pub mod Filling
 pub mod Holding
 pub mod Laws
 pub mod Numbers

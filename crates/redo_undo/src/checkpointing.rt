@@ -82,6 +82,7 @@ fn flush<S: Site>(site: &mut S, log: &mut LogStore, pages: &mut PageStore) -> Re
     ensures sealed { OnOk result (log.new.used ≡ 2) }
     ensures works { KeepsInvariant result log.old log.new pages.old pages.new (S.state site.old) (S.state site.new) }
     ensures hi { OnOk result (log.new.ring.hi ≡ log.old.ring.hi) }
+    ensures log_reads { (S.state site.new).log_reads ≡ (S.state site.old).log_reads }
 {
     log_laws();
     page_laws();
@@ -213,6 +214,7 @@ impl Store {
         ensures made { OnOk result (self.new.made + first ≡ self.old.made) }
         ensures blocks { OnOk result (blocks_to self.new.log ≡ blocks_to self.old.log) }
         ensures end { OnOk result (end_of self.old.log ≤ end_of self.new.log) }
+        ensures log_reads { (S.state site.new).log_reads ≡ (S.state site.old).log_reads }
         ensures asks { StepsMachine result checkpoint_works self.old.pages self.new.pages
             (S.state site.old) (S.state site.new) }
         ensures kept { OnOk result (self.old.log.kept ≤ self.new.log.kept) }

@@ -7,7 +7,7 @@ ghost use Rattle.site.specs.State.{State};
 ghost use Rattle.record_model.specs.State.{Content, Write};
 ghost use Rattle.log_records.specs.declared.log_record.LogRecord.{LogRecord};
 ghost use Rattle.log_records.specs.Log.{Entry};
-ghost use Rattle.log_records.specs.Spelling.{IsShort};
+ghost use Rattle.log_records.specs.Spelling.{IsShort, content_spelling};
 ghost use Rattle.log_records.specs.Unfinished as unfinished;
 ghost use Rattle.log_laws.specs.Follow.{IsActive};
 ghost use Rattle.log_store.specs.Representation.{end_of};
@@ -15,6 +15,7 @@ ghost use Rattle.page_store.specs.Representation.{IsStore};
 ghost use Rattle.checkpoint.specs.declared.master.Master.{Master};
 ghost use Rattle.image_meaning.specs.Meaning.{master_of};
 ghost use Rattle.image_meaning.specs.Moments.{LeavesFor};
+ghost use Rattle.redo_undo.specs.Filling.{Fills, FindsRoom};
 ghost use Rattle.redo_undo.specs.Holding.{blocks_to};
 ghost use Rattle.redo_undo.specs.Holding as both;
 ghost use Rattle.redo_undo.specs.Stores.{sizes_of, MayWork, MayLog, Represents, MayGrow, IsInFront, shown_in};
@@ -105,9 +106,11 @@ impl Store {
         ensures works { KeepsInvariant result self.old self.new (S.state site.old) (S.state site.new) 1 }
         ensures rises { IfOk result (λ lsn. (end_of self.old.log ≤ lsn) × (lsn < end_of self.new.log)) }
         ensures last_block { IfOk result (λ lsn. 512 * self.new.log.ring.hi ≤ lsn) }
+        ensures reads { SameReads (S.state site.old) (S.state site.new) }
         ensures asks { StepsMachine result ([]) self.old.pages self.new.pages
             (S.state site.old) (S.state site.new) }
         ensures pages { self.new.pages ≡ self.old.pages }
+        ensures fills { OnOk result (Fills 1 self.old.log self.new.log self.old.pages self.new.pages) }
         ensures stops { IfErr result (λ stop. (stop ≡ Stop.Device Dev.Log) ⊎ (stop ≡ Stop.Worn Dev.Log)) }
     {
         match log_record(site, &mut self.log, &LogRecord::Begin) {
@@ -138,6 +141,10 @@ impl Store {
         ensures front { OnOk result (IsInFront self.new number) }
         ensures made { self.new.made ≡ self.old.made }
         ensures blocks { OnOk result (blocks_to self.new.log ≡ blocks_to self.old.log) }
+        ensures log_reads { (S.state site.new).log_reads ≡ (S.state site.old).log_reads }
+        ensures fills { (newest : Option Master) (records : List Entry) (table : List Content) (commits : ℕ)
+            → Represents self.old (S.state site.old) newest records table commits
+            → OnOk result (FindsRoom 0 self.old.log self.new.log self.old.pages self.new.pages) }
         ensures asks { StepsMachine result (one_touch (number / 32)) self.old.pages self.new.pages
             (S.state site.old) (S.state site.new) }
     {
@@ -202,6 +209,8 @@ impl Store {
         ensures rises { IfOk result (λ lsn. (end_of self.old.log ≤ lsn) × (lsn < end_of self.new.log)) }
         ensures machine { OnOk result (cache_of self.new.pages ≡ with_change (cache_of self.old.pages)) }
         ensures rules_stay { rules self.new.pages ≡ rules self.old.pages }
+        ensures fills { OnOk result (Fills (143 + length (content_spelling after.now)) self.old.log self.new.log
+            self.old.pages self.new.pages) }
         ensures reads { SameReads (S.state site.old) (S.state site.new) }
         ensures stages { Stages result [] (next_group (cache_of self.old.pages)) self.old.pages self.new.pages
             (S.state site.old) (S.state site.new) }
@@ -252,6 +261,11 @@ impl Store {
             → (writes : List Write) → IsActive (master_of newest) records entry.begin entry.last writes
             → StepsMachine result (map (λ write. write_touch write.0) (reverse writes)) self.old.pages self.new.pages
             (S.state site.old) (S.state site.new) }
+        ensures log_reads { (newest : Option Master) (records : List Entry) (table : List Content) (commits : ℕ)
+            → Represents self.old (S.state site.old) newest records table commits
+            → (writes : List Write) → IsActive (master_of newest) records entry.begin entry.last writes
+            → length writes ≡ entry.writes
+            → (S.state site.new).log_reads ≤ (S.state site.old).log_reads + (entry.writes + 1) }
 
         // Of every site.
         ensures works { KeepsInvariant result self.old self.new (S.state site.old) (S.state site.new)

@@ -1,10 +1,11 @@
 // Undoing all transactions that a log leaves unfinished.
-ghost use Rattle.std.specs.Prelude.{◌≡◌, ◌⊎◌, ◌+◌, ◌<◌, ◌≤◌, [], ◌∷◌, ℕ, List, drop, false, None, Some, IfOk, IfErr};
-ghost use Rattle.std.specs.Prelude.{IfSome, IfNone, OnOk, Option};
+ghost use Rattle.std.specs.Prelude.{◌≡◌, ◌⊎◌, ◌+◌, ◌<◌, ◌≤◌, [], ◌∷◌, ℕ, List, length, drop, false, None, Some};
+ghost use Rattle.std.specs.Prelude.{IfOk, IfErr, IfSome, IfNone, OnOk, Option};
 ghost use Rattle.site.specs.declared.outside.Dev.{Dev};
 ghost use Rattle.site.specs.declared.outside.Stop.{Stop};
 ghost use Rattle.record_model.specs.State.{Content};
 ghost use Rattle.log_records.specs.Log.{Entry};
+ghost use Rattle.log_records.specs.Unfinished.{pending};
 ghost use Rattle.log_store.specs.Representation as log_store;
 ghost use Rattle.log_store.specs.Representation.{end_of, has_tail};
 ghost use Rattle.page_store.specs.declared.store.PageStore.{PageStore};
@@ -320,6 +321,11 @@ pub fn undo_all<S: Site>(
         → Represents log.old pages.old (S.state site.old) newest records table commits
         → IsTable [] records (listed found.old.table)
         → StepsMachine result (undo_works records) pages.old pages.new (S.state site.old) (S.state site.new) }
+    ensures reads { (newest : Option Master) (records : List Entry) (table : List Content) (commits : ℕ)
+        → has_tail log.old ≡ false
+        → Represents log.old pages.old (S.state site.old) newest records table commits
+        → IsTable [] records (listed found.old.table)
+        → (S.state site.new).log_reads ≤ (S.state site.old).log_reads + length (pending records) }
 
     // Of every site.
     ensures works { KeepsInvariant result log.old log.new pages.old pages.new (S.state site.old) (S.state site.new) }

@@ -1,5 +1,5 @@
 use Rattle.site.proofs.Working.{err_again}
-use Rattle.site.specs.declared.outside.Dev.TheVariants.{Flash, Disk}
+use Rattle.site.specs.declared.outside.Dev.TheVariants.{Log, Flash, Disk}
 use Rattle.site.specs.State.{Image}
 use Rattle.engine.specs.Paging.{cache_on}
 use Rattle.std.proofs.Common.{◌≡◌, ◌∙◌, ◌-◌, ◌≤◌, List, [], Option, sym, subst, arith, ap}
@@ -170,3 +170,18 @@ returns-in-Err-newest-clause-same g c honest = unchanged g (goal.at.returns-in-E
 
 pub returns-in-Err-keep_from-clause-goes : goal.returns-in-Err-keep_from-clause-goes
 returns-in-Err-keep_from-clause-goes g c = goes_in_sequence _ _ _ c.start.ensures.goes (goes_in_sequence _ _ _ c.start-2.ensures.goes c.newest.ensures.goes)
+
+pub returns-in-Err-clause-log_reads : goal.returns-in-Err-clause-log_reads
+returns-in-Err-clause-log_reads g c = omega (arith, c.start.ensures.reads)
+
+pub returns-in-Err-start-clause-log_reads : goal.returns-in-Err-start-clause-log_reads
+returns-in-Err-start-clause-log_reads g c = let s = c.start-2.ensures.others Log (λ e. cc) in omega (arith, c.start.ensures.reads, s)
+
+pub returns-in-Err-newest-clause-log_reads : goal.returns-in-Err-newest-clause-log_reads
+returns-in-Err-newest-clause-log_reads g c = let s = c.start-2.ensures.others Log (λ e. cc) in omega (arith, c.start.ensures.reads, s, c.newest.ensures.reads)
+
+pub returns-in-Ok-keep_from-clause-log_reads : goal.returns-in-Ok-keep_from-clause-log_reads
+returns-in-Ok-keep_from-clause-log_reads g c = let s = c.start-2.ensures.others Log (λ e. cc) in omega (arith, c.start.ensures.reads, s, c.newest.ensures.reads)
+
+pub returns-in-Err-keep_from-clause-log_reads : goal.returns-in-Err-keep_from-clause-log_reads
+returns-in-Err-keep_from-clause-log_reads g c = let s = c.start-2.ensures.others Log (λ e. cc) in omega (arith, c.start.ensures.reads, s, c.newest.ensures.reads)

@@ -1,5 +1,5 @@
 use Rattle.redo_undo.proofs.StoreCalling.{where_two}
-use Rattle.std.proofs.Common.{◌≡◌, ◌∙◌, ◌++◌, Err, List, [], false, ap, sym, subst, arith, ◌≤◌, refl, ℕ}
+use Rattle.std.proofs.Common.{◌≡◌, ◌∙◌, ◌++◌, Err, List, [], false, ap, sym, subst, arith, ◌≤◌, refl, ℕ, ◌+◌, length}
 use Rattle.site.specs.declared.geometry.Geometry.{Geometry}
 use Rattle.site.specs.declared.outside.Stop.TheVariants.{Foreign}
 use Rattle.site.specs.State.{IsQuiet, State}
@@ -7,7 +7,7 @@ use Rattle.site.specs.declared.outside.Stop.{Stop}
 use Rattle.checkpoint.specs.declared.master.Master.{Master}
 use Rattle.record_model.specs.State.{Content}
 use Rattle.log_records.specs.declared.log_record.LogRecord.{LogRecord}
-use Rattle.log_records.specs.Unfinished.{owed}
+use Rattle.log_records.specs.Unfinished.{owed, pending}
 use Rattle.log_records.specs.Sound.{Picture}
 use Rattle.redo_undo.specs.Numbers.{SkipsNone}
 use Rattle.redo_undo.specs.declared.store.Store.{Store}
@@ -32,7 +32,7 @@ use Rattle.engine.specs.Leaves.{LeavesTable}
 use Rattle.page_store.proofs.StagingLaws.{fits_queue}
 use Rattle.engine.proofs.Asking.{from_ok, from_err, from_stopped, writes_stopped}
 use Rattle.site.specs.Work.{Calls}
-use Rattle.engine.proofs.Recovers.{no_tail_still, owed_found, commits_fit, commits_found, may_be_made, restarted_as}
+use Rattle.engine.proofs.Recovers.{no_tail_still, kept_of, owed_found, commits_fit, commits_found, may_be_made, restarted_as}
 use Rattle.engine.proofs.RingCounts.{opened_next, restart_failed, restart_done}
 use Rattle.redo_undo.proofs.RingNumbers.{skips_on, then_skips}
 use Rattle.std.specs.Prelude.{Ok, OnOk, Option, Result}
@@ -58,6 +58,7 @@ returns-in-Err-clause-recovers g c newest blocks table commits h =
       numbers = λ quiet. restart_failed c.in-Err.stop _ _ (log_under newest blocks) c.args.opened.log c.redo.new.log old _ 0 0 next (omega arith) (omega arith) (keeps.numbers quiet);
       asks = from_stopped c.in-Err.stop _ (redo_works p ++ undo_works p.log) checkpoint_works _ _ _ _ some two;
       writes = writes_stopped c.in-Err.stop (redo_works p ++ undo_works p.log) checkpoint_works _ _ _ _ some two (fits_queue c.args.opened.pages old c.requires.may.going.pages_going h.opened_is.ready.pages);
+      log_reads = omega (arith, c.redo.ensures.log_reads, kept_of c.args.opened old newest blocks table commits h);
     }
 
 -- what undo may take has room
@@ -97,6 +98,7 @@ returns-in-Err-undo_all-clause-recovers g c newest blocks table commits h =
           restart_failed c.in-Err-undo_all.stop _ _ records c.args.opened.log c.undo_all.new.log old _ n 0 next (omega (arith, owes)) (omega arith) two;
       asks = from_stopped c.in-Err-undo_all.stop _ (redo_works p ++ undo_works p.log) checkpoint_works _ _ _ _ some asks;
       writes = writes_stopped c.in-Err-undo_all.stop (redo_works p ++ undo_works p.log) checkpoint_works _ _ _ _ some asks (fits_queue c.args.opened.pages old c.requires.may.going.pages_going h.opened_is.ready.pages);
+      log_reads = omega (arith, c.redo.ensures.log_reads, kept_of c.args.opened old newest blocks table commits h, c.undo_all.ensures.reads newest records table commits none holds read);
     }
 
 -- there are no more commits than blocks
@@ -178,6 +180,14 @@ module _ (g : Over) (c : After-checkpoint g) (newest : Option Master) (blocks : 
       (let same = ap (λ (y : Store). y.made) store in omega (arith, same, made)) (are ∙ counted)) in
       subst Behind result (ends_then calm_und same (ends_then calm c.redo.ensures.works.geometry (ends_leaving (under_leaves_for newest _ _ _ table commits _) first.ends) (ends_leaving (under_leaves_for newest _ _ _ table commits _) second.ends)) third, skips, asks, restarted)
 
+  read_of : new.log_reads ≤ old.log_reads + (length blocks + length (pending (log_under newest blocks)))
+  read_of =
+      let records = log_under newest blocks in
+      let holds = c.in-Ok.ensures.holds newest blocks table commits h.master h.opened_is in
+      let read = c.in-Ok.ensures.unfinished newest blocks table commits h.master h.opened_is in
+      let none : has_tail c.redo.new.log ≡ false = no_tail_still c.args.opened.log c.redo.new.log c.requires.empty c.in-Ok.ensures.blocks c.in-Ok.ensures.rises in
+      omega (arith, c.redo.ensures.log_reads, kept_of c.args.opened old newest blocks table commits h, c.undo_all.ensures.reads newest records table commits none holds read, c.checkpoint.ensures.log_reads)
+
 pub returns-in-Ok-checkpoint-clause-recovers : goal.returns-in-Ok-checkpoint-clause-recovers
 returns-in-Ok-checkpoint-clause-recovers g c newest blocks table commits h =
     let s = (goal.at.returns-in-Ok-checkpoint-clause-recovers g c).After-checkpoint in
@@ -190,6 +200,7 @@ returns-in-Ok-checkpoint-clause-recovers g c newest blocks table commits h =
           (behind.1 quiet);
       asks = from_ok c.in-Ok-checkpoint.field-0 _ _ _ _ _ _ _ _ refl (λ dev. refl) behind.2;
       writes = behind.2.stages.writes (fits_queue c.args.opened.pages _ c.requires.may.going.pages_going h.opened_is.ready.pages);
+      log_reads = read_of g s newest blocks table commits h;
     }
 
 pub returns-clause-recovers : goal.returns-clause-recovers
@@ -204,6 +215,7 @@ returns-clause-recovers g c newest blocks table commits h =
           (behind.1 quiet);
       asks = from_err c.in-Err-checkpoint.stop _ _ _ _ _ _ behind.2;
       writes = behind.2.stages.writes (fits_queue c.args.opened.pages _ c.requires.may.going.pages_going h.opened_is.ready.pages);
+      log_reads = read_of g s newest blocks table commits h;
     }
 
 pub returns-in-Ok-checkpoint-clause-restarts : goal.returns-in-Ok-checkpoint-clause-restarts

@@ -68,6 +68,13 @@ returns g c =
           (λ i. rules_of (c.in-Ok-open.ensures.pool i) (sizes i).groups) (λ i. restart_works (picture_under newest (sizes i) (unchanged.image i) blocks)) (c.in-Ok-open.ensures.cache honest newest blocks there ∙ ap (λ (x : Geometry). cache_on x old.image) same)
           (omega (arith, c.open.ensures.flash_reads, groups)) c.open.ensures.disk_reads (c.recover.ensures.recovers newest blocks (table_of p.log p.pages) (commit_count p)
           ready).asks;
+      log_reads = λ honest k newest blocks sound.
+          let same : c.in-Ok.geometry ≡ k = (c.in-Ok.ensures.found k sound.octets.limits sound.octets.lengths).1 in
+          let there = subst (λ (x : Geometry). IsSound newest x old.image blocks) (sym same) sound in
+          let p = picture_under newest k old.image blocks in
+          let means : Means (picture_under newest k old.image blocks) (table_of p.log p.pages) (commit_count p) = record { table_is = refl; count_is = refl } in
+          let ready : IsReady c.in-Ok-open.opened mid newest blocks (table_of p.log p.pages) (commit_count p) = c.in-Ok-open.ensures.ready honest newest blocks (table_of p.log p.pages) (commit_count p) there (subst (λ (x : Geometry). Means (picture_under newest x old.image blocks) (table_of p.log p.pages) (commit_count p)) (sym same) means) in
+          omega (arith, c.open.ensures.log_reads, ap (λ (x : Geometry). x.blocks) same, (c.recover.ensures.recovers newest blocks (table_of p.log p.pages) (commit_count p) ready).log_reads);
       writes = λ honest quiet k newest blocks sound.
           let same : c.in-Ok.geometry ≡ k = (c.in-Ok.ensures.found k sound.octets.limits sound.octets.lengths).1 in
           let there = subst (λ (x : Geometry). IsSound newest x old.image blocks) (sym same) sound in
@@ -114,6 +121,9 @@ returns-in-Err-open g c =
           let same : c.in-Ok.geometry ≡ k = (c.in-Ok.ensures.found k sound.octets.limits sound.octets.lengths).1 in
           let groups = ap (λ (x : Geometry). x.groups) same in
           not_found c.works_add_up.ensures.rise c.in-Err-open.stop _ (rules_of c.args.pool k.groups) _ _ (start_reads k) _ _ (omega (arith, sound.octets.limits.groups)) (λ is. c.in-Err-open.ensures.unworn Flash (err_again c.in-Err-open.stop (Worn Flash) is)) (omega (arith, c.open.ensures.flash_reads, groups)) c.open.ensures.disk_reads;
+      log_reads = λ honest k newest blocks sound.
+          let same : c.in-Ok.geometry ≡ k = (c.in-Ok.ensures.found k sound.octets.limits sound.octets.lengths).1 in
+          omega (arith, c.open.ensures.log_reads, ap (λ (x : Geometry). x.blocks) same);
       writes = λ honest quiet k newest blocks sound.
           still_writes c.works_add_up.ensures.rise k (rules_of c.args.pool k.groups) (restart_works (picture_under newest k (g.S.Site.state c.args.site.now).image blocks)) (g.S.Site.state c.args.site.now) (g.S.Site.state c.open.new.site) (omega (arith, sound.octets.limits.groups)) quiet (c.open.ensures.same honest);
       restarts =

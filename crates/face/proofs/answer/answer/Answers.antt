@@ -72,13 +72,13 @@ returns-in-Ok-tell_reply-clause-stays_quiet g c honest quiet =
     (c.tell_reply.ensures.same (stays_honest (g.S.Site.state c.args.site.now) (g.S.Site.state c.carry_out.new.site) c.carry_out.ensures.goes honest)).loose ∙ c.in-Ok.ensures.stays_quiet honest quiet
 
 pub returns-in-Err-clause-asks : goal.returns-in-Err-clause-asks
-returns-in-Err-clause-asks g c s fits = serves_err c.in-Err.stop _ _ _ _ _ (c.in-Err.ensures.asks s fits)
+returns-in-Err-clause-asks g c s fits = serves_err c.in-Err.stop _ _ _ _ _ _ (c.carry_out.ensures.log_reads s fits) (c.in-Err.ensures.asks s fits)
 
 pub returns-in-Ok-tell_reply-clause-asks : goal.returns-in-Ok-tell_reply-clause-asks
-returns-in-Ok-tell_reply-clause-asks g c s fits = serves_ok c.in-Ok.reply _ _ _ _ _ _ _ c.tell_reply.ensures.reads (λ honest. c.tell_reply.ensures.any_moment (stays_honest (g.S.Site.state c.args.site.now) (g.S.Site.state c.carry_out.new.site) c.carry_out.ensures.goes honest)) (c.in-Ok.ensures.asks s fits)
+returns-in-Ok-tell_reply-clause-asks g c s fits = serves_ok c.in-Ok.reply _ _ _ _ _ _ _ _ c.tell_reply.ensures.reads (c.carry_out.ensures.log_reads s fits) (λ honest. c.tell_reply.ensures.any_moment (stays_honest (g.S.Site.state c.args.site.now) (g.S.Site.state c.carry_out.new.site) c.carry_out.ensures.goes honest)) (c.in-Ok.ensures.asks s fits)
 
 pub returns-clause-asks : goal.returns-clause-asks
-returns-clause-asks g c s fits = serves_lost c.in-Ok.reply _ _ _ _ _ _ c.tell_reply.ensures.reads (λ honest. c.tell_reply.ensures.any_moment (stays_honest (g.S.Site.state c.args.site.now) (g.S.Site.state c.carry_out.new.site) c.carry_out.ensures.goes honest)) (c.in-Ok.ensures.asks s fits)
+returns-clause-asks g c s fits = serves_lost c.in-Ok.reply _ _ _ _ _ _ _ c.tell_reply.ensures.reads (c.carry_out.ensures.log_reads s fits) (λ honest. c.tell_reply.ensures.any_moment (stays_honest (g.S.Site.state c.args.site.now) (g.S.Site.state c.carry_out.new.site) c.carry_out.ensures.goes honest)) (c.in-Ok.ensures.asks s fits)
 
 pub returns-in-Err-clause-numbers : goal.returns-in-Err-clause-numbers
 returns-in-Err-clause-numbers g c s fits quiet = counts_err c.in-Err.stop (halt.Stop c.in-Err.stop) _ _ _ _ s _ _ (c.in-Err.ensures.numbers s fits quiet)
@@ -92,3 +92,6 @@ pub returns-clause-numbers : goal.returns-clause-numbers
 returns-clause-numbers g c s fits quiet =
     let same = c.tell_reply.ensures.same (c.in-Ok.ensures.after s (listing_of c.args.engine.now) (λ asks. refl) fits).honest in
     counts_then c.in-Ok.reply _ _ _ _ _ _ s _ _ same.image (c.in-Ok.ensures.numbers s fits quiet)
+
+pub returns-in-Ok-tell_reply-clause-fills : goal.returns-in-Ok-tell_reply-clause-fills
+returns-in-Ok-tell_reply-clause-fills g c s fits quiet = c.in-Ok.ensures.fills s fits quiet

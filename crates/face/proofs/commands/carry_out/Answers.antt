@@ -1,7 +1,9 @@
+use Rattle.face.specs.Filled.{line_octets}
+use Rattle.face.proofs.Fillings.{ok_same}
 use Rattle.face.proofs.Pagings.{listing_asks}
 use Rattle.redo_undo.specs.MachineSteps.{StepsMachine}
 use Rattle.record_model.specs.Touches.{line_touches}
-use Rattle.std.proofs.Common.{◌≡◌, ◌∙◌, List, IfOk, OnOk, sym, ap, subst, true, []}
+use Rattle.std.proofs.Common.{◌≡◌, ◌∙◌, List, IfOk, OnOk, sym, ap, subst, true, [], arith}
 use Rattle.site.specs.Moments.{LeavesOnly}
 use Rattle.record_model.specs.declared.words.CacheLine.{CacheLine}
 use Rattle.record_model.specs.declared.words.Reply.TheVariants as reply
@@ -67,3 +69,9 @@ pub returns-then-asks_for_listing-clause-numbers : goal.returns-then-asks_for_li
 returns-then-asks_for_listing-clause-numbers g c s fits quiet =
     let line = cache_line c.args.line (sym c.asks_for_listing.ensures ∙ c.if-asks_for_listing.true) in
     counts_idle c.cache.result c.args.line c.args.engine.now (g.S.Site.state c.args.site.now) s c.rest_counts_nothing.ensures fits c.requires.going (ap (λ (l : Line). (step s l []).after) line) (ap (line_checkpoints s) line)
+
+pub returns-then-asks_for_listing-clause-log_reads : goal.returns-then-asks_for_listing-clause-log_reads
+returns-then-asks_for_listing-clause-log_reads g c s fits = omega arith
+
+pub returns-then-asks_for_listing-clause-fills : goal.returns-then-asks_for_listing-clause-fills
+returns-then-asks_for_listing-clause-fills g c s fits quiet = ok_same c.cache.result (line_octets s c.args.line) c.args.engine.now

@@ -1,7 +1,9 @@
+use Rattle.record_model.specs.declared.words.Command.TheVariants as command
+use Rattle.face.proofs.Fillings.{ok_room, ok_line, ok_fills, ok_forced, ok_begun, fills_same}
 use Rattle.face.proofs.Pagings.{idle_line}
 use Rattle.redo_undo.specs.MachineSteps.{StepsMachine}
 use Rattle.record_model.specs.Touches.{line_touches}
-use Rattle.std.proofs.Common.{◌≡◌, IfOk, OnOk, sym, ap, subst, ◌∙◌, true}
+use Rattle.std.proofs.Common.{◌≡◌, IfOk, OnOk, sym, ap, subst, ◌∙◌, true, ◌≤◌, ◌+◌, arith}
 use Rattle.std.specs.Prelude.{Some, []}
 use Rattle.site.specs.Moments.{LeavesOnly}
 use Rattle.record_model.specs.Run.{Line}
@@ -9,7 +11,7 @@ use Rattle.engine.specs.Representation.{Matches}
 use Rattle.engine.specs.Invariant.{sizes_of}
 use Rattle.engine.specs.Leaves.{LeavesEither}
 use Rattle.engine.specs.Numbers.{CountsOn}
-use Rattle.face.specs.Run.{line_checkpoints, step}
+use Rattle.face.specs.Run.{line_checkpoints, step, line_log_reads}
 use Rattle.face.proofs.Counted.{counts_idle}
 use Rattle.face.proofs.Logs.{fits_stands}
 use Rattle.face.proofs.Quiet.{no_change, table_stays}
@@ -288,3 +290,95 @@ returns-in-Set-clause-quiet g c s fits = (c.set.ensures.answers s fits).does.qui
 
 pub returns-in-Checkpoint-clause-quiet : goal.returns-in-Checkpoint-clause-quiet
 returns-in-Checkpoint-clause-quiet g c s fits = (c.checkpoint.ensures.answers s fits).does.quiet
+
+pub returns-in-Begin-clause-log_reads : goal.returns-in-Begin-clause-log_reads
+returns-in-Begin-clause-log_reads g c s fits = omega (arith, c.begin.ensures.log_reads)
+
+pub returns-in-Read-clause-log_reads : goal.returns-in-Read-clause-log_reads
+returns-in-Read-clause-log_reads g c s fits = omega (arith, c.read.ensures.log_reads)
+
+pub returns-in-Write-clause-log_reads : goal.returns-in-Write-clause-log_reads
+returns-in-Write-clause-log_reads g c s fits = omega (arith, c.write.ensures.log_reads)
+
+pub returns-in-Erase-clause-log_reads : goal.returns-in-Erase-clause-log_reads
+returns-in-Erase-clause-log_reads g c s fits = omega (arith, c.erase.ensures.log_reads)
+
+pub returns-in-Scan-clause-log_reads : goal.returns-in-Scan-clause-log_reads
+returns-in-Scan-clause-log_reads g c s fits = omega (arith, c.scan.ensures.log_reads)
+
+pub returns-in-Commit-clause-log_reads : goal.returns-in-Commit-clause-log_reads
+returns-in-Commit-clause-log_reads g c s fits = omega (arith, c.commit.ensures.log_reads)
+
+pub returns-in-Get-clause-log_reads : goal.returns-in-Get-clause-log_reads
+returns-in-Get-clause-log_reads g c s fits = omega (arith, c.get.ensures.log_reads)
+
+pub returns-in-Set-clause-log_reads : goal.returns-in-Set-clause-log_reads
+returns-in-Set-clause-log_reads g c s fits = omega (arith, c.set.ensures.log_reads)
+
+pub returns-in-Checkpoint-clause-log_reads : goal.returns-in-Checkpoint-clause-log_reads
+returns-in-Checkpoint-clause-log_reads g c s fits = omega (arith, c.checkpoint.ensures.log_reads)
+
+pub returns-in-Stat-clause-log_reads : goal.returns-in-Stat-clause-log_reads
+returns-in-Stat-clause-log_reads g c s fits = omega arith
+
+pub returns-in-Quit-clause-log_reads : goal.returns-in-Quit-clause-log_reads
+returns-in-Quit-clause-log_reads g c s fits = omega arith
+
+pub returns-in_default-clause-log_reads : goal.returns-in_default-clause-log_reads
+returns-in_default-clause-log_reads g c s fits = omega arith
+
+pub returns-in-Abort-clause-log_reads : goal.returns-in-Abort-clause-log_reads
+returns-in-Abort-clause-log_reads g c s fits =
+    subst (λ (l : Line). (g.S.Site.state c.abort.new.site).log_reads ≤ (g.S.Site.state c.args.site.now).log_reads + line_log_reads s l) (sym (c.in-Some.is ∙ ap Some c.in-Abort.is)) (c.abort.ensures.log_reads s fits)
+
+pub returns-in-Read-clause-fills : goal.returns-in-Read-clause-fills
+returns-in-Read-clause-fills g c s fits quiet = ok_room c.read.result _ c.args.engine.now c.read.new.self (c.read.ensures.fills s fits)
+
+pub returns-in-Scan-clause-fills : goal.returns-in-Scan-clause-fills
+returns-in-Scan-clause-fills g c s fits quiet = ok_room c.scan.result _ c.args.engine.now c.scan.new.self (c.scan.ensures.fills s fits)
+
+pub returns-in-Get-clause-fills : goal.returns-in-Get-clause-fills
+returns-in-Get-clause-fills g c s fits quiet = ok_room c.get.result _ c.args.engine.now c.get.new.self (c.get.ensures.fills s fits)
+
+pub returns-in-Write-clause-fills : goal.returns-in-Write-clause-fills
+returns-in-Write-clause-fills g c s fits quiet =
+    ok_line c.write.result c.args.engine.now c.write.new.self s c.args.line _ (c.in-Some.is ∙ ap Some c.in-Write.is) (ok_fills c.write.result _ c.args.engine.now c.write.new.self (c.write.ensures.fills s fits))
+
+pub returns-in-Erase-clause-fills : goal.returns-in-Erase-clause-fills
+returns-in-Erase-clause-fills g c s fits quiet =
+    ok_line c.erase.result c.args.engine.now c.erase.new.self s c.args.line _ (c.in-Some.is ∙ ap Some c.in-Erase.is) (ok_fills c.erase.result _ c.args.engine.now c.erase.new.self (c.erase.ensures.fills s fits))
+
+pub returns-in-Commit-clause-fills : goal.returns-in-Commit-clause-fills
+returns-in-Commit-clause-fills g c s fits quiet =
+    let all = c.commit.ensures.answers s fits in
+    ok_line c.commit.result c.args.engine.now c.commit.new.self s c.args.line _ (c.in-Some.is ∙ ap Some c.in-Commit.is) (ok_forced c.commit.result c.args.engine.now c.commit.new.self _ _ s (command.Commit c.in-Commit.session) _ _ c.requires.going c.commit.ensures.serves.going (all.does.numbers quiet) all.asks)
+
+pub returns-in-Abort-clause-fills : goal.returns-in-Abort-clause-fills
+returns-in-Abort-clause-fills g c s fits quiet =
+    let all = c.abort.ensures.answers s fits in
+    ok_line c.abort.result c.args.engine.now c.abort.new.self s c.args.line _ (c.in-Some.is ∙ ap Some c.in-Abort.is) (ok_forced c.abort.result c.args.engine.now c.abort.new.self _ _ s (command.Abort c.in-Abort.session) _ _ c.requires.going c.abort.ensures.serves.going (all.does.numbers quiet) all.asks)
+
+pub returns-in-Set-clause-fills : goal.returns-in-Set-clause-fills
+returns-in-Set-clause-fills g c s fits quiet =
+    let all = c.set.ensures.answers s fits in
+    ok_line c.set.result c.args.engine.now c.set.new.self s c.args.line _ (c.in-Some.is ∙ ap Some c.in-Set.is) (ok_forced c.set.result c.args.engine.now c.set.new.self _ _ s (command.Set c.in-Set.number c.in-Set.value) _ _ c.requires.going c.set.ensures.serves.going (all.does.numbers quiet) all.asks)
+
+pub returns-in-Checkpoint-clause-fills : goal.returns-in-Checkpoint-clause-fills
+returns-in-Checkpoint-clause-fills g c s fits quiet =
+    let all = c.checkpoint.ensures.answers s fits in
+    ok_line c.checkpoint.result c.args.engine.now c.checkpoint.new.self s c.args.line _ (c.in-Some.is ∙ ap Some c.in-Checkpoint.is) (ok_forced c.checkpoint.result c.args.engine.now c.checkpoint.new.self _ _ s command.Checkpoint _ _ c.requires.going c.checkpoint.ensures.serves.going (all.does.numbers quiet) all.asks)
+
+pub returns-in-Begin-clause-fills : goal.returns-in-Begin-clause-fills
+returns-in-Begin-clause-fills g c s fits quiet =
+    let all = c.begin.ensures.answers s fits in
+    ok_line c.begin.result c.args.engine.now c.begin.new.self s c.args.line _ (c.in-Some.is ∙ ap Some c.in-Begin.is)
+    (ok_begun c.begin.result c.args.engine.now c.begin.new.self s c.in-Begin.session (ok_forced c.begin.result c.args.engine.now c.begin.new.self _ _ s (command.Begin c.in-Begin.session) _ _ c.requires.going c.begin.ensures.serves.going (all.does.numbers quiet) all.asks) (c.begin.ensures.fills s fits))
+
+pub returns-in-Stat-clause-fills : goal.returns-in-Stat-clause-fills
+returns-in-Stat-clause-fills g c s fits quiet = fills_same _ c.args.engine.now
+
+pub returns-in-Quit-clause-fills : goal.returns-in-Quit-clause-fills
+returns-in-Quit-clause-fills g c s fits quiet = fills_same _ c.args.engine.now
+
+pub returns-in_default-clause-fills : goal.returns-in_default-clause-fills
+returns-in_default-clause-fills g c s fits quiet = fills_same _ c.args.engine.now

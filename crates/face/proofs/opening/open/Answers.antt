@@ -1,3 +1,4 @@
+use Rattle.face.proofs.Fillings.{restart_rises}
 use Rattle.site.specs.declared.outside.Dev.TheVariants.{Flash}
 use Rattle.site.specs.declared.outside.Stop.TheVariants.{Worn}
 use Rattle.engine.specs.Image.{log_under}
@@ -8,7 +9,7 @@ use Rattle.image_meaning.specs.Meaning.{picture_under}
 use Rattle.face.proofs.Writings.{writes_told}
 use Rattle.face.proofs.Pagings.{first_paged, first_reads, never_paged}
 use Rattle.std.specs.Prelude.{Err}
-use Rattle.std.proofs.Common.{◌∙◌, ap, ◌≡◌, refl}
+use Rattle.std.proofs.Common.{◌∙◌, ap, ◌≡◌, refl, ◌≤◌, arith}
 use Rattle.site.specs.Laws.{stays_honest, goes_in_sequence}
 use Rattle.shell_text.specs.Texts.{open_text}
 use Rattle.face.specs.Texts.{status_of}
@@ -84,7 +85,9 @@ returns-in-Ok-tell_all-clause-counted g c run begins newest blocks sound =
     let entry = g.S.Site.state c.args.site.now in
     let mid = g.S.Site.state c.start.new.site in
     let same = c.tell_all.ensures.same (stays_honest entry mid c.start.ensures.calls.goes begins.honest) in
-    first_counted run (log_under newest blocks) entry c.in-Ok.engine mid (g.S.Site.state c.tell_all.new.site) same.image (c.in-Ok.ensures.numbers begins.honest begins.quiet run.geometry newest blocks sound)
+    let some : 1 ≤ (rules_of c.args.pool run.geometry.groups).groups = (let least = sound.octets.limits.groups in omega (arith, least)) in
+    first_counted run (log_under newest blocks) entry c.in-Ok.engine mid (g.S.Site.state c.tell_all.new.site) same.image (c.in-Ok.ensures.numbers begins.honest begins.quiet run.geometry newest blocks sound) (goes_on c.in-Ok.engine mid (g.S.Site.state c.tell_all.new.site) c.in-Ok.ensures.going c.tell_all.ensures.goes)
+    (restart_rises c.in-Ok.engine (rules_of c.args.pool run.geometry.groups) _ (cache_on run.geometry entry.image) _ _ _ some (c.in-Ok.ensures.asks begins.honest run.geometry newest blocks sound))
 
 pub returns-in-Ok-tell_all-clause-numbers : goal.returns-in-Ok-tell_all-clause-numbers
 returns-in-Ok-tell_all-clause-numbers g c run begins newest blocks sound = (returns-in-Ok-tell_all-clause-counted g c run begins newest blocks sound).numbers
@@ -105,21 +108,21 @@ returns-in-Err-clause-numbers g c run begins newest blocks sound =
 pub returns-in-Err-clause-reads : goal.returns-in-Err-clause-reads
 returns-in-Err-clause-reads g c run begins newest blocks sound =
     let old = g.S.Site.state c.args.site.now in
-    first_reads c.args.pool run newest old.image blocks c.start.result (λ e. e.store.pages) old (g.S.Site.state c.start.new.site) (g.S.Site.state c.start.new.site) (λ dev. refl) (c.start.ensures.writes begins.honest begins.quiet run.geometry newest blocks sound) (c.start.ensures.asks begins.honest run.geometry newest blocks sound)
+    first_reads c.args.pool run newest old.image blocks c.start.result (λ e. e.store.pages) old (g.S.Site.state c.start.new.site) (g.S.Site.state c.start.new.site) (λ dev. refl) (c.start.ensures.writes begins.honest begins.quiet run.geometry newest blocks sound) (c.start.ensures.asks begins.honest run.geometry newest blocks sound) (c.start.ensures.log_reads begins.honest run.geometry newest blocks sound)
 
 pub returns-in-Ok-tell_all-clause-reads : goal.returns-in-Ok-tell_all-clause-reads
 returns-in-Ok-tell_all-clause-reads g c run begins newest blocks sound =
     let old = g.S.Site.state c.args.site.now in
     first_reads c.args.pool run newest old.image blocks c.start.result (λ e. e.store.pages) old (g.S.Site.state c.start.new.site) (g.S.Site.state c.tell_all.new.site) c.tell_all.ensures.reads
     (writes_told run.geometry (rules_of c.args.pool run.geometry.groups) (restart_works (picture_under newest run.geometry old.image blocks)) (cache_on run.geometry old.image) _ old (g.S.Site.state c.start.new.site) (g.S.Site.state c.tell_all.new.site) (c.start.ensures.writes begins.honest begins.quiet run.geometry newest blocks sound)
-    (c.tell_all.ensures.any_moment (stays_honest old (g.S.Site.state c.start.new.site) c.start.ensures.calls.goes begins.honest))) (c.start.ensures.asks begins.honest run.geometry newest blocks sound)
+    (c.tell_all.ensures.any_moment (stays_honest old (g.S.Site.state c.start.new.site) c.start.ensures.calls.goes begins.honest))) (c.start.ensures.asks begins.honest run.geometry newest blocks sound) (c.start.ensures.log_reads begins.honest run.geometry newest blocks sound)
 
 pub returns-in-Err-tell_all-clause-reads : goal.returns-in-Err-tell_all-clause-reads
 returns-in-Err-tell_all-clause-reads g c run begins newest blocks sound =
     let old = g.S.Site.state c.args.site.now in
     first_reads c.args.pool run newest old.image blocks c.start.result (λ e. e.store.pages) old (g.S.Site.state c.start.new.site) (g.S.Site.state c.tell_all.new.site) c.tell_all.ensures.reads
     (writes_told run.geometry (rules_of c.args.pool run.geometry.groups) (restart_works (picture_under newest run.geometry old.image blocks)) (cache_on run.geometry old.image) _ old (g.S.Site.state c.start.new.site) (g.S.Site.state c.tell_all.new.site) (c.start.ensures.writes begins.honest begins.quiet run.geometry newest blocks sound)
-    (c.tell_all.ensures.any_moment (stays_honest old (g.S.Site.state c.start.new.site) c.start.ensures.calls.goes begins.honest))) (c.start.ensures.asks begins.honest run.geometry newest blocks sound)
+    (c.tell_all.ensures.any_moment (stays_honest old (g.S.Site.state c.start.new.site) c.start.ensures.calls.goes begins.honest))) (c.start.ensures.asks begins.honest run.geometry newest blocks sound) (c.start.ensures.log_reads begins.honest run.geometry newest blocks sound)
 
 pub returns-in-Err-tell_all-clause-goes : goal.returns-in-Err-tell_all-clause-goes
 returns-in-Err-tell_all-clause-goes g c = goes_in_sequence _ _ _ c.start.ensures.calls.goes c.tell_all.ensures.goes

@@ -1,7 +1,8 @@
+use Rattle.face.proofs.Fillings.{seals_no_more}
 use Rattle.std.proofs.Common.{ℕ, suc, List, [], drop, refl, sym, ◌∙◌, ap, subst, arith, add-one}
 use Rattle.std.proofs.lemmas.List.{append-nil}
 use Rattle.std.specs.Prelude.{Err}
-use Rattle.site.specs.State.{Input}
+use Rattle.site.specs.State.{Input, Image}
 use Rattle.site.specs.Laws.{stays_honest, goes_in_sequence}
 use Rattle.record_model.specs.Run.{Line}
 use Rattle.face.specs.Going.{Going, IsCounted, IsPaged}
@@ -58,7 +59,7 @@ returns-in-Err-next-clause-works g c =
           let so_far = under_way.going run [] begins (same ∙ sym (append-nil under_way.listings)) in
           let going = moved run entry mid next c.loop-line.engine c.loop-line._line so_far c.next.ensures.goes (c.next.ensures.same so_far.fits.honest) in
           taking_failed c.args.pool run entry mid next c.loop-line.engine c.loop-line.source c.loop-line._line cut c.loop-line.invariant.source going (under_way.listed run [] begins (same ∙ sym (append-nil under_way.listings)))
-          (λ newest blocks sound. few_heard _ _ _ entry mid next (c.next.ensures.same so_far.fits.honest) (c.loop-line.invariant.reads run begins newest blocks sound))
+          (λ newest blocks sound. few_heard _ _ _ _ entry mid next (c.next.ensures.same so_far.fits.honest) (c.loop-line.invariant.reads run begins newest blocks sound))
           (answers_next run entry mid next c.loop-line.source c.loop-line._line c.loop-line._line cut c.loop-line.invariant.source so_far.told (omega arith) (under_way.answers run [] begins (same ∙ sym (append-nil under_way.listings))) (c.next.ensures.takes so_far.fits.honest cut.ended)) c.in-Err-next.halt c.in-Err-next.ensures.halts (c.in-Err-next.ensures.cut_off so_far.fits.honest cut.ended)
           (λ newest blocks sound. counts_still run (log_under newest blocks) entry mid next c.loop-line._line (c.next.ensures.same so_far.fits.honest).image (c.loop-line.invariant.counted run begins newest blocks sound).numbers),
     )
@@ -85,11 +86,13 @@ returns-in-End-clause-works g c =
           let going = moved run entry mid next c.loop-line.engine c.loop-line._line so_far c.next.ensures.goes (c.next.ensures.same honest) in
           let end = heard_end c.in-Ok-next.heard _ _ _ _ (c.in-Ok-next.ensures.heard honest cut.ended) c.in-End.is in
           finished c.args.pool run entry mid next c.loop-line.engine c.loop-line.source c.loop-line._line cut c.loop-line.invariant.source going (under_way.listed run [] begins (same ∙ sym (append-nil under_way.listings)))
-          (λ newest blocks sound. few_heard _ _ _ entry mid next (c.next.ensures.same so_far.fits.honest) (c.loop-line.invariant.reads run begins newest blocks sound))
+          (λ newest blocks sound. few_heard _ _ _ _ entry mid next (c.next.ensures.same so_far.fits.honest) (c.loop-line.invariant.reads run begins newest blocks sound))
           (answers_next run entry mid next c.loop-line.source c.loop-line._line c.loop-line._line cut c.loop-line.invariant.source so_far.told (omega arith) (under_way.answers run [] begins (same ∙ sym (append-nil under_way.listings))) (c.next.ensures.takes honest cut.ended)) _ end.0 (c.in-Ok-next.ensures.ended honest cut.ended end.1)
           (λ newest blocks sound. paged_room c.args.pool run newest entry.image blocks c.loop-line.engine mid c.loop-line._line (c.loop-line.invariant.paged run begins newest blocks sound) c.loop-line.invariant.engine)
           (λ newest blocks sound. paged_queue c.args.pool run newest entry.image blocks c.queue_is_on_flash.ensures c.loop-line.engine next (state_at run c.loop-line._line) c.loop-line._line going.fits going.geometry (c.loop-line.invariant.paged run begins newest blocks sound))
           (λ newest blocks sound. paged_versions c.args.pool run newest entry.image blocks c.versions_are_seen.ensures c.loop-line.engine next c.loop-line._line going.fits going.geometry (c.loop-line.invariant.paged run begins newest blocks sound))
+          (λ newest blocks sound. seals_no_more c.args.pool run c.loop-line._line newest blocks entry.image next.image c.loop-line.engine next refl going.geometry going.fits (engine_goes_on c.loop-line.engine mid next c.loop-line.invariant.engine c.next.ensures.goes) (c.loop-line.invariant.paged run begins newest blocks sound)
+          (subst (λ (x : Image). IsCounted run (log_under newest blocks) entry.image x c.loop-line.engine c.loop-line._line) (sym (c.next.ensures.same honest).image) (c.loop-line.invariant.counted run begins newest blocks sound)))
           (λ newest blocks sound. counts_still run (log_under newest blocks) entry mid next c.loop-line._line (c.next.ensures.same honest).image (c.loop-line.invariant.counted run begins newest blocks sound).numbers),
     )
 
@@ -118,7 +121,7 @@ returns-in-Err-answer-clause-works g c =
           answer_failed c.args.pool run entry mid next new c.loop-line.source c.next.new.self i cut c.loop-line.invariant.source c.in-Line.line hears ended c.next.ensures.source (c.answer.ensures.left going.fits.honest)
           (listed_next c.args.pool entry mid c.loop-line.engine i under_way c.in-Line.line run [] begins listed _ is (c.loop-line.invariant.paged run begins))
           (λ newest blocks sound. next_reads c.args.pool run newest entry.image blocks c.works_add_up.ensures.works i c.in-Line.line _ is c.loop-line.engine (c.loop-line.invariant.paged run begins newest blocks sound) c.works_add_up.ensures.reads entry mid next new refl (c.next.ensures.same honest) (c.loop-line.invariant.reads run begins newest blocks sound) going.geometry (let least = sound.octets.limits.groups in omega (arith, least)) (c.answer.ensures.asks (state_at run i) going.fits).reads
-          ((c.answer.ensures.asks (state_at run i) going.fits).writes (engine_queue c.loop-line.engine next (state_at run i) (engine_goes_on c.loop-line.engine mid next c.loop-line.invariant.engine c.next.ensures.goes) going.fits) going.quiet))
+          ((c.answer.ensures.asks (state_at run i) going.fits).writes (engine_queue c.loop-line.engine next (state_at run i) (engine_goes_on c.loop-line.engine mid next c.loop-line.invariant.engine c.next.ensures.goes) going.fits) going.quiet) (c.answer.ensures.asks (state_at run i) going.fits).log_reads)
           (answers_still run (suc i) entry next new (c.answer.ensures.left going.fits.honest) (answers_next run entry mid next c.loop-line.source i (suc i) cut c.loop-line.invariant.source so_far.told (omega arith) (answers_before c.args.pool entry mid c.loop-line.engine i under_way c.in-Line.line run [] begins listed) (c.next.ensures.takes honest cut.ended))) c.in-Err-answer.halt stops
           (begun_after run entry next c.loop-line.engine i going new c.in-Line.line _ is (c.answer.ensures.any_moment (state_at run i) (listing_at run i) asked going.fits going.quiet)) (answer_takes_nothing c.in-Err-answer.halt c.loop-line.engine next new c.in-Err-answer.ensures.cause)
           (λ worn newest blocks sound. next_worn c.args.pool run newest entry.image blocks c.works_add_up.ensures.works i c.in-Line.line _ is c.loop-line.engine (c.loop-line.invariant.paged run begins newest blocks sound) ((c.in-Err-answer.ensures.asks (state_at run i) going.fits).worn (ap Err worn)))
@@ -215,10 +218,10 @@ loop-line-preserved g c =
           let hears = line_heard c.in-Ok-next.heard c.in-Line.line _ _ _ _ (c.in-Ok-next.ensures.heard honest cut.ended) c.in-Line.is in
           let ended = c.in-Ok-next.ensures.ended honest cut.ended in
           let is = ap (λ (l : List Line). drop i (up_to_quit l)) begins.lines ∙ line_is entry.input.left c.loop-line.source mid i cut c.loop-line.invariant.source c.next.new.self next c.in-Line.line hears ended c.next.ensures.source in
-          subst (λ (n : ℕ). AsksFew c.args.pool run.geometry (asked_after run newest entry.image blocks n) entry new) (sym (add-one i))
-          (subst (λ (w : List CacheWork). AsksFew c.args.pool run.geometry w entry new) (asked_with run with newest entry.image blocks (suc i))
-          (next_reads c.args.pool own newest entry.image blocks c.works_add_up.ensures.works i c.in-Line.line _ is c.loop-line.engine (c.loop-line.invariant.paged own starts newest blocks sound) c.works_add_up.ensures.reads entry mid next new refl (c.next.ensures.same honest) (c.loop-line.invariant.reads own starts newest blocks sound) going.geometry (let least = sound.octets.limits.groups in omega (arith, least)) (c.answer.ensures.asks (state_at own i) going.fits).reads
-          ((c.answer.ensures.asks (state_at own i) going.fits).writes (engine_queue c.loop-line.engine next (state_at own i) (engine_goes_on c.loop-line.engine mid next c.loop-line.invariant.engine c.next.ensures.goes) going.fits) going.quiet)));
+          subst (λ (n : ℕ). AsksFew c.args.pool run.geometry (asked_after run newest entry.image blocks n) (log_reads_after run newest blocks n) entry new) (sym (add-one i))
+          (subst (λ (w : List CacheWork). AsksFew c.args.pool run.geometry w (log_reads_after run newest blocks (suc i)) entry new) (asked_with run with newest entry.image blocks (suc i))
+          (subst (λ (n : ℕ). AsksFew c.args.pool run.geometry (asked_after own newest entry.image blocks (suc i)) n entry new) (log_reads_with run with newest blocks (suc i)) (next_reads c.args.pool own newest entry.image blocks c.works_add_up.ensures.works i c.in-Line.line _ is c.loop-line.engine (c.loop-line.invariant.paged own starts newest blocks sound) c.works_add_up.ensures.reads entry mid next new refl (c.next.ensures.same honest) (c.loop-line.invariant.reads own starts newest blocks sound) going.geometry (let least = sound.octets.limits.groups in omega (arith, least)) (c.answer.ensures.asks (state_at own i) going.fits).reads
+          ((c.answer.ensures.asks (state_at own i) going.fits).writes (engine_queue c.loop-line.engine next (state_at own i) (engine_goes_on c.loop-line.engine mid next c.loop-line.invariant.engine c.next.ensures.goes) going.fits) going.quiet) (c.answer.ensures.asks (state_at own i) going.fits).log_reads)));
       counted = λ run begins newest blocks sound.
           let under_way = c.loop-line.invariant.under_way in
           let with = with_line c.args.pool entry mid c.loop-line.engine i under_way c.in-Line.line in
@@ -231,7 +234,7 @@ loop-line-preserved g c =
           let hears = line_heard c.in-Ok-next.heard c.in-Line.line _ _ _ _ (c.in-Ok-next.ensures.heard honest cut.ended) c.in-Line.is in
           let ended = c.in-Ok-next.ensures.ended honest cut.ended in
           let is = ap (λ (l : List Line). drop i (up_to_quit l)) begins.lines ∙ line_is entry.input.left c.loop-line.source mid i cut c.loop-line.invariant.source c.next.new.self next c.in-Line.line hears ended c.next.ensures.source in
-          let counted = next_counted own (log_under newest blocks) entry mid next new c.loop-line.engine c.answer.new.engine i c.in-Line.line _ is (c.next.ensures.same honest).image going.geometry (c.loop-line.invariant.counted own starts newest blocks sound) c.in_default.field-0 (c.in_default.ensures.numbers (state_at own i) going.fits going.quiet) in
+          let counted = next_counted own (log_under newest blocks) entry mid next new c.loop-line.engine c.answer.new.engine i c.in-Line.line _ is (c.next.ensures.same honest).image going.geometry (c.loop-line.invariant.counted own starts newest blocks sound) c.in_default.field-0 (c.in_default.ensures.numbers (state_at own i) going.fits going.quiet) (c.in_default.ensures.fills (state_at own i) going.fits going.quiet) in
           subst (IsCounted run (log_under newest blocks) entry.image new.image c.answer.new.engine) (sym (add-one i)) (counted_on run with (log_under newest blocks) entry.image new.image c.answer.new.engine (suc i) counted);
     }
 
@@ -260,7 +263,7 @@ returns-then-last-clause-works g c =
           quitted c.args.pool run entry mid next new c.loop-line.source c.next.new.self i cut c.loop-line.invariant.source c.in-Line.line hears ended c.next.ensures.source (c.answer.ensures.left going.fits.honest)
           (listed_next c.args.pool entry mid c.loop-line.engine i under_way c.in-Line.line run [] begins listed _ is (c.loop-line.invariant.paged run begins))
           (λ newest blocks sound. next_reads c.args.pool run newest entry.image blocks c.works_add_up.ensures.works i c.in-Line.line _ is c.loop-line.engine (c.loop-line.invariant.paged run begins newest blocks sound) c.works_add_up.ensures.reads entry mid next new refl (c.next.ensures.same honest) (c.loop-line.invariant.reads run begins newest blocks sound) going.geometry (let least = sound.octets.limits.groups in omega (arith, least)) (c.answer.ensures.asks (state_at run i) going.fits).reads
-          ((c.answer.ensures.asks (state_at run i) going.fits).writes (engine_queue c.loop-line.engine next (state_at run i) (engine_goes_on c.loop-line.engine mid next c.loop-line.invariant.engine c.next.ensures.goes) going.fits) going.quiet))
+          ((c.answer.ensures.asks (state_at run i) going.fits).writes (engine_queue c.loop-line.engine next (state_at run i) (engine_goes_on c.loop-line.engine mid next c.loop-line.invariant.engine c.next.ensures.goes) going.fits) going.quiet) (c.answer.ensures.asks (state_at run i) going.fits).log_reads)
           (answers_still run (suc i) entry next new (c.answer.ensures.left going.fits.honest) (answers_next run entry mid next c.loop-line.source i (suc i) cut c.loop-line.invariant.source so_far.told (omega arith) (answers_before c.args.pool entry mid c.loop-line.engine i under_way c.in-Line.line run [] begins listed) (c.next.ensures.takes honest cut.ended))) _ c.answer.new.engine (sym c.quits-last.ensures ∙ c.if-last.true) gone
           (λ newest blocks sound. paged_room c.args.pool run newest entry.image blocks c.answer.new.engine new (suc i)
           (next_paged c.args.pool run newest entry.image blocks c.works_add_up.ensures.works i c.in-Line.line _ is c.loop-line.engine (c.loop-line.invariant.paged run begins newest blocks sound) c.in_default.field-0 c.answer.new.engine next new (c.in_default.ensures.asks (state_at run i) going.fits)) c.in_default.ensures.going)
@@ -268,7 +271,8 @@ returns-then-last-clause-works g c =
           (next_paged c.args.pool run newest entry.image blocks c.works_add_up.ensures.works i c.in-Line.line _ is c.loop-line.engine (c.loop-line.invariant.paged run begins newest blocks sound) c.in_default.field-0 c.answer.new.engine next new (c.in_default.ensures.asks (state_at run i) going.fits)))
           (λ newest blocks sound. paged_versions c.args.pool run newest entry.image blocks c.versions_are_seen.ensures c.answer.new.engine new (suc i) gone.fits gone.geometry
           (next_paged c.args.pool run newest entry.image blocks c.works_add_up.ensures.works i c.in-Line.line _ is c.loop-line.engine (c.loop-line.invariant.paged run begins newest blocks sound) c.in_default.field-0 c.answer.new.engine next new (c.in_default.ensures.asks (state_at run i) going.fits)))
-          (λ newest blocks sound. (next_counted run (log_under newest blocks) entry mid next new c.loop-line.engine c.answer.new.engine i c.in-Line.line _ is (c.next.ensures.same honest).image going.geometry (c.loop-line.invariant.counted run begins newest blocks sound) c.in_default.field-0 (c.in_default.ensures.numbers (state_at run i) going.fits going.quiet)).numbers),
+          (λ newest blocks sound. seals_no_more c.args.pool run (suc i) newest blocks entry.image new.image c.answer.new.engine new refl gone.geometry gone.fits c.in_default.ensures.going (next_paged c.args.pool run newest entry.image blocks c.works_add_up.ensures.works i c.in-Line.line _ is c.loop-line.engine (c.loop-line.invariant.paged run begins newest blocks sound) c.in_default.field-0 c.answer.new.engine next new (c.in_default.ensures.asks (state_at run i) going.fits)) (next_counted run (log_under newest blocks) entry mid next new c.loop-line.engine c.answer.new.engine i c.in-Line.line _ is (c.next.ensures.same honest).image going.geometry (c.loop-line.invariant.counted run begins newest blocks sound) c.in_default.field-0 (c.in_default.ensures.numbers (state_at run i) going.fits going.quiet) (c.in_default.ensures.fills (state_at run i) going.fits going.quiet)))
+          (λ newest blocks sound. (next_counted run (log_under newest blocks) entry mid next new c.loop-line.engine c.answer.new.engine i c.in-Line.line _ is (c.next.ensures.same honest).image going.geometry (c.loop-line.invariant.counted run begins newest blocks sound) c.in_default.field-0 (c.in_default.ensures.numbers (state_at run i) going.fits going.quiet) (c.in_default.ensures.fills (state_at run i) going.fits going.quiet)).numbers),
     )
 
 pub returns-clause-works : goal.returns-clause-works

@@ -57,4 +57,5 @@ returns g c =
       sealed = grind (arith, common_steps);
       works = grind (arith, common_steps);
       hi = grind (arith, common_steps);
+      log_reads = c.flush_all.ensures.works.log_reads;
     }

@@ -1,5 +1,7 @@
+use Rattle.log_store.proofs.TailLaws.{spelling_short}
+use Rattle.redo_undo.proofs.Fillings.{append_fills}
 use Rattle.page_store.proofs.PushLaws.{log_fits}
-use Rattle.std.proofs.Common.{List, ◌≡◌, ◌≤◌, ◌<◌, Bool, true, ◌∷◌, [], ◌++◌, ap, inr, ℕ}
+use Rattle.std.proofs.Common.{List, ◌≡◌, ◌≤◌, ◌<◌, Bool, true, ◌∷◌, [], ◌++◌, ap, inr, ℕ, refl}
 use Rattle.std.specs.Prelude.{IfOk, Option}
 use Rattle.log_records.specs.Sound.{AreOrderly}
 use Rattle.image_meaning.specs.Meaning.{versions_on}
@@ -154,3 +156,6 @@ returns-clause-keeps g c pages newest records table commits h =
       masters = ok_as c.append.result _ (KeepsUnits master_shape site.image new.image)
           (λ reaches. c.ring_kept.ensures log.geometry Masters (changes_if sealing list) site.image new.image (seals_only sealing list) reaches) (c.append.ensures.reaches list ready.blocks ready.records);
     }
+
+pub returns-clause-fills : goal.returns-clause-fills
+returns-clause-fills g c pages = append_fills c.append.result (overflows c.args.log.now c.args.rec.now) _ c.args.log.now c.append.new.self pages (spelling_short c.args.rec.now c.requires.form) refl c.append.ensures.next c.append.ensures.lsn c.append.ensures.end

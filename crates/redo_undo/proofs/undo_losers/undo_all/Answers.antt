@@ -19,7 +19,7 @@ use Rattle.log_records.specs.Unfinished.{pending}
 use Rattle.analysis.specs.Read.{IsTable}
 use Rattle.log_store.specs.Representation.{has_tail}
 use Rattle.redo_undo.specs.Holding.{Represents}
-use Rattle.redo_undo.proofs.UndoneUpdates.{AsksUpdates, next_is_last, none_is_next, updates_asked_more, updates_asked_stopped, updates_asked}
+use Rattle.redo_undo.proofs.UndoneUpdates.{AsksUpdates, next_is_last, none_is_next, updates_asked_more, updates_asked_stopped, updates_asked, reads_stopped, reads_asked}
 use Rattle.redo_undo.specs.UndoingAll.{IsUndoing}
 use Rattle.redo_undo.proofs.Calling.{keeps_answered, keeps_counted, keeps_failed, keeps_few, keeps_then, works_answered, works_beside, works_then}
 use Rattle.redo_undo.proofs.undo_losers.undo_all.Given.{Over}
@@ -75,6 +75,7 @@ loop-next-init g c =
         updates = c.in-Ok.ensures.updates c.args.pages.now newest records table commits c.requires.going
             (undoing g (goal.at.loop-next-init g c).After-end_undone newest records table commits none h is);
         asks = asks_nothing {T = ⊤} (Ok tt) c.args.pages.now _ (g.S.Site.state c.end_undone.new.site) c.end_undone.ensures.works.reads (λ (worn : IsErrOf {T = ⊤} (Ok tt) (Worn Flash)). cc) (stages_ok (stages_log c.in-Ok.ensures.works));
+        read = omega (arith, c.end_undone.ensures.works.reads Log);
       };
       keeps = λ newest records table commits none h is.
           let undoing = undoing g (goal.at.loop-next-init g c).After-end_undone newest records table commits none h is in
@@ -106,7 +107,7 @@ loop-next-preserved g c =
           let all = records ++ undone.more in
           let last = next_is_last all c.next_undo.result c.in-Some.next c.in-Some.is (next_is g s newest records table commits none h is) in
           updates_asked_more c.in-Ok-undo_next.lsn c.loop-next.log c.undo_next.new.log c.loop-next.pages c.undo_next.new.pages _ _ newest records table commits c.loop-next.found c.undo_next.new.found c.loop-next.known c.in-Ok-undo_next.lsn c.args.pages.now _
-          before last.0 (c.in-Ok-undo_next.ensures.updates newest all table commits last.0 undone.now last.1) (c.in-Ok-undo_next.ensures.asks newest all table commits last.0 undone.now last.1);
+          before last.0 (c.in-Ok-undo_next.ensures.updates newest all table commits last.0 undone.now last.1) (c.in-Ok-undo_next.ensures.asks newest all table commits last.0 undone.now last.1) c.undo_next.ensures.log_reads;
       keeps = λ newest records table commits none h is.
           let undone = (before g s newest records table commits none h is).updates.some in
           let all = records ++ undone.more in
@@ -171,3 +172,17 @@ returns-clause-keeps g c newest records table commits none h is = keeps_few (ome
 
 pub returns-in-Err-clause-log_reads : goal.returns-in-Err-clause-log_reads
 returns-in-Err-clause-log_reads g c = omega (arith, c.end_undone.ensures.works.reads Log)
+
+pub returns-in-Err-clause-reads : goal.returns-in-Err-clause-reads
+returns-in-Err-clause-reads g c newest records table commits none h is = omega (arith, c.end_undone.ensures.works.reads Log)
+
+pub returns-in-Err-undo_next-clause-reads : goal.returns-in-Err-undo_next-clause-reads
+returns-in-Err-undo_next-clause-reads g c newest records table commits none h is =
+    let s = (goal.at.returns-in-Err-undo_next-clause-reads g c).After-next_undo in
+    let before = before g s newest records table commits none h is in
+    let last = next_is_last (records ++ before.updates.some.more) c.next_undo.result c.in-Some.next c.in-Some.is (next_is g s newest records table commits none h is) in
+    reads_stopped c.loop-next.log c.loop-next.pages (g.S.Site.state c.loop-next.site) (g.S.Site.state c.undo_next.new.site) newest records table commits c.loop-next.found c.loop-next.known c.args.pages.now (g.S.Site.state c.args.site.now) before last.0 c.in-Some.next.0 c.in-Some.next.1 last.1 c.undo_next.ensures.log_reads
+
+pub returns-clause-reads : goal.returns-clause-reads
+returns-clause-reads g c newest records table commits none h is =
+    reads_asked c.loop-next.log c.loop-next.pages (g.S.Site.state c.loop-next.site) newest records table commits c.loop-next.found c.loop-next.known c.args.pages.now (g.S.Site.state c.args.site.now) (before g (goal.at.returns-clause-reads g c).After-next_undo newest records table commits none h is)

@@ -1,8 +1,9 @@
-use Rattle.std.proofs.Common.{◌≡◌, ℕ, Some, refl, sym, ap, subst, ◌∙◌, arith}
+use Rattle.engine.specs.LogReads.{undo_reads}
+use Rattle.std.proofs.Common.{◌≡◌, ℕ, Some, refl, sym, ap, subst, ◌∙◌, arith, ◌≤◌, ◌+◌}
 use Rattle.std.specs.Prelude.{Result}
 use Rattle.site.specs.declared.outside.Stop.{Stop}
 use Rattle.site.specs.State.{State as Site, Snapshot}
-use Rattle.record_model.specs.State.{State}
+use Rattle.record_model.specs.State.{State, session_at}
 use Rattle.record_model.specs.Step.{effect}
 use Rattle.record_model.specs.Touches.{record_touches}
 use Rattle.record_model.specs.declared.words.Reply.{Reply}
@@ -43,3 +44,17 @@ returns-in-Ok-clause-answers g c s fits =
 pub returns-in-Err-clause-answers : goal.returns-in-Err-clause-answers
 returns-in-Err-clause-answers g c s fits =
     answered ((runs c.args.self.now _ s c.args.session c.in-Some.entry fits (sym c.find.ensures.entry ∙ c.in-Some.is)).0, (runs c.args.self.now _ s c.args.session c.in-Some.entry fits (sym c.find.ensures.entry ∙ c.in-Some.is)).1 ∙ ap (λ (n : ℕ). record_touches s (Abort n)) (sym (entry_is c.args.self.now.active c.args.session c.in-Some.entry c.requires.going.table (sym c.find.ensures.entry ∙ c.in-Some.is)).session)) (does_failed (omega arith) (of_session _ _ (entry_is c.args.self.now.active c.args.session c.in-Some.entry c.requires.going.table (sym c.find.ensures.entry ∙ c.in-Some.is)).session (c.in-Err.ensures.does s fits))) tt (c.in-Err.ensures.asks s fits)
+
+reads_of_session : (old new : Site) (s : State) (n k : ℕ) → n ≡ k → new.log_reads ≤ old.log_reads + undo_reads (session_at s n) → new.log_reads ≤ old.log_reads + undo_reads (session_at s k)
+reads_of_session old new s n k same read = subst (λ (j : ℕ). new.log_reads ≤ old.log_reads + undo_reads (session_at s j)) same read
+
+pub returns-in_default-clause-log_reads : goal.returns-in_default-clause-log_reads
+returns-in_default-clause-log_reads g c s fits = omega arith
+
+pub returns-in-Ok-clause-log_reads : goal.returns-in-Ok-clause-log_reads
+returns-in-Ok-clause-log_reads g c s fits =
+    reads_of_session (g.S.Site.state c.args.site.now) (g.S.Site.state c.carry_out_abort.new.site) s _ _ (entry_is c.args.self.now.active c.args.session c.in-Some.entry c.requires.going.table (sym c.find.ensures.entry ∙ c.in-Some.is)).session (c.carry_out_abort.ensures.log_reads s fits)
+
+pub returns-in-Err-clause-log_reads : goal.returns-in-Err-clause-log_reads
+returns-in-Err-clause-log_reads g c s fits =
+    reads_of_session (g.S.Site.state c.args.site.now) (g.S.Site.state c.carry_out_abort.new.site) s _ _ (entry_is c.args.self.now.active c.args.session c.in-Some.entry c.requires.going.table (sym c.find.ensures.entry ∙ c.in-Some.is)).session (c.carry_out_abort.ensures.log_reads s fits)

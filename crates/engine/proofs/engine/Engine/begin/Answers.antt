@@ -1,3 +1,7 @@
+use Rattle.engine.specs.declared.engine.Engine.{Engine}
+use Rattle.redo_undo.specs.Filling.{Fills}
+use Rattle.std.specs.Prelude.{OnOk}
+use Rattle.std.proofs.Common.{◌∙◌, subst}
 use Rattle.record_model.specs.declared.words.Command.TheVariants.{Begin}
 use Rattle.engine.specs.Invariant.{sizes_of}
 use Rattle.engine.specs.Representation.{checkpointed_if}
@@ -16,3 +20,11 @@ returns-in-Err-clause-answers g c s fits =
     let old = g.S.Site.state c.args.site.now in
     first_failed (Begin c.args.session) (c.wants_checkpoint_to_begin-wanted.ensures s old fits) (λ o. LeavesTable (sizes_of c.args.self.now.store) s.table s.commits old.told) c.requires.going
     (λ x p. p) (c.in-Err.ensures.does s fits) c.in-Err.ensures.asks
+
+pub returns-in-Ok-clause-log_reads : goal.returns-in-Ok-clause-log_reads
+returns-in-Ok-clause-log_reads g c = c.begin_now.ensures.log_reads ∙ c.checkpoint_if.ensures.log_reads
+
+pub returns-in-Ok-clause-fills : goal.returns-in-Ok-clause-fills
+returns-in-Ok-clause-fills g c s fits none =
+    let same = c.in-Ok.ensures.rest (c.wants_checkpoint_to_begin-wanted.ensures s (g.S.Site.state c.args.site.now) fits ∙ none) in
+    subst (λ (e : Engine). OnOk c.begin_now.result (Fills 1 e.store.log c.begin_now.new.self.store.log e.store.pages c.begin_now.new.self.store.pages)) same c.begin_now.ensures.fills

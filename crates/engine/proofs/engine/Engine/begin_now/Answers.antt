@@ -1,3 +1,4 @@
+use Rattle.redo_undo.proofs.Fillings.{fills_none}
 use Rattle.std.proofs.Common.{refl, arith}
 use Rattle.engine.proofs.Calling.{answered, does_nothing, does_failed, asks_rest, still}
 use Rattle.engine.proofs.engine.Engine.begin_now.Goals as goal
@@ -13,3 +14,9 @@ returns-in-Ok-clause-answers g c s fits =
 pub returns-in-Err-clause-answers : goal.returns-in-Err-clause-answers
 returns-in-Err-clause-answers g c s fits =
     answered (c.in_default.ensures.accepted s (g.S.Site.state c.args.site.now) fits) (does_failed (omega arith) (c.in-Err.ensures.does s fits)) tt c.in-Err.ensures.asks
+
+pub returns-in-Some-clause-fills : goal.returns-in-Some-clause-fills
+returns-in-Some-clause-fills g c = fills_none
+
+pub returns-in-Ok-clause-fills : goal.returns-in-Ok-clause-fills
+returns-in-Ok-clause-fills g c = c.in-Ok.ensures.fills

@@ -1,3 +1,4 @@
+use Rattle.engine.specs.LogReads.{undo_reads}
 use Rattle.record_model.specs.State.{Session, writes_of}
 use Rattle.record_model.specs.Touches.{write_touch, CacheWork}
 use Rattle.redo_undo.proofs.Asking.{asks_same, asks_ok, asks_err}
@@ -60,3 +61,17 @@ unfolding undone_by
 returns-in-Ok-clause-asks g c s fits =
     let found = some_active fits.newest fits.records c.args.self.now.active s fits.sessions c.args.entry.session c.args.entry c.requires.active in
     asks_same _ _ (undone_by (Some found.session)) _ _ _ _ (ap undone_by found.is) (asks_ok c.in-Ok.field-0 _ (undone_by (Some found.session)) _ _ _ _ (c.in-Ok.ensures.asks fits.newest fits.records s.table s.commits fits.holds found.session.writes found.under_way.is_active))
+
+pub returns-in-Ok-clause-log_reads : goal.returns-in-Ok-clause-log_reads
+returns-in-Ok-clause-log_reads g c s fits =
+    let found = some_active fits.newest fits.records c.args.self.now.active s fits.sessions c.args.entry.session c.args.entry c.requires.active in
+    let count = sym found.under_way.count in
+    let read = c.roll_back.ensures.log_reads fits.newest fits.records s.table s.commits fits.holds found.session.writes found.under_way.is_active count in
+    omega (arith, read, count, ap undo_reads found.is)
+
+pub returns-in-Err-clause-log_reads : goal.returns-in-Err-clause-log_reads
+returns-in-Err-clause-log_reads g c s fits =
+    let found = some_active fits.newest fits.records c.args.self.now.active s fits.sessions c.args.entry.session c.args.entry c.requires.active in
+    let count = sym found.under_way.count in
+    let read = c.roll_back.ensures.log_reads fits.newest fits.records s.table s.commits fits.holds found.session.writes found.under_way.is_active count in
+    omega (arith, read, count, ap undo_reads found.is)

@@ -1,3 +1,4 @@
+use Rattle.site.specs.declared.outside.Dev.TheVariants.{Log}
 use Rattle.std.proofs.Common.{◌++◌, ◌∷◌, [], None, refl, arith}
 use Rattle.site.specs.Laws.{stays_honest}
 use Rattle.record_model.specs.State.{writes_of, reads_of}
@@ -32,3 +33,12 @@ returns-clause-does g c s fits =
       locks_are = locks_stay engine.locks s _ (at_set writes_of s.sessions _ _ None (omega (arith, small, count)) none refl) (at_set reads_of s.sessions _ _ None (omega (arith, small, count)) none refl) fits.locks_are;
     })
     (keeps_answered (c.in-Ok.ensures.keeps fits.newest fits.records s.table s.commits fits.holds))
+
+pub returns-in-Err-clause-log_reads : goal.returns-in-Err-clause-log_reads
+returns-in-Err-clause-log_reads g c = c.begin.ensures.reads Log
+
+pub returns-clause-log_reads : goal.returns-clause-log_reads
+returns-clause-log_reads g c = c.begin.ensures.reads Log
+
+pub returns-clause-fills : goal.returns-clause-fills
+returns-clause-fills g c = c.in-Ok.ensures.fills

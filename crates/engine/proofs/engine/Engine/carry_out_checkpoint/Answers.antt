@@ -64,6 +64,7 @@ returns-in-Ok g c =
             sizes = c.checkpoint.ensures.sizes;
             stops = tt;
           };
+      log_reads = c.checkpoint.ensures.log_reads;
       asks = search rules;
     }
 

@@ -36,6 +36,8 @@ returns-in-Ok-add g c =
           (keeps_answered (c.in-Ok.ensures.keeps fits.newest fits.records s.table s.commits fits.holds));
       serves = serves_still going (works_answered c.in-Ok.ensures.works) refl refl refl (omega (arith, going.budget)) (omega (arith, going.commits, c.in-Ok.ensures.works.rises));
       asks = asks_ok c.in-Ok.field-0 _ (one_touch (c.args.number / 32)) _ _ _ _ c.in-Ok.ensures.asks;
+      log_reads = c.touch.ensures.log_reads;
+      fills = λ s fits. c.in-Ok.ensures.fills fits.newest fits.records s.table s.commits fits.holds;
       locks = search rules;
       active = search rules;
       kept = search rules;

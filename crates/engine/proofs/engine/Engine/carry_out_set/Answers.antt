@@ -57,3 +57,9 @@ returns-in-Err-seal_commit-clause-asks g c = asks_then c.in-Ok.txn _ (one_change
 
 pub returns-in-Ok-seal_commit-clause-asks : goal.returns-in-Ok-seal_commit-clause-asks
 returns-in-Ok-seal_commit-clause-asks g c = asks_then c.in-Ok.txn _ (one_change (c.args.number / 32)) [] _ _ _ _ _ _ c.in-Ok.ensures.asks c.in-Ok-seal_commit.ensures.asks
+
+pub returns-in-Err-seal_commit-clause-log_reads : goal.returns-in-Err-seal_commit-clause-log_reads
+returns-in-Err-seal_commit-clause-log_reads g c = c.seal_commit.ensures.log_reads ∙ c.log_set.ensures.log_reads
+
+pub returns-in-Ok-seal_commit-clause-log_reads : goal.returns-in-Ok-seal_commit-clause-log_reads
+returns-in-Ok-seal_commit-clause-log_reads g c = c.seal_commit.ensures.log_reads ∙ c.log_set.ensures.log_reads

@@ -1,3 +1,5 @@
+use Rattle.redo_undo.proofs.Fillings.{room_then}
+use Rattle.site.specs.declared.outside.Dev.TheVariants.{Log}
 use Rattle.engine.proofs.Asking.{has_group, change_ok}
 use Rattle.std.proofs.Common.{◌≡◌, ◌+◌, ◌*◌, ◌<◌, ◌≤◌, ⊎_elim, refl, sym, ap, subst, ◌∙◌, arith, ◌/◌, rules}
 use Rattle.std.proofs.lemmas.Option.{same_Some}
@@ -66,6 +68,8 @@ returns-in-Ok-update g c =
     let owed_is = c.wrote.ensures.owed in
     record {
       done = search rules;
+      fills = λ s fits. room_then (c.in-Ok.ensures.fills fits.newest fits.records s.table s.commits fits.holds) c.in-Ok-update.ensures.fills;
+      log_reads = c.update.ensures.reads Log ∙ c.touch.ensures.log_reads;
       does = λ s fits.
           let holds = c.in-Ok.ensures.holds fits.newest fits.records s.table s.commits fits.holds in
           let fits_mid : Matches mid new s = touched_fits engine c.touch.new.self old new s fits (stays_honest old new c.touch.ensures.works.calls.goes fits.honest) holds c.touch.ensures.made in
@@ -106,3 +110,6 @@ returns-in-Ok-update g c =
 pub returns-in-Err-update-clause-asks : goal.returns-in-Err-update-clause-asks
 returns-in-Err-update-clause-asks g c =
     change_made c.in-Ok.field-0 (Err c.in-Err-update.stop) (c.args.number / 32) _ _ _ _ _ _ (has_group c.requires.going) c.touch_then_change.ensures c.in-Ok.ensures.asks tt c.update.ensures.rules_stay c.update.ensures.reads (never_worn (Err c.in-Err-update.stop) c.in-Err-update.ensures.stops) (stages_err c.in-Err-update.ensures.stages)
+
+pub returns-in-Err-update-clause-log_reads : goal.returns-in-Err-update-clause-log_reads
+returns-in-Err-update-clause-log_reads g c = c.update.ensures.reads Log ∙ c.touch.ensures.log_reads

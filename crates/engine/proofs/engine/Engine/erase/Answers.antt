@@ -1,3 +1,4 @@
+use Rattle.redo_undo.proofs.Fillings.{fills_none, fills_more}
 use Rattle.std.proofs.Common.{subst, sym, Some, ap, ◌∙◌, refl, arith, ℕ}
 use Rattle.engine.specs.Permits.{MayWrite}
 use Rattle.txn_table.specs.Entries.{entry_of}
@@ -28,3 +29,9 @@ pub returns-in-Err-clause-answers : goal.returns-in-Err-clause-answers
 returns-in-Err-clause-answers g c s fits =
     answered (c.in_default.ensures.accepted s (g.S.Site.state c.args.site.now) fits)
     (does_failed (omega arith) (written c.args.number (entry_is c.args.self.now.active c.args.session c.entry-entry.result c.requires.going.table c.entry-entry.ensures).session refl (c.in-Err.ensures.does s fits))) tt c.in-Err.ensures.asks
+
+pub returns-in-Some-clause-fills : goal.returns-in-Some-clause-fills
+returns-in-Some-clause-fills g c s fits = fills_none
+
+pub returns-in-Ok-clause-fills : goal.returns-in-Ok-clause-fills
+returns-in-Ok-clause-fills g c s fits = fills_more (omega arith) (c.in-Ok.ensures.fills s fits)

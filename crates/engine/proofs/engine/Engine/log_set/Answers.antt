@@ -1,3 +1,4 @@
+use Rattle.site.specs.declared.outside.Dev.TheVariants.{Log}
 use Rattle.redo_undo.specs.MachineSteps.{one_change}
 use Rattle.engine.proofs.Asking.{has_group, store_has_group, change_ok}
 use Rattle.std.proofs.Common.{◌++◌, ◌∷◌, [], ◌∙◌, arith, ◌/◌, rules}
@@ -40,6 +41,7 @@ returns-in-Ok-update g c =
           keeps_both fits.honest (works_then c.in-Ok.ensures.works c.in-Ok-touch.ensures.works) touched (keeps_answered (c.in-Ok-update.ensures.keeps fits.newest log s.table s.commits held));
       works = works_then (works_then c.in-Ok.ensures.works c.in-Ok-touch.ensures.works) (works_answered c.in-Ok-update.ensures.works);
       rest = search rules;
+      log_reads = c.update.ensures.reads Log ∙ c.touch.ensures.log_reads ∙ c.begin.ensures.reads Log;
       asks =
           asks_then c.in-Ok.txn _ [] (one_change (c.args.number / 32)) _ _ _ _ _ _ c.in-Ok.ensures.asks
           (change_ok c.in-Ok-touch.field-0 _ (c.args.number / 32) _ _ _ _ _ _ (store_has_group c.in-Ok.ensures.works.going) c.touch_then_change.ensures c.in-Ok-touch.ensures.asks c.in-Ok-update.ensures.machine c.update.ensures.rules_stay c.update.ensures.reads (stages_ok c.in-Ok-update.ensures.stages));
@@ -79,3 +81,12 @@ pub returns-in-Err-update-clause-asks : goal.returns-in-Err-update-clause-asks
 returns-in-Err-update-clause-asks g c =
     asks_then c.in-Ok.txn _ [] (one_change (c.args.number / 32)) _ _ _ _ _ _ c.in-Ok.ensures.asks
     (change_made c.in-Ok-touch.field-0 (Err c.in-Err-update.stop) (c.args.number / 32) _ _ _ _ _ _ (store_has_group c.in-Ok.ensures.works.going) c.touch_then_change.ensures c.in-Ok-touch.ensures.asks tt c.update.ensures.rules_stay c.update.ensures.reads (never_worn (Err c.in-Err-update.stop) c.in-Err-update.ensures.stops) (stages_err c.in-Err-update.ensures.stages))
+
+pub returns-in-Err-clause-log_reads : goal.returns-in-Err-clause-log_reads
+returns-in-Err-clause-log_reads g c = c.begin.ensures.reads Log
+
+pub returns-in-Err-touch-clause-log_reads : goal.returns-in-Err-touch-clause-log_reads
+returns-in-Err-touch-clause-log_reads g c = c.touch.ensures.log_reads ∙ c.begin.ensures.reads Log
+
+pub returns-in-Err-update-clause-log_reads : goal.returns-in-Err-update-clause-log_reads
+returns-in-Err-update-clause-log_reads g c = c.update.ensures.reads Log ∙ c.touch.ensures.log_reads ∙ c.begin.ensures.reads Log

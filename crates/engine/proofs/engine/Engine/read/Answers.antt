@@ -1,3 +1,4 @@
+use Rattle.redo_undo.proofs.Fillings.{room_still}
 use Rattle.std.proofs.Common.{refl, ap, ◌∙◌, arith}
 use Rattle.record_model.specs.Step.{found}
 use Rattle.redo_undo.proofs.Asking.{asks_ok, asks_err}
@@ -15,3 +16,9 @@ returns-in-Ok-clause-answers g c s fits =
 pub returns-in-Err-clause-answers : goal.returns-in-Err-clause-answers
 returns-in-Err-clause-answers g c s fits =
     answered (c.in_default.ensures.accepted s (g.S.Site.state c.args.site.now) fits) (does_failed (omega arith) (c.in-Err.ensures.does s fits)) tt (asks_err c.in-Err.stop _ _ _ _ _ c.in-Err.ensures.asks)
+
+pub returns-in-Some-clause-fills : goal.returns-in-Some-clause-fills
+returns-in-Some-clause-fills g c s fits = room_still
+
+pub returns-in-Ok-clause-fills : goal.returns-in-Ok-clause-fills
+returns-in-Ok-clause-fills g c s fits = c.in-Ok.ensures.fills s fits

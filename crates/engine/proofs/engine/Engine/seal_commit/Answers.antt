@@ -1,3 +1,4 @@
+use Rattle.site.specs.declared.outside.Dev.TheVariants.{Log}
 use Rattle.redo_undo.proofs.StoreCalling.{keeps_answered, keeps_failed}
 use Rattle.engine.proofs.engine.Engine.seal_commit.Goals as goal
 
@@ -9,3 +10,9 @@ returns-in-Ok-clause-keeps g c newest records table commits h may = keeps_answer
 
 pub returns-in-Err-clause-keeps : goal.returns-in-Err-clause-keeps
 returns-in-Err-clause-keeps g c newest records table commits h may = keeps_failed (c.in-Err.ensures.keeps newest records table commits h may)
+
+pub returns-in-Ok-clause-log_reads : goal.returns-in-Ok-clause-log_reads
+returns-in-Ok-clause-log_reads g c = c.commit.ensures.reads Log
+
+pub returns-in-Err-clause-log_reads : goal.returns-in-Err-clause-log_reads
+returns-in-Err-clause-log_reads g c = c.commit.ensures.reads Log

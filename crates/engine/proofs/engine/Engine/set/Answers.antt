@@ -1,4 +1,4 @@
-use Rattle.std.proofs.Common.{◌/◌, inr, refl}
+use Rattle.std.proofs.Common.{◌/◌, inr, refl, ◌∙◌}
 use Rattle.record_model.specs.declared.words.Command.TheVariants.{Set}
 use Rattle.redo_undo.specs.MachineSteps.{one_change}
 use Rattle.page_store.specs.Caching.{cache_of, rules}
@@ -27,3 +27,6 @@ returns-in-Err-clause-answers g c s fits =
 pub returns-in-Err-clause-worn_flash : goal.returns-in-Err-clause-worn_flash
 returns-in-Err-clause-worn_flash g c is =
     inr (overflows_before c.works_add_up.ensures.overflow c.wants_checkpoint_to_set-wanted.result (rules c.args.self.now.store.pages) (one_change (c.args.number / 32)) (cache_of c.args.self.now.store.pages) (has_group c.requires.going) (c.in-Err.ensures.asks.worn (err_again _ _ is)))
+
+pub returns-in-Ok-clause-log_reads : goal.returns-in-Ok-clause-log_reads
+returns-in-Ok-clause-log_reads g c = c.set_now.ensures.log_reads ∙ c.checkpoint_if.ensures.log_reads

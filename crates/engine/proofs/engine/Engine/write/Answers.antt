@@ -1,4 +1,7 @@
-use Rattle.std.proofs.Common.{subst, sym, Some, ap, ◌∙◌, refl, arith, ℕ}
+use Rattle.log_records.specs.Spelling.{content_spelling}
+use Rattle.record_model.specs.State.{Content}
+use Rattle.redo_undo.proofs.Fillings.{fills_none, fills_more}
+use Rattle.std.proofs.Common.{subst, sym, Some, ap, ◌∙◌, refl, arith, ℕ, length}
 use Rattle.engine.specs.Permits.{MayWrite}
 use Rattle.txn_table.specs.Entries.{entry_of}
 use Rattle.engine.proofs.Owing.{entry_is}
@@ -28,3 +31,9 @@ pub returns-in-Err-clause-answers : goal.returns-in-Err-clause-answers
 returns-in-Err-clause-answers g c s fits =
     answered (c.in_default.ensures.accepted s (g.S.Site.state c.args.site.now) fits)
     (does_failed (omega arith) (written c.args.number (entry_is c.args.self.now.active c.args.session c.entry-entry.result c.requires.going.table c.entry-entry.ensures).session c.value_of-after.ensures (c.in-Err.ensures.does s fits))) tt c.in-Err.ensures.asks
+
+pub returns-in-Some-clause-fills : goal.returns-in-Some-clause-fills
+returns-in-Some-clause-fills g c s fits = fills_none
+
+pub returns-in-Ok-clause-fills : goal.returns-in-Ok-clause-fills
+returns-in-Ok-clause-fills g c s fits = fills_more (omega (arith, ap (λ (x : Content). length (content_spelling x)) c.value_of-after.ensures)) (c.in-Ok.ensures.fills s fits)

@@ -1,4 +1,5 @@
-use Rattle.std.proofs.Common.{refl}
+use Rattle.redo_undo.proofs.Fillings.{fills_more, begin_octets}
+use Rattle.std.proofs.Common.{refl, arith}
 use Rattle.image_meaning.proofs.Leaving.{under_leaves_for}
 use Rattle.page_store.proofs.StagingLaws.{stages_ok, stages_err}
 use Rattle.redo_undo.proofs.Asking.{asks_nothing, stages_log}
@@ -31,3 +32,6 @@ returns-in-Ok-clause-keeps g c newest records table commits h =
 pub returns-in-Err-clause-keeps : goal.returns-in-Err-clause-keeps
 returns-in-Err-clause-keeps g c newest records table commits h =
     keeps_of (under_leaves_for newest _ _ _ table commits _) (keeps_appended c.requires.may.going.both c.in-Err.ensures.stops (c.in-Err.ensures.keeps c.args.self.now.pages newest records table commits h.both))
+
+pub returns-in-Ok-clause-fills : goal.returns-in-Ok-clause-fills
+returns-in-Ok-clause-fills g c = fills_more (omega (arith, begin_octets)) (c.in-Ok.ensures.fills c.args.self.now.pages)

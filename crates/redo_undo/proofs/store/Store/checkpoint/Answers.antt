@@ -1,5 +1,5 @@
-use Rattle.std.proofs.Common.{◌≡◌, Err, refl, ap, arith, ◌≤◌}
-use Rattle.site.specs.declared.outside.Dev.TheVariants.{Flash}
+use Rattle.std.proofs.Common.{◌≡◌, Err, refl, ap, arith, ◌≤◌, ◌∙◌}
+use Rattle.site.specs.declared.outside.Dev.TheVariants.{Log, Flash}
 use Rattle.page_store.specs.Caching.{rules}
 use Rattle.redo_undo.specs.MachineSteps.{checkpoint_works}
 use Rattle.redo_undo.proofs.AskingUndo.{asks_refused, log_alone, not_worn_flash}
@@ -106,3 +106,15 @@ returns-in-Ok-save_master-clause-asks g c =
     asks_around c.flush.result (Ok tt) checkpoint_works c.args.self.now.pages c.flush.new.pages (g.S.Site.state c.args.site.now) (g.S.Site.state c.force.new.site) (g.S.Site.state c.flush.new.site) (g.S.Site.state c.save_master.new.site)
     c.force.ensures.works.reads c.save_master.ensures.reads c.in-Ok-flush.ensures.asks.machine (λ is. absurd (no_error is)) (stages_ok (stages_log c.in-Ok.ensures.works))
     (flush_then checkpoint_works c.in-Ok-flush.ensures.asks.machine c.in-Ok-flush.ensures.asks.stages (stages_ok (stages_beside (omega arith) c.in-Ok-save_master.ensures.changes c.in-Ok-save_master.ensures.calls refl))) c.flush.ensures.asks
+
+pub returns-in-Err-clause-log_reads : goal.returns-in-Err-clause-log_reads
+returns-in-Err-clause-log_reads g c = c.force.ensures.works.reads Log
+
+pub returns-in-Err-flush-clause-log_reads : goal.returns-in-Err-flush-clause-log_reads
+returns-in-Err-flush-clause-log_reads g c = c.flush.ensures.log_reads ∙ c.force.ensures.works.reads Log
+
+pub returns-in-Err-save_master-clause-log_reads : goal.returns-in-Err-save_master-clause-log_reads
+returns-in-Err-save_master-clause-log_reads g c = c.save_master.ensures.reads Log ∙ c.flush.ensures.log_reads ∙ c.force.ensures.works.reads Log
+
+pub returns-in-Ok-save_master-clause-log_reads : goal.returns-in-Ok-save_master-clause-log_reads
+returns-in-Ok-save_master-clause-log_reads g c = c.save_master.ensures.reads Log ∙ c.flush.ensures.log_reads ∙ c.force.ensures.works.reads Log

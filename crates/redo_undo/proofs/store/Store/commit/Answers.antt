@@ -174,3 +174,9 @@ returns-in-Err-force-clause-asks g c = asks_nothing _ c.args.self.now.pages _ _ 
 
 pub returns-in-Ok-force-clause-asks : goal.returns-in-Ok-force-clause-asks
 returns-in-Ok-force-clause-asks g c = asks_nothing _ c.args.self.now.pages _ _ (λ d. c.force.ensures.reads d ∙ c.log_record.ensures.works.reads d) (λ is. cc) (stages_then (λ has. omega arith) (stages_log c.in-Ok.ensures.works) (stages_alone c.in-Ok-force.ensures.changes c.in-Ok-force.ensures.goes c.in-Ok-force.ensures.quiet))
+
+pub returns-in-Err-force-clause-reads : goal.returns-in-Err-force-clause-reads
+returns-in-Err-force-clause-reads g c = λ d. c.force.ensures.reads d ∙ c.log_record.ensures.works.reads d
+
+pub returns-in-Ok-force-clause-reads : goal.returns-in-Ok-force-clause-reads
+returns-in-Ok-force-clause-reads g c = λ d. c.force.ensures.reads d ∙ c.log_record.ensures.works.reads d

@@ -69,3 +69,23 @@ pub returns-clause-asks : goal.returns-clause-asks
 returns-clause-asks g c newest records table commits h writes active =
     asks_same _ _ _ _ _ _ _ (sym (c.sessions_are_undone.ensures newest records c.args.entry.begin c.args.entry.last writes active))
     (asks_ok c.in-Ok.field-0 _ _ _ _ _ _ (c.in-Ok.ensures.asks newest records table commits _ h.both (active_left c.args.self.now _ newest records table commits c.args.entry.begin c.args.entry.last writes h active) refl refl))
+
+pub returns-in-Err-clause-log_reads : goal.returns-in-Err-clause-log_reads
+returns-in-Err-clause-log_reads g c newest records table commits h writes active count =
+    let left = active_left c.args.self.now (g.S.Site.state c.args.site.now) newest records table commits c.args.entry.begin c.args.entry.last writes h active in
+    omega (arith, c.undo_one.ensures.log_reads newest records table commits _ h.both left refl refl, count)
+
+pub returns-then-blocks-before-clause-log_reads : goal.returns-then-blocks-before-clause-log_reads
+returns-then-blocks-before-clause-log_reads g c newest records table commits h writes active count =
+    let left = active_left c.args.self.now (g.S.Site.state c.args.site.now) newest records table commits c.args.entry.begin c.args.entry.last writes h active in
+    omega (arith, c.undo_one.ensures.log_reads newest records table commits _ h.both left refl refl, count)
+
+pub returns-then-blocks-owed-clause-log_reads : goal.returns-then-blocks-owed-clause-log_reads
+returns-then-blocks-owed-clause-log_reads g c newest records table commits h writes active count =
+    let left = active_left c.args.self.now (g.S.Site.state c.args.site.now) newest records table commits c.args.entry.begin c.args.entry.last writes h active in
+    omega (arith, c.undo_one.ensures.log_reads newest records table commits _ h.both left refl refl, count)
+
+pub returns-clause-log_reads : goal.returns-clause-log_reads
+returns-clause-log_reads g c newest records table commits h writes active count =
+    let left = active_left c.args.self.now (g.S.Site.state c.args.site.now) newest records table commits c.args.entry.begin c.args.entry.last writes h active in
+    omega (arith, c.undo_one.ensures.log_reads newest records table commits _ h.both left refl refl, count)

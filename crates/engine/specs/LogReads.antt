@@ -1,0 +1,25 @@
+-- How often the log is read.
+use Rattle.std.specs.Prelude.{ℕ, ◌+◌, List, length, Option, Some, None}
+use Rattle.site.specs.declared.geometry.Geometry.{Geometry}
+use Rattle.record_model.specs.State.{Session, State, session_at}
+use Rattle.record_model.specs.declared.words.Command.{Command}
+use Rattle.record_model.specs.declared.words.Command.TheVariants.{Abort}
+use Rattle.log_records.specs.declared.log_record.LogRecord.{LogRecord}
+use Rattle.log_records.specs.Unfinished.{pending}
+use Rattle.checkpoint.specs.declared.master.Master.{Master}
+use Rattle.engine.specs.Image.{log_under}
+
+-- undoing a session reads the last record of its transaction, and the record of each of its writes
+abbrev pub undo_reads : Option Session → ℕ
+undo_reads None = 0
+undo_reads (Some session) = length session.writes + 1
+
+-- how often a command reads the log at most: an abort undoes its session
+abbrev pub log_reads_by : State → Command → ℕ
+log_reads_by s (Abort n) = undo_reads (session_at s n)
+log_reads_by s _ = 0
+
+-- A restart over these kept blocks finds the rings on the log's device by one read of each slot of the log's ring and
+-- six more, reads each of the blocks once, and once more the record of each Update that remains to be undone.
+abbrev pub restart_log_reads : Geometry → Option Master → List (List LogRecord) → ℕ
+restart_log_reads g newest blocks = g.blocks + 6 + length blocks + length (pending (log_under newest blocks))
