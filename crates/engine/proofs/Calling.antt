@@ -2,7 +2,7 @@
 use Rattle.std.proofs.Common.{◌≡◌, inl, inr, ◌+◌, ◌≤◌, List, [], ◌∷◌, Bool, true, false, refl, sym, subst, ap, ◌∙◌, arith, ⊎_elim, ℕ}
 use Rattle.std.specs.Prelude.{Result, Ok, Err, OnOk, IfOk, IsErrOf, IsTrue, if◌then◌else◌}
 use Rattle.site.specs.declared.outside.Dev.{Dev}
-use Rattle.site.specs.declared.outside.Dev.TheVariants.{Flash}
+use Rattle.site.specs.declared.outside.Dev.TheVariants.{Log, Flash}
 use Rattle.site.specs.declared.outside.Stop.{Stop}
 use Rattle.site.specs.declared.outside.Stop.TheVariants.{Device, Worn, Memory}
 use Rattle.site.specs.declared.geometry.Geometry.{Geometry}
@@ -125,7 +125,7 @@ does_of {r = r} {old = old} {new = new} {before = before} {now = now} {s = s} {a
 }
 
 pub does_ok : {T : Type 0} {x : T} {old new : Engine} {before now : Site} {s after : State} {P : Snapshot → Type 0} {m : ℕ} → Matches new now after → (IsQuiet before → LeavesOnly before now P) →
-    (IsQuiet before → CountsOn {T = T} {E = Stop} (Ok x) old new before now s after m) → Does {T = T} (Ok x) old new before now s after P m
+    (IsQuiet before → CountsOn {T = T} {E = Stop} (Ok x) (Worn Log) old new before now s after m) → Does {T = T} (Ok x) old new before now s after P m
 does_ok fits moments numbers = record { after_fits = fits; ends = ends_ok moments; numbers = numbers }
 
 pub does_weaker : {T : Type 0} {r : Result T Stop} {old new : Engine} {before now : Site} {s after : State} {P R : Snapshot → Type 0} {m : ℕ} → ((x : Snapshot) → P x → R x) → Does r old new before now s after P m → Does r old new before now s after R m
@@ -176,7 +176,7 @@ asks_rest {T = T} {x = x} {pages = pages} {site = site} = asks_nothing {T = T} (
 
 -- a command that is refused, or only answers: nothing is called
 pub does_nothing : {T : Type 0} {x : T} {engine : Engine} {site : Site} {s : State} {P : Snapshot → Type 0} → Matches engine site s → Invariant engine site → (IsQuiet site → LeavesOnly site site P) → Does {T = T} (Ok x) engine engine site site s s P 0
-does_nothing {T = T} {x = x} {engine = engine} {site = site} {s = s} fits going still = does_ok fits still (λ quiet. count_nothing {T = T} {E = Stop} (Ok x) engine site s s fits going (omega arith))
+does_nothing {T = T} {x = x} {engine = engine} {site = site} {s = s} fits going still = does_ok fits still (λ quiet. count_nothing x engine site s s fits going quiet (omega arith))
 
 -- what stands already stands
 pub still : HoldsMoment → {engine : Engine} {site : Site} {s : State} → (fits : Matches engine site s) → Invariant engine site → IsQuiet site → LeavesOnly site site (LeavesTable (sizes_of engine.store) s.table s.commits site.told)
@@ -243,8 +243,11 @@ pub does_no_memory : {A B : Type 0} {a : A} {stop : Stop} {old new : Engine} {be
 does_no_memory {A = A} {B = B} {a = a} {stop = stop} {old = old} {new = new} {before = before} {now = now} {s = s} {after = after} {after' = after'} {m = m} memory honest few serves first = record {
   after_fits = tt;
   ends = ends_no_memory memory (serves.calls.stays_quiet honest) first.ends;
-  numbers = λ quiet. count_failed {T = B} {A = B} stop old new new before now s after after' m few (count_refused {T = B} {A = A} a stop old new new before now s after m (first.numbers quiet));
+  numbers = λ quiet. count_failed {T = B} {A = B} stop old new new before now s after after' m few (count_refused {T = B} {A = A} a stop old new new before now s after m (λ is. never (sym memory ∙ is)) (first.numbers quiet));
 }
+  where
+    never : Memory ≡ Worn Log → ⊥
+    never is = cc
 
 -- Leaves of the tower.
 

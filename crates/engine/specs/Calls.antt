@@ -1,6 +1,8 @@
 -- What the calls of a run say, each as one record with the call's result as its index.
 use Rattle.std.specs.Prelude.{◌≡◌, List, Result, IfOk, OnOk, IfErr, ℕ}
+use Rattle.site.specs.declared.outside.Dev.TheVariants.{Log}
 use Rattle.site.specs.declared.outside.Stop.{Stop}
+use Rattle.site.specs.declared.outside.Stop.TheVariants.{Worn}
 use Rattle.site.specs.State.{State as Site, Snapshot, IsQuiet}
 use Rattle.record_model.specs.State.{State}
 use Rattle.record_model.specs.Step.{Outcome}
@@ -29,7 +31,7 @@ pub record Does {T : Type 0} (result : Result T Stop) (old new : Engine) (before
   pub after_fits : OnOk result (Matches new now after)
   pub ends : Ends result (sizes_of old.store) before now P
   pub open ends use *
-  pub numbers : IsQuiet before → CountsOn result old new before now s after checkpoints
+  pub numbers : IsQuiet before → CountsOn result (Worn Log) old new before now s after checkpoints
 
 -- A command: it answers what the model answers, and does and asks what the model does and asks.
 pub record Answers (result : Result Reply Stop) (old new : Engine) (before now : Site) (s : State) (o : Outcome)

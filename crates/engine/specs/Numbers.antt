@@ -1,8 +1,12 @@
--- No number is skipped by the rings on the log's device.
-use Rattle.std.specs.Prelude.{◌≡◌, ℕ, ◌+◌, ◌≤◌, true, if◌then◌else◌, List, Result, OnOk, IfOk}
+-- No number is skipped by the rings on the log's device, and it is worn only where a ring is to be appended to past its
+-- end.
+use Rattle.std.specs.Prelude.{◌≡◌, ℕ, ◌+◌, ◌≤◌, true, if◌then◌else◌, List, Result, Ok, OnOk, IfOk, IsErrOf}
+use Rattle.site.specs.declared.outside.Dev.TheVariants.{Log}
 use Rattle.site.specs.declared.outside.Stop.{Stop}
+use Rattle.site.specs.declared.outside.Stop.TheVariants.{Worn}
 use Rattle.site.specs.declared.geometry.Geometry.{Geometry}
-use Rattle.site.specs.State.{State as Site}
+use Rattle.site.specs.State.{State as Site, IsQuiet}
+use Rattle.site.specs.Moments.{LeavesOnly}
 use Rattle.sealed_ring.specs.Ring.{hi_of}
 use Rattle.image_changes.specs.Rings.{log_shape, master_shape}
 use Rattle.record_model.specs.State.{State}
@@ -13,6 +17,7 @@ use Rattle.log_records.specs.Log.{Entry}
 use Rattle.log_records.specs.Unfinished as unfinished
 use Rattle.log_store.specs.declared.store.LogStore.{LogStore}
 use Rattle.redo_undo.specs.Holding.{blocks_to}
+use Rattle.redo_undo.specs.Numbers.{HasNumbers, PassesEnd, SkipsNone}
 use Rattle.engine.specs.declared.engine.Engine.{Engine}
 use Rattle.engine.specs.Invariant.{Invariant, sizes_of}
 use Rattle.engine.specs.Representation.{Matches}
@@ -21,28 +26,30 @@ use Rattle.engine.specs.Representation.{Matches}
 abbrev pub checkpoints_by : State → Command → ℕ
 checkpoints_by s command = if makes_checkpoint true s command then 1 else 0
 
--- A call takes the model from one state to another, with so many checkpoints. However it ends, the ring of the log's
--- blocks has at most one number more for each record that the model counts, beside the one for the tail that the call
--- found, and the ring of the master units at most one for each checkpoint. At Ok the blocks are no more than that with
--- the tail that it leaves, too, and each checkpoint has its master unit.
-pub record CountsOn {T E : Type 0} (result : Result T E) (old new : Engine) (before now : Site) (s after : State)
-    (checkpoints : ℕ) : Type 0 where
-  pub log : OnOk result (blocks_to new.store.log + s.made ≤ blocks_to old.store.log + after.made)
-  pub blocks : hi_of (log_shape (sizes_of old.store)) now.image.log + s.made ≤ blocks_to old.store.log + after.made
-  pub masters : hi_of master_shape now.image.log ≤ hi_of master_shape before.image.log + checkpoints
-  pub saved : OnOk result (hi_of master_shape now.image.log ≡ hi_of master_shape before.image.log + checkpoints)
+-- A call takes the model from one state to another, with so many checkpoints: it makes no more records than the model
+-- counts.
+pub record CountsOn {T E : Type 0} (result : Result T E) (at_end : E) (old new : Engine) (before now : Site)
+    (s after : State) (checkpoints : ℕ) : Type 0 where
+  pub records : ℕ
+  pub made : s.made + records ≤ after.made
+  pub skips : SkipsNone result at_end (sizes_of old.store) old.store.log new.store.log before now records checkpoints
+  pub open skips use *
 
--- A restart on these records. However it ends, the ring of the log's blocks has at most one number more for each record
--- that undo owes, and the ring of the master units one for its checkpoint. At Ok the blocks are no more than that with
--- the tail, too, and the master unit is there.
+-- A restart on these records. However it ends, and wherever a crash ends it, the ring of the log's blocks has at most
+-- one number more for each record that undo owes, and the ring of the master units one for its checkpoint. At Ok the
+-- blocks are no more than that with the tail, too, and the master unit is there. It answers that the log is worn only
+-- where that many are past the end of a ring.
 pub record RestartsWithin {T : Type 0} (result : Result T Stop) (log_of : T
     → LogStore) (g : Geometry) (records : List Entry) (before now : Site) : Type 0 where
   pub log : IfOk result (λ x. blocks_to (log_of x) ≤ hi_of (log_shape g) before.image.log + unfinished.owed records)
-  pub blocks : hi_of (log_shape g) now.image.log ≤ hi_of (log_shape g) before.image.log + unfinished.owed records
-  pub masters : hi_of master_shape now.image.log ≤ hi_of master_shape before.image.log + 1
+  pub any_moment : LeavesOnly before now (λ s. HasNumbers g (hi_of (log_shape g) before.image.log
+      + unfinished.owed records) (hi_of master_shape before.image.log + 1) s.image)
   pub saved : OnOk result (hi_of master_shape now.image.log ≡ hi_of master_shape before.image.log + 1)
+  pub worn : IsErrOf result (Worn Log) → PassesEnd (hi_of (log_shape g) before.image.log + unfinished.owed records)
+      (hi_of master_shape before.image.log + 1)
 
 -- where nothing is called, nothing is counted
 abbrev pub RestCountsNothing : Type 0
-RestCountsNothing = (result : Result Reply Stop) (engine : Engine) (site : Site) (s : State) → Matches engine site s
-    → Invariant engine site → CountsOn result engine engine site site s s 0
+RestCountsNothing = (reply : Reply) (engine : Engine) (site : Site) (s : State) → Matches engine site s
+    → Invariant engine site → IsQuiet site
+    → CountsOn {T = Reply} {E = Stop} (Ok reply) (Worn Log) engine engine site site s s 0

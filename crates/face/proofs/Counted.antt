@@ -4,12 +4,16 @@ use Rattle.face.proofs.Fillings.{filled_blocks, octets_next, first_fill}
 use Rattle.engine.specs.Paging.{cache_on}
 use Rattle.page_store.specs.Caching.{cache_of, next_group}
 use Rattle.std.proofs.Common.{◌≡◌, ℕ, suc, ◌+◌, ◌*◌, ◌≤◌, Bool, true, false, List, [], ◌∷◌, ◌++◌, take, drop, refl, sym, ◌∙◌, ap, subst, arith}
-use Rattle.std.specs.Prelude.{Result, Ok, Err, Some, None, if◌then◌else◌}
+use Rattle.std.specs.Prelude.{Result, Ok, Err, IsErrOf, Some, None, if◌then◌else◌}
 use Rattle.std_lemmas.proofs.Results.{on_ok}
-use Rattle.std.proofs.lemmas.Result.{on_ok_weaker}
 use Rattle.site.specs.declared.geometry.Geometry.{Geometry}
+use Rattle.site.specs.declared.outside.Dev.TheVariants.{Log}
 use Rattle.site.specs.declared.outside.Stop.{Stop}
-use Rattle.site.specs.State.{State as Site, Image}
+use Rattle.site.specs.declared.outside.Stop.TheVariants.{Worn}
+use Rattle.site.specs.State.{State as Site, Image, IsQuiet}
+use Rattle.site.specs.Laws.{holds_now, in_sequence, unchanged}
+use Rattle.site.specs.Moments.{EachMoment, Leaves, LeavesOnly}
+use Rattle.site.specs.Telling.{TellsPart}
 use Rattle.sealed_ring.specs.Ring.{hi_of}
 use Rattle.image_changes.specs.Rings.{log_shape, master_shape}
 use Rattle.record_model.specs.declared.words.CacheLine.{CacheLine}
@@ -21,14 +25,17 @@ use Rattle.log_records.specs.Log.{Entry}
 use Rattle.log_records.specs.Unfinished.{owed}
 use Rattle.log_store.specs.declared.store.LogStore.{LogStore}
 use Rattle.redo_undo.specs.Holding.{blocks_to}
+use Rattle.redo_undo.specs.Numbers.{HasNumbers, PassesEnd}
+use Rattle.redo_undo.proofs.RingNumbers.{error_is, leaves_more, leaves_unchanged, passes_more}
 use Rattle.engine.specs.declared.engine.Engine.{Engine}
 use Rattle.engine.specs.Representation.{Matches}
 use Rattle.engine.specs.Invariant.{Invariant, sizes_of}
 use Rattle.engine.specs.Image.{log_under}
 use Rattle.engine.specs.Numbers.{CountsOn, RestartsWithin}
 use Rattle.face.specs.Going.{IsCounted}
-use Rattle.face.specs.Lines.{up_to_quit}
-use Rattle.face.specs.Range.{GivesNumbers, SkipsNoNumber, made_by}
+use Rattle.face.specs.Lines.{HearsOnly, up_to_quit}
+use Rattle.face.specs.Range.{GivesNumbers, SkipsNoNumber, blocks_by, made_by, masters_by}
+use Rattle.face.proofs.Writings.{images_heard, images_told}
 use Rattle.face.specs.Run.{Run, after_lines, answered, checkpoints_of, first_lines, line_checkpoints, listing_at, state_at, step, turns_of}
 use Rattle.face.specs.Workload.{checkpoints_in, makes_one}
 use Rattle.engine.specs.Numbers.{RestCountsNothing}
@@ -40,49 +47,52 @@ use Rattle.face.proofs.Turns.{left_are}
 
 -- Calls.
 
--- a call that was Ok, and whatever its caller answers where the image stays as it is
-pub counts_then : {A B E F : Type 0} (x : A) (r : Result B F) (old new : Engine) (before mid now : Site) (s after : State) (n : ℕ) → now.image ≡ mid.image → CountsOn {T = A} {E = E} (Ok x) old new before mid s after n → CountsOn r old new before now s after n
-counts_then x r old new before mid now s after n same c =
-    let blocks : hi_of (log_shape (sizes_of old.store)) now.image.log ≡ hi_of (log_shape (sizes_of old.store)) mid.image.log = ap (λ (i : Image). hi_of (log_shape (sizes_of old.store)) i.log) same in
-    let masters : hi_of master_shape now.image.log ≡ hi_of master_shape mid.image.log = ap (λ (i : Image). hi_of master_shape i.log) same in
-    record {
-      log = on_ok r _ c.log;
-      blocks = let few = c.blocks in omega (arith, few, blocks);
-      masters = let few = c.masters in omega (arith, few, masters);
-      saved = on_ok r _ (masters ∙ c.saved);
-    }
+-- a call that was Ok, and another answer of its caller
+pub counts_as : {A B E F : Type 0} {worn : F} {other : E} (x : A) (r : Result B F) (old new : Engine) (before now : Site) (s after : State) (n : ℕ) → (IsErrOf r worn → ⊥) → CountsOn {T = A} {E = E} (Ok x) other old new before now s after n → CountsOn r worn old new before now s after n
+counts_as x r old new before now s after n never c = record {
+  records = c.records;
+  made = c.made;
+  skips = record { log = on_ok r _ c.log; any_moment = c.any_moment; saved = on_ok r _ c.saved; worn = λ is. absurd (never is) };
+}
+
+-- behind which something is told
+pub counts_told : {A B E F : Type 0} {worn : F} {other : E} (x : A) (r : Result B F) (old new : Engine) (piece : List ℕ) (before mid now : Site) (s after : State) (n : ℕ) → EachMoment mid now (TellsPart piece mid) → now.image ≡ mid.image → (IsErrOf r worn → ⊥) → CountsOn {T = A} {E = E} (Ok x) other old new before mid s after n →
+    CountsOn r worn old new before now s after n
+counts_told x r old new piece before mid now s after n tells same never c = record {
+  records = c.records;
+  made = c.made;
+  skips = record {
+    log = on_ok r _ c.log;
+    any_moment = images_told (λ (i : Image). HasNumbers (sizes_of old.store) (blocks_to old.store.log + c.records) (hi_of master_shape before.image.log + n) i) piece before mid now c.any_moment tells;
+    saved = on_ok r _ (ap (λ (i : Image). hi_of master_shape i.log) same ∙ c.saved);
+    worn = λ is. absurd (never is);
+  };
+}
 
 -- the error of a call is one of its caller
-pub counts_err : {A B E F : Type 0} (e : E) (f : F) (old new : Engine) (before now : Site) (s after : State) (n : ℕ) → CountsOn {T = A} {E = E} (Err e) old new before now s after n → CountsOn {T = B} {E = F} (Err f) old new before now s after n
-counts_err e f old new before now s after n c = record { log = tt; blocks = c.blocks; masters = c.masters; saved = tt }
-
--- a call behind one that was Ok
-pub counts_join : {A T E F : Type 0} (x : A) (r : Result T F) (a b c : Engine) (before mid now : Site) (s t u : State) (n m : ℕ) → sizes_of b.store ≡ sizes_of a.store → CountsOn {T = A} {E = E} (Ok x) a b before mid s t n → CountsOn r b c mid now t u m → CountsOn r a c before now s u (n + m)
-counts_join x r a b c before mid now s t u n m sizes first second =
-    let shape : hi_of (log_shape (sizes_of b.store)) now.image.log ≡ hi_of (log_shape (sizes_of a.store)) now.image.log = ap (λ (g : Geometry). hi_of (log_shape g) now.image.log) sizes in
-    let log = first.log in
-    let saved = first.saved in
-    record {
-      log = on_ok_weaker r (λ more. omega (arith, more, log)) second.log;
-      blocks = let more = second.blocks in omega (arith, more, log, shape);
-      masters = let more = second.masters in omega (arith, more, saved);
-      saved = on_ok_weaker r (λ more. let all : hi_of master_shape now.image.log ≡ hi_of master_shape before.image.log + (n + m) = omega (arith, more, saved) in all) second.saved;
-    }
+pub counts_err : {A B E F : Type 0} {other : E} {worn : F} (e : E) (f : F) (old new : Engine) (before now : Site) (s after : State) (n : ℕ) → (f ≡ worn → e ≡ other) → CountsOn {T = A} {E = E} (Err e) other old new before now s after n → CountsOn {T = B} {E = F} (Err f) worn old new before now s after n
+counts_err {B = B} {worn = worn} e f old new before now s after n back c = record {
+  records = c.records;
+  made = c.made;
+  skips = record { log = tt; any_moment = c.any_moment; saved = tt; worn = λ is. c.worn (ap Err (back (error_is {T = B} f worn is))) };
+}
 
 -- no call
-pub counts_none : {T F : Type 0} (r : Result T F) (engine : Engine) (site : Site) (s : State) → RestCountsNothing → Matches engine site s → Invariant engine site → CountsOn r engine engine site site s s 0
-counts_none r engine site s rest fits going = counts_then {E = Stop} reply.Done r engine engine site site site s s 0 refl (rest (Ok reply.Done) engine site s fits going)
+pub counts_none : {T F : Type 0} {worn : F} (r : Result T F) (engine : Engine) (site : Site) (s : State) → RestCountsNothing → Matches engine site s → Invariant engine site → IsQuiet site → (IsErrOf r worn → ⊥) → CountsOn r worn engine engine site site s s 0
+counts_none r engine site s rest fits going quiet never = counts_as reply.Done r engine engine site site s s 0 never (rest reply.Done engine site s fits going quiet)
 
 -- a line that asks for no call
-pub counts_idle : (r : Result Reply Stop) (line : Line) (engine : Engine) (site : Site) (s : State) → RestCountsNothing → Matches engine site s → Invariant engine site → (step s line []).after ≡ s → line_checkpoints s line ≡ 0 → CountsOn r engine engine site site s (step s line []).after (line_checkpoints s line)
-counts_idle r line engine site s rest fits going stays none =
-    subst (λ (n : ℕ). CountsOn r engine engine site site s (step s line []).after n) (sym none) (subst (λ (a : State). CountsOn r engine engine site site s a 0) (sym stays) (rest r engine site s fits going))
+pub counts_idle : (r : Result Reply Stop) (line : Line) (engine : Engine) (site : Site) (s : State) → RestCountsNothing → Matches engine site s → Invariant engine site → IsQuiet site → (IsErrOf r (Worn Log) → ⊥) → (step s line []).after ≡ s → line_checkpoints s line ≡ 0 →
+    CountsOn r (Worn Log) engine engine site site s (step s line []).after (line_checkpoints s line)
+counts_idle r line engine site s rest fits going quiet never stays none =
+    subst (λ (n : ℕ). CountsOn r (Worn Log) engine engine site site s (step s line []).after n) (sym none)
+    (subst (λ (a : State). CountsOn r (Worn Log) engine engine site site s a 0) (sym stays) (counts_none r engine site s rest fits going quiet never))
 
 -- a call, for the line that it carries out
-pub counts_line : {T E : Type 0} (r : Result T E) (line : Line) (a b : Engine) (before now : Site) (s : State) → CountsOn r a b before now s (step s line []).after (line_checkpoints s line) → CountsOn r a b before now s (after_lines s (line ∷ []) []) (checkpoints_of s (line ∷ []))
-counts_line r line a b before now s c =
+pub counts_line : {T E : Type 0} {worn : E} (r : Result T E) (line : Line) (a b : Engine) (before now : Site) (s : State) → CountsOn r worn a b before now s (step s line []).after (line_checkpoints s line) → CountsOn r worn a b before now s (after_lines s (line ∷ []) []) (checkpoints_of s (line ∷ []))
+counts_line {worn = worn} r line a b before now s c =
     let one : line_checkpoints s line ≡ checkpoints_of s (line ∷ []) = omega arith in
-    subst (λ (n : ℕ). CountsOn r a b before now s (step s line []).after n) one c
+    subst (λ (n : ℕ). CountsOn r worn a b before now s (step s line []).after n) one c
 
 -- The checkpoints of lines.
 
@@ -128,31 +138,41 @@ checkpoints_are run lines = turns_make run.opening (take lines run.lines) run.li
 -- A run, line by line.
 
 module _ (run : Run) (records : List Entry) (entry : Site) where
-  -- where the restart fails
-  pub restart_fails : {T : Type 0} (result : Result T Stop) (log_of : T → LogStore) (mid now : Site) → now.image ≡ mid.image → RestartsWithin result log_of run.geometry records entry mid → GivesNumbers (first_lines run 0) records entry.image now.image
-  restart_fails result log_of mid now same within =
-      let blocks : hi_of (log_shape run.geometry) now.image.log ≡ hi_of (log_shape run.geometry) mid.image.log = ap (λ (i : Image). hi_of (log_shape run.geometry) i.log) same in
-      let masters : hi_of master_shape now.image.log ≡ hi_of master_shape mid.image.log = ap (λ (i : Image). hi_of master_shape i.log) same in
-      record {
-        blocks = let few = within.blocks in omega (arith, few, blocks);
-        masters = let few = within.masters in omega (arith, few, masters);
-      }
+  -- the numbers that its first lines give at most
+  abbrev blocks_at : ℕ → ℕ
+  blocks_at i = blocks_by (first_lines run i) records entry.image
 
-  -- and where it doesn't
-  pub first_counted : (engine : Engine) (mid now : Site) → now.image ≡ mid.image → RestartsWithin {T = Engine} (Ok engine) (λ e. e.store.log) run.geometry records entry mid → Invariant engine now →
-      next_group (cache_on run.geometry entry.image) ≤ next_group (cache_of engine.store.pages) → IsCounted run records entry.image now.image engine 0
-  first_counted engine mid now same within may rise = record {
+  abbrev masters_at : ℕ → ℕ
+  masters_at i = masters_by (first_lines run i) entry.image
+
+  abbrev Given : ℕ → Image → Type 0
+  Given i image = GivesNumbers (first_lines run i) records entry.image image
+
+  -- the restart gives none that no line gives
+  pub restart_numbers : {T : Type 0} (result : Result T Stop) (log_of : T → LogStore) (mid : Site) → RestartsWithin result log_of run.geometry records entry mid → LeavesOnly entry mid (λ s. Given 0 s.image)
+  restart_numbers result log_of mid within = leaves_more run.geometry entry mid _ (blocks_at 0) _ (masters_at 0) (omega arith) (omega arith) within.any_moment
+
+  pub restart_wears : {T : Type 0} (result : Result T Stop) (log_of : T → LogStore) (mid : Site) → RestartsWithin result log_of run.geometry records entry mid → IsErrOf result (Worn Log) → PassesEnd (blocks_at 0) (masters_at 0)
+  restart_wears result log_of mid within is = passes_more _ (blocks_at 0) _ (masters_at 0) (omega arith) (omega arith) (within.worn is)
+
+  -- behind which something is told
+  pub restart_told : {T : Type 0} (result : Result T Stop) (log_of : T → LogStore) (piece : List ℕ) (mid now : Site) → EachMoment mid now (TellsPart piece mid) → RestartsWithin result log_of run.geometry records entry mid → LeavesOnly entry now (λ s. Given 0 s.image)
+  restart_told result log_of piece mid now tells within = images_told (Given 0) piece entry mid now (restart_numbers result log_of mid within) tells
+
+  pub first_counted : (engine : Engine) (piece : List ℕ) (mid now : Site) → EachMoment mid now (TellsPart piece mid) → RestartsWithin {T = Engine} (Ok engine) (λ e. e.store.log) run.geometry records entry mid → Invariant engine now →
+      next_group (cache_on run.geometry entry.image) ≤ next_group (cache_of engine.store.pages) → IsCounted run records entry now engine 0
+  first_counted engine piece mid now tells within may rise = record {
     log = let few = within.log in omega (arith, few);
     fills = let few = within.log in let filled = filled_blocks engine.store.log may.store.both.log_going.high in omega (arith, few, filled, rise);
-    numbers = restart_fails (Ok engine) (λ e. e.store.log) mid now same within;
+    numbers = restart_told (Ok engine) (λ e. e.store.log) piece mid now tells within;
   }
 
-  -- while the image stays as it is
-  pub counts_still : (mid now : Site) (i : ℕ) → now.image ≡ mid.image → GivesNumbers (first_lines run i) records entry.image mid.image → GivesNumbers (first_lines run i) records entry.image now.image
-  counts_still mid now i same counts = subst (λ (x : Image). GivesNumbers (first_lines run i) records entry.image x) (sym same) counts
+  -- while only is heard
+  pub counts_still : (mid now : Site) (i : ℕ) → HearsOnly mid now → LeavesOnly entry mid (λ s. Given i s.image) → LeavesOnly entry now (λ s. Given i s.image)
+  counts_still mid now i same counts = images_heard (Given i) entry mid now counts same
 
-  module _ (mid next new : Site) (engine engine' : Engine) (i : ℕ) (line : Line) (rest : List Line) (is : drop i (answered run) ≡ line ∷ rest) (same : next.image ≡ mid.image) (sizes : sizes_of engine.store ≡ run.geometry)
-      (counted : IsCounted run records entry.image mid.image engine i) where
+  module _ (mid next new : Site) (engine engine' : Engine) (i : ℕ) (line : Line) (rest : List Line) (is : drop i (answered run) ≡ line ∷ rest) (same : HearsOnly mid next) (sizes : sizes_of engine.store ≡ run.geometry)
+      (counted : IsCounted run records entry mid engine i) where
     made_next : made_by (first_lines run (suc i)) ≡ (step (state_at run i) line []).after.made
     made_next = made_are run (suc i) ∙ ap (λ (s : State). s.made) (state_next run i line rest is ∙ after_same (state_at run i) line (listing_at run i) [])
 
@@ -164,35 +184,46 @@ module _ (run : Run) (records : List Entry) (entry : Site) where
         ∙ ap (λ (n : ℕ). checkpoints_in (turns_of (first_lines run i)) + n) (count_one (λ t. makes_one t.before t.line) own ∙ one_makes (state_at run i) line)
 
     -- a line was heard, however its answer ends
-    pub counts_next : {T E : Type 0} (result : Result T E) → CountsOn result engine engine' next new (state_at run i) (step (state_at run i) line []).after (line_checkpoints (state_at run i) line) → GivesNumbers (first_lines run (suc i)) records entry.image new.image
-    counts_next result c =
-        let shape : hi_of (log_shape (sizes_of engine.store)) new.image.log ≡ hi_of (log_shape run.geometry) new.image.log = ap (λ (g : Geometry). hi_of (log_shape g) new.image.log) sizes in
-        let stays : hi_of master_shape next.image.log ≡ hi_of master_shape mid.image.log = ap (λ (x : Image). hi_of master_shape x.log) same in
-        let before = made_are run i in
-        let made = made_next in
-        let checkpoints = checkpoints_next in
-        let log = counted.log in
-        let masters = counted.numbers.masters in
-        record {
-          blocks = let few = c.blocks in omega (arith, few, log, shape, before, made);
-          masters = let few = c.masters in omega (arith, few, masters, stays, checkpoints);
-        }
+    module _ {T E : Type 0} {worn : E} (result : Result T E) (c : CountsOn result worn engine engine' next new (state_at run i) (step (state_at run i) line []).after (line_checkpoints (state_at run i) line)) where
+      before : LeavesOnly entry next (λ s. Given i s.image)
+      before = counts_still mid next i same counted.numbers
+
+      more_blocks : blocks_to engine.store.log + c.records ≤ blocks_at (suc i)
+      more_blocks = let was = made_are run i in let made = made_next in let log = counted.log in let some = c.made in omega (arith, was, made, log, some)
+
+      more_masters : hi_of master_shape next.image.log + line_checkpoints (state_at run i) line ≤ masters_at (suc i)
+      more_masters = let has = (holds_now entry next (λ s. Given i s.image) before).masters in let checkpoints = checkpoints_next in omega (arith, has, checkpoints)
+
+      pub counts_next : LeavesOnly entry new (λ s. Given (suc i) s.image)
+      counts_next =
+          let was = made_are run i in
+          let made = made_next in
+          let some = c.made in
+          let checkpoints = checkpoints_next in
+          let own : LeavesOnly next new (λ s. HasNumbers run.geometry (blocks_to engine.store.log + c.records) (hi_of master_shape next.image.log + line_checkpoints (state_at run i) line) s.image) =
+          subst (λ (g : Geometry). LeavesOnly next new (λ s. HasNumbers g (blocks_to engine.store.log + c.records) (hi_of master_shape next.image.log + line_checkpoints (state_at run i) line) s.image)) sizes c.any_moment in
+          in_sequence entry next new (Leaves (λ s. Given (suc i) s.image))
+          (leaves_more run.geometry entry next (blocks_at i) (blocks_at (suc i)) (masters_at i) (masters_at (suc i)) (omega (arith, was, made, some)) (omega (arith, checkpoints)) before)
+          (leaves_more run.geometry next new _ (blocks_at (suc i)) _ (masters_at (suc i)) more_blocks more_masters own)
+
+      pub wears_next : IsErrOf result worn → PassesEnd (blocks_at (suc i)) (masters_at (suc i))
+      wears_next past = passes_more _ (blocks_at (suc i)) _ (masters_at (suc i)) more_blocks more_masters (c.worn past)
 
     -- it was answered
-    pub next_counted : {T E : Type 0} (x : T) → CountsOn {T = T} {E = E} (Ok x) engine engine' next new (state_at run i) (step (state_at run i) line []).after (line_checkpoints (state_at run i) line) → FillsBy (line_octets (state_at run i) line) engine engine' →
-        IsCounted run records entry.image new.image engine' (suc i)
-    next_counted {T} {E} x c fills =
-        let before = made_are run i in
+    pub next_counted : {T E : Type 0} {worn : E} (x : T) → CountsOn {T = T} {E = E} (Ok x) worn engine engine' next new (state_at run i) (step (state_at run i) line []).after (line_checkpoints (state_at run i) line) → FillsBy (line_octets (state_at run i) line) engine engine' → IsCounted run records entry new engine' (suc i)
+    next_counted x c fills =
+        let was = made_are run i in
         let made = made_next in
         let log = counted.log in
+        let some = c.made in
         record {
-          log = let few = c.log in omega (arith, few, log, before, made);
+          log = let few = c.log in omega (arith, few, log, was, made, some);
           numbers = counts_next (Ok x) c;
           fills = let so_far = counted.fills in let octets = octets_next run i line rest is in omega (arith, so_far, fills, octets);
         }
 
 -- it doesn't depend on what the cache lists
-pub counted_on : (run : Run) (listings : List (List CacheLine)) (records : List Entry) (old now : Image) (engine : Engine) (i : ℕ) → IsCounted (record run { listings = listings }) records old now engine i → IsCounted run records old now engine i
+pub counted_on : (run : Run) (listings : List (List CacheLine)) (records : List Entry) (old now : Site) (engine : Engine) (i : ℕ) → IsCounted (record run { listings = listings }) records old now engine i → IsCounted run records old now engine i
 counted_on run listings records old now engine i counted =
     let own : Run = record run { listings = listings } in
     let made = made_are own i ∙ ap (λ (s : State). s.made) (same_after run.opening (take i (answered run)) listings run.listings) ∙ sym (made_are run i) in
@@ -200,29 +231,45 @@ counted_on run listings records old now engine i counted =
     record {
       log = let log = counted.log in omega (arith, log, made);
       fills = let fills = counted.fills in let there = first_fill i run.opening run.lines listings in let here = first_fill i run.opening run.lines run.listings in omega (arith, fills, there, here);
-      numbers = record {
-        blocks = let blocks = counted.numbers.blocks in omega (arith, blocks, made);
-        masters = let masters = counted.numbers.masters in omega (arith, masters, checkpoints);
-      };
+      numbers = leaves_more run.geometry old now _ _ _ _ (omega (arith, made)) (omega (arith, checkpoints)) counted.numbers;
     }
 
 -- what nothing was done to
-pub counts_nothing : (run : Run) (old : Image) → SkipsNoNumber (first_lines run 0) old old
-counts_nothing run old newest blocks sound = record { blocks = omega arith; masters = omega arith }
+pub counts_nothing : (run : Run) (old : Site) → IsQuiet old → SkipsNoNumber (first_lines run 0) old old
+counts_nothing run old quiet newest blocks sound = leaves_unchanged old old (λ s. GivesNumbers (first_lines run 0) (log_under newest blocks) old.image s.image) quiet (unchanged old) (record { blocks = omega arith; masters = omega arith })
 
--- the devices stay as they are
-pub skips_still : (run : Run) (old mid now : Image) → now ≡ mid → SkipsNoNumber run old mid → SkipsNoNumber run old now
-skips_still run old mid now same skips newest blocks sound = subst (λ (x : Image). GivesNumbers run (log_under newest blocks) old x) (sym same) (skips newest blocks sound)
+-- something is told
+pub skips_still : (run : Run) (piece : List ℕ) (old mid now : Site) → EachMoment mid now (TellsPart piece mid) → SkipsNoNumber run old mid → SkipsNoNumber run old now
+skips_still run piece old mid now tells skips newest blocks sound = images_told (λ (i : Image). GivesNumbers run (log_under newest blocks) old.image i) piece old mid now (skips newest blocks sound) tells
 
 -- a run that opens, and then carries its first lines out or stops within them
-pub skips_course : {T E : Type 0} (result : Result T E) (run : Run) (lines : ℕ) (records : List Entry) (a b : Engine) (old : Image) (mid now : Site) → sizes_of a.store ≡ run.geometry →
-    blocks_to a.store.log ≤ hi_of (log_shape run.geometry) old.log + owed records + run.opening.made → hi_of master_shape mid.image.log ≤ hi_of master_shape old.log + 1 →
-    CountsOn result a b mid now run.opening (state_at run lines) (checkpoints_of run.opening (take lines (answered run))) → GivesNumbers (first_lines run lines) records old now.image
-skips_course result run lines records a b old mid now sizes log masters c =
-    let shape : hi_of (log_shape (sizes_of a.store)) now.image.log ≡ hi_of (log_shape run.geometry) now.image.log = ap (λ (g : Geometry). hi_of (log_shape g) now.image.log) sizes in
-    let made = made_are run lines in
-    let checkpoints = checkpoints_are run lines in
-    record {
-      blocks = let few = c.blocks in omega (arith, few, log, shape, made);
-      masters = let few = c.masters in omega (arith, few, masters, checkpoints);
-    }
+module _ {T E : Type 0} {worn : E} (result : Result T E) (run : Run) (lines : ℕ) (records : List Entry) (a b : Engine) (old mid now : Site) (sizes : sizes_of a.store ≡ run.geometry) (log : blocks_to a.store.log ≤ hi_of (log_shape run.geometry) old.image.log + owed records + run.opening.made)
+    (first : LeavesOnly old mid (λ s. HasNumbers run.geometry (hi_of (log_shape run.geometry) old.image.log + owed records + run.opening.made) (hi_of master_shape old.image.log + 1) s.image))
+    (c : CountsOn result worn a b mid now run.opening (state_at run lines) (checkpoints_of run.opening (take lines (answered run)))) where
+  abbrev blocks_all : ℕ
+  blocks_all = blocks_by (first_lines run lines) records old.image
+
+  abbrev masters_all : ℕ
+  masters_all = masters_by (first_lines run lines) old.image
+
+  course_blocks : blocks_to a.store.log + c.records ≤ blocks_all
+  course_blocks = let made = made_are run lines in let some = c.made in omega (arith, made, some, log)
+
+  course_masters : hi_of master_shape mid.image.log + checkpoints_of run.opening (take lines (answered run)) ≤ masters_all
+  course_masters =
+      let has = (holds_now old mid (λ s. HasNumbers run.geometry (hi_of (log_shape run.geometry) old.image.log + owed records + run.opening.made) (hi_of master_shape old.image.log + 1) s.image) first).masters in
+      let checkpoints = checkpoints_are run lines in
+      omega (arith, has, checkpoints)
+
+  pub skips_course : LeavesOnly old now (λ s. GivesNumbers (first_lines run lines) records old.image s.image)
+  skips_course =
+      let made = made_are run lines in
+      let some = c.made in
+      let own : LeavesOnly mid now (λ s. HasNumbers run.geometry (blocks_to a.store.log + c.records) (hi_of master_shape mid.image.log + checkpoints_of run.opening (take lines (answered run))) s.image) =
+      subst (λ (g : Geometry). LeavesOnly mid now (λ s. HasNumbers g (blocks_to a.store.log + c.records) (hi_of master_shape mid.image.log + checkpoints_of run.opening (take lines (answered run))) s.image)) sizes c.any_moment in
+      in_sequence old mid now (Leaves (λ s. GivesNumbers (first_lines run lines) records old.image s.image))
+      (leaves_more run.geometry old mid _ blocks_all _ masters_all (omega (arith, made, some)) (omega arith) first)
+      (leaves_more run.geometry mid now _ blocks_all _ masters_all course_blocks course_masters own)
+
+  pub wears_course : IsErrOf result worn → PassesEnd blocks_all masters_all
+  wears_course past = passes_more _ blocks_all _ masters_all course_blocks course_masters (c.worn past)

@@ -3,9 +3,9 @@ use Rattle.face.proofs.Fillings.{seals_all}
 use Rattle.image_changes.specs.Rings.{log_shape}
 use Rattle.sealed_ring.specs.Ring.{hi_of}
 use Rattle.face.specs.Filled.{SealsNoMore}
-use Rattle.std.proofs.Common.{◌≡◌, ◌⊎◌, inl, inr, ⊎_elim, ℕ, ◌≤◌, List, length, sym, ◌∙◌, ap, subst, arith}
+use Rattle.std.proofs.Common.{◌≡◌, ◌⊎◌, ⊎_elim, ℕ, ◌≤◌, List, [], length, sym, ◌∙◌, ap, subst, arith}
 use Rattle.std.specs.Prelude.{Ok, Err, IsErrOf}
-use Rattle.site.specs.declared.outside.Dev.TheVariants.{Flash}
+use Rattle.site.specs.declared.outside.Dev.TheVariants.{Flash, Log}
 use Rattle.site.specs.declared.outside.Stop.TheVariants.{Worn}
 use Rattle.site.specs.State.{State as Site, Image}
 use Rattle.site.specs.Calls.{SameReads}
@@ -18,8 +18,9 @@ use Rattle.redo_undo.specs.Holding.{IsLogWorn}
 use Rattle.face.specs.declared.halt.Halt.{Halt}
 use Rattle.face.specs.declared.halt.Halt.TheVariants as halt
 use Rattle.face.specs.Headline.{Resources}
-use Rattle.face.specs.Range.{AsksNoMore, LeavesItsQueue, LeavesVersions, NeverWears, SkipsNoNumber, WearsOut, cache_by}
+use Rattle.face.specs.Range.{AsksNoMore, LeavesItsQueue, LeavesVersions, NeverWears, SkipsNoNumber, WearsLog, WearsOut, cache_by}
 use Rattle.face.specs.Run.{Run, answered, first_lines, turns_of}
+use Rattle.face.specs.Texts.{fault_line}
 use Rattle.face.specs.Working.{Demands}
 use Rattle.face.proofs.Counted.{skips_still}
 use Rattle.face.proofs.Pagings.{few_told, leaves_its_queue, leaves_versions, never_wears}
@@ -31,12 +32,12 @@ same_halt : {T : Type 0} (h is : Halt) → IsErrOf {T = T} (Err h) is → h ≡ 
 same_halt h is same = cc
 
 module _ (pool : ℕ) (run : Run) (old new : Site) where
-  pub demands_ok : {T : Type 0} (x : T) → NeverWears pool run old.image → LeavesItsQueue pool run old.image new.image → LeavesVersions pool run old.image new.image → SealsNoMore pool run old.image new.image → SkipsNoNumber run old.image new.image → AsksNoMore pool run old new →
+  pub demands_ok : {T : Type 0} (x : T) → NeverWears pool run old.image → LeavesItsQueue pool run old.image new.image → LeavesVersions pool run old.image new.image → SealsNoMore pool run old.image new.image → SkipsNoNumber run old new → AsksNoMore pool run old new →
       Demands pool run old new (Ok x)
-  demands_ok x room queue versions seals numbers reads = record { seals = seals; worn = λ is. absurd (no_error x (halt.Stop (Worn Flash)) is); room = room; queue = queue; versions = versions; numbers = numbers; reads = reads }
+  demands_ok x room queue versions seals numbers reads = record { seals = seals; worn = λ is. absurd (no_error x (halt.Stop (Worn Flash)) is); worn_log = λ is. absurd (no_error x (halt.Stop (Worn Log)) is); room = room; queue = queue; versions = versions; numbers = numbers; reads = reads }
 
-  pub demands_err : {T : Type 0} (h : Halt) → (h ≡ halt.Stop (Worn Flash) → WearsOut pool run old.image) → SkipsNoNumber run old.image new.image → AsksNoMore pool run old new → Demands {T = T} pool run old new (Err h)
-  demands_err {T} h worn numbers reads = record { worn = λ is. worn (same_halt {T = T} h (halt.Stop (Worn Flash)) is); room = tt; queue = tt; versions = tt; seals = tt; numbers = numbers; reads = reads }
+  pub demands_err : {T : Type 0} (h : Halt) → (h ≡ halt.Stop (Worn Flash) → WearsOut pool run old.image) → (h ≡ halt.Stop (Worn Log) → WearsLog run old.image) → SkipsNoNumber run old new → AsksNoMore pool run old new → Demands {T = T} pool run old new (Err h)
+  demands_err {T} h worn log numbers reads = record { worn = λ is. worn (same_halt {T = T} h (halt.Stop (Worn Flash)) is); worn_log = λ is. log (same_halt {T = T} h (halt.Stop (Worn Log)) is); room = tt; queue = tt; versions = tt; seals = tt; numbers = numbers; reads = reads }
 
 -- where something more is told
 module _ (pool : ℕ) (run : Run) (old mid new : Site) (image : new.image ≡ mid.image) (reads : SameReads mid new) {piece : List ℕ} (tells : EachMoment mid new (TellsPart piece mid)) where
@@ -47,17 +48,17 @@ module _ (pool : ℕ) (run : Run) (old mid new : Site) (image : new.image ≡ mi
   demands_done x y d = demands_ok pool run old new y d.room (λ newest blocks sound. ap (λ (i : Image). cache_on run.geometry i) image ∙ d.queue newest blocks sound)
       (λ newest blocks sound. subst (λ (i : Image). VersionsAreSeen run.geometry (cache_by pool run (turns_of run) newest old.image blocks).pool i (left_by run.opening (turns_of run))) (sym image) (d.versions newest blocks sound))
       (λ newest blocks sound. let same = ap (λ (i : Image). hi_of (log_shape run.geometry) i.log) image in let seals = d.seals newest blocks sound in omega (arith, same, seals))
-      (skips_still run old.image mid.image new.image image d.numbers) (still_reads d.reads)
+      (skips_still run piece old mid new tells d.numbers) (still_reads d.reads)
 
   pub demands_lost : {T U : Type 0} (x : T) → Demands pool run old mid (Ok x) → Demands {T = U} pool run old new (Err halt.Output)
-  demands_lost x d = demands_err pool run old new halt.Output (λ e. cc) (skips_still run old.image mid.image new.image image d.numbers) (still_reads d.reads)
+  demands_lost x d = demands_err pool run old new halt.Output (λ e. cc) (λ e. cc) (skips_still run piece old mid new tells d.numbers) (still_reads d.reads)
 
   pub demands_failed : {T : Type 0} (h : Halt) → Demands {T = T} pool run old mid (Err h) → Demands {T = T} pool run old new (Err h)
-  demands_failed h d = demands_err pool run old new h (λ e. d.worn (ap Err e)) (skips_still run old.image mid.image new.image image d.numbers) (still_reads d.reads)
+  demands_failed h d = demands_err pool run old new h (λ e. d.worn (ap Err e)) (λ e. d.worn_log (ap Err e)) (skips_still run piece old mid new tells d.numbers) (still_reads d.reads)
 
 -- by the status, of a run of which so many lines were begun
 module _ (pool : ℕ) (run : Run) (n : ℕ) (old new : Site) where
-  pub asked_done : {T : Type 0} (x : T) → length (answered run) ≤ n → Demands pool (first_lines run n) old new (Ok x) → Resources pool run n old new 0
+  pub asked_done : {T : Type 0} (x : T) → length (answered run) ≤ n → Demands pool (first_lines run n) old new (Ok x) → Resources pool run n [] old new 0
   asked_done x all d = record {
     worn = λ eight. absurd (omega (arith, eight));
     room = λ zero. never_wears pool run n all old.image d.room;
@@ -68,9 +69,9 @@ module _ (pool : ℕ) (run : Run) (n : ℕ) (old new : Site) where
     reads = d.reads;
   }
 
-  pub asked_halted : {T : Type 0} (h : Halt) (status : ℕ) → (status ≡ 0 → ⊥) → (status ≡ 8 → IsErrOf {T = T} (Err h) (halt.Stop (Worn Flash)) ⊎ IsLogWorn run.geometry new.image) → Demands {T = T} pool (first_lines run n) old new (Err h) → Resources pool run n old new status
+  pub asked_halted : {T : Type 0} (h : Halt) (status : ℕ) → (status ≡ 0 → ⊥) → (status ≡ 8 → (h ≡ halt.Stop (Worn Flash)) ⊎ ((h ≡ halt.Stop (Worn Log)) × IsLogWorn run.geometry new.image)) → Demands {T = T} pool (first_lines run n) old new (Err h) → Resources pool run n (fault_line h) old new status
   asked_halted h status some worn d = record {
-    worn = λ eight. ⊎_elim (λ flash. inl (d.worn flash)) (λ log. inr log) (worn eight);
+    worn = λ eight. ⊎_elim (λ flash. (Flash, ap fault_line flash, d.worn (ap Err flash))) (λ log. (Log, ap fault_line log.0, (d.worn_log (ap Err log.0), log.1))) (worn eight);
     room = λ zero. absurd (some zero);
     frames = λ zero. absurd (some zero);
     versions = λ zero. absurd (some zero);

@@ -24,7 +24,7 @@ use Rattle.engine.specs.declared.engine.Engine.{Engine}
 use Rattle.face.specs.Causes.{HasCause, AnswerFailsBy}
 use Rattle.face.specs.Lines.{HasEnded, to_hear, total, IsSource, HearsLine, Hears, IsCutOff}
 use Rattle.site.specs.declared.outside.Dev.TheVariants.{Log, Flash, Disk}
-use Rattle.face.specs.Range.{AsksNoMore, HasBegun, IsLeft, LeavesItsQueue, LeavesVersions, ListsTheMachine, NeverWears, SkipsNoNumber, WearsOut}
+use Rattle.face.specs.Range.{AsksNoMore, HasBegun, IsLeft, LeavesItsQueue, LeavesVersions, ListsTheMachine, NeverWears, SkipsNoNumber, WearsLog, WearsOut}
 use Rattle.face.specs.Run.{Run, first_lines}
 use Rattle.face.specs.Working.{AnswersFirst, HasHeard, Stops, StopsTaking, RunOutcome}
 use Rattle.face.specs.Going.{Going}
@@ -47,9 +47,9 @@ pub lists_nothing : (pool : ℕ) (run : Run) (image : Image) → ListsTheMachine
 lists_nothing pool run image newest blocks sound before later t is = absurd (no_turn before later t is)
 
 -- before the first line
-pub never_opened : {T : Type 0} (pool : ℕ) (run : Run) (old new : Site) (h : Halt) → Stops run 0 old new h → (h ≢ halt.Input) × (h ≢ halt.Limit) → new.input ≡ old.input → (h ≡ halt.Stop (Worn Flash) → WearsOut pool (first_lines run 0) old.image) → SkipsNoNumber (first_lines run 0) old.image new.image → AsksNoMore pool (first_lines run 0) old new →
+pub never_opened : {T : Type 0} (pool : ℕ) (run : Run) (old new : Site) (h : Halt) → Stops run 0 old new h → (h ≢ halt.Input) × (h ≢ halt.Limit) → new.input ≡ old.input → (h ≡ halt.Stop (Worn Flash) → WearsOut pool (first_lines run 0) old.image) → (h ≡ halt.Stop (Worn Log) → WearsLog (first_lines run 0) old.image) → SkipsNoNumber (first_lines run 0) old new → AsksNoMore pool (first_lines run 0) old new →
     RunOutcome {T = T} pool run old new (Err h)
-never_opened pool run old new h stops ne left worn numbers reads = record {
+never_opened pool run old new h stops ne left worn log numbers reads = record {
   heard = 0;
   octets = [];
   ended = false;
@@ -66,14 +66,14 @@ never_opened pool run old new h stops ne left worn numbers reads = record {
         told = a.told_is ∙ ap (λ (l : List ℕ). old.told ++ l) (sym (append-nil a.told));
       };
   done = tt;
-  demands = demands_err pool (first_lines run 0) old new h worn numbers reads;
+  demands = demands_err pool (first_lines run 0) old new h worn log numbers reads;
   listed = lists_nothing pool run old.image;
   answers = answers_none run old new left;
 }
 
 module _ (pool : ℕ) (run : Run) (old mid new : Site) (engine : Engine) (source : Source) (i : ℕ) (cut : Cut old.input.left source mid i) (is_source : IsSource source) (going : Going run old new engine i) (listed : ListsTheMachine pool (first_lines run i) old.image) (reads : AsksNoMore pool (first_lines run i) old new) (answers : AnswersFirst run i old new) where
   -- taking failed within a line
-  pub taking_failed : {T : Type 0} (h : Halt) → (h ≡ halt.Input) ⊎ (h ≡ halt.Limit) → IsCutOff h source.ended (total source mid) (to_hear source mid) new.input.left → SkipsNoNumber (first_lines run i) old.image new.image → RunOutcome {T = T} pool run old new (Err h)
+  pub taking_failed : {T : Type 0} (h : Halt) → (h ≡ halt.Input) ⊎ (h ≡ halt.Limit) → IsCutOff h source.ended (total source mid) (to_hear source mid) new.input.left → SkipsNoNumber (first_lines run i) old new → RunOutcome {T = T} pool run old new (Err h)
   taking_failed (halt.Stop stop) which off numbers = ⊎_elim (λ e. absurd cc) (λ e. absurd cc) which
   taking_failed halt.Output which off numbers = ⊎_elim (λ e. absurd cc) (λ e. absurd cc) which
   taking_failed halt.Input which off numbers =
@@ -86,7 +86,7 @@ module _ (pool : ℕ) (run : Run) (old mid new : Site) (engine : Engine) (source
         stops = (stopped run old new engine i going halt.Input, record { count = f.1.0; no_quit = f.1.1; told = going.told });
         begun = begun_before run old new engine i going;
         done = tt;
-        demands = demands_err pool (first_lines run i) old new halt.Input (λ e. cc) numbers reads;
+        demands = demands_err pool (first_lines run i) old new halt.Input (λ e. cc) (λ e. cc) numbers reads;
         listed = listed;
         answers = answers;
       }
@@ -100,13 +100,13 @@ module _ (pool : ℕ) (run : Run) (old mid new : Site) (engine : Engine) (source
         stops = (stopped run old new engine i going halt.Limit, (record { count = f.1.0; no_quit = f.1.1; told = going.told }, f.2));
         begun = begun_before run old new engine i going;
         done = tt;
-        demands = demands_err pool (first_lines run i) old new halt.Limit (λ e. cc) numbers reads;
+        demands = demands_err pool (first_lines run i) old new halt.Limit (λ e. cc) (λ e. cc) numbers reads;
         listed = listed;
         answers = answers;
       }
 
   -- there are no more lines
-  pub finished : {T : Type 0} (x : T) → to_hear source mid ≡ [] → new.input.left ≡ [] → NeverWears pool (first_lines run i) old.image → LeavesItsQueue pool (first_lines run i) old.image new.image → LeavesVersions pool (first_lines run i) old.image new.image → SealsNoMore pool (first_lines run i) old.image new.image → SkipsNoNumber (first_lines run i) old.image new.image →
+  pub finished : {T : Type 0} (x : T) → to_hear source mid ≡ [] → new.input.left ≡ [] → NeverWears pool (first_lines run i) old.image → LeavesItsQueue pool (first_lines run i) old.image new.image → LeavesVersions pool (first_lines run i) old.image new.image → SealsNoMore pool (first_lines run i) old.image new.image → SkipsNoNumber (first_lines run i) old new →
       RunOutcome pool run old new (Ok x)
   finished x none left room queue versions seals numbers =
       let f = has_heard_all old.input.left source mid i cut is_source old new refl none left in
@@ -129,8 +129,8 @@ module _ (pool : ℕ) (run : Run) (old mid next new : Site) (source source' : So
   has_heard_it = heard_line old.input.left source mid i cut is_source source' next line h last is' old new refl left
 
   -- a line's answer failed
-  pub answer_failed : {T : Type 0} (fault : Halt) → Stops run (suc i) old new fault → HasBegun run (suc i) [] old new → (fault ≢ halt.Input) × (fault ≢ halt.Limit) → (fault ≡ halt.Stop (Worn Flash) → WearsOut pool (first_lines run (suc i)) old.image) → SkipsNoNumber (first_lines run (suc i)) old.image new.image → RunOutcome {T = T} pool run old new (Err fault)
-  answer_failed fault stops begun ne worn numbers = record {
+  pub answer_failed : {T : Type 0} (fault : Halt) → Stops run (suc i) old new fault → HasBegun run (suc i) [] old new → (fault ≢ halt.Input) × (fault ≢ halt.Limit) → (fault ≡ halt.Stop (Worn Flash) → WearsOut pool (first_lines run (suc i)) old.image) → (fault ≡ halt.Stop (Worn Log) → WearsLog (first_lines run (suc i)) old.image) → SkipsNoNumber (first_lines run (suc i)) old new → RunOutcome {T = T} pool run old new (Err fault)
+  answer_failed fault stops begun ne worn log numbers = record {
     heard = suc i;
     octets = taken_by old.input.left source mid i cut is_source source' next line h last is';
     ended = source'.ended;
@@ -138,13 +138,13 @@ module _ (pool : ℕ) (run : Run) (old mid next new : Site) (source source' : So
     stops = (stops, not_taking fault run (suc i) _ old new ne);
     begun = begun;
     done = tt;
-    demands = demands_err pool (first_lines run (suc i)) old new fault worn numbers reads;
+    demands = demands_err pool (first_lines run (suc i)) old new fault worn log numbers reads;
     listed = listed;
     answers = answers;
   }
 
   -- a quit was answered
-  pub quitted : {T : Type 0} (x : T) (engine : Engine) → is_quit line ≡ true → Going run old new engine (suc i) → NeverWears pool (first_lines run (suc i)) old.image → LeavesItsQueue pool (first_lines run (suc i)) old.image new.image → LeavesVersions pool (first_lines run (suc i)) old.image new.image → SealsNoMore pool (first_lines run (suc i)) old.image new.image → SkipsNoNumber (first_lines run (suc i)) old.image new.image →
+  pub quitted : {T : Type 0} (x : T) (engine : Engine) → is_quit line ≡ true → Going run old new engine (suc i) → NeverWears pool (first_lines run (suc i)) old.image → LeavesItsQueue pool (first_lines run (suc i)) old.image new.image → LeavesVersions pool (first_lines run (suc i)) old.image new.image → SealsNoMore pool (first_lines run (suc i)) old.image new.image → SkipsNoNumber (first_lines run (suc i)) old new →
       RunOutcome pool run old new (Ok x)
   quitted x engine quits going room queue versions seals numbers =
       let all = quit_is_last old.input.left source mid i cut is_source source' next line h last is' quits in

@@ -1,8 +1,8 @@
 -- A run that halts, and its fault line.
 use Rattle.std.proofs.Common.{◌≡◌, ◌≢◌, ◌⊎◌, inl, inr, ⊎_elim, ℕ, suc, ◌+◌, ◌≤◌, Bool, true, false, List, [], ◌∷◌, ◌++◌, length, take, drop, refl, sym, ◌∙◌, ap, subst, arith, append_assoc, length-append, take-append-drop}
-use Rattle.std.specs.Prelude.{Err, Ok, Result, IsErrOf, IsTrue, count_by, flat_map, map}
+use Rattle.std.specs.Prelude.{Err, Ok, Result, IsTrue, count_by, flat_map, map}
 use Rattle.std.proofs.lemmas.List.{append-nil, length-take, take_all, take_at, take-take}
-use Rattle.site.specs.State.{Input, State as Site, Snapshot}
+use Rattle.site.specs.State.{Image, Input, State as Site, Snapshot}
 use Rattle.site.specs.Calls.{Preserves}
 use Rattle.site.specs.Moments.{Leaves, LeavesOnly, EachMoment}
 use Rattle.site.specs.Laws.{in_sequence, leaves_weaker, stays_honest, told_is, tell_leaves}
@@ -24,19 +24,20 @@ use Rattle.site.specs.declared.outside.Dev.TheVariants.{Log, Flash, Disk}
 use Rattle.redo_undo.specs.Holding.{IsLogWorn}
 use Rattle.redo_undo.specs.MachineSteps.{OverflowsWithMore}
 use Rattle.face.specs.Causes.{HasCause, HasCauses, NoFaultRose, EndsInTime}
-use Rattle.face.proofs.LogRoom.{never_at_end}
+use Rattle.face.proofs.LogRoom.{never_worn}
 use Rattle.face.specs.Lines.{commands_of, up_to_quit, answered_of, limit}
 use Rattle.face.specs.Run.{Run, answered, first_lines, Begins}
 use Rattle.face.specs.Working.{Demands, HasHeard, HasTakenAll, IsBetween, StandsNear, StopsTaking, RunOutcome}
 use Rattle.face.proofs.Waits.{answers_still}
-use Rattle.face.specs.Range.{HasLogRoom, IsLeft, IsWhole, ListsTheMachine, NeverWears, WearsOut}
+use Rattle.face.specs.Range.{HasLogRoom, IsLeft, IsWhole, ListsTheMachine, NeverWears, WearsLog, WearsOut}
 use Rattle.face.specs.Range.{first_texts, run_of, run_text, texts}
 use Rattle.face.specs.Tells.{EndsBehind, Tells}
 use Rattle.face.proofs.Endings.{ends_whole, ends_with}
 use Rattle.face.proofs.Demanded.{asked_done, asked_halted, demands_failed}
 use Rattle.face.proofs.Pagings.{wears_out_all}
 use Rattle.face.specs.TopCall.{RunContract}
-use Rattle.face.specs.Headline.{Durability, IsGood, IsToldWhole, Headline, TellsFault}
+use Rattle.face.specs.Headline.{Durability, IsGood, IsToldWhole, Headline, TellsFault, WearsAt}
+use Rattle.site.specs.declared.outside.Dev.{Dev}
 use Rattle.face.proofs.Fronts.{begun_same, first_commands, first_same, lines_first, no_quits, told_first, told_same, up_append, waits_same, whole_turns}
 use Rattle.face.proofs.Lefts.{left_whole}
 use Rattle.face.proofs.Runs.{texts_count}
@@ -148,16 +149,22 @@ not_zero halt.Output e = omega (arith, e)
 not_zero halt.Limit e = omega (arith, e)
 
 -- with 8 it is flash that is worn, or the log
-pub worn_by : {T : Type 0} (g : Geometry) (opening : State) (h : Halt) (old new : Site) → IsGood g opening old → HasCause h old new → status_of h ≡ 8 → IsErrOf {T = T} (Err h) (halt.Stop (Worn Flash)) ⊎ IsLogWorn g new.image
+pub worn_by : (g : Geometry) (opening : State) (h : Halt) (old new : Site) → IsGood g opening old → HasCause h old new → status_of h ≡ 8 → (h ≡ halt.Stop (Worn Flash)) ⊎ ((h ≡ halt.Stop (Worn Log)) × IsLogWorn g new.image)
 worn_by g opening (halt.Stop (Device dev)) old new good cause e = absurd (omega (arith, e))
 worn_by g opening (halt.Stop Memory) old new good cause e = absurd (omega (arith, e))
 worn_by g opening (halt.Stop (Worn Flash)) old new good cause e = inl refl
-worn_by g opening (halt.Stop (Worn Log)) old new good cause e = inr (cause good.honest g opening.table opening.commits (stands_by g old.image opening good.opens))
+worn_by g opening (halt.Stop (Worn Log)) old new good cause e = inr (refl, cause good.honest g opening.table opening.commits (stands_by g old.image opening good.opens))
 worn_by g opening (halt.Stop (Worn Disk)) old new good cause e = absurd cause
 worn_by g opening (halt.Stop Foreign) old new good cause e = absurd (omega (arith, e))
 worn_by g opening halt.Input old new good cause e = absurd (omega (arith, e))
 worn_by g opening halt.Output old new good cause e = absurd (omega (arith, e))
 worn_by g opening halt.Limit old new good cause e = absurd (omega (arith, e))
+
+-- the device that it names is none where no ring is appended to past its end
+pub worn_nowhere : (pool : ℕ) (run : Run) (old now : Image) (dev : Dev) → WearsAt dev pool run old now → (WearsOut pool run old → ⊥) → (WearsLog run old → ⊥) → ⊥
+worn_nowhere pool run old now Flash wears flash log = flash wears
+worn_nowhere pool run old now Log wears flash log = log wears.0
+worn_nowhere pool run old now Disk wears flash log = wears
 
 module _ (pool : ℕ) (g : Geometry) (opening : State) (listings : List (List CacheLine)) (old : Site) where
   abbrev run : Run
@@ -303,7 +310,7 @@ pub complete : OverflowsWithMore → (pool : ℕ) (g : Geometry) (opening : Stat
 complete more pool g opening old new status good none room log_room ends causes h =
     ⊎_elim (λ e. inl e) (⊎_elim (λ e. let c = causes.device e in absurd (none.devices c.0 c.1)) (⊎_elim (λ e. inr e) (⊎_elim (λ e. absurd (none.input (causes.input e)))
     (⊎_elim (λ e. absurd (none.output (causes.output e))) (⊎_elim (λ e. absurd (in_time (d.over e)))
-    (⊎_elim (λ e. absurd (⊎_elim never at_end (h.resources.asked.worn e))) (λ e. absurd (causes.foreign e good.honest g opening.table opening.commits stands)))))))) causes.others
+    (⊎_elim (λ e. absurd (let worn = h.resources.asked.worn e in worn_nowhere pool (first_lines (run_of g opening d.ended d.octets d.listings) h.resources.begun) old.image new.image worn.0 worn.2 never never_log)) (λ e. absurd (causes.foreign e good.honest g opening.table opening.commits stands)))))))) causes.others
   where
     d : Durability g opening old new status
     d = h.durability
@@ -314,8 +321,8 @@ complete more pool g opening old new status good none room log_room ends causes 
     in_time : (length d.octets ≡ limit + 1) × (list_any is_quit (commands_of false (take limit d.octets)) ≡ false) → ⊥
     in_time over = not_over limit old.input.left d.octets new.input.left d.taken ends over.0 over.1
 
-    at_end : IsLogWorn g new.image → ⊥
-    at_end = never_at_end g opening d.listings d.ended old.input.left d.octets new.input.left d.taken d.end h.resources.begun old.image new.image good.opens.newest good.opens.blocks good.opens.sound h.resources.asked.numbers log_room
+    never_log : WearsLog (first_lines (run_of g opening d.ended d.octets d.listings) h.resources.begun) old.image → ⊥
+    never_log wears = never_worn g opening d.listings d.ended old.input.left d.octets new.input.left d.taken d.end h.resources.begun old.image good.opens.newest good.opens.blocks good.opens.sound wears log_room
 
     never : WearsOut pool (first_lines (run_of g opening d.ended d.octets d.listings) h.resources.begun) old.image → ⊥
     never over =

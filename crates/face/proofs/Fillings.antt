@@ -88,16 +88,17 @@ ok_same (Ok x) n engine = fills_same n engine
 ok_same (Err e) n engine = tt
 
 -- one that seals what it logs
-pub ok_forced : {T : Type 0} (r : Result T Stop) (a b : Engine) (before now : Site) (s : State) (command : Command) (n : ℕ) (works : List CacheWork) → Invariant a before → OnOk r (Invariant b now) →
-    CountsOn r a b before now s (runs s command).after n → StepsMachine r works a.store.pages b.store.pages before now → OnOk r (FillsBy (forced_octets s command) a b)
+pub ok_forced : {T : Type 0} {at_end : Stop} (r : Result T Stop) (a b : Engine) (before now : Site) (s : State) (command : Command) (n : ℕ) (works : List CacheWork) → Invariant a before → OnOk r (Invariant b now) →
+    CountsOn r at_end a b before now s (runs s command).after n → StepsMachine r works a.store.pages b.store.pages before now → OnOk r (FillsBy (forced_octets s command) a b)
 ok_forced (Err e) a b before now s command n works may going counts asks = tt
 ok_forced (Ok x) a b before now s command n works may going counts asks =
     let more = counts.log in
+    let made = counts.made in
     let new = filled_blocks b.store.log going.store.both.log_going.high in
     let old = blocks_filled a.store.log may.store.both.log_going.low in
     let rise = numbers_rise (rules a.store.pages) works (cache_of a.store.pages) (has_group may) in
     let next = ap (λ (c : Cache). next_group c) asks.machine in
-    omega (arith, more, new, old, rise, next)
+    omega (arith, more, made, new, old, rise, next)
 
 -- a begin, where it makes a checkpoint and where it makes none
 pub ok_begun : {T : Type 0} (r : Result T Stop) (a b : Engine) (s : State) (n : ℕ) → OnOk r (FillsBy (forced_octets s (Begin n)) a b) → (makes_checkpoint true s (Begin n) ≡ false → OnOk r (Fills 1 a.store.log b.store.log a.store.pages b.store.pages)) → OnOk r (FillsBy (octets_by s (Begin n)) a b)
@@ -150,14 +151,14 @@ pub next_there : (engine : Engine) (site : Site) (s : State) → Matches engine 
 next_there engine site s fits going = hi_on engine.store.log.geometry (sizes_of engine.store) engine.store.log site.image going.store.both.sizes fits.holds.both.log_holds.ready.blocks.hi
 
 -- A run that is over.
-pub seals_no_more : (pool : ℕ) (run : Run) (i : ℕ) (newest : Option Master) (blocks : List (List LogRecord)) (old now : Image) (engine : Engine) (site : Site) → now ≡ site.image → sizes_of engine.store ≡ run.geometry → Matches engine site (state_at run i) → Invariant engine site →
-    IsPaged pool run newest old blocks engine i → IsCounted run (log_under newest blocks) old now engine i →
-    238 * (hi_of (log_shape run.geometry) now.log + next_group (cache_on run.geometry old))
-    ≤ 238 * (hi_of (log_shape run.geometry) old.log + owed (log_under newest blocks) + next_group (cache_by pool run (turns_of (first_lines run i)) newest old blocks)) + 501 + octets_in (turns_of (first_lines run i))
-seals_no_more pool run i newest blocks old now engine site same sizes fits may paged counted =
+pub seals_no_more : (pool : ℕ) (run : Run) (i : ℕ) (newest : Option Master) (blocks : List (List LogRecord)) (entry mid : Site) (now : Image) (engine : Engine) (site : Site) → now ≡ site.image → sizes_of engine.store ≡ run.geometry → Matches engine site (state_at run i) → Invariant engine site →
+    IsPaged pool run newest entry.image blocks engine i → IsCounted run (log_under newest blocks) entry mid engine i →
+    238 * (hi_of (log_shape run.geometry) now.log + next_group (cache_on run.geometry entry.image))
+    ≤ 238 * (hi_of (log_shape run.geometry) entry.image.log + owed (log_under newest blocks) + next_group (cache_by pool run (turns_of (first_lines run i)) newest entry.image blocks)) + 501 + octets_in (turns_of (first_lines run i))
+seals_no_more pool run i newest blocks entry mid now engine site same sizes fits may paged counted =
     let there : engine.store.log.ring.hi ≡ hi_of (log_shape run.geometry) now.log =
     next_there engine site (state_at run i) fits may ∙ (λ j. hi_of (log_shape (sizes j)) (sym same j).log) in
-    let next : next_group (cache_of engine.store.pages) ≡ next_group (cache_by pool run (turns_of (first_lines run i)) newest old blocks) = ap (λ (c : Cache). next_group c) paged.machine in
+    let next : next_group (cache_of engine.store.pages) ≡ next_group (cache_by pool run (turns_of (first_lines run i)) newest entry.image blocks) = ap (λ (c : Cache). next_group c) paged.machine in
     let low = may.store.both.log_going.low in
     let fills = counted.fills in
     omega (arith, there, next, low, fills)

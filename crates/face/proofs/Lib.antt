@@ -13,6 +13,7 @@ mod Fillings
 mod Firsts
 mod Fronts
 mod Heard
+mod Hearings
 mod Lefts
 mod LinesBeforeQuit
 mod Listed
@@ -31,6 +32,7 @@ mod Pagings
 mod Quiet
 mod Ranges
 mod Replies
+mod RingLives
 mod Runs
 mod RunsSoFar
 mod SerialRuns

@@ -17,19 +17,18 @@ use Rattle.face.specs.declared.halt.Halt.{Halt}
 use Rattle.face.specs.declared.halt.Halt.TheVariants as halt
 use Rattle.face.specs.declared.request.Load.{Load}
 use Rattle.face.specs.Causes.{HasCause, HasCauses, NoFaultRose}
-use Rattle.face.proofs.LogRoom.{never_at_end_within}
+use Rattle.face.proofs.LogRoom.{never_worn_within}
 use Rattle.face.specs.TopCall.{LoadContract}
 use Rattle.face.specs.Headline.{IsGood, TellsFault}
 use Rattle.face.specs.Loads.{Allows, HasBegunLoad, IsLeftOf, IsOpened, IsUntold, LoadHeadline, LoadStops, LoadWorks}
-use Rattle.redo_undo.specs.Holding.{IsLogWorn}
-use Rattle.face.specs.Range.{HasLogRoom, NeverWears, StandsAfter, WearsOut, all_commits}
+use Rattle.face.specs.Range.{HasLogRoom, NeverWears, StandsAfter, WearsLog, WearsOut, all_commits}
 use Rattle.face.specs.Run.{IsFront, Run, first_lines, turns_of}
 use Rattle.face.specs.Texts.{fault_line, status_of}
 use Rattle.face.specs.Tells.{EndsBehind, Tells}
 use Rattle.face.specs.Workload.{load_run, load_texts, opening_text, summary_text}
 use Rattle.face.proofs.Endings.{ends_whole, ends_with}
 use Rattle.face.proofs.Demanded.{asked_done, asked_halted, demands_done, demands_err, demands_failed, demands_lost}
-use Rattle.face.proofs.Faults.{not_zero, worn_by}
+use Rattle.face.proofs.Faults.{not_zero, worn_by, worn_nowhere}
 use Rattle.face.proofs.Pagings.{wears_out_later}
 use Rattle.face.proofs.Meanings.{stands_by}
 
@@ -81,7 +80,7 @@ module _ (pool : ℕ) (run : Run) (summary : List ℕ) (old : Site) where
     begun = works.begun;
     has_begun = works.has_begun;
     all = tt;
-    demands = demands_err pool (first_lines run works.begun) old new h (λ e. works.demands.worn (ap Err e)) works.demands.numbers works.demands.reads;
+    demands = demands_err pool (first_lines run works.begun) old new h (λ e. works.demands.worn (ap Err e)) (λ e. works.demands.worn_log (ap Err e)) works.demands.numbers works.demands.reads;
     left = works.left;
   }
 
@@ -211,7 +210,7 @@ module _ (load : Load) (g : Geometry) (opening : State) (old : Site) (good : IsG
         resources = record {
           begun = works.begun;
           has_begun = still_begun run' works.begun (fault_line h) old mid new tells works.has_begun;
-          asked = asked_halted load.pool run' works.begun old new {T = T} h status (λ zero. not_zero h (sym is ∙ zero)) (λ eight. worn_by {T = T} g opening h old new good cause (sym is ∙ eight))
+          asked = asked_halted load.pool run' works.begun old new {T = T} h status (λ zero. not_zero h (sym is ∙ zero)) (λ eight. worn_by g opening h old new good cause (sym is ∙ eight))
               (demands_failed load.pool (first_lines run' works.begun) old mid new same.image read tells h works.demands);
         };
       }
@@ -241,10 +240,10 @@ module _ (load : Load) (g : Geometry) (opening : State) (old : Site) (good : IsG
   load_complete more new status none room log_room untaken causes h =
       ⊎_elim (λ e. inl e) (⊎_elim (λ e. let c = causes.device e in absurd (none.devices c.0 c.1)) (⊎_elim (λ e. inr e) (⊎_elim (λ e. absurd (untaken.0 e))
       (⊎_elim (λ e. absurd (none.output (causes.output e))) (⊎_elim (λ e. absurd (untaken.1 e))
-      (⊎_elim (λ e. absurd (⊎_elim never at_end (h.resources.asked.worn e))) (λ e. absurd (causes.foreign e good.honest g opening.table opening.commits (stands_by g old.image opening good.opens))))))))) causes.others
+      (⊎_elim (λ e. absurd (let worn = h.resources.asked.worn e in worn_nowhere load.pool (first_lines run' h.resources.begun) old.image new.image worn.0 worn.2 never never_log)) (λ e. absurd (causes.foreign e good.honest g opening.table opening.commits (stands_by g old.image opening good.opens))))))))) causes.others
     where
-      at_end : IsLogWorn g new.image → ⊥
-      at_end = never_at_end_within run' h.resources.begun old.image new.image good.opens.newest good.opens.blocks good.opens.sound h.resources.asked.numbers log_room
+      never_log : WearsLog (first_lines run' h.resources.begun) old.image → ⊥
+      never_log wears = never_worn_within run' h.resources.begun old.image good.opens.newest good.opens.blocks good.opens.sound wears log_room
 
       never : WearsOut load.pool (first_lines run' h.resources.begun) old.image → ⊥
       never over =

@@ -9,7 +9,7 @@ use Rattle.std.specs.Prelude.{Option, Result, Ok, Err, IsErrOf, count_by}
 use Rattle.std.proofs.lemmas.Bool.{cases_lt}
 use Rattle.std.proofs.lemmas.List.{append-nil, length-take-le, take_all, take-take}
 use Rattle.site.specs.declared.geometry.Geometry.{Geometry}
-use Rattle.site.specs.declared.outside.Dev.TheVariants.{Flash}
+use Rattle.site.specs.declared.outside.Dev.TheVariants.{Flash, Log}
 use Rattle.site.specs.declared.outside.Stop.TheVariants.{Worn}
 use Rattle.site.specs.State.{State as Site, Image, Snapshot, MayLeave, now_of}
 use Rattle.site.specs.Moments.{Leaves, LeavesOnly}
@@ -19,6 +19,12 @@ use Rattle.record_model.specs.Run.{Line, commit_marks, commits_among, left_by}
 use Rattle.record_model.specs.Touches.{CacheWork}
 use Rattle.checkpoint.specs.declared.master.Master.{Master}
 use Rattle.log_records.specs.declared.log_record.LogRecord.{LogRecord}
+use Rattle.log_records.specs.Log.{Entry}
+use Rattle.log_records.specs.Unfinished.{owed}
+use Rattle.sealed_ring.specs.Ring.{hi_of}
+use Rattle.image_changes.specs.Rings.{log_shape, master_shape}
+use Rattle.redo_undo.specs.Numbers.{HasNumbers}
+use Rattle.redo_undo.proofs.RingNumbers.{leaves_more}
 use Rattle.image_meaning.specs.Meaning.{picture_under}
 use Rattle.second_chance.specs.Machine.{Cache, Rules, after_works, opened, rules_of}
 use Rattle.page_store.specs.Caching.{cache_of, rules}
@@ -37,12 +43,12 @@ use Rattle.face.specs.declared.halt.Halt.TheVariants as halt
 use Rattle.face.specs.declared.request.Load.{Load}
 use Rattle.face.specs.Going.{Going, IsCounted, IsPaged}
 use Rattle.face.specs.Loads.{CarriesFirst, CarriesOut, HasBegunLoad, IsLeftOf, IsOpened, IsUntold, LeavesSome, LoadStops, LoadWorks}
-use Rattle.face.specs.Range.{AsksNoMore, IsLeft, SkipsNoNumber, StandsAfter, WearsOut, all_commits, cache_by, first_texts, run_of, texts}
+use Rattle.face.specs.Range.{AsksNoMore, IsLeft, SkipsNoNumber, StandsAfter, WearsLog, WearsOut, all_commits, cache_by, first_texts, run_of, texts}
 use Rattle.face.specs.Run.{AsksFew, Run, StandsFor, after_lines, answered, checkpoints_of, first_lines, works_of, turns_of, log_reads_of}
 use Rattle.face.specs.Working.{StandsNear, Stops, asked_after, log_reads_after}
 use Rattle.face.specs.Texts.{status_of}
 use Rattle.face.specs.Workload.{get_line, load_run, numbers_of, opening_text, set_line, set_lines, get_lines}
-use Rattle.face.proofs.Counted.{skips_course}
+use Rattle.face.proofs.Counted.{skips_course, wears_course}
 use Rattle.face.proofs.Logs.{fits_stands}
 use Rattle.face.proofs.UntoldLines.{carries_all, leaves_first}
 use Rattle.face.proofs.Fronts.{state_by_turns}
@@ -148,22 +154,22 @@ module _ (g : Geometry) (opening : State) (load : Load) where
       stands = λ s left. let l = stops.any_moment.now s left in (0, omega arith, stands_none l.k s.image (left_none opening_run old.told [] s l) l.stands);
     }
 
-    pub load_never_opened : {T : Type 0} (new : Site) (h : Halt) → Stops opening_run 0 old new h → (h ≡ halt.Stop (Worn Flash) → WearsOut load.pool (first_lines opening_run 0) old.image) → SkipsNoNumber (first_lines opening_run 0) old.image new.image → AsksNoMore load.pool (first_lines opening_run 0) old new → new.input ≡ old.input →
+    pub load_never_opened : {T : Type 0} (new : Site) (h : Halt) → Stops opening_run 0 old new h → (h ≡ halt.Stop (Worn Flash) → WearsOut load.pool (first_lines opening_run 0) old.image) → (h ≡ halt.Stop (Worn Log) → WearsLog (first_lines opening_run 0) old.image) → SkipsNoNumber (first_lines opening_run 0) old new → AsksNoMore load.pool (first_lines opening_run 0) old new → new.input ≡ old.input →
         LoadWorks {T = T} load.pool run [] old new (Err h)
-    load_never_opened {T} new h stops worn numbers reads left = record {
+    load_never_opened {T} new h stops worn log numbers reads left = record {
       stops = never_opened new h stops;
       done = tt;
       begun = 0;
       has_begun = none_begun new h stops;
       all = tt;
-      demands = demands_err load.pool (first_lines run 0) old new h worn numbers reads;
+      demands = demands_err load.pool (first_lines run 0) old new h worn log numbers reads;
       left = left;
     }
 
     -- Once it is told.
     module _ (add : WorksAddUp) (reads_add : ReadsAddUp) (mid new : Site) (before after : Engine) (going : Going opening_run old mid before 0)
         (paged : (newest : Option Master) (blocks : List (List LogRecord)) → IsSound newest g old.image blocks → IsPaged load.pool opening_run newest old.image blocks before 0)
-        (counted : (newest : Option Master) (blocks : List (List LogRecord)) → IsSound newest g old.image blocks → IsCounted opening_run (log_under newest blocks) old.image mid.image before 0)
+        (counted : (newest : Option Master) (blocks : List (List LogRecord)) → IsSound newest g old.image blocks → IsCounted opening_run (log_under newest blocks) old mid before 0)
         (read : AsksNoMore load.pool (first_lines opening_run 0) old mid) (goes_on : Invariant before mid)
         (left : mid.input ≡ old.input) where
       told_mid : mid.told ≡ old.told ++ opening_text run
@@ -232,11 +238,21 @@ module _ (g : Geometry) (opening : State) (load : Load) where
         worn_out : IsErrOf result (halt.Stop (Worn Flash)) → WearsOut load.pool (first_lines run some.begun) old.image
         worn_out is newest blocks sound = subst (λ (c : Cache). 2 ^ 40 < next_group c) (next_is newest blocks sound) ((some.course.serves opening going.fits).worn is)
 
-        numbers_are : SkipsNoNumber (first_lines run some.begun) old.image new.image
+        own_counts : CountsOn result (halt.Stop (Worn Log)) before after mid new opening (after_lines opening (take some.begun (answered run)) []) (checkpoints_of opening (take some.begun (answered run)))
+        own_counts = subst (λ (l : List Line). CountsOn result (halt.Stop (Worn Log)) before after mid new opening (after_lines opening (take some.begun l) []) (checkpoints_of opening (take some.begun l))) (sym all_lines) (some.course.numbers opening going.fits going.quiet)
+
+        opened_with : (records : List Entry) → IsCounted opening_run records old mid before 0 → LeavesOnly old mid (λ s. HasNumbers g (hi_of (log_shape g) old.image.log + owed records + opening.made) (hi_of master_shape old.image.log + 1) s.image)
+        opened_with records so_far = leaves_more g old mid _ _ _ _ (omega arith) (omega arith) so_far.numbers
+
+        numbers_are : SkipsNoNumber (first_lines run some.begun) old new
         numbers_are newest blocks sound =
             let so_far = counted newest blocks sound in
-            skips_course result run some.begun (log_under newest blocks) before after old.image mid new going.geometry so_far.log (let masters = so_far.numbers.masters in omega (arith, masters))
-            (subst (λ (l : List Line). CountsOn result before after mid new opening (after_lines opening (take some.begun l) []) (checkpoints_of opening (take some.begun l))) (sym all_lines) (some.course.numbers opening going.fits going.quiet))
+            skips_course result run some.begun (log_under newest blocks) before after old mid new going.geometry so_far.log (opened_with (log_under newest blocks) so_far) own_counts
+
+        worn_log : IsErrOf result (halt.Stop (Worn Log)) → WearsLog (first_lines run some.begun) old.image
+        worn_log is newest blocks sound =
+            let so_far = counted newest blocks sound in
+            wears_course result run some.begun (log_under newest blocks) before after old mid new going.geometry so_far.log (opened_with (log_under newest blocks) so_far) own_counts is
 
         reads_are : AsksNoMore load.pool (first_lines run some.begun) old new
         reads_are newest blocks sound =
@@ -274,7 +290,7 @@ module _ (g : Geometry) (opening : State) (load : Load) where
         begun = some.begun;
         has_begun = has_begun (Err h) some;
         all = tt;
-        demands = demands_err load.pool (first_lines run some.begun) old new h (λ e. worn_out (Err h) some (ap Err e)) (numbers_are (Err h) some) (reads_are (Err h) some);
+        demands = demands_err load.pool (first_lines run some.begun) old new h (λ e. worn_out (Err h) some (ap Err e)) (λ e. worn_log (Err h) some (ap Err e)) (numbers_are (Err h) some) (reads_are (Err h) some);
         left = left_new (Err h) some;
       }
 

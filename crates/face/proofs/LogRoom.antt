@@ -1,4 +1,4 @@
--- Where the rings on the log's device have numbers for all that a run appends, its first lines bring none to its end.
+-- Where the rings on the log's device have numbers for all that a run appends, its first lines append to none past its end.
 use Rattle.std.proofs.Common.{◌≡◌, ⊎_elim, ℕ, ◌≤◌, Bool, true, false, List, [], ◌∷◌, ◌++◌, take, drop, Option, Some, None, sym, ◌∙◌, ap, arith, append_assoc, take-append-drop}
 use Rattle.std.specs.Prelude.{if◌then◌else◌}
 use Rattle.site.specs.State.{Image}
@@ -10,12 +10,13 @@ use Rattle.record_model.specs.declared.words.Reply.{Reply}
 use Rattle.record_model.specs.State.{State}
 use Rattle.record_model.specs.Step.{Outcome, answer, effect, full, lacks_room, outcome, ready, refusal}
 use Rattle.record_model.specs.Run.{Line, later_listings, next_listing}
-use Rattle.redo_undo.specs.Holding.{IsLogWorn}
+use Rattle.redo_undo.specs.Numbers.{PassesEnd}
 use Rattle.checkpoint.specs.declared.master.Master.{Master}
 use Rattle.log_records.specs.declared.log_record.LogRecord.{LogRecord}
-use Rattle.engine.specs.Image.{IsSound}
+use Rattle.log_records.specs.Log.{Entry}
+use Rattle.engine.specs.Image.{IsSound, log_under}
 use Rattle.face.specs.Lines.{commands_of, up_to_quit}
-use Rattle.face.specs.Range.{HasLogRoom, SkipsNoNumber, made_by, run_of}
+use Rattle.face.specs.Range.{HasLogRoom, HasNumbersFor, WearsLog, blocks_by, made_by, masters_by, run_of}
 use Rattle.face.specs.Run.{Run, after_lines, answered, checkpoints_of, first_lines, step, turns_of}
 use Rattle.face.specs.Workload.{checkpoints_in}
 use Rattle.face.proofs.Counted.{checkpoints_are, checkpoints_join, made_all, made_are, turns_make}
@@ -73,25 +74,23 @@ module _ (g : Geometry) (opening : State) (own lines : List Line) (own_listings 
       let last = turns_make opening lines listings ∙ ap (checkpoints_of opening) split ∙ checkpoints_join opening front later in
       omega (arith, first, last)
 
-  pub stays_below : (old now : Image) (newest : Option Master) (blocks : List (List LogRecord)) → IsSound newest g old blocks → SkipsNoNumber (first_lines part n) old now → HasLogRoom all old → IsLogWorn g now → ⊥
-  stays_below old now newest blocks sound numbers room =
-      let gives = numbers newest blocks sound in
-      let has = room newest blocks sound in
+  -- so many numbers are not past the end of a ring
+  pub passes_none : (records : List Entry) (image : Image) → PassesEnd (blocks_by (first_lines part n) records image) (masters_by (first_lines part n) image) → HasNumbersFor all records image → ⊥
+  passes_none records image past room =
       let made = made_few in
       let checkpoints = checkpoints_few in
-      ⊎_elim (λ end. let few = gives.blocks in let many = has.blocks in omega (arith, end, few, many, made))
-      (λ end. let few = gives.masters in let many = has.masters in omega (arith, end, few, many, checkpoints))
+      ⊎_elim (λ many. let few = room.blocks in omega (arith, many, few, made)) (λ many. let few = room.masters in omega (arith, many, few, checkpoints)) past
 
 -- the lines of the octets that were taken are the first ones of all that are left
-pub never_at_end : (g : Geometry) (opening : State) (listings : List (List CacheLine)) (ended : Bool) (left octets rest : List ℕ) → left ≡ octets ++ rest → (ended ≡ true → rest ≡ []) → (begun : ℕ) (old now : Image) (newest : Option Master) (blocks : List (List LogRecord)) → IsSound newest g old blocks
-    → SkipsNoNumber (first_lines (run_of g opening ended octets listings) begun) old now → HasLogRoom (run_of g opening true left []) old → IsLogWorn g now → ⊥
-never_at_end g opening listings ended left octets rest is none begun old now newest blocks sound =
+pub never_worn : (g : Geometry) (opening : State) (listings : List (List CacheLine)) (ended : Bool) (left octets rest : List ℕ) → left ≡ octets ++ rest → (ended ≡ true → rest ≡ []) → (begun : ℕ) (image : Image) (newest : Option Master) (blocks : List (List LogRecord)) → IsSound newest g image blocks
+    → WearsLog (first_lines (run_of g opening ended octets listings) begun) image → HasLogRoom (run_of g opening true left []) image → ⊥
+never_worn g opening listings ended left octets rest is none begun image newest blocks sound wears room =
     let first = taken_first ended left octets rest is none in
     let own = up_to_quit (commands_of ended octets) in
-    stays_below g opening (commands_of ended octets) (commands_of true left) listings [] begun (drop begun own ++ first.0)
-    (first.1 ∙ ap (λ (l : List Line). l ++ first.0) (sym (take-append-drop begun own)) ∙ append_assoc (take begun own) (drop begun own) first.0) old now newest blocks sound
+    passes_none g opening (commands_of ended octets) (commands_of true left) listings [] begun (drop begun own ++ first.0)
+    (first.1 ∙ ap (λ (l : List Line). l ++ first.0) (sym (take-append-drop begun own)) ∙ append_assoc (take begun own) (drop begun own) first.0) (log_under newest blocks) image (wears newest blocks sound) (room newest blocks sound)
 
 -- the same of the first lines of a run
-pub never_at_end_within : (run : Run) (begun : ℕ) (old now : Image) (newest : Option Master) (blocks : List (List LogRecord)) → IsSound newest run.geometry old blocks → SkipsNoNumber (first_lines run begun) old now → HasLogRoom run old → IsLogWorn run.geometry now → ⊥
-never_at_end_within run begun old now newest blocks sound =
-    stays_below run.geometry run.opening run.lines run.lines run.listings run.listings begun (drop begun (answered run)) (sym (take-append-drop begun (answered run))) old now newest blocks sound
+pub never_worn_within : (run : Run) (begun : ℕ) (image : Image) (newest : Option Master) (blocks : List (List LogRecord)) → IsSound newest run.geometry image blocks → WearsLog (first_lines run begun) image → HasLogRoom run image → ⊥
+never_worn_within run begun image newest blocks sound wears room =
+    passes_none run.geometry run.opening run.lines run.lines run.listings run.listings begun (drop begun (answered run)) (sym (take-append-drop begun (answered run))) (log_under newest blocks) image (wears newest blocks sound) (room newest blocks sound)

@@ -56,7 +56,7 @@ pub lacked_headline : Serial → NumbersRise → (pool : ℕ) (g : Geometry) (op
 lacked_headline law rise pool g opening old new result good tells =
     let run = run_of g opening true old.input.left [] in
     let stops = not_opened run old old (still g opening old good) lacks (λ ne. good.quiet) in
-    let works : RunOutcome {T = ℕ} pool run old old (Err lacks) = never_opened pool run old old lacks stops (λ e. cc, λ e. cc) refl (λ e. cc) (counts_nothing run old.image) (reads_nothing rise pool run old good.quiet) in
+    let works : RunOutcome {T = ℕ} pool run old old (Err lacks) = never_opened pool run old old lacks stops (λ e. cc, λ e. cc) refl (λ e. cc) (λ e. cc) (counts_nothing run old good.quiet) (reads_nothing rise pool run old good.quiet) in
     halted pool g opening [] old law old new lacks good works (goes_nowhere old) result tells tt 4 refl
 
 -- the same of a load
@@ -65,7 +65,7 @@ lacked_load rise load g opening old new result good tells =
     let run = load_run g opening load in
     let stops = not_opened (run_of g opening true old.input.left []) old old (still g opening old good) lacks (λ ne. good.quiet) in
     let works : LoadWorks {T = ℕ} load.pool run (summary_text run load) old old (Err lacks) =
-    stopped_before load.pool run (summary_text run load) old {T = ℕ} old lacks (load_never_opened g opening load old old lacks stops (λ e. cc) (counts_nothing (run_of g opening true old.input.left []) old.image) (reads_nothing rise load.pool (run_of g opening true old.input.left []) old good.quiet) refl) in
+    stopped_before load.pool run (summary_text run load) old {T = ℕ} old lacks (load_never_opened g opening load old old lacks stops (λ e. cc) (λ e. cc) (counts_nothing (run_of g opening true old.input.left []) old good.quiet) (reads_nothing rise load.pool (run_of g opening true old.input.left []) old good.quiet) refl) in
     load_halted load g opening old good old new lacks works (goes_nowhere old) result tells tt 4 refl
 
 -- the contracts of a run and of a load

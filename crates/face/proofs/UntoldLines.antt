@@ -34,7 +34,9 @@ use Rattle.face.specs.Going.{LineStepsMachine}
 use Rattle.face.specs.Loads.{CarriesFirst, CarriesOut, LeavesSome}
 use Rattle.face.specs.Run.{StandsFor, after_lines, checkpoints_of, step, works_of, log_reads_of, line_log_reads}
 use Rattle.engine.specs.Numbers.{RestCountsNothing}
-use Rattle.face.proofs.Counted.{checkpoints_join, counts_err, counts_join, counts_none, counts_then}
+use Rattle.engine.proofs.RingCounts.{count_then}
+use Rattle.redo_undo.proofs.RingNumbers.{ok_no_error}
+use Rattle.face.proofs.Counted.{checkpoints_join, counts_as, counts_err, counts_none}
 use Rattle.face.proofs.Logs.{fits_stands}
 use Rattle.face.proofs.LinesBeforeQuit.{after_join, works_join}
 
@@ -90,7 +92,7 @@ carries_none {T} x engine site rest going = record {
   last = λ s fits quiet snapshot left. (0, omega arith, subst (λ (i : Image). StandsFor (sizes_of engine.store) i s) (sym (image_is (now_of site) snapshot quiet left)) (fits_stands engine site s going.store.both.sizes fits));
   fits = λ s fits. fits;
   serves = λ s fits. record { log_reads = omega arith; machine = refl; worn = λ is. absurd (no_error is); reads = record { flash = omega arith; disk = omega arith }; rules_are = refl; writes = λ has calm. writes_nothing engine.store.pages site has calm; geometry = refl };
-  numbers = λ s fits quiet. counts_none (Ok x) engine site s rest fits going;
+  numbers = λ s fits quiet. counts_none (Ok x) engine site s rest fits going quiet (ok_no_error x (halt.Stop (Worn Log)));
   fills = λ s fits quiet. fills_same 0 engine;
   left = λ honest. refl;
   stays_quiet = λ honest quiet. quiet;
@@ -111,7 +113,7 @@ carries_with {T} {U} x y lines a b old new one = record {
   last = one.last;
   fits = one.fits;
   serves = λ s fits. let serves = one.serves s fits in record { log_reads = serves.log_reads; machine = serves.machine; worn = λ is. absurd (no_error is); reads = serves.reads; rules_are = serves.rules_are; writes = serves.writes; geometry = serves.geometry };
-  numbers = λ s fits quiet. counts_then x (Ok y) a b old new new s _ _ refl (one.numbers s fits quiet);
+  numbers = λ s fits quiet. counts_as x (Ok y) a b old new s _ _ (ok_no_error y (halt.Stop (Worn Log))) (one.numbers s fits quiet);
   fills = one.fills;
   left = one.left;
   stays_quiet = one.stays_quiet;
@@ -186,12 +188,12 @@ module _ {T U : Type 0} (add : WorksAddUp) (reads_add : ReadsAddUp) (x : T) (res
         geometry = back.geometry ∙ front.geometry;
       }
 
-  numbers_join : (s : State) → Matches a old s → IsQuiet old → CountsOn result a c old new s (after_lines s (first ++ later) []) (checkpoints_of s (first ++ later))
+  numbers_join : (s : State) → Matches a old s → IsQuiet old → CountsOn result (halt.Stop (Worn Log)) a c old new s (after_lines s (first ++ later) []) (checkpoints_of s (first ++ later))
   numbers_join s fits quiet =
       let then = after_lines s first [] in
-      subst (λ (n : ℕ). CountsOn result a c old new s (after_lines s (first ++ later) []) n) (sym (checkpoints_join s first later))
-      (subst (λ (x : State). CountsOn result a c old new s x (checkpoints_of s first + checkpoints_of then later)) (sym (after_join s first later))
-      (counts_join x result a b c old mid new s then (after_lines then later []) (checkpoints_of s first) (checkpoints_of then later) one.sizes (one.numbers s fits quiet) (two.numbers then (one.fits s fits) (one.stays_quiet fits.honest quiet))))
+      subst (λ (n : ℕ). CountsOn result (halt.Stop (Worn Log)) a c old new s (after_lines s (first ++ later) []) n) (sym (checkpoints_join s first later))
+      (subst (λ (x : State). CountsOn result (halt.Stop (Worn Log)) a c old new s x (checkpoints_of s first + checkpoints_of then later)) (sym (after_join s first later))
+      (count_then result x a b c old mid new s then (after_lines then later []) (checkpoints_of s first) (checkpoints_of then later) (checkpoints_of s first + checkpoints_of then later) one.sizes (one.numbers s fits quiet) (two.numbers then (one.fits s fits) (one.stays_quiet fits.honest quiet)) refl))
 
   pub carries_more : CarriesOut result (first ++ later) a c old new
   carries_more = record {
@@ -217,7 +219,7 @@ carries_err {T} {U} h lines a b old new one = record {
   last = one.last;
   fits = λ s fits. tt;
   serves = λ s fits. let serves = one.serves s fits in record { log_reads = serves.log_reads; machine = tt; worn = λ is. serves.worn (ap Err (same_halt is)); reads = serves.reads; rules_are = serves.rules_are; writes = serves.writes; geometry = serves.geometry };
-  numbers = λ s fits quiet. counts_err h h a b old new s _ _ (one.numbers s fits quiet);
+  numbers = λ s fits quiet. counts_err h h a b old new s _ _ (λ is. is) (one.numbers s fits quiet);
   fills = λ s fits quiet. tt;
   left = one.left;
   stays_quiet = λ honest quiet. tt;

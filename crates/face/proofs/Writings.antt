@@ -23,17 +23,23 @@ use Rattle.face.specs.Lines.{HearsOnly}
 pub engine_queue : (engine : Engine) (site : Site) (s : State) → Invariant engine site → Matches engine site s → HasQueueOn engine.store.pages site
 engine_queue engine site s may fits = fits_queue engine.store.pages site may.store.both.pages_going fits.holds.both.log_holds.ready.pages
 
--- behind it something is told
-pub writes_told : (g : Geometry) (r : Rules) (works : List CacheWork) (start : Cache) (piece : List ℕ) (old mid new : Site) → WritesFrom g r works start old mid → EachMoment mid new (TellsPart piece mid) → WritesFrom g r works start old new
-writes_told g r works start piece old mid new first tells =
-    let Q = λ (i : Image). WritesOnly g (staged_by_works r works start) (next_group (after_works r works start)) old.image i in
+-- What holds of each image that a crash leaves, holds still
+
+-- where something is told behind it
+pub images_told : (Q : Image → Type 0) (piece : List ℕ) (old mid new : Site) → LeavesOnly old mid (λ s. Q s.image) → EachMoment mid new (TellsPart piece mid) → LeavesOnly old new (λ s. Q s.image)
+images_told Q piece old mid new first tells =
     let P = λ (s : Snapshot). Q s.image in
     in_sequence old mid new (Leaves P) first (leaves_weaker mid new _ P (λ s both. both.1) (tell_leaves Q piece mid new (λ s left. first.now s left) tells))
 
 -- or heard
+pub images_heard : (Q : Image → Type 0) (old mid new : Site) → LeavesOnly old mid (λ s. Q s.image) → HearsOnly mid new → LeavesOnly old new (λ s. Q s.image)
+images_heard Q old mid new first same = calm old mid new (Leaves (λ (s : Snapshot). Q s.image)) first same.past (now_same mid new same.told same.image same.loose)
+
+pub writes_told : (g : Geometry) (r : Rules) (works : List CacheWork) (start : Cache) (piece : List ℕ) (old mid new : Site) → WritesFrom g r works start old mid → EachMoment mid new (TellsPart piece mid) → WritesFrom g r works start old new
+writes_told g r works start piece old mid new = images_told (λ (i : Image). WritesOnly g (staged_by_works r works start) (next_group (after_works r works start)) old.image i) piece old mid new
+
 pub writes_heard : (g : Geometry) (r : Rules) (works : List CacheWork) (start : Cache) (old mid new : Site) → WritesFrom g r works start old mid → HearsOnly mid new → WritesFrom g r works start old new
-writes_heard g r works start old mid new first same =
-    calm old mid new (Leaves (λ (s : Snapshot). WritesOnly g (staged_by_works r works start) (next_group (after_works r works start)) old.image s.image)) first same.past (now_same mid new same.told same.image same.loose)
+writes_heard g r works start old mid new = images_heard (λ (i : Image). WritesOnly g (staged_by_works r works start) (next_group (after_works r works start)) old.image i) old mid new
 
 -- work behind work
 pub writes_then : (g : Geometry) (r : Rules) (first later : List CacheWork) (start : Cache) (old mid new : Site) → 1 ≤ r.groups → WritesFrom g r first start old mid → WritesFrom g r later (after_works r first start) mid new →

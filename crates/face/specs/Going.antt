@@ -19,13 +19,13 @@ use Rattle.engine.specs.Paging.{WritesFrom, cache_on}
 use Rattle.page_store.specs.Staging.{HasQueueOn}
 use Rattle.face.specs.declared.halt.Halt.{Halt}
 use Rattle.face.specs.declared.halt.Halt.TheVariants.{Stop}
+use Rattle.log_records.specs.Log.{Entry}
+use Rattle.redo_undo.specs.Holding.{blocks_to}
 use Rattle.sealed_ring.specs.Ring.{hi_of}
 use Rattle.image_changes.specs.Rings.{log_shape}
-use Rattle.log_records.specs.Log.{Entry}
 use Rattle.log_records.specs.Unfinished.{owed}
-use Rattle.redo_undo.specs.Holding.{blocks_to}
 use Rattle.face.specs.Filled.{filled, octets_in}
-use Rattle.face.specs.Range.{GivesNumbers, IsLeft, ListsTheMachine, first_texts, made_by}
+use Rattle.face.specs.Range.{GivesNumbers, IsLeft, ListsTheMachine, blocks_by, first_texts}
 use Rattle.face.specs.Run.{Run, Begins, answered, first_lines, state_at, listings_left, turns_of}
 use Rattle.face.specs.Working.{AnswersFirst, asked_after}
 
@@ -61,14 +61,13 @@ pub record IsPaged (pool : ℕ) (run : Run) (newest : Option Master) (image : Im
       (cache_on run.geometry image)
   pub rules_are : rules engine.store.pages ≡ rules_of pool run.geometry.groups
 
--- The rings on the log's device have no more numbers than the run has records and checkpoints so far, over an image
+-- The rings on the log's device have had no more numbers than the run has records and checkpoints so far, over an image
 -- whose log has these records, and no more of its blocks is filled.
-pub record IsCounted (run : Run) (records : List Entry) (old now : Image) (engine : Engine) (lines : ℕ) : Type 0 where
-  pub log : blocks_to engine.store.log ≤
-      hi_of (log_shape run.geometry) old.log + owed records + made_by (first_lines run lines)
-  pub numbers : GivesNumbers (first_lines run lines) records old now
-  pub fills : filled engine.store.log + 238 * next_group (cache_on run.geometry old)
-      ≤ 238 * (hi_of (log_shape run.geometry) old.log + owed records) + 503
+pub record IsCounted (run : Run) (records : List Entry) (old now : Site) (engine : Engine) (lines : ℕ) : Type 0 where
+  pub log : blocks_to engine.store.log ≤ blocks_by (first_lines run lines) records old.image
+  pub numbers : LeavesOnly old now (λ s. GivesNumbers (first_lines run lines) records old.image s.image)
+  pub fills : filled engine.store.log + 238 * next_group (cache_on run.geometry old.image)
+      ≤ 238 * (hi_of (log_shape run.geometry) old.image.log + owed records) + 503
       + octets_in (turns_of (first_lines run lines)) + 238 * next_group (cache_of engine.store.pages)
 
 -- A line asks for this work, no more is read and written than it needs, and the log is read no more often than so.

@@ -1,11 +1,15 @@
 -- The headline: what is durable of a run, what it asks of the devices, and the serial order of its transactions.
 use Rattle.std.specs.Prelude.{◌≡◌, ◌≢◌, ◌⊎◌, ℕ, ◌+◌, Bool, true, false, List, [], ◌∷◌, ◌++◌, length, take, IsTrue}
-use Rattle.site.specs.State.{State as Site, no_loose}
+use Rattle.site.specs.State.{State as Site, Image, no_loose}
+use Rattle.site.specs.declared.outside.Dev.{Dev}
+use Rattle.site.specs.declared.outside.Dev.TheVariants.{Log, Flash, Disk}
+use Rattle.site.specs.declared.outside.Stop.TheVariants.{Worn}
 use Rattle.site.specs.Moments.{LeavesOnly}
 use Rattle.site.specs.declared.geometry.Geometry.{Geometry}
 use Rattle.record_model.specs.declared.words.CacheLine.{CacheLine}
 use Rattle.record_model.specs.State.{State}
 use Rattle.face.specs.declared.halt.Halt.{Halt}
+use Rattle.face.specs.declared.halt.Halt.TheVariants.{Stop}
 use Rattle.face.specs.Texts.{IsLineOf, fault_line, status_of}
 use Rattle.redo_undo.specs.Holding.{IsLogWorn}
 use Rattle.engine.specs.Image.{Opens}
@@ -21,6 +25,7 @@ use Rattle.face.specs.Run.{Run, IsFront, first_lines, turns_of}
 use Rattle.face.specs.Range.{run_of, texts, run_text, IsLeft, IsWhole, WearsOut, NeverWears}
 use Rattle.face.specs.Waiting.{NobodyWaits}
 use Rattle.face.specs.Range.{LeavesItsQueue, LeavesVersions, SkipsNoNumber, AsksNoMore, ListsTheMachine, HasBegun}
+use Rattle.face.specs.Range.{WearsLog}
 
 -- an honest and quiet site, whose image is sound, and over which a run opens with this state
 pub record IsGood (g : Geometry) (opening : State) (site : Site) : Type 0 where
@@ -92,11 +97,18 @@ pub record Durability (g : Geometry) (opening : State) (old new : Site) (status 
 abbrev pub ran : {g : Geometry} {s : State} {old new : Site} {status : ℕ} → Durability g s old new status → Run
 ran {g} {s} d = run_of g s d.ended d.octets d.listings
 
--- What a run with a pool of so many pages asks of the devices, of which so many lines were begun.
-pub record Resources (pool : ℕ) (run : Run) (begun : ℕ) (old new : Site) (status : ℕ) : Type 0 where
-  -- with 8 these append to a ring of groups that stands at its end, or a ring on the log's device stands there; with 0
-  -- no group is appended there
-  pub worn : status ≡ 8 → WearsOut pool (first_lines run begun) old.image ⊎ IsLogWorn run.geometry new.image
+-- These lines append to a ring on this device that stands at its end; of the log's device one stands there now.
+abbrev pub WearsAt : Dev → ℕ → Run → Image → Image → Type 0
+WearsAt Flash pool run old now = WearsOut pool run old
+WearsAt Log pool run old now = WearsLog run old × IsLogWorn run.geometry now
+WearsAt Disk pool run old now = ⊥
+
+-- What a run with a pool of so many pages asks of the devices, of which so many lines were begun, and this fault line
+-- is told.
+pub record Resources (pool : ℕ) (run : Run) (begun : ℕ) (fault : List ℕ) (old new : Site) (status : ℕ) : Type 0 where
+  -- with 8 these append to a ring that stands at its end, on the device that is told; with 0 no group is appended there
+  pub worn : status ≡ 8 → (dev : Dev) × (fault ≡ fault_line (Stop (Worn dev)))
+      × WearsAt dev pool (first_lines run begun) old.image new.image
   pub room : status ≡ 0 → NeverWears pool run old.image
   -- with 0 the frames on flash are those that the cache machine has in its queue
   pub frames : status ≡ 0 → LeavesItsQueue pool run old.image new.image
@@ -105,7 +117,7 @@ pub record Resources (pool : ℕ) (run : Run) (begun : ℕ) (old new : Site) (st
   -- and no more blocks of the log are sealed than what is logged fills
   pub seals : status ≡ 0 → SealsNoMore pool run old.image new.image
   -- whatever the status, with these lines no ring number is skipped on the log's device
-  pub numbers : SkipsNoNumber (first_lines run begun) old.image new.image
+  pub numbers : SkipsNoNumber (first_lines run begun) old new
   -- no more is read and written than they ask for
   pub reads : AsksNoMore pool (first_lines run begun) old new
 
@@ -114,7 +126,7 @@ pub record RunResources (pool : ℕ) (run : Run) (fault : List ℕ) (old new : S
   -- how many lines were begun, the one under way with them
   pub begun : ℕ
   pub has_begun : HasBegun run begun fault old new
-  pub asked : Resources pool run begun old new status
+  pub asked : Resources pool run begun fault old new status
   -- what they are told of the cache is what the machine lists
   pub listed : ListsTheMachine pool (first_lines run begun) old.image
 

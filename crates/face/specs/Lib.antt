@@ -3,6 +3,7 @@ pub mod Check
 pub mod Filled
 pub mod Going
 pub mod Headline
+pub mod Hearing
 pub mod Image
 pub mod Lines
 pub mod Lives
@@ -11,6 +12,7 @@ pub mod Loads
 pub mod New
 pub mod Program
 pub mod Range
+pub mod RingNumbers
 pub mod Run
 pub mod Tells
 pub mod Texts

@@ -6,7 +6,8 @@ use Rattle.site.specs.Calls.{Preserves}
 use Rattle.site.specs.Moments.{LeavesOnly}
 use Rattle.site.specs.declared.geometry.Geometry.{Geometry}
 use Rattle.site.specs.declared.outside.Dev.{Dev}
-use Rattle.site.specs.declared.outside.Stop.TheVariants.{Device}
+use Rattle.site.specs.declared.outside.Dev.TheVariants.{Log}
+use Rattle.site.specs.declared.outside.Stop.TheVariants.{Device, Worn}
 use Rattle.record_model.specs.State.{State}
 use Rattle.record_model.specs.Run.{Line, Turn, commit_marks, commits_among}
 use Rattle.engine.specs.declared.engine.Engine.{Engine}
@@ -76,17 +77,17 @@ pub record LoadDurability (load : Load) (g : Geometry) (opening : State) (old ne
   pub left : new.input ≡ old.input
 
 -- what it asks of the devices
-pub record LoadResources (pool : ℕ) (run : Run) (old new : Site) (status : ℕ) : Type 0 where
+pub record LoadResources (pool : ℕ) (run : Run) (fault : List ℕ) (old new : Site) (status : ℕ) : Type 0 where
   -- how many lines were begun, the one under way with them
   pub begun : ℕ
   pub has_begun : HasBegunLoad run begun old new
-  pub asked : Resources pool run begun old new status
+  pub asked : Resources pool run begun fault old new status
 
 -- What comes of a load that opens with this state.
 pub record LoadHeadline (load : Load) (g : Geometry) (opening : State) (old new : Site) (status : ℕ) : Type 0 where
   pub durability : LoadDurability load g opening old new status
   pub caused : IsFaultOf status durability.fault old new
-  pub resources : LoadResources load.pool (load_run g opening load) old new status
+  pub resources : LoadResources load.pool (load_run g opening load) durability.fault old new status
 
 -- What comes of a load before its fault line. The summary is the empty text as long as it isn't to be told.
 
@@ -155,7 +156,7 @@ pub record CarriesOut {T : Type 0} (result : Result T Halt) (lines : List Line) 
   pub serves : (s : State) → Matches before old s →
       LineStepsMachine result (works_of s lines) (log_reads_of s lines) before.store.pages after.store.pages old new
   pub numbers : (s : State) → Matches before old s → IsQuiet old →
-      CountsOn result before after old new s (after_lines s lines []) (checkpoints_of s lines)
+      CountsOn result (Stop (Worn Log)) before after old new s (after_lines s lines []) (checkpoints_of s lines)
   pub fills : (s : State) → Matches before old s → IsQuiet old → OnOk result (FillsBy (octets_of s lines) before after)
   pub left : IsTrue old.honest → new.input ≡ old.input
   pub stays_quiet : IsTrue old.honest → IsQuiet old → OnOk result (IsQuiet new)

@@ -14,6 +14,8 @@ use Rattle.checkpoint.specs.declared.master.Master.{Master}
 use Rattle.image_meaning.specs.Meaning.{picture_under}
 use Rattle.second_chance.specs.Machine.{Cache, rules_of, after_works, listing, opened}
 use Rattle.redo_undo.specs.MachineSteps.{next_group}
+use Rattle.redo_undo.specs.Numbers.{HasNumbers, PassesEnd}
+use Rattle.site.specs.Moments.{LeavesOnly}
 use Rattle.engine.specs.Paging.{restart_works, cache_on}
 use Rattle.engine.specs.Image.{IsSound, Stands, log_under}
 use Rattle.engine.specs.LogReads.{restart_log_reads}
@@ -79,25 +81,36 @@ abbrev pub made_by : Run → ℕ
 made_by run = (left_by run.opening (turns_of run)).made
 
 -- Over an image whose log has these records the run gives the ring of the log's blocks at most one number more for each
--- record that the restart and the run make, and the ring of the master units at most one for each checkpoint, the
--- restart's with them.
-pub record GivesNumbers (run : Run) (records : List Entry) (old now : Image) : Type 0 where
-  pub blocks :
-      hi_of (log_shape run.geometry) now.log ≤ hi_of (log_shape run.geometry) old.log + owed records + made_by run
-  pub masters : hi_of master_shape now.log ≤ hi_of master_shape old.log + 1 + checkpoints_in (turns_of run)
+-- record that the restart and the run make.
+abbrev pub blocks_by : Run → List Entry → Image → ℕ
+blocks_by run records image = hi_of (log_shape run.geometry) image.log + owed records + made_by run
 
--- so it skips no number of the rings on the log's device
-abbrev pub SkipsNoNumber : Run → Image → Image → Type 0
+-- and the ring of the master units at most one for each checkpoint, the restart's with them
+abbrev pub masters_by : Run → Image → ℕ
+masters_by run image = hi_of master_shape image.log + 1 + checkpoints_in (turns_of run)
+
+abbrev pub GivesNumbers : Run → List Entry → Image → Image → Type 0
+GivesNumbers run records old now = HasNumbers run.geometry (blocks_by run records old) (masters_by run old) now
+
+-- so it skips no number of the rings on the log's device, and a crash at any moment leaves none that is skipped
+abbrev pub SkipsNoNumber : Run → Site → Site → Type 0
 SkipsNoNumber run old now = (newest : Option Master) (blocks : List (List LogRecord)) →
-    IsSound newest run.geometry old blocks → GivesNumbers run (log_under newest blocks) old now
+    IsSound newest run.geometry old.image blocks →
+    LeavesOnly old now (λ s. GivesNumbers run (log_under newest blocks) old.image s.image)
+
+-- the run appends to a ring on the log's device that stands at its end
+abbrev pub WearsLog : Run → Image → Type 0
+WearsLog run image = (newest : Option Master) (blocks : List (List LogRecord)) →
+    IsSound newest run.geometry image blocks →
+    PassesEnd (blocks_by run (log_under newest blocks) image) (masters_by run image)
 
 -- The rings on the log's device have numbers for all that the restart and the run append, over an image whose log has
 -- these records.
 pub record HasNumbersFor (run : Run) (records : List Entry) (image : Image) : Type 0 where
-  pub blocks : hi_of (log_shape run.geometry) image.log + owed records + made_by run < 2 ^ 40
-  pub masters : hi_of master_shape image.log + 1 + checkpoints_in (turns_of run) < 2 ^ 40
+  pub blocks : blocks_by run records image ≤ 2 ^ 40
+  pub masters : masters_by run image ≤ 2 ^ 40
 
--- so neither comes to its end
+-- so neither is to be appended to at its end
 abbrev pub HasLogRoom : Run → Image → Type 0
 HasLogRoom run image = (newest : Option Master) (blocks : List (List LogRecord)) →
     IsSound newest run.geometry image blocks → HasNumbersFor run (log_under newest blocks) image

@@ -5,7 +5,7 @@ use Rattle.site.specs.State.{State as Site, Snapshot, Image, MayLeave, now_of, n
 use Rattle.site.specs.Moments.{LeavesOnly}
 use Rattle.std.specs.List.{AllByRecursion, list_any}
 use Rattle.site.specs.declared.outside.Take.{Take}
-use Rattle.site.specs.declared.outside.Dev.TheVariants.{Flash}
+use Rattle.site.specs.declared.outside.Dev.TheVariants.{Log, Flash}
 use Rattle.site.specs.declared.outside.Stop.TheVariants.{Worn}
 use Rattle.record_model.specs.Run.{commit_marks, commits_among, is_quit}
 use Rattle.record_model.specs.Touches.{CacheWork}
@@ -17,7 +17,7 @@ use Rattle.face.specs.Filled.{SealsNoMore}
 use Rattle.face.specs.Lines.{HeardAll, answered_of, commands_of, limit}
 use Rattle.face.specs.Range.{AsksNoMore, HasBegun, IsLeft, IsWhole, LeavesItsQueue, LeavesVersions, ListsTheMachine}
 use Rattle.face.specs.Range.{NeverWears, SkipsNoNumber, StandsAfter, WearsOut, first_texts, log_reads_by_turns, texts}
-use Rattle.face.specs.Range.{works_by}
+use Rattle.face.specs.Range.{WearsLog, works_by}
 use Rattle.face.specs.Run.{Run, first_lines, turns_of}
 use Rattle.face.specs.Texts.{status_of}
 use Rattle.face.specs.Waiting.{NobodyWaits}
@@ -80,14 +80,15 @@ pub record AnswersFirst (run : Run) (lines : ℕ) (old now : Site) : Type 0 wher
   pub count : now.input.heard + length now.input.left ≡ old.input.heard + length old.input.left
 
 -- What a run that ends so asks of the devices. Flash is worn only where it asks for more groups than the ring can have,
--- and no ring number is skipped on the log's device.
+-- and the log's device only where it appends to a ring past its end; no ring number is skipped there.
 pub record Demands {T : Type 0} (pool : ℕ) (run : Run) (old new : Site) (result : Result T Halt) : Type 0 where
   pub worn : IsErrOf result (Stop (Worn Flash)) → WearsOut pool run old.image
+  pub worn_log : IsErrOf result (Stop (Worn Log)) → WearsLog run old.image
   pub room : OnOk result (NeverWears pool run old.image)
   pub queue : OnOk result (LeavesItsQueue pool run old.image new.image)
   pub versions : OnOk result (LeavesVersions pool run old.image new.image)
   pub seals : OnOk result (SealsNoMore pool run old.image new.image)
-  pub numbers : SkipsNoNumber run old.image new.image
+  pub numbers : SkipsNoNumber run old new
   pub reads : AsksNoMore pool run old new
 
 -- what comes of a run before its fault line

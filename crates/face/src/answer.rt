@@ -53,7 +53,7 @@ pub fn answer<S: Site>(engine: &mut Engine, site: &mut S, line: Option<Command>)
         engine.new.store.pages (S.state site.old) (S.state site.new) }
     ensures numbers { (s : State) → Matches engine.old (S.state site.old) s
         → IsQuiet (S.state site.old)
-        → CountsOn result engine.old engine.new (S.state site.old) (S.state site.new)
+        → CountsOn result (Halt.Stop (Stop.Worn Dev.Log)) engine.old engine.new (S.state site.old) (S.state site.new)
         s (step s line []).after (line_checkpoints s line) }
     ensures fills { (s : State) → Matches engine.old (S.state site.old) s
         → IsQuiet (S.state site.old)

@@ -49,7 +49,7 @@ fn carry_out_plain<S: Site>(
         → (S.state site.new).log_reads ≤ (S.state site.old).log_reads + line_log_reads s line }
     ensures numbers { (s : State) → Matches engine.old (S.state site.old) s
         → IsQuiet (S.state site.old)
-        → CountsOn result engine.old engine.new (S.state site.old) (S.state site.new)
+        → CountsOn result (Stop.Worn Dev.Log) engine.old engine.new (S.state site.old) (S.state site.new)
         s (step s line []).after (line_checkpoints s line) }
     ensures fills { (s : State) → Matches engine.old (S.state site.old) s
         → IsQuiet (S.state site.old)
@@ -133,7 +133,7 @@ pub fn carry_out<S: Site>(
         → (S.state site.new).log_reads ≤ (S.state site.old).log_reads + line_log_reads s line }
     ensures numbers { (s : State) → Matches engine.old (S.state site.old) s
         → IsQuiet (S.state site.old)
-        → CountsOn result engine.old engine.new (S.state site.old) (S.state site.new)
+        → CountsOn result (Stop.Worn Dev.Log) engine.old engine.new (S.state site.old) (S.state site.new)
         s (step s line []).after (line_checkpoints s line) }
     ensures fills { (s : State) → Matches engine.old (S.state site.old) s
         → IsQuiet (S.state site.old)

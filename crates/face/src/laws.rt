@@ -2,6 +2,7 @@
 ghost use Rattle.face.specs.Check.{OpeningIsSound, SoundOpens};
 ghost use Rattle.face.specs.Image.{OneMeaning, OneOpening, OpensWhereItStands, BlankLaw};
 ghost use Rattle.face.specs.Lives.{LawOfLives, LawOfLoads};
+ghost use Rattle.face.specs.RingNumbers.{LivesHaveRoom, NumbersOfLives};
 
 /// Law: an image stands for one table and one number of commits only.
 pub fn one_meaning()
@@ -49,3 +50,13 @@ pub fn what_is_left_opens()
 pub fn what_a_load_leaves_opens()
     ensures { LawOfLoads }
 {}
+
+/// Law: over lives that begin with blank devices, each of them a run on what the one before may have left, the rings on
+/// the log's device give no more numbers than the lives make records and checkpoints, with as many for each life as a
+/// log has blocks; so a next run comes to the end of neither until these sums pass 2^40.
+pub fn rings_last_for_lives()
+    ensures numbers { NumbersOfLives }
+    ensures room { LivesHaveRoom }
+{
+    sealed_ring::blank_is_ring();
+}

@@ -14,7 +14,7 @@ ghost use Rattle.engine.specs.Representation.{Matches};
 ghost use Rattle.engine.specs.Invariant.{Invariant, sizes_of};
 ghost use Rattle.engine.specs.Leaves.{HasNoSizes};
 ghost use Rattle.face.specs.Causes.{HasCause, RefusesAsForeign};
-ghost use Rattle.face.specs.Range.{AsksNoMore, SkipsNoNumber, WearsOut};
+ghost use Rattle.face.specs.Range.{AsksNoMore, SkipsNoNumber, WearsLog, WearsOut};
 ghost use Rattle.face.specs.Run.{Run, Begins, first_lines};
 ghost use Rattle.face.specs.Working.{Stops};
 ghost use Rattle.face.specs.Going.{Going, IsPaged, IsCounted};
@@ -49,10 +49,12 @@ pub fn open<S: Site>(alloc: Global, pool: u32, site: &mut S) -> Result<Engine, H
     ensures counted { (run : Run) → Begins run (S.state site.old)
         → (newest : Option Master) (blocks : List (List LogRecord))
         → IsSound newest run.geometry (S.state site.old).image blocks
-        → IfOk result (λ engine. IsCounted run (log_under newest blocks) (S.state site.old).image
-        (S.state site.new).image engine 0) }
+        → IfOk result (λ engine. IsCounted run (log_under newest blocks) (S.state site.old)
+        (S.state site.new) engine 0) }
     ensures numbers { (run : Run) → Begins run (S.state site.old)
-        → SkipsNoNumber (first_lines run 0) (S.state site.old).image (S.state site.new).image }
+        → SkipsNoNumber (first_lines run 0) (S.state site.old) (S.state site.new) }
+    ensures worn_log { (run : Run) → Begins run (S.state site.old) → IsErrOf result (Halt.Stop (Stop.Worn Dev.Log))
+        → WearsLog (first_lines run 0) (S.state site.old).image }
     ensures left { IsTrue (S.state site.old).honest → (S.state site.new).input ≡ (S.state site.old).input }
     ensures goes_on { IfOk result (λ engine. Invariant engine (S.state site.new)) }
     ensures halts { IfErr result (λ halt. (halt ≢ Halt.Input) × (halt ≢ Halt.Limit)) }

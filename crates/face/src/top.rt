@@ -1,5 +1,5 @@
 // The top call, and the work of `run`.
-ghost use Rattle.std.specs.Prelude.{◌≡◌, ◌⊎◌, ◌≤◌, ◌∷◌, [], ℕ, List, Option, IfErr, OnOk};
+ghost use Rattle.std.specs.Prelude.{◌≡◌, ◌⊎◌, ◌≤◌, ◌∷◌, [], ℕ, List, Option, IfErr, OnOk, IsTrue};
 ghost use Rattle.face.specs.Causes.{FirstDecides, RunFaults, SameFaults};
 ghost use Rattle.site.specs.Calls.{Preserves};
 ghost use Rattle.face.specs.declared.halt.Halt.{Halt};
@@ -8,6 +8,7 @@ ghost use Rattle.record_model.specs.declared.words.CacheLine.{CacheLine};
 ghost use Rattle.record_model.specs.Run.{is_quit};
 ghost use Rattle.engine.specs.Leaves.{HasNoSizes};
 ghost use Rattle.face.specs.Causes.{HasCause, RefusesAsForeign};
+ghost use Rattle.face.specs.Hearing.{HearsInTime, WorkHears};
 ghost use Rattle.face.specs.TopCall.{LoadContract, NewContract, RunContract};
 ghost use Rattle.face.specs.Run.{Run, Begins};
 ghost use Rattle.face.specs.Working.{RunOutcome};
@@ -55,6 +56,7 @@ fn work<S: Site>(alloc: Global, pool: u32, site: &mut S) -> Result<(), Halt>
         × ((run : Run) → Begins run (S.state site.old) → run.listings ≡ listings
         → RunOutcome pool run (S.state site.old) (S.state site.new) result) }
     ensures cause { IfErr result (λ halt. HasCause halt (S.state site.old) (S.state site.new)) }
+    ensures hears { IsTrue (S.state site.old).honest → WorkHears result (S.state site.old) (S.state site.new) }
     ensures refuses { HasNoSizes (S.state site.old) → RefusesAsForeign result (S.state site.old) (S.state site.new) }
     ensures goes { Preserves (S.state site.old) (S.state site.new) }
     ensures faults { RunFaults result (S.state site.old) (S.state site.new) }
@@ -99,6 +101,8 @@ pub fn serve<S: Site>(alloc: Global, pool: u32, site: &mut S) -> u8
 
     // What is told, what a crash at any moment leaves, and when each status comes.
     ensures run { RunContract pool (S.state site.old) (S.state site.new) result }
+    // Of every honest site, whatever stands on its devices: which octets were taken, and with which status.
+    ensures hears { IsTrue (S.state site.old).honest → HearsInTime result (S.state site.old) (S.state site.new) }
     // Devices without sizes have status 9.
     ensures sizes { HasNoSizes (S.state site.old)
         → RefusesDevices result (S.state site.old) (S.state site.new) }
@@ -127,6 +131,7 @@ fn lack_memory<S: Site>(site: &mut S) -> u8
     ensures trial { (g : Geometry) → TrialContract g (S.state site.old) (S.state site.new) result (0 ∷ []) }
     ensures check { CheckContract (S.state site.old) (S.state site.new) result }
     ensures lacks { LacksMemory result (S.state site.old) (S.state site.new) }
+    ensures hears { IsTrue (S.state site.old).honest → HearsInTime result (S.state site.old) (S.state site.new) }
     ensures first { FirstDecides result (S.state site.old) (S.state site.new) }
     ensures goes { Preserves (S.state site.old) (S.state site.new) }
 {
@@ -176,6 +181,9 @@ pub fn face<S: Site>(alloc: Global, words: &[String], site: &mut S) -> u8
     ensures trial { (t : TrialSizes) → IsTrial (words_of words.now) t → (numbers : List ℕ)
         × TrialContract t.geometry (S.state site.old) (S.state site.new) result numbers }
     ensures check { IsCheck (words_of words.now) → CheckContract (S.state site.old) (S.state site.new) result }
+    // Which octets a run takes of an honest site, and with which status, whatever stands on its devices.
+    ensures hears { ((pool : ℕ) × IsRun (words_of words.now) pool) → IsTrue (S.state site.old).honest
+        → HearsInTime result (S.state site.old) (S.state site.new) }
     // Devices without sizes have status 9, or memory was wanted before anything was done.
     ensures sizes { ((pool : ℕ) × IsRun (words_of words.now) pool) → HasNoSizes (S.state site.old)
         → RefusesDevices result (S.state site.old) (S.state site.new)

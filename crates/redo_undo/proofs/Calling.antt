@@ -30,13 +30,12 @@ use Rattle.redo_undo.specs.Laws.{PageLaws}
 use Rattle.redo_undo.specs.RedoLaws.{RedoLaws}
 use Rattle.redo_undo.specs.Redoing.{Opening, IsRedoing, LeavesOpened}
 use Rattle.redo_undo.proofs.Redoings.{nothing_happens, then_read}
-use Rattle.redo_undo.proofs.RingNumbers.{skips_reads, hi_on}
+use Rattle.redo_undo.proofs.RingNumbers.{skips_still, hi_on, unchanged}
 use Rattle.site.specs.Work.{Calls}
 use Rattle.redo_undo.proofs.Endings.{ends_answered, ends_behind, ends_failed, ends_leaving}
 use Rattle.redo_undo.proofs.CallsInSequence.{and_then, going_still, holds_still, leaves_still, units_then}
 use Rattle.redo_undo.proofs.RingNumbers.{then_skips, skips_again, skips_answered, skips_weaker, skips_on}
-use Rattle.redo_undo.proofs.LeftNumbers.{skips_not_saved, masters_same}
-use Rattle.redo_undo.proofs.UndoneNumbers.{skips_so_far}
+use Rattle.redo_undo.proofs.LeftNumbers.{skips_not_saved}
 use Rattle.site.proofs.Working.{ok_as, ok_always, no_error, of_error, err_as, err_always, calls_nothing, calls_then, calls_failed, calls_answered, calls_refused}
 
 -- The errors of calls on the log.
@@ -226,15 +225,6 @@ keeps_answered {A = A} {B = B} {a = a} {b = b} {g = g} {old = old} {new = new} {
   masters = first.masters;
 }
 
--- counted by the blocks that there are
-pub keeps_counted : {A B : Type 0} {a : A} {b : B} {g : Geometry} {old new : LogStore} {before now : State} {P : Snapshot → Type 0} {n k : ℕ} → new.geometry ≡ g → new.ring.hi ≡ hi_of (log_shape new.geometry) now.image.log →
-    blocks_to new ≤ blocks_to old + k → Keeps {T = A} (Ok a) g old new before now P n 0 → Keeps {T = B} (Ok b) g old new before now P k 0
-keeps_counted {B = B} {b = b} {g = g} {old = old} {new = new} {before = before} {now = now} {k = k} sizes hi few first = record {
-  ends = ends_answered first.ends;
-  numbers = λ quiet. skips_so_far {T = B} {E = Stop} (Ok b) g old new before now k sizes hi few (masters_same before.image now.image (first.masters refl));
-  masters = first.masters;
-}
-
 -- where nothing is written
 pub keeps_still : {T : Type 0} {r : Result T Stop} {g : Geometry} {log : LogStore} {before now : State} {P : Snapshot → Type 0} → (IsQuiet before → LeavesOnly before now P) → log.ring.hi ≡ hi_of (log_shape g) before.image.log → IsUnchanged before now →
     ((d : Dev) → IsErrOf r (Worn d) → ⊥) → (IsErrOf r Foreign → ⊥) → Keeps r g log log before now P 0 0
@@ -246,12 +236,9 @@ keeps_still {r = r} {g = g} {log = log} {before = before} {now = now} moments hi
     worn = λ is. absurd (worn Flash is);
     readable = readable;
   };
-  numbers = λ quiet. skips_reads r g log before now 0 hi same.image;
+  numbers = λ quiet. skips_still r g log before now 0 hi quiet same (worn Log);
   masters = λ none. ok_always r _ (subst (KeepsUnits master_shape before.image) (sym same.image) (record { units = refl; form = λ form. form }));
 }
-
-unchanged : {site : State} → IsUnchanged site site
-unchanged = record { image = refl; loose = refl; told = refl; left = refl; past = refl }
 
 pub keeps_unchanged : {T : Type 0} {r : Result T Stop} {log : LogStore} {pages : PageStore} {before now : State} {newest : Option Master} {records : List Entry} {table : List Content} {commits : ℕ} →
     log.geometry ≡ pages.flash.geometry → Represents log pages before newest records table commits → IsUnchanged before now → ((d : Dev) → IsErrOf r (Worn d) → ⊥) → (IsErrOf r Foreign → ⊥) →

@@ -1,13 +1,16 @@
 -- The numbers of the rings in what a call has left.
 use Rattle.std.proofs.Common.{◌≡◌, inl, inr, ◌+◌, ◌≤◌, Bool, true, List, [], ◌∷◌, ◌++◌, length, ap, subst, arith, ℕ}
-use Rattle.std.specs.Prelude.{Result, Err, OnOk, Some, ◌≢◌, if◌then◌else◌}
+use Rattle.std.specs.Prelude.{Result, Err, OnOk, IsErrOf, Some, ◌≢◌, ◌^◌, if◌then◌else◌}
 use Rattle.std.specs.List.{AllByRecursion}
 use Rattle.std.proofs.lemmas.List.{length-append}
 use Rattle.std_lemmas.proofs.AllOf.{all_left}
 use Rattle.site.specs.declared.geometry.Geometry.{Geometry}
 use Rattle.site.specs.State.{State, Image, Snapshot, snapshot_of}
-use Rattle.site.specs.Moments.{LeavesOnly}
-use Rattle.site.specs.Laws.{holds_now}
+use Rattle.site.specs.declared.outside.Dev.TheVariants.{Log}
+use Rattle.site.specs.declared.outside.Stop.{Stop}
+use Rattle.site.specs.declared.outside.Stop.TheVariants.{Worn}
+use Rattle.site.specs.Moments.{Leaves, LeavesOnly}
+use Rattle.site.specs.Laws.{each_both, each_weaker, holds_now, leaves_weaker}
 use Rattle.sealed_ring.specs.Ring.{hi_of, Units}
 use Rattle.image_changes.specs.Rings.{Masters, Blocks, log_shape, master_shape, KeepsUnits}
 use Rattle.image_changes.specs.Changes.{Change, AppendsMaster, Reaches, ring_of}
@@ -20,9 +23,10 @@ use Rattle.page_store.specs.declared.store.PageStore.{PageStore}
 use Rattle.page_store.specs.Leaves.{AreReady, LeavesPages}
 use Rattle.page_store.specs.Ahead.{end_forced}
 use Rattle.redo_undo.specs.Holding.{blocks_to}
-use Rattle.redo_undo.specs.Numbers.{SkipsNone}
+use Rattle.redo_undo.specs.Numbers.{HasNumbers, PassesEnd, SkipsNone}
 use Rattle.redo_undo.proofs.Touched.{tail_blocks}
 use Rattle.redo_undo.proofs.Forced.{seals_only, same_blocks}
+use Rattle.redo_undo.proofs.RingNumbers.{leaves_more, passes_more}
 use Rattle.site.proofs.Working.{ok_as, ok_always}
 
 -- the ring's next block is the one behind the blocks that are held
@@ -45,32 +49,47 @@ blocks_left g log list sealing told s hi some leaves = elim leaves.blocks [
 ]
 
 -- so no number is skipped where the masters stay
-pub left_skips : {T E : Type 0} (r : Result T E) (g : Geometry) (log log' : LogStore) (list : LogList) (sealing : Bool) (site new : State) (n : ℕ) → log.ring.hi ≡ list.first + length list.blocks → (sealing ≡ true → has_tail log ≡ true)
-    → LeavesLog g sealing list site.told (snapshot_of new) → KeepsUnits master_shape site.image new.image → OnOk r (blocks_to log' ≤ blocks_to log + n) → SkipsNone r g log log' site new n 0
-left_skips r g log log' list sealing site new n hi some leaves keeps count =
-    let same = masters_same site.image new.image keeps in
-    record {
-      log = count;
-      blocks = omega (arith, blocks_left g log list sealing site.told (snapshot_of new) hi some leaves);
-      masters = omega (arith, same);
-      saved = ok_always r _ (let all : hi_of master_shape new.image.log ≡ hi_of master_shape site.image.log + 0 = omega (arith, same) in all);
-    }
+numbers_left : (g : Geometry) (log : LogStore) (list : LogList) (sealing : Bool) (told : List ℕ) (old : Image) (n : ℕ) (s : Snapshot) → log.ring.hi ≡ list.first + length list.blocks → (sealing ≡ true → has_tail log ≡ true)
+    → LeavesLog g sealing list told s → KeepsUnits master_shape old s.image → HasNumbers g (blocks_to log + n) (hi_of master_shape old.log + 0) s.image
+numbers_left g log list sealing told old n s hi some leaves keeps =
+    record { blocks = omega (arith, blocks_left g log list sealing told s hi some leaves); masters = omega (arith, masters_same old s.image keeps) }
+
+-- a tail that is to be sealed behind the last number there is
+past_end : (log : LogStore) (sealing : Bool) (n masters : ℕ) → (sealing ≡ true → has_tail log ≡ true) → (sealing ≡ true) × (log.ring.hi ≡ 2 ^ 40) → PassesEnd (blocks_to log + n) masters
+past_end log sealing n masters some is = let hi = is.1 in let one = ap tail_blocks (some is.0) in inl (omega (arith, hi, one))
+
+same_saved : {T : Type 0} (r : Result T Stop) (old new : Image) → KeepsUnits master_shape old new → OnOk r (hi_of master_shape new.log ≡ hi_of master_shape old.log + 0)
+same_saved r old new keeps = let same = masters_same old new keeps in ok_always r _ (let all : hi_of master_shape new.log ≡ hi_of master_shape old.log + 0 = omega (arith, same) in all)
 
 -- a call on pages
-pub pages_skip : {T E : Type 0} (r : Result T E) (g : Geometry) (given : ℕ → List ℕ) (log log' : LogStore) (list : LogList) (sealing : Bool) (site new : State) → log.ring.hi ≡ list.first + length list.blocks → (sealing ≡ true → has_tail log ≡ true)
-    → LeavesOnly site new (LeavesPages g given sealing list site) → OnOk r (end_forced log' ≡ end_forced log) → SkipsNone r g log log' site new 0 0
-pages_skip r g given log log' list sealing site new hi some leaves end =
-    let now = holds_now site new (LeavesPages g given sealing list site) leaves in
-    left_skips r g log log' list sealing site new 0 hi some now.log now.masters (ok_as r _ _ (λ is. omega (arith, is)) end)
+pub pages_skip : {T : Type 0} (r : Result T Stop) (g : Geometry) (given : ℕ → List ℕ) (log log' : LogStore) (list : LogList) (sealing : Bool) (site new : State) → log.ring.hi ≡ list.first + length list.blocks → (sealing ≡ true → has_tail log ≡ true)
+    → LeavesOnly site new (LeavesPages g given sealing list site) → OnOk r (end_forced log' ≡ end_forced log) → (IsErrOf r (Worn Log) → (sealing ≡ true) × (log.ring.hi ≡ 2 ^ 40)) → SkipsNone r (Worn Log) g log log' site new 0 0
+pages_skip r g given log log' list sealing site new hi some leaves end worn = record {
+  log = ok_as r _ _ (λ is. omega (arith, is)) end;
+  any_moment = leaves_weaker site new (LeavesPages g given sealing list site) (λ s. HasNumbers g (blocks_to log + 0) (hi_of master_shape site.image.log + 0) s.image)
+      (λ s left. numbers_left g log list sealing site.told site.image 0 s hi some left.log left.masters) leaves;
+  saved = same_saved r site.image new.image (holds_now site new (LeavesPages g given sealing list site) leaves).masters;
+  worn = λ is. past_end log sealing 0 (hi_of master_shape site.image.log + 0) some (worn is);
+}
 
 -- a call on the log
-pub log_skips : RingKept → {T E : Type 0} (r : Result T E) (g : Geometry) (log log' : LogStore) (list : LogList) (sealing : Bool) (site new : State) (n : ℕ) → log.ring.hi ≡ list.first + length list.blocks → (sealing ≡ true → has_tail log ≡ true)
-    → LeavesOnly site new (LeavesLog g sealing list site.told) → LeavesFront g (changes_if sealing list) site new → OnOk r (blocks_to log' ≤ blocks_to log + n) → SkipsNone r g log log' site new n 0
-log_skips kept r g log log' list sealing site new n hi some leaves front count =
-    let is = holds_now site new (IsReached g (IsFrontOf (changes_if sealing list)) site) front in
-    let others : AllByRecursion (λ change. ring_of change ≢ Some Masters) is.changes =
-    all_left (λ change. ring_of change ≢ Some Masters) is.changes is.made.0 (subst (AllByRecursion (λ change. ring_of change ≢ Some Masters)) is.made.1 (seals_only sealing list)) in
-    left_skips r g log log' list sealing site new n hi some (holds_now site new (LeavesLog g sealing list site.told) leaves) (kept g Masters is.changes site.image new.image others is.reaches) count
+pub log_skips : RingKept → {T : Type 0} (r : Result T Stop) (g : Geometry) (log log' : LogStore) (list : LogList) (sealing : Bool) (site new : State) (n : ℕ) → log.ring.hi ≡ list.first + length list.blocks → (sealing ≡ true → has_tail log ≡ true)
+    → LeavesOnly site new (LeavesLog g sealing list site.told) → LeavesFront g (changes_if sealing list) site new → OnOk r (blocks_to log' ≤ blocks_to log + n) → (IsErrOf r (Worn Log) → (sealing ≡ true) × (log.ring.hi ≡ 2 ^ 40)) → SkipsNone r (Worn Log) g log log' site new n 0
+log_skips kept r g log log' list sealing site new n hi some leaves front count worn = record {
+  log = count;
+  any_moment = each_weaker site new (λ m. Leaves (LeavesLog g sealing list site.told) m × Leaves (IsReached g (IsFrontOf (changes_if sealing list)) site) m)
+      (Leaves (λ s. HasNumbers g (blocks_to log + n) (hi_of master_shape site.image.log + 0) s.image))
+      (λ m both s left. numbers_left g log list sealing site.told site.image n s hi some (both.0 s left) (masters_kept s (both.1 s left)))
+      (each_both site new (Leaves (LeavesLog g sealing list site.told)) (Leaves (IsReached g (IsFrontOf (changes_if sealing list)) site)) leaves front);
+  saved = same_saved r site.image new.image (masters_kept (snapshot_of new) (holds_now site new (IsReached g (IsFrontOf (changes_if sealing list)) site) front));
+  worn = λ is. past_end log sealing n (hi_of master_shape site.image.log + 0) some (worn is);
+}
+  where
+    masters_kept : (s : Snapshot) → IsReached g (IsFrontOf (changes_if sealing list)) site s → KeepsUnits master_shape site.image s.image
+    masters_kept s is =
+        let others : AllByRecursion (λ change. ring_of change ≢ Some Masters) is.changes =
+        all_left (λ change. ring_of change ≢ Some Masters) is.changes is.made.0 (subst (AllByRecursion (λ change. ring_of change ≢ Some Masters)) is.made.1 (seals_only sealing list)) in
+        kept g Masters is.changes site.image s.image others is.reaches
 
 -- a tail that is sealed was counted before
 pub same_at_most : (log log' : LogStore) → has_tail log ≡ true → log'.ring.hi ≡ (if has_tail log then log.ring.hi + 1 else log.ring.hi) → log'.used ≡ 2 → blocks_to log' ≤ blocks_to log + 0
@@ -94,18 +113,21 @@ masters_left g unit (x ∷ y ∷ changes) left old new is made = absurd (let len
 masters_left g unit (other ∷ []) left old new is made = absurd cc
 
 -- a call that appends a master unit
-pub save_skips : {T E : Type 0} (r : Result T E) (g : Geometry) (log log' : LogStore) (unit : List ℕ) (site new : State) → log.ring.hi ≡ hi_of (log_shape g) site.image.log → LeavesFront g (AppendsMaster unit ∷ []) site new
-    → OnOk r (blocks_to log' ≡ blocks_to log) → OnOk r (hi_of master_shape new.image.log ≡ hi_of master_shape site.image.log + 1) → SkipsNone r g log log' site new 0 1
-save_skips r g log log' unit site new hi front count saved =
-    let is = holds_now site new (IsReached g (IsFrontOf (AppendsMaster unit ∷ [])) site) front in
-    let has = masters_left g unit is.changes is.made.0 site.image new.image is.made.1 is.reaches in
-    record {
-      log = ok_as r _ _ (λ same. omega (arith, same)) count;
-      blocks = omega (arith, has.blocks, hi);
-      masters = has.masters;
-      saved = saved;
-    }
+pub save_skips : {T : Type 0} (r : Result T Stop) (g : Geometry) (log log' : LogStore) (unit : List ℕ) (site new : State) → log.ring.hi ≡ hi_of (log_shape g) site.image.log → LeavesFront g (AppendsMaster unit ∷ []) site new
+    → OnOk r (blocks_to log' ≡ blocks_to log) → OnOk r (hi_of master_shape new.image.log ≡ hi_of master_shape site.image.log + 1) → (IsErrOf r (Worn Log) → hi_of master_shape site.image.log ≡ 2 ^ 40) → SkipsNone r (Worn Log) g log log' site new 0 1
+save_skips r g log log' unit site new hi front count saved worn = record {
+  log = ok_as r _ _ (λ same. omega (arith, same)) count;
+  any_moment = leaves_weaker site new (IsReached g (IsFrontOf (AppendsMaster unit ∷ [])) site) (λ s. HasNumbers g (blocks_to log + 0) (hi_of master_shape site.image.log + 1) s.image)
+      (λ s is. let has = masters_left g unit is.changes is.made.0 site.image s.image is.made.1 is.reaches in record { blocks = omega (arith, has.blocks, hi); masters = has.masters }) front;
+  saved = saved;
+  worn = λ is. inr (let end = worn is in omega (arith, end));
+}
 
 -- a call that stops may have made more checkpoints
-pub skips_not_saved : {T E : Type 0} (e : E) (g : Geometry) (old new : LogStore) (before now : State) (n m j : ℕ) → m ≤ j → SkipsNone {T = T} {E = E} (Err e) g old new before now n m → SkipsNone {T = T} {E = E} (Err e) g old new before now n j
-skips_not_saved e g old new before now n m j few first = record { log = tt; blocks = first.blocks; masters = let more = first.masters in omega (arith, more, few); saved = tt }
+pub skips_not_saved : {T E : Type 0} {worn : E} (e : E) (g : Geometry) (old new : LogStore) (before now : State) (n m j : ℕ) → m ≤ j → SkipsNone {T = T} {E = E} (Err e) worn g old new before now n m → SkipsNone {T = T} {E = E} (Err e) worn g old new before now n j
+skips_not_saved e g old new before now n m j few first = record {
+  log = tt;
+  any_moment = leaves_more g before now _ _ (hi_of master_shape before.image.log + m) (hi_of master_shape before.image.log + j) (omega arith) (omega (arith, few)) first.any_moment;
+  saved = tt;
+  worn = λ past. passes_more _ _ (hi_of master_shape before.image.log + m) (hi_of master_shape before.image.log + j) (omega arith) (omega (arith, few)) (first.worn past);
+}

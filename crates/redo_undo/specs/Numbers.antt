@@ -1,19 +1,33 @@
--- No number is skipped by the rings on the log's device.
-use Rattle.std.specs.Prelude.{◌≡◌, ℕ, ◌+◌, ◌≤◌, Result, OnOk}
+-- No number is skipped by the rings on the log's device, and it is worn only where a ring is to be appended to past its
+-- end.
+use Rattle.std.specs.Prelude.{◌≡◌, ◌⊎◌, ℕ, ◌+◌, ◌^◌, ◌≤◌, ◌<◌, Result, OnOk, IsErrOf}
 use Rattle.site.specs.declared.geometry.Geometry.{Geometry}
-use Rattle.site.specs.State.{State}
+use Rattle.site.specs.State.{State, Image}
+use Rattle.site.specs.Moments.{LeavesOnly}
 use Rattle.sealed_ring.specs.Ring.{hi_of}
 use Rattle.image_changes.specs.Rings.{log_shape, master_shape}
 use Rattle.log_store.specs.declared.store.LogStore.{LogStore}
 use Rattle.redo_undo.specs.Holding.{blocks_to}
 
--- A call makes at most so many records, and so many checkpoints. However it ends, the ring of the log's blocks has at
--- most one number more for each record, beside the one for the tail that the call found, and the ring of the master
--- units at most one for each checkpoint. At Ok the blocks are no more than that with the tail that it leaves, too, and
--- each checkpoint has its master unit.
-pub record SkipsNone {T E : Type 0} (result : Result T E) (g : Geometry) (old new : LogStore) (before now : State)
-    (records checkpoints : ℕ) : Type 0 where
+-- the ring of the log's blocks and that of the master units have given no more numbers than these
+pub record HasNumbers (g : Geometry) (most_blocks most_masters : ℕ) (image : Image) : Type 0 where
+  pub blocks : hi_of (log_shape g) image.log ≤ most_blocks
+  pub masters : hi_of master_shape image.log ≤ most_masters
+
+-- with so many a ring would be past its end
+abbrev pub PassesEnd : ℕ → ℕ → Type 0
+PassesEnd blocks masters = (2 ^ 40 < blocks) ⊎ (2 ^ 40 < masters)
+
+-- A call makes at most so many records, and so many checkpoints. However it ends, and wherever a crash ends it, the
+-- ring of the log's blocks has at most one number more for each record, beside the one for the tail that the call
+-- found, and the ring of the master units at most one for each checkpoint. At Ok the blocks are no more than that with
+-- the tail that it leaves, too, and each checkpoint has its master unit. It answers that the log is worn (`at_end`)
+-- only where that many are past the end of a ring.
+pub record SkipsNone {T E : Type 0} (result : Result T E) (at_end : E) (g : Geometry) (old new : LogStore)
+    (before now : State) (records checkpoints : ℕ) : Type 0 where
   pub log : OnOk result (blocks_to new ≤ blocks_to old + records)
-  pub blocks : hi_of (log_shape g) now.image.log ≤ blocks_to old + records
-  pub masters : hi_of master_shape now.image.log ≤ hi_of master_shape before.image.log + checkpoints
+  pub any_moment : LeavesOnly before now (λ s. HasNumbers g (blocks_to old + records)
+      (hi_of master_shape before.image.log + checkpoints) s.image)
   pub saved : OnOk result (hi_of master_shape now.image.log ≡ hi_of master_shape before.image.log + checkpoints)
+  pub worn : IsErrOf result at_end → PassesEnd (blocks_to old + records)
+      (hi_of master_shape before.image.log + checkpoints)

@@ -1,6 +1,8 @@
 -- What the calls of a store say, each as one record with the call's result as its index.
 use Rattle.std.specs.Prelude.{◌≡◌, ℕ, ◌+◌, ◌≤◌, Result, OnOk, IfErr}
+use Rattle.site.specs.declared.outside.Dev.TheVariants.{Log}
 use Rattle.site.specs.declared.outside.Stop.{Stop}
+use Rattle.site.specs.declared.outside.Stop.TheVariants.{Worn}
 use Rattle.site.specs.State.{State as Site, Snapshot, IsQuiet}
 use Rattle.site.specs.Work.{Calls}
 use Rattle.log_store.specs.Representation.{end_of}
@@ -28,4 +30,5 @@ pub record Keeps {T : Type 0} (result : Result T Stop) (old new : Store) (before
     (records checkpoints : ℕ) : Type 0 where
   pub ends : Ends result (sizes_of old) before now P
   pub open ends use *
-  pub numbers : IsQuiet before → SkipsNone result (sizes_of old) old.log new.log before now records checkpoints
+  pub numbers : IsQuiet before →
+      SkipsNone result (Worn Log) (sizes_of old) old.log new.log before now records checkpoints

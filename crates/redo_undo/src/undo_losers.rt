@@ -1,6 +1,6 @@
 // Undoing all transactions that a log leaves unfinished.
-ghost use Rattle.std.specs.Prelude.{◌≡◌, ◌⊎◌, ◌+◌, ◌<◌, ◌≤◌, [], ◌∷◌, ℕ, List, length, drop, false, None, Some};
-ghost use Rattle.std.specs.Prelude.{IfOk, IfErr, IfSome, IfNone, OnOk, Option};
+ghost use Rattle.std.specs.Prelude.{◌≡◌, ◌⊎◌, ◌+◌, ◌-◌, ◌<◌, ◌≤◌, [], ◌∷◌, ℕ, List, length, drop, false, None};
+ghost use Rattle.std.specs.Prelude.{Some, IfOk, IfErr, IfSome, IfNone, OnOk, Option};
 ghost use Rattle.site.specs.declared.outside.Dev.{Dev};
 ghost use Rattle.site.specs.declared.outside.Stop.{Stop};
 ghost use Rattle.record_model.specs.State.{Content};
@@ -137,6 +137,14 @@ fn end_undone<S: Site>(
         → Keeps result pages.flash.geometry log.old log.new (S.state site.old) (S.state site.new)
         (LeavesTableUnder newest pages.flash.geometry table commits (S.state site.old).told)
         (owed_for (listed found.old.table)) 0 }
+    // At Ok it logs no more records than it takes from what is owed.
+    ensures counted { (pages : PageStore) (newest : Option Master) (records : List Entry) (table : List Content)
+        (commits : ℕ)
+        → Invariant log.old pages (S.state site.old)
+        → IsUndoing log.old pages (S.state site.old) newest records table commits found.old known
+        → OnOk result (Keeps result pages.flash.geometry log.old log.new (S.state site.old) (S.state site.new)
+        (LeavesTableUnder newest pages.flash.geometry table commits (S.state site.old).told)
+        (owed_for (listed found.old.table) - owed_for (listed found.new.table)) 0) }
     ensures updates { (pages : PageStore) (newest : Option Master) (records : List Entry) (table : List Content)
         (commits : ℕ)
         → Invariant log.old pages (S.state site.old)
@@ -251,6 +259,13 @@ fn undo_next<S: Site>(
         → Keeps result pages.old.flash.geometry log.old log.new (S.state site.old) (S.state site.new)
         (LeavesTableUnder newest pages.old.flash.geometry table commits (S.state site.old).told)
         (owed_for (listed found.old.table)) 0 }
+    // At Ok it logs no more records than it takes from what is owed.
+    ensures counted { (newest : Option Master) (records : List Entry) (table : List Content) (commits : ℕ) (u : Entry)
+        → IsUndoing log.old pages.old (S.state site.old) newest records table commits found.old known
+        → IsLastAt records next.0 next.1 u
+        → OnOk result (Keeps result pages.old.flash.geometry log.old log.new (S.state site.old) (S.state site.new)
+        (LeavesTableUnder newest pages.old.flash.geometry table commits (S.state site.old).told)
+        (owed_for (listed found.old.table) - owed_for (listed found.new.table)) 0) }
     ensures updates { (newest : Option Master) (records : List Entry) (table : List Content) (commits : ℕ) (u : Entry)
         → IsUndoing log.old pages.old (S.state site.old) newest records table commits found.old known
         → IsLastAt records next.0 next.1 u

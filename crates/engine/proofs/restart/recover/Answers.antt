@@ -1,7 +1,8 @@
 use Rattle.redo_undo.proofs.StoreCalling.{where_two}
 use Rattle.std.proofs.Common.{◌≡◌, ◌∙◌, ◌++◌, Err, List, [], false, ap, sym, subst, arith, ◌≤◌, refl, ℕ, ◌+◌, length}
 use Rattle.site.specs.declared.geometry.Geometry.{Geometry}
-use Rattle.site.specs.declared.outside.Stop.TheVariants.{Foreign}
+use Rattle.site.specs.declared.outside.Dev.TheVariants.{Log}
+use Rattle.site.specs.declared.outside.Stop.TheVariants.{Foreign, Worn}
 use Rattle.site.specs.State.{IsQuiet, State}
 use Rattle.site.specs.declared.outside.Stop.{Stop}
 use Rattle.checkpoint.specs.declared.master.Master.{Master}
@@ -130,7 +131,7 @@ module _ (g : Over) (c : After-checkpoint g) (newest : Option Master) (blocks : 
 
   abbrev Behind : Result (Unit {0}) Stop → Type 0
   Behind r = Ends r k old new (LeavesTable k table commits old.told)
-      × (IsQuiet old → SkipsNone r k c.args.opened.log c.checkpoint.new.self.log old new (owed (log_under newest blocks)) 1)
+      × (IsQuiet old → SkipsNone r (Worn Log) k c.args.opened.log c.checkpoint.new.self.log old new (owed (log_under newest blocks)) 1)
       × StepsMachine r ((redo_works p ++ undo_works p.log) ++ checkpoint_works) c.args.opened.pages c.checkpoint.new.self.pages old new
       × ((x : Restarted) → x.store ≡ c.checkpoint.new.self → x.commits ≡ c.commits-commits.result → OnOk r (RestartedAs x new table commits))
 
@@ -160,7 +161,7 @@ module _ (g : Over) (c : After-checkpoint g) (newest : Option Master) (blocks : 
       let keeps = c.checkpoint.ensures.keeps newest all table held may in
       let k' = c.undo_all.new.pages.flash.geometry in
       let third = subst (λ (i : ℕ). Ends c.checkpoint.result k' und new (LeavesTable k' table i und.told)) counted keeps.ends in
-      let skips : IsQuiet old → SkipsNone c.checkpoint.result k c.args.opened.log c.checkpoint.new.self.log old new (owed records) 1 = λ quiet.
+      let skips : IsQuiet old → SkipsNone c.checkpoint.result (Worn Log) k c.args.opened.log c.checkpoint.new.self.log old new (owed records) 1 = λ quiet.
       let mine = skips_on (Ok c.in-Ok-undo_all.field-0) c.redo.new.pages.flash.geometry k c.redo.new.log c.undo_all.new.log mid und n 0 c.redo.ensures.works.geometry (second.numbers (calm quiet)) in
       let two = then_skips (Ok c.in-Ok-undo_all.field-0) c.in-Ok.redone k c.args.opened.log c.redo.new.log c.undo_all.new.log old mid und 0 0 n 0 n 0 (first.numbers quiet) mine (omega arith) (omega arith) in
       let last = skips_on c.checkpoint.result k' k c.undo_all.new.log c.checkpoint.new.self.log und new 0 1 same (keeps.numbers (calm_und quiet)) in

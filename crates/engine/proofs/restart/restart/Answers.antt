@@ -53,7 +53,7 @@ returns g c =
           let ready : IsReady c.in-Ok-open.opened mid newest blocks (table_of p.log p.pages) (commit_count p) = c.in-Ok-open.ensures.ready honest newest blocks (table_of p.log p.pages) (commit_count p) there (subst (λ (x : Geometry). Means (picture_under newest x old.image blocks) (table_of p.log p.pages) (commit_count p)) (sym same) means) in
           let unchanged = c.open.ensures.same honest in
           let quiet_mid : IsQuiet mid = unchanged.loose ∙ quiet in
-          restart_behind c.recover.result _ c.in-Ok-open.opened.pages.flash.geometry k _ old mid _ (c.in-Ok-open.ensures.sizes ∙ same) unchanged.image ((c.recover.ensures.recovers newest blocks (table_of p.log p.pages) (commit_count p) ready).numbers quiet_mid);
+          restart_behind c.recover.result _ c.in-Ok-open.opened.pages.flash.geometry k _ old mid _ (c.in-Ok-open.ensures.sizes ∙ same) quiet unchanged ((c.recover.ensures.recovers newest blocks (table_of p.log p.pages) (commit_count p) ready).numbers quiet_mid);
       asks = λ honest k newest blocks sound.
           let same : c.in-Ok.geometry ≡ k = (c.in-Ok.ensures.found k sound.octets.limits sound.octets.lengths).1 in
           let groups = ap (λ (x : Geometry). x.groups) same in
@@ -116,7 +116,7 @@ returns-in-Err-open g c =
             readable = λ is. c.in-Err-open.ensures.readable honest stands.newest stands.stands.blocks (subst (λ (x : Geometry). IsSound stands.newest x old.image stands.stands.blocks) (sym same) stands.stands.sound) (err_again _ Foreign is);
           };
       numbers = λ honest quiet k newest blocks sound.
-          restart_unmoved c.in-Err-open.stop _ k _ (g.S.Site.state c.args.site.now) (g.S.Site.state c.open.new.site) (c.open.ensures.same honest).image;
+          restart_unmoved c.in-Err-open.stop _ k _ (g.S.Site.state c.args.site.now) (g.S.Site.state c.open.new.site) quiet (c.open.ensures.same honest) (λ is. c.in-Err-open.ensures.unworn Log (err_again c.in-Err-open.stop (Worn Log) is));
       asks = λ honest k newest blocks sound.
           let same : c.in-Ok.geometry ≡ k = (c.in-Ok.ensures.found k sound.octets.limits sound.octets.lengths).1 in
           let groups = ap (λ (x : Geometry). x.groups) same in

@@ -1,4 +1,4 @@
-use Rattle.face.proofs.Counted.{counts_err, counts_then}
+use Rattle.face.proofs.Counted.{counts_err, counts_told}
 use Rattle.face.proofs.Pagings.{serves_ok, serves_err, serves_lost}
 use Rattle.std.proofs.Common.{◌++◌, List, ℕ, refl, ap, subst, ◌∙◌}
 use Rattle.site.specs.declared.geometry.Geometry.{Geometry}
@@ -81,17 +81,17 @@ pub returns-clause-asks : goal.returns-clause-asks
 returns-clause-asks g c s fits = serves_lost c.in-Ok.reply _ _ _ _ _ _ _ c.tell_reply.ensures.reads (c.carry_out.ensures.log_reads s fits) (λ honest. c.tell_reply.ensures.any_moment (stays_honest (g.S.Site.state c.args.site.now) (g.S.Site.state c.carry_out.new.site) c.carry_out.ensures.goes honest)) (c.in-Ok.ensures.asks s fits)
 
 pub returns-in-Err-clause-numbers : goal.returns-in-Err-clause-numbers
-returns-in-Err-clause-numbers g c s fits quiet = counts_err c.in-Err.stop (halt.Stop c.in-Err.stop) _ _ _ _ s _ _ (c.in-Err.ensures.numbers s fits quiet)
+returns-in-Err-clause-numbers g c s fits quiet = counts_err c.in-Err.stop (halt.Stop c.in-Err.stop) _ _ _ _ s _ _ (λ is. cc) (c.in-Err.ensures.numbers s fits quiet)
 
 pub returns-in-Ok-tell_reply-clause-numbers : goal.returns-in-Ok-tell_reply-clause-numbers
 returns-in-Ok-tell_reply-clause-numbers g c s fits quiet =
-    let same = c.tell_reply.ensures.same (c.in-Ok.ensures.after s (listing_of c.args.engine.now) (λ asks. refl) fits).honest in
-    counts_then c.in-Ok.reply _ _ _ _ _ _ s _ _ same.image (c.in-Ok.ensures.numbers s fits quiet)
+    let honest = (c.in-Ok.ensures.after s (listing_of c.args.engine.now) (λ asks. refl) fits).honest in
+    counts_told c.in-Ok.reply _ _ _ _ _ _ _ s _ _ (c.tell_reply.ensures.any_moment honest) (c.tell_reply.ensures.same honest).image (λ is. cc) (c.in-Ok.ensures.numbers s fits quiet)
 
 pub returns-clause-numbers : goal.returns-clause-numbers
 returns-clause-numbers g c s fits quiet =
-    let same = c.tell_reply.ensures.same (c.in-Ok.ensures.after s (listing_of c.args.engine.now) (λ asks. refl) fits).honest in
-    counts_then c.in-Ok.reply _ _ _ _ _ _ s _ _ same.image (c.in-Ok.ensures.numbers s fits quiet)
+    let honest = (c.in-Ok.ensures.after s (listing_of c.args.engine.now) (λ asks. refl) fits).honest in
+    counts_told c.in-Ok.reply _ _ _ _ _ _ _ s _ _ (c.tell_reply.ensures.any_moment honest) (c.tell_reply.ensures.same honest).image (λ is. cc) (c.in-Ok.ensures.numbers s fits quiet)
 
 pub returns-in-Ok-tell_reply-clause-fills : goal.returns-in-Ok-tell_reply-clause-fills
 returns-in-Ok-tell_reply-clause-fills g c s fits quiet = c.in-Ok.ensures.fills s fits quiet

@@ -4,6 +4,9 @@ use Rattle.face.proofs.Pagings.{listing_asks}
 use Rattle.redo_undo.specs.MachineSteps.{StepsMachine}
 use Rattle.record_model.specs.Touches.{line_touches}
 use Rattle.std.proofs.Common.{◌≡◌, ◌∙◌, List, IfOk, OnOk, sym, ap, subst, true, [], arith}
+use Rattle.site.specs.declared.outside.Dev.TheVariants.{Log}
+use Rattle.site.specs.declared.outside.Stop.TheVariants.{Memory, Worn}
+use Rattle.site.proofs.Working.{of_error}
 use Rattle.site.specs.Moments.{LeavesOnly}
 use Rattle.record_model.specs.declared.words.CacheLine.{CacheLine}
 use Rattle.record_model.specs.declared.words.Reply.TheVariants as reply
@@ -68,7 +71,7 @@ returns-then-asks_for_listing-clause-asks g c s fits =
 pub returns-then-asks_for_listing-clause-numbers : goal.returns-then-asks_for_listing-clause-numbers
 returns-then-asks_for_listing-clause-numbers g c s fits quiet =
     let line = cache_line c.args.line (sym c.asks_for_listing.ensures ∙ c.if-asks_for_listing.true) in
-    counts_idle c.cache.result c.args.line c.args.engine.now (g.S.Site.state c.args.site.now) s c.rest_counts_nothing.ensures fits c.requires.going (ap (λ (l : Line). (step s l []).after) line) (ap (line_checkpoints s) line)
+    counts_idle c.cache.result c.args.line c.args.engine.now (g.S.Site.state c.args.site.now) s c.rest_counts_nothing.ensures fits c.requires.going quiet (λ is. let same = of_error c.cache.result (λ stop. stop ≡ Memory) (Worn Log) c.cache.ensures.stops is in cc) (ap (λ (l : Line). (step s l []).after) line) (ap (line_checkpoints s) line)
 
 pub returns-then-asks_for_listing-clause-log_reads : goal.returns-then-asks_for_listing-clause-log_reads
 returns-then-asks_for_listing-clause-log_reads g c s fits = omega arith

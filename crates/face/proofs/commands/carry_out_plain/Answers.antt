@@ -17,6 +17,8 @@ use Rattle.face.proofs.Logs.{fits_stands}
 use Rattle.face.proofs.Quiet.{no_change, table_stays}
 use Rattle.face.proofs.CommandLaws.{fails_by, log_fails}
 use Rattle.face.proofs.Listed.{never_cache}
+use Rattle.site.specs.declared.outside.Dev.TheVariants.{Log}
+use Rattle.site.specs.declared.outside.Stop.TheVariants.{Worn}
 use Rattle.face.proofs.commands.carry_out_plain.Goals as goal
 
 pub returns-in-Begin-clause-reply : goal.returns-in-Begin-clause-reply
@@ -209,57 +211,57 @@ returns-in_default-clause-asks g c s fits = idle_line _ _ c.args.engine.now.stor
 
 pub returns-in-Begin-clause-numbers : goal.returns-in-Begin-clause-numbers
 returns-in-Begin-clause-numbers g c s fits quiet =
-    subst (λ (l : Line). CountsOn c.begin.result c.args.engine.now c.begin.new.self (g.S.Site.state c.args.site.now) (g.S.Site.state c.begin.new.site) s (step s l []).after (line_checkpoints s l)) (sym (c.in-Some.is ∙ ap Some c.in-Begin.is)) ((c.begin.ensures.answers s fits).does.numbers quiet)
+    subst (λ (l : Line). CountsOn c.begin.result (Worn Log) c.args.engine.now c.begin.new.self (g.S.Site.state c.args.site.now) (g.S.Site.state c.begin.new.site) s (step s l []).after (line_checkpoints s l)) (sym (c.in-Some.is ∙ ap Some c.in-Begin.is)) ((c.begin.ensures.answers s fits).does.numbers quiet)
 
 pub returns-in-Read-clause-numbers : goal.returns-in-Read-clause-numbers
 returns-in-Read-clause-numbers g c s fits quiet =
-    subst (λ (l : Line). CountsOn c.read.result c.args.engine.now c.read.new.self (g.S.Site.state c.args.site.now) (g.S.Site.state c.read.new.site) s (step s l []).after (line_checkpoints s l)) (sym (c.in-Some.is ∙ ap Some c.in-Read.is)) ((c.read.ensures.answers s fits).does.numbers quiet)
+    subst (λ (l : Line). CountsOn c.read.result (Worn Log) c.args.engine.now c.read.new.self (g.S.Site.state c.args.site.now) (g.S.Site.state c.read.new.site) s (step s l []).after (line_checkpoints s l)) (sym (c.in-Some.is ∙ ap Some c.in-Read.is)) ((c.read.ensures.answers s fits).does.numbers quiet)
 
 pub returns-in-Write-clause-numbers : goal.returns-in-Write-clause-numbers
 returns-in-Write-clause-numbers g c s fits quiet =
-    subst (λ (l : Line). CountsOn c.write.result c.args.engine.now c.write.new.self (g.S.Site.state c.args.site.now) (g.S.Site.state c.write.new.site) s (step s l []).after (line_checkpoints s l)) (sym (c.in-Some.is ∙ ap Some c.in-Write.is)) ((c.write.ensures.answers s fits).does.numbers quiet)
+    subst (λ (l : Line). CountsOn c.write.result (Worn Log) c.args.engine.now c.write.new.self (g.S.Site.state c.args.site.now) (g.S.Site.state c.write.new.site) s (step s l []).after (line_checkpoints s l)) (sym (c.in-Some.is ∙ ap Some c.in-Write.is)) ((c.write.ensures.answers s fits).does.numbers quiet)
 
 pub returns-in-Erase-clause-numbers : goal.returns-in-Erase-clause-numbers
 returns-in-Erase-clause-numbers g c s fits quiet =
-    subst (λ (l : Line). CountsOn c.erase.result c.args.engine.now c.erase.new.self (g.S.Site.state c.args.site.now) (g.S.Site.state c.erase.new.site) s (step s l []).after (line_checkpoints s l)) (sym (c.in-Some.is ∙ ap Some c.in-Erase.is)) ((c.erase.ensures.answers s fits).does.numbers quiet)
+    subst (λ (l : Line). CountsOn c.erase.result (Worn Log) c.args.engine.now c.erase.new.self (g.S.Site.state c.args.site.now) (g.S.Site.state c.erase.new.site) s (step s l []).after (line_checkpoints s l)) (sym (c.in-Some.is ∙ ap Some c.in-Erase.is)) ((c.erase.ensures.answers s fits).does.numbers quiet)
 
 pub returns-in-Scan-clause-numbers : goal.returns-in-Scan-clause-numbers
 returns-in-Scan-clause-numbers g c s fits quiet =
-    subst (λ (l : Line). CountsOn c.scan.result c.args.engine.now c.scan.new.self (g.S.Site.state c.args.site.now) (g.S.Site.state c.scan.new.site) s (step s l []).after (line_checkpoints s l)) (sym (c.in-Some.is ∙ ap Some c.in-Scan.is)) ((c.scan.ensures.answers s fits).does.numbers quiet)
+    subst (λ (l : Line). CountsOn c.scan.result (Worn Log) c.args.engine.now c.scan.new.self (g.S.Site.state c.args.site.now) (g.S.Site.state c.scan.new.site) s (step s l []).after (line_checkpoints s l)) (sym (c.in-Some.is ∙ ap Some c.in-Scan.is)) ((c.scan.ensures.answers s fits).does.numbers quiet)
 
 pub returns-in-Commit-clause-numbers : goal.returns-in-Commit-clause-numbers
 returns-in-Commit-clause-numbers g c s fits quiet =
-    subst (λ (l : Line). CountsOn c.commit.result c.args.engine.now c.commit.new.self (g.S.Site.state c.args.site.now) (g.S.Site.state c.commit.new.site) s (step s l []).after (line_checkpoints s l)) (sym (c.in-Some.is ∙ ap Some c.in-Commit.is)) ((c.commit.ensures.answers s fits).does.numbers quiet)
+    subst (λ (l : Line). CountsOn c.commit.result (Worn Log) c.args.engine.now c.commit.new.self (g.S.Site.state c.args.site.now) (g.S.Site.state c.commit.new.site) s (step s l []).after (line_checkpoints s l)) (sym (c.in-Some.is ∙ ap Some c.in-Commit.is)) ((c.commit.ensures.answers s fits).does.numbers quiet)
 
 pub returns-in-Abort-clause-numbers : goal.returns-in-Abort-clause-numbers
 returns-in-Abort-clause-numbers g c s fits quiet =
-    subst (λ (l : Line). CountsOn c.abort.result c.args.engine.now c.abort.new.self (g.S.Site.state c.args.site.now) (g.S.Site.state c.abort.new.site) s (step s l []).after (line_checkpoints s l)) (sym (c.in-Some.is ∙ ap Some c.in-Abort.is)) ((c.abort.ensures.answers s fits).does.numbers quiet)
+    subst (λ (l : Line). CountsOn c.abort.result (Worn Log) c.args.engine.now c.abort.new.self (g.S.Site.state c.args.site.now) (g.S.Site.state c.abort.new.site) s (step s l []).after (line_checkpoints s l)) (sym (c.in-Some.is ∙ ap Some c.in-Abort.is)) ((c.abort.ensures.answers s fits).does.numbers quiet)
 
 pub returns-in-Get-clause-numbers : goal.returns-in-Get-clause-numbers
 returns-in-Get-clause-numbers g c s fits quiet =
-    subst (λ (l : Line). CountsOn c.get.result c.args.engine.now c.get.new.self (g.S.Site.state c.args.site.now) (g.S.Site.state c.get.new.site) s (step s l []).after (line_checkpoints s l)) (sym (c.in-Some.is ∙ ap Some c.in-Get.is)) ((c.get.ensures.answers s fits).does.numbers quiet)
+    subst (λ (l : Line). CountsOn c.get.result (Worn Log) c.args.engine.now c.get.new.self (g.S.Site.state c.args.site.now) (g.S.Site.state c.get.new.site) s (step s l []).after (line_checkpoints s l)) (sym (c.in-Some.is ∙ ap Some c.in-Get.is)) ((c.get.ensures.answers s fits).does.numbers quiet)
 
 pub returns-in-Set-clause-numbers : goal.returns-in-Set-clause-numbers
 returns-in-Set-clause-numbers g c s fits quiet =
-    subst (λ (l : Line). CountsOn c.set.result c.args.engine.now c.set.new.self (g.S.Site.state c.args.site.now) (g.S.Site.state c.set.new.site) s (step s l []).after (line_checkpoints s l)) (sym (c.in-Some.is ∙ ap Some c.in-Set.is)) ((c.set.ensures.answers s fits).does.numbers quiet)
+    subst (λ (l : Line). CountsOn c.set.result (Worn Log) c.args.engine.now c.set.new.self (g.S.Site.state c.args.site.now) (g.S.Site.state c.set.new.site) s (step s l []).after (line_checkpoints s l)) (sym (c.in-Some.is ∙ ap Some c.in-Set.is)) ((c.set.ensures.answers s fits).does.numbers quiet)
 
 pub returns-in-Checkpoint-clause-numbers : goal.returns-in-Checkpoint-clause-numbers
 returns-in-Checkpoint-clause-numbers g c s fits quiet =
-    subst (λ (l : Line). CountsOn c.checkpoint.result c.args.engine.now c.checkpoint.new.self (g.S.Site.state c.args.site.now) (g.S.Site.state c.checkpoint.new.site) s (step s l []).after (line_checkpoints s l)) (sym (c.in-Some.is ∙ ap Some c.in-Checkpoint.is)) ((c.checkpoint.ensures.answers s fits).does.numbers quiet)
+    subst (λ (l : Line). CountsOn c.checkpoint.result (Worn Log) c.args.engine.now c.checkpoint.new.self (g.S.Site.state c.args.site.now) (g.S.Site.state c.checkpoint.new.site) s (step s l []).after (line_checkpoints s l)) (sym (c.in-Some.is ∙ ap Some c.in-Checkpoint.is)) ((c.checkpoint.ensures.answers s fits).does.numbers quiet)
 
 pub returns-in-Stat-clause-numbers : goal.returns-in-Stat-clause-numbers
 returns-in-Stat-clause-numbers g c s fits quiet =
     let line = c.in-Some.is ∙ ap Some c.in-Stat.is in
-    counts_idle _ c.args.line c.args.engine.now (g.S.Site.state c.args.site.now) s c.rest_counts_nothing.ensures fits c.requires.going (ap (λ (l : Line). (step s l []).after) line) (ap (line_checkpoints s) line)
+    counts_idle _ c.args.line c.args.engine.now (g.S.Site.state c.args.site.now) s c.rest_counts_nothing.ensures fits c.requires.going quiet (λ is. cc) (ap (λ (l : Line). (step s l []).after) line) (ap (line_checkpoints s) line)
 
 pub returns-in-Quit-clause-numbers : goal.returns-in-Quit-clause-numbers
 returns-in-Quit-clause-numbers g c s fits quiet =
     let line = c.in-Some.is ∙ ap Some c.in-Quit.is in
-    counts_idle _ c.args.line c.args.engine.now (g.S.Site.state c.args.site.now) s c.rest_counts_nothing.ensures fits c.requires.going (ap (λ (l : Line). (step s l []).after) line) (ap (line_checkpoints s) line)
+    counts_idle _ c.args.line c.args.engine.now (g.S.Site.state c.args.site.now) s c.rest_counts_nothing.ensures fits c.requires.going quiet (λ is. cc) (ap (λ (l : Line). (step s l []).after) line) (ap (line_checkpoints s) line)
 
 pub returns-in_default-clause-numbers : goal.returns-in_default-clause-numbers
 returns-in_default-clause-numbers g c s fits quiet =
-    counts_idle _ c.args.line c.args.engine.now (g.S.Site.state c.args.site.now) s c.rest_counts_nothing.ensures fits c.requires.going (ap (λ (l : Line). (step s l []).after) c.in_default.is) (ap (line_checkpoints s) c.in_default.is)
+    counts_idle _ c.args.line c.args.engine.now (g.S.Site.state c.args.site.now) s c.rest_counts_nothing.ensures fits c.requires.going quiet (λ is. cc) (ap (λ (l : Line). (step s l []).after) c.in_default.is) (ap (line_checkpoints s) c.in_default.is)
 
 pub returns-in-Begin-clause-quiet : goal.returns-in-Begin-clause-quiet
 returns-in-Begin-clause-quiet g c s fits = (c.begin.ensures.answers s fits).does.quiet

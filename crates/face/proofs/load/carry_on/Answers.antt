@@ -2,7 +2,8 @@ use Rattle.std.proofs.Common.{◌∙◌, ap, refl, sym, true≢false, [], arith}
 use Rattle.engine.specs.Invariant.{sizes_of}
 use Rattle.face.specs.declared.halt.Halt.TheVariants as halt
 use Rattle.face.proofs.Writings.{tells_none}
-use Rattle.face.proofs.Counted.{counts_err, counts_line, counts_then}
+use Rattle.face.proofs.Counted.{counts_as, counts_err, counts_line}
+use Rattle.std.specs.Prelude.{Ok}
 use Rattle.face.proofs.UntoldLines.{last_line, leaves_line, serves_line}
 use Rattle.face.proofs.Pagings.{serves_ok, serves_err}
 use Rattle.face.proofs.load.carry_on.Goals as goal
@@ -14,7 +15,7 @@ returns-in-Ok-clause-course g c =
       last = λ s fits quiet. last_line (sizes_of c.args.engine.now.store) s c.args.line (g.S.Site.state c.args.site.now) (g.S.Site.state c.carry_out.new.site) (c.carry_out.ensures.any_moment s [] (λ asks. absurd (true≢false (sym asks ∙ c.requires.plain))) fits quiet);
       fits = λ s fits. c.in-Ok.ensures.after s [] (λ asks. absurd (true≢false (sym asks ∙ c.requires.plain))) fits;
       serves = λ s fits. serves_line _ s c.args.line c.args.engine.now.store.pages c.carry_out.new.engine.store.pages _ _ (serves_ok c.in-Ok.reply c.in-Ok.reply _ _ _ _ (g.S.Site.state c.args.site.now) (g.S.Site.state c.carry_out.new.site) (g.S.Site.state c.carry_out.new.site) (λ dev. refl) (c.carry_out.ensures.log_reads s fits) (λ honest. tells_none _) (c.in-Ok.ensures.asks s fits));
-      numbers = λ s fits quiet. counts_line _ c.args.line _ _ _ _ s (counts_then c.in-Ok.reply _ _ _ _ _ _ s _ _ refl (c.in-Ok.ensures.numbers s fits quiet));
+      numbers = λ s fits quiet. counts_line _ c.args.line _ _ _ _ s (counts_as c.in-Ok.reply (Ok c.in-Ok.reply) _ _ _ _ s _ _ (λ is. cc) (c.in-Ok.ensures.numbers s fits quiet));
       fills = λ s fits quiet. let fills = c.in-Ok.ensures.fills s fits quiet in omega (arith, fills);
       left = c.carry_out.ensures.left;
       stays_quiet = c.in-Ok.ensures.stays_quiet;
@@ -34,7 +35,7 @@ returns-in-Err-clause-course g c = record {
   last = λ s fits quiet. last_line (sizes_of c.args.engine.now.store) s c.args.line (g.S.Site.state c.args.site.now) (g.S.Site.state c.carry_out.new.site) (c.carry_out.ensures.any_moment s [] (λ asks. absurd (true≢false (sym asks ∙ c.requires.plain))) fits quiet);
   fits = λ s fits. tt;
   serves = λ s fits. serves_line _ s c.args.line c.args.engine.now.store.pages c.carry_out.new.engine.store.pages _ _ (serves_err c.in-Err.stop _ _ _ _ _ _ (c.carry_out.ensures.log_reads s fits) (c.in-Err.ensures.asks s fits));
-  numbers = λ s fits quiet. counts_line _ c.args.line _ _ _ _ s (counts_err c.in-Err.stop (halt.Stop c.in-Err.stop) _ _ _ _ s _ _ (c.in-Err.ensures.numbers s fits quiet));
+  numbers = λ s fits quiet. counts_line _ c.args.line _ _ _ _ s (counts_err c.in-Err.stop (halt.Stop c.in-Err.stop) _ _ _ _ s _ _ (λ is. cc) (c.in-Err.ensures.numbers s fits quiet));
   fills = λ s fits quiet. tt;
   left = c.carry_out.ensures.left;
   stays_quiet = λ honest quiet. tt;

@@ -20,7 +20,7 @@ returns-in-Err-clause-works g c geometry opening good =
     let old = g.S.Site.state c.args.site.now in
     let run = run_of geometry opening true old.input.left [] in
     let start = begins geometry opening [] old good in
-    load_never_opened geometry opening c.args.load.now old (g.S.Site.state c.open.new.site) c.in-Err.halt (c.in-Err.ensures.stops run start) (λ is. c.in-Err.ensures.worn run start (ap Err is)) (c.in-Err.ensures.numbers run start) (c.in-Err.ensures.reads run start) (c.open.ensures.left good.honest)
+    load_never_opened geometry opening c.args.load.now old (g.S.Site.state c.open.new.site) c.in-Err.halt (c.in-Err.ensures.stops run start) (λ is. c.in-Err.ensures.worn run start (ap Err is)) (λ is. c.in-Err.ensures.worn_log run start (ap Err is)) (c.in-Err.ensures.numbers run start) (c.in-Err.ensures.reads run start) (c.open.ensures.left good.honest)
 
 pub returns-in-Err-make_sets-clause-works : goal.returns-in-Err-make_sets-clause-works
 returns-in-Err-make_sets-clause-works g c geometry opening good =

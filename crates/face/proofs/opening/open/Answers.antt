@@ -1,8 +1,8 @@
 use Rattle.face.proofs.Fillings.{restart_rises}
-use Rattle.site.specs.declared.outside.Dev.TheVariants.{Flash}
+use Rattle.site.specs.declared.outside.Dev.TheVariants.{Flash, Log}
 use Rattle.site.specs.declared.outside.Stop.TheVariants.{Worn}
 use Rattle.engine.specs.Image.{log_under}
-use Rattle.face.proofs.Counted.{first_counted, restart_fails}
+use Rattle.face.proofs.Counted.{first_counted, restart_numbers, restart_told, restart_wears}
 use Rattle.engine.specs.Paging.{restart_works, cache_on}
 use Rattle.second_chance.specs.Machine.{rules_of}
 use Rattle.image_meaning.specs.Meaning.{picture_under}
@@ -84,9 +84,8 @@ pub returns-in-Ok-tell_all-clause-counted : goal.returns-in-Ok-tell_all-clause-c
 returns-in-Ok-tell_all-clause-counted g c run begins newest blocks sound =
     let entry = g.S.Site.state c.args.site.now in
     let mid = g.S.Site.state c.start.new.site in
-    let same = c.tell_all.ensures.same (stays_honest entry mid c.start.ensures.calls.goes begins.honest) in
     let some : 1 ≤ (rules_of c.args.pool run.geometry.groups).groups = (let least = sound.octets.limits.groups in omega (arith, least)) in
-    first_counted run (log_under newest blocks) entry c.in-Ok.engine mid (g.S.Site.state c.tell_all.new.site) same.image (c.in-Ok.ensures.numbers begins.honest begins.quiet run.geometry newest blocks sound) (goes_on c.in-Ok.engine mid (g.S.Site.state c.tell_all.new.site) c.in-Ok.ensures.going c.tell_all.ensures.goes)
+    first_counted run (log_under newest blocks) entry c.in-Ok.engine _ mid (g.S.Site.state c.tell_all.new.site) (c.tell_all.ensures.any_moment (stays_honest entry mid c.start.ensures.calls.goes begins.honest)) (c.in-Ok.ensures.numbers begins.honest begins.quiet run.geometry newest blocks sound) (goes_on c.in-Ok.engine mid (g.S.Site.state c.tell_all.new.site) c.in-Ok.ensures.going c.tell_all.ensures.goes)
     (restart_rises c.in-Ok.engine (rules_of c.args.pool run.geometry.groups) _ (cache_on run.geometry entry.image) _ _ _ some (c.in-Ok.ensures.asks begins.honest run.geometry newest blocks sound))
 
 pub returns-in-Ok-tell_all-clause-numbers : goal.returns-in-Ok-tell_all-clause-numbers
@@ -96,14 +95,21 @@ pub returns-in-Err-tell_all-clause-numbers : goal.returns-in-Err-tell_all-clause
 returns-in-Err-tell_all-clause-numbers g c run begins newest blocks sound =
     let entry = g.S.Site.state c.args.site.now in
     let mid = g.S.Site.state c.start.new.site in
-    let same = c.tell_all.ensures.same (stays_honest entry mid c.start.ensures.calls.goes begins.honest) in
-    restart_fails run (log_under newest blocks) entry c.start.result _ mid (g.S.Site.state c.tell_all.new.site) same.image (c.start.ensures.numbers begins.honest begins.quiet run.geometry newest blocks sound)
+    restart_told run (log_under newest blocks) entry c.start.result _ _ mid (g.S.Site.state c.tell_all.new.site) (c.tell_all.ensures.any_moment (stays_honest entry mid c.start.ensures.calls.goes begins.honest)) (c.start.ensures.numbers begins.honest begins.quiet run.geometry newest blocks sound)
 
 pub returns-in-Err-clause-numbers : goal.returns-in-Err-clause-numbers
 returns-in-Err-clause-numbers g c run begins newest blocks sound =
     let entry = g.S.Site.state c.args.site.now in
     let mid = g.S.Site.state c.start.new.site in
-    restart_fails run (log_under newest blocks) entry c.start.result _ mid mid refl (c.start.ensures.numbers begins.honest begins.quiet run.geometry newest blocks sound)
+    restart_numbers run (log_under newest blocks) entry c.start.result _ mid (c.start.ensures.numbers begins.honest begins.quiet run.geometry newest blocks sound)
+
+pub returns-in-Err-clause-worn_log : goal.returns-in-Err-clause-worn_log
+returns-in-Err-clause-worn_log g c run begins is newest blocks sound =
+    let same : c.in-Err.stop ≡ Worn Log = cc in
+    restart_wears run (log_under newest blocks) (g.S.Site.state c.args.site.now) _ _ (g.S.Site.state c.start.new.site) (c.in-Err.ensures.numbers begins.honest begins.quiet run.geometry newest blocks sound) (ap Err same)
+
+pub returns-in-Err-tell_all-clause-worn_log : goal.returns-in-Err-tell_all-clause-worn_log
+returns-in-Err-tell_all-clause-worn_log g c run begins is newest blocks sound = absurd cc
 
 pub returns-in-Err-clause-reads : goal.returns-in-Err-clause-reads
 returns-in-Err-clause-reads g c run begins newest blocks sound =

@@ -74,3 +74,14 @@ returns-in-Ok-Simulate-clause-first g c =
 pub returns-in-Err-Words-clause-first : goal.returns-in-Err-Words-clause-first
 returns-in-Err-Words-clause-first g c =
     first_line 2 (g.S.Site.state c.args.site.now) (g.S.Site.state c.tell_words.new.site) c.tell_words.result (λ e. omega (arith, e), λ e. omega (arith, e), λ e. omega (arith, e)) c.tell_words.ensures.faults
+
+pub returns-in-Ok-Run-clause-hears : goal.returns-in-Ok-Run-clause-hears
+returns-in-Ok-Run-clause-hears g c is_run honest = c.serve.ensures.hears honest
+
+pub returns-in-Err-Memory-clause-hears : goal.returns-in-Err-Memory-clause-hears
+returns-in-Err-Memory-clause-hears g c is_run honest = c.lack_memory.ensures.hears honest
+
+pub returns-in-Err-Words-clause-hears : goal.returns-in-Err-Words-clause-hears
+returns-in-Err-Words-clause-hears g c is_run honest =
+    let never : IsRight (words_of c.args.words.now) → ⊥ = search rules in
+    absurd (never (inl is_run))

@@ -1,4 +1,7 @@
-use Rattle.std.proofs.Common.{arith, refl, rules}
+use Rattle.std.proofs.Common.{arith, refl, rules, ℕ}
+use Rattle.site.specs.declared.outside.Stop.TheVariants.{Memory}
+use Rattle.face.specs.declared.halt.Halt.TheVariants as halt
+use Rattle.face.proofs.Hearings.{heard_halted, hears_nothing}
 use Rattle.face.specs.Words.{LacksMemory}
 use Rattle.trace_report.proofs.Lacking.{lacked}
 use Rattle.face.proofs.Endings.{only_tells}
@@ -27,6 +30,7 @@ returns g c =
       trial = λ geometry. lacked_trial geometry old new c.tell_memory.result c.tell_memory.ensures;
       check = lacked_check 4 old new lacks;
       lacks = lacks;
+      hears = λ honest. heard_halted {T = ℕ} (halt.Stop Memory) 4 old old new refl (c.tell_memory.ensures.devices honest).left (hears_nothing {T = ℕ} (halt.Stop Memory) old old (λ e. cc) refl);
       first = first_line 4 old new c.tell_memory.result (λ e. omega (arith, e), λ e. omega (arith, e), λ e. omega (arith, e)) c.tell_memory.ensures.faults;
       goes = search rules;
     }

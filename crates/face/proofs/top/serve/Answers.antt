@@ -4,6 +4,7 @@ use Rattle.face.proofs.CauseLaws.{cause_then, status_causes, no_causes}
 use Rattle.face.proofs.Endings.{refuses_devices, tells_fault, tells_none}
 use Rattle.face.proofs.Faults.{begins, halted, finished, run_contract}
 use Rattle.face.proofs.Firsts.{first_halted, first_none}
+use Rattle.face.proofs.Hearings.{heard_done, heard_halted}
 use Rattle.face.proofs.top.serve.Goals as goal
 
 pub returns-in-Ok-clause-run : goal.returns-in-Ok-clause-run
@@ -38,3 +39,12 @@ returns-in-Ok-clause-first g c = first_none _ _ c.in-Ok.ensures.faults
 pub returns-in-Err-clause-first : goal.returns-in-Err-clause-first
 returns-in-Err-clause-first g c =
     first_halted c.in-Err.halt c.status.result (g.S.Site.state c.args.site.now) (g.S.Site.state c.work.new.site) (g.S.Site.state c.tell_halt.new.site) c.tell_halt.result c.status.ensures c.in-Err.ensures.faults c.tell_halt.ensures.faults
+
+pub returns-in-Ok-clause-hears : goal.returns-in-Ok-clause-hears
+returns-in-Ok-clause-hears g c honest = heard_done _ (g.S.Site.state c.args.site.now) (g.S.Site.state c.work.new.site) (c.in-Ok.ensures.hears honest)
+
+pub returns-in-Err-clause-hears : goal.returns-in-Err-clause-hears
+returns-in-Err-clause-hears g c honest =
+    let old = g.S.Site.state c.args.site.now in
+    let mid = g.S.Site.state c.work.new.site in
+    heard_halted c.in-Err.halt c.status.result old mid (g.S.Site.state c.tell_halt.new.site) c.status.ensures (c.tell_halt.ensures.devices (stays_honest old mid c.work.ensures.goes honest)).left (c.in-Err.ensures.hears honest)

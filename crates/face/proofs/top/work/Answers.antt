@@ -10,7 +10,7 @@ use Rattle.engine.specs.Image.{log_under}
 use Rattle.record_model.specs.Touches.{CacheWork}
 use Rattle.second_chance.specs.Machine.{after_works, rules_of}
 use Rattle.engine.specs.Paging.{cache_on}
-use Rattle.face.proofs.Counted.{counted_on, counts_next, counts_still, next_counted}
+use Rattle.face.proofs.Counted.{counted_on, counts_next, counts_still, next_counted, wears_next}
 use Rattle.face.proofs.Writings.{engine_queue}
 use Rattle.face.proofs.Pagings.{asked_with, next_paged, next_reads, next_worn, paged_queue, paged_room, paged_versions, few_heard}
 use Rattle.engine.specs.Listings.{listing_of}
@@ -21,6 +21,7 @@ use Rattle.face.specs.Working.{AnswersFirst, asked_after}
 use Rattle.face.specs.Texts.{status_of}
 use Rattle.face.proofs.Cuts.{Cut, no_cut, cut_more, cut_stays, line_is, cut_few_octets}
 use Rattle.face.proofs.Ends.{lists_nothing, never_opened, taking_failed, finished, answer_failed, heard_end, line_heard, quitted, taking_cause, answer_takes_nothing, answer_cause}
+use Rattle.face.proofs.Hearings.{hears_answer, hears_cut, hears_end, hears_nothing, hears_quit}
 use Rattle.face.proofs.Waits.{answers_none, answers_next, answers_still}
 use Rattle.face.proofs.Listed.{with_line, going_before, answers_before, is_asked, left_after, listed_next}
 use Rattle.face.proofs.RunsSoFar.{begun_after, moved, cut_short, goes_on}
@@ -28,7 +29,7 @@ use Rattle.face.proofs.Logs.{still_fits, goes_on as engine_goes_on}
 use Rattle.face.proofs.top.work.Goals as goal
 
 pub returns-in-Err-clause-works : goal.returns-in-Err-clause-works
-returns-in-Err-clause-works g c = ([], λ run begins same. never_opened c.args.pool run (g.S.Site.state c.args.site.now) (g.S.Site.state c.open.new.site) c.in-Err.halt (c.in-Err.ensures.stops run begins) c.in-Err.ensures.halts (c.open.ensures.left begins.honest) (λ is. c.in-Err.ensures.worn run begins (ap Err is)) (c.in-Err.ensures.numbers run begins) (c.in-Err.ensures.reads run begins))
+returns-in-Err-clause-works g c = ([], λ run begins same. never_opened c.args.pool run (g.S.Site.state c.args.site.now) (g.S.Site.state c.open.new.site) c.in-Err.halt (c.in-Err.ensures.stops run begins) c.in-Err.ensures.halts (c.open.ensures.left begins.honest) (λ is. c.in-Err.ensures.worn run begins (ap Err is)) (λ is. c.in-Err.ensures.worn_log run begins (ap Err is)) (c.in-Err.ensures.numbers run begins) (c.in-Err.ensures.reads run begins))
 
 pub answer-requires : goal.answer-requires
 answer-requires g c = record { going = engine_goes_on c.loop-line.engine (g.S.Site.state c.loop-line.site) (g.S.Site.state c.next.new.site) c.loop-line.invariant.engine c.next.ensures.goes }
@@ -61,7 +62,7 @@ returns-in-Err-next-clause-works g c =
           taking_failed c.args.pool run entry mid next c.loop-line.engine c.loop-line.source c.loop-line._line cut c.loop-line.invariant.source going (under_way.listed run [] begins (same ∙ sym (append-nil under_way.listings)))
           (λ newest blocks sound. few_heard _ _ _ _ entry mid next (c.next.ensures.same so_far.fits.honest) (c.loop-line.invariant.reads run begins newest blocks sound))
           (answers_next run entry mid next c.loop-line.source c.loop-line._line c.loop-line._line cut c.loop-line.invariant.source so_far.told (omega arith) (under_way.answers run [] begins (same ∙ sym (append-nil under_way.listings))) (c.next.ensures.takes so_far.fits.honest cut.ended)) c.in-Err-next.halt c.in-Err-next.ensures.halts (c.in-Err-next.ensures.cut_off so_far.fits.honest cut.ended)
-          (λ newest blocks sound. counts_still run (log_under newest blocks) entry mid next c.loop-line._line (c.next.ensures.same so_far.fits.honest).image (c.loop-line.invariant.counted run begins newest blocks sound).numbers),
+          (λ newest blocks sound. counts_still run (log_under newest blocks) entry mid next c.loop-line._line (c.next.ensures.same so_far.fits.honest) (c.loop-line.invariant.counted run begins newest blocks sound).numbers),
     )
 
 pub returns-in-Err-next-clause-cause : goal.returns-in-Err-next-clause-cause
@@ -91,9 +92,9 @@ returns-in-End-clause-works g c =
           (λ newest blocks sound. paged_room c.args.pool run newest entry.image blocks c.loop-line.engine mid c.loop-line._line (c.loop-line.invariant.paged run begins newest blocks sound) c.loop-line.invariant.engine)
           (λ newest blocks sound. paged_queue c.args.pool run newest entry.image blocks c.queue_is_on_flash.ensures c.loop-line.engine next (state_at run c.loop-line._line) c.loop-line._line going.fits going.geometry (c.loop-line.invariant.paged run begins newest blocks sound))
           (λ newest blocks sound. paged_versions c.args.pool run newest entry.image blocks c.versions_are_seen.ensures c.loop-line.engine next c.loop-line._line going.fits going.geometry (c.loop-line.invariant.paged run begins newest blocks sound))
-          (λ newest blocks sound. seals_no_more c.args.pool run c.loop-line._line newest blocks entry.image next.image c.loop-line.engine next refl going.geometry going.fits (engine_goes_on c.loop-line.engine mid next c.loop-line.invariant.engine c.next.ensures.goes) (c.loop-line.invariant.paged run begins newest blocks sound)
-          (subst (λ (x : Image). IsCounted run (log_under newest blocks) entry.image x c.loop-line.engine c.loop-line._line) (sym (c.next.ensures.same honest).image) (c.loop-line.invariant.counted run begins newest blocks sound)))
-          (λ newest blocks sound. counts_still run (log_under newest blocks) entry mid next c.loop-line._line (c.next.ensures.same honest).image (c.loop-line.invariant.counted run begins newest blocks sound).numbers),
+          (λ newest blocks sound. seals_no_more c.args.pool run c.loop-line._line newest blocks entry mid next.image c.loop-line.engine next refl going.geometry going.fits (engine_goes_on c.loop-line.engine mid next c.loop-line.invariant.engine c.next.ensures.goes) (c.loop-line.invariant.paged run begins newest blocks sound)
+          (c.loop-line.invariant.counted run begins newest blocks sound))
+          (λ newest blocks sound. counts_still run (log_under newest blocks) entry mid next c.loop-line._line (c.next.ensures.same honest) (c.loop-line.invariant.counted run begins newest blocks sound).numbers),
     )
 
 pub returns-in-Err-answer-clause-works : goal.returns-in-Err-answer-clause-works
@@ -125,7 +126,8 @@ returns-in-Err-answer-clause-works g c =
           (answers_still run (suc i) entry next new (c.answer.ensures.left going.fits.honest) (answers_next run entry mid next c.loop-line.source i (suc i) cut c.loop-line.invariant.source so_far.told (omega arith) (answers_before c.args.pool entry mid c.loop-line.engine i under_way c.in-Line.line run [] begins listed) (c.next.ensures.takes honest cut.ended))) c.in-Err-answer.halt stops
           (begun_after run entry next c.loop-line.engine i going new c.in-Line.line _ is (c.answer.ensures.any_moment (state_at run i) (listing_at run i) asked going.fits going.quiet)) (answer_takes_nothing c.in-Err-answer.halt c.loop-line.engine next new c.in-Err-answer.ensures.cause)
           (λ worn newest blocks sound. next_worn c.args.pool run newest entry.image blocks c.works_add_up.ensures.works i c.in-Line.line _ is c.loop-line.engine (c.loop-line.invariant.paged run begins newest blocks sound) ((c.in-Err-answer.ensures.asks (state_at run i) going.fits).worn (ap Err worn)))
-          (λ newest blocks sound. counts_next run (log_under newest blocks) entry mid next new c.loop-line.engine c.answer.new.engine i c.in-Line.line _ is (c.next.ensures.same honest).image going.geometry (c.loop-line.invariant.counted run begins newest blocks sound) _ (c.in-Err-answer.ensures.numbers (state_at run i) going.fits going.quiet)),
+          (λ worn newest blocks sound. wears_next run (log_under newest blocks) entry mid next new c.loop-line.engine c.answer.new.engine i c.in-Line.line _ is (c.next.ensures.same honest) going.geometry (c.loop-line.invariant.counted run begins newest blocks sound) _ (c.in-Err-answer.ensures.numbers (state_at run i) going.fits going.quiet) (ap Err worn))
+          (λ newest blocks sound. counts_next run (log_under newest blocks) entry mid next new c.loop-line.engine c.answer.new.engine i c.in-Line.line _ is (c.next.ensures.same honest) going.geometry (c.loop-line.invariant.counted run begins newest blocks sound) _ (c.in-Err-answer.ensures.numbers (state_at run i) going.fits going.quiet)),
     )
 
 pub loop-line-preserved : goal.loop-line-preserved
@@ -234,8 +236,8 @@ loop-line-preserved g c =
           let hears = line_heard c.in-Ok-next.heard c.in-Line.line _ _ _ _ (c.in-Ok-next.ensures.heard honest cut.ended) c.in-Line.is in
           let ended = c.in-Ok-next.ensures.ended honest cut.ended in
           let is = ap (λ (l : List Line). drop i (up_to_quit l)) begins.lines ∙ line_is entry.input.left c.loop-line.source mid i cut c.loop-line.invariant.source c.next.new.self next c.in-Line.line hears ended c.next.ensures.source in
-          let counted = next_counted own (log_under newest blocks) entry mid next new c.loop-line.engine c.answer.new.engine i c.in-Line.line _ is (c.next.ensures.same honest).image going.geometry (c.loop-line.invariant.counted own starts newest blocks sound) c.in_default.field-0 (c.in_default.ensures.numbers (state_at own i) going.fits going.quiet) (c.in_default.ensures.fills (state_at own i) going.fits going.quiet) in
-          subst (IsCounted run (log_under newest blocks) entry.image new.image c.answer.new.engine) (sym (add-one i)) (counted_on run with (log_under newest blocks) entry.image new.image c.answer.new.engine (suc i) counted);
+          let counted = next_counted own (log_under newest blocks) entry mid next new c.loop-line.engine c.answer.new.engine i c.in-Line.line _ is (c.next.ensures.same honest) going.geometry (c.loop-line.invariant.counted own starts newest blocks sound) c.in_default.field-0 (c.in_default.ensures.numbers (state_at own i) going.fits going.quiet) (c.in_default.ensures.fills (state_at own i) going.fits going.quiet) in
+          subst (IsCounted run (log_under newest blocks) entry new c.answer.new.engine) (sym (add-one i)) (counted_on run with (log_under newest blocks) entry new c.answer.new.engine (suc i) counted);
     }
 
 pub returns-then-last-clause-works : goal.returns-then-last-clause-works
@@ -271,8 +273,8 @@ returns-then-last-clause-works g c =
           (next_paged c.args.pool run newest entry.image blocks c.works_add_up.ensures.works i c.in-Line.line _ is c.loop-line.engine (c.loop-line.invariant.paged run begins newest blocks sound) c.in_default.field-0 c.answer.new.engine next new (c.in_default.ensures.asks (state_at run i) going.fits)))
           (λ newest blocks sound. paged_versions c.args.pool run newest entry.image blocks c.versions_are_seen.ensures c.answer.new.engine new (suc i) gone.fits gone.geometry
           (next_paged c.args.pool run newest entry.image blocks c.works_add_up.ensures.works i c.in-Line.line _ is c.loop-line.engine (c.loop-line.invariant.paged run begins newest blocks sound) c.in_default.field-0 c.answer.new.engine next new (c.in_default.ensures.asks (state_at run i) going.fits)))
-          (λ newest blocks sound. seals_no_more c.args.pool run (suc i) newest blocks entry.image new.image c.answer.new.engine new refl gone.geometry gone.fits c.in_default.ensures.going (next_paged c.args.pool run newest entry.image blocks c.works_add_up.ensures.works i c.in-Line.line _ is c.loop-line.engine (c.loop-line.invariant.paged run begins newest blocks sound) c.in_default.field-0 c.answer.new.engine next new (c.in_default.ensures.asks (state_at run i) going.fits)) (next_counted run (log_under newest blocks) entry mid next new c.loop-line.engine c.answer.new.engine i c.in-Line.line _ is (c.next.ensures.same honest).image going.geometry (c.loop-line.invariant.counted run begins newest blocks sound) c.in_default.field-0 (c.in_default.ensures.numbers (state_at run i) going.fits going.quiet) (c.in_default.ensures.fills (state_at run i) going.fits going.quiet)))
-          (λ newest blocks sound. (next_counted run (log_under newest blocks) entry mid next new c.loop-line.engine c.answer.new.engine i c.in-Line.line _ is (c.next.ensures.same honest).image going.geometry (c.loop-line.invariant.counted run begins newest blocks sound) c.in_default.field-0 (c.in_default.ensures.numbers (state_at run i) going.fits going.quiet) (c.in_default.ensures.fills (state_at run i) going.fits going.quiet)).numbers),
+          (λ newest blocks sound. seals_no_more c.args.pool run (suc i) newest blocks entry new new.image c.answer.new.engine new refl gone.geometry gone.fits c.in_default.ensures.going (next_paged c.args.pool run newest entry.image blocks c.works_add_up.ensures.works i c.in-Line.line _ is c.loop-line.engine (c.loop-line.invariant.paged run begins newest blocks sound) c.in_default.field-0 c.answer.new.engine next new (c.in_default.ensures.asks (state_at run i) going.fits)) (next_counted run (log_under newest blocks) entry mid next new c.loop-line.engine c.answer.new.engine i c.in-Line.line _ is (c.next.ensures.same honest) going.geometry (c.loop-line.invariant.counted run begins newest blocks sound) c.in_default.field-0 (c.in_default.ensures.numbers (state_at run i) going.fits going.quiet) (c.in_default.ensures.fills (state_at run i) going.fits going.quiet)))
+          (λ newest blocks sound. (next_counted run (log_under newest blocks) entry mid next new c.loop-line.engine c.answer.new.engine i c.in-Line.line _ is (c.next.ensures.same honest) going.geometry (c.loop-line.invariant.counted run begins newest blocks sound) c.in_default.field-0 (c.in_default.ensures.numbers (state_at run i) going.fits going.quiet) (c.in_default.ensures.fills (state_at run i) going.fits going.quiet)).numbers),
     )
 
 pub returns-clause-works : goal.returns-clause-works
@@ -310,3 +312,52 @@ returns-in-End-clause-goes g c = goes_in_sequence _ _ _ c.loop-line.invariant.go
 
 pub returns-then-last-clause-goes : goal.returns-then-last-clause-goes
 returns-then-last-clause-goes g c = goes_in_sequence _ _ _ c.loop-line.invariant.goes (goes_in_sequence _ _ _ c.next.ensures.goes c.answer.ensures.goes)
+
+-- What was heard.
+
+pub returns-in-Err-clause-hears : goal.returns-in-Err-clause-hears
+returns-in-Err-clause-hears g c honest = hears_nothing c.in-Err.halt _ _ c.in-Err.ensures.halts.1 (c.open.ensures.left honest)
+
+pub returns-in-Err-next-clause-hears : goal.returns-in-Err-next-clause-hears
+returns-in-Err-next-clause-hears g c honest =
+    let entry = g.S.Site.state c.args.site.now in
+    let mid = g.S.Site.state c.loop-line.site in
+    let cut = c.loop-line.invariant.cut honest in
+    hears_cut entry mid c.loop-line.source c.loop-line._line cut c.loop-line.invariant.source c.in-Err-next.halt (g.S.Site.state c.next.new.site) c.in-Err-next.ensures.halts (c.in-Err-next.ensures.cut_off (stays_honest entry mid c.loop-line.invariant.goes honest) cut.ended)
+
+pub returns-in-End-clause-hears : goal.returns-in-End-clause-hears
+returns-in-End-clause-hears g c honest =
+    let entry = g.S.Site.state c.args.site.now in
+    let mid = g.S.Site.state c.loop-line.site in
+    let cut = c.loop-line.invariant.cut honest in
+    let still = stays_honest entry mid c.loop-line.invariant.goes honest in
+    let end = heard_end c.in-Ok-next.heard _ _ _ _ (c.in-Ok-next.ensures.heard still cut.ended) c.in-End.is in
+    hears_end entry mid c.loop-line.source c.loop-line._line cut c.loop-line.invariant.source _ (g.S.Site.state c.next.new.site) end.0 (c.in-Ok-next.ensures.ended still cut.ended end.1)
+
+pub returns-in-Err-answer-clause-hears : goal.returns-in-Err-answer-clause-hears
+returns-in-Err-answer-clause-hears g c honest =
+    let entry = g.S.Site.state c.args.site.now in
+    let mid = g.S.Site.state c.loop-line.site in
+    let next = g.S.Site.state c.next.new.site in
+    let new = g.S.Site.state c.answer.new.site in
+    let cut = c.loop-line.invariant.cut honest in
+    let still = stays_honest entry mid c.loop-line.invariant.goes honest in
+    hears_answer entry mid c.loop-line.source c.loop-line._line cut c.loop-line.invariant.source c.next.new.self next c.in-Line.line (line_heard c.in-Ok-next.heard c.in-Line.line _ _ _ _ (c.in-Ok-next.ensures.heard still cut.ended) c.in-Line.is)
+    (c.in-Ok-next.ensures.ended still cut.ended) c.next.ensures.source (c.in-Ok-next.ensures.count still) new (c.answer.ensures.left (stays_honest mid next c.next.ensures.goes still)) c.in-Err-answer.halt
+    (answer_takes_nothing c.in-Err-answer.halt c.loop-line.engine next new c.in-Err-answer.ensures.cause).1
+
+pub returns-then-last-clause-hears : goal.returns-then-last-clause-hears
+returns-then-last-clause-hears g c honest =
+    let entry = g.S.Site.state c.args.site.now in
+    let mid = g.S.Site.state c.loop-line.site in
+    let next = g.S.Site.state c.next.new.site in
+    let cut = c.loop-line.invariant.cut honest in
+    let still = stays_honest entry mid c.loop-line.invariant.goes honest in
+    hears_quit entry mid c.loop-line.source c.loop-line._line cut c.loop-line.invariant.source c.next.new.self next c.in-Line.line (line_heard c.in-Ok-next.heard c.in-Line.line _ _ _ _ (c.in-Ok-next.ensures.heard still cut.ended) c.in-Line.is)
+    (c.in-Ok-next.ensures.ended still cut.ended) c.next.ensures.source (c.in-Ok-next.ensures.count still) (g.S.Site.state c.answer.new.site) (c.answer.ensures.left (stays_honest mid next c.next.ensures.goes still)) _
+    (sym c.quits-last.ensures ∙ c.if-last.true)
+
+pub returns-clause-hears : goal.returns-clause-hears
+returns-clause-hears g c honest =
+    let few = cut_few_octets _ c.loop-line.source (g.S.Site.state c.loop-line.site) c.loop-line._line (c.loop-line.invariant.cut honest) c.loop-line.invariant.source in
+    absurd (omega (arith, few, c.loop-line-test.false))

@@ -29,5 +29,5 @@ invariant-loop-line g l =
       under_way : IsUnderWay l.pool old now l.engine l._line;
       paged : (run : Run) → Begins run old → (newest : Option Master) (blocks : List (List LogRecord)) → IsSound newest run.geometry old.image blocks → IsPaged l.pool run newest old.image blocks l.engine l._line;
       reads : (run : Run) → Begins run old → AsksNoMore l.pool (first_lines run l._line) old now;
-      counted : (run : Run) → Begins run old → (newest : Option Master) (blocks : List (List LogRecord)) → IsSound newest run.geometry old.image blocks → IsCounted run (log_under newest blocks) old.image now.image l.engine l._line;
+      counted : (run : Run) → Begins run old → (newest : Option Master) (blocks : List (List LogRecord)) → IsSound newest run.geometry old.image blocks → IsCounted run (log_under newest blocks) old now l.engine l._line;
     }

@@ -113,7 +113,8 @@ returns-in-Err-clause-keeps g c pages newest records table sizes h empty clean m
       };
       numbers = λ quiet. save_skips _ pages.flash.geometry log log (unit (m g s pages newest records table sizes h empty clean may)) site _
           (hi_on log.geometry pages.flash.geometry log site.image sizes h.log_holds.ready.blocks.hi)
-          (front g s pages newest records table sizes h empty clean may quiet) tt tt;
+          (front g s pages newest records table sizes h empty clean may quiet) tt tt
+          (λ is. let same : c.in-Err.stop ≡ Worn Log = cc in masters_at_end c.args.masters.now site site c.requires.shape may.ring refl (c.in-Err.ensures.worn.0 (ap Err same)));
       masters = λ none. tt;
     }
 
@@ -128,6 +129,6 @@ returns-clause-keeps g c pages newest records table sizes h empty clean may =
           (g.S.Site.state c.save.new.site)
           (hi_on log.geometry pages.flash.geometry log site.image sizes h.log_holds.ready.blocks.hi)
           (front g s pages newest records table sizes h empty clean may quiet)
-          (ap blocks_to c.keep.ensures.kept) (ap (λ (u : Units). u.hi) (c.in-Ok.ensures.stands h.log_holds.ready.blocks.honest may.ring));
+          (ap blocks_to c.keep.ensures.kept) (ap (λ (u : Units). u.hi) (c.in-Ok.ensures.stands h.log_holds.ready.blocks.honest may.ring)) (λ is. cc);
       masters = λ none. absurd (omega (arith, none));
     }

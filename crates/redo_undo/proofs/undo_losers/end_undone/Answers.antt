@@ -51,5 +51,8 @@ returns-in-Err-clause-keeps g c pages newest records table commits going h =
     keeps_few (omega (arith, some, inv.fewer)) (keeps_then h.holds.log_holds.ready.blocks.honest refl refl inv.works.calls (inv.keeps pages newest records table commits going h)
     (c.in-Err.ensures.keeps pages newest _ table commits c.loop-txn.last (inv.works.going pages going) (inv.updates pages newest records table commits going h).some.now))
 
+pub returns-clause-counted : goal.returns-clause-counted
+returns-clause-counted g c pages newest records table commits going h = keeps_answered (c.loop-txn.invariant.keeps pages newest records table commits going h)
+
 pub returns-clause-keeps : goal.returns-clause-keeps
 returns-clause-keeps g c pages newest records table commits going h = keeps_few (omega arith) (keeps_answered (c.loop-txn.invariant.keeps pages newest records table commits going h))

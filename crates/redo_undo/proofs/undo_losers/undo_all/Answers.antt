@@ -21,7 +21,7 @@ use Rattle.log_store.specs.Representation.{has_tail}
 use Rattle.redo_undo.specs.Holding.{Represents}
 use Rattle.redo_undo.proofs.UndoneUpdates.{AsksUpdates, next_is_last, none_is_next, updates_asked_more, updates_asked_stopped, updates_asked, reads_stopped, reads_asked}
 use Rattle.redo_undo.specs.UndoingAll.{IsUndoing}
-use Rattle.redo_undo.proofs.Calling.{keeps_answered, keeps_counted, keeps_failed, keeps_few, keeps_then, works_answered, works_beside, works_then}
+use Rattle.redo_undo.proofs.Calling.{keeps_answered, keeps_failed, keeps_few, keeps_then, works_answered, works_beside, works_then}
 use Rattle.redo_undo.proofs.undo_losers.undo_all.Given.{Over}
 use Rattle.redo_undo.proofs.undo_losers.undo_all.Goals.{After-end_undone, After-next_undo}
 use Rattle.redo_undo.proofs.undo_losers.undo_all.Goals as goal
@@ -78,9 +78,8 @@ loop-next-init g c =
         read = omega (arith, c.end_undone.ensures.works.reads Log);
       };
       keeps = λ newest records table commits none h is.
-          let undoing = undoing g (goal.at.loop-next-init g c).After-end_undone newest records table commits none h is in
-          let undone = (c.in-Ok.ensures.updates c.args.pages.now newest records table commits c.requires.going undoing).some in
-          keeps_counted (c.end_undone.ensures.works.geometry ∙ c.requires.going.sizes) undone.now.holds.log_holds.ready.blocks.hi (omega (arith, few, fewer)) (c.in-Ok.ensures.keeps c.args.pages.now newest records table commits c.requires.going undoing);
+          keeps_answered (c.in-Ok.ensures.counted c.args.pages.now newest records table commits c.requires.going
+          (undoing g (goal.at.loop-next-init g c).After-end_undone newest records table commits none h is));
     }
 
 pub loop-next-preserved : goal.loop-next-preserved
@@ -112,9 +111,8 @@ loop-next-preserved g c =
           let undone = (before g s newest records table commits none h is).updates.some in
           let all = records ++ undone.more in
           let last = next_is_last all c.next_undo.result c.in-Some.next c.in-Some.is (next_is g s newest records table commits none h is) in
-          let after = c.in-Ok-undo_next.ensures.updates newest all table commits last.0 undone.now last.1 in
-          keeps_counted (works.log_geometry ∙ c.requires.going.sizes) after.some.now.holds.log_holds.ready.blocks.hi (omega (arith, few, less, falls, fewer))
-          (keeps_then h.log_holds.ready.blocks.honest inv.works.geometry inv.works.geometry inv.works.calls (inv.keeps newest records table commits none h is) (c.in-Ok-undo_next.ensures.keeps newest all table commits last.0 undone.now last.1));
+          keeps_few (omega (arith, falls, fewer)) (keeps_answered (keeps_then h.log_holds.ready.blocks.honest inv.works.geometry inv.works.geometry inv.works.calls (inv.keeps newest records table commits none h is)
+          (c.in-Ok-undo_next.ensures.counted newest all table commits last.0 undone.now last.1)));
     }
 
 pub returns-clause-none : goal.returns-clause-none

@@ -84,6 +84,17 @@ returns-then-loser-gt1-clause-keeps g c newest records table commits u h last =
     let remains = c.requires.greatest in
     keeps_few (some_owed (listed c.args.found.now.table) c.args.next.0 remains.x remains.there) (c.in-Ok.ensures.keeps newest records table commits c.args.known h)
 
+pub returns-then-loser-gt1-clause-counted : goal.returns-then-loser-gt1-clause-counted
+returns-then-loser-gt1-clause-counted g c newest records table commits u h last =
+    keeps_few (omega (arith, c.in-Ok.ensures.owed)) (c.in-Ok.ensures.keeps newest records table commits c.args.known h)
+
+pub returns-clause-counted : goal.returns-clause-counted
+returns-clause-counted g c newest records table commits u h last =
+    let first = c.in-Ok.ensures.updates newest records table commits c.args.known u h (subst (λ (t : ℕ). IsLastAt records t c.args.next.1 u) (sym c.in-Some.ensures.named) last) in
+    let works = c.in-Ok.ensures.works in
+    ok_as c.end_one.result _ _ (λ falls. keeps_few (omega (arith, falls, c.in-Ok.ensures.owed)) (keeps_then h.holds.log_holds.ready.blocks.honest works.geometry works.geometry works.calls (c.in-Ok.ensures.keeps newest records table commits c.args.known h)
+    (c.end_one.ensures.keeps c.undo_greatest.new.pages newest (records ++ first.some.more) table commits c.in-Ok.last works.going first.some.now))) c.end_one.ensures.falls
+
 pub returns-clause-keeps : goal.returns-clause-keeps
 returns-clause-keeps g c newest records table commits u h last =
     let first = c.in-Ok.ensures.updates newest records table commits c.args.known u h (subst (λ (t : ℕ). IsLastAt records t c.args.next.1 u) (sym c.in-Some.ensures.named) last) in

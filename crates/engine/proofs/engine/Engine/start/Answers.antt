@@ -33,7 +33,7 @@ pub returns-in-Err-clause-numbers : goal.returns-in-Err-clause-numbers
 returns-in-Err-clause-numbers g c honest quiet k newest blocks sound = restart_again c.in-Err.stop _ _ k _ _ _ (c.in-Err.ensures.numbers honest quiet k newest blocks sound)
 
 pub returns-in-Err-new-clause-numbers : goal.returns-in-Err-new-clause-numbers
-returns-in-Err-new-clause-numbers g c honest quiet k newest blocks sound = restart_stopped c.in-Ok.restarted c.in-Err-new.stop _ _ k _ _ _ (c.in-Ok.ensures.numbers honest quiet k newest blocks sound)
+returns-in-Err-new-clause-numbers g c honest quiet k newest blocks sound = restart_stopped c.in-Ok.restarted c.in-Err-new.stop _ _ k _ _ _ c.in-Err-new.ensures.memory (c.in-Ok.ensures.numbers honest quiet k newest blocks sound)
 
 pub returns-clause-numbers : goal.returns-clause-numbers
 returns-clause-numbers g c honest quiet k newest blocks sound = restart_answered c.in-Ok.restarted _ _ _ k _ _ _ refl (c.in-Ok.ensures.numbers honest quiet k newest blocks sound)

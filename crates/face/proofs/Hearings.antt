@@ -1,0 +1,149 @@
+-- What was heard of the input when a run ends.
+use Rattle.std.proofs.Common.{◌≡◌, ◌≢◌, ◌⊎◌, inl, inr, ⊎_elim, ℕ, suc, ◌+◌, ◌≤◌, Bool, true, false, List, [], ◌++◌, length, refl, sym, ◌∙◌, ap, arith}
+use Rattle.std.specs.Prelude.{Ok, Err}
+use Rattle.std.proofs.lemmas.List.{length-append}
+use Rattle.site.specs.State.{State as Site, Input}
+use Rattle.site.specs.declared.outside.Stop.TheVariants.{Device, Memory, Worn, Foreign}
+use Rattle.record_model.specs.Run.{Line, is_quit}
+use Rattle.face.specs.declared.halt.Halt.{Halt}
+use Rattle.face.specs.declared.halt.Halt.TheVariants as halt
+use Rattle.face.specs.declared.source.Source.{Source}
+use Rattle.face.specs.Hearing.{EndsHearing, HasTaken, HearsInTime, IsTooLong, WorkHears}
+use Rattle.face.specs.Lines.{HasEnded, HearsLine, IsCutOff, IsSource, limit, pending, to_hear, total}
+use Rattle.face.specs.Texts.{status_of}
+use Rattle.face.specs.Working.{HasHeard}
+use Rattle.face.proofs.Cuts.{Cut, has_heard_all, heard_line, input_failed, over_limit, quit_is_last, taken_by}
+
+-- where a run halts for another reason no more octets were taken than it may take
+ends_hearing : (h : Halt) (octets : List ℕ) → h ≢ halt.Limit → length octets ≤ limit → EndsHearing h octets
+ends_hearing (halt.Stop stop) octets ne few = few
+ends_hearing halt.Input octets ne few = few
+ends_hearing halt.Output octets ne few = few
+ends_hearing halt.Limit octets ne few = absurd (ne refl)
+
+taken_of : (n : ℕ) (octets : List ℕ) (ended : Bool) (old now : Site) → HasHeard n octets ended old now → HasTaken octets ended old now
+taken_of n octets ended old now heard = record { taken = heard.taken; end = heard.end }
+
+-- how many octets were taken
+count_of : (octets : List ℕ) (ended : Bool) (old now : Site) → HasTaken octets ended old now → length old.input.left ≡ length octets + length now.input.left
+count_of octets ended old now taken = ap length taken.taken ∙ length-append octets now.input.left
+
+-- none was taken
+pub hears_nothing : {T : Type 0} (h : Halt) (old new : Site) → h ≢ halt.Limit → new.input ≡ old.input → WorkHears {T = T} (Err h) old new
+hears_nothing h old new ne same = record {
+  octets = [];
+  ended = false;
+  has_taken = record { taken = sym (ap (λ (input : Input). input.left) same); end = λ no. cc };
+  all = tt;
+  stops = ends_hearing h [] ne (omega arith);
+}
+
+module _ (old mid : Site) (source : Source) (i : ℕ) (cut : Cut old.input.left source mid i) (is_source : IsSource source) where
+  -- taking failed
+  pub hears_cut : {T : Type 0} (h : Halt) (new : Site) → (h ≡ halt.Input) ⊎ (h ≡ halt.Limit) → IsCutOff h source.ended (total source mid) (to_hear source mid) new.input.left → WorkHears {T = T} (Err h) old new
+  hears_cut (halt.Stop stop) new which off = ⊎_elim (λ e. absurd cc) (λ e. absurd cc) which
+  hears_cut halt.Output new which off = ⊎_elim (λ e. absurd cc) (λ e. absurd cc) which
+  hears_cut halt.Input new which off =
+      let f = input_failed old.input.left source mid i cut is_source new.input.left off.octets off.rest off.none off.all_of_it off.going old new refl refl off.ends.0 off.ends.1 in
+      let taken = taken_of i (cut.octets ++ off.octets) false old new f.0 in
+      record {
+        octets = cut.octets ++ off.octets;
+        ended = false;
+        has_taken = taken;
+        all = tt;
+        stops = let many = count_of (cut.octets ++ off.octets) false old new taken in let all = cut.taken in let few = off.ends.1 in omega (arith, many, all, few);
+      }
+  hears_cut halt.Limit new which off =
+      let f = over_limit old.input.left source mid i cut is_source new.input.left off.octets off.rest off.none off.all_of_it off.going off.ends.0 off.ends.1 off.ends.2 old new refl refl in
+      record { octets = _; ended = false; has_taken = taken_of i _ false old new f.0; all = tt; stops = (f.2, f.1.1) }
+
+  -- the input was heard to its end
+  pub hears_end : {T : Type 0} (x : T) (new : Site) → to_hear source mid ≡ [] → new.input.left ≡ [] → WorkHears (Ok x) old new
+  hears_end x new none left =
+      let f = has_heard_all old.input.left source mid i cut is_source old new refl none left in
+      let taken = taken_of i cut.octets true old new f.0 in
+      record {
+        octets = cut.octets;
+        ended = true;
+        has_taken = taken;
+        all = (
+          inl refl,
+          (let many = count_of cut.octets true old new taken in let all = cut.taken in let few = is_source.few in
+              let end = sym (length-append (pending source) mid.input.left) ∙ ap length none in
+              omega (arith, many, all, few, end, ap length left)),
+        );
+        stops = tt;
+      }
+
+  -- a line was heard
+  module _ (source' : Source) (next : Site) (line : Line) (h : HearsLine line source.ended source'.ended (to_hear source mid) (to_hear source' next)) (ended : HasEnded source' next) (is' : IsSource source') (same : total source' next ≡ total source mid) (new : Site) (left : new.input ≡ next.input) where
+    abbrev all_taken : List ℕ
+    all_taken = taken_by old.input.left source mid i cut is_source source' next line h ended is'
+
+    line_taken : HasTaken all_taken source'.ended old new
+    line_taken = taken_of (suc i) all_taken source'.ended old new (heard_line old.input.left source mid i cut is_source source' next line h ended is' old new refl left)
+
+    few_taken : length all_taken ≤ limit
+    few_taken =
+        let many = count_of all_taken source'.ended old new line_taken in
+        let all = cut.taken in
+        let few = is'.few in
+        let stays : length new.input.left ≡ length next.input.left = ap (λ (input : Input). length input.left) left in
+        omega (arith, many, all, few, same, stays)
+
+    -- its answer failed
+    pub hears_answer : {T : Type 0} (fault : Halt) → fault ≢ halt.Limit → WorkHears {T = T} (Err fault) old new
+    hears_answer fault ne = record { octets = all_taken; ended = source'.ended; has_taken = line_taken; all = tt; stops = ends_hearing fault all_taken ne few_taken }
+
+    -- it was a quit
+    pub hears_quit : {T : Type 0} (x : T) → is_quit line ≡ true → WorkHears (Ok x) old new
+    hears_quit x quits = record {
+      octets = all_taken;
+      ended = source'.ended;
+      has_taken = line_taken;
+      all = (inr (quit_is_last old.input.left source mid i cut is_source source' next line h ended is' quits).1, few_taken);
+      stops = tt;
+    }
+
+-- By the status.
+
+pub heard_done : {T : Type 0} (x : T) (old new : Site) → WorkHears (Ok x) old new → HearsInTime 0 old new
+heard_done x old new w = record { octets = w.octets; ended = w.ended; has_taken = w.has_taken; all = λ zero. w.all.0; over = λ seven. absurd (omega (arith, seven)); within = λ ne. w.all.1 }
+
+over_by : (h : Halt) (status : ℕ) (octets : List ℕ) → status ≡ status_of h → EndsHearing h octets → status ≡ 7 → IsTooLong octets
+over_by (halt.Stop (Device dev)) status octets is ends e = absurd (omega (arith, is, e))
+over_by (halt.Stop Memory) status octets is ends e = absurd (omega (arith, is, e))
+over_by (halt.Stop (Worn dev)) status octets is ends e = absurd (omega (arith, is, e))
+over_by (halt.Stop Foreign) status octets is ends e = absurd (omega (arith, is, e))
+over_by halt.Input status octets is ends e = absurd (omega (arith, is, e))
+over_by halt.Output status octets is ends e = absurd (omega (arith, is, e))
+over_by halt.Limit status octets is ends e = ends
+
+within_by : (h : Halt) (status : ℕ) (octets : List ℕ) → status ≡ status_of h → EndsHearing h octets → status ≢ 7 → length octets ≤ limit
+within_by (halt.Stop stop) status octets is ends ne = ends
+within_by halt.Input status octets is ends ne = ends
+within_by halt.Output status octets is ends ne = ends
+within_by halt.Limit status octets is ends ne = absurd (ne is)
+
+some_status : (h : Halt) (status : ℕ) → status ≡ status_of h → status ≢ 0
+some_status (halt.Stop (Device dev)) status is e = omega (arith, is, e)
+some_status (halt.Stop Memory) status is e = omega (arith, is, e)
+some_status (halt.Stop (Worn dev)) status is e = omega (arith, is, e)
+some_status (halt.Stop Foreign) status is e = omega (arith, is, e)
+some_status halt.Input status is e = omega (arith, is, e)
+some_status halt.Output status is e = omega (arith, is, e)
+some_status halt.Limit status is e = omega (arith, is, e)
+
+-- behind which the fault line is told
+pub heard_halted : {T : Type 0} (h : Halt) (status : ℕ) (old mid new : Site) → status ≡ status_of h → new.input ≡ mid.input → WorkHears {T = T} (Err h) old mid → HearsInTime status old new
+heard_halted h status old mid new is same w = record {
+  octets = w.octets;
+  ended = w.ended;
+  has_taken = record {
+    taken = w.has_taken.taken ∙ ap (λ (input : Input). w.octets ++ input.left) (sym same);
+    end = λ e. ap (λ (input : Input). input.left) same ∙ w.has_taken.end e;
+  };
+  all = λ zero. absurd (some_status h status is zero);
+  over = over_by h status w.octets is w.stops;
+  within = within_by h status w.octets is w.stops;
+}
