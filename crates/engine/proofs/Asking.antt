@@ -12,7 +12,7 @@ use Rattle.sealed_ring.specs.Ring.{hi_of}
 use Rattle.image_changes.specs.Rings.{group_shape, units_on}
 use Rattle.frame_group.specs.Groups.{Frame, frames_in}
 use Rattle.second_chance.specs.Queue.{frame_of as known_of}
-use Rattle.page_store.proofs.StagingLaws.{still_leaves}
+use Rattle.page_store.proofs.StagingLaws.{last_after_reads, still_leaves}
 use Rattle.std.proofs.lemmas.List.{length-map}
 use Rattle.site.specs.Calls.{SameReads, IsUnchanged}
 use Rattle.std.specs.List.{range_with_len}
@@ -26,7 +26,7 @@ use Rattle.redo_undo.specs.MachineSteps.{one_touch, StepsMachine, NumbersRise, o
 use Rattle.redo_undo.specs.declared.store.Store.{Store}
 use Rattle.engine.specs.declared.engine.Engine.{Engine}
 use Rattle.engine.specs.Invariant.{Invariant}
-use Rattle.engine.specs.Paging.{AsksFrom, WritesFrom, cache_on}
+use Rattle.engine.specs.Paging.{AsksFrom, HasLastFrom, WritesFrom, cache_on}
 use Rattle.page_store.specs.Staging.{HasQueueOn, Stages, WritesOnly}
 use Rattle.site.proofs.Working.{err_again, no_error}
 use Rattle.redo_undo.specs.Stores.{MayWork}
@@ -165,3 +165,12 @@ writes_found rise g r works h r' works' start old mid new some quiet same sizes 
     (subst (λ (k : Cache). LeavesOnly mid new (λ (s : Snapshot). WritesOnly g (staged_by_works r works k) (next_group (after_works r works k)) mid.image s.image)) same_start
     (subst (λ (w : List CacheWork). WritesFrom g r w start mid new) same_works (subst (λ (x : Rules). WritesFrom g x works' start mid new) same_rules (subst (λ (x : Geometry). WritesFrom x r' works' start mid new) sizes writes)))) in
     in_sequence old mid new (Leaves P) (still_writes rise g r works old mid some quiet same) there
+
+-- what the disk has behind it
+pub last_found : (g : Geometry) (r : Rules) (works : List CacheWork) (h : Geometry) (r' : Rules) (works' : List CacheWork) (start : Cache) (old mid new : Site) → IsUnchanged old mid → h ≡ g → r' ≡ r → works' ≡ works → start ≡ cache_on g old.image →
+    HasLastFrom h r' works' start mid new → HasLastFrom g r works (cache_on g old.image) old new
+last_found g r works h r' works' start old mid new same sizes same_rules same_works same_start last =
+    let there : HasLastFrom g r works (cache_on g old.image) mid new =
+    subst (λ (k : Cache). HasLastFrom g r works k mid new) same_start
+    (subst (λ (w : List CacheWork). HasLastFrom g r w start mid new) same_works (subst (λ (x : Rules). HasLastFrom g x works' start mid new) same_rules (subst (λ (x : Geometry). HasLastFrom x r' works' start mid new) sizes last))) in
+    last_after_reads g (staged_by_works r works (cache_on g old.image)) old mid new same.past there

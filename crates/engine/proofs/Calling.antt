@@ -172,7 +172,7 @@ answered {P = P} is does reply asks = answered_as (λ o. P) is does reply asks
 
 -- nothing is asked
 pub asks_rest : {T : Type 0} {x : T} {pages : PageStore} {site : Site} → StepsMachine {T = T} (Ok x) [] pages pages site site
-asks_rest {T = T} {x = x} {pages = pages} {site = site} = asks_nothing {T = T} (Ok x) pages site site (λ dev. refl) (no_error {T = T} {x = x} {e = Worn Flash}) (stages_none (omega arith) refl)
+asks_rest {T = T} {x = x} {pages = pages} {site = site} = asks_nothing {T = T} (Ok x) pages site site (λ dev. refl) (no_error {T = T} {x = x} {e = Worn Flash}) (stages_none refl (omega arith) refl)
 
 -- a command that is refused, or only answers: nothing is called
 pub does_nothing : {T : Type 0} {x : T} {engine : Engine} {site : Site} {s : State} {P : Snapshot → Type 0} → Matches engine site s → Invariant engine site → (IsQuiet site → LeavesOnly site site P) → Does {T = T} (Ok x) engine engine site site s s P 0

@@ -11,6 +11,7 @@ use Rattle.log_records.specs.Sound.{Picture}
 use Rattle.frame_group.specs.Groups.{frames_in}
 use Rattle.second_chance.specs.Queue.{Queue}
 use Rattle.flash_cache.specs.Representation.{queue_of}
+use Rattle.flash_cache.specs.OnDisk.{HasLastStaged}
 use Rattle.sealed_ring.specs.Ring.{hi_of}
 use Rattle.second_chance.specs.Machine.{Rules, Cache, after_works, staged_by_works}
 use Rattle.page_store.specs.declared.store.PageStore.{PageStore}
@@ -40,6 +41,10 @@ abbrev pub WritesFrom : Geometry → Rules → List CacheWork → Cache → Stat
 WritesFrom g r works start before now =
     LeavesOnly before now (λ s. WritesOnly g (staged_by_works r works start) (next_group (after_works r works start))
     before.image s.image)
+
+-- and behind it the disk has of the frames that this work stages those that were staged last
+abbrev pub HasLastFrom : Geometry → Rules → List CacheWork → Cache → State → State → Type 0
+HasLastFrom g r works start before now = HasLastStaged g (staged_by_works r works start) before now
 
 -- A call that opens pages asks for this work, beginning with a cache. At Ok the machine has done it. It answers that
 -- flash is worn only where the work overflows. Beside so many reads of flash that find the queue it reads no more pages

@@ -1,5 +1,5 @@
 -- What a restart leaves.
-use Rattle.std.specs.Prelude.{◌≡◌, ◌+◌, ◌<◌, ◌≤◌, false, List, length, Option, Result, IfOk, IfErr, ℕ}
+use Rattle.std.specs.Prelude.{◌≡◌, ◌+◌, ◌<◌, ◌≤◌, false, List, length, Option, Result, IfOk, IfErr, OnOk, ℕ}
 use Rattle.site.specs.declared.outside.Stop.{Stop}
 use Rattle.site.specs.State.{State, IsQuiet}
 use Rattle.sealed_ring.specs.Ready.{IsUsable, Finds}
@@ -25,7 +25,7 @@ use Rattle.engine.specs.Image.{log_under}
 use Rattle.engine.specs.Leaves.{LeavesTable}
 use Rattle.engine.specs.Calls.{Ends}
 use Rattle.engine.specs.Numbers.{RestartsWithin}
-use Rattle.engine.specs.Paging.{AsksFrom, WritesFrom, restart_works}
+use Rattle.engine.specs.Paging.{AsksFrom, HasLastFrom, WritesFrom, restart_works}
 use Rattle.site.specs.Work.{Calls}
 use Rattle.analysis.specs.Laws.{OneTable, TableOfUnfinished, OwedOfUnfinished}
 use Rattle.analysis.specs.Taken.{TakenCommits}
@@ -82,6 +82,9 @@ pub record Recovers (result : Result Restarted Stop) (opened : Opened) (before n
   pub writes : IsQuiet before → WritesFrom opened.pages.flash.geometry (rules opened.pages)
       (restart_works (picture_under newest opened.pages.flash.geometry before.image blocks))
       (cache_of opened.pages) before now
+  pub last : IsQuiet before → OnOk result (HasLastFrom opened.pages.flash.geometry (rules opened.pages)
+      (restart_works (picture_under newest opened.pages.flash.geometry before.image blocks))
+      (cache_of opened.pages) before now)
 
 -- the laws of the layers below on what a restart takes of a log
 pub record RecoveryLaws : Type 0 where

@@ -1,6 +1,6 @@
 // The database.
 ghost use Rattle.std.specs.Prelude.{Option, ◌≡◌, ◌+◌, ◌*◌, ◌/◌, ◌^◌, ◌<◌, ◌≤◌, nat_le, List, true, false, Some, None};
-ghost use Rattle.std.specs.Prelude.{option_map, IsTrue, IfSome, IfNone, IfOk, IfErr, ℕ};
+ghost use Rattle.std.specs.Prelude.{option_map, IsTrue, IfSome, IfNone, IfOk, IfErr, OnOk, ℕ};
 ghost use Rattle.site.specs.declared.outside.Stop.{Stop};
 ghost use Rattle.site.specs.declared.geometry.Geometry.{Geometry};
 ghost use Rattle.site.specs.State.{State as Site, IsQuiet};
@@ -26,7 +26,7 @@ ghost use Rattle.engine.specs.Calls.{Ends};
 ghost use Rattle.engine.specs.Numbers.{RestartsWithin};
 ghost use Rattle.engine.specs.LogReads.{restart_log_reads};
 ghost use Rattle.site.specs.Work.{Calls};
-ghost use Rattle.engine.specs.Paging.{WritesFrom};
+ghost use Rattle.engine.specs.Paging.{HasLastFrom, WritesFrom};
 
 use crate::restart::restart;
 use lock_table::LockTable;
@@ -91,6 +91,12 @@ impl Engine {
             → WritesFrom g (rules_of pool g.groups)
             (restart_works (picture_under newest g (S.state site.old).image blocks))
             (cache_on g (S.state site.old).image) (S.state site.old) (S.state site.new) }
+        ensures last { IsTrue (S.state site.old).honest → IsQuiet (S.state site.old)
+            → (g : Geometry) (newest : Option Master) (blocks : List (List LogRecord))
+            → IsSound newest g (S.state site.old).image blocks
+            → OnOk result (HasLastFrom g (rules_of pool g.groups)
+            (restart_works (picture_under newest g (S.state site.old).image blocks))
+            (cache_on g (S.state site.old).image) (S.state site.old) (S.state site.new)) }
 
         // Of every site.
         ensures calls { Calls result (S.state site.old) (S.state site.new) }

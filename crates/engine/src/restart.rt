@@ -28,7 +28,7 @@ ghost use Rattle.engine.specs.Numbers.{RestartsWithin};
 ghost use Rattle.engine.specs.LogReads.{restart_log_reads};
 ghost use Rattle.page_store.specs.Caching.{cache_of};
 ghost use Rattle.second_chance.specs.Machine.{rules_of};
-ghost use Rattle.engine.specs.Paging.{WritesFrom};
+ghost use Rattle.engine.specs.Paging.{HasLastFrom, WritesFrom};
 
 use analysis::{Analysis, losers_are_taken, table_of_records};
 use checkpoint::{Master, Pairs, newest, one_master};
@@ -274,6 +274,12 @@ pub fn restart<S: Site>(alloc: Global, site: &mut S, pool: u32) -> Result<Restar
         → IsSound newest g (S.state site.old).image blocks
         → WritesFrom g (rules_of pool g.groups) (restart_works (picture_under newest g (S.state site.old).image blocks))
         (cache_on g (S.state site.old).image) (S.state site.old) (S.state site.new) }
+    ensures last { IsTrue (S.state site.old).honest → IsQuiet (S.state site.old)
+        → (g : Geometry) (newest : Option Master) (blocks : List (List LogRecord))
+        → IsSound newest g (S.state site.old).image blocks
+        → OnOk result (HasLastFrom g (rules_of pool g.groups)
+        (restart_works (picture_under newest g (S.state site.old).image blocks))
+        (cache_on g (S.state site.old).image) (S.state site.old) (S.state site.new)) }
 
     // Of every site.
     ensures restarts { Restarts result pool (S.state site.old) (S.state site.new) }

@@ -18,12 +18,13 @@ use Rattle.redo_undo.specs.Holding.{IsLogWorn}
 use Rattle.face.specs.declared.halt.Halt.{Halt}
 use Rattle.face.specs.declared.halt.Halt.TheVariants as halt
 use Rattle.face.specs.Headline.{Resources}
-use Rattle.face.specs.Range.{AsksNoMore, LeavesItsQueue, LeavesVersions, NeverWears, SkipsNoNumber, WearsLog, WearsOut, cache_by}
+use Rattle.face.specs.Range.{AsksNoMore, LeavesItsQueue, LeavesStaged, LeavesVersions, NeverWears, SkipsNoNumber, WearsLog, WearsOut, cache_by, staged_by_run}
 use Rattle.face.specs.Run.{Run, answered, first_lines, turns_of}
 use Rattle.face.specs.Texts.{fault_line}
 use Rattle.face.specs.Working.{Demands}
 use Rattle.face.proofs.Counted.{skips_still}
-use Rattle.face.proofs.Pagings.{few_told, leaves_its_queue, leaves_versions, never_wears}
+use Rattle.face.proofs.Pagings.{few_told, leaves_its_queue, leaves_staged, leaves_versions, never_wears}
+use Rattle.page_store.proofs.StagingLaws.{last_still}
 
 no_error : {T : Type 0} (x : T) (h : Halt) → IsErrOf {T = T} (Ok x) h → ⊥
 no_error x h is = cc
@@ -32,12 +33,12 @@ same_halt : {T : Type 0} (h is : Halt) → IsErrOf {T = T} (Err h) is → h ≡ 
 same_halt h is same = cc
 
 module _ (pool : ℕ) (run : Run) (old new : Site) where
-  pub demands_ok : {T : Type 0} (x : T) → NeverWears pool run old.image → LeavesItsQueue pool run old.image new.image → LeavesVersions pool run old.image new.image → SealsNoMore pool run old.image new.image → SkipsNoNumber run old new → AsksNoMore pool run old new →
+  pub demands_ok : {T : Type 0} (x : T) → NeverWears pool run old.image → LeavesItsQueue pool run old.image new.image → LeavesVersions pool run old.image new.image → LeavesStaged pool run old new → SealsNoMore pool run old.image new.image → SkipsNoNumber run old new → AsksNoMore pool run old new →
       Demands pool run old new (Ok x)
-  demands_ok x room queue versions seals numbers reads = record { seals = seals; worn = λ is. absurd (no_error x (halt.Stop (Worn Flash)) is); worn_log = λ is. absurd (no_error x (halt.Stop (Worn Log)) is); room = room; queue = queue; versions = versions; numbers = numbers; reads = reads }
+  demands_ok x room queue versions staged seals numbers reads = record { seals = seals; worn = λ is. absurd (no_error x (halt.Stop (Worn Flash)) is); worn_log = λ is. absurd (no_error x (halt.Stop (Worn Log)) is); room = room; queue = queue; versions = versions; staged = staged; numbers = numbers; reads = reads }
 
   pub demands_err : {T : Type 0} (h : Halt) → (h ≡ halt.Stop (Worn Flash) → WearsOut pool run old.image) → (h ≡ halt.Stop (Worn Log) → WearsLog run old.image) → SkipsNoNumber run old new → AsksNoMore pool run old new → Demands {T = T} pool run old new (Err h)
-  demands_err {T} h worn log numbers reads = record { worn = λ is. worn (same_halt {T = T} h (halt.Stop (Worn Flash)) is); worn_log = λ is. log (same_halt {T = T} h (halt.Stop (Worn Log)) is); room = tt; queue = tt; versions = tt; seals = tt; numbers = numbers; reads = reads }
+  demands_err {T} h worn log numbers reads = record { worn = λ is. worn (same_halt {T = T} h (halt.Stop (Worn Flash)) is); worn_log = λ is. log (same_halt {T = T} h (halt.Stop (Worn Log)) is); room = tt; queue = tt; versions = tt; seals = tt; staged = tt; numbers = numbers; reads = reads }
 
 -- where something more is told
 module _ (pool : ℕ) (run : Run) (old mid new : Site) (image : new.image ≡ mid.image) (reads : SameReads mid new) {piece : List ℕ} (tells : EachMoment mid new (TellsPart piece mid)) where
@@ -47,6 +48,7 @@ module _ (pool : ℕ) (run : Run) (old mid new : Site) (image : new.image ≡ mi
   pub demands_done : {T U : Type 0} (x : T) (y : U) → Demands pool run old mid (Ok x) → Demands pool run old new (Ok y)
   demands_done x y d = demands_ok pool run old new y d.room (λ newest blocks sound. ap (λ (i : Image). cache_on run.geometry i) image ∙ d.queue newest blocks sound)
       (λ newest blocks sound. subst (λ (i : Image). VersionsAreSeen run.geometry (cache_by pool run (turns_of run) newest old.image blocks).pool i (left_by run.opening (turns_of run))) (sym image) (d.versions newest blocks sound))
+      (λ newest blocks sound. last_still run.geometry (staged_by_run pool run (turns_of run) newest old.image blocks) old mid new (d.reads newest blocks sound).writes.grown tells.grown (ap (λ (i : Image). i.disk) image) (d.staged newest blocks sound))
       (λ newest blocks sound. let same = ap (λ (i : Image). hi_of (log_shape run.geometry) i.log) image in let seals = d.seals newest blocks sound in omega (arith, same, seals))
       (skips_still run piece old mid new tells d.numbers) (still_reads d.reads)
 
@@ -65,6 +67,7 @@ module _ (pool : ℕ) (run : Run) (n : ℕ) (old new : Site) where
     frames = λ zero. leaves_its_queue pool run n all old.image new.image d.queue;
     versions = λ zero. leaves_versions pool run n all old.image new.image d.versions;
     seals = λ zero. seals_all pool run n all old.image new.image d.seals;
+    staged = λ zero. leaves_staged pool run n all old new d.staged;
     numbers = d.numbers;
     reads = d.reads;
   }
@@ -76,6 +79,7 @@ module _ (pool : ℕ) (run : Run) (n : ℕ) (old new : Site) where
     frames = λ zero. absurd (some zero);
     versions = λ zero. absurd (some zero);
     seals = λ zero. absurd (some zero);
+    staged = λ zero. absurd (some zero);
     numbers = d.numbers;
     reads = d.reads;
   }

@@ -24,7 +24,7 @@ use Rattle.engine.specs.declared.engine.Engine.{Engine}
 use Rattle.face.specs.Causes.{HasCause, AnswerFailsBy}
 use Rattle.face.specs.Lines.{HasEnded, to_hear, total, IsSource, HearsLine, Hears, IsCutOff}
 use Rattle.site.specs.declared.outside.Dev.TheVariants.{Log, Flash, Disk}
-use Rattle.face.specs.Range.{AsksNoMore, HasBegun, IsLeft, LeavesItsQueue, LeavesVersions, ListsTheMachine, NeverWears, SkipsNoNumber, WearsLog, WearsOut}
+use Rattle.face.specs.Range.{AsksNoMore, HasBegun, IsLeft, LeavesItsQueue, LeavesStaged, LeavesVersions, ListsTheMachine, NeverWears, SkipsNoNumber, WearsLog, WearsOut, WritesAsTold}
 use Rattle.face.specs.Run.{Run, first_lines}
 use Rattle.face.specs.Working.{AnswersFirst, HasHeard, Stops, StopsTaking, RunOutcome}
 use Rattle.face.specs.Going.{Going}
@@ -34,6 +34,7 @@ use Rattle.face.proofs.Demanded.{demands_err, demands_ok}
 use Rattle.face.proofs.Lefts.{left_first}
 use Rattle.face.proofs.Listed.{no_turn}
 use Rattle.face.proofs.Waits.{answers_none}
+use Rattle.face.proofs.Written.{written_opened}
 
 -- taking wasn't what failed
 pub not_taking : (h : Halt) (run : Run) (i : ℕ) (octets : List ℕ) (old new : Site) → (h ≢ halt.Input) × (h ≢ halt.Limit) → StopsTaking h run i octets old new
@@ -68,10 +69,11 @@ never_opened pool run old new h stops ne left worn log numbers reads = record {
   done = tt;
   demands = demands_err pool (first_lines run 0) old new h worn log numbers reads;
   listed = lists_nothing pool run old.image;
+  written = written_opened pool run old new stops.any_moment reads;
   answers = answers_none run old new left;
 }
 
-module _ (pool : ℕ) (run : Run) (old mid new : Site) (engine : Engine) (source : Source) (i : ℕ) (cut : Cut old.input.left source mid i) (is_source : IsSource source) (going : Going run old new engine i) (listed : ListsTheMachine pool (first_lines run i) old.image) (reads : AsksNoMore pool (first_lines run i) old new) (answers : AnswersFirst run i old new) where
+module _ (pool : ℕ) (run : Run) (old mid new : Site) (engine : Engine) (source : Source) (i : ℕ) (cut : Cut old.input.left source mid i) (is_source : IsSource source) (going : Going run old new engine i) (listed : ListsTheMachine pool (first_lines run i) old.image) (reads : AsksNoMore pool (first_lines run i) old new) (answers : AnswersFirst run i old new) (written : WritesAsTold pool run i old new) where
   -- taking failed within a line
   pub taking_failed : {T : Type 0} (h : Halt) → (h ≡ halt.Input) ⊎ (h ≡ halt.Limit) → IsCutOff h source.ended (total source mid) (to_hear source mid) new.input.left → SkipsNoNumber (first_lines run i) old new → RunOutcome {T = T} pool run old new (Err h)
   taking_failed (halt.Stop stop) which off numbers = ⊎_elim (λ e. absurd cc) (λ e. absurd cc) which
@@ -88,6 +90,7 @@ module _ (pool : ℕ) (run : Run) (old mid new : Site) (engine : Engine) (source
         done = tt;
         demands = demands_err pool (first_lines run i) old new halt.Input (λ e. cc) (λ e. cc) numbers reads;
         listed = listed;
+        written = written;
         answers = answers;
       }
   taking_failed halt.Limit which off numbers =
@@ -102,13 +105,14 @@ module _ (pool : ℕ) (run : Run) (old mid new : Site) (engine : Engine) (source
         done = tt;
         demands = demands_err pool (first_lines run i) old new halt.Limit (λ e. cc) (λ e. cc) numbers reads;
         listed = listed;
+        written = written;
         answers = answers;
       }
 
   -- there are no more lines
-  pub finished : {T : Type 0} (x : T) → to_hear source mid ≡ [] → new.input.left ≡ [] → NeverWears pool (first_lines run i) old.image → LeavesItsQueue pool (first_lines run i) old.image new.image → LeavesVersions pool (first_lines run i) old.image new.image → SealsNoMore pool (first_lines run i) old.image new.image → SkipsNoNumber (first_lines run i) old new →
+  pub finished : {T : Type 0} (x : T) → to_hear source mid ≡ [] → new.input.left ≡ [] → NeverWears pool (first_lines run i) old.image → LeavesItsQueue pool (first_lines run i) old.image new.image → LeavesVersions pool (first_lines run i) old.image new.image → LeavesStaged pool (first_lines run i) old new → SealsNoMore pool (first_lines run i) old.image new.image → SkipsNoNumber (first_lines run i) old new →
       RunOutcome pool run old new (Ok x)
-  finished x none left room queue versions seals numbers =
+  finished x none left room queue versions staged seals numbers =
       let f = has_heard_all old.input.left source mid i cut is_source old new refl none left in
       record {
         heard = i;
@@ -118,13 +122,14 @@ module _ (pool : ℕ) (run : Run) (old mid new : Site) (engine : Engine) (source
         stops = tt;
         begun = begun_before run old new engine i going;
         done = (inl refl, f.1, going.moments, ended run old new engine i going, going.quiet);
-        demands = demands_ok pool (first_lines run i) old new x room queue versions seals numbers reads;
+        demands = demands_ok pool (first_lines run i) old new x room queue versions staged seals numbers reads;
         listed = listed;
+        written = written;
         answers = answers;
       }
 
 module _ (pool : ℕ) (run : Run) (old mid next new : Site) (source source' : Source) (i : ℕ) (cut : Cut old.input.left source mid i) (is_source : IsSource source) (line : Line) (h : HearsLine line source.ended source'.ended (to_hear source mid) (to_hear source' next))
-    (last : HasEnded source' next) (is' : IsSource source') (left : new.input ≡ next.input) (listed : ListsTheMachine pool (first_lines run (suc i)) old.image) (reads : AsksNoMore pool (first_lines run (suc i)) old new) (answers : AnswersFirst run (suc i) old new) where
+    (last : HasEnded source' next) (is' : IsSource source') (left : new.input ≡ next.input) (listed : ListsTheMachine pool (first_lines run (suc i)) old.image) (reads : AsksNoMore pool (first_lines run (suc i)) old new) (answers : AnswersFirst run (suc i) old new) (written : WritesAsTold pool run (suc i) old new) where
   has_heard_it : HasHeard (suc i) (taken_by old.input.left source mid i cut is_source source' next line h last is') source'.ended old new
   has_heard_it = heard_line old.input.left source mid i cut is_source source' next line h last is' old new refl left
 
@@ -140,13 +145,14 @@ module _ (pool : ℕ) (run : Run) (old mid next new : Site) (source source' : So
     done = tt;
     demands = demands_err pool (first_lines run (suc i)) old new fault worn log numbers reads;
     listed = listed;
+    written = written;
     answers = answers;
   }
 
   -- a quit was answered
-  pub quitted : {T : Type 0} (x : T) (engine : Engine) → is_quit line ≡ true → Going run old new engine (suc i) → NeverWears pool (first_lines run (suc i)) old.image → LeavesItsQueue pool (first_lines run (suc i)) old.image new.image → LeavesVersions pool (first_lines run (suc i)) old.image new.image → SealsNoMore pool (first_lines run (suc i)) old.image new.image → SkipsNoNumber (first_lines run (suc i)) old new →
+  pub quitted : {T : Type 0} (x : T) (engine : Engine) → is_quit line ≡ true → Going run old new engine (suc i) → NeverWears pool (first_lines run (suc i)) old.image → LeavesItsQueue pool (first_lines run (suc i)) old.image new.image → LeavesVersions pool (first_lines run (suc i)) old.image new.image → LeavesStaged pool (first_lines run (suc i)) old new → SealsNoMore pool (first_lines run (suc i)) old.image new.image → SkipsNoNumber (first_lines run (suc i)) old new →
       RunOutcome pool run old new (Ok x)
-  quitted x engine quits going room queue versions seals numbers =
+  quitted x engine quits going room queue versions staged seals numbers =
       let all = quit_is_last old.input.left source mid i cut is_source source' next line h last is' quits in
       record {
         heard = suc i;
@@ -156,8 +162,9 @@ module _ (pool : ℕ) (run : Run) (old mid next new : Site) (source source' : So
         stops = tt;
         begun = begun_before run old new engine (suc i) going;
         done = (inr all.1, all.0, going.moments, ended run old new engine (suc i) going, going.quiet);
-        demands = demands_ok pool (first_lines run (suc i)) old new x room queue versions seals numbers reads;
+        demands = demands_ok pool (first_lines run (suc i)) old new x room queue versions staged seals numbers reads;
         listed = listed;
+        written = written;
         answers = answers;
       }
 

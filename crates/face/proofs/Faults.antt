@@ -44,6 +44,7 @@ use Rattle.face.proofs.Runs.{texts_count}
 use Rattle.face.proofs.Meanings.{stands_by}
 use Rattle.face.proofs.SerialRuns.{run_is_serial, told_is_serial}
 use Rattle.face.proofs.Ranges.{IsFault, is_left, all_text}
+use Rattle.face.proofs.Written.{written_same, written_told}
 
 output_or_not : (h : Halt) → (h ≡ halt.Output) ⊎ (h ≢ halt.Output)
 output_or_not (halt.Stop stop) = inr (λ e. cc)
@@ -242,6 +243,7 @@ module _ (pool : ℕ) (g : Geometry) (opening : State) (listings : List (List Ca
           asked = asked_halted pool own works.heard old new {T = T} h status (λ zero. not_zero h (sym is ∙ zero)) (λ eight. worn_by g opening h old new good cause (sym is ∙ eight))
               (demands_failed pool (first_lines own works.heard) old mid new same_devices.image told.reads tells h (subst (λ (r : Run). Demands {T = T} pool r old mid (Err h)) (sym front) works.demands));
           listed = subst (λ (r : Run). ListsTheMachine pool r old.image) (sym front) works.listed;
+          written = written_same pool run lines works.heard heard.same old new (written_told pool run works.heard (fault_line h) old mid new tells works.written);
         };
         order = record {
           serial = run_is_serial law g opening old good works.ended works.octets listings;
@@ -283,6 +285,7 @@ module _ (pool : ℕ) (g : Geometry) (opening : State) (listings : List (List Ca
           has_begun = begun_same run lines works.heard same old new new [] 0 (sym (append-nil new.told)) heard.enough works.begun;
           asked = asked_done pool own works.heard old new x whole (subst (λ (r : Run). Demands pool r old new (Ok x)) (sym front) works.demands);
           listed = subst (λ (r : Run). ListsTheMachine pool r old.image) (sym front) works.listed;
+          written = written_same pool run lines works.heard same old new works.written;
         };
         order = record {
           serial = run_is_serial law g opening old good works.ended works.octets listings;

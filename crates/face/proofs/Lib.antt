@@ -43,4 +43,5 @@ mod Waits
 mod WordLaws
 mod WordLists
 mod Writings
+mod Written
 mod Zeros

@@ -19,7 +19,7 @@ use Rattle.checkpoint.specs.declared.master.Master.{Master}
 use Rattle.log_records.specs.declared.log_record.LogRecord.{LogRecord}
 use Rattle.second_chance.specs.Machine.{listing}
 use Rattle.face.specs.Causes.{FailsBy}
-use Rattle.face.specs.Range.{ListsTheMachine, cache_by}
+use Rattle.face.specs.Range.{ListsTheMachine, WritesAsTold, cache_by}
 use Rattle.face.specs.Run.{Run, Begins, IsAsked, step, answered, first_lines, listings_left, listing_at, state_at, turns_of}
 use Rattle.face.specs.Working.{AnswersFirst}
 use Rattle.face.specs.Going.{Going, IsPaged, IsUnderWay}
@@ -104,6 +104,9 @@ module _ (pool : ℕ) (entry mid : Site) (engine : Engine) (i : ℕ) (so_far : I
 
     pub answers_before : AnswersFirst run i entry mid
     answers_before = so_far.answers run (asked line (listing_of engine) ++ later) begins before
+
+    pub written_before : WritesAsTold pool run i entry mid
+    written_before = so_far.written run (asked line (listing_of engine) ++ later) begins before
 
     pub is_asked : IsAsked line (listing_of engine) (listing_at run i)
     is_asked = λ asks. ap next_listing (so_far.left run (asked line (listing_of engine) ++ later) begins before) ∙ first_asked line (listing_of engine) later asks

@@ -5,7 +5,7 @@ use Rattle.face.specs.Filled.{octets_of}
 use Rattle.face.proofs.Fillings.{first_fill, next_there}
 use Rattle.flash_cache.specs.Representation.{start_reads}
 use Rattle.std.proofs.Common.{◌≡◌, ◌⊎◌, inl, inr, ⊎_elim, ℕ, zero, suc, ◌+◌, ◌-◌, ◌*◌, ◌<◌, ◌≤◌, ◌^◌, Bool, true, List, [], ◌++◌, length, take, drop, refl, sym, ◌∙◌, ap, subst, arith, take-append-drop}
-use Rattle.std.specs.Prelude.{Option, Result, Ok, Err, IsErrOf, count_by}
+use Rattle.std.specs.Prelude.{Option, Result, Ok, Err, IsErrOf, OnOk, count_by}
 use Rattle.std.proofs.lemmas.Bool.{cases_lt}
 use Rattle.std.proofs.lemmas.List.{append-nil, length-take-le, take_all, take-take}
 use Rattle.site.specs.declared.geometry.Geometry.{Geometry}
@@ -28,8 +28,8 @@ use Rattle.redo_undo.proofs.RingNumbers.{leaves_more}
 use Rattle.image_meaning.specs.Meaning.{picture_under}
 use Rattle.second_chance.specs.Machine.{Cache, Rules, after_works, opened, rules_of}
 use Rattle.page_store.specs.Caching.{cache_of, rules}
-use Rattle.engine.specs.Paging.{WritesFrom}
-use Rattle.face.proofs.Writings.{engine_queue, writes_then}
+use Rattle.engine.specs.Paging.{HasLastFrom, WritesFrom}
+use Rattle.face.proofs.Writings.{engine_queue, last_works, writes_then}
 use Rattle.redo_undo.specs.MachineSteps.{next_group, ReadsAddUp, ReadsFor, WorksAddUp}
 use Rattle.engine.specs.declared.engine.Engine.{Engine}
 use Rattle.engine.specs.Invariant.{Invariant, sizes_of}
@@ -43,7 +43,9 @@ use Rattle.face.specs.declared.halt.Halt.TheVariants as halt
 use Rattle.face.specs.declared.request.Load.{Load}
 use Rattle.face.specs.Going.{Going, IsCounted, IsPaged}
 use Rattle.face.specs.Loads.{CarriesFirst, CarriesOut, HasBegunLoad, IsLeftOf, IsOpened, IsUntold, LeavesSome, LoadStops, LoadWorks}
-use Rattle.face.specs.Range.{AsksNoMore, IsLeft, SkipsNoNumber, StandsAfter, WearsLog, WearsOut, all_commits, cache_by, first_texts, run_of, texts}
+use Rattle.flash_cache.specs.OnDisk.{HasLastStaged}
+use Rattle.site.proofs.Working.{ok_as}
+use Rattle.face.specs.Range.{AsksNoMore, IsLeft, LeavesStaged, SkipsNoNumber, StandsAfter, WearsLog, WearsOut, all_commits, cache_by, first_texts, run_of, staged_by_run, texts}
 use Rattle.face.specs.Run.{AsksFew, Run, StandsFor, after_lines, answered, checkpoints_of, first_lines, works_of, turns_of, log_reads_of}
 use Rattle.face.specs.Working.{StandsNear, Stops, asked_after, log_reads_after}
 use Rattle.face.specs.Texts.{status_of}
@@ -272,6 +274,24 @@ module _ (g : Geometry) (opening : State) (load : Load) where
                   ((some.course.serves opening going.fits).writes (engine_queue before mid opening goes_on going.fits) going.quiet))));
             })
 
+        staged_are : LeavesStaged load.pool (first_lines opening_run 0) old mid → (newest : Option Master) (blocks : List (List LogRecord)) → IsSound newest g old.image blocks →
+            OnOk result (HasLastStaged g (staged_by_run load.pool run (turns_of (first_lines run some.begun)) newest old.image blocks) old new)
+        staged_are staged newest blocks sound =
+            let p = paged newest blocks sound in
+            let r = rules_of load.pool g.groups in
+            let opening_works = asked_after opening_run newest old.image blocks 0 in
+            let serves = some.course.serves opening going.fits in
+            let has = engine_queue before mid opening goes_on going.fits in
+            let written = subst (λ (c : Cache). WritesFrom g r (works_of opening first) c mid new) p.machine
+            (subst (λ (x : Rules). WritesFrom g x (works_of opening first) (cache_of before.store.pages) mid new) p.rules_are
+            (subst (λ (x : Geometry). WritesFrom x (rules before.store.pages) (works_of opening first) (cache_of before.store.pages) mid new) going.geometry (serves.writes has going.quiet))) in
+            let own = subst (λ (c : Cache). OnOk result (HasLastFrom g r (works_of opening first) c mid new)) p.machine
+            (subst (λ (x : Rules). OnOk result (HasLastFrom g x (works_of opening first) (cache_of before.store.pages) mid new)) p.rules_are
+            (subst (λ (x : Geometry). OnOk result (HasLastFrom x (rules before.store.pages) (works_of opening first) (cache_of before.store.pages) mid new)) going.geometry (serves.last has going.quiet))) in
+            ok_as result _ (HasLastStaged g (staged_by_run load.pool run (turns_of (first_lines run some.begun)) newest old.image blocks) old new)
+            (λ more. subst (λ (w : List CacheWork). HasLastFrom g r w (cache_on g old.image) old new) (sym (first_asked some.begun newest old.image blocks))
+            (last_works g r opening_works (works_of opening first) (cache_on g old.image) old mid new (read newest blocks sound).writes written (staged newest blocks sound) more)) own
+
         left_new : new.input ≡ old.input
         left_new = some.course.left going.fits.honest ∙ left
 
@@ -294,8 +314,8 @@ module _ (g : Geometry) (opening : State) (load : Load) where
         left = left_new (Err h) some;
       }
 
-      pub load_finished : {T : Type 0} → QueueIsOnFlash → WhereItFits → (x : T) → CarriesOut (Ok x) run.lines before after mid new → LoadWorks {T = T} load.pool run [] old new (Ok x)
-      load_finished {T} law seen x course =
+      pub load_finished : {T : Type 0} → QueueIsOnFlash → WhereItFits → LeavesStaged load.pool (first_lines opening_run 0) old mid → (x : T) → CarriesOut (Ok x) run.lines before after mid new → LoadWorks {T = T} load.pool run [] old new (Ok x)
+      load_finished {T} law seen staged x course =
           let some = carries_all x run.lines before after mid new course in
           record {
             stops = tt;
@@ -326,6 +346,7 @@ module _ (g : Geometry) (opening : State) (load : Load) where
                 (subst (λ (y : Geometry). VersionsAreSeen y cache.pool new.image (after_lines opening run.lines [])) (course.sizes ∙ going.geometry)
                 (subst (λ (c : Cache). VersionsAreSeen (sizes_of after.store) c.pool new.image (after_lines opening run.lines [])) ((some.course.serves opening going.fits).machine ∙ next_is (Ok x) some newest blocks sound)
                 (seen after new (after_lines opening run.lines []) (course.fits opening going.fits)))))
+                (staged_are (Ok x) some staged)
                 (λ newest blocks sound.
                 let there : after.store.log.ring.hi ≡ hi_of (log_shape run.geometry) new.image.log =
                 next_there after new (after_lines opening run.lines []) (course.fits opening going.fits) course.going ∙ ap (λ (y : Geometry). hi_of (log_shape y) new.image.log) (course.sizes ∙ going.geometry) in

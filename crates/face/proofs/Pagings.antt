@@ -29,7 +29,7 @@ use Rattle.site.specs.State.{IsQuiet}
 use Rattle.page_store.proofs.StagingLaws.{stages_none}
 use Rattle.engine.proofs.Asking.{still_writes}
 use Rattle.face.specs.Lines.{HearsOnly}
-use Rattle.face.proofs.Writings.{writes_told, writes_heard, writes_then}
+use Rattle.face.proofs.Writings.{last_heard, last_told, last_works, writes_told, writes_heard, writes_then}
 use Rattle.redo_undo.specs.MachineSteps.{next_group, Overflows, StepsMachine, NumbersRise, ReadsAddUp, ReadsFor, WorksAddUp, OverflowsWithMore}
 use Rattle.engine.specs.declared.engine.Engine.{Engine}
 use Rattle.engine.specs.Representation.{Matches}
@@ -37,7 +37,7 @@ use Rattle.engine.specs.Invariant.{Invariant, sizes_of}
 use Rattle.engine.specs.Listings.{QueueIsOnFlash}
 use Rattle.engine.specs.SeenVersions.{VersionsAreSeen, WhereItFits}
 use Rattle.engine.specs.Image.{IsSound}
-use Rattle.engine.specs.Paging.{WritesFrom, AsksFrom, restart_works, cache_on}
+use Rattle.engine.specs.Paging.{HasLastFrom, WritesFrom, AsksFrom, restart_works, cache_on}
 use Rattle.face.specs.declared.halt.Halt.TheVariants as halt
 use Rattle.face.specs.Lines.{commands_of, up_to_quit}
 use Rattle.face.proofs.Fronts.{first_commands, state_by_turns, turns_first, whole_turns}
@@ -46,7 +46,8 @@ use Rattle.face.proofs.LinesBeforeQuit.{works_join}
 use Rattle.face.proofs.Turns.{first_answered}
 use Rattle.site.specs.declared.geometry.Geometry.{Geometry}
 use Rattle.face.specs.Going.{IsPaged, LineStepsMachine}
-use Rattle.face.specs.Range.{run_of, works_by, cache_by, LeavesItsQueue, LeavesVersions, WearsOut, NeverWears, log_reads_in}
+use Rattle.flash_cache.specs.OnDisk.{HasLastStaged}
+use Rattle.face.specs.Range.{run_of, works_by, cache_by, staged_by_run, LeavesItsQueue, LeavesStaged, LeavesVersions, WearsOut, NeverWears, log_reads_in}
 use Rattle.face.specs.Run.{Run, answered, first_lines, step, after_lines, state_at, works_of, AsksFew, turns_of, line_log_reads, log_reads_of}
 use Rattle.face.specs.Working.{asked_after, log_reads_after}
 
@@ -259,6 +260,27 @@ module _ (pool : ℕ) (run : Run) (newest : Option Master) (image : Image) (bloc
               (subst (λ (g : Geometry). WritesFrom g (rules engine.store.pages) (line_touches true (state_at run i) line) (cache_of engine.store.pages) next new) sizes written)));
         })
 
+    -- what the disk has behind it
+    pub next_last : (entry mid next new : Site) → entry.image ≡ image → HearsOnly mid next → AsksFew pool run.geometry (asked_after run newest image blocks i) (log_reads_after run newest blocks i) entry mid → engine.store.pages.flash.geometry ≡ run.geometry →
+        WritesFrom engine.store.pages.flash.geometry (rules engine.store.pages) (line_touches true (state_at run i) line) (cache_of engine.store.pages) next new → HasLastFrom run.geometry r (asked_after run newest image blocks i) (cache_on run.geometry entry.image) entry mid →
+        HasLastFrom engine.store.pages.flash.geometry (rules engine.store.pages) (line_touches true (state_at run i) line) (cache_of engine.store.pages) next new → HasLastFrom run.geometry r (asked_after run newest image blocks (suc i)) (cache_on run.geometry entry.image) entry new
+    next_last entry mid next new at same so_far sizes written last own =
+        let line_works = line_touches true (state_at run i) line in
+        let start = cache_on run.geometry entry.image in
+        let first = asked_after run newest image blocks i in
+        let there : cache_of engine.store.pages ≡ after_works r first start =
+        paged.machine ∙ ap (λ (x : Image). after_works r first (cache_on run.geometry x)) (sym at) in
+        subst (λ (w : List CacheWork). HasLastFrom run.geometry r w start entry new) (sym (asked_next run newest image blocks i line rest is))
+        (last_works run.geometry r first line_works start entry next new
+        (writes_heard run.geometry r first start entry mid next so_far.writes same)
+        (subst (λ (c : Cache). WritesFrom run.geometry r line_works c next new) there
+        (subst (λ (x : Rules). WritesFrom run.geometry x line_works (cache_of engine.store.pages) next new) paged.rules_are
+        (subst (λ (g : Geometry). WritesFrom g (rules engine.store.pages) line_works (cache_of engine.store.pages) next new) sizes written)))
+        (last_heard run.geometry r first start entry mid next same last)
+        (subst (λ (c : Cache). HasLastFrom run.geometry r line_works c next new) there
+        (subst (λ (x : Rules). HasLastFrom run.geometry x line_works (cache_of engine.store.pages) next new) paged.rules_are
+        (subst (λ (g : Geometry). HasLastFrom g (rules engine.store.pages) line_works (cache_of engine.store.pages) next new) sizes own))))
+
     -- it isn't, since flash is worn
     pub next_worn : Overflows (rules engine.store.pages) (line_touches true (state_at run i) line) (cache_of engine.store.pages) → Overflows r (asked_after run newest image blocks (suc i)) (cache_on run.geometry image)
     next_worn over = subst (λ (c : Cache). 2 ^ 40 < next_group c) next_is over
@@ -286,7 +308,7 @@ module _ (pool : ℕ) (run : Run) (newest : Option Master) (image : Image) (bloc
 
 -- a line that asks for nothing
 pub idle_asks : {T : Type 0} (x : T) (pages : PageStore) (now : Site) → StepsMachine {T = T} (Ok x) [] pages pages now now
-idle_asks {T} x pages now = record { machine = refl; worn = λ is. absurd (no_error is); reads = record { flash = omega arith; disk = omega arith }; rules_are = refl; stages = stages_none (omega arith) refl }
+idle_asks {T} x pages now = record { machine = refl; worn = λ is. absurd (no_error is); reads = record { flash = omega arith; disk = omega arith }; rules_are = refl; stages = stages_none refl (omega arith) refl }
   where
     no_error : IsErrOf {T = T} {E = Stop} (Ok x) (Worn Flash) → ⊥
     no_error is = cc
@@ -295,7 +317,7 @@ pub idle_line : {T : Type 0} (x : T) (works : List CacheWork) (pages : PageStore
 idle_line {T} x works pages now none = subst (λ (w : List CacheWork). StepsMachine {T = T} (Ok x) w pages pages now now) (sym none) (idle_asks x pages now)
 
 pub idle_stops : {T : Type 0} (stop : Stop) (pages : PageStore) (now : Site) → stop ≡ Memory → StepsMachine {T = T} (Err stop) [] pages pages now now
-idle_stops {T} stop pages now memory = record { machine = tt; worn = λ is. absurd (other (same is)); reads = record { flash = omega arith; disk = omega arith }; rules_are = refl; stages = stages_none (omega arith) refl }
+idle_stops {T} stop pages now memory = record { machine = tt; worn = λ is. absurd (other (same is)); reads = record { flash = omega arith; disk = omega arith }; rules_are = refl; stages = stages_none tt (omega arith) refl }
   where
     same : IsErrOf {T = T} (Err stop) (Worn Flash) → stop ≡ Worn Flash
     same is = cc
@@ -309,19 +331,19 @@ listing_asks (Err stop) pages now stops = idle_stops stop pages now stops
 
 -- a call of the engine, as a line is served
 pub serves_ok : {A B : Type 0} (a : A) (b : B) (works : List CacheWork) (n : ℕ) (old new : PageStore) (before mid now : Site) → SameReads mid now → mid.log_reads ≤ before.log_reads + n → {piece : List ℕ} → (IsTrue before.honest → EachMoment mid now (TellsPart piece mid)) → StepsMachine {T = A} (Ok a) works old new before mid → LineStepsMachine {T = B} (Ok b) works n old new before now
-serves_ok {A} {B} a b works n old new before mid now same read {piece} tells asks = record { log_reads = let none : now.log_reads ≡ mid.log_reads = same Log in omega (arith, read, none); machine = asks.machine; worn = λ is. absurd (no_error is); reads = reads_still (rules old) works (cache_of old) before mid now same asks.reads; rules_are = asks.rules_are; writes = λ has quiet. writes_told old.flash.geometry (rules old) works (cache_of old) piece before mid now (asks.stages.writes has quiet) (tells has.fits.honest); geometry = asks.stages.sizes }
+serves_ok {A} {B} a b works n old new before mid now same read {piece} tells asks = record { log_reads = let none : now.log_reads ≡ mid.log_reads = same Log in omega (arith, read, none); machine = asks.machine; worn = λ is. absurd (no_error is); reads = reads_still (rules old) works (cache_of old) before mid now same asks.reads; rules_are = asks.rules_are; writes = λ has quiet. writes_told old.flash.geometry (rules old) works (cache_of old) piece before mid now (asks.stages.writes has quiet) (tells has.fits.honest); last = λ has quiet. last_told old.flash.geometry (rules old) works (cache_of old) piece before mid now (asks.stages.writes has quiet).grown (tells has.fits.honest) (asks.stages.last has quiet); geometry = asks.stages.sizes }
   where
     no_error : IsErrOf {T = B} (Ok b) (halt.Stop (Worn Flash)) → ⊥
     no_error is = cc
 
 pub serves_err : {A B : Type 0} (stop : Stop) (works : List CacheWork) (n : ℕ) (old new : PageStore) (before now : Site) → now.log_reads ≤ before.log_reads + n → StepsMachine {T = A} (Err stop) works old new before now → LineStepsMachine {T = B} (Err (halt.Stop stop)) works n old new before now
-serves_err {A} {B} stop works n old new before now read asks = record { log_reads = read; machine = tt; worn = λ is. asks.worn (ap Err (same is)); reads = asks.reads; rules_are = asks.rules_are; writes = asks.stages.writes; geometry = asks.stages.sizes }
+serves_err {A} {B} stop works n old new before now read asks = record { log_reads = read; machine = tt; worn = λ is. asks.worn (ap Err (same is)); reads = asks.reads; rules_are = asks.rules_are; writes = asks.stages.writes; last = λ has quiet. tt; geometry = asks.stages.sizes }
   where
     same : IsErrOf {T = B} (Err (halt.Stop stop)) (halt.Stop (Worn Flash)) → stop ≡ Worn Flash
     same is = cc
 
 pub serves_lost : {A B : Type 0} (a : A) (works : List CacheWork) (n : ℕ) (old new : PageStore) (before mid now : Site) → SameReads mid now → mid.log_reads ≤ before.log_reads + n → {piece : List ℕ} → (IsTrue before.honest → EachMoment mid now (TellsPart piece mid)) → StepsMachine {T = A} (Ok a) works old new before mid → LineStepsMachine {T = B} (Err halt.Output) works n old new before now
-serves_lost {A} {B} a works n old new before mid now same read {piece} tells asks = record { log_reads = let none : now.log_reads ≡ mid.log_reads = same Log in omega (arith, read, none); machine = tt; worn = λ is. absurd (no_error is); reads = reads_still (rules old) works (cache_of old) before mid now same asks.reads; rules_are = asks.rules_are; writes = λ has quiet. writes_told old.flash.geometry (rules old) works (cache_of old) piece before mid now (asks.stages.writes has quiet) (tells has.fits.honest); geometry = asks.stages.sizes }
+serves_lost {A} {B} a works n old new before mid now same read {piece} tells asks = record { log_reads = let none : now.log_reads ≡ mid.log_reads = same Log in omega (arith, read, none); machine = tt; worn = λ is. absurd (no_error is); reads = reads_still (rules old) works (cache_of old) before mid now same asks.reads; rules_are = asks.rules_are; writes = λ has quiet. writes_told old.flash.geometry (rules old) works (cache_of old) piece before mid now (asks.stages.writes has quiet) (tells has.fits.honest); last = λ has quiet. tt; geometry = asks.stages.sizes }
   where
     no_error : IsErrOf {T = B} (Err halt.Output) (halt.Stop (Worn Flash)) → ⊥
     no_error is = cc
@@ -347,6 +369,10 @@ taken_first false left octets rest is none =
     let first = first_commands true octets rest in
     let front = up_front (commands_of false octets) first.0 in
     (front.0, ap (λ (l : List ℕ). up_to_quit (commands_of true l)) is ∙ ap up_to_quit first.1 ∙ front.1)
+
+pub leaves_staged : (pool : ℕ) (run : Run) (n : ℕ) → length (answered run) ≤ n → (old new : Site) → LeavesStaged pool (first_lines run n) old new → LeavesStaged pool run old new
+leaves_staged pool run n few old new last newest blocks sound =
+    subst (λ (l : List Turn). HasLastStaged run.geometry (staged_by_run pool run l newest old.image blocks) old new) (whole_turns run n few) (last newest blocks sound)
 
 -- Where all of a run's lines are among the first ones, what holds of these holds of it.
 module _ (pool : ℕ) (run : Run) (n : ℕ) (few : length (answered run) ≤ n) (image : Image) where

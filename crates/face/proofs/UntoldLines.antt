@@ -19,8 +19,10 @@ use Rattle.page_store.specs.declared.store.PageStore.{PageStore}
 use Rattle.page_store.specs.Caching.{cache_of, rules}
 use Rattle.flash_cache.specs.Representation.{IsWorn}
 use Rattle.redo_undo.specs.Holding.{IsLogWorn}
-use Rattle.engine.specs.Paging.{WritesFrom}
-use Rattle.face.proofs.Writings.{engine_queue, writes_then, writes_nothing}
+use Rattle.engine.specs.Paging.{HasLastFrom, WritesFrom}
+use Rattle.site.proofs.Working.{ok_as}
+use Rattle.page_store.proofs.StagingLaws.{last_none}
+use Rattle.face.proofs.Writings.{engine_queue, last_works, writes_then, writes_nothing}
 use Rattle.redo_undo.specs.MachineSteps.{next_group, ReadsAddUp, ReadsFor, WorksAddUp}
 use Rattle.engine.specs.declared.engine.Engine.{Engine}
 use Rattle.engine.specs.Representation.{Matches}
@@ -38,7 +40,7 @@ use Rattle.engine.proofs.RingCounts.{count_then}
 use Rattle.redo_undo.proofs.RingNumbers.{ok_no_error}
 use Rattle.face.proofs.Counted.{checkpoints_join, counts_as, counts_err, counts_none}
 use Rattle.face.proofs.Logs.{fits_stands}
-use Rattle.face.proofs.LinesBeforeQuit.{after_join, works_join}
+use Rattle.face.proofs.LinesBeforeQuit.{after_cons, after_join, works_join}
 
 -- what is left of some lines is left of more
 pub leaves_first : (g : Geometry) (s : State) (first later : List Line) (told : List ℕ) (snapshot : Snapshot) → LeavesSome g s first told snapshot → LeavesSome g s (first ++ later) told snapshot
@@ -91,7 +93,7 @@ carries_none {T} x engine site rest going = record {
   });
   last = λ s fits quiet snapshot left. (0, omega arith, subst (λ (i : Image). StandsFor (sizes_of engine.store) i s) (sym (image_is (now_of site) snapshot quiet left)) (fits_stands engine site s going.store.both.sizes fits));
   fits = λ s fits. fits;
-  serves = λ s fits. record { log_reads = omega arith; machine = refl; worn = λ is. absurd (no_error is); reads = record { flash = omega arith; disk = omega arith }; rules_are = refl; writes = λ has calm. writes_nothing engine.store.pages site has calm; geometry = refl };
+  serves = λ s fits. record { log_reads = omega arith; machine = refl; worn = λ is. absurd (no_error is); reads = record { flash = omega arith; disk = omega arith }; rules_are = refl; writes = λ has calm. writes_nothing engine.store.pages site has calm; last = λ has calm. last_none engine.store.pages.flash.geometry [] site site refl; geometry = refl };
   numbers = λ s fits quiet. counts_none (Ok x) engine site s rest fits going quiet (ok_no_error x (halt.Stop (Worn Log)));
   fills = λ s fits quiet. fills_same 0 engine;
   left = λ honest. refl;
@@ -112,7 +114,7 @@ carries_with {T} {U} x y lines a b old new one = record {
   any_moment = one.any_moment;
   last = one.last;
   fits = one.fits;
-  serves = λ s fits. let serves = one.serves s fits in record { log_reads = serves.log_reads; machine = serves.machine; worn = λ is. absurd (no_error is); reads = serves.reads; rules_are = serves.rules_are; writes = serves.writes; geometry = serves.geometry };
+  serves = λ s fits. let serves = one.serves s fits in record { log_reads = serves.log_reads; machine = serves.machine; worn = λ is. absurd (no_error is); reads = serves.reads; rules_are = serves.rules_are; writes = serves.writes; last = serves.last; geometry = serves.geometry };
   numbers = λ s fits quiet. counts_as x (Ok y) a b old new s _ _ (ok_no_error y (halt.Stop (Worn Log))) (one.numbers s fits quiet);
   fills = one.fills;
   left = one.left;
@@ -185,6 +187,20 @@ module _ {T U : Type 0} (add : WorksAddUp) (reads_add : ReadsAddUp) (x : T) (res
             (back.writes (engine_queue b mid (after_lines s first []) one.going mine) (one.stays_quiet fits.honest quiet)))) in
             subst (λ (w : List CacheWork). WritesFrom a.store.pages.flash.geometry (rules a.store.pages) w (cache_of a.store.pages) old new) (sym (works_join s first later))
             (writes_then a.store.pages.flash.geometry (rules a.store.pages) (works_of s first) (works_of (after_lines s first []) later) (cache_of a.store.pages) old mid new has.room (front.writes has quiet) second);
+        last = λ has quiet.
+            let mine = one.fits s fits in
+            let second : WritesFrom a.store.pages.flash.geometry (rules a.store.pages) (works_of (after_lines s first []) later) (after_works (rules a.store.pages) (works_of s first) (cache_of a.store.pages)) mid new =
+            subst (λ (z : Cache). WritesFrom a.store.pages.flash.geometry (rules a.store.pages) (works_of (after_lines s first []) later) z mid new) front.machine
+            (subst (λ (r : Rules). WritesFrom a.store.pages.flash.geometry r (works_of (after_lines s first []) later) (cache_of b.store.pages) mid new) front.rules_are
+            (subst (λ (g : Geometry). WritesFrom g (rules b.store.pages) (works_of (after_lines s first []) later) (cache_of b.store.pages) mid new) front.geometry
+            (back.writes (engine_queue b mid (after_lines s first []) one.going mine) (one.stays_quiet fits.honest quiet)))) in
+            let own = subst (λ (z : Cache). OnOk result (HasLastFrom a.store.pages.flash.geometry (rules a.store.pages) (works_of (after_lines s first []) later) z mid new)) front.machine
+            (subst (λ (r : Rules). OnOk result (HasLastFrom a.store.pages.flash.geometry r (works_of (after_lines s first []) later) (cache_of b.store.pages) mid new)) front.rules_are
+            (subst (λ (g : Geometry). OnOk result (HasLastFrom g (rules b.store.pages) (works_of (after_lines s first []) later) (cache_of b.store.pages) mid new)) front.geometry
+            (back.last (engine_queue b mid (after_lines s first []) one.going mine) (one.stays_quiet fits.honest quiet)))) in
+            ok_as result _ (HasLastFrom a.store.pages.flash.geometry (rules a.store.pages) (works_of s (first ++ later)) (cache_of a.store.pages) old new)
+            (λ more. subst (λ (w : List CacheWork). HasLastFrom a.store.pages.flash.geometry (rules a.store.pages) w (cache_of a.store.pages) old new) (sym (works_join s first later))
+            (last_works a.store.pages.flash.geometry (rules a.store.pages) (works_of s first) (works_of (after_lines s first []) later) (cache_of a.store.pages) old mid new (front.writes has quiet) second (front.last has quiet) more)) own;
         geometry = back.geometry ∙ front.geometry;
       }
 
@@ -218,7 +234,7 @@ carries_err {T} {U} h lines a b old new one = record {
   any_moment = one.any_moment;
   last = one.last;
   fits = λ s fits. tt;
-  serves = λ s fits. let serves = one.serves s fits in record { log_reads = serves.log_reads; machine = tt; worn = λ is. serves.worn (ap Err (same_halt is)); reads = serves.reads; rules_are = serves.rules_are; writes = serves.writes; geometry = serves.geometry };
+  serves = λ s fits. let serves = one.serves s fits in record { log_reads = serves.log_reads; machine = tt; worn = λ is. serves.worn (ap Err (same_halt is)); reads = serves.reads; rules_are = serves.rules_are; writes = serves.writes; last = λ has calm. tt; geometry = serves.geometry };
   numbers = λ s fits quiet. counts_err h h a b old new s _ _ (λ is. is) (one.numbers s fits quiet);
   fills = λ s fits quiet. tt;
   left = one.left;

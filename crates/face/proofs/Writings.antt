@@ -1,8 +1,9 @@
 -- What a run writes, one line after the other.
-use Rattle.std.proofs.Common.{◌≤◌, ℕ, List, [], ◌++◌, refl, arith, sym, ap, subst}
+use Rattle.std.proofs.Common.{◌≡◌, ◌≤◌, ℕ, List, [], ◌++◌, refl, arith, sym, ap, subst}
 use Rattle.site.specs.declared.geometry.Geometry.{Geometry}
 use Rattle.site.specs.State.{State as Site, Snapshot, Image, IsQuiet}
-use Rattle.site.specs.Moments.{EachMoment, Leaves, LeavesOnly}
+use Rattle.site.specs.Moments.{EachMoment, Leaves, LeavesOnly, since}
+use Rattle.flash_cache.specs.OnDisk.{HasLastStaged}
 use Rattle.site.specs.Telling.{TellsPart}
 use Rattle.site.specs.Laws.{in_sequence, leaves_weaker, holds_now, tell_leaves, calm, now_same, unchanged, no_call}
 use Rattle.record_model.specs.Touches.{CacheWork}
@@ -10,13 +11,13 @@ use Rattle.record_model.specs.State.{State}
 use Rattle.second_chance.specs.Machine.{Rules, Cache, Staged, after_works, staged_by_works}
 use Rattle.page_store.specs.Caching.{cache_of, rules, next_group}
 use Rattle.page_store.specs.Staging.{WritesOnly, HasQueueOn}
-use Rattle.page_store.proofs.StagingLaws.{among_first, written_weaker, written_then, fits_queue, still_leaves}
+use Rattle.page_store.proofs.StagingLaws.{last_still, last_then, last_unmoved, among_first, written_weaker, written_then, fits_queue, still_leaves}
 use Rattle.page_store.specs.declared.store.PageStore.{PageStore}
 use Rattle.redo_undo.proofs.Costs.{works_add_up, staged_add_up, more_next}
 use Rattle.engine.specs.declared.engine.Engine.{Engine}
 use Rattle.engine.specs.Representation.{Matches}
 use Rattle.engine.specs.Invariant.{Invariant}
-use Rattle.engine.specs.Paging.{WritesFrom}
+use Rattle.engine.specs.Paging.{HasLastFrom, WritesFrom}
 use Rattle.face.specs.Lines.{HearsOnly}
 
 -- the queue of a database that fits is the one on flash
@@ -60,6 +61,26 @@ writes_then g r first later start old mid new some one two =
     (leaves_weaker mid new (λ s. WritesOnly g more next' mid.image s.image) P (λ s is. written_then g staged more next next' old.image mid.image s.image stands is) two) in
     subst (λ (n : ℕ). LeavesOnly old new (λ (s : Snapshot). WritesOnly g (staged_by_works r (first ++ later) start) n old.image s.image)) (sym all)
     (subst (λ (l : List Staged). LeavesOnly old new (λ (s : Snapshot). WritesOnly g l next' old.image s.image)) (sym (staged_add_up r first later start)) joined)
+
+-- What the disk has of the frames that were staged last.
+
+-- behind it something is told
+pub last_told : (g : Geometry) (r : Rules) (works : List CacheWork) (start : Cache) (piece : List ℕ) (old mid new : Site) → mid.past ≡ old.past ++ since old mid → EachMoment mid new (TellsPart piece mid) → HasLastFrom g r works start old mid → HasLastFrom g r works start old new
+last_told g r works start piece old mid new grown tells last = last_still g (staged_by_works r works start) old mid new grown tells.grown (ap (λ (i : Image). i.disk) tells.now.image) last
+
+-- or heard
+pub last_heard : (g : Geometry) (r : Rules) (works : List CacheWork) (start : Cache) (old mid new : Site) → HearsOnly mid new → HasLastFrom g r works start old mid → HasLastFrom g r works start old new
+last_heard g r works start old mid new same last = last_unmoved g (staged_by_works r works start) old mid new same.past (ap (λ (i : Image). i.disk) same.image) last
+
+-- work behind work
+pub last_works : (g : Geometry) (r : Rules) (first later : List CacheWork) (start : Cache) (old mid new : Site) → WritesFrom g r first start old mid → WritesFrom g r later (after_works r first start) mid new → HasLastFrom g r first start old mid → HasLastFrom g r later (after_works r first start) mid new →
+    HasLastFrom g r (first ++ later) start old new
+last_works g r first later start old mid new one two last more =
+    let staged = staged_by_works r first start in
+    let others = staged_by_works r later (after_works r first start) in
+    let next = next_group (after_works r later (after_works r first start)) in
+    let written : WritesOnly g others next mid.image new.image = holds_now mid new (λ (s : Snapshot). WritesOnly g others next mid.image s.image) two in
+    subst (λ (l : List Staged). HasLastStaged g l old new) (sym (staged_add_up r first later start)) (last_then g staged others old mid new one.grown two.grown written.disk last more)
 
 -- no work
 pub writes_nothing : (pages : PageStore) (site : Site) → HasQueueOn pages site → IsQuiet site → WritesFrom pages.flash.geometry (rules pages) [] (cache_of pages) site site

@@ -15,7 +15,7 @@ use Rattle.second_chance.specs.Machine.{rules_of, after_works}
 use Rattle.page_store.specs.declared.store.PageStore.{PageStore}
 use Rattle.page_store.specs.Caching.{cache_of, next_group, rules}
 use Rattle.redo_undo.specs.MachineSteps.{Overflows, ReadsFor}
-use Rattle.engine.specs.Paging.{WritesFrom, cache_on}
+use Rattle.engine.specs.Paging.{HasLastFrom, WritesFrom, cache_on}
 use Rattle.page_store.specs.Staging.{HasQueueOn}
 use Rattle.face.specs.declared.halt.Halt.{Halt}
 use Rattle.face.specs.declared.halt.Halt.TheVariants.{Stop}
@@ -25,7 +25,7 @@ use Rattle.sealed_ring.specs.Ring.{hi_of}
 use Rattle.image_changes.specs.Rings.{log_shape}
 use Rattle.log_records.specs.Unfinished.{owed}
 use Rattle.face.specs.Filled.{filled, octets_in}
-use Rattle.face.specs.Range.{GivesNumbers, IsLeft, ListsTheMachine, blocks_by, first_texts}
+use Rattle.face.specs.Range.{GivesNumbers, IsLeft, ListsTheMachine, WritesAsTold, blocks_by, first_texts}
 use Rattle.face.specs.Run.{Run, Begins, answered, first_lines, state_at, listings_left, turns_of}
 use Rattle.face.specs.Working.{AnswersFirst, asked_after}
 
@@ -50,6 +50,8 @@ pub record IsUnderWay (pool : ℕ) (entry now : Site) (engine : Engine) (lines :
       Going run entry now engine lines
   pub listed : (run : Run) (later : List (List CacheLine)) → Begins run entry → run.listings ≡ listings ++ later →
       ListsTheMachine pool (first_lines run lines) entry.image
+  pub written : (run : Run) (later : List (List CacheLine)) → Begins run entry → run.listings ≡ listings ++ later →
+      WritesAsTold pool run lines entry now
   pub answers : (run : Run) (later : List (List CacheLine)) → Begins run entry → run.listings ≡ listings ++ later →
       AnswersFirst run lines entry now
 
@@ -79,5 +81,7 @@ pub record LineStepsMachine {T : Type 0} (result : Result T Halt) (works : List 
   pub log_reads : now.log_reads ≤ before.log_reads + times
   pub writes : HasQueueOn old before → IsQuiet before →
       WritesFrom old.flash.geometry (rules old) works (cache_of old) before now
+  pub last : HasQueueOn old before → IsQuiet before →
+      OnOk result (HasLastFrom old.flash.geometry (rules old) works (cache_of old) before now)
   pub geometry : new.flash.geometry ≡ old.flash.geometry
   pub rules_are : rules new ≡ rules old

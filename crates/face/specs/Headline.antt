@@ -26,6 +26,7 @@ use Rattle.face.specs.Range.{run_of, texts, run_text, IsLeft, IsWhole, WearsOut,
 use Rattle.face.specs.Waiting.{NobodyWaits}
 use Rattle.face.specs.Range.{LeavesItsQueue, LeavesVersions, SkipsNoNumber, AsksNoMore, ListsTheMachine, HasBegun}
 use Rattle.face.specs.Range.{WearsLog}
+use Rattle.face.specs.Range.{LeavesStaged, WritesAsTold}
 
 -- an honest and quiet site, whose image is sound, and over which a run opens with this state
 pub record IsGood (g : Geometry) (opening : State) (site : Site) : Type 0 where
@@ -116,6 +117,8 @@ pub record Resources (pool : ℕ) (run : Run) (begun : ℕ) (fault : List ℕ) (
   pub versions : status ≡ 0 → LeavesVersions pool run old.image new.image
   -- and no more blocks of the log are sealed than what is logged fills
   pub seals : status ≡ 0 → SealsNoMore pool run old.image new.image
+  -- and each page that it has staged is on the disk as the frame that was staged last
+  pub staged : status ≡ 0 → LeavesStaged pool run old new
   -- whatever the status, with these lines no ring number is skipped on the log's device
   pub numbers : SkipsNoNumber (first_lines run begun) old new
   -- no more is read and written than they ask for
@@ -129,6 +132,8 @@ pub record RunResources (pool : ℕ) (run : Run) (fault : List ℕ) (old new : S
   pub asked : Resources pool run begun fault old new status
   -- what they are told of the cache is what the machine lists
   pub listed : ListsTheMachine pool (first_lines run begun) old.image
+  -- and no snapshot is written by lines that weren't begun by what it has told
+  pub written : WritesAsTold pool run begun old new
 
 -- its transactions are in serial order, and so is what it tells of them
 pub record SerialOrder (run : Run) : Type 0 where

@@ -3,6 +3,7 @@ use Rattle.std.specs.Prelude.{◌≡◌, ◌⊎◌, ℕ, ◌+◌, ◌<◌, ◌�
 use Rattle.std.specs.Prelude.{slice_index_or}
 use Rattle.std.specs.Prelude.{flat_map, count_by, Option}
 use Rattle.site.specs.State.{State as Site, Snapshot, Image}
+use Rattle.site.specs.Moments.{LeavesOnly}
 use Rattle.site.specs.declared.geometry.Geometry.{Geometry}
 use Rattle.record_model.specs.declared.words.CacheLine.{CacheLine}
 use Rattle.record_model.specs.State.{State}
@@ -12,7 +13,9 @@ use Rattle.record_model.specs.Touches.{CacheWork, run_touches}
 use Rattle.log_records.specs.declared.log_record.LogRecord.{LogRecord}
 use Rattle.checkpoint.specs.declared.master.Master.{Master}
 use Rattle.image_meaning.specs.Meaning.{picture_under}
-use Rattle.second_chance.specs.Machine.{Cache, rules_of, after_works, listing, opened}
+use Rattle.second_chance.specs.Machine.{Cache, Staged, rules_of, after_works, staged_by_works, listing, opened}
+use Rattle.flash_cache.specs.OnDisk.{HasLastStaged}
+use Rattle.page_store.specs.Staging.{WritesOnly}
 use Rattle.redo_undo.specs.MachineSteps.{next_group}
 use Rattle.redo_undo.specs.Numbers.{HasNumbers, PassesEnd}
 use Rattle.site.specs.Moments.{LeavesOnly}
@@ -27,7 +30,7 @@ use Rattle.log_records.specs.Unfinished.{owed}
 use Rattle.face.specs.Workload.{checkpoints_in}
 use Rattle.shell_text.specs.Runs.{texts as run_texts}
 use Rattle.face.specs.Lines.{commands_of}
-use Rattle.face.specs.Run.{Run, IsFront, AsksFew, line_log_reads, turns_of}
+use Rattle.face.specs.Run.{Run, IsFront, AsksFew, line_log_reads, first_lines, turns_of}
 
 -- the run that opens with this state, over the lines of these octets, with these listings of the cache
 abbrev pub run_of : Geometry → State → Bool → List ℕ → List (List CacheLine) → Run
@@ -126,6 +129,12 @@ cache_by pool run done newest image blocks =
     after_works (rules_of pool run.geometry.groups) (works_by run done newest image blocks)
     (cache_on run.geometry image)
 
+-- and it stages these frames meanwhile
+abbrev pub staged_by_run : ℕ → Run → List Turn → Option Master → Image → List (List LogRecord) → List Staged
+staged_by_run pool run done newest image blocks =
+    staged_by_works (rules_of pool run.geometry.groups) (works_by run done newest image blocks)
+    (cache_on run.geometry image)
+
 -- the run appends to a ring of groups that stands at its end
 abbrev pub WearsOut : ℕ → Run → Image → Type 0
 WearsOut pool run image = (newest : Option Master) (blocks : List (List LogRecord)) →
@@ -152,6 +161,12 @@ LeavesVersions pool run old now = (newest : Option Master) (blocks : List (List 
     IsSound newest run.geometry old blocks →
     VersionsAreSeen run.geometry (cache_by pool run (turns_of run) newest old blocks).pool now
     (left_by run.opening (turns_of run))
+
+-- and the disk has of the frames that the run stages those that were staged last
+abbrev pub LeavesStaged : ℕ → Run → Site → Site → Type 0
+LeavesStaged pool run old new = (newest : Option Master) (blocks : List (List LogRecord)) →
+    IsSound newest run.geometry old.image blocks →
+    HasLastStaged run.geometry (staged_by_run pool run (turns_of run) newest old.image blocks) old new
 
 -- each line that asks for the listing of the cache is replied what the cache machine lists after the restart's work and
 -- that of the lines before it
@@ -181,6 +196,25 @@ AsksNoMore pool run old new =
     (newest : Option Master) (blocks : List (List LogRecord)) → IsSound newest run.geometry old.image blocks
     → AsksFew pool run.geometry (works_by run (turns_of run) newest old.image blocks)
     (log_reads_by_turns run (turns_of run) newest blocks) old new
+
+-- What a crash leaves while at most so many lines are begun. Some number of them was begun by then: what the run tells
+-- before the last of these is told. It has no more groups than the restart and these append, and each disk page that
+-- they don't stage as it was at entry.
+pub record WritesSoFar (pool : ℕ) (run : Run) (lines : ℕ) (newest : Option Master) (blocks : List (List LogRecord))
+    (old : Site) (snapshot : Snapshot) : Type 0 where
+  pub begun : ℕ
+  pub few : begun ≤ lines
+  pub rest : List ℕ
+  pub told : snapshot.told ≡ old.told ++ (first_texts run begun ++ rest)
+  pub only : WritesOnly run.geometry (staged_by_run pool run (turns_of (first_lines run begun)) newest old.image blocks)
+      (next_group (cache_by pool run (turns_of (first_lines run begun)) newest old.image blocks))
+      old.image snapshot.image
+
+-- each snapshot is written by no more lines than were begun by what it has told
+abbrev pub WritesAsTold : ℕ → Run → ℕ → Site → Site → Type 0
+WritesAsTold pool run lines old new =
+    (newest : Option Master) (blocks : List (List LogRecord)) → IsSound newest run.geometry old.image blocks
+    → LeavesOnly old new (WritesSoFar pool run lines newest blocks old)
 
 -- So many lines were begun: what the run tells before the last of them is told, the opening's text and the replies of
 -- the others, then a front of the last one's reply, or all of it, and of a fault line a front.

@@ -15,9 +15,10 @@ use Rattle.face.specs.declared.halt.Halt.{Halt}
 use Rattle.face.specs.declared.halt.Halt.TheVariants.{Stop, Output, Input, Limit}
 use Rattle.face.specs.Filled.{SealsNoMore}
 use Rattle.face.specs.Lines.{HeardAll, answered_of, commands_of, limit}
-use Rattle.face.specs.Range.{AsksNoMore, HasBegun, IsLeft, IsWhole, LeavesItsQueue, LeavesVersions, ListsTheMachine}
-use Rattle.face.specs.Range.{NeverWears, SkipsNoNumber, StandsAfter, WearsOut, first_texts, log_reads_by_turns, texts}
-use Rattle.face.specs.Range.{WearsLog, works_by}
+use Rattle.face.specs.Range.{AsksNoMore, HasBegun, IsLeft, IsWhole, LeavesItsQueue, LeavesStaged, LeavesVersions}
+use Rattle.face.specs.Range.{NeverWears, SkipsNoNumber, StandsAfter, WearsOut, WritesAsTold, first_texts}
+use Rattle.face.specs.Range.{WearsLog, log_reads_by_turns, texts}
+use Rattle.face.specs.Range.{ListsTheMachine, works_by}
 use Rattle.face.specs.Run.{Run, first_lines, turns_of}
 use Rattle.face.specs.Texts.{status_of}
 use Rattle.face.specs.Waiting.{NobodyWaits}
@@ -88,6 +89,7 @@ pub record Demands {T : Type 0} (pool : ℕ) (run : Run) (old new : Site) (resul
   pub queue : OnOk result (LeavesItsQueue pool run old.image new.image)
   pub versions : OnOk result (LeavesVersions pool run old.image new.image)
   pub seals : OnOk result (SealsNoMore pool run old.image new.image)
+  pub staged : OnOk result (LeavesStaged pool run old new)
   pub numbers : SkipsNoNumber run old new
   pub reads : AsksNoMore pool run old new
 
@@ -104,4 +106,5 @@ pub record RunOutcome {T : Type 0} (pool : ℕ) (run : Run) (old new : Site) (re
       × (new.loose ≡ no_loose))
   pub demands : Demands pool (first_lines run heard) old new result
   pub listed : ListsTheMachine pool (first_lines run heard) old.image
+  pub written : WritesAsTold pool run heard old new
   pub answers : AnswersFirst run heard old new

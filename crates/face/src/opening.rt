@@ -14,7 +14,7 @@ ghost use Rattle.engine.specs.Representation.{Matches};
 ghost use Rattle.engine.specs.Invariant.{Invariant, sizes_of};
 ghost use Rattle.engine.specs.Leaves.{HasNoSizes};
 ghost use Rattle.face.specs.Causes.{HasCause, RefusesAsForeign};
-ghost use Rattle.face.specs.Range.{AsksNoMore, SkipsNoNumber, WearsLog, WearsOut};
+ghost use Rattle.face.specs.Range.{AsksNoMore, LeavesStaged, SkipsNoNumber, WearsLog, WearsOut};
 ghost use Rattle.face.specs.Run.{Run, Begins, first_lines};
 ghost use Rattle.face.specs.Working.{Stops};
 ghost use Rattle.face.specs.Going.{Going, IsPaged, IsCounted};
@@ -45,6 +45,9 @@ pub fn open<S: Site>(alloc: Global, pool: u32, site: &mut S) -> Result<Engine, H
         → WearsOut pool (first_lines run 0) (S.state site.old).image }
     ensures reads { (run : Run) → Begins run (S.state site.old)
         → AsksNoMore pool (first_lines run 0) (S.state site.old) (S.state site.new) }
+    // The disk has the frames that were staged last.
+    ensures staged { (run : Run) → Begins run (S.state site.old)
+        → OnOk result (LeavesStaged pool (first_lines run 0) (S.state site.old) (S.state site.new)) }
     // No ring number is skipped.
     ensures counted { (run : Run) → Begins run (S.state site.old)
         → (newest : Option Master) (blocks : List (List LogRecord))

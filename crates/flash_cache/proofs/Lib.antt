@@ -15,3 +15,5 @@ pub mod StagedFrames
 pub mod StagedMarks
 pub mod Standing
 pub mod Fetching
+pub mod SomeMoments
+pub mod LastStaged

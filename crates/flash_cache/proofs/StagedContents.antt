@@ -49,7 +49,7 @@ front_long [] (f ∷ fs) shown = absurd shown
 front_long (k ∷ ks) [] shown = absurd shown
 front_long (k ∷ ks) (f ∷ fs) shown = length-marks k ks ∙ together_length Shows k f shown.0
 
-some_group : (groups : List (List Frame)) (i : ℕ) → i < length (get_or groups 0 []) → 0 < length groups
+pub some_group : (groups : List (List Frame)) (i : ℕ) → i < length (get_or groups 0 []) → 0 < length groups
 some_group [] i lt = absurd (omega (arith, lt))
 some_group (f ∷ fs) i lt = omega arith
 

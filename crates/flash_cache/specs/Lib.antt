@@ -1,6 +1,7 @@
 pub mod Kept
 pub mod Laws
 pub mod Leaving
+pub mod OnDisk
 pub mod Pushed
 pub mod Representation
 pub mod Trying

@@ -9,7 +9,7 @@ ghost use Rattle.site.specs.Geometry.{HasLimits, HasLengths};
 ghost use Rattle.site.specs.State.{reads_of, IsSettled, IsQuiet};
 ghost use Rattle.site.specs.Calls.{Preserves, SameReads, FaultRose, IsUnchanged};
 ghost use Rattle.site.specs.Faults.{WorkFaults};
-ghost use Rattle.site.specs.Moments.{LeavesOnly, ChangesOnly, Untouched};
+ghost use Rattle.site.specs.Moments.{LeavesOnly, ChangesOnly, SameAt, Untouched};
 ghost use Rattle.sealed_ring.specs.Ready.{LeavesOldOrNew};
 ghost use Rattle.byte_fields.specs.declared.frame_head.FrameHead.{FrameHead};
 ghost use Rattle.byte_fields.specs.FrameHeads.{AreGroupHeads};
@@ -19,7 +19,7 @@ ghost use Rattle.image_changes.specs.Reached.{LeavesFront};
 ghost use Rattle.frame_group.specs.Groups.{Frame, IsFrame, heads_of, group};
 ghost use Rattle.tail_rebuild.specs.Saving.{is_due};
 ghost use Rattle.second_chance.specs.Queue.{has_frame, with_read, marks, front_marks};
-ghost use Rattle.second_chance.specs.Machine.{rules_of, leaving};
+ghost use Rattle.second_chance.specs.Machine.{rules_of, leaving, staged_in_push};
 ghost use Rattle.stage_out.specs.Staged.{HasStaged};
 ghost use Rattle.flash_directory.specs.Heads.{frames_in};
 ghost use Rattle.flash_cache.specs.Representation.{Invariant, Matches, IsWorn, HasGroups, HasFrames, AreSaved};
@@ -29,6 +29,7 @@ ghost use Rattle.flash_cache.specs.Pushed.{staged_marks, staged_pages, staged_co
 ghost use Rattle.flash_cache.specs.Pushed.{frames_given, frames_pushed, known_pushed, pushed_groups, pushed_queue};
 ghost use Rattle.flash_cache.specs.Pushed.{changes_of_push, changes_before, changes_of_group, LeavesPush};
 ghost use Rattle.flash_cache.specs.Pushed.{LeavesPushBehind, ChangesPages};
+ghost use Rattle.flash_cache.specs.OnDisk.{HasLastStaged, SomeMoment};
 ghost use Rattle.flash_cache.specs.Kept.{GivesVersions, LeavesVersions, AreCleanGiven, LeavesClean};
 
 use crate::leaving::frames_leaving;
@@ -237,6 +238,11 @@ impl FlashCache {
             → Matches self.old (S.state site.old) → Represents self.old (S.state site.old).image groups
             → OnOk result (HasStaged (staged_pages self.old) (staged_contents self.old groups)
             (S.state site.old).image.disk (S.state site.new).image.disk) }
+        ensures last { (groups : List (List Frame))
+            → Matches self.old (S.state site.old) → Represents self.old (S.state site.old).image groups
+            → IsQuiet (S.state site.old) → OnOk result (HasLastStaged self.old.geometry
+            (staged_in_push (rules_of 0 self.old.geometry.groups) self.old.directory)
+            (S.state site.old) (S.state site.new)) }
         ensures frames { (groups : List (List Frame))
             → Matches self.old (S.state site.old) → Represents self.old (S.state site.old).image groups
             → let frames = frames_pushed self.old (S.state site.old).image pages.now changed.now contents.now in
@@ -362,6 +368,9 @@ impl FlashCache {
             → Matches self.old (S.state site.old) → Represents self.old (S.state site.old).image groups
             → OnOk result (HasStaged (staged_pages self.old) (staged_contents self.old groups)
             (S.state site.old).image.disk (S.state site.new).image.disk) }
+        ensures shown { IsTrue (S.state site.old).honest → 1 ≤ length (staged_pages self.old)
+            → OnOk result (SomeMoment (S.state site.old) (S.state site.new)
+            (SameAt Dev.Flash (S.state site.old))) }
         ensures frames { (groups : List (List Frame))
             → Matches self.old (S.state site.old) → Represents self.old (S.state site.old).image groups
             → let frames = frames_pushed self.old (S.state site.old).image
@@ -445,6 +454,9 @@ impl FlashCache {
             (S.state site.old).image (S.state site.new).image) }
         ensures staged { Matches self.old (S.state site.old) → OnOk result (HasStaged staged.now octets.now
             (S.state site.old).image.disk (S.state site.new).image.disk) }
+        ensures shown { IsTrue (S.state site.old).honest → 1 ≤ length staged.now
+            → OnOk result (SomeMoment (S.state site.old) (S.state site.new)
+            (SameAt Dev.Flash (S.state site.old))) }
         ensures changes { IsTrue (S.state site.old).honest
             → ChangesPages (S.state site.old) (S.state site.new) }
         ensures alone { IsTrue (S.state site.old).honest → staged.now ≡ []

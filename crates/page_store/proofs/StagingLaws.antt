@@ -1,5 +1,5 @@
 -- What calls on pages write, one after the other.
-use Rattle.std.proofs.Common.{◌≡◌, ◌≢◌, IsTrue, ℕ, ◌+◌, ◌≤◌, List, [], ◌∷◌, ◌++◌, map, reverse, Bool, true, false, append_assoc, append-nil, arith, refl, sym, ap, subst, ◌∙◌}
+use Rattle.std.proofs.Common.{◌≡◌, ◌≢◌, ◌⊎◌, inl, inr, ⊎_elim, IsTrue, ℕ, ◌+◌, ◌≤◌, List, [], ◌∷◌, ◌++◌, length, drop, map, reverse, Bool, true, false, append_assoc, append-nil, arith, refl, sym, ap, subst, ◌∙◌}
 use Rattle.std.specs.Prelude.{Result, Ok, Err, OnOk, if◌then◌else◌}
 use Rattle.std.specs.List.{Contains}
 use Rattle.std.proofs.lemmas.List.{map-append}
@@ -8,10 +8,10 @@ use Rattle.site.specs.declared.outside.Dev.{Dev}
 use Rattle.site.specs.declared.outside.Dev.TheVariants.{Log, Flash, Disk}
 use Rattle.site.specs.declared.outside.Stop.{Stop}
 use Rattle.site.specs.declared.geometry.Geometry.{Geometry}
-use Rattle.site.specs.State.{State, Image, Snapshot, MayStand, loose_of, content_of, IsQuiet}
+use Rattle.site.specs.State.{State, Image, Moment, Snapshot, MayStand, loose_of, content_of, IsQuiet}
 use Rattle.site.specs.Calls.{IsUnchanged}
 use Rattle.site.specs.Work.{Calls}
-use Rattle.site.specs.Moments.{Leaves, LeavesOnly, ChangesOnly}
+use Rattle.site.specs.Moments.{Leaves, LeavesOnly, ChangesOnly, since}
 use Rattle.site.specs.Laws.{in_sequence, leaves_weaker, untouched_leaves, others_untouched, each_both, each_weaker, settled_is, quiet_settled, quiet_leaves, no_call, unchanged_calm, holds_now, stays_honest, unchanged}
 use Rattle.site.proofs.Working.{ok_as, ok_always}
 use Rattle.sealed_ring.specs.Ring.{hi_of}
@@ -34,6 +34,8 @@ use Rattle.buffer_pool.specs.declared.frame.Frame.{Frame}
 use Rattle.page_store.specs.declared.store.PageStore.{PageStore}
 use Rattle.page_store.specs.Caching.{pool_page, cache_of, rules, next_group, first_pushed, is_pushed}
 use Rattle.page_store.specs.Representation.{Invariant, Matches}
+use Rattle.flash_cache.specs.OnDisk.{HasFrameAt, HasLastStaged, SomeMoment}
+use Rattle.flash_cache.proofs.SomeMoments.{some_after_reads, some_behind, some_first}
 use Rattle.page_store.specs.Staging.{pages_staged, staged_by_eviction, WritesOnly, HasQueueOn, Stages}
 use Rattle.page_store.proofs.PushLaws.{flash_fits_same, flash_holds_same}
 use Rattle.page_store.proofs.Evictions.{reverse_last}
@@ -62,6 +64,61 @@ written_then g staged more next next' a b c one two = record {
   groups = two.groups;
   disk = λ page out. two.disk page (λ is. out (among_later staged more page is)) ∙ one.disk page (λ is. out (among_first staged more page is));
 }
+
+-- What was staged last.
+
+-- none is staged
+no_split : (before later : List Staged) (f : Staged) → [] ≡ before ++ f ∷ later → ⊥
+no_split [] later f is = cc
+no_split (b ∷ before) later f is = cc
+
+pub last_none : (g : Geometry) (staged : List Staged) (old now : State) → staged ≡ [] → HasLastStaged g staged old now
+last_none g staged old now none before later f is out = absurd (no_split before later f (sym none ∙ is))
+
+-- one of two lists, one behind the other
+split_of : (xs ys before later : List Staged) (f : Staged) → xs ++ ys ≡ before ++ f ∷ later →
+    ((rest : List Staged) × (xs ≡ before ++ f ∷ rest) × (later ≡ rest ++ ys)) ⊎ ((rest : List Staged) × (before ≡ xs ++ rest) × (ys ≡ rest ++ f ∷ later))
+split_of [] ys before later f is = inr (before, refl, is)
+split_of (x ∷ xs) ys [] later f is =
+    let same : x ≡ f = cc in
+    let rest : xs ++ ys ≡ later = cc in
+    inl (xs, ap (λ (y : Staged). y ∷ xs) same, sym rest)
+split_of (x ∷ xs) ys (b ∷ before) later f is =
+    let same : x ≡ b = cc in
+    let rest : xs ++ ys ≡ before ++ f ∷ later = cc in
+    ⊎_elim (λ e. inl (e.0, λ i. same i ∷ e.1 i, e.2)) (λ l. inr (l.0, λ i. sym same i ∷ l.1 i, l.2)) (split_of xs ys before later f rest)
+
+-- calls one after the other: the second leaves what it doesn't stage
+pub last_then : (g : Geometry) (staged more : List Staged) (a b c : State) → b.past ≡ a.past ++ since a b → c.past ≡ b.past ++ since b c → ((page : ℕ) → (Contains (pages_staged more) page → ⊥) → disk_on c.image page ≡ disk_on b.image page) →
+    HasLastStaged g staged a b → HasLastStaged g more b c → HasLastStaged g (staged ++ more) a c
+last_then g staged more a b c first second same one two before later f is out = ⊎_elim
+    (λ early.
+    let in_later = λ (listed : Contains (pages_staged (early.0 ++ more)) f.page). out (subst (λ (l : List Staged). Contains (pages_staged l) f.page) (sym early.2) listed) in
+    let own = one before early.0 f early.1 (λ listed. in_later (among_first early.0 more f.page listed)) in
+    let still = same f.page (λ listed. in_later (among_later early.0 more f.page listed)) in
+    subst (λ (o : List ℕ). SomeMoment a c (Leaves (λ s. HasFrameAt g f o s.image))) (sym still) (some_first a b c first second (Leaves (λ s. HasFrameAt g f (disk_on b.image f.page) s.image)) own))
+    (λ late. some_behind a b c first second (Leaves (λ s. HasFrameAt g f (disk_on c.image f.page) s.image)) (two late.0 later f late.2 out))
+    (split_of staged more before later f is)
+
+-- calls that only read before it
+pub last_after_reads : (g : Geometry) (staged : List Staged) (old mid new : State) → mid.past ≡ old.past → HasLastStaged g staged mid new → HasLastStaged g staged old new
+last_after_reads g staged old mid new same last before later f is out = some_after_reads old mid new (Leaves (λ s. HasFrameAt g f (disk_on new.image f.page) s.image)) same (last before later f is out)
+
+-- and calls behind it that write no disk page
+pub last_still : (g : Geometry) (staged : List Staged) (old mid new : State) → mid.past ≡ old.past ++ since old mid → new.past ≡ mid.past ++ since mid new → new.image.disk ≡ mid.image.disk → HasLastStaged g staged old mid → HasLastStaged g staged old new
+last_still g staged old mid new first second same last before later f is out =
+    subst (λ (o : List ℕ). SomeMoment old new (Leaves (λ s. HasFrameAt g f o s.image))) (ap (page_on f.page) (sym same))
+    (some_first old mid new first second (Leaves (λ s. HasFrameAt g f (disk_on mid.image f.page) s.image)) (last before later f is out))
+
+-- or that write nothing at all
+pub last_unmoved : (g : Geometry) (staged : List Staged) (old mid new : State) → new.past ≡ mid.past → new.image.disk ≡ mid.image.disk → HasLastStaged g staged old mid → HasLastStaged g staged old new
+last_unmoved g staged old mid new past same last before later f is out =
+    let some = last before later f is out in
+    record {
+      moment = some.moment;
+      within = subst (λ (l : List Moment). Contains (drop (length old.past) l) some.moment) (sym past) some.within;
+      has = subst (λ (o : List ℕ). Leaves (λ s. HasFrameAt g f o s.image) some.moment) (ap (page_on f.page) (sym same)) some.has;
+    }
 
 -- Stores.
 
@@ -121,10 +178,11 @@ log_leaves g staged next old now low quiet changes =
 -- another answer, which is Ok where the first one is
 pub stages_result : {A B : Type 0} {r : Result A Stop} {s : Result B Stop} {staged : List Staged} {next : ℕ} {old new : PageStore} {before now : State} → ((P : Type 0) → OnOk r P → OnOk s P) →
     Stages r staged next old new before now → Stages s staged next old new before now
-stages_result {new = new} {now = now} turns stages = record {
+stages_result {staged = staged} {old = old} {new = new} {before = before} {now = now} turns stages = record {
   holds = λ has. turns (HasQueueOn new now) (stages.holds has);
   quiet = λ has quiet. turns (IsQuiet now) (stages.quiet has quiet);
   writes = stages.writes;
+  last = λ has quiet. turns (HasLastStaged old.flash.geometry staged before now) (stages.last has quiet);
   sizes = stages.sizes;
 }
 
@@ -135,18 +193,29 @@ pub stages_err : {A B : Type 0} {r : Result A Stop} {stop : Stop} {staged : List
 stages_err {A} {B} {r} {stop} stages = stages_result {r = r} {s = Err stop} (λ P p. tt) stages
 
 -- where more may be written
-pub stages_weaker : {T : Type 0} {r : Result T Stop} {staged more : List Staged} {next next' : ℕ} {old new : PageStore} {before now : State} →
-    ((page : ℕ) → Contains (pages_staged staged) page → Contains (pages_staged more) page) → next ≤ next' → Stages r staged next old new before now → Stages r more next' old new before now
+pub stages_up : {T : Type 0} {r : Result T Stop} {staged : List Staged} {next next' : ℕ} {old new : PageStore} {before now : State} → next ≤ next' → Stages r staged next old new before now → Stages r staged next' old new before now
+stages_up {staged = staged} {next = next} {next' = next'} {old = old} {before = before} {now = now} up stages = record {
+  holds = stages.holds;
+  quiet = stages.quiet;
+  writes = λ has quiet. leaves_weaker before now (λ s. WritesOnly old.flash.geometry staged next before.image s.image) (λ s. WritesOnly old.flash.geometry staged next' before.image s.image)
+      (λ s only. written_weaker old.flash.geometry staged staged next next' before.image s.image (λ page is. is) up only) (stages.writes has quiet);
+  last = stages.last;
+  sizes = stages.sizes;
+}
+
+pub stages_weaker : {T : Type 0} {stop : Stop} {staged more : List Staged} {next next' : ℕ} {old new : PageStore} {before now : State} →
+    ((page : ℕ) → Contains (pages_staged staged) page → Contains (pages_staged more) page) → next ≤ next' → Stages {T = T} (Err stop) staged next old new before now → Stages {T = T} (Err stop) more next' old new before now
 stages_weaker {staged = staged} {more = more} {next = next} {next' = next'} {old = old} {before = before} {now = now} among up stages = record {
   holds = stages.holds;
   quiet = stages.quiet;
   writes = λ has quiet. leaves_weaker before now (λ s. WritesOnly old.flash.geometry staged next before.image s.image) (λ s. WritesOnly old.flash.geometry more next' before.image s.image)
       (λ s only. written_weaker old.flash.geometry staged more next next' before.image s.image among up only) (stages.writes has quiet);
+  last = λ has quiet. tt;
   sizes = stages.sizes;
 }
 
 pub stages_as : {T : Type 0} {r : Result T Stop} {staged more : List Staged} {next next' : ℕ} {old new : PageStore} {before now : State} → staged ≡ more → next ≡ next' → Stages r staged next old new before now → Stages r more next' old new before now
-stages_as {next = next} among up stages = stages_weaker (λ page is. subst (λ (l : List Staged). Contains (pages_staged l) page) among is) (omega (arith, up)) stages
+stages_as {r = r} {next = next} {next' = next'} {old = old} {new = new} {before = before} {now = now} same up stages = subst (λ (l : List Staged). Stages r l next' old new before now) same (stages_up (omega (arith, up)) stages)
 
 -- stores whose caches are the same
 pub stages_between : {T : Type 0} {r : Result T Stop} {staged : List Staged} {next : ℕ} {old mid new after : PageStore} {before now : State} → mid.flash ≡ old.flash → after.flash ≡ new.flash → Stages r staged next mid new before now → Stages r staged next old after before now
@@ -156,38 +225,41 @@ stages_between {r = r} {staged = staged} {next = next} {old = old} {mid = mid} {
       holds = λ has. ok_as r _ _ (λ (is : HasQueueOn new now). queue_same new after now now last refl is.fits.honest is) (stages.holds (there has));
       quiet = λ has quiet. stages.quiet (there has) quiet;
       writes = λ has quiet. subst (λ (f : FlashCache). Leaving f.geometry staged next before now) first (stages.writes (there has) quiet);
+      last = λ has quiet. subst (λ (f : FlashCache). OnOk r (HasLastStaged f.geometry staged before now)) first (stages.last (there has) quiet);
       sizes = ap (λ (f : FlashCache). f.geometry) last ∙ stages.sizes ∙ ap (λ (f : FlashCache). f.geometry) first;
     }
 
 -- a call that writes nothing
-pub stages_still : {T : Type 0} {r : Result T Stop} {staged : List Staged} {next : ℕ} {old new : PageStore} {before now : State} → next_group (cache_of old) ≤ next → (IsTrue before.honest → IsUnchanged before now) →
+pub stages_still : {T : Type 0} {r : Result T Stop} {staged : List Staged} {next : ℕ} {old new : PageStore} {before now : State} → OnOk r (staged ≡ []) → next_group (cache_of old) ≤ next → (IsTrue before.honest → IsUnchanged before now) →
     new.flash.geometry ≡ old.flash.geometry → (HasQueueOn old before → OnOk r (HasQueueOn new now)) → Stages r staged next old new before now
-stages_still {r = r} {staged = staged} {next = next} {old = old} {before = before} {now = now} low same sizes holds = record {
+stages_still {r = r} {staged = staged} {next = next} {old = old} {before = before} {now = now} none low same sizes holds = record {
   holds = holds;
   quiet = λ has quiet. ok_always r (IsQuiet now) ((same has.fits.honest).loose ∙ quiet);
   writes = λ has quiet. (let is = has.next in still_leaves old.flash.geometry staged next before now (omega (arith, is, low)) quiet (same has.fits.honest));
+  last = λ has quiet. ok_as r (staged ≡ []) (HasLastStaged old.flash.geometry staged before now) (last_none old.flash.geometry staged before now) none;
   sizes = sizes;
 }
 
 -- a call on the log alone
-pub stages_beside : {T : Type 0} {r : Result T Stop} {staged : List Staged} {next : ℕ} {old new : PageStore} {before now : State} → next_group (cache_of old) ≤ next → (IsTrue before.honest → ChangesOnly Log before now) → Calls r before now →
+pub stages_beside : {T : Type 0} {r : Result T Stop} {staged : List Staged} {next : ℕ} {old new : PageStore} {before now : State} → OnOk r (staged ≡ []) → next_group (cache_of old) ≤ next → (IsTrue before.honest → ChangesOnly Log before now) → Calls r before now →
     new.flash ≡ old.flash → Stages r staged next old new before now
-stages_beside {r = r} {staged = staged} {next = next} {old = old} {new = new} {before = before} {now = now} low changes calls same = record {
+stages_beside {r = r} {staged = staged} {next = next} {old = old} {new = new} {before = before} {now = now} none low changes calls same = record {
   holds = λ has. ok_always r (HasQueueOn new now) (queue_same old new before now same ((changes has.fits.honest).only.now.content Flash (λ h. cc)) (stays_honest before now calls.goes has.fits.honest) has);
   quiet = λ has quiet. calls.stays_quiet has.fits.honest quiet;
   writes = λ has quiet. (let is = has.next in log_leaves old.flash.geometry staged next before now (omega (arith, is, low)) quiet (changes has.fits.honest));
+  last = λ has quiet. ok_as r (staged ≡ []) (HasLastStaged old.flash.geometry staged before now) (last_none old.flash.geometry staged before now) none;
   sizes = ap (λ (f : FlashCache). f.geometry) same;
 }
 
 -- no call
-pub stages_none : {T : Type 0} {r : Result T Stop} {staged : List Staged} {next : ℕ} {old new : PageStore} {now : State} → next_group (cache_of old) ≤ next → new.flash ≡ old.flash → Stages r staged next old new now now
-stages_none {T} {r} {old = old} {new = new} {now = now} low same =
-    stages_still low (λ honest. unchanged now) (ap (λ (f : FlashCache). f.geometry) same) (λ has. ok_always r (HasQueueOn new now) (queue_same old new now now same refl has.fits.honest has))
+pub stages_none : {T : Type 0} {r : Result T Stop} {staged : List Staged} {next : ℕ} {old new : PageStore} {now : State} → OnOk r (staged ≡ []) → next_group (cache_of old) ≤ next → new.flash ≡ old.flash → Stages r staged next old new now now
+stages_none {T} {r} {old = old} {new = new} {now = now} none low same =
+    stages_still none low (λ honest. unchanged now) (ap (λ (f : FlashCache). f.geometry) same) (λ has. ok_always r (HasQueueOn new now) (queue_same old new now now same refl has.fits.honest has))
 
 -- a call behind one that was Ok
 pub stages_then : {A B : Type 0} {a : A} {r : Result B Stop} {staged more : List Staged} {next next' : ℕ} {old mid new : PageStore} {before between now : State} → (HasQueueOn old before → next ≤ next') →
     Stages {T = A} (Ok a) staged next old mid before between → Stages r more next' mid new between now → Stages r (staged ++ more) next' old new before now
-stages_then {staged = staged} {more = more} {next = next} {next' = next'} {old = old} {mid = mid} {before = before} {between = between} {now = now} up one two =
+stages_then {r = r} {staged = staged} {more = more} {next = next} {next' = next'} {old = old} {mid = mid} {before = before} {between = between} {now = now} up one two =
     let g = old.flash.geometry in
     let only = λ (s : Snapshot). WritesOnly g staged next before.image s.image in
     let all = λ (s : Snapshot). WritesOnly g (staged ++ more) next' before.image s.image in
@@ -201,6 +273,13 @@ stages_then {staged = staged} {more = more} {next = next} {next' = next'} {old =
           in_sequence before between now (Leaves all)
           (leaves_weaker before between only all (λ s is. written_weaker g staged (staged ++ more) next next' before.image s.image (among_first staged more) (up has) is) first)
           (leaves_weaker between now (λ s. WritesOnly g more next' between.image s.image) all (λ s is. written_then g staged more next next' before.image between.image s.image stands is) second);
+      last = λ has quiet.
+          let first : Leaving g staged next before between = one.writes has quiet in
+          let second : Leaving g more next' between now = subst (λ (h : Geometry). Leaving h more next' between now) one.sizes (two.writes (one.holds has) (one.quiet has quiet)) in
+          let written : WritesOnly g more next' between.image now.image = holds_now between now (λ s. WritesOnly g more next' between.image s.image) second in
+          ok_as r (HasLastStaged g more between now) (HasLastStaged g (staged ++ more) before now)
+          (last_then g staged more before between now first.grown second.grown written.disk (one.last has quiet))
+          (subst (λ (h : Geometry). OnOk r (HasLastStaged h more between now)) one.sizes (two.last (one.holds has) (one.quiet has quiet)));
       sizes = two.sizes ∙ one.sizes;
     }
 
@@ -239,6 +318,10 @@ module _ (store : PageStore) (frames : List Frame) (last : Frame) (is : store.po
   pub evicted_staged : must_be_pushed store.flash.directory (pool_page last) ≡ true → staged_in_push (rules store) store.flash.directory ≡ staged_by_eviction (rules store) (cache_of store)
   evicted_staged must = sym (ap (λ (l : List PoolPage). staged_in_eviction (rules store) l store.flash.directory) turned
       ∙ ap (λ (b : Bool). if b then staged_in_push (rules store) store.flash.directory else []) must)
+
+  pub evicted_none : must_be_pushed store.flash.directory (pool_page last) ≡ false → staged_by_eviction (rules store) (cache_of store) ≡ []
+  evicted_none must = ap (λ (l : List PoolPage). staged_in_eviction (rules store) l store.flash.directory) turned
+      ∙ ap (λ (b : Bool). if b then staged_in_push (rules store) store.flash.directory else []) must
 
   pub evicted_next : must_be_pushed store.flash.directory (pool_page last) ≡ true → next_group (cache_of store) + 1 ≡ next_group (cache_of store) + (if is_pushed (cache_of store) then 1 else 0)
   evicted_next must = ap (λ (b : Bool). next_group (cache_of store) + (if b then 1 else 0)) (sym (ap (first_pushed store.flash.directory) turned ∙ must))

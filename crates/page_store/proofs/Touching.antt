@@ -84,6 +84,9 @@ module _ (store : PageStore) (page : ℕ) (frame : Frame) (found : frame_of stor
   pub nothing_changes : (log : LogStore) (list : LogList) (image : Image) → touch_changes log list store image page ≡ []
   nothing_changes log list image = ap (λ b. cond b (eviction_changes log list store image) []) no_lack
 
+  pub nothing_staged : staged_by (rules store) (touch page false) (cache_of store) ≡ []
+  nothing_staged = ap (λ b. cond b (staged_by_eviction (rules store) (cache_of store)) []) no_lack
+
   pub nothing_pushed : pushes (rules store) page (cache_of store) ≡ false
   nothing_pushed = ap (λ b. b && is_pushed (cache_of store)) no_lack
 

@@ -1,5 +1,5 @@
 -- What calls on pages write: the groups that they append, and the disk pages that they stage.
-use Rattle.std.specs.Prelude.{◌≡◌, ℕ, ◌≤◌, List, map, reverse, Contains, Result, OnOk}
+use Rattle.std.specs.Prelude.{◌≡◌, ℕ, ◌≤◌, List, reverse, Contains, Result, OnOk}
 use Rattle.site.specs.declared.geometry.Geometry.{Geometry}
 use Rattle.site.specs.State.{State, Image, IsQuiet}
 use Rattle.site.specs.Moments.{LeavesOnly}
@@ -7,6 +7,8 @@ use Rattle.site.specs.declared.outside.Stop.{Stop}
 use Rattle.sealed_ring.specs.Ring.{hi_of}
 use Rattle.image_changes.specs.Rings.{group_shape}
 use Rattle.frame_group.specs.Groups.{Frame as Stored}
+pub use Rattle.flash_cache.specs.OnDisk.{pages_staged}
+use Rattle.flash_cache.specs.OnDisk.{HasLastStaged}
 use Rattle.flash_cache.specs.Representation as flash_cache
 use Rattle.flash_cache.specs.Representation.{disk_on}
 use Rattle.second_chance.specs.Machine.{Rules, Cache, Staged, staged_in_eviction}
@@ -16,9 +18,6 @@ use Rattle.page_store.specs.Caching.{cache_of, rules, next_group}
 -- what the eviction of the coldest page stages
 abbrev pub staged_by_eviction : Rules → Cache → List Staged
 staged_by_eviction rules cache = staged_in_eviction rules (reverse cache.pool) cache.queue
-
-abbrev pub pages_staged : List Staged → List ℕ
-pages_staged staged = map (λ f. f.page) staged
 
 -- The ring of groups has no number from this one on, and each disk page that isn't staged is as it was.
 pub record WritesOnly (g : Geometry) (staged : List Staged) (next : ℕ) (old now : Image) : Type 0 where
@@ -34,11 +33,13 @@ pub record HasQueueOn (store : PageStore) (site : State) : Type 0 where
   pub room : 1 ≤ (rules store).groups
 
 -- A call beside which at most these frames are staged, and groups appended below this number, whatever the log has: a
--- crash meanwhile leaves no more than that.
+-- crash meanwhile leaves no more than that. At Ok the disk has the frames that were staged last.
 pub record Stages {T : Type 0} (result : Result T Stop) (staged : List Staged) (next : ℕ) (old new : PageStore)
     (before now : State) : Type 0 where
   pub holds : HasQueueOn old before → OnOk result (HasQueueOn new now)
   pub quiet : HasQueueOn old before → IsQuiet before → OnOk result (IsQuiet now)
   pub writes : HasQueueOn old before → IsQuiet before
       → LeavesOnly before now (λ s. WritesOnly old.flash.geometry staged next before.image s.image)
+  pub last : HasQueueOn old before → IsQuiet before
+      → OnOk result (HasLastStaged old.flash.geometry staged before now)
   pub sizes : new.flash.geometry ≡ old.flash.geometry

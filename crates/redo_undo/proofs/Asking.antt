@@ -11,7 +11,8 @@ use Rattle.std.specs.List.{Contains}
 use Rattle.log_store.specs.declared.store.LogStore.{LogStore}
 use Rattle.page_store.specs.Staging.{pages_staged, HasQueueOn, Stages}
 use Rattle.site.specs.Moments.{ChangesOnly}
-use Rattle.page_store.proofs.StagingLaws.{log_leaves, among_first, queue_same, stages_ok, stages_err, stages_as, stages_weaker, stages_then, stages_none, stages_still, stages_beside}
+use Rattle.flash_cache.specs.OnDisk.{HasLastStaged}
+use Rattle.page_store.proofs.StagingLaws.{last_none, log_leaves, among_first, queue_same, stages_ok, stages_err, stages_as, stages_weaker, stages_then, stages_none, stages_still, stages_beside}
 use Rattle.redo_undo.specs.Calls.{KeepsInvariantBeside}
 use Rattle.record_model.specs.Touches.{CacheWork}
 use Rattle.second_chance.specs.Machine.{Rules, Cache, Staged, touched, finds, misses, after_works, staged_by_works}
@@ -65,7 +66,7 @@ change_stages result page old new before now some stages = stages_as refl (sym (
 
 -- calls on the log alone
 pub stages_log : {T : Type 0} {result : Result T Stop} {log log' : LogStore} {pages : PageStore} {before now : State} → KeepsInvariantBeside result log log' before now → Stages result [] (next_group (cache_of pages)) pages pages before now
-stages_log works = stages_beside (omega arith) works.changes works.calls refl
+stages_log {result = result} works = stages_beside (ok_always result _ refl) (omega arith) works.changes works.calls refl
 
 pub stages_alone : {A : Type 0} {result : Result A Stop} {pages : PageStore} {before now : State} → (IsTrue before.honest → ChangesOnly Log before now) → Preserves before now → (IsTrue before.honest → IsQuiet before → OnOk result (IsQuiet now)) →
     Stages result [] (next_group (cache_of pages)) pages pages before now
@@ -73,12 +74,13 @@ stages_alone {result = result} {pages = pages} {before = before} {now = now} cha
   holds = λ has. ok_always result (HasQueueOn pages now) (queue_same pages pages before now refl ((changes has.fits.honest).only.now.content Flash (λ h. cc)) (stays_honest before now goes has.fits.honest) has);
   quiet = λ has. quiet has.fits.honest;
   writes = λ has calm. (let is = has.next in log_leaves pages.flash.geometry [] (next_group (cache_of pages)) before now (omega (arith, is)) calm (changes has.fits.honest));
+  last = λ has calm. ok_always result (HasLastStaged pages.flash.geometry [] before now) (last_none pages.flash.geometry [] before now refl);
   sizes = refl;
 }
 
 pub stages_read : {A : Type 0} {result : Result A Stop} {pages : PageStore} {before now : State} → (IsTrue before.honest → IsUnchanged before now) → Preserves before now → Stages result [] (next_group (cache_of pages)) pages pages before now
 stages_read {A} {result = result} {pages = pages} {before = before} {now = now} same goes =
-    stages_still (omega arith) same refl (λ has. ok_always result (HasQueueOn pages now) (queue_same pages pages before now refl (ap (λ i. i.flash) (same has.fits.honest).image) (stays_honest before now goes has.fits.honest) has))
+    stages_still (ok_always result _ refl) (omega arith) same refl (λ has. ok_always result (HasQueueOn pages now) (queue_same pages pages before now refl (ap (λ i. i.flash) (same has.fits.honest).image) (stays_honest before now goes has.fits.honest) has))
 
 -- no work
 pub no_reads : (r : Rules) (cache : Cache) (before now : State) → SameReads before now → ReadsFor r [] cache before now
@@ -135,7 +137,7 @@ asks_same result works other old new before now same asks = subst (λ (w : List 
 
 -- before any call
 pub no_asks : (pages : PageStore) (now : State) → StepsMachine {T = Unit {0}} (Ok tt) [] pages pages now now
-no_asks pages now = record { machine = refl; worn = λ is. absurd (no_error {T = Unit {0}} {x = tt} {e = Worn Flash} is); reads = record { flash = omega arith; disk = omega arith }; rules_are = refl; stages = stages_none (omega arith) refl }
+no_asks pages now = record { machine = refl; worn = λ is. absurd (no_error {T = Unit {0}} {x = tt} {e = Worn Flash} is); reads = record { flash = omega arith; disk = omega arith }; rules_are = refl; stages = stages_none refl (omega arith) refl }
 
 -- another answer of the same call
 pub asks_ok : {A B : Type 0} (a : A) (b : B) (works : List CacheWork) (old new : PageStore) (before now : State) → StepsMachine {T = A} (Ok a) works old new before now → StepsMachine {T = B} (Ok b) works old new before now

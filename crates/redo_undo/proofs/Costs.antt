@@ -1,10 +1,9 @@
 -- What work costs the cache: the groups that it appends, and the pages that it reads.
-use Rattle.std.proofs.Common.{◌≡◌, ℕ, suc, ◌+◌, ◌≤◌, Bool, true, false, ◌&&◌, List, [], ◌∷◌, ◌++◌, length, reverse, arith, refl, sym, append_assoc, ap, ◌∙◌}
+use Rattle.std.proofs.Common.{◌≡◌, ℕ, ◌+◌, ◌≤◌, Bool, true, false, ◌&&◌, List, [], ◌∷◌, ◌++◌, length, reverse, arith, refl, sym, append_assoc, ap, ◌∙◌}
 use Rattle.std.specs.Prelude.{if◌then◌else◌}
 use Rattle.second_chance.proofs.Unread.{length-groups_read}
 use Rattle.record_model.specs.Touches.{CacheWork, touch, flush}
-use Rattle.second_chance.specs.declared.frame.Frame.{Frame}
-use Rattle.second_chance.specs.Queue.{groups_read, with_read}
+use Rattle.second_chance.specs.Queue.{with_read}
 use Rattle.second_chance.specs.Machine.{Rules, Cache, holds, evict_coldest, lacks_room, with_room, in_front, touched, worked, after_works, Staged, staged_by, staged_by_works}
 use Rattle.page_store.specs.Caching.{is_pushed, pushes}
 use Rattle.redo_undo.specs.MachineSteps.{next_group, finds_in, misses_in, WorksAddUp, ReadsAddUp, ReadsForMore, NumbersRise, OverflowsWithMore}

@@ -2,14 +2,14 @@
 use Rattle.log_laws.proofs.Losers.{last_number_of}
 use Rattle.log_laws.proofs.Parts.{in_order_filter}
 use Rattle.std.proofs.Common.{◌≡◌, ℕ, ◌≤◌, ◌==◌, Bool, true, false, List, [], ◌∷◌, ◌++◌, length, None, Some, refl, sym, ap, subst, ◌∙◌, arith, ◌*◌, ◌+◌}
-use Rattle.std.specs.Prelude.{if◌then◌else◌, map, filter, find, drop, Option}
+use Rattle.std.specs.Prelude.{if◌then◌else◌, filter, find, drop, Option}
 use Rattle.site.specs.State.{State}
 use Rattle.record_model.specs.State.{Content}
 use Rattle.log_records.specs.declared.log_record.LogRecord.{LogRecord}
 use Rattle.log_records.specs.declared.log_record.LogRecord.TheVariants.{Begin, Update, Clr, Commit, End}
 use Rattle.log_records.specs.Log.{Entry, txn_by, txn_of, entries_of, is_of, is_closing}
 use Rattle.log_records.specs.Unfinished.{left_open, open_updates}
-use Rattle.log_records.specs.Sound.{InTurn, IsInOrder, IsLoserChain, Continues, Undoes, last_number, last_lsn}
+use Rattle.log_records.specs.Sound.{InTurn, IsInOrder, IsLoserChain, Continues, Undoes, last_lsn}
 use Rattle.log_laws.specs.Tail.{next_lsn}
 use Rattle.log_laws.specs.Analysis.{Unfinished, IsUnfinished}
 use Rattle.log_laws.specs.UndoLaws.{next_by, next_in}

@@ -3,7 +3,7 @@ use Rattle.log_records.proofs.Entries.{in_order_least}
 use Rattle.std_lemmas.proofs.AllOf.{all_between}
 use Rattle.log_laws.proofs.Losers.{last_number_of}
 use Rattle.std.proofs.lemmas.List.Elements.{filter-append}
-use Rattle.std.proofs.Common.{◌≡◌, ◌≢◌, ◌⊎◌, inl, inr, ℕ, ◌+◌, ◌-◌, ◌*◌, ◌/◌, ◌≤◌, ◌<◌, List, [], ◌∷◌, ◌++◌, length, map, Some, refl, sym, ap, subst, ◌∙◌, arith, true, false, Bool}
+use Rattle.std.proofs.Common.{◌≡◌, ◌≢◌, ◌⊎◌, inl, inr, ℕ, ◌+◌, ◌-◌, ◌*◌, ◌/◌, ◌≤◌, ◌<◌, List, [], ◌∷◌, ◌++◌, length, map, Some, refl, sym, ap, subst, ◌∙◌, arith, true, Bool}
 use Rattle.std.specs.List.{AllByRecursion}
 use Rattle.std.proofs.lemmas.Bool.{cases_eq, lt-ltb, cond-true}
 use Rattle.std.proofs.lemmas.Option.{same_Some}
@@ -24,7 +24,7 @@ use Rattle.redo_undo.specs.Holding.{IsOnPage}
 use Rattle.redo_undo.specs.Laws.{PageLaws}
 use Rattle.redo_undo.proofs.Changed.{front_is_current, known_more}
 use Rattle.redo_undo.specs.RedoLaws.{RedoLaws}
-use Rattle.std.specs.Prelude.{if◌then◌else◌, filter, nat_lt}
+use Rattle.std.specs.Prelude.{filter, nat_lt}
 use Rattle.redo_undo.specs.Redoing.{Opening, opened, IsFrom, IsRedoing, heard_of}
 use Rattle.flash_cache.proofs.Given.{all_append}
 

@@ -31,13 +31,13 @@ use Rattle.redo_undo.proofs.NextRecords.{last_below, page_exists}
 
 -- nothing is asked yet
 pub nothing_asked : (pages : PageStore) (site : State) → StepsMachine {T = ⊤} (Ok tt) [] pages pages site site
-nothing_asked pages site = asks_nothing {T = ⊤} (Ok tt) pages site site (λ dev. refl) (λ is. cc) (stages_none (omega arith) refl)
+nothing_asked pages site = asks_nothing {T = ⊤} (Ok tt) pages site site (λ dev. refl) (λ is. cc) (stages_none refl (omega arith) refl)
 
 -- a call that stops before it asks for anything, and not since flash is worn
 pub stops_first : {A : Type 0} (stop : Stop) (works : List CacheWork) (pages : PageStore) (site : State) → 1 ≤ (rules pages).groups → stop ≢ Worn Flash → StepsMachine {T = A} (Err stop) works pages pages site site
 stops_first {A} stop works pages site some never =
     asks_stopped {A = A} {B = A} stop [] works pages pages site site some
-    (asks_nothing {T = A} (Err stop) pages site site (λ dev. refl) (λ is. never (let same : stop ≡ Worn Flash = cc in same)) (stages_none (omega arith) refl))
+    (asks_nothing {T = A} (Err stop) pages site site (λ dev. refl) (λ is. never (let same : stop ≡ Worn Flash = cc in same)) (stages_none tt (omega arith) refl))
 
 -- why analysis stops
 pub not_worn : (stop : Stop) → (stop ≡ Memory) ⊎ (stop ≡ Foreign) → stop ≢ Worn Flash
@@ -114,7 +114,7 @@ asks_all {A} x o old new before now done all is asked =
 
 pub asks_early : {A : Type 0} (x : A) (o : Opening) (e : Entry) (pages : PageStore) (site : State) → e.lsn < 512 * (opened o).master.redo → StepsMachine {T = A} (Ok x) (asked_of o (e ∷ [])) pages pages site site
 asks_early {A} x o e pages site early =
-    subst (λ (works : List CacheWork). StepsMachine {T = A} (Ok x) works pages pages site site) (sym (asked_early o e early)) (asks_nothing {T = A} (Ok x) pages site site (λ dev. refl) (λ is. cc) (stages_none (omega arith) refl))
+    subst (λ (works : List CacheWork). StepsMachine {T = A} (Ok x) works pages pages site site) (sym (asked_early o e early)) (asks_nothing {T = A} (Ok x) pages site site (λ dev. refl) (λ is. cc) (stages_none refl (omega arith) refl))
 
 pub asks_late : {A : Type 0} (result : Result A Stop) (o : Opening) (e : Entry) (old new : PageStore) (before now : State) → 512 * (opened o).master.redo ≤ e.lsn → StepsMachine result (touches_of o (e ∷ [])) old new before now → StepsMachine result (asked_of o (e ∷ [])) old new before now
 asks_late result o e old new before now late asks = subst (λ (works : List CacheWork). StepsMachine result works old new before now) (sym (asked_late o e late)) asks
@@ -156,7 +156,7 @@ touch_of o e page number change own at is =
 
 pub asks_no_page : {A : Type 0} (x : A) (o : Opening) (e : Entry) (pages : PageStore) (site : State) → number_of e.rec ≡ None → StepsMachine {T = A} (Ok x) (touches_of o (e ∷ [])) pages pages site site
 asks_no_page {A} x o e pages site none =
-    subst (λ (works : List CacheWork). StepsMachine {T = A} (Ok x) works pages pages site site) (sym (no_touch o e none)) (asks_nothing {T = A} (Ok x) pages site site (λ dev. refl) (λ is. cc) (stages_none (omega arith) refl))
+    subst (λ (works : List CacheWork). StepsMachine {T = A} (Ok x) works pages pages site site) (sym (no_touch o e none)) (asks_nothing {T = A} (Ok x) pages site site (λ dev. refl) (λ is. cc) (stages_none refl (omega arith) refl))
 
 pub stops_in_touch : {A : Type 0} (stop : Stop) (o : Opening) (e : Entry) (page number : ℕ) (old new : PageStore) (before now : State) → number_of e.rec ≡ Some number → number / 32 ≡ page → 1 ≤ (rules old).groups →
     StepsMachine {T = A} (Err stop) (one_touch page) old new before now → StepsMachine {T = A} (Err stop) (touches_of o (e ∷ [])) old new before now

@@ -57,7 +57,7 @@ use Rattle.redo_undo.proofs.CallsInSequence.{sound_there, nothing_happens}
 use Rattle.redo_undo.proofs.Touched.{hi_is}
 use Rattle.redo_undo.proofs.Appended.{current_same, more_sealed}
 use Rattle.log_laws.specs.Follow.{IsUndoable}
-use Rattle.std.proofs.lemmas.Bool.{eqb-true, eq-eqb, cond-true, cond-false, le-leb, lt-ltb}
+use Rattle.std.proofs.lemmas.Bool.{cond-true, cond-false, le-leb, lt-ltb}
 use Rattle.redo_undo.proofs.NextRecords.{order_ends}
 use Rattle.image_changes.specs.Reached.{LeavesFront}
 

@@ -30,7 +30,7 @@ pub asks_none : (records : List Entry) (txn : ℕ) (pages : PageStore) (site : S
 asks_none records txn pages site = record {
   done = [];
   are = sym (ap (λ (l : List Entry). left_open l txn) (append-nil records));
-  asks = asks_nothing {T = ⊤} (Ok tt) pages site site (λ d. refl) (λ (is : IsErrOf {T = ⊤} (Ok tt) (Worn Flash)). cc) (stages_none (omega arith) refl);
+  asks = asks_nothing {T = ⊤} (Ok tt) pages site site (λ d. refl) (λ (is : IsErrOf {T = ⊤} (Ok tt) (Worn Flash)). cc) (stages_none refl (omega arith) refl);
 }
 
 -- one CLR more

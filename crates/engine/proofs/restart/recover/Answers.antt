@@ -60,6 +60,7 @@ returns-in-Err-clause-recovers g c newest blocks table commits h =
       asks = from_stopped c.in-Err.stop _ (redo_works p ++ undo_works p.log) checkpoint_works _ _ _ _ some two;
       writes = writes_stopped c.in-Err.stop (redo_works p ++ undo_works p.log) checkpoint_works _ _ _ _ some two (fits_queue c.args.opened.pages old c.requires.may.going.pages_going h.opened_is.ready.pages);
       log_reads = omega (arith, c.redo.ensures.log_reads, kept_of c.args.opened old newest blocks table commits h);
+      last = λ quiet. tt;
     }
 
 -- what undo may take has room
@@ -100,6 +101,7 @@ returns-in-Err-undo_all-clause-recovers g c newest blocks table commits h =
       asks = from_stopped c.in-Err-undo_all.stop _ (redo_works p ++ undo_works p.log) checkpoint_works _ _ _ _ some asks;
       writes = writes_stopped c.in-Err-undo_all.stop (redo_works p ++ undo_works p.log) checkpoint_works _ _ _ _ some asks (fits_queue c.args.opened.pages old c.requires.may.going.pages_going h.opened_is.ready.pages);
       log_reads = omega (arith, c.redo.ensures.log_reads, kept_of c.args.opened old newest blocks table commits h, c.undo_all.ensures.reads newest records table commits none holds read);
+      last = λ quiet. tt;
     }
 
 -- there are no more commits than blocks
@@ -202,6 +204,7 @@ returns-in-Ok-checkpoint-clause-recovers g c newest blocks table commits h =
       asks = from_ok c.in-Ok-checkpoint.field-0 _ _ _ _ _ _ _ _ refl (λ dev. refl) behind.2;
       writes = behind.2.stages.writes (fits_queue c.args.opened.pages _ c.requires.may.going.pages_going h.opened_is.ready.pages);
       log_reads = read_of g s newest blocks table commits h;
+      last = behind.2.stages.last (fits_queue c.args.opened.pages _ c.requires.may.going.pages_going h.opened_is.ready.pages);
     }
 
 pub returns-clause-recovers : goal.returns-clause-recovers
@@ -217,6 +220,7 @@ returns-clause-recovers g c newest blocks table commits h =
       asks = from_err c.in-Err-checkpoint.stop _ _ _ _ _ _ behind.2;
       writes = behind.2.stages.writes (fits_queue c.args.opened.pages _ c.requires.may.going.pages_going h.opened_is.ready.pages);
       log_reads = read_of g s newest blocks table commits h;
+      last = behind.2.stages.last (fits_queue c.args.opened.pages _ c.requires.may.going.pages_going h.opened_is.ready.pages);
     }
 
 pub returns-in-Ok-checkpoint-clause-restarts : goal.returns-in-Ok-checkpoint-clause-restarts

@@ -5,7 +5,8 @@ use Rattle.site.specs.declared.outside.Dev.TheVariants.{Log, Flash}
 use Rattle.site.specs.declared.outside.Stop.TheVariants.{Worn, Foreign}
 use Rattle.log_records.specs.Log.{table_of}
 use Rattle.page_store.specs.Caching.{cache_of, rules}
-use Rattle.engine.proofs.Asking.{from_found, not_found, still_writes, writes_found}
+use Rattle.site.proofs.Working.{ok_as}
+use Rattle.engine.proofs.Asking.{from_found, last_found, not_found, still_writes, writes_found}
 use Rattle.std.specs.Prelude.{Ok, IfOk}
 use Rattle.std.proofs.Common.{◌≡◌, ◌∙◌, sym, subst, ap, refl, arith, ℕ}
 use Rattle.site.specs.State.{IsQuiet}
@@ -86,6 +87,17 @@ returns g c =
           writes_found c.works_add_up.ensures.rise k (rules_of c.args.pool k.groups) (restart_works p) c.in-Ok-open.opened.pages.flash.geometry (rules c.in-Ok-open.opened.pages) (restart_works (picture_under newest c.in-Ok-open.opened.pages.flash.geometry mid.image blocks)) (cache_of c.in-Ok-open.opened.pages) old mid _ (omega (arith, sound.octets.limits.groups)) quiet unchanged sizes
           (λ i. rules_of (c.in-Ok-open.ensures.pool i) (sizes i).groups) (λ i. restart_works (picture_under newest (sizes i) (unchanged.image i) blocks)) (c.in-Ok-open.ensures.cache honest newest blocks there ∙ ap (λ (x : Geometry). cache_on x old.image) same)
           ((c.recover.ensures.recovers newest blocks (table_of p.log p.pages) (commit_count p) ready).writes (unchanged.loose ∙ quiet));
+      last = λ honest quiet k newest blocks sound.
+          let same : c.in-Ok.geometry ≡ k = (c.in-Ok.ensures.found k sound.octets.limits sound.octets.lengths).1 in
+          let there = subst (λ (x : Geometry). IsSound newest x old.image blocks) (sym same) sound in
+          let p = picture_under newest k old.image blocks in
+          let means : Means (picture_under newest k old.image blocks) (table_of p.log p.pages) (commit_count p) = record { table_is = refl; count_is = refl } in
+          let ready : IsReady c.in-Ok-open.opened mid newest blocks (table_of p.log p.pages) (commit_count p) = c.in-Ok-open.ensures.ready honest newest blocks (table_of p.log p.pages) (commit_count p) there (subst (λ (x : Geometry). Means (picture_under newest x old.image blocks) (table_of p.log p.pages) (commit_count p)) (sym same) means) in
+          let sizes = c.in-Ok-open.ensures.sizes ∙ same in
+          let unchanged = c.open.ensures.same honest in
+          ok_as c.recover.result _ _ (last_found k (rules_of c.args.pool k.groups) (restart_works p) c.in-Ok-open.opened.pages.flash.geometry (rules c.in-Ok-open.opened.pages) (restart_works (picture_under newest c.in-Ok-open.opened.pages.flash.geometry mid.image blocks)) (cache_of c.in-Ok-open.opened.pages) old mid _ unchanged sizes
+          (λ i. rules_of (c.in-Ok-open.ensures.pool i) (sizes i).groups) (λ i. restart_works (picture_under newest (sizes i) (unchanged.image i) blocks)) (c.in-Ok-open.ensures.cache honest newest blocks there ∙ ap (λ (x : Geometry). cache_on x old.image) same))
+          ((c.recover.ensures.recovers newest blocks (table_of p.log p.pages) (commit_count p) ready).last (unchanged.loose ∙ quiet));
       restarts =
           record {
             calls = calls_behind c.open.ensures.goes c.open.ensures.same c.in-Ok-open.ensures.faults behind.calls;
@@ -126,6 +138,7 @@ returns-in-Err-open g c =
           omega (arith, c.open.ensures.log_reads, ap (λ (x : Geometry). x.blocks) same);
       writes = λ honest quiet k newest blocks sound.
           still_writes c.works_add_up.ensures.rise k (rules_of c.args.pool k.groups) (restart_works (picture_under newest k (g.S.Site.state c.args.site.now).image blocks)) (g.S.Site.state c.args.site.now) (g.S.Site.state c.open.new.site) (omega (arith, sound.octets.limits.groups)) quiet (c.open.ensures.same honest);
+      last = λ honest quiet k newest blocks sound. tt;
       restarts =
           record {
             calls = calls_failed (calls_stopped c.open.ensures.goes c.open.ensures.same c.in-Err-open.ensures.device c.in-Err-open.ensures.faults);

@@ -3,13 +3,15 @@ use Rattle.site.specs.declared.outside.Dev.TheVariants.{Flash, Log}
 use Rattle.site.specs.declared.outside.Stop.TheVariants.{Worn}
 use Rattle.engine.specs.Image.{log_under}
 use Rattle.face.proofs.Counted.{first_counted, restart_numbers, restart_told, restart_wears}
-use Rattle.engine.specs.Paging.{restart_works, cache_on}
+use Rattle.engine.specs.Paging.{HasLastFrom, restart_works, cache_on}
 use Rattle.second_chance.specs.Machine.{rules_of}
 use Rattle.image_meaning.specs.Meaning.{picture_under}
-use Rattle.face.proofs.Writings.{writes_told}
+use Rattle.face.proofs.Writings.{last_told, writes_told}
+use Rattle.record_model.specs.Touches.{CacheWork}
+use Rattle.std.proofs.lemmas.List.{append-nil}
 use Rattle.face.proofs.Pagings.{first_paged, first_reads, never_paged}
 use Rattle.std.specs.Prelude.{Err}
-use Rattle.std.proofs.Common.{◌∙◌, ap, ◌≡◌, refl, ◌≤◌, arith}
+use Rattle.std.proofs.Common.{◌∙◌, ap, ◌≡◌, List, refl, ◌≤◌, arith, subst, sym}
 use Rattle.site.specs.Laws.{stays_honest, goes_in_sequence}
 use Rattle.shell_text.specs.Texts.{open_text}
 use Rattle.face.specs.Texts.{status_of}
@@ -122,6 +124,17 @@ returns-in-Ok-tell_all-clause-reads g c run begins newest blocks sound =
     first_reads c.args.pool run newest old.image blocks c.start.result (λ e. e.store.pages) old (g.S.Site.state c.start.new.site) (g.S.Site.state c.tell_all.new.site) c.tell_all.ensures.reads
     (writes_told run.geometry (rules_of c.args.pool run.geometry.groups) (restart_works (picture_under newest run.geometry old.image blocks)) (cache_on run.geometry old.image) _ old (g.S.Site.state c.start.new.site) (g.S.Site.state c.tell_all.new.site) (c.start.ensures.writes begins.honest begins.quiet run.geometry newest blocks sound)
     (c.tell_all.ensures.any_moment (stays_honest old (g.S.Site.state c.start.new.site) c.start.ensures.calls.goes begins.honest))) (c.start.ensures.asks begins.honest run.geometry newest blocks sound) (c.start.ensures.log_reads begins.honest run.geometry newest blocks sound)
+
+pub returns-in-Ok-tell_all-clause-staged : goal.returns-in-Ok-tell_all-clause-staged
+returns-in-Ok-tell_all-clause-staged g c run begins newest blocks sound =
+    let old = g.S.Site.state c.args.site.now in
+    let mid = g.S.Site.state c.start.new.site in
+    let new = g.S.Site.state c.tell_all.new.site in
+    let r = rules_of c.args.pool run.geometry.groups in
+    let restart = restart_works (picture_under newest run.geometry old.image blocks) in
+    subst (λ (w : List CacheWork). HasLastFrom run.geometry r w (cache_on run.geometry old.image) old new) (sym (append-nil restart))
+    (last_told run.geometry r restart (cache_on run.geometry old.image) _ old mid new (c.start.ensures.writes begins.honest begins.quiet run.geometry newest blocks sound).grown
+    (c.tell_all.ensures.any_moment (stays_honest old mid c.start.ensures.calls.goes begins.honest)) (c.in-Ok.ensures.last begins.honest begins.quiet run.geometry newest blocks sound))
 
 pub returns-in-Err-tell_all-clause-reads : goal.returns-in-Err-tell_all-clause-reads
 returns-in-Err-tell_all-clause-reads g c run begins newest blocks sound =

@@ -9,21 +9,22 @@ use Rattle.face.specs.Going.{Going, IsCounted, IsPaged}
 use Rattle.engine.specs.Image.{log_under}
 use Rattle.record_model.specs.Touches.{CacheWork}
 use Rattle.second_chance.specs.Machine.{after_works, rules_of}
-use Rattle.engine.specs.Paging.{cache_on}
+use Rattle.engine.specs.Paging.{HasLastFrom, cache_on}
 use Rattle.face.proofs.Counted.{counted_on, counts_next, counts_still, next_counted, wears_next}
-use Rattle.face.proofs.Writings.{engine_queue}
-use Rattle.face.proofs.Pagings.{asked_with, next_paged, next_reads, next_worn, paged_queue, paged_room, paged_versions, few_heard}
+use Rattle.face.proofs.Writings.{engine_queue, last_heard}
+use Rattle.face.proofs.Pagings.{asked_with, log_reads_with, next_last, next_paged, next_reads, next_worn, paged_queue, paged_room, paged_versions, few_heard}
 use Rattle.engine.specs.Listings.{listing_of}
 use Rattle.face.specs.Lines.{up_to_quit}
-use Rattle.face.specs.Range.{ListsTheMachine}
+use Rattle.face.specs.Range.{AsksNoMore, ListsTheMachine, WritesAsTold}
 use Rattle.face.specs.Run.{Run, Begins, AsksFew, first_lines, state_at, listings_left, listing_at}
-use Rattle.face.specs.Working.{AnswersFirst, asked_after}
+use Rattle.face.specs.Working.{AnswersFirst, asked_after, log_reads_after}
 use Rattle.face.specs.Texts.{status_of}
 use Rattle.face.proofs.Cuts.{Cut, no_cut, cut_more, cut_stays, line_is, cut_few_octets}
 use Rattle.face.proofs.Ends.{lists_nothing, never_opened, taking_failed, finished, answer_failed, heard_end, line_heard, quitted, taking_cause, answer_takes_nothing, answer_cause}
 use Rattle.face.proofs.Hearings.{hears_answer, hears_cut, hears_end, hears_nothing, hears_quit}
 use Rattle.face.proofs.Waits.{answers_none, answers_next, answers_still}
-use Rattle.face.proofs.Listed.{with_line, going_before, answers_before, is_asked, left_after, listed_next}
+use Rattle.face.proofs.Listed.{with_line, going_before, answers_before, written_before, is_asked, left_after, listed_next}
+use Rattle.face.proofs.Written.{written_answered, written_heard, written_opened}
 use Rattle.face.proofs.RunsSoFar.{begun_after, moved, cut_short, goes_on}
 use Rattle.face.proofs.Logs.{still_fits, goes_on as engine_goes_on}
 use Rattle.face.proofs.top.work.Goals as goal
@@ -42,9 +43,10 @@ loop-line-init g c = record {
   engine = c.in-Ok.ensures.goes_on;
   cut = λ honest. no_cut _ c.new-source.result _ c.new-source.ensures.empty c.new-source.ensures.taken c.new-source.ensures.going (ap (λ (input : Input). input.left) (c.open.ensures.left honest));
   fits = c.in-Ok.ensures.fits;
-  under_way = record { listings = []; left = λ run later begins is. is; going = λ run later begins is. c.in-Ok.ensures.going run begins; listed = λ run later begins is. lists_nothing c.args.pool run (g.S.Site.state c.args.site.now).image; answers = λ run later begins is. answers_none run _ _ (c.open.ensures.left begins.honest) };
+  under_way = record { listings = []; left = λ run later begins is. is; going = λ run later begins is. c.in-Ok.ensures.going run begins; listed = λ run later begins is. lists_nothing c.args.pool run (g.S.Site.state c.args.site.now).image; written = λ run later begins is. written_opened c.args.pool run _ _ (c.in-Ok.ensures.going run begins).moments (c.open.ensures.reads run begins); answers = λ run later begins is. answers_none run _ _ (c.open.ensures.left begins.honest) };
   paged = c.in-Ok.ensures.paged;
   reads = c.open.ensures.reads;
+  staged = c.in-Ok.ensures.staged;
   counted = c.in-Ok.ensures.counted;
 }
 
@@ -61,7 +63,8 @@ returns-in-Err-next-clause-works g c =
           let going = moved run entry mid next c.loop-line.engine c.loop-line._line so_far c.next.ensures.goes (c.next.ensures.same so_far.fits.honest) in
           taking_failed c.args.pool run entry mid next c.loop-line.engine c.loop-line.source c.loop-line._line cut c.loop-line.invariant.source going (under_way.listed run [] begins (same ∙ sym (append-nil under_way.listings)))
           (λ newest blocks sound. few_heard _ _ _ _ entry mid next (c.next.ensures.same so_far.fits.honest) (c.loop-line.invariant.reads run begins newest blocks sound))
-          (answers_next run entry mid next c.loop-line.source c.loop-line._line c.loop-line._line cut c.loop-line.invariant.source so_far.told (omega arith) (under_way.answers run [] begins (same ∙ sym (append-nil under_way.listings))) (c.next.ensures.takes so_far.fits.honest cut.ended)) c.in-Err-next.halt c.in-Err-next.ensures.halts (c.in-Err-next.ensures.cut_off so_far.fits.honest cut.ended)
+          (answers_next run entry mid next c.loop-line.source c.loop-line._line c.loop-line._line cut c.loop-line.invariant.source so_far.told (omega arith) (under_way.answers run [] begins (same ∙ sym (append-nil under_way.listings))) (c.next.ensures.takes so_far.fits.honest cut.ended))
+          (written_heard c.args.pool run c.loop-line._line entry mid next (c.next.ensures.same so_far.fits.honest) (under_way.written run [] begins (same ∙ sym (append-nil under_way.listings)))) c.in-Err-next.halt c.in-Err-next.ensures.halts (c.in-Err-next.ensures.cut_off so_far.fits.honest cut.ended)
           (λ newest blocks sound. counts_still run (log_under newest blocks) entry mid next c.loop-line._line (c.next.ensures.same so_far.fits.honest) (c.loop-line.invariant.counted run begins newest blocks sound).numbers),
     )
 
@@ -88,10 +91,12 @@ returns-in-End-clause-works g c =
           let end = heard_end c.in-Ok-next.heard _ _ _ _ (c.in-Ok-next.ensures.heard honest cut.ended) c.in-End.is in
           finished c.args.pool run entry mid next c.loop-line.engine c.loop-line.source c.loop-line._line cut c.loop-line.invariant.source going (under_way.listed run [] begins (same ∙ sym (append-nil under_way.listings)))
           (λ newest blocks sound. few_heard _ _ _ _ entry mid next (c.next.ensures.same so_far.fits.honest) (c.loop-line.invariant.reads run begins newest blocks sound))
-          (answers_next run entry mid next c.loop-line.source c.loop-line._line c.loop-line._line cut c.loop-line.invariant.source so_far.told (omega arith) (under_way.answers run [] begins (same ∙ sym (append-nil under_way.listings))) (c.next.ensures.takes honest cut.ended)) _ end.0 (c.in-Ok-next.ensures.ended honest cut.ended end.1)
+          (answers_next run entry mid next c.loop-line.source c.loop-line._line c.loop-line._line cut c.loop-line.invariant.source so_far.told (omega arith) (under_way.answers run [] begins (same ∙ sym (append-nil under_way.listings))) (c.next.ensures.takes honest cut.ended))
+          (written_heard c.args.pool run c.loop-line._line entry mid next (c.next.ensures.same so_far.fits.honest) (under_way.written run [] begins (same ∙ sym (append-nil under_way.listings)))) _ end.0 (c.in-Ok-next.ensures.ended honest cut.ended end.1)
           (λ newest blocks sound. paged_room c.args.pool run newest entry.image blocks c.loop-line.engine mid c.loop-line._line (c.loop-line.invariant.paged run begins newest blocks sound) c.loop-line.invariant.engine)
           (λ newest blocks sound. paged_queue c.args.pool run newest entry.image blocks c.queue_is_on_flash.ensures c.loop-line.engine next (state_at run c.loop-line._line) c.loop-line._line going.fits going.geometry (c.loop-line.invariant.paged run begins newest blocks sound))
           (λ newest blocks sound. paged_versions c.args.pool run newest entry.image blocks c.versions_are_seen.ensures c.loop-line.engine next c.loop-line._line going.fits going.geometry (c.loop-line.invariant.paged run begins newest blocks sound))
+          (λ newest blocks sound. last_heard run.geometry (rules_of c.args.pool run.geometry.groups) (asked_after run newest entry.image blocks c.loop-line._line) (cache_on run.geometry entry.image) entry mid next (c.next.ensures.same honest) (c.loop-line.invariant.staged run begins newest blocks sound))
           (λ newest blocks sound. seals_no_more c.args.pool run c.loop-line._line newest blocks entry mid next.image c.loop-line.engine next refl going.geometry going.fits (engine_goes_on c.loop-line.engine mid next c.loop-line.invariant.engine c.next.ensures.goes) (c.loop-line.invariant.paged run begins newest blocks sound)
           (c.loop-line.invariant.counted run begins newest blocks sound))
           (λ newest blocks sound. counts_still run (log_under newest blocks) entry mid next c.loop-line._line (c.next.ensures.same honest) (c.loop-line.invariant.counted run begins newest blocks sound).numbers),
@@ -119,11 +124,13 @@ returns-in-Err-answer-clause-works g c =
           let is = ap (λ (l : List Line). drop i (up_to_quit l)) begins.lines ∙ line_is entry.input.left c.loop-line.source mid i cut c.loop-line.invariant.source c.next.new.self next c.in-Line.line hears ended c.next.ensures.source in
           let stops = cut_short run entry next c.loop-line.engine i going new c.in-Line.line _ is (c.answer.ensures.any_moment (state_at run i) (listing_at run i) asked going.fits going.quiet) c.in-Err-answer.halt
           (λ ne. c.in-Err-answer.ensures.quiet _ going.fits going.quiet (λ d e. ne (ap status_of e))) (c.in-Err-answer.ensures.untold _ going.fits going.quiet) in
+          let asks : AsksNoMore c.args.pool (first_lines run (suc i)) entry new = λ newest blocks sound. next_reads c.args.pool run newest entry.image blocks c.works_add_up.ensures.works i c.in-Line.line _ is c.loop-line.engine (c.loop-line.invariant.paged run begins newest blocks sound) c.works_add_up.ensures.reads entry mid next new refl (c.next.ensures.same honest) (c.loop-line.invariant.reads run begins newest blocks sound) going.geometry (let least = sound.octets.limits.groups in omega (arith, least)) (c.answer.ensures.asks (state_at run i) going.fits).reads
+          ((c.answer.ensures.asks (state_at run i) going.fits).writes (engine_queue c.loop-line.engine next (state_at run i) (engine_goes_on c.loop-line.engine mid next c.loop-line.invariant.engine c.next.ensures.goes) going.fits) going.quiet) (c.answer.ensures.asks (state_at run i) going.fits).log_reads in
           answer_failed c.args.pool run entry mid next new c.loop-line.source c.next.new.self i cut c.loop-line.invariant.source c.in-Line.line hears ended c.next.ensures.source (c.answer.ensures.left going.fits.honest)
           (listed_next c.args.pool entry mid c.loop-line.engine i under_way c.in-Line.line run [] begins listed _ is (c.loop-line.invariant.paged run begins))
-          (λ newest blocks sound. next_reads c.args.pool run newest entry.image blocks c.works_add_up.ensures.works i c.in-Line.line _ is c.loop-line.engine (c.loop-line.invariant.paged run begins newest blocks sound) c.works_add_up.ensures.reads entry mid next new refl (c.next.ensures.same honest) (c.loop-line.invariant.reads run begins newest blocks sound) going.geometry (let least = sound.octets.limits.groups in omega (arith, least)) (c.answer.ensures.asks (state_at run i) going.fits).reads
-          ((c.answer.ensures.asks (state_at run i) going.fits).writes (engine_queue c.loop-line.engine next (state_at run i) (engine_goes_on c.loop-line.engine mid next c.loop-line.invariant.engine c.next.ensures.goes) going.fits) going.quiet) (c.answer.ensures.asks (state_at run i) going.fits).log_reads)
-          (answers_still run (suc i) entry next new (c.answer.ensures.left going.fits.honest) (answers_next run entry mid next c.loop-line.source i (suc i) cut c.loop-line.invariant.source so_far.told (omega arith) (answers_before c.args.pool entry mid c.loop-line.engine i under_way c.in-Line.line run [] begins listed) (c.next.ensures.takes honest cut.ended))) c.in-Err-answer.halt stops
+          asks
+          (answers_still run (suc i) entry next new (c.answer.ensures.left going.fits.honest) (answers_next run entry mid next c.loop-line.source i (suc i) cut c.loop-line.invariant.source so_far.told (omega arith) (answers_before c.args.pool entry mid c.loop-line.engine i under_way c.in-Line.line run [] begins listed) (c.next.ensures.takes honest cut.ended)))
+          (written_answered c.args.pool run i entry next new going.told (c.answer.ensures.any_moment (state_at run i) (listing_at run i) asked going.fits going.quiet) asks (written_heard c.args.pool run i entry mid next (c.next.ensures.same honest) (written_before c.args.pool entry mid c.loop-line.engine i under_way c.in-Line.line run [] begins listed))) c.in-Err-answer.halt stops
           (begun_after run entry next c.loop-line.engine i going new c.in-Line.line _ is (c.answer.ensures.any_moment (state_at run i) (listing_at run i) asked going.fits going.quiet)) (answer_takes_nothing c.in-Err-answer.halt c.loop-line.engine next new c.in-Err-answer.ensures.cause)
           (λ worn newest blocks sound. next_worn c.args.pool run newest entry.image blocks c.works_add_up.ensures.works i c.in-Line.line _ is c.loop-line.engine (c.loop-line.invariant.paged run begins newest blocks sound) ((c.in-Err-answer.ensures.asks (state_at run i) going.fits).worn (ap Err worn)))
           (λ worn newest blocks sound. wears_next run (log_under newest blocks) entry mid next new c.loop-line.engine c.answer.new.engine i c.in-Line.line _ is (c.next.ensures.same honest) going.geometry (c.loop-line.invariant.counted run begins newest blocks sound) _ (c.in-Err-answer.ensures.numbers (state_at run i) going.fits going.quiet) (ap Err worn))
@@ -184,6 +191,19 @@ loop-line-preserved g c =
                 let ended = c.in-Ok-next.ensures.ended honest cut.ended in
                 let at = ap (λ (l : List Line). drop i (up_to_quit l)) begins.lines ∙ line_is entry.input.left c.loop-line.source mid i cut c.loop-line.invariant.source c.next.new.self next c.in-Line.line hears ended c.next.ensures.source in
                 subst (λ (n : ℕ). ListsTheMachine c.args.pool (first_lines run n) entry.image) (sym (add-one i)) (listed_next c.args.pool entry mid c.loop-line.engine i under_way c.in-Line.line run later begins is _ at (c.loop-line.invariant.paged run begins));
+            written = λ run later begins listed.
+                let cut = c.loop-line.invariant.cut begins.honest in
+                let so_far = going_before c.args.pool entry mid c.loop-line.engine i under_way c.in-Line.line run later begins listed in
+                let asked = is_asked c.args.pool entry mid c.loop-line.engine i under_way c.in-Line.line run later begins listed in
+                let honest = so_far.fits.honest in
+                let going = moved run entry mid next c.loop-line.engine i so_far c.next.ensures.goes (c.next.ensures.same honest) in
+                let hears = line_heard c.in-Ok-next.heard c.in-Line.line _ _ _ _ (c.in-Ok-next.ensures.heard honest cut.ended) c.in-Line.is in
+                let ended = c.in-Ok-next.ensures.ended honest cut.ended in
+                let is = ap (λ (l : List Line). drop i (up_to_quit l)) begins.lines ∙ line_is entry.input.left c.loop-line.source mid i cut c.loop-line.invariant.source c.next.new.self next c.in-Line.line hears ended c.next.ensures.source in
+                let asks : AsksNoMore c.args.pool (first_lines run (suc i)) entry new = λ newest blocks sound. next_reads c.args.pool run newest entry.image blocks c.works_add_up.ensures.works i c.in-Line.line _ is c.loop-line.engine (c.loop-line.invariant.paged run begins newest blocks sound) c.works_add_up.ensures.reads entry mid next new refl (c.next.ensures.same honest) (c.loop-line.invariant.reads run begins newest blocks sound) going.geometry (let least = sound.octets.limits.groups in omega (arith, least)) (c.answer.ensures.asks (state_at run i) going.fits).reads
+                ((c.answer.ensures.asks (state_at run i) going.fits).writes (engine_queue c.loop-line.engine next (state_at run i) (engine_goes_on c.loop-line.engine mid next c.loop-line.invariant.engine c.next.ensures.goes) going.fits) going.quiet) (c.answer.ensures.asks (state_at run i) going.fits).log_reads in
+                subst (λ (n : ℕ). WritesAsTold c.args.pool run n entry new) (sym (add-one i))
+                (written_answered c.args.pool run i entry next new going.told (c.answer.ensures.any_moment (state_at run i) (listing_at run i) asked going.fits going.quiet) asks (written_heard c.args.pool run i entry mid next (c.next.ensures.same honest) (written_before c.args.pool entry mid c.loop-line.engine i under_way c.in-Line.line run later begins listed)));
             answers = λ run later begins listed.
                 let cut = c.loop-line.invariant.cut begins.honest in
                 let so_far = going_before c.args.pool entry mid c.loop-line.engine i under_way c.in-Line.line run later begins listed in
@@ -224,6 +244,24 @@ loop-line-preserved g c =
           (subst (λ (w : List CacheWork). AsksFew c.args.pool run.geometry w (log_reads_after run newest blocks (suc i)) entry new) (asked_with run with newest entry.image blocks (suc i))
           (subst (λ (n : ℕ). AsksFew c.args.pool run.geometry (asked_after own newest entry.image blocks (suc i)) n entry new) (log_reads_with run with newest blocks (suc i)) (next_reads c.args.pool own newest entry.image blocks c.works_add_up.ensures.works i c.in-Line.line _ is c.loop-line.engine (c.loop-line.invariant.paged own starts newest blocks sound) c.works_add_up.ensures.reads entry mid next new refl (c.next.ensures.same honest) (c.loop-line.invariant.reads own starts newest blocks sound) going.geometry (let least = sound.octets.limits.groups in omega (arith, least)) (c.answer.ensures.asks (state_at own i) going.fits).reads
           ((c.answer.ensures.asks (state_at own i) going.fits).writes (engine_queue c.loop-line.engine next (state_at own i) (engine_goes_on c.loop-line.engine mid next c.loop-line.invariant.engine c.next.ensures.goes) going.fits) going.quiet) (c.answer.ensures.asks (state_at own i) going.fits).log_reads)));
+      staged = λ run begins newest blocks sound.
+          let under_way = c.loop-line.invariant.under_way in
+          let with = with_line c.args.pool entry mid c.loop-line.engine i under_way c.in-Line.line in
+          let own : Run = record run { listings = with } in
+          let starts : Begins own entry = record { honest = begins.honest; quiet = begins.quiet; opens = begins.opens; lines = begins.lines } in
+          let cut = c.loop-line.invariant.cut begins.honest in
+          let so_far = going_before c.args.pool entry mid c.loop-line.engine i under_way c.in-Line.line own [] starts (sym (append-nil with)) in
+          let honest = so_far.fits.honest in
+          let going = moved own entry mid next c.loop-line.engine i so_far c.next.ensures.goes (c.next.ensures.same honest) in
+          let hears = line_heard c.in-Ok-next.heard c.in-Line.line _ _ _ _ (c.in-Ok-next.ensures.heard honest cut.ended) c.in-Line.is in
+          let ended = c.in-Ok-next.ensures.ended honest cut.ended in
+          let is = ap (λ (l : List Line). drop i (up_to_quit l)) begins.lines ∙ line_is entry.input.left c.loop-line.source mid i cut c.loop-line.invariant.source c.next.new.self next c.in-Line.line hears ended c.next.ensures.source in
+          let r = rules_of c.args.pool run.geometry.groups in
+          subst (λ (n : ℕ). HasLastFrom run.geometry r (asked_after run newest entry.image blocks n) (cache_on run.geometry entry.image) entry new) (sym (add-one i))
+          (subst (λ (w : List CacheWork). HasLastFrom run.geometry r w (cache_on run.geometry entry.image) entry new) (asked_with run with newest entry.image blocks (suc i))
+          (next_last c.args.pool own newest entry.image blocks c.works_add_up.ensures.works i c.in-Line.line _ is c.loop-line.engine (c.loop-line.invariant.paged own starts newest blocks sound) entry mid next new refl (c.next.ensures.same honest) (c.loop-line.invariant.reads own starts newest blocks sound) going.geometry
+          ((c.answer.ensures.asks (state_at own i) going.fits).writes (engine_queue c.loop-line.engine next (state_at own i) (engine_goes_on c.loop-line.engine mid next c.loop-line.invariant.engine c.next.ensures.goes) going.fits) going.quiet) (c.loop-line.invariant.staged own starts newest blocks sound)
+          ((c.in_default.ensures.asks (state_at own i) going.fits).last (engine_queue c.loop-line.engine next (state_at own i) (engine_goes_on c.loop-line.engine mid next c.loop-line.invariant.engine c.next.ensures.goes) going.fits) going.quiet)));
       counted = λ run begins newest blocks sound.
           let under_way = c.loop-line.invariant.under_way in
           let with = with_line c.args.pool entry mid c.loop-line.engine i under_way c.in-Line.line in
@@ -262,17 +300,22 @@ returns-then-last-clause-works g c =
           let is = ap (λ (l : List Line). drop i (up_to_quit l)) begins.lines ∙ line_is entry.input.left c.loop-line.source mid i cut c.loop-line.invariant.source c.next.new.self next c.in-Line.line hears ended c.next.ensures.source in
           let gone = goes_on run entry next c.loop-line.engine i going new c.in-Line.line _ is (c.answer.ensures.any_moment (state_at run i) (listing_at run i) asked going.fits going.quiet)
           c.answer.new.engine c.answer.ensures.sizes c.in_default.ensures.going.store.both.sizes (c.in_default.ensures.fits (state_at run i) (listing_at run i) asked going.fits) (c.in_default.ensures.stays_quiet going.fits.honest going.quiet) (c.in_default.ensures.told (state_at run i) (listing_at run i) asked going.fits going.quiet) in
+          let asks : AsksNoMore c.args.pool (first_lines run (suc i)) entry new = λ newest blocks sound. next_reads c.args.pool run newest entry.image blocks c.works_add_up.ensures.works i c.in-Line.line _ is c.loop-line.engine (c.loop-line.invariant.paged run begins newest blocks sound) c.works_add_up.ensures.reads entry mid next new refl (c.next.ensures.same honest) (c.loop-line.invariant.reads run begins newest blocks sound) going.geometry (let least = sound.octets.limits.groups in omega (arith, least)) (c.answer.ensures.asks (state_at run i) going.fits).reads
+          ((c.answer.ensures.asks (state_at run i) going.fits).writes (engine_queue c.loop-line.engine next (state_at run i) (engine_goes_on c.loop-line.engine mid next c.loop-line.invariant.engine c.next.ensures.goes) going.fits) going.quiet) (c.answer.ensures.asks (state_at run i) going.fits).log_reads in
           quitted c.args.pool run entry mid next new c.loop-line.source c.next.new.self i cut c.loop-line.invariant.source c.in-Line.line hears ended c.next.ensures.source (c.answer.ensures.left going.fits.honest)
           (listed_next c.args.pool entry mid c.loop-line.engine i under_way c.in-Line.line run [] begins listed _ is (c.loop-line.invariant.paged run begins))
-          (λ newest blocks sound. next_reads c.args.pool run newest entry.image blocks c.works_add_up.ensures.works i c.in-Line.line _ is c.loop-line.engine (c.loop-line.invariant.paged run begins newest blocks sound) c.works_add_up.ensures.reads entry mid next new refl (c.next.ensures.same honest) (c.loop-line.invariant.reads run begins newest blocks sound) going.geometry (let least = sound.octets.limits.groups in omega (arith, least)) (c.answer.ensures.asks (state_at run i) going.fits).reads
-          ((c.answer.ensures.asks (state_at run i) going.fits).writes (engine_queue c.loop-line.engine next (state_at run i) (engine_goes_on c.loop-line.engine mid next c.loop-line.invariant.engine c.next.ensures.goes) going.fits) going.quiet) (c.answer.ensures.asks (state_at run i) going.fits).log_reads)
-          (answers_still run (suc i) entry next new (c.answer.ensures.left going.fits.honest) (answers_next run entry mid next c.loop-line.source i (suc i) cut c.loop-line.invariant.source so_far.told (omega arith) (answers_before c.args.pool entry mid c.loop-line.engine i under_way c.in-Line.line run [] begins listed) (c.next.ensures.takes honest cut.ended))) _ c.answer.new.engine (sym c.quits-last.ensures ∙ c.if-last.true) gone
+          asks
+          (answers_still run (suc i) entry next new (c.answer.ensures.left going.fits.honest) (answers_next run entry mid next c.loop-line.source i (suc i) cut c.loop-line.invariant.source so_far.told (omega arith) (answers_before c.args.pool entry mid c.loop-line.engine i under_way c.in-Line.line run [] begins listed) (c.next.ensures.takes honest cut.ended)))
+          (written_answered c.args.pool run i entry next new going.told (c.answer.ensures.any_moment (state_at run i) (listing_at run i) asked going.fits going.quiet) asks (written_heard c.args.pool run i entry mid next (c.next.ensures.same honest) (written_before c.args.pool entry mid c.loop-line.engine i under_way c.in-Line.line run [] begins listed))) _ c.answer.new.engine (sym c.quits-last.ensures ∙ c.if-last.true) gone
           (λ newest blocks sound. paged_room c.args.pool run newest entry.image blocks c.answer.new.engine new (suc i)
           (next_paged c.args.pool run newest entry.image blocks c.works_add_up.ensures.works i c.in-Line.line _ is c.loop-line.engine (c.loop-line.invariant.paged run begins newest blocks sound) c.in_default.field-0 c.answer.new.engine next new (c.in_default.ensures.asks (state_at run i) going.fits)) c.in_default.ensures.going)
           (λ newest blocks sound. paged_queue c.args.pool run newest entry.image blocks c.queue_is_on_flash.ensures c.answer.new.engine new (state_at run (suc i)) (suc i) gone.fits gone.geometry
           (next_paged c.args.pool run newest entry.image blocks c.works_add_up.ensures.works i c.in-Line.line _ is c.loop-line.engine (c.loop-line.invariant.paged run begins newest blocks sound) c.in_default.field-0 c.answer.new.engine next new (c.in_default.ensures.asks (state_at run i) going.fits)))
           (λ newest blocks sound. paged_versions c.args.pool run newest entry.image blocks c.versions_are_seen.ensures c.answer.new.engine new (suc i) gone.fits gone.geometry
           (next_paged c.args.pool run newest entry.image blocks c.works_add_up.ensures.works i c.in-Line.line _ is c.loop-line.engine (c.loop-line.invariant.paged run begins newest blocks sound) c.in_default.field-0 c.answer.new.engine next new (c.in_default.ensures.asks (state_at run i) going.fits)))
+          (λ newest blocks sound. next_last c.args.pool run newest entry.image blocks c.works_add_up.ensures.works i c.in-Line.line _ is c.loop-line.engine (c.loop-line.invariant.paged run begins newest blocks sound) entry mid next new refl (c.next.ensures.same honest) (c.loop-line.invariant.reads run begins newest blocks sound) going.geometry
+          ((c.answer.ensures.asks (state_at run i) going.fits).writes (engine_queue c.loop-line.engine next (state_at run i) (engine_goes_on c.loop-line.engine mid next c.loop-line.invariant.engine c.next.ensures.goes) going.fits) going.quiet) (c.loop-line.invariant.staged run begins newest blocks sound)
+          ((c.in_default.ensures.asks (state_at run i) going.fits).last (engine_queue c.loop-line.engine next (state_at run i) (engine_goes_on c.loop-line.engine mid next c.loop-line.invariant.engine c.next.ensures.goes) going.fits) going.quiet))
           (λ newest blocks sound. seals_no_more c.args.pool run (suc i) newest blocks entry new new.image c.answer.new.engine new refl gone.geometry gone.fits c.in_default.ensures.going (next_paged c.args.pool run newest entry.image blocks c.works_add_up.ensures.works i c.in-Line.line _ is c.loop-line.engine (c.loop-line.invariant.paged run begins newest blocks sound) c.in_default.field-0 c.answer.new.engine next new (c.in_default.ensures.asks (state_at run i) going.fits)) (next_counted run (log_under newest blocks) entry mid next new c.loop-line.engine c.answer.new.engine i c.in-Line.line _ is (c.next.ensures.same honest) going.geometry (c.loop-line.invariant.counted run begins newest blocks sound) c.in_default.field-0 (c.in_default.ensures.numbers (state_at run i) going.fits going.quiet) (c.in_default.ensures.fills (state_at run i) going.fits going.quiet)))
           (λ newest blocks sound. (next_counted run (log_under newest blocks) entry mid next new c.loop-line.engine c.answer.new.engine i c.in-Line.line _ is (c.next.ensures.same honest) going.geometry (c.loop-line.invariant.counted run begins newest blocks sound) c.in_default.field-0 (c.in_default.ensures.numbers (state_at run i) going.fits going.quiet) (c.in_default.ensures.fills (state_at run i) going.fits going.quiet)).numbers),
     )

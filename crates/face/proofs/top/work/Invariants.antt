@@ -7,7 +7,7 @@ use Rattle.engine.specs.Representation.{Matches}
 use Rattle.site.specs.Calls.{Preserves}
 use Rattle.face.specs.Going.{IsUnderWay, IsPaged, IsCounted}
 use Rattle.face.specs.Run.{Run, Begins, first_lines}
-use Rattle.face.specs.Range.{AsksNoMore}
+use Rattle.face.specs.Range.{AsksNoMore, LeavesStaged}
 use Rattle.log_records.specs.declared.log_record.LogRecord.{LogRecord}
 use Rattle.engine.specs.Invariant.{Invariant, sizes_of}
 use Rattle.face.specs.Lines.{IsSource}
@@ -29,5 +29,6 @@ invariant-loop-line g l =
       under_way : IsUnderWay l.pool old now l.engine l._line;
       paged : (run : Run) → Begins run old → (newest : Option Master) (blocks : List (List LogRecord)) → IsSound newest run.geometry old.image blocks → IsPaged l.pool run newest old.image blocks l.engine l._line;
       reads : (run : Run) → Begins run old → AsksNoMore l.pool (first_lines run l._line) old now;
+      staged : (run : Run) → Begins run old → LeavesStaged l.pool (first_lines run l._line) old now;
       counted : (run : Run) → Begins run old → (newest : Option Master) (blocks : List (List LogRecord)) → IsSound newest run.geometry old.image blocks → IsCounted run (log_under newest blocks) old now l.engine l._line;
     }

@@ -161,7 +161,7 @@ returns-then-not-has_room g c =
       asks = λ newest records table commits x h unfinished own last.
           asks_all g (goal.at.returns-then-not-has_room g c).In-Ok-undo_updates newest records table commits x h unfinished own last (Err Foreign) _
           (record { flash = refl; disk = refl })
-          (λ is. not_worn Foreign (inr refl) (stop_is Foreign (Worn Flash) is)) (stages_none (omega arith) refl);
+          (λ is. not_worn Foreign (inr refl) (stop_is Foreign (Worn Flash) is)) (stages_none tt (omega arith) refl);
       works = works_foreign (works_then (works_read c.requires.going c.in-Ok.ensures.reads) c.in-Ok-undo_updates.ensures.works);
     }
 

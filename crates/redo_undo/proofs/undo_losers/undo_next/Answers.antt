@@ -53,7 +53,7 @@ returns-clause-updates g c newest records table commits u h last =
 
 pub returns-then-loser-known-clause-asks : goal.returns-then-loser-known-clause-asks
 returns-then-loser-known-clause-asks g c newest records table commits u h last =
-    asks_refused Foreign (works_of (u ∷ [])) _ (g.S.Site.state c.args.site.now) (g.S.Site.state c.args.site.now) (some_group c.requires.going) (not_worn Foreign (inr refl)) (record { flash = refl; disk = refl }) (stages_none (omega arith) refl)
+    asks_refused Foreign (works_of (u ∷ [])) _ (g.S.Site.state c.args.site.now) (g.S.Site.state c.args.site.now) (some_group c.requires.going) (not_worn Foreign (inr refl)) (record { flash = refl; disk = refl }) (stages_none tt (omega arith) refl)
 
 pub returns-in-Err-clause-asks : goal.returns-in-Err-clause-asks
 returns-in-Err-clause-asks g c newest records table commits u h last =

@@ -15,6 +15,8 @@ use Rattle.redo_undo.specs.StoreCalls.{Keeps}
 use Rattle.engine.proofs.Calling.{does_of}
 use Rattle.site.proofs.Working.{calls_answered}
 use Rattle.redo_undo.proofs.StoreCalling.{keeps_answered, keeps_failed}
+use Rattle.redo_undo.specs.MachineSteps.{checkpoint_works}
+use Rattle.redo_undo.proofs.Asking.{asks_ok}
 use Rattle.engine.proofs.engine.Engine.carry_out_checkpoint.Goals as goal
 
 pub checkpoint-requires-clause-first : goal.checkpoint-requires-clause-first
@@ -65,7 +67,7 @@ returns-in-Ok g c =
             stops = tt;
           };
       log_reads = c.checkpoint.ensures.log_reads;
-      asks = search rules;
+      asks = asks_ok c.in-Ok.field-0 _ checkpoint_works _ _ _ _ c.in-Ok.ensures.asks;
     }
 
 pub returns-in-Err-clause-does : goal.returns-in-Err-clause-does

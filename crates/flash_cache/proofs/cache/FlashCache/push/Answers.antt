@@ -1,10 +1,10 @@
-use Rattle.std.proofs.Common.{rules, refl, [], ◌≡◌, ◌≢◌, ◌<◌, ◌++◌, ℕ, List, ◌∙◌, sym, ap, subst, arith}
+use Rattle.std.proofs.Common.{rules, refl, [], length, ◌≡◌, ◌≢◌, ◌≤◌, ◌<◌, ◌++◌, ℕ, List, ◌∙◌, sym, ap, subst, arith}
 use Rattle.std.proofs.lemmas.Result.{on_ok_weaker}
 use Rattle.std.specs.List.{All, AllPairs, AllByRecursion}
 use Rattle.site.specs.declared.outside.Dev.TheVariants.{Flash, Disk}
-use Rattle.site.specs.State.{Image}
+use Rattle.site.specs.State.{Image, Loose}
 use Rattle.site.specs.Laws.{stays_honest, untouched_in_sequence}
-use Rattle.site.specs.Moments.{LeavesOnly}
+use Rattle.site.specs.Moments.{LeavesOnly, SameAt}
 use Rattle.image_changes.specs.Changes.{Reaches}
 use Rattle.stage_out.specs.Staged.{HasStaged}
 use Rattle.frame_group.specs.Groups.{Frame, IsFrame, group, heads_of}
@@ -13,13 +13,14 @@ use Rattle.second_chance.specs.declared.frame.Frame.{Frame as Known}
 use Rattle.second_chance.specs.Queue.{front_marks}
 use Rattle.flash_cache.specs.Representation.{PagesExist}
 use Rattle.flash_cache.specs.Leaving.{again}
-use Rattle.flash_cache.specs.Pushed.{staged_marks, chance_marks, frames_given, pushed_queue, changes_of_push, LeavesPush}
+use Rattle.flash_cache.specs.Pushed.{staged_marks, staged_pages, chance_marks, frames_given, pushed_queue, changes_of_push, LeavesPush}
 use Rattle.flash_cache.proofs.Heads.{heads_make}
 use Rattle.tail_rebuild.proofs.Standing.{group_exists}
 use Rattle.flash_cache.proofs.Staging.{goes_on_later, fits_read, pages_read, read_untouched, pages_in_sequence, none_pushed, pushed_since}
 use Rattle.flash_cache.proofs.StagedMarks.{places_inside, reads_few, front_few, staged_numbered, chances_numbered, pages_apart, marks_exist}
 use Rattle.flash_cache.proofs.StagedContents.{pages_are, contents_are, dirty_long, contents_long, all_long, again_is, group_has, group_known, pushed_has, with_parts}
 use Rattle.flash_cache.proofs.Pushing.{ring_found}
+use Rattle.flash_cache.proofs.SomeMoments.{some_after_reads, some_weaker}
 use Rattle.flash_cache.proofs.cache.FlashCache.push.Goals as goal
 
 pub frames_leaving-requires-clause-few : goal.frames_leaving-requires-clause-few
@@ -217,3 +218,15 @@ returns-clause-alone g c honest none =
     let numbers = items ∙ pages_are c.args.self.now c.args.plan.now.staged c.in-Ok.both.0 c.in-Ok.ensures.staged c.requires.staged in
     untouched_in_sequence Disk old mid new (read_untouched Disk old mid (c.frames_leaving.ensures.same honest))
     (c.write.ensures.alone (stays_honest old mid c.frames_leaving.ensures.goes honest) (numbers ∙ none))
+
+pub returns-clause-shown : goal.returns-clause-shown
+returns-clause-shown g c honest some =
+    let old = g.S.Site.state c.args.site.now in
+    let mid = g.S.Site.state c.frames_leaving.new.site in
+    let new = g.S.Site.state c.write.new.site in
+    let same = c.frames_leaving.ensures.same honest in
+    let items : c.as_slice-pages.result.now ≡ c.in-Ok.both.0.pages.items = search rules in
+    let numbers : c.as_slice-pages.result.now ≡ staged_pages c.args.self.now = items ∙ pages_are c.args.self.now c.args.plan.now.staged c.in-Ok.both.0 c.in-Ok.ensures.staged c.requires.staged in
+    on_ok_weaker c.write.result (λ shown. some_after_reads old mid new (SameAt Flash old) same.past
+    (some_weaker mid new (SameAt Flash mid) (SameAt Flash old) (λ m is. record { content = is.content ∙ ap (λ (i : Image). i.flash) same.image; loose = is.loose ∙ ap (λ (l : Loose). l.flash) same.loose }) shown))
+    (c.write.ensures.shown (stays_honest old mid c.frames_leaving.ensures.goes honest) (subst (λ (l : List ℕ). 1 ≤ length l) (sym numbers) some))

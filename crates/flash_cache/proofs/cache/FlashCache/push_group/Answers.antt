@@ -10,6 +10,10 @@ use Rattle.flash_cache.proofs.Pushing.{ring_found}
 use Rattle.flash_cache.proofs.PushLaws.{push_front}
 use Rattle.flash_cache.proofs.SavedFirst.{stands_there, goes_on_saved, segments_found, fits_behind, is_behind, moment_behind, reaches_behind, staged_behind, failed_moment}
 use Rattle.flash_cache.proofs.PushedOutcome.{leaves_versions, leaves_clean, gives_behind, clean_behind, holds_behind}
+use Rattle.flash_cache.proofs.LastStaged.{leaves_groups, staged_last}
+use Rattle.flash_cache.proofs.SomeMoments.{some_behind, some_weaker}
+use Rattle.flash_cache.specs.Representation.{HasGroups}
+use Rattle.site.specs.Moments.{Leaves, SameAt}
 use Rattle.flash_cache.proofs.cache.FlashCache.push_group.Goals as goal
 
 pub heads_given-heads-requires-clause-few : goal.heads_given-heads-requires-clause-few
@@ -185,6 +189,21 @@ returns-clause-staged g c groups fits holds =
     let stands = stands_there cache groups old c.requires.going fits holds in
     let b = is_behind cache groups c.save_due.new.segments old mid holds c.save_due.ensures.rings (c.save_due.ensures.changes fits.honest) (c.in_default.ensures.saves cache.directory.first groups holds.saved.segments stands) in
     staged_behind cache groups c.save_due.new.segments old mid holds b c.args.pages.now c.args.changed.now c.args.contents.now new.image (c.in_default-push.ensures.staged groups b.fits b.holds)
+
+pub returns-clause-last : goal.returns-clause-last
+returns-clause-last g c groups fits holds quiet =
+    let cache = c.args.self.now in
+    let old = g.S.Site.state c.args.site.now in
+    let mid = g.S.Site.state c.save_due.new.site in
+    let new = g.S.Site.state c.push.new.site in
+    let stands = stands_there cache groups old c.requires.going fits holds in
+    let b = is_behind cache groups c.save_due.new.segments old mid holds c.save_due.ensures.rings (c.save_due.ensures.changes fits.honest) (c.in_default.ensures.saves cache.directory.first groups holds.saved.segments stands) in
+    let honest = stays_honest old mid c.save_due.ensures.goes fits.honest in
+    staged_last cache old groups c.requires.going holds new (λ some.
+    some_behind old mid new (c.save_due.ensures.changes fits.honest).only.grown (c.push.ensures.changes honest).log.grown (Leaves (λ s. HasGroups cache.geometry cache.directory.first groups s.image))
+    (some_weaker mid new (SameAt Flash mid) (Leaves (λ s. HasGroups cache.geometry cache.directory.first groups s.image))
+    (leaves_groups cache.geometry cache.directory.first groups mid (c.in_default.ensures.quiet fits.honest quiet) b.holds.has)
+    (c.in_default-push.ensures.shown honest some))) (returns-clause-staged g c groups fits holds)
 
 pub returns-clause-fits : goal.returns-clause-fits
 returns-clause-fits g c fits =

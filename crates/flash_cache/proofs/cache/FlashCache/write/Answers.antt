@@ -1,15 +1,20 @@
-use Rattle.std.proofs.Common.{◌≡◌, sym, ap, subst}
+use Rattle.std.proofs.Common.{◌≡◌, ◌≤◌, ◌∷◌, List, [], ℕ, length, arith, sym, ap, subst}
 use Rattle.std.proofs.lemmas.Result.{on_ok_weaker}
 use Rattle.std_lemmas.proofs.Results.{on_ok}
 use Rattle.site.specs.declared.outside.Dev.TheVariants.{Flash, Disk}
 use Rattle.site.specs.State.{State}
-use Rattle.site.specs.Laws.{stays_honest, others_untouched, quiet_settled}
-use Rattle.site.specs.Moments.{Untouched}
-use Rattle.stage_out.specs.Staged.{HasStaged}
+use Rattle.site.specs.Laws.{each_weaker, stays_honest, others_untouched, quiet_settled}
+use Rattle.site.specs.Moments.{SameAt, SameBut, Untouched}
+use Rattle.stage_out.specs.Staged.{HasStaged, calls_of}
 use Rattle.flash_cache.proofs.PushLaws.{push_leaves, stage_only}
 use Rattle.flash_cache.proofs.Staging.{goes_on_later, fits_on, pages_changed, pages_in_sequence, all_made}
 use Rattle.site.proofs.Working.{lengths_later}
+use Rattle.flash_cache.proofs.SomeMoments.{some_first, some_of}
 use Rattle.flash_cache.proofs.cache.FlashCache.write.Goals as goal
+
+calls_some : (pages : List ℕ) → 1 ≤ length pages → 1 ≤ calls_of pages
+calls_some [] some = absurd (omega (arith, some))
+calls_some (page ∷ pages) some = omega arith
 
 pub returns-in-Err-clause-any_moment : goal.returns-in-Err-clause-any_moment
 returns-in-Err-clause-any_moment g c fits quiet =
@@ -75,3 +80,17 @@ returns-clause-alone g c honest none =
     let same : mid ≡ old = ap g.S.Site.state (c.stage.ensures.none none).0 in
     subst (λ (s : State). Untouched Disk s new) same
     (others_untouched Flash Disk mid new (λ h. cc) (c.append.ensures.changes (stays_honest old mid c.stage.ensures.goes honest)).only)
+
+pub returns-clause-shown : goal.returns-clause-shown
+returns-clause-shown g c honest some =
+    let old = g.S.Site.state c.args.site.now in
+    let mid = g.S.Site.state c.stage.new.site in
+    let new = g.S.Site.state c.append.new.site in
+    let changes = c.stage.ensures.changes honest in
+    let later = c.append.ensures.changes (stays_honest old mid c.stage.ensures.goes honest) in
+    let calls = c.in_default.ensures.calls honest in
+    let one = calls_some c.args.staged.now some in
+    on_ok c.append.result _ (some_first old mid new changes.only.grown later.only.grown (SameAt Flash old)
+    (some_of old mid (SameAt Flash old)
+    (each_weaker old mid (SameBut Disk old) (SameAt Flash old) (λ m same. record { content = same.content Flash (λ h. cc); loose = same.loose Flash (λ h. cc) }) changes.only)
+    (omega (arith, calls, one))))

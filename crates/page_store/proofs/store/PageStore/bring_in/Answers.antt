@@ -20,7 +20,7 @@ use Rattle.page_store.specs.Calls.{Stands}
 use Rattle.page_store.proofs.PushLaws.{ok_four}
 use Rattle.page_store.proofs.Bringing.{snapshot_same, ready_same, current_again, ahead_in}
 use Rattle.page_store.proofs.Calling.{forces_again, keeps_read}
-use Rattle.page_store.proofs.StagingLaws.{stages_then, stages_as, stages_weaker}
+use Rattle.page_store.proofs.StagingLaws.{stages_then, stages_as, stages_up}
 use Rattle.page_store.proofs.store.PageStore.bring_in.Goals as goal
 
 pub returns-in-Err-clause-disk_reads : goal.returns-in-Err-clause-disk_reads
@@ -88,4 +88,4 @@ returns-in-Ok-clause-stages g c =
     let some : 1 ≤ (rules_for store).groups = omega (arith, c.requires.going.pages_going.flash.limits.groups) in
     let next = ap next_group c.in-Ok.ensures.machine ∙ way_next store some in
     let staged : List Staged = if is_full store then staged_by_eviction (rules_for store) (cache_of store) else [] in
-    stages_as (append-nil staged) refl (stages_then (λ has. omega arith) c.in-Ok.ensures.stages (stages_weaker (λ page is. is) (omega (arith, next)) c.read_in.ensures.stages))
+    stages_as (append-nil staged) refl (stages_then (λ has. omega arith) c.in-Ok.ensures.stages (stages_up (omega (arith, next)) c.read_in.ensures.stages))

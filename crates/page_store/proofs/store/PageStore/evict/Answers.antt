@@ -1,9 +1,9 @@
 use Rattle.std.proofs.Common.{rules, ◌+◌, ◌≡◌, ◌<◌, ℕ, [], length, map, sym, subst, ◌∙◌, ap, arith, refl}
-use Rattle.std.specs.Prelude.{All}
+use Rattle.std.specs.Prelude.{All, List, reverse}
 use Rattle.std_lemmas.proofs.Results.{ok_both}
 use Rattle.buffer_pool.specs.declared.frame.Frame.{Frame}
 use Rattle.buffer_pool.specs.Frames.{State as Pool, AreDistinct, frame_of}
-use Rattle.second_chance.specs.Machine.{Cache, evict_coldest, rules_of, staged_in_push}
+use Rattle.second_chance.specs.Machine.{Cache, evict_coldest, rules_of, staged_in_eviction, staged_in_push}
 use Rattle.flash_cache.specs.declared.cache.FlashCache.{FlashCache}
 use Rattle.site.proofs.Working.{ok_as, calls_nothing}
 use Rattle.page_store.specs.declared.store.PageStore.{PageStore}
@@ -18,7 +18,7 @@ use Rattle.page_store.proofs.Departures.{HasLeft, Departs, departs, going_left, 
 use Rattle.page_store.proofs.Calling.{pushes_as, pushes_still, pushes_with, keeps_as, keeps_still, stands_as, keeps_nothing, stands_still, keeps_given, stands_given}
 use Rattle.page_store.proofs.Changing.{eviction_is}
 use Rattle.page_store.proofs.PushLaws.{ok_under}
-use Rattle.page_store.proofs.StagingLaws.{stages_none, stages_as, stages_between, evicted_staged, evicted_next}
+use Rattle.page_store.proofs.StagingLaws.{stages_none, stages_as, stages_between, evicted_none, evicted_staged, evicted_next}
 use Rattle.page_store.proofs.store.PageStore.evict.Given.{Over}
 use Rattle.page_store.proofs.store.PageStore.evict.Goals.{In-Some, After-deref-in-Ok-2}
 use Rattle.page_store.proofs.store.PageStore.evict.Goals as goal
@@ -195,10 +195,12 @@ returns-in-Err-clause-absent g c =
 -- what is written
 
 pub returns-in_default-clause-stages : goal.returns-in_default-clause-stages
-returns-in_default-clause-stages g c = stages_none (omega arith) refl
+returns-in_default-clause-stages g c =
+    let none : c.args.self.now.pool.frames ≡ [] = search rules in
+    stages_none (ap (λ (l : List Frame). staged_in_eviction (rules_for c.args.self.now) (reverse (map pool_page l)) c.args.self.now.flash.directory) none) (omega arith) refl
 
 pub returns-in-Err-clause-stages : goal.returns-in-Err-clause-stages
-returns-in-Err-clause-stages g c = stages_none (omega arith) (ap (λ (s : PageStore). s.flash) c.take_with.ensures.kept)
+returns-in-Err-clause-stages g c = stages_none tt (omega arith) (ap (λ (s : PageStore). s.flash) c.take_with.ensures.kept)
 
 pub returns-in-Ok-clause-stages : goal.returns-in-Ok-clause-stages
 returns-in-Ok-clause-stages g c =
@@ -216,4 +218,5 @@ pub returns-then-not-must_be_pushed-clause-keeps : goal.returns-then-not-must_be
 returns-then-not-must_be_pushed-clause-keeps g c list ready = keeps_nothing c.requires.going.sizes ready
 
 pub returns-then-not-must_be_pushed-clause-stages : goal.returns-then-not-must_be_pushed-clause-stages
-returns-then-not-must_be_pushed-clause-stages g c = stages_none (omega arith) refl
+returns-then-not-must_be_pushed-clause-stages g c =
+    stages_none (evicted_none c.args.self.now c.take_coldest.new.self.frames (coldest g (goal.at.returns-then-not-must_be_pushed-clause-stages g c).In-Some) c.in-Some.ensures.some (sym c.must_be_pushed.ensures ∙ c.if-not-must_be_pushed.true)) (omega arith) refl

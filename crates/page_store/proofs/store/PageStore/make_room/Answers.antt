@@ -53,7 +53,10 @@ returns-clause-stands g c list ready =
     (stands_as (all_forced g c) (all_changes g c list old.image)) (c.evict.ensures.stands list ready)
 
 pub returns-then-not-is_full-clause-stages : goal.returns-then-not-is_full-clause-stages
-returns-then-not-is_full-clause-stages g c = stages_none (omega arith) refl
+returns-then-not-is_full-clause-stages g c =
+    let store = c.args.self.now in
+    let is : nat_le store.pool.size (length store.pool.frames) ≡ false = search rules in
+    stages_none (ap (λ b. cond b (staged_by_eviction (rules_for store) (cache_of store)) []) is) (omega arith) refl
 
 pub returns-clause-stages : goal.returns-clause-stages
 returns-clause-stages g c =

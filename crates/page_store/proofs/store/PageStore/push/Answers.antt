@@ -71,7 +71,7 @@ returns-in-Err-clause-keeps g c list ready =
     }
 
 pub returns-in-Err-clause-stages : goal.returns-in-Err-clause-stages
-returns-in-Err-clause-stages g c = stages_beside (omega arith) c.force_for.ensures.changes c.in-Err.ensures.calls refl
+returns-in-Err-clause-stages g c = stages_beside tt (omega arith) c.force_for.ensures.changes c.in-Err.ensures.calls refl
 
 pub returns-in-Ok : goal.returns-in-Ok
 returns-in-Ok g c =
@@ -122,7 +122,7 @@ returns-in-Ok g c =
     let now : 512 * log'.ring.hi ≡ sealed_end h mid.image = ap (λ (n : ℕ). 512 * n) (b list ready).log_fits.hi ∙ ap (λ (k : Geometry). sealed_end k mid.image) same_sizes in now in
     let before = λ (list : LogList) (ready : AreReady store log list old).
     let now : 512 * log.ring.hi ≡ sealed_end h old.image = ap (λ (n : ℕ). 512 * n) ready.blocks.hi ∙ ap (λ (k : Geometry). sealed_end k old.image) sizes in now in
-    let by_forcing : Stages {T = Unit {0}} (Ok tt) [] (next_group (cache_of store)) store store old mid = stages_beside (omega arith) c.force_for.ensures.changes c.in-Ok.ensures.calls refl in
+    let by_forcing : Stages {T = Unit {0}} (Ok tt) [] (next_group (cache_of store)) store store old mid = stages_beside refl (omega arith) c.force_for.ensures.changes c.in-Ok.ensures.calls refl in
     record {
       keeps = λ list ready.
           let b = b list ready in
@@ -214,6 +214,7 @@ returns-in-Ok g c =
             holds = λ has. queue_pushed c.push_group-pushed.result c.push_group-pushed.new.self store _ new c.push_group-pushed.ensures.going (c.push_group-pushed.ensures.fits has.fits) (c.push_group-pushed.ensures.holds has.groups has.fits has.holds);
             quiet = λ has quiet. c.push_group-pushed.ensures.quiet has.fits.honest quiet;
             writes = λ has quiet. push_writes store (is_due store.flash.ring.hi store.flash.segments.hi) (groups_on store.flash.geometry mid.image) _ mid new has (c.push_group-pushed.ensures.front has.groups has.fits has.holds quiet);
+            last = λ has quiet. c.push_group-pushed.ensures.last has.groups has.fits has.holds quiet;
             sizes = c.push_group-pushed.ensures.geometry;
           }));
       worn = search rules;

@@ -51,7 +51,7 @@ loop-rest-init g c =
       machine = refl;
       reads = omega arith;
       asked = omega arith;
-      stages = record { staged = []; split = refl; stages = stages_none (omega arith) refl };
+      stages = record { staged = []; split = refl; stages = stages_none refl (omega arith) refl };
       pages = c.as_slice-rest.ensures.value ∙ c.in_ok-pages.ensures.pages ∙ all_changed store.pool.frames c.len.result c.len.ensures.len;
     }
 
@@ -246,7 +246,7 @@ pub returns-in_err-pages-clause-stages : goal.returns-in_err-pages-clause-stages
 returns-in_err-pages-clause-stages g c =
     let store = c.args.self.now in
     let some : 1 ≤ (rules_for store).groups = omega (arith, c.requires.going.pages_going.flash.limits.groups) in
-    stages_none (flushed_next (rules_for store) (cache_of store) some) refl
+    stages_none (search rules) (flushed_next (rules_for store) (cache_of store) some) refl
 
 pub push_changed-requires-clause-some : goal.push_changed-requires-clause-some
 push_changed-requires-clause-some g c = wants g (goal.at.push_changed-requires-clause-some g c).After-room_for_pages-room

@@ -20,7 +20,7 @@ pub returns-in_err-contents-clause-keeps : goal.returns-in_err-contents-clause-k
 returns-in_err-contents-clause-keeps g c list ready = keeps_still c.requires.going.sizes ready (search rules) (search rules) (search rules)
 
 pub returns-in_err-plan-clause-stages : goal.returns-in_err-plan-clause-stages
-returns-in_err-plan-clause-stages g c = stages_none (omega arith) refl
+returns-in_err-plan-clause-stages g c = stages_none (search rules) (omega arith) refl
 
 pub returns-in_err-contents-clause-stages : goal.returns-in_err-contents-clause-stages
-returns-in_err-contents-clause-stages g c = stages_none (omega arith) refl
+returns-in_err-contents-clause-stages g c = stages_none (search rules) (omega arith) refl

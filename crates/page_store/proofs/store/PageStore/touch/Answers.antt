@@ -12,7 +12,7 @@ use Rattle.site.specs.State.{State}
 use Rattle.page_store.specs.Caching.{pushes, pool_page, rules as rules_for, cache_of, with_way}
 use Rattle.page_store.specs.Ahead.{IsLogged, end_forced, forces, pushed_for_room, pushed_by_touch}
 use Rattle.page_store.proofs.Pools.{touched_held}
-use Rattle.page_store.proofs.Touching.{way, pushed_same, pushes_same, finds_same, misses_same, not_there, count_if, other_count, nothing_forced, nothing_pushed, all_touched, order_fits, order_current, pool_going, changes_same, nothing_changes, room_staged, room_next}
+use Rattle.page_store.proofs.Touching.{way, pushed_same, pushes_same, finds_same, misses_same, not_there, count_if, other_count, nothing_forced, nothing_pushed, nothing_staged, all_touched, order_fits, order_current, pool_going, changes_same, nothing_changes, room_staged, room_next}
 use Rattle.page_store.proofs.Calling.{forces_still, works_as, stops_as, keeps_as, stands_as, keeps_nothing, stands_still}
 use Rattle.page_store.proofs.StagingLaws.{stages_none, stages_as, stages_between}
 use Rattle.page_store.proofs.ToldPages.{told_touched}
@@ -167,7 +167,7 @@ returns-clause-disk_reads g c = few_disk g (goal.at.returns-clause-disk_reads g 
 -- what is written
 
 pub returns-then-is_some-clause-stages : goal.returns-then-is_some-clause-stages
-returns-then-is_some-clause-stages g c = stages_none (omega arith) refl
+returns-then-is_some-clause-stages g c = stages_none (nothing_staged c.args.self.now c.args.page _ (is_there g c)) (omega arith) refl
 
 pub returns-in-Err-clause-stages : goal.returns-in-Err-clause-stages
 returns-in-Err-clause-stages g c =

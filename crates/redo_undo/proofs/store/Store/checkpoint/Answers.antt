@@ -99,13 +99,13 @@ pub returns-in-Err-save_master-clause-asks : goal.returns-in-Err-save_master-cla
 returns-in-Err-save_master-clause-asks g c =
     asks_around c.flush.result (Err c.in-Err-save_master.stop) checkpoint_works c.args.self.now.pages c.flush.new.pages (g.S.Site.state c.args.site.now) (g.S.Site.state c.force.new.site) (g.S.Site.state c.flush.new.site) (g.S.Site.state c.save_master.new.site)
     c.force.ensures.works.reads c.save_master.ensures.reads tt (λ is. absurd (never_worn_flash (Err c.in-Err-save_master.stop) c.in-Err-save_master.ensures.stops is)) (stages_ok (stages_log c.in-Ok.ensures.works))
-    (flush_then checkpoint_works c.in-Ok-flush.ensures.asks.machine c.in-Ok-flush.ensures.asks.stages (stages_err (stages_beside (omega arith) c.in-Err-save_master.ensures.changes c.in-Err-save_master.ensures.calls refl))) c.flush.ensures.asks
+    (flush_then checkpoint_works c.in-Ok-flush.ensures.asks.machine c.in-Ok-flush.ensures.asks.stages (stages_err (stages_beside tt (omega arith) c.in-Err-save_master.ensures.changes c.in-Err-save_master.ensures.calls refl))) c.flush.ensures.asks
 
 pub returns-in-Ok-save_master-clause-asks : goal.returns-in-Ok-save_master-clause-asks
 returns-in-Ok-save_master-clause-asks g c =
     asks_around c.flush.result (Ok tt) checkpoint_works c.args.self.now.pages c.flush.new.pages (g.S.Site.state c.args.site.now) (g.S.Site.state c.force.new.site) (g.S.Site.state c.flush.new.site) (g.S.Site.state c.save_master.new.site)
     c.force.ensures.works.reads c.save_master.ensures.reads c.in-Ok-flush.ensures.asks.machine (λ is. absurd (no_error is)) (stages_ok (stages_log c.in-Ok.ensures.works))
-    (flush_then checkpoint_works c.in-Ok-flush.ensures.asks.machine c.in-Ok-flush.ensures.asks.stages (stages_ok (stages_beside (omega arith) c.in-Ok-save_master.ensures.changes c.in-Ok-save_master.ensures.calls refl))) c.flush.ensures.asks
+    (flush_then checkpoint_works c.in-Ok-flush.ensures.asks.machine c.in-Ok-flush.ensures.asks.stages (stages_ok (stages_beside refl (omega arith) c.in-Ok-save_master.ensures.changes c.in-Ok-save_master.ensures.calls refl))) c.flush.ensures.asks
 
 pub returns-in-Err-clause-log_reads : goal.returns-in-Err-clause-log_reads
 returns-in-Err-clause-log_reads g c = c.force.ensures.works.reads Log
