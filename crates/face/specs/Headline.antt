@@ -98,7 +98,8 @@ pub record Durability (g : Geometry) (opening : State) (old new : Site) (status 
 abbrev pub ran : {g : Geometry} {s : State} {old new : Site} {status : ℕ} → Durability g s old new status → Run
 ran {g} {s} d = run_of g s d.ended d.octets d.listings
 
--- These lines append to a ring on this device that stands at its end; of the log's device one stands there now.
+-- These lines append more groups than the ring of groups has numbers for; or what they append at most to a ring on the
+-- log's device, by counts, passes its end, and a ring there stands at its end now.
 abbrev pub WearsAt : Dev → ℕ → Run → Image → Image → Type 0
 WearsAt Flash pool run old now = WearsOut pool run old
 WearsAt Log pool run old now = WearsLog run old × IsLogWorn run.geometry now
@@ -107,7 +108,7 @@ WearsAt Disk pool run old now = ⊥
 -- What a run with a pool of so many pages asks of the devices, of which so many lines were begun, and this fault line
 -- is told.
 pub record Resources (pool : ℕ) (run : Run) (begun : ℕ) (fault : List ℕ) (old new : Site) (status : ℕ) : Type 0 where
-  -- with 8 these append to a ring that stands at its end, on the device that is told; with 0 no group is appended there
+  -- with 8 a ring on the device that is told is at its end for these; with 0 no group is appended past its ring's end
   pub worn : status ≡ 8 → (dev : Dev) × (fault ≡ fault_line (Stop (Worn dev)))
       × WearsAt dev pool (first_lines run begun) old.image new.image
   pub room : status ≡ 0 → NeverWears pool run old.image

@@ -12,7 +12,7 @@ use Rattle.face.specs.Lines.{HeardAll, commands_of, limit}
 abbrev pub IsTooLong : List ℕ → Type 0
 IsTooLong octets = (length octets ≡ limit + 1) × (list_any is_quit (commands_of false (take limit octets)) ≡ false)
 
--- these octets were taken; `ended` is whether a take has answered that the input ended
+-- these octets were taken, and the input is said to have ended only where nothing of it is left
 pub record HasTaken (octets : List ℕ) (ended : Bool) (old now : Site) : Type 0 where
   pub taken : old.input.left ≡ octets ++ now.input.left
   pub end : ended ≡ true → now.input.left ≡ []

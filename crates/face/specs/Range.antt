@@ -101,7 +101,7 @@ SkipsNoNumber run old now = (newest : Option Master) (blocks : List (List LogRec
     IsSound newest run.geometry old.image blocks →
     LeavesOnly old now (λ s. GivesNumbers run (log_under newest blocks) old.image s.image)
 
--- the run appends to a ring on the log's device that stands at its end
+-- what the restart and the run append at most, by these counts, passes the end of a ring on the log's device
 abbrev pub WearsLog : Run → Image → Type 0
 WearsLog run image = (newest : Option Master) (blocks : List (List LogRecord)) →
     IsSound newest run.geometry image blocks →

@@ -81,7 +81,7 @@ pub record AnswersFirst (run : Run) (lines : ℕ) (old now : Site) : Type 0 wher
   pub count : now.input.heard + length now.input.left ≡ old.input.heard + length old.input.left
 
 -- What a run that ends so asks of the devices. Flash is worn only where it asks for more groups than the ring can have,
--- and the log's device only where it appends to a ring past its end; no ring number is skipped there.
+-- and the log's device only where what it appends at most passes the end of a ring; no ring number is skipped there.
 pub record Demands {T : Type 0} (pool : ℕ) (run : Run) (old new : Site) (result : Result T Halt) : Type 0 where
   pub worn : IsErrOf result (Stop (Worn Flash)) → WearsOut pool run old.image
   pub worn_log : IsErrOf result (Stop (Worn Log)) → WearsLog run old.image
