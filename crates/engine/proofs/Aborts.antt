@@ -20,7 +20,7 @@ use Rattle.engine.specs.declared.engine.Engine.{Engine}
 use Rattle.redo_undo.specs.Stores.{Represents}
 use Rattle.redo_undo.specs.StoreRollback.{ConcernsOnly, RollsBack}
 use Rattle.engine.specs.Representation.{Matches, SessionIs, SessionsAre}
-use Rattle.engine.proofs.Owing.{entry_is}
+use Rattle.txn_table.proofs.Owing.{entry_is}
 use Rattle.engine.proofs.Locks.{released}
 use Rattle.engine.proofs.Actives.{some_active}
 

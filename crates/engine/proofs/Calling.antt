@@ -26,7 +26,7 @@ use Rattle.log_store.specs.Representation.{end_of}
 use Rattle.txn_table.specs.declared.active.Active.{Active}
 use Rattle.txn_table.specs.Entries.{IsTable, entry_of, owed}
 use Rattle.engine.specs.declared.engine.Engine.{Engine}
-use Rattle.engine.proofs.DistinctBegins.{AreApart}
+use Rattle.txn_table.proofs.DistinctBegins.{AreApart}
 use Rattle.engine.specs.Invariant.{Invariant, sizes_of}
 use Rattle.engine.specs.Representation.{Matches, run, run_now, checkpointed_if, with_write}
 use Rattle.engine.specs.Image.{Stands}

@@ -21,7 +21,7 @@ use Rattle.engine.specs.Image.{Stands}
 use Rattle.redo_undo.specs.Stores.{Represents}
 use Rattle.engine.specs.Representation.{Matches, SessionsAre}
 use Rattle.engine.specs.Leaves.{LeavesEither}
-use Rattle.engine.proofs.Owing.{entry_is}
+use Rattle.txn_table.proofs.Owing.{entry_is}
 use Rattle.engine.proofs.Locks.{released}
 use Rattle.engine.proofs.Changes.{closed}
 use Rattle.engine.proofs.Actives.{some_active}

@@ -1,6 +1,5 @@
 pub mod Aborts
 pub mod Actives
-pub mod DistinctBegins
 pub mod Changes
 pub mod Calling
 pub mod Checkpoints
@@ -12,7 +11,6 @@ pub mod Meanings
 pub mod Moments
 pub mod Namings
 pub mod Openings
-pub mod Owing
 pub mod Queues
 pub mod Recovers
 pub mod Replies

@@ -32,7 +32,7 @@ use Rattle.engine.specs.Invariant.{sizes_of}
 use Rattle.redo_undo.specs.Stores.{Represents, shown_in}
 use Rattle.engine.specs.Representation.{Matches, SessionsAre, LocksAre}
 use Rattle.engine.proofs.Actives.{some_active}
-use Rattle.engine.proofs.Owing.{entry_is}
+use Rattle.txn_table.proofs.Owing.{entry_is}
 
 -- Locks.
 

@@ -27,7 +27,7 @@ use Rattle.engine.specs.Representation.{Matches, SessionIs, IsFull, IsRefusedWit
 use Rattle.engine.proofs.Actives.{some_active, none_active}
 use Rattle.lock_table.specs.Locks as locks
 use Rattle.engine.proofs.Meanings.{same_size, busy_write_is, busy_read_is}
-use Rattle.engine.proofs.Owing.{owed_at, owed_one, owed_is}
+use Rattle.txn_table.proofs.Owing.{owed_at, owed_one, owed_is}
 
 abbrev pub way : State → Command → Bool → Outcome
 way s command b = if b then record { after = s; reply = full s } else record { after = effect s command; reply = answer s command [] }

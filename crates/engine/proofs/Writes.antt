@@ -34,7 +34,7 @@ use Rattle.engine.proofs.Actives.{some_active}
 use Rattle.engine.proofs.Changes.{wrote_more}
 use Rattle.engine.proofs.Locks.{at_set}
 use Rattle.engine.proofs.Meanings.{busy_write_is, free_for}
-use Rattle.engine.proofs.Owing.{entry_is}
+use Rattle.txn_table.proofs.Owing.{entry_is}
 
 -- Locks.
 

@@ -17,3 +17,4 @@ pub mod Standing
 pub mod Fetching
 pub mod SomeMoments
 pub mod LastStaged
+pub mod Written

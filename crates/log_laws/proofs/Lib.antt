@@ -21,3 +21,7 @@ pub mod Undoing
 pub mod Listing
 pub mod Analysing
 pub mod UndoingSteps
+pub mod BlockRecords
+pub mod LogBlocks
+pub mod OpenUpdates
+pub mod Pendings

@@ -24,6 +24,5 @@ pub mod Appending
 pub mod Lines
 pub mod Left
 pub mod Departures
-pub mod Written
 pub mod StagingLaws
 pub mod ToldPages

@@ -39,7 +39,7 @@ use Rattle.flash_cache.proofs.SomeMoments.{some_after_reads, some_behind, some_f
 use Rattle.page_store.specs.Staging.{pages_staged, staged_by_eviction, WritesOnly, HasQueueOn, Stages}
 use Rattle.page_store.proofs.PushLaws.{flash_fits_same, flash_holds_same}
 use Rattle.page_store.proofs.Evictions.{reverse_last}
-use Rattle.page_store.proofs.Written.{wrote, rewritten, groups_in, front_rewritten, front_groups, push_rewrites, push_groups, save_rewrites, save_groups}
+use Rattle.flash_cache.proofs.Written.{wrote, rewritten, groups_in, front_rewritten, front_groups, push_rewrites, push_groups, save_rewrites, save_groups}
 
 -- Images.
 

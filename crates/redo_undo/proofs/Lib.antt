@@ -18,8 +18,6 @@ pub mod Opens
 pub mod Found
 pub mod Lasts
 pub mod Redoings
-pub mod BlockRecords
-pub mod LogBlocks
 pub mod NextRecords
 pub mod Names
 pub mod TakenRecords
@@ -30,7 +28,6 @@ pub mod AskingFlush
 pub mod LeftUpdates
 pub mod UndoSoFar
 pub mod UndoneUpdates
-pub mod Pendings
 pub mod UndoneWrites
 pub mod RedoWorks
 pub mod WornLogs

@@ -19,8 +19,8 @@ use Rattle.redo_undo.specs.Laws.{PageLaws}
 use Rattle.redo_undo.specs.RedoLaws.{RedoLaws}
 use Rattle.redo_undo.specs.Redoing.{IsOpened, Opening, HasTaken, asked_of, opened, heard_of}
 use Rattle.redo_undo.specs.MachineSteps.{StepsMachine}
-use Rattle.redo_undo.proofs.BlockRecords.{IsPast, past_none}
-use Rattle.redo_undo.proofs.LogBlocks.{block_of, log_split, log_take, take_whole}
+use Rattle.log_laws.proofs.BlockRecords.{IsPast, past_none}
+use Rattle.log_laws.proofs.LogBlocks.{block_of, log_split, log_take, take_whole}
 use Rattle.redo_undo.proofs.Redoings.{redoing_still, begins}
 use Rattle.checkpoint.specs.declared.master.Master.{Master}
 use Rattle.checkpoint.specs.Newest.{seen}

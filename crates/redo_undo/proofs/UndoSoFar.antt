@@ -23,7 +23,8 @@ use Rattle.redo_undo.proofs.Rollbacks.{starts, goes_on}
 use Rattle.page_store.proofs.StagingLaws.{stages_none}
 use Rattle.redo_undo.proofs.Asking.{asks_nothing}
 use Rattle.redo_undo.proofs.AskingUndo.{one_more_work}
-use Rattle.redo_undo.proofs.LeftUpdates.{AsksSoFar, left_after_clr}
+use Rattle.log_laws.proofs.OpenUpdates.{left_after_clr}
+use Rattle.redo_undo.proofs.LeftUpdates.{AsksSoFar}
 use Rattle.std.proofs.lemmas.List.{length-append}
 
 pub asks_none : (records : List Entry) (txn : ℕ) (pages : PageStore) (site : State) → AsksSoFar records [] txn pages pages site site

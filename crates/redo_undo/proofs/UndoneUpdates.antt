@@ -31,8 +31,8 @@ use Rattle.page_store.specs.Caching.{rules}
 use Rattle.redo_undo.proofs.AskingUndo.{one_more_work, more_work_stopped, all_work}
 use Rattle.redo_undo.proofs.Lasts.{split_at}
 use Rattle.redo_undo.proofs.Found.{order, undoable, open_is, lives, head_of, one_more, one_end, nothing_undone, more_undone}
-use Rattle.redo_undo.proofs.LeftUpdates.{Fall, left_falls}
-use Rattle.redo_undo.proofs.Pendings.{last_is, none_last, waits, reversed, pending_after_clr, pending_after_end}
+use Rattle.log_laws.proofs.OpenUpdates.{Fall, left_falls}
+use Rattle.log_laws.proofs.Pendings.{last_is, none_last, waits, reversed, pending_after_clr, pending_after_end}
 
 -- The last of all Updates that remain is the last one that its transaction has left.
 pub last_is_left : (found_laws : FoundLaws) (laws : UndoLaws) (log : LogStore) (pages : PageStore) (site : State) (newest : Option Master) (records : List Entry) (table : List Content) (commits : ℕ) (found : Analysis) → Represents log pages site newest records table commits → IsTable [] records (listed found.table) →

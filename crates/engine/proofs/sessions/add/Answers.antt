@@ -1,7 +1,7 @@
 use Rattle.std.proofs.Common.{◌≡◌, Option, ap, arith}
 use Rattle.std.specs.Option.{option_map_or}
 use Rattle.txn_table.specs.declared.active.Active.{Active}
-use Rattle.engine.proofs.Owing.{owed_changes, owed_one, owed_at}
+use Rattle.txn_table.proofs.Owing.{owed_changes, owed_one, owed_at}
 use Rattle.engine.proofs.sessions.add.Goals as goal
 
 pub returns-clause-owed : goal.returns-clause-owed

@@ -6,7 +6,7 @@ use Rattle.checkpoint.specs.Newest.{seen}
 use Rattle.image_meaning.specs.Meaning.{kept_by, saved_by, picture_under}
 use Rattle.analysis.specs.Read.{IsAnalysis}
 use Rattle.redo_undo.specs.Redoing.{Opening, IsOpened, asked_of, HasTaken}
-use Rattle.redo_undo.proofs.LogBlocks.{block_of, log_split}
+use Rattle.log_laws.proofs.LogBlocks.{block_of, log_split}
 use Rattle.redo_undo.proofs.CallsInSequence.{going_still, opened_holds, some_group}
 use Rattle.redo_undo.proofs.Redoings.{begins, holds_all}
 use Rattle.redo_undo.proofs.TakenRecords.{IsUpTo, IsNextBlock, asks_first, up_to_none, opened_count, finds, next_block, one_more_block, all_blocks, same_stop, unfinished_by}

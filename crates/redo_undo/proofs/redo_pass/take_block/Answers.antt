@@ -3,7 +3,7 @@ use Rattle.std.proofs.Common.{◌+◌, ◌*◌, ◌++◌, ◌∷◌, [], List, a
 use Rattle.log_records.specs.Log.{Entry, entries_from}
 use Rattle.redo_undo.specs.Redoing.{HasTaken}
 use Rattle.redo_undo.proofs.CallsInSequence.{some_group}
-use Rattle.redo_undo.proofs.BlockRecords.{next_of_log, past_one, none_there, past_all}
+use Rattle.log_laws.proofs.BlockRecords.{next_of_log, past_one, none_there, past_all}
 use Rattle.redo_undo.proofs.TakenRecords.{part_begins}
 use Rattle.redo_undo.proofs.RedoWorks.{asks_more, asks_all, stops_within}
 use Rattle.redo_undo.proofs.Calling.{keeps_answered, keeps_redoing, keeps_then, logs_answered, logs_nothing, logs_then}

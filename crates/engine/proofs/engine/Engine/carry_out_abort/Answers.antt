@@ -5,7 +5,7 @@ use Rattle.redo_undo.proofs.Asking.{asks_same, asks_ok, asks_err}
 use Rattle.std.proofs.Common.{refl, sym, arith, ap, Option, Some, List, map, reverse, length}
 use Rattle.site.specs.Laws.{stays_honest}
 use Rattle.engine.specs.declared.engine.Engine.{Engine}
-use Rattle.engine.proofs.Owing.{owes, entry_is}
+use Rattle.txn_table.proofs.Owing.{owes, entry_is}
 use Rattle.engine.proofs.Actives.{some_active}
 use Rattle.engine.proofs.Aborts.{aborted_fits}
 use Rattle.engine.proofs.Calling.{does_of}

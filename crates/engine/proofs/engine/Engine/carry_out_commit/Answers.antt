@@ -1,6 +1,6 @@
 use Rattle.std.proofs.Common.{refl, arith}
 use Rattle.site.specs.Laws.{stays_honest}
-use Rattle.engine.proofs.Owing.{owes}
+use Rattle.txn_table.proofs.Owing.{owes}
 use Rattle.engine.proofs.Commits.{may_commit, commits_either, committed_fits}
 use Rattle.engine.proofs.Calling.{does_of}
 use Rattle.redo_undo.proofs.StoreCalling.{keeps_failed, keeps_weaker}

@@ -14,9 +14,9 @@ use Rattle.engine.specs.Invariant.{sizes_of}
 use Rattle.redo_undo.specs.Stores.{shown_in}
 use Rattle.engine.specs.Representation.{Matches}
 use Rattle.redo_undo.specs.Holding.{blocks_to}
-use Rattle.engine.proofs.Owing.{entry_is, owes}
+use Rattle.txn_table.proofs.Owing.{entry_is, owes}
 use Rattle.engine.proofs.Writes.{touched_fits, may_write, write_fits}
-use Rattle.engine.proofs.DistinctBegins.{below_wrote, apart_wrote}
+use Rattle.txn_table.proofs.DistinctBegins.{below_wrote, apart_wrote}
 use Rattle.engine.proofs.Calling.{does_of, serves_of}
 use Rattle.redo_undo.proofs.StoreCalling.{works_then, works_answered, keeps_failed, keeps_answered, keeps_both, keeps_no_memory}
 use Rattle.std.specs.Prelude.{Err}

@@ -14,7 +14,7 @@ use Rattle.engine.specs.Representation.{Matches, IsCarriedOut}
 use Rattle.engine.specs.Leaves.{LeavesEither}
 use Rattle.engine.specs.Calls.{Does}
 use Rattle.engine.proofs.Actives.{some_active}
-use Rattle.engine.proofs.Owing.{entry_is}
+use Rattle.txn_table.proofs.Owing.{entry_is}
 use Rattle.engine.proofs.Replies.{carried_out, wants_active_is, refused_session}
 use Rattle.engine.proofs.Calling.{answered_as, does_nothing, does_weaker, does_failed, asks_rest, early, still}
 use Rattle.engine.proofs.engine.Engine.commit.Goals as goal

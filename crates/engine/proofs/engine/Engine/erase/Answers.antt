@@ -2,7 +2,7 @@ use Rattle.redo_undo.proofs.Fillings.{fills_none, fills_more}
 use Rattle.std.proofs.Common.{subst, sym, Some, ap, ◌∙◌, refl, arith, ℕ}
 use Rattle.engine.specs.Permits.{MayWrite}
 use Rattle.txn_table.specs.Entries.{entry_of}
-use Rattle.engine.proofs.Owing.{entry_is}
+use Rattle.txn_table.proofs.Owing.{entry_is}
 use Rattle.engine.proofs.Calling.{answered, written, does_nothing, does_failed, asks_rest, still}
 use Rattle.engine.proofs.engine.Engine.erase.Goals as goal
 

@@ -5,7 +5,7 @@ use Rattle.record_model.specs.declared.words.Command.TheVariants.{Scan}
 use Rattle.engine.specs.Invariant.{sizes_of}
 use Rattle.engine.proofs.Replies.{refused, carried_out, has_record, lacks_record, is_active, has}
 use Rattle.engine.proofs.Scans.{busy_is, past_all}
-use Rattle.engine.proofs.Owing.{entry_is}
+use Rattle.txn_table.proofs.Owing.{entry_is}
 use Rattle.engine.proofs.engine.Engine.scan_refusal.Goals as goal
 
 pub returns-clause-may : goal.returns-clause-may

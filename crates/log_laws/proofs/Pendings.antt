@@ -17,7 +17,7 @@ use Rattle.log_records.specs.Log.{Entry, txn_of, is_of, is_update, is_closing, i
 use Rattle.log_records.specs.Unfinished.{is_clr, open_by, left_open, pending}
 use Rattle.log_records.specs.Sound.{IsInOrder}
 use Rattle.log_laws.specs.RoomLaws.{LeftPush}
-use Rattle.redo_undo.proofs.LeftUpdates.{left_after_clr}
+use Rattle.log_laws.proofs.OpenUpdates.{left_after_clr}
 
 -- Lists.
 
