@@ -32,7 +32,7 @@ use Rattle.engine.specs.Representation.{Matches, run, run_now, checkpointed_if, 
 use Rattle.engine.specs.Image.{Stands}
 use Rattle.engine.specs.Leaves.{LeavesTable, LeavesEither}
 use Rattle.engine.specs.Numbers.{checkpoints_by, CountsOn}
-use Rattle.engine.specs.Calls.{Ends, KeepsEngine, Does, Answers}
+use Rattle.engine.specs.Calls.{Ends, KeepsEngine, KeepsUnread, Does, Answers}
 use Rattle.engine.proofs.Moments.{and_then}
 use Rattle.engine.proofs.Asking.{has_group}
 use Rattle.engine.proofs.RingCounts.{counts, count_failed, count_answered, count_refused, count_then, run_makes, count_nothing}
@@ -103,17 +103,21 @@ serves_still going works ended cap active few commits =
       differ = subst AreApart (sym active) going.differ;
     })
 
-pub serves_then : {A B : Type 0} {a : A} {r : Result B Stop} {old mid new : Engine} {before between now : Site} → KeepsEngine {T = A} (Ok a) old mid before between → KeepsEngine r mid new between now → KeepsEngine r old new before now
-serves_then first second = record { calls = calls_then first.calls second.calls; going = second.going; sizes = second.sizes ∙ first.sizes; stops = second.stops }
+-- and no record of the log is read
+pub serves_then : {A B : Type 0} {a : A} {r : Result B Stop} {old mid new : Engine} {before between now : Site} → KeepsUnread {T = A} (Ok a) old mid before between → KeepsUnread r mid new between now → KeepsUnread r old new before now
+serves_then first second = record {
+  keeps = record { calls = calls_then first.calls second.calls; going = second.going; sizes = second.sizes ∙ first.sizes; stops = second.stops };
+  log_reads = second.log_reads ∙ first.log_reads;
+}
 
-pub serves_failed : {A B : Type 0} {stop : Stop} {old new : Engine} {before now : Site} → KeepsEngine {T = A} (Err stop) old new before now → KeepsEngine {T = B} (Err stop) old new before now
-serves_failed first = record { calls = calls_failed first.calls; going = tt; sizes = first.sizes; stops = first.stops }
+pub serves_failed : {A B : Type 0} {stop : Stop} {old new : Engine} {before now : Site} → KeepsUnread {T = A} (Err stop) old new before now → KeepsUnread {T = B} (Err stop) old new before now
+serves_failed first = record { keeps = record { calls = calls_failed first.calls; going = tt; sizes = first.sizes; stops = first.stops }; log_reads = first.log_reads }
 
-pub serves_answered : {A B : Type 0} {a : A} {b : B} {old new : Engine} {before now : Site} → KeepsEngine {T = A} (Ok a) old new before now → KeepsEngine {T = B} (Ok b) old new before now
-serves_answered first = record { calls = calls_answered first.calls; going = first.going; sizes = first.sizes; stops = tt }
+pub serves_answered : {A B : Type 0} {a : A} {b : B} {old new : Engine} {before now : Site} → KeepsUnread {T = A} (Ok a) old new before now → KeepsUnread {T = B} (Ok b) old new before now
+serves_answered first = record { keeps = record { calls = calls_answered first.calls; going = first.going; sizes = first.sizes; stops = tt }; log_reads = first.log_reads }
 
-pub serves_nothing : {T : Type 0} {x : T} {engine : Engine} {site : Site} → Invariant engine site → KeepsEngine {T = T} (Ok x) engine engine site site
-serves_nothing going = record { calls = calls_nothing; going = going; sizes = refl; stops = tt }
+pub serves_nothing : {T : Type 0} {x : T} {engine : Engine} {site : Site} → Invariant engine site → KeepsUnread {T = T} (Ok x) engine engine site site
+serves_nothing going = record { keeps = record { calls = calls_nothing; going = going; sizes = refl; stops = tt }; log_reads = refl }
 
 -- what log and pages keep, as what the database does
 pub does_of : {T : Type 0} {r : Result T Stop} {old new : Engine} {before now : Site} {s after : State} {P : Snapshot → Type 0} {n m : ℕ} → s.made + n ≤ after.made → OnOk r (Matches new now after) →
@@ -147,7 +151,7 @@ does_failed {A = A} {B = B} {stop = stop} {old = old} {new = new} {new' = new'} 
 -- a call behind one that was Ok
 pub does_then : {A B : Type 0} {a : A} {r : Result B Stop} {old mid new : Engine} {before between now : Site} {s u after : State} {P Q R : Snapshot → Type 0} {m m' k : ℕ} → IsTrue before.honest → m + m' ≡ k →
     ((x : Snapshot) → P x → R x) → (LeavesOnly before between P → (x : Snapshot) → Q x → R x) →
-    KeepsEngine {T = A} (Ok a) old mid before between → Does {T = A} (Ok a) old mid before between s u P m → Does r mid new between now u after Q m' → Does r old new before now s after R k
+    KeepsUnread {T = A} (Ok a) old mid before between → Does {T = A} (Ok a) old mid before between s u P m → Does r mid new between now u after Q m' → Does r old new before now s after R k
 does_then {a = a} {r = r} {old = old} {mid = mid} {new = new} {before = before} {between = between} {now = now} {s = s} {u = u} {after = after} {P = P} {Q = Q} {R = R} {m = m} {m' = m'} {k = k} honest sum early late serves first second = record {
   after_fits = second.after_fits;
   ends = ends_behind (serves.calls.stays_quiet honest) serves.sizes (λ quiet. leaves_late early late (first.any_moment quiet)) second.ends;
@@ -187,7 +191,7 @@ still law {engine = engine} {site = site} {s = s} fits going quiet =
 module _ {s : State} (command : Command) {wanted : Bool} (known : wanted ≡ makes_checkpoint true s command) (R : Outcome → Snapshot → Type 0) where
   pub first_then : {A : Type 0} {a : A} {r : Result Reply Stop} {old mid new : Engine} {before between now : Site} {P Q : Snapshot → Type 0} → IsTrue before.honest →
       ((x : Snapshot) → P x → R (run_now (checkpointed_if wanted s) command) x) → (LeavesOnly before between P → (x : Snapshot) → Q x → R (run_now (checkpointed_if wanted s) command) x) →
-      KeepsEngine {T = A} (Ok a) old mid before between → Does {T = A} (Ok a) old mid before between s (checkpointed_if wanted s) P (if wanted then 1 else 0) →
+      KeepsUnread {T = A} (Ok a) old mid before between → Does {T = A} (Ok a) old mid before between s (checkpointed_if wanted s) P (if wanted then 1 else 0) →
       StepsMachine {T = A} (Ok a) (if wanted then checkpoint_works else []) old.store.pages mid.store.pages before between →
       Answers r mid new between now (checkpointed_if wanted s) (run_now (checkpointed_if wanted s) command) (command_touches false (checkpointed_if wanted s) command) Q 0 →
       Answers r old new before now s (run s command) (command_touches true s command) (R (run s command)) (checkpoints_by s command)
@@ -235,11 +239,14 @@ calls_no_memory {stop = stop} memory first = calls_refused {stop = stop} (λ d i
     never : {d : Dev} → Memory ≡ Device d → ⊥
     never is = cc
 
-pub serves_no_memory : {A B : Type 0} {a : A} {stop : Stop} {old new : Engine} {before now : Site} → stop ≡ Memory → KeepsEngine {T = A} (Ok a) old new before now → KeepsEngine {T = B} (Err stop) old new before now
-serves_no_memory memory first = record { calls = calls_no_memory memory first.calls; going = tt; sizes = first.sizes; stops = subst MayStop (sym memory) tt }
+pub serves_no_memory : {A B : Type 0} {a : A} {stop : Stop} {old new : Engine} {before now : Site} → stop ≡ Memory → KeepsUnread {T = A} (Ok a) old new before now → KeepsUnread {T = B} (Err stop) old new before now
+serves_no_memory memory first = record {
+  keeps = record { calls = calls_no_memory memory first.calls; going = tt; sizes = first.sizes; stops = subst MayStop (sym memory) tt };
+  log_reads = first.log_reads;
+}
 
 pub does_no_memory : {A B : Type 0} {a : A} {stop : Stop} {old new : Engine} {before now : Site} {s after after' : State} {P : Snapshot → Type 0} {m : ℕ} → stop ≡ Memory → IsTrue before.honest → after.made ≤ after'.made →
-    KeepsEngine {T = A} (Ok a) old new before now → Does {T = A} (Ok a) old new before now s after P m → Does {T = B} (Err stop) old new before now s after' P m
+    KeepsUnread {T = A} (Ok a) old new before now → Does {T = A} (Ok a) old new before now s after P m → Does {T = B} (Err stop) old new before now s after' P m
 does_no_memory {A = A} {B = B} {a = a} {stop = stop} {old = old} {new = new} {before = before} {now = now} {s = s} {after = after} {after' = after'} {m = m} memory honest few serves first = record {
   after_fits = tt;
   ends = ends_no_memory memory (serves.calls.stays_quiet honest) first.ends;

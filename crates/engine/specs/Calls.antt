@@ -24,7 +24,13 @@ pub record KeepsEngine {T : Type 0} (result : Result T Stop) (old new : Engine) 
   pub sizes : sizes_of new.store ≡ sizes_of old.store
   pub stops : IfErr result (λ stop. MayStop stop)
 
--- The same call on an honest site that the database fits in this state: it takes it to that state, each crash meanwhile
+-- The same of a call that reads no record of the log.
+pub record KeepsUnread {T : Type 0} (result : Result T Stop) (old new : Engine) (before now : Site) : Type 0 where
+  pub keeps : KeepsEngine result old new before now
+  pub open keeps use *
+  pub log_reads : now.log_reads ≡ before.log_reads
+
+-- A call of the database on an honest site that it fits in this state: it comes to that state, each crash meanwhile
 -- leaves P, and no error comes but for its cause.
 pub record Does {T : Type 0} (result : Result T Stop) (old new : Engine) (before now : Site) (s after : State)
     (P : Snapshot → Type 0) (checkpoints : ℕ) : Type 0 where

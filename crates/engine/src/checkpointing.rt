@@ -13,7 +13,7 @@ ghost use Rattle.engine.specs.Leaves.{LeavesTable};
 ghost use Rattle.record_model.specs.Touches.{command_touches};
 ghost use Rattle.redo_undo.specs.MachineSteps.{StepsMachine, Overflows, checkpoint_works};
 ghost use Rattle.page_store.specs.Caching.{cache_of, rules};
-ghost use Rattle.engine.specs.Calls.{KeepsEngine, Does, Answers};
+ghost use Rattle.engine.specs.Calls.{KeepsUnread, Does, Answers};
 ghost use Rattle.engine.specs.Numbers.{checkpoints_by};
 
 use crate::engine::{Engine, SESSIONS};
@@ -68,8 +68,7 @@ impl Engine {
             (LeavesTable (sizes_of self.old.store) s.table s.commits (S.state site.old).told) 1 }
 
         // Of every site.
-        ensures serves { KeepsEngine result self.old self.new (S.state site.old) (S.state site.new) }
-        ensures log_reads { (S.state site.new).log_reads ≡ (S.state site.old).log_reads }
+        ensures serves { KeepsUnread result self.old self.new (S.state site.old) (S.state site.new) }
         ensures asks { StepsMachine result checkpoint_works self.old.store.pages self.new.store.pages
             (S.state site.old) (S.state site.new) }
     {
@@ -96,8 +95,7 @@ impl Engine {
             (if wanted then 1 else 0) }
 
         // Of every site.
-        ensures serves { KeepsEngine result self.old self.new (S.state site.old) (S.state site.new) }
-        ensures log_reads { (S.state site.new).log_reads ≡ (S.state site.old).log_reads }
+        ensures serves { KeepsUnread result self.old self.new (S.state site.old) (S.state site.new) }
         ensures rest { wanted ≡ false → self.new ≡ self.old }
         ensures ended { OnErr result (self.new.ended ≡ true) }
         ensures asks { StepsMachine result (if wanted then checkpoint_works else []) self.old.store.pages
@@ -130,8 +128,7 @@ impl Engine {
             (checkpoints_by s Command.Checkpoint) }
 
         // Of every site.
-        ensures serves { KeepsEngine result self.old self.new (S.state site.old) (S.state site.new) }
-        ensures log_reads { (S.state site.new).log_reads ≡ (S.state site.old).log_reads }
+        ensures serves { KeepsUnread result self.old self.new (S.state site.old) (S.state site.new) }
         ensures ended { OnErr result (self.new.ended ≡ true) }
         ensures worn_flash { IsErrOf result (Stop.Worn Dev.Flash)
             → Overflows (rules self.old.store.pages) checkpoint_works (cache_of self.old.store.pages) }

@@ -20,7 +20,7 @@ ghost use Rattle.record_model.specs.Touches.{command_touches, read_touch};
 ghost use Rattle.redo_undo.specs.MachineSteps.{StepsMachine, Overflows, one_touch};
 ghost use Rattle.page_store.specs.Caching.{cache_of, rules};
 ghost use Rattle.engine.specs.Scans.{first_busy, items_seen};
-ghost use Rattle.engine.specs.Calls.{KeepsEngine, Does, Answers};
+ghost use Rattle.engine.specs.Calls.{KeepsUnread, Does, Answers};
 ghost use Rattle.engine.specs.Numbers.{checkpoints_by};
 
 use crate::engine::Engine;
@@ -65,8 +65,7 @@ impl Engine {
             self.new.store.pages) }
 
         // Of every site.
-        ensures serves { KeepsEngine result self.old self.new (S.state site.old) (S.state site.new) }
-        ensures log_reads { (S.state site.new).log_reads ≡ (S.state site.old).log_reads }
+        ensures serves { KeepsUnread result self.old self.new (S.state site.old) (S.state site.new) }
         ensures ended { OnErr result (self.new.ended ≡ true) }
         ensures worn_flash { IsErrOf result (Stop.Worn Dev.Flash)
             → Overflows (rules self.old.store.pages) (one_touch (number / 32)) (cache_of self.old.store.pages) }
@@ -105,8 +104,7 @@ impl Engine {
             self.new.store.pages) }
 
         // Of every site.
-        ensures serves { KeepsEngine result self.old self.new (S.state site.old) (S.state site.new) }
-        ensures log_reads { (S.state site.new).log_reads ≡ (S.state site.old).log_reads }
+        ensures serves { KeepsUnread result self.old self.new (S.state site.old) (S.state site.new) }
         ensures asks { StepsMachine result (one_touch (number / 32)) self.old.store.pages self.new.store.pages
             (S.state site.old) (S.state site.new) }
         ensures locks { OnOk result (AddsLock self.old.locks self.new.locks session number false) }
@@ -166,8 +164,7 @@ impl Engine {
             self.new.store.pages) }
 
         // Of every site.
-        ensures serves { KeepsEngine result self.old self.new (S.state site.old) (S.state site.new) }
-        ensures log_reads { (S.state site.new).log_reads ≡ (S.state site.old).log_reads }
+        ensures serves { KeepsUnread result self.old self.new (S.state site.old) (S.state site.new) }
         ensures ended { OnErr result (self.new.ended ≡ true) }
         ensures worn_flash { IsErrOf result (Stop.Worn Dev.Flash)
             → Overflows (rules self.old.store.pages) (map read_touch (range_with_len number count))
@@ -209,8 +206,7 @@ impl Engine {
             self.new.store.pages) }
 
         // Of every site.
-        ensures serves { KeepsEngine result self.old self.new (S.state site.old) (S.state site.new) }
-        ensures log_reads { (S.state site.new).log_reads ≡ (S.state site.old).log_reads }
+        ensures serves { KeepsUnread result self.old self.new (S.state site.old) (S.state site.new) }
         ensures asks { StepsMachine result (map read_touch (range_with_len number count)) self.old.store.pages
             self.new.store.pages
             (S.state site.old) (S.state site.new) }
@@ -261,8 +257,7 @@ impl Engine {
             self.new.store.pages) }
 
         // Of every site.
-        ensures serves { KeepsEngine result self.old self.new (S.state site.old) (S.state site.new) }
-        ensures log_reads { (S.state site.new).log_reads ≡ (S.state site.old).log_reads }
+        ensures serves { KeepsUnread result self.old self.new (S.state site.old) (S.state site.new) }
         ensures ended { OnErr result (self.new.ended ≡ true) }
         ensures worn_flash { IsErrOf result (Stop.Worn Dev.Flash)
             → Overflows (rules self.old.store.pages) (one_touch (number / 32)) (cache_of self.old.store.pages) }
@@ -296,8 +291,7 @@ impl Engine {
             self.new.store.pages) }
 
         // Of every site.
-        ensures serves { KeepsEngine result self.old self.new (S.state site.old) (S.state site.new) }
-        ensures log_reads { (S.state site.new).log_reads ≡ (S.state site.old).log_reads }
+        ensures serves { KeepsUnread result self.old self.new (S.state site.old) (S.state site.new) }
         ensures asks { StepsMachine result (one_touch (number / 32)) self.old.store.pages self.new.store.pages
             (S.state site.old) (S.state site.new) }
     {

@@ -27,7 +27,7 @@ ghost use Rattle.record_model.specs.Touches.{command_touches, write_touch};
 ghost use Rattle.redo_undo.specs.MachineSteps.{StepsMachine, Overflows, checkpoint_works};
 ghost use Rattle.page_store.specs.Caching.{cache_of, rules};
 ghost use Rattle.checkpoint.specs.declared.master.Master.{Master};
-ghost use Rattle.engine.specs.Calls.{KeepsEngine, Does, Answers};
+ghost use Rattle.engine.specs.Calls.{KeepsEngine, KeepsUnread, Does, Answers};
 ghost use Rattle.engine.specs.Numbers.{checkpoints_by};
 ghost use Rattle.engine.specs.LogReads.{undo_reads};
 ghost use Rattle.redo_undo.specs.StoreCalls.{KeepsInvariant, Keeps};
@@ -70,8 +70,7 @@ impl Engine {
             (LeavesTable (sizes_of self.old.store) s.table s.commits (S.state site.old).told) 0 }
 
         // Of every site.
-        ensures serves { KeepsEngine result self.old self.new (S.state site.old) (S.state site.new) }
-        ensures log_reads { (S.state site.new).log_reads ≡ (S.state site.old).log_reads }
+        ensures serves { KeepsUnread result self.old self.new (S.state site.old) (S.state site.new) }
         ensures ended { OnErr result (self.new.ended ≡ true) }
         ensures fills { OnOk result (Fills 1 self.old.store.log self.new.store.log self.old.store.pages
             self.new.store.pages) }
@@ -106,8 +105,7 @@ impl Engine {
             self.new.store.pages) }
 
         // Of every site.
-        ensures serves { KeepsEngine result self.old self.new (S.state site.old) (S.state site.new) }
-        ensures log_reads { (S.state site.new).log_reads ≡ (S.state site.old).log_reads }
+        ensures serves { KeepsUnread result self.old self.new (S.state site.old) (S.state site.new) }
         ensures ended { OnErr result (self.new.ended ≡ true) }
         ensures worn_flash { IsErrOf result (Stop.Worn Dev.Flash)
             → Overflows (rules self.old.store.pages) checkpoint_works (cache_of self.old.store.pages) }
@@ -131,8 +129,7 @@ impl Engine {
             (LeavesTable (sizes_of self.old.store) s.table s.commits (S.state site.old).told) 0 }
 
         // Of every site.
-        ensures serves { KeepsEngine result self.old self.new (S.state site.old) (S.state site.new) }
-        ensures log_reads { (S.state site.new).log_reads ≡ (S.state site.old).log_reads }
+        ensures serves { KeepsUnread result self.old self.new (S.state site.old) (S.state site.new) }
         ensures asks { StepsMachine result ([]) self.old.store.pages self.new.store.pages
             (S.state site.old) (S.state site.new) }
         ensures fills { OnOk result (Fills 1 self.old.store.log self.new.store.log self.old.store.pages
@@ -212,8 +209,7 @@ impl Engine {
             (S.state site.old).told) 0 }
 
         // Of every site.
-        ensures serves { KeepsEngine result self.old self.new (S.state site.old) (S.state site.new) }
-        ensures log_reads { (S.state site.new).log_reads ≡ (S.state site.old).log_reads }
+        ensures serves { KeepsUnread result self.old self.new (S.state site.old) (S.state site.new) }
         ensures asks { StepsMachine result ([]) self.old.store.pages self.new.store.pages
             (S.state site.old) (S.state site.new) }
         ensures stops { IfErr result (λ stop. (stop ≡ Stop.Device Dev.Log) ⊎ (stop ≡ Stop.Worn Dev.Log)) }
@@ -240,8 +236,7 @@ impl Engine {
             (checkpoints_by s (Command.Commit session)) }
 
         // Of every site.
-        ensures serves { KeepsEngine result self.old self.new (S.state site.old) (S.state site.new) }
-        ensures log_reads { (S.state site.new).log_reads ≡ (S.state site.old).log_reads }
+        ensures serves { KeepsUnread result self.old self.new (S.state site.old) (S.state site.new) }
         ensures ended { OnErr result (self.new.ended ≡ true) }
         ensures stops { IfErr result (λ stop. (stop ≡ Stop.Device Dev.Log) ⊎ (stop ≡ Stop.Worn Dev.Log)) }
     {

@@ -19,7 +19,7 @@ ghost use Rattle.engine.specs.Leaves.{LeavesTable};
 ghost use Rattle.record_model.specs.Touches.{command_touches};
 ghost use Rattle.redo_undo.specs.MachineSteps.{StepsMachine, Overflows, one_change};
 ghost use Rattle.page_store.specs.Caching.{cache_of, rules};
-ghost use Rattle.engine.specs.Calls.{KeepsEngine, Does, Answers};
+ghost use Rattle.engine.specs.Calls.{KeepsUnread, Does, Answers};
 ghost use Rattle.engine.specs.Numbers.{checkpoints_by};
 
 use crate::engine::Engine;
@@ -56,8 +56,7 @@ impl Engine {
             self.new.store.log self.old.store.pages self.new.store.pages) }
 
         // Of every site.
-        ensures serves { KeepsEngine result self.old self.new (S.state site.old) (S.state site.new) }
-        ensures log_reads { (S.state site.new).log_reads ≡ (S.state site.old).log_reads }
+        ensures serves { KeepsUnread result self.old self.new (S.state site.old) (S.state site.new) }
         ensures asks { StepsMachine result (one_change (number / 32)) self.old.store.pages self.new.store.pages
             (S.state site.old) (S.state site.new) }
     {
@@ -142,8 +141,7 @@ impl Engine {
             self.new.store.pages) }
 
         // Of every site.
-        ensures serves { KeepsEngine result self.old self.new (S.state site.old) (S.state site.new) }
-        ensures log_reads { (S.state site.new).log_reads ≡ (S.state site.old).log_reads }
+        ensures serves { KeepsUnread result self.old self.new (S.state site.old) (S.state site.new) }
         ensures ended { OnErr result (self.new.ended ≡ true) }
         ensures worn_flash { IsErrOf result (Stop.Worn Dev.Flash)
             → Overflows (rules self.old.store.pages) (one_change (number / 32)) (cache_of self.old.store.pages) }
@@ -201,8 +199,7 @@ impl Engine {
             self.new.store.pages) }
 
         // Of every site.
-        ensures serves { KeepsEngine result self.old self.new (S.state site.old) (S.state site.new) }
-        ensures log_reads { (S.state site.new).log_reads ≡ (S.state site.old).log_reads }
+        ensures serves { KeepsUnread result self.old self.new (S.state site.old) (S.state site.new) }
         ensures ended { OnErr result (self.new.ended ≡ true) }
         ensures worn_flash { IsErrOf result (Stop.Worn Dev.Flash)
             → Overflows (rules self.old.store.pages) (one_change (number / 32)) (cache_of self.old.store.pages) }

@@ -1,5 +1,5 @@
--- No number is skipped by the rings on the log's device, and it is worn only where a ring is to be appended to past its
--- end.
+-- No number is skipped by the rings on the log's device, and it is worn only where, by counts, more is appended than
+-- they have numbers for.
 use Rattle.std.specs.Prelude.{◌≡◌, ◌⊎◌, ℕ, ◌+◌, ◌^◌, ◌≤◌, ◌<◌, Result, OnOk, IsErrOf}
 use Rattle.site.specs.declared.geometry.Geometry.{Geometry}
 use Rattle.site.specs.State.{State, Image}

@@ -294,31 +294,31 @@ pub returns-in-Checkpoint-clause-quiet : goal.returns-in-Checkpoint-clause-quiet
 returns-in-Checkpoint-clause-quiet g c s fits = (c.checkpoint.ensures.answers s fits).does.quiet
 
 pub returns-in-Begin-clause-log_reads : goal.returns-in-Begin-clause-log_reads
-returns-in-Begin-clause-log_reads g c s fits = omega (arith, c.begin.ensures.log_reads)
+returns-in-Begin-clause-log_reads g c s fits = omega (arith, c.begin.ensures.serves.log_reads)
 
 pub returns-in-Read-clause-log_reads : goal.returns-in-Read-clause-log_reads
-returns-in-Read-clause-log_reads g c s fits = omega (arith, c.read.ensures.log_reads)
+returns-in-Read-clause-log_reads g c s fits = omega (arith, c.read.ensures.serves.log_reads)
 
 pub returns-in-Write-clause-log_reads : goal.returns-in-Write-clause-log_reads
-returns-in-Write-clause-log_reads g c s fits = omega (arith, c.write.ensures.log_reads)
+returns-in-Write-clause-log_reads g c s fits = omega (arith, c.write.ensures.serves.log_reads)
 
 pub returns-in-Erase-clause-log_reads : goal.returns-in-Erase-clause-log_reads
-returns-in-Erase-clause-log_reads g c s fits = omega (arith, c.erase.ensures.log_reads)
+returns-in-Erase-clause-log_reads g c s fits = omega (arith, c.erase.ensures.serves.log_reads)
 
 pub returns-in-Scan-clause-log_reads : goal.returns-in-Scan-clause-log_reads
-returns-in-Scan-clause-log_reads g c s fits = omega (arith, c.scan.ensures.log_reads)
+returns-in-Scan-clause-log_reads g c s fits = omega (arith, c.scan.ensures.serves.log_reads)
 
 pub returns-in-Commit-clause-log_reads : goal.returns-in-Commit-clause-log_reads
-returns-in-Commit-clause-log_reads g c s fits = omega (arith, c.commit.ensures.log_reads)
+returns-in-Commit-clause-log_reads g c s fits = omega (arith, c.commit.ensures.serves.log_reads)
 
 pub returns-in-Get-clause-log_reads : goal.returns-in-Get-clause-log_reads
-returns-in-Get-clause-log_reads g c s fits = omega (arith, c.get.ensures.log_reads)
+returns-in-Get-clause-log_reads g c s fits = omega (arith, c.get.ensures.serves.log_reads)
 
 pub returns-in-Set-clause-log_reads : goal.returns-in-Set-clause-log_reads
-returns-in-Set-clause-log_reads g c s fits = omega (arith, c.set.ensures.log_reads)
+returns-in-Set-clause-log_reads g c s fits = omega (arith, c.set.ensures.serves.log_reads)
 
 pub returns-in-Checkpoint-clause-log_reads : goal.returns-in-Checkpoint-clause-log_reads
-returns-in-Checkpoint-clause-log_reads g c s fits = omega (arith, c.checkpoint.ensures.log_reads)
+returns-in-Checkpoint-clause-log_reads g c s fits = omega (arith, c.checkpoint.ensures.serves.log_reads)
 
 pub returns-in-Stat-clause-log_reads : goal.returns-in-Stat-clause-log_reads
 returns-in-Stat-clause-log_reads g c s fits = omega arith

@@ -6,7 +6,7 @@ use Rattle.record_model.specs.declared.words.Command.TheVariants.{Begin}
 use Rattle.engine.specs.Invariant.{sizes_of}
 use Rattle.engine.specs.Representation.{checkpointed_if}
 use Rattle.engine.specs.Leaves.{LeavesTable}
-use Rattle.engine.proofs.Calling.{first_then, first_failed, late_table}
+use Rattle.engine.proofs.Calling.{serves_then, first_then, first_failed, late_table}
 use Rattle.engine.proofs.engine.Engine.begin.Goals as goal
 
 pub returns-in-Ok-clause-answers : goal.returns-in-Ok-clause-answers
@@ -21,8 +21,8 @@ returns-in-Err-clause-answers g c s fits =
     first_failed (Begin c.args.session) (c.wants_checkpoint_to_begin-wanted.ensures s old fits) (λ o. LeavesTable (sizes_of c.args.self.now.store) s.table s.commits old.told) c.requires.going
     (λ x p. p) (c.in-Err.ensures.does s fits) c.in-Err.ensures.asks
 
-pub returns-in-Ok-clause-log_reads : goal.returns-in-Ok-clause-log_reads
-returns-in-Ok-clause-log_reads g c = c.begin_now.ensures.log_reads ∙ c.checkpoint_if.ensures.log_reads
+pub returns-in-Ok-clause-serves : goal.returns-in-Ok-clause-serves
+returns-in-Ok-clause-serves g c = serves_then c.in-Ok.ensures.serves c.begin_now.ensures.serves
 
 pub returns-in-Ok-clause-fills : goal.returns-in-Ok-clause-fills
 returns-in-Ok-clause-fills g c s fits none =

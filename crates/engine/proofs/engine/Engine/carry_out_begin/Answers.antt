@@ -34,11 +34,11 @@ returns-clause-does g c s fits =
     })
     (keeps_answered (c.in-Ok.ensures.keeps fits.newest fits.records s.table s.commits fits.holds))
 
-pub returns-in-Err-clause-log_reads : goal.returns-in-Err-clause-log_reads
-returns-in-Err-clause-log_reads g c = c.begin.ensures.reads Log
+pub returns-in-Err-clause-serves : goal.returns-in-Err-clause-serves
+returns-in-Err-clause-serves g c = record { keeps = search rules; log_reads = c.begin.ensures.reads Log }
 
-pub returns-clause-log_reads : goal.returns-clause-log_reads
-returns-clause-log_reads g c = c.begin.ensures.reads Log
+pub returns-clause-serves : goal.returns-clause-serves
+returns-clause-serves g c = record { keeps = search rules; log_reads = c.begin.ensures.reads Log }
 
 pub returns-clause-fills : goal.returns-clause-fills
 returns-clause-fills g c = c.in-Ok.ensures.fills

@@ -59,14 +59,16 @@ returns-in-Ok g c =
           (keeps_answered (subst (λ (n : ℕ). Keeps {T = Unit {0}} (Ok c.in-Ok.field-0) engine.store c.checkpoint.new.self old new (LeavesTable (sizes_of engine.store) s.table n old.told) 0 1) fits.counts.commits (c.in-Ok.ensures.keeps fits.newest fits.records s.table holds may)));
       serves =
           record {
-            calls = calls_answered c.in-Ok.ensures.calls;
-            going = goes_on engine _ old new c.unwrap_or-first.result c.requires.going go c.in-Ok.ensures.going c.requires.going.going refl c.checkpoint.ensures.sizes c.count_from.ensures.table
-                c.count_from.ensures.entries c.count_from.ensures.owed c.in-Ok.ensures.made c.in-Ok.ensures.blocks c.in-Ok.ensures.kept c.in-Ok.ensures.end
-                refl;
-            sizes = c.checkpoint.ensures.sizes;
-            stops = tt;
+            keeps = record {
+              calls = calls_answered c.in-Ok.ensures.calls;
+              going = goes_on engine _ old new c.unwrap_or-first.result c.requires.going go c.in-Ok.ensures.going c.requires.going.going refl c.checkpoint.ensures.sizes c.count_from.ensures.table
+                  c.count_from.ensures.entries c.count_from.ensures.owed c.in-Ok.ensures.made c.in-Ok.ensures.blocks c.in-Ok.ensures.kept c.in-Ok.ensures.end
+                  refl;
+              sizes = c.checkpoint.ensures.sizes;
+              stops = tt;
+            };
+            log_reads = c.checkpoint.ensures.log_reads;
           };
-      log_reads = c.checkpoint.ensures.log_reads;
       asks = asks_ok c.in-Ok.field-0 _ checkpoint_works _ _ _ _ c.in-Ok.ensures.asks;
     }
 

@@ -30,8 +30,7 @@ returns-in-Ok g c =
           let holds = c.in-Ok.ensures.holds fits.newest fits.records s.table s.commits fits.holds in
           does_of (omega arith) (touched_fits c.args.self.now c.touch.new.self _ _ s fits (stays_honest _ _ c.touch.ensures.works.calls.goes fits.honest) holds c.touch.ensures.made)
           (keeps_answered (c.in-Ok.ensures.keeps fits.newest fits.records s.table s.commits fits.holds));
-      serves = search rules;
-      log_reads = c.touch.ensures.log_reads;
+      serves = record { keeps = search rules; log_reads = c.touch.ensures.log_reads };
       fills = λ s fits. c.in-Ok.ensures.fills fits.newest fits.records s.table s.commits fits.holds;
       asks = asks_ok c.in-Ok.field-0 _ (one_touch (c.args.number / 32)) _ _ _ _ c.in-Ok.ensures.asks;
     }

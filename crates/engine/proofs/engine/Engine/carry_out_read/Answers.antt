@@ -34,9 +34,11 @@ returns-in-Ok-add g c =
           let fits_mid : Matches mid _ s = touched_fits engine c.touch.new.self _ _ s fits (stays_honest _ _ c.touch.ensures.works.calls.goes fits.honest) holds c.touch.ensures.made in
           does_of (omega arith) (read_fits mid c.add.new.self _ s c.args.session number own.own fits_mid c.requires.going.table own.is c.in-Ok-add.ensures.ok)
           (keeps_answered (c.in-Ok.ensures.keeps fits.newest fits.records s.table s.commits fits.holds));
-      serves = serves_still going (works_answered c.in-Ok.ensures.works) refl refl refl (omega (arith, going.budget)) (omega (arith, going.commits, c.in-Ok.ensures.works.rises));
+      serves = record {
+        keeps = serves_still going (works_answered c.in-Ok.ensures.works) refl refl refl (omega (arith, going.budget)) (omega (arith, going.commits, c.in-Ok.ensures.works.rises));
+        log_reads = c.touch.ensures.log_reads;
+      };
       asks = asks_ok c.in-Ok.field-0 _ (one_touch (c.args.number / 32)) _ _ _ _ c.in-Ok.ensures.asks;
-      log_reads = c.touch.ensures.log_reads;
       fills = λ s fits. c.in-Ok.ensures.fills fits.newest fits.records s.table s.commits fits.holds;
       locks = search rules;
       active = search rules;

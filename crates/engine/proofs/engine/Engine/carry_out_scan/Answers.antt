@@ -23,7 +23,6 @@ loop-offset-init g c =
     let old = g.S.Site.state c.args.site.now in
     record {
       serves = serves_nothing c.requires.going;
-      log_reads = refl;
       fills = λ s fits. room_still;
       active = refl;
       busy = λ r. refl;
@@ -56,7 +55,6 @@ loop-offset-preserved g c =
     let eight = c.requires.may.session in
     record {
       serves = serves_answered (serves_then inv.serves c.in-Ok.ensures.serves);
-      log_reads = c.carry_out_read.ensures.log_reads ∙ inv.log_reads;
       fills = λ s fits. room_both (inv.fills s fits) (c.in-Ok.ensures.fills (with_reads s c.args.session (range_with_len c.args.number c.loop-offset.offset)) (inv.does s fits).after_fits);
       active = c.carry_out_read.ensures.active ∙ inv.active;
       busy = λ r. still_busy c.loop-offset.self.locks c.carry_out_read.new.self.locks c.args.session (number + offset) c.in-Ok.ensures.locks c.args.session r ∙ inv.busy r;
@@ -79,7 +77,6 @@ returns-in-Err g c =
       does = λ s fits.
           does_failed (omega arith) (does_then fits.honest refl (λ x p. p) (late_table inv.serves.sizes) inv.serves (inv.does s fits) (c.in-Err.ensures.does (with_reads s c.args.session (range_with_len c.args.number c.loop-offset.offset)) (inv.does s fits).after_fits));
       serves = serves_failed (serves_then c.loop-offset.invariant.serves c.in-Err.ensures.serves);
-      log_reads = c.carry_out_read.ensures.log_reads ∙ inv.log_reads;
       fills = λ s fits. tt;
       asks =
           scan_stops c.in-Err.stop c.args.number c.loop-offset.offset c.args.count _ _ _ _ (has_group c.requires.going) c.loop-offset-test.true
@@ -95,7 +92,6 @@ returns-in-Err-add_item g c =
           does_no_memory c.in-Err-add_item.ensures.stops fits.honest (omega arith) (serves_then inv.serves c.in-Ok.ensures.serves)
           (does_then fits.honest refl (λ x p. p) (late_table inv.serves.sizes) inv.serves (inv.does s fits) (c.in-Ok.ensures.does (with_reads s c.args.session (range_with_len c.args.number c.loop-offset.offset)) (inv.does s fits).after_fits));
       serves = serves_no_memory c.in-Err-add_item.ensures.stops (serves_then c.loop-offset.invariant.serves c.in-Ok.ensures.serves);
-      log_reads = c.carry_out_read.ensures.log_reads ∙ inv.log_reads;
       fills = λ s fits. tt;
       asks =
           scan_stops c.in-Err-add_item.stop c.args.number c.loop-offset.offset c.args.count _ _ _ _ (has_group c.requires.going) c.loop-offset-test.true
@@ -112,7 +108,6 @@ returns g c =
       does = λ s fits.
           does_answered (subst (λ (k : ℕ). Does {T = Unit {0}} (Ok tt) c.args.self.now c.loop-offset.self old (g.S.Site.state c.loop-offset.site) s (with_reads s c.args.session (range_with_len c.args.number k)) (LeavesTable (sizes_of c.args.self.now.store) s.table s.commits old.told) 0) same (c.loop-offset.invariant.does s fits));
       serves = serves_answered c.loop-offset.invariant.serves;
-      log_reads = c.loop-offset.invariant.log_reads;
       fills = c.loop-offset.invariant.fills;
       asks =
           asks_same _ _ _ _ _ _ _ (ap (λ (k : ℕ). map read_touch (range_with_len c.args.number k)) (sym same))

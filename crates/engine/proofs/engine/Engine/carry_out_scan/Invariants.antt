@@ -10,7 +10,7 @@ use Rattle.engine.specs.Leaves.{LeavesTable}
 use Rattle.engine.specs.Scans.{items_seen}
 use Rattle.record_model.specs.Touches.{read_touch}
 use Rattle.redo_undo.specs.MachineSteps.{StepsMachine}
-use Rattle.engine.specs.Calls.{KeepsEngine, Does}
+use Rattle.engine.specs.Calls.{KeepsUnread, Does}
 use Rattle.engine.proofs.engine.Engine.carry_out_scan.Given as goal
 
 abbrev pub invariant-loop-offset : goal.invariant-loop-offset
@@ -18,9 +18,8 @@ invariant-loop-offset g l =
     let old = g.S.Site.state l.fn.site in
     let now = g.S.Site.state l.site in
     record {
-      serves : KeepsEngine {T = Unit {0}} (Ok tt) l.fn.self l.self old now;
+      serves : KeepsUnread {T = Unit {0}} (Ok tt) l.fn.self l.self old now;
       does : (s : State) → Matches l.fn.self old s → Does {T = Unit {0}} (Ok tt) l.fn.self l.self old now s (with_reads s l.session (range_with_len l.number l.offset)) (LeavesTable (sizes_of l.fn.self.store) s.table s.commits old.told) 0;
-      log_reads : now.log_reads ≡ old.log_reads;
       fills : (s : State) → Matches l.fn.self old s → FindsRoom 0 l.fn.self.store.log l.self.store.log l.fn.self.store.pages l.self.store.pages;
       active : l.self.active ≡ l.fn.self.active;
       busy : (r : ℕ) → busy_read l.self.locks (Some l.session) r ≡ busy_read l.fn.self.locks (Some l.session) r;

@@ -69,7 +69,6 @@ returns-in-Ok-update g c =
     record {
       done = search rules;
       fills = λ s fits. room_then (c.in-Ok.ensures.fills fits.newest fits.records s.table s.commits fits.holds) c.in-Ok-update.ensures.fills;
-      log_reads = c.update.ensures.reads Log ∙ c.touch.ensures.log_reads;
       does = λ s fits.
           let holds = c.in-Ok.ensures.holds fits.newest fits.records s.table s.commits fits.holds in
           let fits_mid : Matches mid new s = touched_fits engine c.touch.new.self old new s fits (stays_honest old new c.touch.ensures.works.calls.goes fits.honest) holds c.touch.ensures.made in
@@ -84,7 +83,7 @@ returns-in-Ok-update g c =
           let same = c.in-Ok.ensures.blocks in
           let blocks = c.in-Ok-update.ensures.works.blocks in
           let made = c.in-Ok-update.ensures.works.made in
-          serves_of (works_answered (works_then c.in-Ok.ensures.works c.in-Ok-update.ensures.works)) (record {
+          record { log_reads = c.update.ensures.reads Log ∙ c.touch.ensures.log_reads; keeps = serves_of (works_answered (works_then c.in-Ok.ensures.works c.in-Ok-update.ensures.works)) (record {
             store = c.in-Ok-update.ensures.works.going;
             going = going.going;
             cap = going.cap ∙ ap (λ (x : Geometry). x.blocks) (sym (c.update.ensures.works.sizes ∙ c.touch.ensures.works.sizes));
@@ -102,7 +101,7 @@ returns-in-Ok-update g c =
             commits = let later = rises.0 in let last = rises.1 in omega (arith, touched, later, last, going.commits);
             lasts = below_wrote c.args.self.now.active c.wrote.new.active n (end_of c.args.self.now.store.log) (end_of c.update.new.self.log) _ c.args.entry going.lasts c.requires.active changes (omega (arith, touched, rises.0)) rises.1;
             differ = apart_wrote c.args.self.now.active c.wrote.new.active n _ c.args.entry going.differ c.requires.active changes;
-          });
+          }) };
       asks =
           change_ok c.in-Ok.field-0 _ (c.args.number / 32) _ _ _ _ _ _ (has_group c.requires.going) c.touch_then_change.ensures c.in-Ok.ensures.asks c.in-Ok-update.ensures.machine c.update.ensures.rules_stay c.update.ensures.reads (stages_ok c.in-Ok-update.ensures.stages);
     }
@@ -111,5 +110,5 @@ pub returns-in-Err-update-clause-asks : goal.returns-in-Err-update-clause-asks
 returns-in-Err-update-clause-asks g c =
     change_made c.in-Ok.field-0 (Err c.in-Err-update.stop) (c.args.number / 32) _ _ _ _ _ _ (has_group c.requires.going) c.touch_then_change.ensures c.in-Ok.ensures.asks tt c.update.ensures.rules_stay c.update.ensures.reads (never_worn (Err c.in-Err-update.stop) c.in-Err-update.ensures.stops) (stages_err c.in-Err-update.ensures.stages)
 
-pub returns-in-Err-update-clause-log_reads : goal.returns-in-Err-update-clause-log_reads
-returns-in-Err-update-clause-log_reads g c = c.update.ensures.reads Log ∙ c.touch.ensures.log_reads
+pub returns-in-Err-update-clause-serves : goal.returns-in-Err-update-clause-serves
+returns-in-Err-update-clause-serves g c = record { keeps = search rules; log_reads = c.update.ensures.reads Log ∙ c.touch.ensures.log_reads }

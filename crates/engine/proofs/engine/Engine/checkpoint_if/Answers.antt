@@ -18,7 +18,6 @@ returns-then-not-wanted g c =
           subst (λ (b : Bool). Does {T = Unit {0}} (Ok tt) c.args.self.now c.args.self.now old old s (checkpointed_if b s) (LeavesTable (sizes_of c.args.self.now.store) s.table s.commits old.told) (if b then 1 else 0)) (sym is)
           (does_nothing fits c.requires.going (still c.hold_together.ensures.moment fits c.requires.going));
       serves = serves_nothing c.requires.going;
-      log_reads = refl;
       rest = λ unwanted. refl;
       ended = search rules;
       asks = subst (λ (b : Bool). StepsMachine {T = Unit {0}} (Ok tt) (if b then checkpoint_works else []) pages pages old old) (sym is) asks_rest;

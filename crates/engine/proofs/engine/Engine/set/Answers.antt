@@ -8,7 +8,7 @@ use Rattle.engine.specs.Leaves.{LeavesEither}
 use Rattle.site.proofs.Working.{err_again}
 use Rattle.engine.proofs.Asking.{has_group}
 use Rattle.engine.proofs.Firsts.{overflows_before}
-use Rattle.engine.proofs.Calling.{first_then, first_failed, early, late_either}
+use Rattle.engine.proofs.Calling.{serves_then, first_then, first_failed, early, late_either}
 use Rattle.engine.proofs.engine.Engine.set.Goals as goal
 
 pub returns-in-Ok-clause-answers : goal.returns-in-Ok-clause-answers
@@ -28,5 +28,5 @@ pub returns-in-Err-clause-worn_flash : goal.returns-in-Err-clause-worn_flash
 returns-in-Err-clause-worn_flash g c is =
     inr (overflows_before c.works_add_up.ensures.overflow c.wants_checkpoint_to_set-wanted.result (rules c.args.self.now.store.pages) (one_change (c.args.number / 32)) (cache_of c.args.self.now.store.pages) (has_group c.requires.going) (c.in-Err.ensures.asks.worn (err_again _ _ is)))
 
-pub returns-in-Ok-clause-log_reads : goal.returns-in-Ok-clause-log_reads
-returns-in-Ok-clause-log_reads g c = c.set_now.ensures.log_reads ∙ c.checkpoint_if.ensures.log_reads
+pub returns-in-Ok-clause-serves : goal.returns-in-Ok-clause-serves
+returns-in-Ok-clause-serves g c = serves_then c.in-Ok.ensures.serves c.set_now.ensures.serves
