@@ -10,5 +10,5 @@ def find_program():
     face = os.environ.get("FACE")
     if not face:
         subprocess.run([f"{ROOT}/bin/face", "help"], stdout=subprocess.DEVNULL, stdin=subprocess.DEVNULL, check=False)
-        face = f"{ROOT}/crates/face/out/face"
+        face = f"{ROOT}/crates/vulzhorn/out/vulzhorn"
     return os.path.realpath(face)

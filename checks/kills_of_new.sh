@@ -16,7 +16,7 @@ if ! command -v strace >/dev/null 2>&1 || ! strace -o /dev/null true 2>/dev/null
 fi
 if [ -z "${FACE:-}" ]; then
     "$root/bin/face" help >/dev/null </dev/null
-    FACE=$root/crates/face/out/face
+    FACE=$root/crates/vulzhorn/out/vulzhorn
 fi
 cp "$FACE" "$folder/face" || exit 1
 face=$folder/face

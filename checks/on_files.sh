@@ -7,7 +7,7 @@ set -u
 root=$(cd "$(dirname "$(readlink -f "$0")")/.." && pwd)
 if [ -z "${FACE:-}" ]; then
     "$root/bin/face" help >/dev/null 2>&1 </dev/null
-    FACE=$root/crates/face/out/face
+    FACE=$root/crates/vulzhorn/out/vulzhorn
 fi
 export FACE
 told=$(mktemp -d)

@@ -10,7 +10,7 @@ chmod 755 "$folder"
 trap 'cd /; rm -rf "$folder"' EXIT
 if [ -z "${FACE:-}" ]; then
     "$root/bin/face" help >/dev/null 2>&1 </dev/null
-    FACE=$root/crates/face/out/face
+    FACE=$root/crates/vulzhorn/out/vulzhorn
 fi
 cp "$FACE" "$folder/face" || exit 1
 face=$folder/face

@@ -23,7 +23,7 @@ use Rattle.face.specs.Causes.{FirstDecides, NoFaultRose, SameFaults}
 use Rattle.face.specs.Check.{AreSound, Check, CheckContract, FailsUnread, IsAnswer, OpeningIsSound, SaysSound, SaysUnsound, SoundOpens, unsound_line, verdict_line, verdict_status}
 use Rattle.face.specs.Tells.{Tells}
 use Rattle.face.specs.Texts.{fault_line, status_of}
-use Rattle.face.specs.Words.{LacksMemory, OnlyTells, memory_fault}
+use Rattle.face.specs.Refusals.{LacksMemory, OnlyTells, memory_fault}
 use Rattle.face.proofs.Endings.{ends_with, only_tells}
 use Rattle.face.proofs.Firsts.{first_done}
 use Rattle.face.proofs.Meanings.{opens_where_it_stands, stands_by}

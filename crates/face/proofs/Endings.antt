@@ -15,7 +15,7 @@ use Rattle.face.specs.Causes.{HasCause}
 use Rattle.face.specs.Headline.{TellsFault}
 use Rattle.face.specs.Tells.{EndsBehind, EndsWith, Tells}
 use Rattle.face.specs.Texts.{fault_line, status_of}
-use Rattle.face.specs.Words.{OnlyTells, RefusesDevices, foreign_fault}
+use Rattle.face.specs.Refusals.{OnlyTells, RefusesDevices, foreign_fault}
 
 -- told by one call, behind calls that told `before`
 pub ends_with : {T : Type 0} (before line : List ℕ) (old mid new : State) (result : Result T Failed) → Preserves old mid → IsTrue mid.honest → mid.told ≡ before → Tells line mid new result → EndsWith before line old new

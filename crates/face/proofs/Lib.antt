@@ -1,7 +1,5 @@
 mod CauseLaws
 mod CheckLaws
-mod ClapInverse
-mod ClapLaws
 mod CommandLaws
 mod Counted
 mod Cuts
@@ -40,8 +38,6 @@ mod Trials
 mod Turns
 mod UntoldLines
 mod Waits
-mod WordLaws
-mod WordLists
 mod Writings
 mod Written
 mod Zeros

@@ -13,7 +13,7 @@ use Rattle.record_model.specs.Step.{Outcome, answer, carried_out, effect, first_
 use Rattle.record_model.specs.Run.{Line, Turn, is_committed, is_quit, turn, turns}
 use Rattle.workload.specs.Generator.{generated, record_of, value_of}
 use Rattle.site.specs.declared.geometry.Geometry.{Geometry}
-use Rattle.face.specs.declared.request.Load.{Load}
+use Rattle.command_line.specs.declared.request.Load.{Load}
 use Rattle.face.specs.Loads.{HasCounted, HasMade}
 use Rattle.face.specs.Run.{after_lines, step}
 use Rattle.face.specs.Workload.{checkpoints_in, committed_in, found_in, get_line, get_lines, is_value, load_run, makes_one, numbers_of, set_line, set_lines}

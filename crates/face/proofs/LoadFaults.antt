@@ -15,7 +15,7 @@ use Rattle.record_model.specs.Run.{commit_marks, commits_among}
 use Rattle.redo_undo.specs.MachineSteps.{OverflowsWithMore}
 use Rattle.face.specs.declared.halt.Halt.{Halt}
 use Rattle.face.specs.declared.halt.Halt.TheVariants as halt
-use Rattle.face.specs.declared.request.Load.{Load}
+use Rattle.command_line.specs.declared.request.Load.{Load}
 use Rattle.face.specs.Causes.{HasCause, HasCauses, NoFaultRose}
 use Rattle.face.proofs.LogRoom.{never_worn_within}
 use Rattle.face.specs.TopCall.{LoadContract}

@@ -18,9 +18,9 @@ use Rattle.face.specs.Working.{RunOutcome}
 use Rattle.face.proofs.Pagings.{none_read}
 use Rattle.redo_undo.specs.MachineSteps.{NumbersRise, OverflowsWithMore}
 use Rattle.face.specs.New.{New, NewCauses}
-use Rattle.face.specs.Words.{LacksMemory, memory_fault}
+use Rattle.face.specs.Refusals.{LacksMemory, memory_fault}
 use Rattle.face.specs.Range.{AsksNoMore, run_of}
-use Rattle.face.specs.declared.request.Load.{Load}
+use Rattle.command_line.specs.declared.request.Load.{Load}
 use Rattle.face.specs.Loads.{LoadHeadline, LoadWorks}
 use Rattle.face.specs.Workload.{load_run, summary_text}
 use Rattle.face.proofs.Counted.{counts_nothing}

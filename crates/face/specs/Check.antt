@@ -17,7 +17,7 @@ use Rattle.face.specs.declared.halt.Halt.TheVariants as halt
 use Rattle.face.specs.Causes.{NoFaultRose, SameFaults}
 use Rattle.face.specs.Tells.{EndsWith}
 use Rattle.face.specs.Texts.{fault_line}
-use Rattle.face.specs.Words.{OnlyTells, LacksMemory}
+use Rattle.face.specs.Refusals.{OnlyTells, LacksMemory}
 
 -- the line that names a rule that fails
 abbrev pub unsound_line : ℕ → List ℕ

@@ -10,8 +10,8 @@ pub mod Lives
 pub mod Living
 pub mod Loads
 pub mod New
-pub mod Program
 pub mod Range
+pub mod Refusals
 pub mod RingNumbers
 pub mod Run
 pub mod Tells
@@ -19,6 +19,5 @@ pub mod Texts
 pub mod TopCall
 pub mod Trial
 pub mod Waiting
-pub mod Words
 pub mod Working
 pub mod Workload

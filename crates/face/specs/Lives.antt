@@ -8,7 +8,7 @@ use Rattle.record_model.specs.Run.{IsInRange, after_commits, commit_marks}
 use Rattle.face.specs.Headline.{Durability, IsGood, ran}
 use Rattle.face.specs.Range.{texts}
 use Rattle.face.specs.Run.{Run, turns_of}
-use Rattle.face.specs.declared.request.Load.{Load}
+use Rattle.command_line.specs.declared.request.Load.{Load}
 use Rattle.face.specs.Loads.{Allows, LoadDurability}
 use Rattle.face.specs.Workload.{load_run, summary_text}
 

@@ -15,7 +15,7 @@ use Rattle.engine.specs.Representation.{Matches}
 use Rattle.engine.specs.Invariant.{Invariant, sizes_of}
 use Rattle.face.specs.declared.halt.Halt.{Halt}
 use Rattle.face.specs.declared.halt.Halt.TheVariants.{Stop, Output}
-use Rattle.face.specs.declared.request.Load.{Load}
+use Rattle.command_line.specs.declared.request.Load.{Load}
 use Rattle.face.specs.Causes.{AnswerFailsBy}
 use Rattle.face.specs.Filled.{FillsBy, octets_of}
 use Rattle.face.specs.Going.{LineStepsMachine}

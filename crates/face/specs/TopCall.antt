@@ -3,7 +3,7 @@ use Rattle.std.specs.Prelude.{◌≡◌, ◌≢◌, ◌⊎◌, ℕ, [], true, Is
 use Rattle.site.specs.State.{State as Site}
 use Rattle.site.specs.declared.geometry.Geometry.{Geometry}
 use Rattle.record_model.specs.State.{State}
-use Rattle.face.specs.declared.request.Load.{Load}
+use Rattle.command_line.specs.declared.request.Load.{Load}
 use Rattle.face.specs.Causes.{EndsInTime, HasCauses, NoFaultRose}
 use Rattle.face.specs.Headline.{Headline, IsGood, TellsFault}
 use Rattle.face.specs.Loads.{LoadHeadline}

@@ -10,7 +10,7 @@ use Rattle.record_model.specs.Step.{makes_checkpoint}
 use Rattle.record_model.specs.Run.{Line, Turn, is_committed}
 use Rattle.shell_text.specs.Texts.{open_text}
 use Rattle.workload.specs.Generator.{generated, record_of, value_of}
-use Rattle.face.specs.declared.request.Load.{Load}
+use Rattle.command_line.specs.declared.request.Load.{Load}
 use Rattle.face.specs.Run.{Run, turns_of}
 
 -- the first numbers that the generator makes of a seed

@@ -1,14 +1,14 @@
 use Rattle.std.proofs.Common.{arith, inl, inr, rules, subst, ℕ, List, [], ◌∷◌}
 use Rattle.site.specs.declared.geometry.Geometry.{Geometry}
 use Rattle.face.specs.TopCall.{LoadContract, NewContract, RunContract}
-use Rattle.face.specs.declared.request.Load.{Load}
-use Rattle.face.specs.declared.request.Simulation.{Simulation}
-use Rattle.face.specs.declared.request.TrialSizes.{TrialSizes}
+use Rattle.command_line.specs.declared.request.Load.{Load}
+use Rattle.command_line.specs.declared.request.Simulation.{Simulation}
+use Rattle.command_line.specs.declared.request.TrialSizes.{TrialSizes}
 use Rattle.face.specs.Trial.{TrialContract}
 use Rattle.trace_report.specs.Contract.{SimulateContract}
-use Rattle.face.specs.Words.{IsLoad, IsNew, IsRight, IsSimulate, IsTrial, words_of, IsRun}
+use Rattle.command_line.specs.Words.{IsLoad, IsNew, IsRight, IsSimulate, IsTrial, words_of, IsRun}
 use Rattle.face.proofs.Endings.{only_tells}
-use Rattle.face.proofs.WordLaws.{one_geometry, one_load, one_pool, one_simulation, one_trial}
+use Rattle.command_line.proofs.WordLaws.{one_geometry, one_load, one_pool, one_simulation, one_trial}
 use Rattle.face.proofs.Firsts.{first_line, first_simulated}
 use Rattle.face.proofs.top.face.Goals as goal
 

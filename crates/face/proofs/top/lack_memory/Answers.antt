@@ -2,7 +2,7 @@ use Rattle.std.proofs.Common.{arith, refl, rules, ℕ}
 use Rattle.site.specs.declared.outside.Stop.TheVariants.{Memory}
 use Rattle.face.specs.declared.halt.Halt.TheVariants as halt
 use Rattle.face.proofs.Hearings.{heard_halted, hears_nothing}
-use Rattle.face.specs.Words.{LacksMemory}
+use Rattle.face.specs.Refusals.{LacksMemory}
 use Rattle.trace_report.proofs.Lacking.{lacked}
 use Rattle.face.proofs.Endings.{only_tells}
 use Rattle.face.proofs.CheckLaws.{lacked_check}

@@ -1,0 +1,4 @@
+mod ClapInverse
+mod ClapLaws
+pub mod WordLaws
+mod WordLists

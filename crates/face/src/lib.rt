@@ -1,0 +1,23 @@
+//! The top call: words and lines in, replies and a status out, over any site.
+#![tactic(auto)]
+
+mod answer;
+mod check;
+mod commands;
+mod fault_lines;
+mod halt;
+mod laws;
+mod load;
+mod new_database;
+mod opening;
+mod source;
+mod text;
+mod top;
+pub mod trial;
+
+pub use halt::Halt;
+pub use laws::{
+    blank_stands, one_meaning, one_opening, opens_where_it_stands, rings_last_for_lives,
+    sound_opens, what_a_load_leaves_opens, what_is_left_opens,
+};
+pub use top::{face, serve};
