@@ -113,6 +113,10 @@ serves_then first second = record {
 pub serves_failed : {A B : Type 0} {stop : Stop} {old new : Engine} {before now : Site} → KeepsUnread {T = A} (Err stop) old new before now → KeepsUnread {T = B} (Err stop) old new before now
 serves_failed first = record { keeps = record { calls = calls_failed first.calls; going = tt; sizes = first.sizes; stops = first.stops }; log_reads = first.log_reads }
 
+-- log and pages stop
+pub serves_stopped : {A B : Type 0} {stop : Stop} {old new : Engine} {before now : Site} {n : ℕ} → KeepsInvariant {T = A} (Err stop) old.store new.store before now n → now.log_reads ≡ before.log_reads → KeepsUnread {T = B} (Err stop) old new before now
+serves_stopped works read = record { keeps = record { calls = calls_failed works.calls; going = tt; sizes = works.sizes; stops = works.stops }; log_reads = read }
+
 pub serves_answered : {A B : Type 0} {a : A} {b : B} {old new : Engine} {before now : Site} → KeepsUnread {T = A} (Ok a) old new before now → KeepsUnread {T = B} (Ok b) old new before now
 serves_answered first = record { keeps = record { calls = calls_answered first.calls; going = first.going; sizes = first.sizes; stops = tt }; log_reads = first.log_reads }
 

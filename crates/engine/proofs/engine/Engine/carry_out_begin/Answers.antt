@@ -1,12 +1,13 @@
 use Rattle.site.specs.declared.outside.Dev.TheVariants.{Log}
 use Rattle.std.proofs.Common.{◌++◌, ◌∷◌, [], None, refl, arith}
+use Rattle.std.proofs.lemmas.Grind.{common_steps}
 use Rattle.site.specs.Laws.{stays_honest}
 use Rattle.record_model.specs.State.{writes_of, reads_of}
 use Rattle.engine.proofs.Meanings.{begins_late, fresh_behind}
 use Rattle.engine.proofs.Settings.{begin_at, may_begin}
 use Rattle.engine.proofs.Actives.{begun, none_active}
 use Rattle.engine.proofs.Locks.{locks_stay, at_set}
-use Rattle.engine.proofs.Calling.{does_of}
+use Rattle.engine.proofs.Calling.{does_of, serves_stopped}
 use Rattle.redo_undo.proofs.StoreCalling.{keeps_failed, keeps_answered}
 use Rattle.engine.proofs.engine.Engine.carry_out_begin.Goals as goal
 
@@ -35,10 +36,10 @@ returns-clause-does g c s fits =
     (keeps_answered (c.in-Ok.ensures.keeps fits.newest fits.records s.table s.commits fits.holds))
 
 pub returns-in-Err-clause-serves : goal.returns-in-Err-clause-serves
-returns-in-Err-clause-serves g c = record { keeps = search rules; log_reads = c.begin.ensures.reads Log }
+returns-in-Err-clause-serves g c = serves_stopped c.in-Err.ensures.works (c.begin.ensures.reads Log)
 
 pub returns-clause-serves : goal.returns-clause-serves
-returns-clause-serves g c = record { keeps = search rules; log_reads = c.begin.ensures.reads Log }
+returns-clause-serves g c = record { keeps = grind (arith, common_steps); log_reads = c.begin.ensures.reads Log }
 
 pub returns-clause-fills : goal.returns-clause-fills
 returns-clause-fills g c = c.in-Ok.ensures.fills

@@ -6,7 +6,7 @@ use Rattle.log_laws.specs.Follow.{writes_in}
 use Rattle.engine.specs.declared.engine.Engine.{Engine}
 use Rattle.engine.specs.Invariant.{sizes_of}
 use Rattle.engine.proofs.Settings.{may_commit_one, set_fits}
-use Rattle.engine.proofs.Calling.{early, late_commit, serves_still, does_of}
+use Rattle.engine.proofs.Calling.{early, late_commit, serves_still, serves_stopped, does_of}
 use Rattle.redo_undo.proofs.StoreCalling.{works_then, keeps_then, keeps_weaker, keeps_failed}
 use Rattle.redo_undo.proofs.Asking.{asks_then}
 use Rattle.engine.proofs.engine.Engine.carry_out_set.Goals as goal
@@ -49,9 +49,8 @@ returns-in-Ok-seal_commit-clause-serves g c =
     let engine_is : mid ≡ record c.args.self.now { store = mid.store; commits = mid.commits } =
     c.seal_commit.ensures.rest ∙ ap (λ (x : Engine). record x { store = mid.store; commits = mid.commits }) c.log_set.ensures.rest in
     let commits = ap (λ (x : Engine). x.commits) c.log_set.ensures.rest in
-    let keeps = serves_still c.requires.going (works_then c.in-Ok.ensures.works c.in-Ok-seal_commit.ensures.works) (ap (λ (x : Engine). x.ended) engine_is) (ap (λ (x : Engine). x.cap) engine_is) (ap (λ (x : Engine). x.active) engine_is)
-    (omega (arith, c.requires.may.room)) (omega (arith, commits, c.in-Ok-seal_commit.ensures.commits, c.requires.going.commits, c.in-Ok.ensures.works.rises, c.in-Ok-seal_commit.ensures.rises)) in
-    record { keeps = keeps; log_reads = c.seal_commit.ensures.log_reads ∙ c.log_set.ensures.log_reads }
+    record { log_reads = c.seal_commit.ensures.log_reads ∙ c.log_set.ensures.log_reads; keeps = serves_still c.requires.going (works_then c.in-Ok.ensures.works c.in-Ok-seal_commit.ensures.works) (ap (λ (x : Engine). x.ended) engine_is) (ap (λ (x : Engine). x.cap) engine_is) (ap (λ (x : Engine). x.active) engine_is)
+    (omega (arith, c.requires.may.room)) (omega (arith, commits, c.in-Ok-seal_commit.ensures.commits, c.requires.going.commits, c.in-Ok.ensures.works.rises, c.in-Ok-seal_commit.ensures.rises)) }
 
 pub returns-in-Err-seal_commit-clause-asks : goal.returns-in-Err-seal_commit-clause-asks
 returns-in-Err-seal_commit-clause-asks g c = asks_then c.in-Ok.txn _ (one_change (c.args.number / 32)) [] _ _ _ _ _ _ c.in-Ok.ensures.asks c.in-Err-seal_commit.ensures.asks
@@ -60,4 +59,4 @@ pub returns-in-Ok-seal_commit-clause-asks : goal.returns-in-Ok-seal_commit-claus
 returns-in-Ok-seal_commit-clause-asks g c = asks_then c.in-Ok.txn _ (one_change (c.args.number / 32)) [] _ _ _ _ _ _ c.in-Ok.ensures.asks c.in-Ok-seal_commit.ensures.asks
 
 pub returns-in-Err-seal_commit-clause-serves : goal.returns-in-Err-seal_commit-clause-serves
-returns-in-Err-seal_commit-clause-serves g c = record { keeps = search rules; log_reads = c.seal_commit.ensures.log_reads ∙ c.log_set.ensures.log_reads }
+returns-in-Err-seal_commit-clause-serves g c = serves_stopped (works_then c.in-Ok.ensures.works c.in-Err-seal_commit.ensures.works) (c.seal_commit.ensures.log_reads ∙ c.log_set.ensures.log_reads)

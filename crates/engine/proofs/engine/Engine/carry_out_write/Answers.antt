@@ -17,7 +17,7 @@ use Rattle.redo_undo.specs.Holding.{blocks_to}
 use Rattle.txn_table.proofs.Owing.{entry_is, owes}
 use Rattle.engine.proofs.Writes.{touched_fits, may_write, write_fits}
 use Rattle.txn_table.proofs.DistinctBegins.{below_wrote, apart_wrote}
-use Rattle.engine.proofs.Calling.{does_of, serves_of}
+use Rattle.engine.proofs.Calling.{does_of, serves_of, serves_stopped}
 use Rattle.redo_undo.proofs.StoreCalling.{works_then, works_answered, keeps_failed, keeps_answered, keeps_both, keeps_no_memory}
 use Rattle.std.specs.Prelude.{Err}
 use Rattle.redo_undo.proofs.AskingUndo.{change_made, never_worn}
@@ -111,4 +111,4 @@ returns-in-Err-update-clause-asks g c =
     change_made c.in-Ok.field-0 (Err c.in-Err-update.stop) (c.args.number / 32) _ _ _ _ _ _ (has_group c.requires.going) c.touch_then_change.ensures c.in-Ok.ensures.asks tt c.update.ensures.rules_stay c.update.ensures.reads (never_worn (Err c.in-Err-update.stop) c.in-Err-update.ensures.stops) (stages_err c.in-Err-update.ensures.stages)
 
 pub returns-in-Err-update-clause-serves : goal.returns-in-Err-update-clause-serves
-returns-in-Err-update-clause-serves g c = record { keeps = search rules; log_reads = c.update.ensures.reads Log ∙ c.touch.ensures.log_reads }
+returns-in-Err-update-clause-serves g c = serves_stopped (works_then c.in-Ok.ensures.works c.in-Err-update.ensures.works) (c.update.ensures.reads Log ∙ c.touch.ensures.log_reads)
