@@ -54,7 +54,7 @@ pulled_some r cache wants =
     ∙ ap (λ n. list_any (λ p. p.changed && is_pulled (take n (filter (λ q. q.changed) marks)) p.page) marks) (sym room) ∙ found
 
 -- what a save leaves changed
-count_cons : (p : PoolPage) (pool : List PoolPage) → changed_count (p ∷ pool) ≡ cond p.changed 1 0 + changed_count pool
+pub count_cons : (p : PoolPage) (pool : List PoolPage) → changed_count (p ∷ pool) ≡ cond p.changed 1 0 + changed_count pool
 count_cons p pool = by p.changed
   where
     by : (b : Bool) → length (cond b (p ∷ filter (λ q. q.changed) pool) (filter (λ q. q.changed) pool)) ≡ cond b 1 0 + length (filter (λ q. q.changed) pool)

@@ -5,3 +5,4 @@ pub mod Flushes
 pub mod DistinctStaged
 pub mod Chances
 pub mod Unread
+pub mod GroupCounts

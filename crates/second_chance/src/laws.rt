@@ -1,6 +1,7 @@
 // Facts about the machine. The functions do nothing: each states its laws as clauses.
 ghost use Rattle.second_chance.specs.Laws.{EvictionIsPlanned, FlushIsPlanned, StagedIsPlanned, PushSavesAPage};
 ghost use Rattle.second_chance.specs.Laws.{FlushGoesOn, FlushEnds, FlushSavesAll, ChancesStand, ChancesFew};
+ghost use Rattle.second_chance.specs.Groups.{FlushPushesChanged, NearlyAllArePushed, TouchPushesOne, WorkPushesFew};
 ghost use Rattle.second_chance.specs.Laws.{ChancesAreNotStaged, StagedStand, StagedApart};
 
 /// To do what a plan says is the push of the machine: its new group, the pages that leave the pool or are saved, and
@@ -31,4 +32,13 @@ pub fn second_chances_stand()
     ensures stand { ChancesStand }
     ensures few { ChancesFew }
     ensures not_staged { ChancesAreNotStaged }
+{}
+
+/// A touch pushes at most one group, a flush at most one for each changed page. So work pushes no more than one group
+/// for each touch and one for each change; and some work pushes nearly as many.
+pub fn work_pushes_few()
+    ensures touch { TouchPushesOne }
+    ensures flush { FlushPushesChanged }
+    ensures work { WorkPushesFew }
+    ensures reached { NearlyAllArePushed }
 {}

@@ -10,7 +10,10 @@ mod rows;
 mod tests;
 
 pub use frame::Frame;
-pub use laws::{flushes_save_all, plans_are_pushes, second_chances_stand, staged_frames_are_apart};
+pub use laws::{
+    flushes_save_all, plans_are_pushes, second_chances_stand, staged_frames_are_apart,
+    work_pushes_few,
+};
 pub use places::Places;
 pub use plan::{
     Plan, PoolMark, Taking, plan_evict, plan_evict_taking, plan_flush, plan_flush_taking,

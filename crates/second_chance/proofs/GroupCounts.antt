@@ -1,0 +1,169 @@
+-- The groups that work pushes, counted.
+use Rattle.std.proofs.Common.{◌≡◌, ℕ, zero, suc, ◌+◌, ◌≤◌, ◌==◌, Bool, true, false, not, ◌&&◌, ◌||◌, cond, List, [], ◌∷◌, ◌++◌, length, drop, reverse, refl, ap, arith}
+use Rattle.std.specs.Prelude.{if◌then◌else◌}
+use Rattle.std.proofs.lemmas.Bool.{leb-true}
+use Rattle.std.proofs.lemmas.List.{length-append, length-drop, reverse-append}
+use Rattle.record_model.specs.Touches.{CacheWork, touch, flush}
+use Rattle.second_chance.specs.declared.frame.Frame.{Frame}
+use Rattle.second_chance.specs.Queue.{Queue, pushed, with_read}
+use Rattle.second_chance.specs.Plans.{pulled_at_eviction}
+use Rattle.second_chance.specs.Machine.{Rules, PoolPage, Cache, holds, is_changed, without, is_full, is_pulled, leaving, pool_marks, push_evicted, must_be_pushed, after_eviction, evict_first, evict_coldest, lacks_room, with_room, in_front, touched, wants_flush, push_changed, flushed_by, flushed, worked}
+use Rattle.second_chance.specs.Laws.{changed_count}
+use Rattle.second_chance.specs.Groups.{next_number, groups_for, groups_for_all, FlushPushesChanged, NearlyAllArePushed, TouchPushesOne, WorkPushesFew}
+use Rattle.second_chance.proofs.Flushes.{count_cons, push_saves}
+use Rattle.second_chance.proofs.Unread.{length-groups_read}
+
+-- A push appends one group.
+
+full_has_one : (rules : Rules) (queue : Queue) → 1 ≤ rules.groups → is_full rules queue ≡ true → 1 ≤ length queue.groups
+full_has_one rules queue some full = omega (arith, some, leb-true rules.groups (length queue.groups) full)
+
+one_appended : (leaves : Bool) (group : List Frame) (queue : Queue) → (leaves ≡ true → 1 ≤ length queue.groups) →
+    (pushed leaves group queue).first + length (pushed leaves group queue).groups ≡ queue.first + length queue.groups + 1
+one_appended true group queue some = omega (arith, some refl, length-append (drop 1 queue.groups) (group ∷ []), length-drop 1 queue.groups)
+one_appended false group queue some = omega (arith, length-append queue.groups (group ∷ []))
+
+changed_next : (rules : Rules) (cache : Cache) → 1 ≤ rules.groups → next_number (push_changed rules cache) ≡ next_number cache + 1
+changed_next rules cache some = one_appended (is_full rules cache.queue) _ cache.queue (full_has_one rules cache.queue some)
+
+evicted_next : (rules : Rules) (own : PoolPage) (cache : Cache) → 1 ≤ rules.groups → next_number (push_evicted rules own cache) ≡ next_number cache + 1
+evicted_next rules own cache some = one_appended (is_full rules cache.queue) _ cache.queue (full_has_one rules cache.queue some)
+
+-- How many pages are changed.
+
+count_append : (xs ys : List PoolPage) → changed_count (xs ++ ys) ≡ changed_count xs + changed_count ys
+count_append [] ys = omega arith
+count_append (p ∷ xs) ys = omega (arith, count_append xs ys, count_cons p xs, count_cons p (xs ++ ys))
+
+count_reverse : (xs : List PoolPage) → changed_count (reverse xs) ≡ changed_count xs
+count_reverse [] = refl
+count_reverse (p ∷ xs) =
+    let turned : changed_count (reverse (p ∷ xs)) ≡ changed_count (reverse xs ++ p ∷ []) = ap changed_count (reverse-append (p ∷ []) xs) in
+    omega (arith, turned, count_append (reverse xs) (p ∷ []), count_cons p xs, count_cons p [], count_reverse xs)
+
+-- pages that leave the pool
+count_without : (leaves : ℕ → Bool) (pool : List PoolPage) → changed_count (without leaves pool) ≤ changed_count pool
+count_without leaves [] = omega arith
+count_without leaves (p ∷ pool) = by (not (leaves p.page)) (count_without leaves pool) (count_cons p pool) (count_cons p (without leaves pool))
+  where
+    by : (b : Bool) → changed_count (without leaves pool) ≤ changed_count pool → changed_count (p ∷ pool) ≡ cond p.changed 1 0 + changed_count pool
+        → changed_count (p ∷ without leaves pool) ≡ cond p.changed 1 0 + changed_count (without leaves pool)
+        → changed_count (cond b (p ∷ without leaves pool) (without leaves pool)) ≤ changed_count (p ∷ pool)
+    by true rest old new = omega (arith, rest, old, new)
+    by false rest old new = omega (arith, rest, old)
+
+abbrev beside : ℕ → List PoolPage → List PoolPage
+beside page pool = without (λ other. other == page) pool
+
+-- a page that leaves as changed is one less
+count_own : (page : ℕ) (pool : List PoolPage) → is_changed pool page ≡ true → changed_count (beside page pool) + 1 ≤ changed_count pool
+count_own page [] some = absurd cc
+count_own page (p ∷ pool) some = by (p.page == page) p.changed some (count_own page pool) (count_without (λ other. other == page) pool) (count_cons p pool) (count_cons p (beside page pool))
+  where
+    by : (here changed : Bool) → ((here && changed) || is_changed pool page) ≡ true → (is_changed pool page ≡ true → changed_count (beside page pool) + 1 ≤ changed_count pool)
+        → changed_count (beside page pool) ≤ changed_count pool → changed_count (p ∷ pool) ≡ cond changed 1 0 + changed_count pool
+        → changed_count (p ∷ beside page pool) ≡ cond changed 1 0 + changed_count (beside page pool)
+        → changed_count (cond (not here) (p ∷ beside page pool) (beside page pool)) + 1 ≤ changed_count (p ∷ pool)
+    by true true some later few old new = omega (arith, few, old)
+    by true false some later few old new = omega (arith, later some, old)
+    by false changed some later few old new = omega (arith, later some, old, new)
+
+-- An eviction: the group that it pushes, and the changed pages that are left.
+
+evicted_few : (rules : Rules) (own : PoolPage) (cache : Cache) → 1 ≤ rules.groups →
+    (next_number (after_eviction rules own cache) ≤ next_number cache + 1) × (changed_count (after_eviction rules own cache).pool ≤ changed_count cache.pool)
+evicted_few rules own cache some = by (must_be_pushed cache.queue own)
+  where
+    by : (b : Bool) → (next_number (if b then push_evicted rules own cache else cache) ≤ next_number cache + 1) × (changed_count (if b then push_evicted rules own cache else cache).pool ≤ changed_count cache.pool)
+    by true = (omega (arith, evicted_next rules own cache some), count_without (is_pulled (pulled_at_eviction rules.pulls rules.chances (leaving rules cache.queue) (pool_marks cache))) cache.pool)
+    by false = (omega arith, omega arith)
+
+first_few : (rules : Rules) (pool : List PoolPage) (cache : Cache) → 1 ≤ rules.groups → changed_count pool ≡ changed_count cache.pool →
+    (next_number (evict_first rules pool cache) ≤ next_number cache + 1) × (changed_count (evict_first rules pool cache).pool ≤ changed_count cache.pool)
+first_few rules [] cache some same = (omega arith, omega arith)
+first_few rules (coldest ∷ warmer) cache some same =
+    let rest : Cache = record cache { pool = reverse warmer } in
+    let few = evicted_few rules coldest rest some in
+    let next : next_number rest ≡ next_number cache = refl in
+    (few.0, omega (arith, few.1, count_reverse warmer, count_cons coldest warmer, same))
+
+room_few : (rules : Rules) (page : ℕ) (cache : Cache) → 1 ≤ rules.groups →
+    (next_number (with_room rules page cache) ≤ next_number cache + 1) × (changed_count (with_room rules page cache).pool ≤ changed_count cache.pool)
+room_few rules page cache some = by (lacks_room rules page cache)
+  where
+    by : (b : Bool) → (next_number (if b then evict_coldest rules cache else cache) ≤ next_number cache + 1) × (changed_count (if b then evict_coldest rules cache else cache).pool ≤ changed_count cache.pool)
+    by true = first_few rules (reverse cache.pool) cache some (count_reverse cache.pool)
+    by false = (omega arith, omega arith)
+
+-- A touch.
+
+front_next : (page : ℕ) (change : Bool) (cache : Cache) → next_number (in_front page change cache) ≡ next_number cache
+front_next page change cache = by (holds cache.pool page)
+  where
+    by : (b : Bool) → (if b then cache.queue else with_read page cache.queue).first + length (if b then cache.queue else with_read page cache.queue).groups ≡ next_number cache
+    by true = refl
+    by false = ap (λ n. cache.queue.first + n) (length-groups_read page cache.queue.groups)
+
+-- only a change makes one more page changed
+front_changed : (page : ℕ) (change : Bool) (cache : Cache) → changed_count (in_front page change cache).pool ≤ changed_count cache.pool + cond change 1 0
+front_changed page change cache = by (is_changed cache.pool page) change (count_own page cache.pool) (count_without (λ other. other == page) cache.pool)
+  where
+    by : (was now : Bool) → (was ≡ true → changed_count (beside page cache.pool) + 1 ≤ changed_count cache.pool) → changed_count (beside page cache.pool) ≤ changed_count cache.pool
+        → changed_count (record { page = page; changed = was || now } ∷ beside page cache.pool) ≤ changed_count cache.pool + cond now 1 0
+    by true now own few = omega (arith, own refl, count_cons (record { page = page; changed = true }) (beside page cache.pool))
+    by false true own few = omega (arith, few, count_cons (record { page = page; changed = true }) (beside page cache.pool))
+    by false false own few = omega (arith, few, count_cons (record { page = page; changed = false }) (beside page cache.pool))
+
+touched_few : (rules : Rules) (page : ℕ) (change : Bool) (cache : Cache) → 1 ≤ rules.groups →
+    (next_number (touched rules page change cache) ≤ next_number cache + 1) × (changed_count (touched rules page change cache).pool ≤ changed_count cache.pool + cond change 1 0)
+touched_few rules page change cache some =
+    let room = room_few rules page cache some in
+    let front = with_room rules page cache in
+    (omega (arith, room.0, front_next page change front), omega (arith, room.1, front_changed page change front))
+
+pub touch_pushes_one : TouchPushesOne
+touch_pushes_one rules page change cache some = (touched_few rules page change cache some).0
+
+-- A flush.
+
+flushed_by_few : (pushes : ℕ) (rules : Rules) (cache : Cache) → 1 ≤ rules.groups →
+    next_number (flushed_by pushes rules cache) + changed_count (flushed_by pushes rules cache).pool ≤ next_number cache + changed_count cache.pool
+flushed_by_few zero rules cache some = omega arith
+flushed_by_few (suc pushes) rules cache some = by (wants_flush cache) refl (flushed_by_few pushes rules (push_changed rules cache) some)
+  where
+    by : (b : Bool) → wants_flush cache ≡ b →
+        next_number (flushed_by pushes rules (push_changed rules cache)) + changed_count (flushed_by pushes rules (push_changed rules cache)).pool ≤ next_number (push_changed rules cache) + changed_count (push_changed rules cache).pool →
+        next_number (if b then flushed_by pushes rules (push_changed rules cache) else cache) + changed_count (if b then flushed_by pushes rules (push_changed rules cache) else cache).pool ≤ next_number cache + changed_count cache.pool
+    by true wants later = omega (arith, later, changed_next rules cache some, push_saves rules cache wants)
+    by false none later = omega arith
+
+flushed_few : (rules : Rules) (cache : Cache) → 1 ≤ rules.groups → next_number (flushed rules cache) + changed_count (flushed rules cache).pool ≤ next_number cache + changed_count cache.pool
+flushed_few rules cache some = flushed_by_few (length cache.pool) rules cache some
+
+pub flush_pushes_changed : FlushPushesChanged
+flush_pushes_changed rules cache some = omega (arith, flushed_few rules cache some)
+
+-- All work.
+
+work_few : (rules : Rules) (work : CacheWork) (cache : Cache) → 1 ≤ rules.groups →
+    next_number (worked rules work cache) + changed_count (worked rules work cache).pool ≤ next_number cache + changed_count cache.pool + groups_for work
+work_few rules (touch page change) cache some =
+    let few = touched_few rules page change cache some in
+    omega (arith, few.0, few.1, two change)
+  where
+    two : (b : Bool) → (if b then 2 else 1) ≡ 1 + cond b 1 0
+    two true = refl
+    two false = refl
+work_few rules flush cache some = omega (arith, flushed_few rules cache some)
+
+pub work_pushes_few : WorkPushesFew
+work_pushes_few rules [] cache some = omega arith
+work_pushes_few rules (work ∷ works) cache some = omega (arith, work_few rules work cache some, work_pushes_few rules works (worked rules work cache) some)
+
+-- Work after work.
+pub groups_add_up : (first later : List CacheWork) → groups_for_all (first ++ later) ≡ groups_for_all first + groups_for_all later
+groups_add_up [] later = omega arith
+groups_add_up (work ∷ first) later = omega (arith, groups_add_up first later)
+
+pub nearly_all_are_pushed : NearlyAllArePushed
+nearly_all_are_pushed = record { most = refl; pushed = refl; saved = refl }
