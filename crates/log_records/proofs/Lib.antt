@@ -8,3 +8,4 @@ pub mod Lists
 pub mod Values
 pub mod SetBlocks
 pub mod Entries
+pub mod ChangeCounts

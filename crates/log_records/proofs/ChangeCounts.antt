@@ -1,0 +1,71 @@
+-- How many Updates and CLRs a log of so many blocks has at most.
+use Rattle.std.proofs.Common.{◌≡◌, ℕ, ◌+◌, ◌*◌, ◌≤◌, Bool, true, false, cond, List, [], ◌∷◌, ◌++◌, length, filter, reverse, flat_map, Option, Some, None, refl, ap, ◌∙◌, arith}
+use Rattle.std.specs.Prelude.{is_some}
+use Rattle.std.specs.List.{AllByRecursion}
+use Rattle.std.proofs.lemmas.List.{length-append, reverse-append}
+use Rattle.log_records.specs.declared.log_record.LogRecord.{LogRecord}
+use Rattle.log_records.specs.declared.log_record.LogRecord.TheVariants.{Begin, Update, Clr, Commit, End}
+use Rattle.log_records.specs.Log.{Entry, entries_from, log_from, number_of}
+use Rattle.log_records.specs.Spelling.{AreBlock, content_spelling, spelling, used_by}
+use Rattle.record_model.specs.State.{Content}
+
+-- whether a record is an Update or a CLR, as a number; and how many are
+abbrev pub is_change : LogRecord → ℕ
+is_change rec = cond (is_some (number_of rec)) 1 0
+
+abbrev pub changes_in : List Entry → ℕ
+changes_in [] = 0
+changes_in (e ∷ log) = is_change e.rec + changes_in log
+
+pub changes_join : (xs ys : List Entry) → changes_in (xs ++ ys) ≡ changes_in xs + changes_in ys
+changes_join [] ys = omega arith
+changes_join (e ∷ xs) ys = omega (arith, changes_join xs ys)
+
+pub changes_reverse : (xs : List Entry) → changes_in (reverse xs) ≡ changes_in xs
+changes_reverse [] = refl
+changes_reverse (e ∷ xs) =
+    let turned : changes_in (reverse (e ∷ xs)) ≡ changes_in (reverse xs ++ e ∷ []) = ap changes_in (reverse-append (e ∷ []) xs) in
+    omega (arith, turned, changes_join (reverse xs) (e ∷ []), changes_reverse xs)
+
+pub changes_filter : (test : Entry → Bool) (xs : List Entry) → changes_in (filter test xs) ≤ changes_in xs
+changes_filter test [] = omega arith
+changes_filter test (e ∷ xs) = by (test e) (changes_filter test xs)
+  where
+    by : (b : Bool) → changes_in (filter test xs) ≤ changes_in xs → changes_in (cond b (e ∷ filter test xs) (filter test xs)) ≤ is_change e.rec + changes_in xs
+    by true rest = omega (arith, rest)
+    by false rest = omega (arith, rest)
+
+content_long : (content : Content) → 1 ≤ length (content_spelling content)
+content_long None = omega arith
+content_long (Some value) = omega arith
+
+-- an Update has 24 octets at least, and a CLR 31
+change_long : (rec : LogRecord) → 24 * is_change rec ≤ length (spelling rec)
+unfolding spelling
+change_long Begin = omega arith
+change_long (Update txn prev page slot before after) = omega (arith, content_long before, content_long after, length-append (content_spelling before) (content_spelling after))
+change_long (Clr txn prev undo_next page slot after) = omega arith
+change_long (Commit txn number) = omega arith
+change_long (End txn) = omega arith
+
+entries_long : (lsn : ℕ) (records : List LogRecord) → 24 * changes_in (entries_from lsn records) ≤ length (flat_map spelling records)
+entries_long lsn [] = omega arith
+entries_long lsn (rec ∷ records) = omega (
+  arith,
+  change_long rec,
+  entries_long (lsn + length (spelling rec)) records,
+  length-append (spelling rec) (flat_map spelling records),
+)
+
+-- so a block has twenty of them at most
+block_few : (lsn : ℕ) (records : List LogRecord) → AreBlock records → changes_in (entries_from lsn records) ≤ 20
+block_few lsn records are = let room = are.room in omega (arith, entries_long lsn records, room)
+
+pub changes_few : (first : ℕ) (blocks : List (List LogRecord)) → AllByRecursion AreBlock blocks → changes_in (log_from first blocks) ≤ 20 * length blocks
+changes_few first [] all = omega arith
+changes_few first (records ∷ blocks) all = omega (
+  arith,
+  block_few (512 * first + 2) records all.0,
+  changes_few (first + 1) blocks all.1,
+  changes_join (entries_from (512 * first + 2) records) (log_from (first + 1) blocks),
+)
