@@ -6,3 +6,4 @@ pub mod DistinctStaged
 pub mod Chances
 pub mod Unread
 pub mod GroupCounts
+mod LineGroups

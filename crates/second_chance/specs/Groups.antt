@@ -1,7 +1,12 @@
 -- How many groups work pushes at most.
-use Rattle.std.specs.Prelude.{◌≡◌, ℕ, ◌+◌, ◌≤◌, Bool, true, List, [], ◌∷◌, length, flat_map, if◌then◌else◌}
+use Rattle.std.specs.Prelude.{◌≡◌, ℕ, ◌+◌, ◌*◌, ◌≤◌, Bool, true, List, [], ◌∷◌, length, flat_map, Some, if◌then◌else◌}
 use Rattle.std.specs.List.{range_with_len}
-use Rattle.record_model.specs.Touches.{CacheWork, touch, flush}
+use Rattle.record_model.specs.declared.words.CacheLine.{CacheLine}
+use Rattle.record_model.specs.declared.words.Command.TheVariants.{Abort, Begin, Get, Read, Scan, Set, Write}
+use Rattle.record_model.specs.State.{State}
+use Rattle.record_model.specs.Run.{Line, Turn, left_by, turns}
+use Rattle.record_model.specs.Rows.{fresh}
+use Rattle.record_model.specs.Touches.{CacheWork, touch, flush, run_touches}
 use Rattle.second_chance.specs.Machine.{Rules, Cache, touched, flushed, after_works, opened}
 use Rattle.second_chance.specs.Laws.{changed_count}
 
@@ -47,3 +52,32 @@ pub record NearlyAllArePushed : Type 0 where
   pub most : groups_for_all (changes_saved 8) ≡ 16
   pub pushed : next_number (after_changes 8) ≡ 14
   pub saved : changed_count (after_changes 8).pool ≡ 0
+
+-- Lines of input. How many records a line reads, and how many the lines of a run do.
+abbrev pub reads_by : Line → ℕ
+reads_by (Some (Read n number)) = 1
+reads_by (Some (Get number)) = 1
+reads_by (Some (Scan n number count)) = count
+reads_by _ = 0
+
+abbrev pub reads_in : List Turn → ℕ
+reads_in [] = 0
+reads_in (t ∷ run) = reads_by t.line + reads_in run
+
+-- They push at most a group for each of these, and two for each record that they log.
+abbrev pub LinesPushFew : Type 0
+LinesPushFew =
+    (checkpoints : Bool) (s : State) (lines : List Line) (listings : List (List CacheLine)) →
+    let run = turns checkpoints s lines listings in
+    groups_for_all (run_touches checkpoints run) + 2 * s.made ≤ reads_in run + 2 * (left_by s run).made
+
+-- Worked out by hand: 33 records of two pages are read by a scan, and one by a get; a page is changed by a write, again
+-- by the abort, and another one by a set.
+abbrev pub six_turns : List Turn
+six_turns = turns true (fresh 63) (Some (Begin 0) ∷ Some (Write 0 32 (1 ∷ [])) ∷ Some (Scan 0 0 33) ∷ Some (Abort 0)
+    ∷ Some (Set 64 (1 ∷ [])) ∷ Some (Get 0) ∷ []) []
+
+pub record LinesCounted : Type 0 where
+  pub groups : groups_for_all (run_touches true six_turns) ≡ 2 + 33 + 2 + 2 + 1
+  pub reads : reads_in six_turns ≡ 33 + 1
+  pub made : (left_by (fresh 63) six_turns).made ≡ 1 + 1 + 2 + 3

@@ -1,7 +1,8 @@
 // Facts about the machine. The functions do nothing: each states its laws as clauses.
 ghost use Rattle.second_chance.specs.Laws.{EvictionIsPlanned, FlushIsPlanned, StagedIsPlanned, PushSavesAPage};
 ghost use Rattle.second_chance.specs.Laws.{FlushGoesOn, FlushEnds, FlushSavesAll, ChancesStand, ChancesFew};
-ghost use Rattle.second_chance.specs.Groups.{FlushPushesChanged, NearlyAllArePushed, TouchPushesOne, WorkPushesFew};
+ghost use Rattle.second_chance.specs.Groups.{FlushPushesChanged, LinesCounted, LinesPushFew, NearlyAllArePushed};
+ghost use Rattle.second_chance.specs.Groups.{TouchPushesOne, WorkPushesFew};
 ghost use Rattle.second_chance.specs.Laws.{ChancesAreNotStaged, StagedStand, StagedApart};
 
 /// To do what a plan says is the push of the machine: its new group, the pages that leave the pool or are saved, and
@@ -41,4 +42,10 @@ pub fn work_pushes_few()
     ensures flush { FlushPushesChanged }
     ensures work { WorkPushesFew }
     ensures reached { NearlyAllArePushed }
+{}
+
+/// The lines of a run ask for no more than one group for each record that they read, and two for each that they log.
+pub fn lines_push_few()
+    ensures lines { LinesPushFew }
+    ensures counted { LinesCounted }
 {}
