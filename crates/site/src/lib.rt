@@ -19,6 +19,3 @@ pub use mem::MemSite;
 pub use named::Call;
 pub use outside::{Dev, Failed, Site, Stop, Take};
 pub use telling::tell_all;
-
-#[cfg(test)]
-mod tests;

@@ -1,4 +1,4 @@
-use crate::{Call, Dev, Failed, Geometry, MemSite, Site, Take, tell_all};
+use site::{Call, Dev, Failed, Geometry, MemSite, Site, Take, tell_all};
 use std::test::Fail;
 
 const SMALL: Geometry = Geometry {

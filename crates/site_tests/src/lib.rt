@@ -1,0 +1,5 @@
+//! Tests of `site`.
+#![tactic(auto)]
+
+#[cfg(test)]
+mod tests;
