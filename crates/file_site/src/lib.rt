@@ -3,8 +3,6 @@
 
 mod book;
 mod device;
-#[cfg(test)]
-mod fakes;
 mod files;
 mod intake;
 mod lock;
@@ -12,12 +10,11 @@ mod making;
 mod opening;
 mod outlet;
 mod progress;
-#[cfg(test)]
-mod tests;
 mod trouble;
 mod watch;
 
 pub use files::FileSite;
+pub use intake::Intake;
 pub use lock::LockFile;
 pub use opening::path;
 pub use outlet::tell_line;

@@ -1,9 +1,7 @@
 // What no clause says: which files are read, written, synced, made and locked, and what the standard streams give and
 // take. A test is a table of rows, which one function plays.
 use crate::fakes::{Fake, FakeReader, World};
-use crate::intake::Intake;
-use crate::watch::Watch;
-use crate::{Call, FileSite, tell_line};
+use file_site::{Call, FileSite, Intake, Watch, tell_line};
 use site::{Dev, Failed, Site};
 use std::alloc::Global;
 use std::fs;

@@ -1,7 +1,7 @@
 // A runtime for tests: files of the current folder under a record of the calls, of which one may be told to fail; an
 // input of given octets, and an output that keeps what it took.
 
-use crate::LockFile;
+use file_site::LockFile;
 use std::alloc::{AllocError, Allocator, Global};
 use std::cell::{Cell, RefCell};
 use std::fmt::Display;

@@ -1,0 +1,7 @@
+//! Tests of `file_site`.
+#![tactic(auto)]
+
+#[cfg(test)]
+mod fakes;
+#[cfg(test)]
+mod tests;
