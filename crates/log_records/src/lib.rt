@@ -9,8 +9,6 @@ mod codec;
 mod laws;
 mod log_record;
 mod reading;
-#[cfg(test)]
-mod tests;
 
 pub use codec::{BadRecord, length, write_record};
 pub use laws::{one_change, one_form, read_again, set_is_block, set_lsns, values_of_sets};

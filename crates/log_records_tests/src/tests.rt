@@ -1,6 +1,8 @@
 ghost use Rattle.log_records.specs.Spelling.{HasForm};
 
-use crate::{BLOCK_LEN, BadRecord, LogRecord, check_block, length, read_record, write_record};
+use log_records::{
+    BLOCK_LEN, BadRecord, LogRecord, check_block, length, read_record, write_record,
+};
 use record_model::Octets;
 
 // The block of a log's first transaction, which sets record 5 of the table from none to 0a0b: the

@@ -1,0 +1,5 @@
+//! Tests of `log_records`.
+#![tactic(auto)]
+
+#[cfg(test)]
+mod tests;
