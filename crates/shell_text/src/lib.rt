@@ -4,8 +4,6 @@
 mod grammar;
 mod laws;
 mod rows;
-#[cfg(test)]
-mod tests;
 mod texts;
 mod written;
 

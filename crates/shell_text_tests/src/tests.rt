@@ -1,5 +1,5 @@
-use crate::{BadLine, line_count, open_line, read_line, reply_line};
 use record_model::{CacheLine, Command, Item, Items, Listing, Octets, Reply, Stat, Why};
+use shell_text::{BadLine, line_count, open_line, read_line, reply_line};
 use std::alloc::{AllocError, Global};
 use std::test::Fail;
 

@@ -1,0 +1,5 @@
+//! Tests of `shell_text`.
+#![tactic(auto)]
+
+#[cfg(test)]
+mod tests;
