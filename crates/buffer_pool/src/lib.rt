@@ -6,8 +6,6 @@ mod index;
 mod kept;
 mod laws;
 mod pool;
-#[cfg(test)]
-mod tests;
 
 pub use frame::Frame;
 pub use laws::frames_of_pages;

@@ -1,4 +1,4 @@
-use crate::Pool;
+use buffer_pool::Pool;
 use site::Stop;
 use slotted_page::Page;
 use std::test::Fail;

@@ -1,0 +1,5 @@
+//! Tests of `buffer_pool`.
+#![tactic(auto)]
+
+#[cfg(test)]
+mod tests;
