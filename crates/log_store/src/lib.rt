@@ -4,8 +4,6 @@
 mod laws;
 mod reading;
 mod store;
-#[cfg(test)]
-mod tests;
 
 pub use laws::{blank_log, full_tail, list_kept, one_log, stays_beside};
 pub use store::LogStore;

@@ -5,8 +5,8 @@ ghost use Rattle.site.specs.MemState.{state_of};
 ghost use Rattle.log_records.specs.Spelling.{HasForm};
 ghost use Rattle.log_store.specs.Representation.{Invariant};
 
-use crate::LogStore;
 use log_records::{BLOCK_LEN, LogRecord};
+use log_store::LogStore;
 use record_model::Octets;
 use site::{Dev, Geometry, MemSite, Stop};
 use std::test::Fail;

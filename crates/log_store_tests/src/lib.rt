@@ -1,0 +1,5 @@
+//! Tests of `log_store`.
+#![tactic(auto)]
+
+#[cfg(test)]
+mod tests;
