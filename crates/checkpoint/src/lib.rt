@@ -7,8 +7,6 @@ mod laws;
 mod master;
 mod masters;
 mod pairs;
-#[cfg(test)]
-mod tests;
 
 pub use codec::{BadMaster, read_master, write_master};
 pub use laws::{one_master, stays_newest};

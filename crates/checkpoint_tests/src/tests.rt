@@ -1,7 +1,7 @@
 // Master units, and masters on a site in memory.
 ghost use Rattle.std.specs.Prelude.{◌≡◌, ◌∷◌, []};
 
-use crate::{BadMaster, Master, Pairs, UNIT_LEN, newest, read_master, save, write_master};
+use checkpoint::{BadMaster, Master, Pairs, UNIT_LEN, newest, read_master, save, write_master};
 use site::{Dev, Geometry, MemSite};
 use std::test::Fail;
 

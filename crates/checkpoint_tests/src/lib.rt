@@ -1,0 +1,5 @@
+//! Tests of `checkpoint`.
+#![tactic(auto)]
+
+#[cfg(test)]
+mod tests;
