@@ -3,4 +3,3 @@ pub mod Listing
 pub mod Rebuilt
 pub mod Saving
 pub mod Standing
-pub mod Trying

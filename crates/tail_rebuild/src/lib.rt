@@ -8,8 +8,6 @@ mod laws;
 mod listing;
 mod reading;
 mod saving;
-#[cfg(test)]
-mod tests;
 
 pub use finding::rebuild;
 pub use heads::{HeadList, Heads};

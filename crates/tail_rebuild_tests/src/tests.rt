@@ -2,16 +2,15 @@
 ghost use Rattle.std.specs.Prelude.{IfOk};
 ghost use Rattle.site.specs.Geometry.{HasLengths};
 ghost use Rattle.site.specs.MemState.{state_of};
-ghost use Rattle.tail_rebuild.specs.Trying.{small, MayTry};
+ghost use Rattle.tail_rebuild_tests.specs.Trying.{small, MayTry};
 
-use crate::reading::{group_shape, segment_shape};
-use crate::{rebuild, save_due};
 use frame_group::GROUP_LEN;
 use meta_segments::SEGMENT_LEN;
-use sealed_ring::Ring;
+use sealed_ring::{Ring, Shape};
 use site::{Dev, Geometry, MemSite, Stop};
 use std::alloc::Global;
 use std::test::Fail;
+use tail_rebuild::{rebuild, save_due};
 
 const SMALL: Geometry = Geometry {
     pages: 16,
@@ -23,6 +22,23 @@ const MANY: Geometry = Geometry {
     pages: 16,
     groups: 16_384,
     blocks: 16,
+};
+
+// Where the groups of the smaller devices lie, and the segments behind them.
+const GROUPS: Shape = Shape {
+    dev: Dev::Flash,
+    base: 0,
+    slots: 8,
+    stride: 33_280,
+    room: 32_896,
+};
+
+const SEGMENTS: Shape = Shape {
+    dev: Dev::Flash,
+    base: 266_240,
+    slots: 5,
+    stride: 1_024,
+    room: 512,
 };
 
 // Appends a group of one frame for each of these pages.
@@ -44,7 +60,7 @@ fn with_groups(alloc: Global, pages: &[u8]) -> Result<MemSite, Stop>
     ensures { IfOk result (λ site. HasLengths small (state_of site).image) }
 {
     let mut site = MemSite::new(alloc, &SMALL)?;
-    let mut groups = Ring::scan(&mut site, group_shape(&SMALL))?;
+    let mut groups = Ring::scan(&mut site, GROUPS)?;
     append_pages(&mut site, &mut groups, pages)?;
     Ok(site)
 }
@@ -61,7 +77,7 @@ fn many_groups_that_are_blank(rt: HostRuntime) -> Result<(), Fail> {
 #[test]
 fn a_segment_and_a_group_behind_it(rt: HostRuntime) -> Result<(), Fail> {
     let mut site = with_groups(rt.alloc(), &[0, 1, 2, 3, 4])?;
-    let mut segments = Ring::scan(&mut site, segment_shape(&SMALL))?;
+    let mut segments = Ring::scan(&mut site, SEGMENTS)?;
     let mut content = [0u8; SEGMENT_LEN];
     for place in 0..4 {
         content[128 * place] = 1;

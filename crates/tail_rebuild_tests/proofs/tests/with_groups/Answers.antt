@@ -1,7 +1,7 @@
 use Rattle.std.proofs.Common.{◌∙◌}
 use Rattle.site.specs.MemState.{state_of}
 use Rattle.site.proofs.Working.{lengths_later}
-use Rattle.tail_rebuild.proofs.tests.with_groups.Goals as goal
+use Rattle.tail_rebuild_tests.proofs.tests.with_groups.Goals as goal
 
 pub append_pages-requires : goal.append_pages-requires
 append_pages-requires c = record {

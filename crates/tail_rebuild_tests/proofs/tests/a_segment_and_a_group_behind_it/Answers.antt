@@ -1,6 +1,6 @@
 use Rattle.site.specs.MemState.{state_of}
 use Rattle.site.proofs.Working.{lengths_later}
-use Rattle.tail_rebuild.proofs.tests.a_segment_and_a_group_behind_it.Goals as goal
+use Rattle.tail_rebuild_tests.proofs.tests.a_segment_and_a_group_behind_it.Goals as goal
 
 pub rebuild-requires-clause-lengths : goal.rebuild-requires-clause-lengths
 rebuild-requires-clause-lengths g c =

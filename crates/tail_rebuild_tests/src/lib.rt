@@ -1,0 +1,5 @@
+//! Tests of `tail_rebuild`.
+#![tactic(auto)]
+
+#[cfg(test)]
+mod tests;
