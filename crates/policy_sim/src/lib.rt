@@ -12,8 +12,6 @@ mod queued;
 mod rows;
 mod sim;
 mod table;
-#[cfg(test)]
-mod tests;
 
 pub use counts::Counts;
 pub use policy::Policy;

@@ -1,6 +1,6 @@
 ghost use Rattle.std.specs.Prelude.{◌≤◌, length};
 
-use crate::{Counts, Policy, Sim};
+use policy_sim::{Counts, Policy, Sim};
 use site::Stop;
 use std::alloc::Global;
 use std::test::Fail;

@@ -1,0 +1,5 @@
+//! Tests of `policy_sim`.
+#![tactic(auto)]
+
+#[cfg(test)]
+mod tests;
