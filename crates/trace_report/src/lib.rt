@@ -6,8 +6,6 @@ mod halt;
 mod machines;
 mod report;
 mod run;
-#[cfg(test)]
-mod tests;
 mod touch_line;
 mod trace;
 

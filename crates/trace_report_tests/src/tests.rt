@@ -1,7 +1,7 @@
-use crate::simulate;
 use site::{Call, Geometry, MemSite, Stop};
 use std::alloc::Global;
 use std::test::Fail;
+use trace_report::simulate;
 
 const LEAST: Geometry = Geometry {
     pages: 1,

@@ -1,0 +1,5 @@
+//! Tests of `trace_report`.
+#![tactic(auto)]
+
+#[cfg(test)]
+mod tests;
