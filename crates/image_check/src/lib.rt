@@ -19,8 +19,6 @@ mod rings;
 mod segments;
 mod showing;
 mod survey;
-#[cfg(test)]
-mod tests;
 mod txns;
 mod undoable;
 mod unfinished;

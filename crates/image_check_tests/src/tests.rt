@@ -2,12 +2,12 @@
 ghost use Rattle.std.specs.Prelude.{◌<◌, ◌≤◌, length, IfOk};
 ghost use Rattle.site.specs.MemState.{state_of};
 
-use crate::{
+use checkpoint::{Master, Pairs};
+use image_check::{
     Place, Verdict, check_image, rule_apart, rule_blocks, rule_clean, rule_commits, rule_following,
     rule_groups, rule_kept, rule_lengths, rule_master, rule_named, rule_rings, rule_room,
     rule_segments, rule_shown, rule_transactions, rule_undoable, rule_versions,
 };
-use checkpoint::{Master, Pairs};
 use log_store::LogStore;
 use site::{Dev, Failed, Geometry, MemSite, Site, Stop};
 use std::alloc::Global;

@@ -1,0 +1,5 @@
+//! Tests of `image_check`.
+#![tactic(auto)]
+
+#[cfg(test)]
+mod tests;
