@@ -8,7 +8,6 @@ pub mod Calls
 pub mod Stopping
 pub mod Flushing
 pub mod Taking
-pub mod Trying
 pub mod Laws
 pub mod Staging
 pub mod Telling

@@ -11,8 +11,6 @@ mod reading;
 mod store;
 mod taking;
 mod telling;
-#[cfg(test)]
-mod tests;
 
 pub use laws::{pages_beside_the_log, stays_beside, touch_then_change};
 pub use store::PageStore;

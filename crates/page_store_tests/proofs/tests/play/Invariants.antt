@@ -1,6 +1,6 @@
 use Rattle.site.specs.MemState.{state_of}
-use Rattle.page_store.specs.Trying.{AreGoing}
-use Rattle.page_store.proofs.tests.play.Given as goal
+use Rattle.page_store_tests.specs.Trying.{AreGoing}
+use Rattle.page_store_tests.proofs.tests.play.Given as goal
 
 abbrev pub invariant-loop-place : goal.invariant-loop-place
 invariant-loop-place l = AreGoing l.pages l.log (state_of l.site)

@@ -7,13 +7,12 @@ ghost use Rattle.site.specs.Calls.{Preserves};
 ghost use Rattle.log_records.specs.Spelling.{HasForm};
 ghost use Rattle.log_store.specs.Representation as log_store;
 ghost use Rattle.page_store.specs.Representation.{IsStore, Invariant};
-ghost use Rattle.page_store.specs.Trying.{small, AreGoing};
+ghost use Rattle.page_store_tests.specs.Trying.{small, AreGoing};
 
-use crate::PageStore;
-use byte_fields::Mark;
 use flash_cache::FlashCache;
 use log_records::LogRecord;
 use log_store::LogStore;
+use page_store::PageStore;
 use record_model::{CacheLine, Listing, Octets};
 use site::{Call, Dev, Geometry, MemSite, Stop};
 use std::alloc::Global;
@@ -23,13 +22,6 @@ const SMALL: Geometry = Geometry {
     pages: 16,
     groups: 8,
     blocks: 16,
-};
-
-const NO_MARK: Mark = Mark {
-    page: 0,
-    valid: false,
-    dirty: false,
-    referenced: false,
 };
 
 // What a script does with a page.
@@ -147,28 +139,6 @@ fn play(
     Ok(true)
 }
 
-// Whether the pool has these pages, the front first, changed as said.
-fn has_pool(pages: &PageStore, wanted: &[(u32, bool)]) -> bool {
-    if pages.pool.len() != wanted.len() {
-        return false;
-    }
-    for (place, mark) in wanted.iter().enumerate() {
-        if place >= pages.pool.len() || pages.pool.mark(place) != *mark {
-            return false;
-        }
-    }
-    true
-}
-
-// Whether the frame at a place of a group, named by its place in the queue, is this one.
-fn has_frame(pages: &PageStore, group: usize, index: usize, wanted: Mark) -> bool {
-    if group >= pages.flash.groups() || index >= 8 {
-        return false;
-    }
-    let mut marks = [NO_MARK; 8];
-    index < pages.flash.marks(group, &mut marks) && marks[index] == wanted
-}
-
 // Sixty pieces of work on a pool of three pages.
 const MIXED: [(u32, Work); 60] = [
     (8, Work::Change),
@@ -233,27 +203,39 @@ const MIXED: [(u32, Work); 60] = [
     (7, Work::Flush),
 ];
 
-// The frames that are in the queue then: the place of the group, the frame's own in it, its page, and whether it is
+// The frames that are in the queue then: the number of the group, the frame's place in it, its page, and whether it is
 // valid, dirty and referenced.
-const FRAMES: [(usize, usize, u32, bool, bool, bool); 17] = [
-    (0, 0, 1, false, true, true),
-    (0, 1, 7, false, true, true),
-    (0, 2, 4, false, true, true),
-    (1, 0, 8, false, true, true),
-    (2, 0, 1, true, true, false),
-    (3, 0, 6, false, false, true),
-    (3, 1, 4, false, true, true),
-    (4, 0, 0, true, true, false),
-    (4, 1, 5, false, false, true),
-    (4, 2, 6, true, true, false),
-    (4, 3, 8, true, true, false),
-    (5, 0, 3, false, true, true),
-    (5, 1, 2, true, true, false),
-    (5, 2, 5, true, true, false),
-    (6, 0, 7, true, true, false),
-    (6, 1, 4, true, true, false),
-    (6, 2, 3, true, true, false),
+const FRAMES: [(u64, u8, u32, bool, bool, bool); 17] = [
+    (7, 0, 1, false, true, true),
+    (7, 1, 7, false, true, true),
+    (7, 2, 4, false, true, true),
+    (8, 0, 8, false, true, true),
+    (9, 0, 1, true, true, false),
+    (10, 0, 6, false, false, true),
+    (10, 1, 4, false, true, true),
+    (11, 0, 0, true, true, false),
+    (11, 1, 5, false, false, true),
+    (11, 2, 6, true, true, false),
+    (11, 3, 8, true, true, false),
+    (12, 0, 3, false, true, true),
+    (12, 1, 2, true, true, false),
+    (12, 2, 5, true, true, false),
+    (13, 0, 7, true, true, false),
+    (13, 1, 4, true, true, false),
+    (13, 2, 3, true, true, false),
 ];
+
+// The listing of a store over a site.
+fn listed(pages: &PageStore, _site: &MemSite) -> Result<Listing, Stop>
+    requires going { Invariant pages.now (state_of _site.now) }
+{
+    pages.listing()
+}
+
+// Whether the line at a place is this one.
+fn has_line(lines: &Listing, place: usize, wanted: CacheLine) -> bool {
+    place < lines.len() && *lines.at(place) == wanted
+}
 
 #[test]
 fn a_mixed_script(rt: HostRuntime) -> Result<(), Fail> {
@@ -261,17 +243,25 @@ fn a_mixed_script(rt: HostRuntime) -> Result<(), Fail> {
     let (mut pages, mut log) = opened(rt.alloc(), &mut site, 3)?;
     let reads = site.reads(Dev::Flash);
     assert!(rt; play(&mut pages, &mut log, &mut site, &MIXED)?);
-    assert!(rt; has_pool(&pages, &[(3, false), (4, false), (7, false)]));
-    assert_eq!(rt; pages.flash.first(), 7);
-    assert_eq!(rt; pages.flash.groups(), 7);
-    for (group, index, page, valid, dirty, referenced) in &FRAMES {
-        let wanted = Mark {
+    let lines = listed(&pages, &site)?;
+    assert_eq!(rt; lines.len(), 20);
+    for (place, (group, index, page, valid, dirty, referenced)) in FRAMES.iter().enumerate() {
+        let wanted = CacheLine::Frame {
+            group: *group,
+            index: *index,
             page: *page,
             valid: *valid,
             dirty: *dirty,
             referenced: *referenced,
         };
-        assert!(rt; has_frame(&pages, *group, *index, wanted));
+        assert!(rt; has_line(&lines, place, wanted));
+    }
+    for (place, page) in [(17, 3), (18, 4), (19, 7)] {
+        let wanted = CacheLine::Pool {
+            page,
+            changed: false,
+        };
+        assert!(rt; has_line(&lines, place, wanted));
     }
     // Three segments are saved.
     assert_eq!(rt; site.changes(), 155);
@@ -352,18 +342,6 @@ const LISTED: [(u64, u8, u32); 8] = [
     (7, 0, 0),
     (7, 1, 7),
 ];
-
-// The listing of a store over a site.
-fn listed(pages: &PageStore, _site: &MemSite) -> Result<Listing, Stop>
-    requires going { Invariant pages.now (state_of _site.now) }
-{
-    pages.listing()
-}
-
-// Whether the line at a place is this one.
-fn has_line(lines: &Listing, place: usize, wanted: CacheLine) -> bool {
-    place < lines.len() && *lines.at(place) == wanted
-}
 
 #[test]
 fn nine_pages_are_listed(rt: HostRuntime) -> Result<(), Fail> {

@@ -1,7 +1,7 @@
 use Rattle.std.proofs.Common.{◌∙◌, rules}
 use Rattle.site.specs.MemState.{state_of}
 use Rattle.page_store.proofs.Versions.{pages_later}
-use Rattle.page_store.proofs.tests.carry_out.Goals as goal
+use Rattle.page_store_tests.proofs.tests.carry_out.Goals as goal
 
 pub returns-in_ok-lsn-in-Change : goal.returns-in_ok-lsn-in-Change
 returns-in_ok-lsn-in-Change c = record {

@@ -1,0 +1,5 @@
+//! Tests of `page_store`.
+#![tactic(auto)]
+
+#[cfg(test)]
+mod tests;
