@@ -10,15 +10,12 @@ mod logging;
 mod redo_pass;
 mod session_laws;
 mod store;
-#[cfg(test)]
-mod tests;
 mod undo;
 mod undo_losers;
-#[cfg(test)]
-mod undo_tests;
 mod work_laws;
 
 pub use laws::hold_together;
+pub use logging::{log_change, log_record, touch};
 pub use redo_pass::{Redone, redo};
 pub use session_laws::{sessions_are_undone, sessions_go_on, sessions_outlive, sessions_see};
 pub use store::Store;

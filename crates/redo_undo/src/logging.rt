@@ -41,7 +41,7 @@ use site::{Site, Stop};
 /// Brings a page to the front of the pool. What log and pages hold together stays, and at each moment the devices stand
 /// for the same table. The machine says which pages leave; where they have changes that aren't sealed the log is sealed
 /// before.
-pub(crate) fn touch<S: Site>(
+pub fn touch<S: Site>(
     site: &mut S,
     log: &mut LogStore,
     pages: &mut PageStore,
@@ -85,11 +85,7 @@ pub(crate) fn touch<S: Site>(
 
 /// Appends a record, and answers its LSN. From the kept block on there is room for one block more. The pages stay as
 /// they are, so where the record is on none of them log and pages hold together still.
-pub(crate) fn log_record<S: Site>(
-    site: &mut S,
-    log: &mut LogStore,
-    rec: &LogRecord,
-) -> Result<u64, Stop>
+pub fn log_record<S: Site>(site: &mut S, log: &mut LogStore, rec: &LogRecord) -> Result<u64, Stop>
     requires going { log_store.Invariant log.old (S.state site.old) }
     requires form { HasForm rec.now }
     requires room { blocks_to log.old + 1 < log.old.kept + log.old.geometry.blocks }
@@ -159,7 +155,7 @@ pub(crate) fn log_record<S: Site>(
 /// Appends an Update or a CLR, which is on the page in front of the pool, and changes that page by it. Answers the
 /// record's LSN. From the kept block on there is room for one block more. What log and pages hold together goes on by
 /// the record, and at each moment the devices stand for the same table.
-pub(crate) fn log_change<S: Site>(
+pub fn log_change<S: Site>(
     site: &mut S,
     log: &mut LogStore,
     pages: &mut PageStore,

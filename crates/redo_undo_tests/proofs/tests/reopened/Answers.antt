@@ -4,10 +4,10 @@ use Rattle.site.specs.MemState.{state_of}
 use Rattle.log_store.specs.Representation.{has_tail}
 use Rattle.page_store.proofs.Versions.{pages_later}
 use Rattle.redo_undo.proofs.Forced.{none_now}
-use Rattle.redo_undo.proofs.undo_tests.opened.Goals as goal
+use Rattle.redo_undo_tests.proofs.tests.reopened.Goals as goal
 
-pub returns-clause-going : goal.returns-clause-going
-returns-clause-going c =
+pub redo-requires-clause-going : goal.redo-requires-clause-going
+redo-requires-clause-going c =
     let log = c.in_ok-log.log in
     let going = c.in_ok-log.ensures.going in
     let none : (if has_tail log then 1 else 0) ≡ 0 = ap {B = ℕ} (λ (b : Bool). if b then 1 else 0) (none_now log c.in_ok-log.ensures.empty) in

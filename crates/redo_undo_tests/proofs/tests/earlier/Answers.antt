@@ -3,7 +3,7 @@ use Rattle.site.specs.declared.geometry.Geometry.{Geometry}
 use Rattle.site.specs.Geometry.{HasLengths}
 use Rattle.site.specs.MemState.{image_of}
 use Rattle.site.proofs.Working.{ok_always}
-use Rattle.redo_undo.proofs.tests.earlier.Goals as goal
+use Rattle.redo_undo_tests.proofs.tests.earlier.Goals as goal
 
 pub returns : goal.returns
 returns c =

@@ -1,6 +1,6 @@
 use Rattle.std.proofs.Common.{arith, ap}
 use Rattle.site.specs.declared.geometry.Geometry.{Geometry}
-use Rattle.redo_undo.proofs.tests.committed.Goals as goal
+use Rattle.redo_undo_tests.proofs.tests.committed.Goals as goal
 
 pub returns-clause-may : goal.returns-clause-may
 returns-clause-may c =

@@ -11,13 +11,12 @@ ghost use Rattle.redo_undo.specs.Checkpointing.{begins_of};
 ghost use Rattle.redo_undo.specs.Holding.{Invariant, IsOnPage, blocks_to};
 ghost use Rattle.redo_undo.specs.Stores.{MayWork, MayLog, sizes_of};
 
-use crate::logging::{log_change, log_record, touch};
-use crate::{Redone, Store, redo, undo_one};
 use checkpoint::{Master, Pairs, newest};
 use log_records::LogRecord;
 use log_store::LogStore;
 use page_store::PageStore;
 use record_model::Octets;
+use redo_undo::{Redone, Store, log_change, log_record, redo, touch, undo_one};
 use site::{Geometry, MemSite, Stop};
 use std::alloc::Global;
 use std::test::Fail;

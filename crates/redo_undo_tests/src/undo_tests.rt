@@ -7,14 +7,13 @@ ghost use Rattle.log_store.specs.Representation as log_store;
 ghost use Rattle.analysis.specs.Read as analysis;
 ghost use Rattle.redo_undo.specs.Holding.{Invariant, blocks_to};
 
-use crate::logging::{log_record, touch};
-use crate::{undo_all, undo_one};
 use analysis::Analysis;
 use checkpoint::Master;
 use log_records::LogRecord;
 use log_store::LogStore;
 use page_store::PageStore;
 use record_model::Octets;
+use redo_undo::{log_record, touch, undo_all, undo_one};
 use site::{Geometry, MemSite, Stop};
 use std::alloc::Global;
 use std::test::Fail;
