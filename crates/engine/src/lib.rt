@@ -11,8 +11,6 @@ mod restart;
 mod scan;
 mod sessions;
 mod setting;
-#[cfg(test)]
-mod tests;
 mod transactions;
 mod values;
 mod writing;

@@ -3,7 +3,7 @@ ghost use Rattle.site.specs.MemState.{state_of};
 ghost use Rattle.std.specs.Prelude.{OnOk, ◌<◌, length};
 ghost use Rattle.engine.specs.Invariant.{Invariant};
 
-use crate::Engine;
+use engine::Engine;
 use record_model::{Command, Octets, Reply, Stat, Why};
 use site::{Call, Dev, Failed, Geometry, MemSite, Site, Stop};
 use std::alloc::Global;

@@ -1,0 +1,5 @@
+//! Tests of `engine`.
+#![tactic(auto)]
+
+#[cfg(test)]
+mod tests;
