@@ -6,8 +6,6 @@ mod laws;
 mod ring;
 mod sealing;
 mod slots;
-#[cfg(test)]
-mod tests;
 
 pub use judging::judge;
 pub use laws::{appends, blank_is_ring, hi_is_highest, leaves_others, ready_stays, usable_stays};

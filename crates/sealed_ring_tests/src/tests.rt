@@ -1,5 +1,5 @@
 // Rings on a site in memory.
-use crate::{Ring, Shape, judge};
+use sealed_ring::{Ring, Shape, judge};
 use site::{Call, Dev, Geometry, MemSite, Site, Stop};
 use std::test::Fail;
 

@@ -1,6 +1,6 @@
 use Rattle.std.proofs.Common.{arith}
 use Rattle.site.specs.declared.outside.Dev.TheVariants.{Log}
-use Rattle.sealed_ring.proofs.tests.a_worn_ring_makes_no_call.Goals as goal
+use Rattle.sealed_ring_tests.proofs.tests.a_worn_ring_makes_no_call.Goals as goal
 
 pub scan-requires : goal.scan-requires
 scan-requires g c =

@@ -1,0 +1,5 @@
+//! Tests of `sealed_ring`.
+#![tactic(auto)]
+
+#[cfg(test)]
+mod tests;
