@@ -4,4 +4,3 @@ pub mod Leaving
 pub mod OnDisk
 pub mod Pushed
 pub mod Representation
-pub mod Trying

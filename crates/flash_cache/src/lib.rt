@@ -6,8 +6,6 @@ mod cache;
 mod laws;
 mod leaving;
 mod making;
-#[cfg(test)]
-mod tests;
 
 pub use cache::FlashCache;
 pub use laws::{pushes_make_fronts, unframed_is_disk};

@@ -1,8 +1,8 @@
 use Rattle.std.proofs.Common.{◌≡◌}
 use Rattle.site.specs.MemState.{state_of}
 use Rattle.flash_cache.specs.Representation.{Invariant}
-use Rattle.flash_cache.specs.Trying.{small}
-use Rattle.flash_cache.proofs.tests.have_versions.Given as goal
+use Rattle.flash_cache_tests.specs.Trying.{small}
+use Rattle.flash_cache_tests.proofs.tests.have_versions.Given as goal
 
 abbrev pub invariant-loop-page : goal.invariant-loop-page
 invariant-loop-page l = record {

@@ -1,6 +1,6 @@
 use Rattle.std.proofs.Common.{ap}
 use Rattle.site.specs.State.{State}
-use Rattle.flash_cache.proofs.tests.blank.Goals as goal
+use Rattle.flash_cache_tests.proofs.tests.blank.Goals as goal
 
 pub returns : goal.returns
 returns c = record {

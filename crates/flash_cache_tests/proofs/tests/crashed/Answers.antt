@@ -1,6 +1,6 @@
 use Rattle.std.proofs.Common.{◌∙◌}
 use Rattle.site.specs.declared.outside.Dev.TheVariants.{Log, Flash, Disk}
-use Rattle.flash_cache.proofs.tests.crashed.Goals as goal
+use Rattle.flash_cache_tests.proofs.tests.crashed.Goals as goal
 
 pub returns : goal.returns
 returns c = record {

@@ -2,13 +2,13 @@
 ghost use Rattle.std.specs.Prelude.{◌≡◌, ◌≢◌, ◌<◌, ◌≤◌, length, AllPairs, IfOk};
 ghost use Rattle.std.specs.List.{All};
 ghost use Rattle.flash_cache.specs.Representation.{Invariant};
-ghost use Rattle.flash_cache.specs.Trying.{IsSmall, small};
+ghost use Rattle.flash_cache_tests.specs.Trying.{IsSmall, small};
 ghost use Rattle.site.specs.Geometry.{HasLengths};
 ghost use Rattle.site.specs.MemState.{state_of};
 
-use crate::FlashCache;
 use byte_fields::Mark;
 use disk_pages::read_page;
+use flash_cache::FlashCache;
 use second_chance::plan_evict;
 use site::{Call, Dev, Geometry, MemSite, Stop};
 use slotted_page::Page;

@@ -1,8 +1,8 @@
 use Rattle.std.proofs.Common.{List, sym, ◌∙◌, ap, subst, arith}
 use Rattle.std.proofs.lemmas.List.{length-set}
 use Rattle.site.specs.State.{Range, is_loose}
-use Rattle.flash_cache.specs.Trying.{IsSmall}
-use Rattle.flash_cache.proofs.tests.put.Goals as goal
+use Rattle.flash_cache_tests.specs.Trying.{IsSmall}
+use Rattle.flash_cache_tests.proofs.tests.put.Goals as goal
 
 pub poke-requires-clause-inside : goal.poke-requires-clause-inside
 poke-requires-clause-inside c =

@@ -1,0 +1,5 @@
+//! Tests of `flash_cache`.
+#![tactic(auto)]
+
+#[cfg(test)]
+mod tests;
