@@ -18,4 +18,4 @@ refuse_each() {
     return 1
 }
 
-refuse_each buffer_pool a_refused_put_leaves_the_pool_as_it_was && refuse_each flash_directory a_refused_push_leaves_the_directory_as_it_was
+refuse_each buffer_pool_tests a_refused_put_leaves_the_pool_as_it_was && refuse_each flash_directory a_refused_push_leaves_the_directory_as_it_was
