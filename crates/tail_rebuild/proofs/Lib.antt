@@ -5,4 +5,3 @@ pub mod Lists
 pub mod Save
 pub mod Saved
 pub mod Standing
-pub mod Tries
