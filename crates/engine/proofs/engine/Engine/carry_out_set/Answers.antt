@@ -49,8 +49,11 @@ returns-in-Ok-seal_commit-clause-serves g c =
     let engine_is : mid ≡ record c.args.self.now { store = mid.store; commits = mid.commits } =
     c.seal_commit.ensures.rest ∙ ap (λ (x : Engine). record x { store = mid.store; commits = mid.commits }) c.log_set.ensures.rest in
     let commits = ap (λ (x : Engine). x.commits) c.log_set.ensures.rest in
-    record { log_reads = c.seal_commit.ensures.log_reads ∙ c.log_set.ensures.log_reads; keeps = serves_still c.requires.going (works_then c.in-Ok.ensures.works c.in-Ok-seal_commit.ensures.works) (ap (λ (x : Engine). x.ended) engine_is) (ap (λ (x : Engine). x.cap) engine_is) (ap (λ (x : Engine). x.active) engine_is)
-    (omega (arith, c.requires.may.room)) (omega (arith, commits, c.in-Ok-seal_commit.ensures.commits, c.requires.going.commits, c.in-Ok.ensures.works.rises, c.in-Ok-seal_commit.ensures.rises)) }
+    record {
+      log_reads = c.seal_commit.ensures.log_reads ∙ c.log_set.ensures.log_reads;
+      keeps = serves_still c.requires.going (works_then c.in-Ok.ensures.works c.in-Ok-seal_commit.ensures.works) (ap (λ (x : Engine). x.ended) engine_is) (ap (λ (x : Engine). x.cap) engine_is) (ap (λ (x : Engine). x.active) engine_is)
+          (omega (arith, c.requires.may.room)) (omega (arith, commits, c.in-Ok-seal_commit.ensures.commits, c.requires.going.commits, c.in-Ok.ensures.works.rises, c.in-Ok-seal_commit.ensures.rises));
+    }
 
 pub returns-in-Err-seal_commit-clause-asks : goal.returns-in-Err-seal_commit-clause-asks
 returns-in-Err-seal_commit-clause-asks g c = asks_then c.in-Ok.txn _ (one_change (c.args.number / 32)) [] _ _ _ _ _ _ c.in-Ok.ensures.asks c.in-Err-seal_commit.ensures.asks

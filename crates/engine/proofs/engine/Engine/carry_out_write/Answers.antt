@@ -83,25 +83,28 @@ returns-in-Ok-update g c =
           let same = c.in-Ok.ensures.blocks in
           let blocks = c.in-Ok-update.ensures.works.blocks in
           let made = c.in-Ok-update.ensures.works.made in
-          record { log_reads = c.update.ensures.reads Log ∙ c.touch.ensures.log_reads; keeps = serves_of (works_answered (works_then c.in-Ok.ensures.works c.in-Ok-update.ensures.works)) (record {
-            store = c.in-Ok-update.ensures.works.going;
-            going = going.going;
-            cap = going.cap ∙ ap (λ (x : Geometry). x.blocks) (sym (c.update.ensures.works.sizes ∙ c.touch.ensures.works.sizes));
-            table = c.wrote.ensures.table;
-            room = omega (arith, blocks, same, owed_is, room, going.store.blocks, c.update.ensures.works.kept, c.touch.ensures.works.kept);
-            since = λ m other at. ⊎_elim
-                (λ (equal : m ≡ n).
-                let is = same_Some _ other (sym changes.own ∙ ap (entry_of c.wrote.new.active) (sym equal) ∙ at) in
-                let before = going.since n c.args.entry c.requires.active in
-                subst (λ (x : Active). blocks_to c.update.new.self.log + x.born ≤ x.begin / 512 + c.update.new.self.made) is (omega (arith, before, blocks, same, made, made_before)))
-                (λ differ. let before = going.since m other (sym (changes.others m differ) ∙ at) in omega (arith, before, blocks, same, made, made_before))
-                (cases_eq m n);
-            bounded = omega (arith, made, made_before, owed_is, room, going.cap, going.store.both.pages_going.flash.limits.few_blocks);
-            budget = omega (arith, made, made_before, owed_is, room);
-            commits = let later = rises.0 in let last = rises.1 in omega (arith, touched, later, last, going.commits);
-            lasts = below_wrote c.args.self.now.active c.wrote.new.active n (end_of c.args.self.now.store.log) (end_of c.update.new.self.log) _ c.args.entry going.lasts c.requires.active changes (omega (arith, touched, rises.0)) rises.1;
-            differ = apart_wrote c.args.self.now.active c.wrote.new.active n _ c.args.entry going.differ c.requires.active changes;
-          }) };
+          record {
+            log_reads = c.update.ensures.reads Log ∙ c.touch.ensures.log_reads;
+            keeps = serves_of (works_answered (works_then c.in-Ok.ensures.works c.in-Ok-update.ensures.works)) (record {
+              store = c.in-Ok-update.ensures.works.going;
+              going = going.going;
+              cap = going.cap ∙ ap (λ (x : Geometry). x.blocks) (sym (c.update.ensures.works.sizes ∙ c.touch.ensures.works.sizes));
+              table = c.wrote.ensures.table;
+              room = omega (arith, blocks, same, owed_is, room, going.store.blocks, c.update.ensures.works.kept, c.touch.ensures.works.kept);
+              since = λ m other at. ⊎_elim
+                  (λ (equal : m ≡ n).
+                  let is = same_Some _ other (sym changes.own ∙ ap (entry_of c.wrote.new.active) (sym equal) ∙ at) in
+                  let before = going.since n c.args.entry c.requires.active in
+                  subst (λ (x : Active). blocks_to c.update.new.self.log + x.born ≤ x.begin / 512 + c.update.new.self.made) is (omega (arith, before, blocks, same, made, made_before)))
+                  (λ differ. let before = going.since m other (sym (changes.others m differ) ∙ at) in omega (arith, before, blocks, same, made, made_before))
+                  (cases_eq m n);
+              bounded = omega (arith, made, made_before, owed_is, room, going.cap, going.store.both.pages_going.flash.limits.few_blocks);
+              budget = omega (arith, made, made_before, owed_is, room);
+              commits = let later = rises.0 in let last = rises.1 in omega (arith, touched, later, last, going.commits);
+              lasts = below_wrote c.args.self.now.active c.wrote.new.active n (end_of c.args.self.now.store.log) (end_of c.update.new.self.log) _ c.args.entry going.lasts c.requires.active changes (omega (arith, touched, rises.0)) rises.1;
+              differ = apart_wrote c.args.self.now.active c.wrote.new.active n _ c.args.entry going.differ c.requires.active changes;
+            });
+          };
       asks =
           change_ok c.in-Ok.field-0 _ (c.args.number / 32) _ _ _ _ _ _ (has_group c.requires.going) c.touch_then_change.ensures c.in-Ok.ensures.asks c.in-Ok-update.ensures.machine c.update.ensures.rules_stay c.update.ensures.reads (stages_ok c.in-Ok-update.ensures.stages);
     }
