@@ -398,6 +398,7 @@ fn a_worn_ring_of_masters_ends_a_run(rt: HostRuntime) -> Result<(), Fail> {
     let mut site = MemSite::new(rt.alloc(), &STANDARD)?;
     site.write_at(Dev::Log, 0, &[0xA5, 0, 0, 0, 0xFF, 0xFF, 0xFF, 0xFF, 0xFF])?;
     site.write_at(Dev::Log, 1_025, &[0, 0, 0, 0xFF, 0xFF, 0xFF, 0xFF, 0xFE])?;
+    site.sync(Dev::Log)?;
     assert_eq!(rt; run(rt.alloc(), &mut site, b"")?, 8);
     assert!(rt; site.told() == b"fault worn log\n".as_slice());
     Ok(())
@@ -574,23 +575,60 @@ chance touches 2 pool 1 flash 0 disk 1 staged 0 pushed 0
 
 #[test]
 fn faults_have_their_status(rt: HostRuntime) -> Result<(), Fail> {
-    let rows: [(Call, u64, u8, &[u8]); 9] = [
-        (Call::Read(Dev::Log), 1, 3, b"fault log\n"),
-        (Call::Read(Dev::Flash), 1, 3, b"fault flash\n"),
-        (Call::Write(Dev::Log), 1, 3, b"fault log\n"),
-        (Call::Sync(Dev::Log), 2, 3, b"fault log\n"),
-        (Call::Write(Dev::Log), 4, 3, b"open 0\nfault log\n"),
-        (Call::Sync(Dev::Log), 3, 3, b"open 0\nfault log\n"),
-        (Call::Take, 1, 5, b"open 0\nfault input\n"),
-        (Call::Take, 2, 5, b"open 0\ncommitted 1\nfault input\n"),
-        (Call::Tell, 2, 6, b"open 0\n"),
+    let set = b"set 5 0a0b\n".as_slice();
+    let rows: [(Call, u64, &[u8], u8, &[u8]); 8] = [
+        (Call::Read(Dev::Log), 1, set, 3, b"fault log\n"),
+        (Call::Write(Dev::Log), 1, set, 3, b"fault log\n"),
+        (Call::Sync(Dev::Log), 1, b"get 5\n", 3, b"fault log\n"),
+        (Call::Write(Dev::Log), 4, set, 3, b"open 0\nfault log\n"),
+        (Call::Sync(Dev::Log), 3, set, 3, b"open 0\nfault log\n"),
+        (Call::Take, 1, b"get 5\n", 5, b"open 0\nfault input\n"),
+        (Call::Take, 2, set, 5, b"open 0\ncommitted 1\nfault input\n"),
+        (Call::Tell, 2, b"set 5 0a0b\nget 5\n", 6, b"open 0\n"),
     ];
-    for (call, nth, status, told) in rows {
+    for (call, nth, input, status, told) in rows {
         let mut site = MemSite::new(rt.alloc(), &STANDARD)?;
         assert!(rt; nth >= 1);
         site.fail(call, nth)?;
-        assert_eq!(rt; run(rt.alloc(), &mut site, b"set 5 0a0b\n")?, status);
+        assert_eq!(rt; run(rt.alloc(), &mut site, input)?, status);
         assert!(rt; site.told() == told);
+    }
+    Ok(())
+}
+
+// The call that fails, the input and what is told; then the power cut, where there is one, the next input, and all that
+// is told since.
+#[test]
+fn a_run_follows_a_fault(rt: HostRuntime) -> Result<(), Fail> {
+    let rows: [(Call, &[u8], &[u8], Option<u64>, &[u8], &[u8]); 2] = [
+        (
+            Call::Read(Dev::Flash),
+            b"",
+            b"fault flash\n",
+            None,
+            b"",
+            b"fault flash\nopen 0\n",
+        ),
+        (
+            Call::Write(Dev::Disk),
+            b"set 0 01\nset 32 02\nset 64 03\nset 96 04\nset 128 05\nset 160 06\nset 192 07\nset 224 08\nset 256 09\n",
+            b"open 0\ncommitted 1\ncommitted 2\ncommitted 3\ncommitted 4\ncommitted 5\ncommitted 6\ncommitted 7\n\
+            committed 8\nfault disk\n",
+            Some(2),
+            b"get 0\n",
+            b"open 8\nvalue 01\n",
+        ),
+    ];
+    for (call, input, told, seed, next_input, next_told) in rows {
+        let mut site = MemSite::new(rt.alloc(), &STANDARD)?;
+        site.fail(call, 1)?;
+        assert_eq!(rt; run(rt.alloc(), &mut site, input)?, 3);
+        assert!(rt; site.told() == told);
+        if let Some(seed) = seed {
+            site = site.crash(seed);
+        }
+        assert_eq!(rt; run(rt.alloc(), &mut site, next_input)?, 0);
+        assert!(rt; site.told() == next_told);
     }
     Ok(())
 }
@@ -613,6 +651,14 @@ fn damaged_devices_are_foreign(rt: HostRuntime) -> Result<(), Fail> {
     // An open gate over a block of zeros.
     let mut site = MemSite::new(rt.alloc(), &STANDARD)?;
     site.poke(Dev::Log, 1_536, 0xA5);
+    assert_eq!(rt; run(rt.alloc(), &mut site, b"get 5\n")?, 9);
+    assert!(rt; site.told() == b"fault foreign\n".as_slice());
+    // The log's first slot says that more octets are used than it has.
+    let mut site = MemSite::new(rt.alloc(), &STANDARD)?;
+    assert_eq!(rt; run(rt.alloc(), &mut site, b"set 5 0a0b\nget 5\n")?, 0);
+    let mut site = site.crash(0);
+    assert!(rt; site.len(Dev::Log) == 34_304);
+    site.poke(Dev::Log, 1_545, 0xFF);
     assert_eq!(rt; run(rt.alloc(), &mut site, b"get 5\n")?, 9);
     assert!(rt; site.told() == b"fault foreign\n".as_slice());
     // Lengths that no sizes have.
