@@ -2,6 +2,8 @@
 //! leaves readable.
 #![tactic(auto)]
 
+#[cfg(test)]
+mod failure_tests;
 mod host;
 #[cfg(test)]
 mod host_tests;
