@@ -18,7 +18,7 @@ if ! cc -shared -fPIC -o "$folder/lack.so" "$root/checks/lack_memory.c" -ldl; th
 fi
 if [ -z "${FACE:-}" ]; then
     "$root/bin/face" help >/dev/null </dev/null
-    FACE=$root/crates/face/out/face
+    FACE=$root/crates/vulzhorn/out/vulzhorn
 fi
 cp "$FACE" "$folder/face" || exit 1
 face=$folder/face
