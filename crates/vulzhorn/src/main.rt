@@ -2,20 +2,10 @@
 //! leaves readable.
 #![tactic(auto)]
 
-#[cfg(test)]
-mod failure_tests;
 mod host;
 #[cfg(test)]
 mod host_tests;
 mod notices;
-#[cfg(test)]
-mod random_tests;
-#[cfg(test)]
-mod session_tests;
-#[cfg(test)]
-mod tests;
-#[cfg(test)]
-mod trial_tests;
 
 use std::process::ExitCode;
 

@@ -1,5 +1,5 @@
 use Rattle.std.proofs.Common.{refl, arith}
-use Rattle.vulzhorn.proofs.trial_tests.play.Goals as goal
+use Rattle.face_tests.proofs.trial_tests.play.Goals as goal
 
 pub trial-requires-clause-new : goal.trial-requires-clause-new
 trial-requires-clause-new c = (
