@@ -4,7 +4,7 @@ use Rattle.site.specs.State.{State}
 use Rattle.site.specs.Calls.{Preserves}
 use Rattle.sealed_ring.specs.declared.ring.Ring.{Ring}
 use Rattle.sealed_ring.specs.Ready.{IsUsable}
-use Rattle.tail_rebuild.specs.Trying.{MayTry}
+use Rattle.tail_rebuild_tests.specs.Trying.{MayTry}
 use Rattle.site.proofs.Working.{lengths_later}
 
 pub may_try : (ring again : Ring) (old new : State) → Preserves old new → IsUsable again new → again.shape ≡ ring.shape → MayTry ring old → MayTry again new
