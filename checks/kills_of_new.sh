@@ -4,22 +4,11 @@
 # or of others, tells `ready` and has made a database of its sizes, or refuses clearly. Prints a table of counts, and
 # 'N kills, M wrong'. It needs strace. The words are the states before it that are tried, without words all. FACE
 # names another program than the one that is built here.
-set -u
-root=$(cd "$(dirname "$(readlink -f "$0")")/.." && pwd)
-shared=/dev/shm
-[ -d "$shared" ] && [ -w "$shared" ] || shared=${TMPDIR:-/tmp}
-folder=$(mktemp -d -p "$shared")
-trap 'cd /; rm -rf "$folder"' EXIT
+. "$(dirname "$(readlink -f "$0")")/on_files/helpers.bash"
 if ! command -v strace >/dev/null 2>&1 || ! strace -o /dev/null true 2>/dev/null; then
     echo 'skipped: kills of new: need strace'
     exit 0
 fi
-if [ -z "${FACE:-}" ]; then
-    "$root/bin/face" help >/dev/null </dev/null
-    FACE=$root/crates/vulzhorn/out/vulzhorn
-fi
-cp "$FACE" "$folder/face" || exit 1
-face=$folder/face
 # The log is written in two pieces of 65,536 octets, and one of them is a whole log of the other sizes.
 new=(new 16 8 253)
 other=(new 16 8 125)

@@ -6,22 +6,11 @@
 # the one that would have been told next; behind a `new`, blank files or none, of which `new` makes a database again.
 # Tells how many refusals were tried, and 'N tried, M wrong'. It needs cc. The words are the commands that are tried,
 # without words all. FACE names another program than the one that is built here.
-set -u
-root=$(cd "$(dirname "$(readlink -f "$0")")/.." && pwd)
-shared=/dev/shm
-[ -d "$shared" ] && [ -w "$shared" ] || shared=${TMPDIR:-/tmp}
-folder=$(mktemp -d -p "$shared")
-trap 'cd /; rm -rf "$folder"' EXIT
+. "$(dirname "$(readlink -f "$0")")/on_files/helpers.bash"
 if ! cc -shared -fPIC -o "$folder/lack.so" "$root/checks/lack_memory.c" -ldl; then
     echo 'skipped: refused allocations: lack_memory.c could not be built'
     exit 0
 fi
-if [ -z "${FACE:-}" ]; then
-    "$root/bin/face" help >/dev/null </dev/null
-    FACE=$root/crates/vulzhorn/out/vulzhorn
-fi
-cp "$FACE" "$folder/face" || exit 1
-face=$folder/face
 tried=0
 wrong=0
 

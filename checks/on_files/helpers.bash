@@ -1,6 +1,7 @@
 # What the scripts of this folder share: each works in a folder of its own, which it removes, tries the program as a
 # user would, and ends by `finish`, which tells 'N passed, M failed, K skipped'. FACE names another program than the
 # one that is built here.
+# Two scripts of checks/ take the folder and the program from here, and tell their own counts.
 set -u
 root=$(cd "$(dirname "$(readlink -f "${BASH_SOURCE[0]}")")/../.." && pwd)
 shared=/dev/shm
