@@ -4,11 +4,11 @@ ghost use Rattle.site.specs.declared.outside.Stop.{Stop};
 ghost use Rattle.face.specs.declared.halt.Halt.{Halt};
 ghost use Rattle.face.specs.Texts.{status_of};
 
-use crate::notices::{say, see};
 use command_line::{Request, Unread, read_words, sizes};
 use face::{Halt, face};
 use file_site::{FileSite, LockFile, tell_line};
 use image_check::{Place, Verdict, check_image};
+use notices::{say, see};
 use site::Stop;
 use std::alloc::{AllocError, Global};
 use std::env;

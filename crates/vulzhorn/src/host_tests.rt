@@ -1,6 +1,6 @@
 // The program around the top call, over files of the current folder and standard streams that are kept.
 use crate::host::{run, stopped};
-use crate::notices::{Number, Wrong, find_wrong};
+use notices::{Number, Wrong, find_wrong};
 use site::Stop;
 use std::alloc::{Alloc, Allocator, Global};
 use std::cell::{Cell, RefCell};

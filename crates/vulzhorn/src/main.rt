@@ -5,7 +5,6 @@
 mod host;
 #[cfg(test)]
 mod host_tests;
-mod notices;
 
 use std::process::ExitCode;
 

@@ -1,0 +1,218 @@
+// What is said where the work can't be done.
+use crate::seen::Seen;
+use crate::words::say_words;
+use command_line::sizes;
+use file_site::{Absence, Call, Failure, Watch, path};
+use image_check::Place;
+use site::{Dev, Geometry};
+use std::io::Eprint;
+
+// Says which call failed, with the system's words.
+fn say_failure<R: Eprint>(rt: &R, failure: Failure) {
+    let (name, done) = match failure.call {
+        Call::Read(dev) => (path(dev), "read"),
+        Call::Write(dev) => (path(dev), "written"),
+        Call::Sync(dev) => (path(dev), "synced"),
+        Call::Take => ("standard input", "read"),
+        Call::Tell => ("standard output", "written"),
+    };
+    let error = failure.error;
+    let _ = eprintln!(rt; "face: {name} couldn't be {done}: {error}");
+}
+
+// How a file of the current folder, or the folder, is called.
+fn called(name: &'static str) -> &'static str {
+    if name == "." { "this folder" } else { name }
+}
+
+// Says why no file stands for a device, and what to do.
+fn say_absence<R: Eprint>(rt: &R, dev: Dev, absence: Absence) {
+    let _ = match absence {
+        Absence::Missing => {
+            let name = path(dev);
+            eprintln!(rt;
+                "face: {name} is missing beside the others: bring it back, or all three files of one copy"
+            )
+        }
+        Absence::Busy(name) => {
+            let name = called(name);
+            eprintln!(rt; "face: another program is at work on {name}: wait until it has ended")
+        }
+        Absence::Unopened(name, error) => {
+            let name = called(name);
+            eprintln!(rt;
+                "face: {name} can't be opened to be read and written: {error}; see to its owner and its rights"
+            )
+        }
+        Absence::Unmade(name, error) => {
+            let name = called(name);
+            eprintln!(rt;
+                "face: {name} can't be made: {error}; what was made is removed. See to room and rights, then try again"
+            )
+        }
+    };
+}
+
+// Says why there is no database to work on, and what to do, where files are missing, can't be used or have odd lengths.
+// Answers whether it was so.
+fn say_no_files<R: Eprint>(rt: &R, seen: &Seen) -> bool {
+    if seen.is_bare() {
+        let _ = eprintln!(rt;
+            "face: this folder has no database: face.log, face.flash and face.disk are missing. To make one: face new \
+            PAGES GROUPS BLOCKS"
+        );
+        return true;
+    }
+    if let Some((dev, absence)) = seen.first_absence() {
+        say_absence(rt, dev, absence);
+        return true;
+    }
+    if let Some((dev, len)) = seen.first_odd() {
+        let name = path(dev);
+        let _ = eprintln!(rt;
+            "face: {name} has {len} octets, as in no database: bring back all three files of one copy"
+        );
+        return true;
+    }
+    false
+}
+
+// Says why a run or a load has no database to work on, and what to do.
+fn say_no_database<R: Eprint>(rt: &R, seen: &Seen) {
+    if say_no_files(rt, seen) {
+        return;
+    }
+    let _ = eprintln!(rt;
+        "face: what face.log, face.flash and face.disk hold isn't sound, isn't of one database, or is an older \
+        version's: face check tells which rule fails. Bring back all three files of one copy"
+    );
+}
+
+// What is so where this rule of sound devices fails.
+fn broken(rule: u8) -> &'static str {
+    match rule {
+        1 => {
+            "octets aren't of the form, or name a page that the disk hasn't: of a ring, the newest master, a kept \
+            block, a live group or segment, or a page"
+        }
+        2 => "the oldest kept block isn't live, or redo begins before it or behind the log's end",
+        3 => {
+            "a record is of a transaction that isn't open, or stands before the Begin that it names"
+        }
+        4 => "an unfinished transaction can't be undone by its records",
+        5 => {
+            "behind an Update of an unfinished transaction another one has a record on its number"
+        }
+        6 => "a page doesn't show what the log has written",
+        7 => "a valid frame that isn't dirty differs from its disk page",
+        8 => "the live segments don't follow the live groups",
+        9 => "the log has no room for what undo writes",
+        10 => "the master doesn't name the transactions that were active at the redo block",
+        11 => "the commits aren't numbered on by one, or two have sealed one block",
+        _ => "of the rules none is called so",
+    }
+}
+
+// Says which rule fails where, and what is so.
+fn say_place<R: Eprint>(rt: &R, rule: u8, place: Place, what: &str) {
+    let _ = match place {
+        Place::Lengths => eprintln!(rt; "face: rule {rule} fails at the lengths: {what}"),
+        Place::Masters => eprintln!(rt; "face: rule {rule} fails in the ring of masters: {what}"),
+        Place::Blocks => eprintln!(rt; "face: rule {rule} fails in the log: {what}"),
+        Place::Groups => eprintln!(rt; "face: rule {rule} fails in the ring of groups: {what}"),
+        Place::Segments => {
+            eprintln!(rt; "face: rule {rule} fails in the ring of segments: {what}")
+        }
+        Place::Master => eprintln!(rt; "face: rule {rule} fails at the newest master: {what}"),
+        Place::Block(block) => {
+            eprintln!(rt; "face: rule {rule} fails at block {block} of the log: {what}")
+        }
+        Place::Group(group) => eprintln!(rt; "face: rule {rule} fails at group {group}: {what}"),
+        Place::Segment(segment) => {
+            eprintln!(rt; "face: rule {rule} fails at segment {segment}: {what}")
+        }
+        Place::Page(page) => eprintln!(rt; "face: rule {rule} fails at page {page}: {what}"),
+        Place::Transaction(txn) => {
+            eprintln!(rt; "face: rule {rule} fails at transaction {txn}: {what}")
+        }
+    };
+}
+
+// Says why the devices aren't sound and where, as far as it is known, and what to do.
+fn say_unsound<R: Eprint>(rt: &R, seen: &Seen, place: Option<Place>) {
+    if say_no_files(rt, seen) {
+        return;
+    }
+    let Some(rule) = seen.watch.rule() else {
+        return;
+    };
+    let what = broken(rule);
+    match place {
+        Some(place) => say_place(rt, rule, place, what),
+        None => {
+            let _ = eprintln!(rt; "face: rule {rule} fails: {what}");
+        }
+    }
+    let _ = rt.eprintln("face: bring back all three files of one copy");
+}
+
+// Says why no database of these sizes is made, and what to do.
+fn say_not_made<R: Eprint>(rt: &R, seen: &Seen, geometry: Geometry) {
+    if let Some((dev, absence)) = seen.first_hindrance() {
+        say_absence(rt, dev, absence);
+        return;
+    }
+    let (log, flash, disk) = geometry.lengths();
+    if let Some((dev, len, wanted)) = seen.first_unlike([log, flash, disk]) {
+        let name = path(dev);
+        let _ = eprintln!(rt;
+            "face: {name} has {len} octets, and these sizes ask for {wanted}: nothing was made. Give its own sizes, or \
+            go to another folder"
+        );
+    }
+}
+
+// Says how many lines of a run were refused, and which is the first that ends with a carriage return.
+fn say_refused<R: Eprint>(rt: &R, watch: Watch) {
+    let refused = watch.refused();
+    if refused > 0 {
+        let _ = eprintln!(rt; "face: {refused} of the replies refused a line");
+    }
+    if let Some(line) = watch.returned() {
+        let _ = eprintln!(rt;
+            "face: line {line} of the input ends with a carriage return, and so is no command: send lines that end \
+            with a newline alone"
+        );
+    }
+}
+
+/// Says on standard error why the program ends with this status, where there is something to say.
+pub fn say<R: Eprint>(rt: &R, status: u8, words: &[String], seen: &Seen, place: Option<Place>) {
+    say_refused(rt, seen.watch);
+    match status {
+        2 => say_words(rt, words),
+        3 | 5 | 6 => {
+            if let Some(failure) = seen.failure {
+                say_failure(rt, failure);
+            }
+        }
+        9 => match sizes(words) {
+            Some(geometry) => say_not_made(rt, seen, geometry),
+            None => say_no_database(rt, seen),
+        },
+        10 => {
+            let _ = eprintln!(rt;
+                "face: the files aren't blank, and nothing was written over. To make a new database move them away, or \
+                go to another folder"
+            );
+        }
+        11 => say_unsound(rt, seen, place),
+        16 => {
+            let _ = eprintln!(rt;
+                "face: that line of the input is no touch: each is r PAGE or w PAGE, PAGE 0 to 65535, and there are at \
+                most 1000000"
+            );
+        }
+        _ => {}
+    }
+}
