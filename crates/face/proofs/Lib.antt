@@ -30,6 +30,7 @@ mod Pagings
 mod Quiet
 mod Ranges
 mod Replies
+mod RestartGroups
 mod RingLives
 mod Runs
 mod RunsSoFar

@@ -1,7 +1,8 @@
--- The numbers of the rings on the log's device, life after life.
-use Rattle.std.proofs.Common.{◌≡◌, ◌⊎◌, inl, inr, ℕ, zero, suc, ◌+◌, ◌*◌, sym, ap, subst, arith}
-use Rattle.std.specs.Prelude.{Contains}
+-- The numbers of the rings, life after life.
+use Rattle.std.proofs.Common.{◌≡◌, ◌⊎◌, inl, inr, ℕ, zero, suc, ◌+◌, ◌-◌, ◌*◌, ◌≤◌, List, [], ◌++◌, map, true, refl, sym, ap, subst, arith}
+use Rattle.std.specs.Prelude.{Contains, Option}
 use Rattle.std.proofs.Math.Nat.{suc-mul}
+use Rattle.std.proofs.lemmas.List.{length-map}
 use Rattle.std.proofs.lemmas.List.Elements.{All-contains, All-from_recursion}
 use Rattle.site.specs.State.{State as Site, Image, Moment, Snapshot, now_of}
 use Rattle.site.specs.Geometry.{HasLimits, blank_image}
@@ -9,12 +10,32 @@ use Rattle.site.specs.Moments.{Leaves, LeavesOnly, since}
 use Rattle.site.specs.declared.geometry.Geometry.{Geometry}
 use Rattle.sealed_ring.specs.Laws.{BlankIsRing}
 use Rattle.sealed_ring.specs.Ring.{hi_of}
-use Rattle.image_changes.specs.Rings.{Blocks, Masters, log_shape, master_shape}
+use Rattle.sealed_ring.proofs.Units.{live_count}
+use Rattle.image_changes.specs.Rings.{Blocks, Groups, Masters, group_shape, log_shape, master_shape, units_on}
+use Rattle.frame_group.specs.Groups.{Frame, frames_in}
+use Rattle.record_model.specs.declared.words.CacheLine.{CacheLine}
+use Rattle.record_model.specs.State.{State}
+use Rattle.record_model.specs.Run.{Line}
+use Rattle.record_model.specs.Touches.{run_touches}
+use Rattle.log_records.specs.declared.log_record.LogRecord.{LogRecord}
+use Rattle.checkpoint.specs.declared.master.Master.{Master}
 use Rattle.image_meaning.proofs.Blanks.{unused}
-use Rattle.engine.specs.Image.{log_under}
+use Rattle.image_meaning.specs.Meaning.{picture_under}
+use Rattle.second_chance.specs.Groups.{LinesPushFew, WorkPushesFew, next_number, reads_in}
+use Rattle.second_chance.specs.Machine.{rules_of}
+use Rattle.second_chance.specs.Queue.{frame_of as known_of}
+use Rattle.second_chance.proofs.GroupCounts.{groups_add_up}
+use Rattle.engine.specs.Image.{IsSound, log_under}
+use Rattle.engine.specs.Paging.{cache_on, restart_works}
+use Rattle.redo_undo.specs.MachineSteps.{next_group}
 use Rattle.redo_undo.specs.Numbers.{HasNumbers}
-use Rattle.face.specs.Range.{GivesNumbers}
-use Rattle.face.specs.RingNumbers.{HaveLives, IsLifeOf, LivesHaveRoom, MayBeLeft, NumbersOfLives, begun_of}
+use Rattle.page_store.specs.Staging.{WritesOnly}
+use Rattle.face.specs.Headline.{IsGood}
+use Rattle.face.specs.Range.{AsksNoMore, GivesNumbers, HasLogRoom, NeverWears, SkipsNoNumber, cache_by, made_by, run_of, staged_by_run}
+use Rattle.face.specs.RingNumbers.{Call, of_load, of_run, HasGiven, HaveLives, IsLifeOf, LivesHaveRoom, LoadsAreComplete, MayBeLeft, NumbersOfLives, RingsSuffice, RunsAreComplete, Work, begun_by, both, no_work, work_of}
+use Rattle.face.specs.Run.{Run, turns_of}
+use Rattle.face.specs.Workload.{load_run}
+use Rattle.face.proofs.RestartGroups.{restart_few}
 
 -- what holds of all that a crash may leave
 left_has : (old new : Site) (P : Snapshot → Type 0) → LeavesOnly old new P → (s : Snapshot) → MayBeLeft old new s → P s
@@ -24,56 +45,154 @@ left_has old new P leaves s left = by left.at
     by (inl among) = All-contains (Leaves P) (since old new) left.moment (All-from_recursion (Leaves P) (since old new) leaves.each) among s left.left
     by (inr now) = subst (λ (m : Moment). Leaves P m) (sym now) leaves.now s left.left
 
-module _ (ring_of_zeros : BlankIsRing) (g : Geometry) (limits : HasLimits g) where
-  blank_numbers : (most_blocks most_masters : ℕ) → HasNumbers g most_blocks most_masters (blank_image g)
-  blank_numbers most_blocks most_masters =
+-- Groups.
+
+-- a run begins with the number that flash has
+number_at_entry : (g : Geometry) (image : Image) → next_number (cache_on g image) ≡ hi_of (group_shape g) image.flash
+number_at_entry g image =
+    let groups = map frames_in (units_on (group_shape g) image).live in
+    let known = length-map groups (map (λ (frame : Frame). known_of frame.page frame.dirty)) in
+    let frames = length-map (units_on (group_shape g) image).live frames_in in
+    let count = live_count (group_shape g) image.flash in
+    omega (arith, known, frames, count)
+
+module _ (work_pushes : WorkPushesFew) (lines_push : LinesPushFew) where
+  -- the restart and the lines of a run push no more than so
+  run_pushes : (pool : ℕ) (run : Run) → HasLimits run.geometry → (newest : Option Master) (image : Image) (blocks : List (List LogRecord)) → IsSound newest run.geometry image blocks
+      → next_group (cache_by pool run (turns_of run) newest image blocks) ≤ hi_of (group_shape run.geometry) image.flash + (42 * run.geometry.blocks + reads_in (turns_of run) + 2 * made_by run)
+  run_pushes pool run limits newest image blocks sound =
+      let restart = restart_works (picture_under newest run.geometry image blocks) in
+      let lines = run_touches true (turns_of run) in
+      let all = work_pushes (rules_of pool run.geometry.groups) (restart ++ lines) (cache_on run.geometry image) (omega (arith, limits.groups)) in
+      let entry = number_at_entry run.geometry image in
+      let join = groups_add_up restart lines in
+      let first = restart_few run.geometry newest image blocks sound in
+      let later = lines_push true run.opening run.lines run.listings in
+      omega (arith, all, entry, join, first, later)
+
+-- One call.
+
+-- the rings give no more numbers than this from one image to another
+record RisesBy (g : Geometry) (work : Work) (before after : Image) : Type 0 where
+  on_log : HasNumbers g (hi_of (log_shape g) before.log + g.blocks + work.logged) (hi_of master_shape before.log + 1 + work.checkpoints) after
+  groups : hi_of (group_shape g) after.flash ≤ hi_of (group_shape g) before.flash + (42 * g.blocks + work.read + 2 * work.logged)
+
+module _ (work_pushes : WorkPushesFew) (lines_push : LinesPushFew) (g : Geometry) (limits : HasLimits g) (pool : ℕ) (opening : State) (old new : Site) (good : IsGood g opening old) (lines : List Line) (listings : List (List CacheLine)) where
+  abbrev run : Run
+  run = record { geometry = g; opening = opening; lines = lines; listings = listings }
+
+  rises : SkipsNoNumber run old new → AsksNoMore pool run old new → (s : Snapshot) → MayBeLeft old new s → RisesBy g (work_of run) old.image s.image
+  rises skips asks s left =
+      let opens = good.opens in
+      let numbers = left_has old new (λ s. GivesNumbers run (log_under opens.newest opens.blocks) old.image s.image) (skips opens.newest opens.blocks opens.sound) s left in
+      let blocks = numbers.blocks in
+      let masters = numbers.masters in
+      let room = opens.sound.records.room_for_undo in
+      let staged = staged_by_run pool run (turns_of run) opens.newest old.image opens.blocks in
+      let next = next_group (cache_by pool run (turns_of run) opens.newest old.image opens.blocks) in
+      let writes = left_has old new (λ s. WritesOnly g staged next old.image s.image) (asks opens.newest opens.blocks opens.sound).writes s left in
+      let groups = writes.groups in
+      let pushes = run_pushes work_pushes lines_push pool run limits opens.newest old.image opens.blocks opens.sound in
+      record {
+        on_log = record { blocks = omega (arith, blocks, room); masters = omega (arith, masters) };
+        groups = omega (arith, groups, pushes);
+      }
+
+-- Life after life.
+
+module _ (ring_of_zeros : BlankIsRing) (work_pushes : WorkPushesFew) (lines_push : LinesPushFew) (g : Geometry) (limits : HasLimits g) where
+  call_rises : (old new : Site) (call : Call g old new) (s : Snapshot) → MayBeLeft old new s → RisesBy g (work_of (begun_by call)) old.image s.image
+  call_rises old new (of_run r) s left =
+      let lines = begun_by (of_run r) in
+      rises work_pushes lines_push g limits r.pool r.opening old new r.good lines.lines lines.listings r.headline.resources.asked.numbers r.headline.resources.asked.reads s left
+  call_rises old new (of_load l) s left =
+      let lines = begun_by (of_load l) in
+      rises work_pushes lines_push g limits l.load.pool l.opening old new l.good lines.lines lines.listings l.headline.resources.asked.numbers l.headline.resources.asked.reads s left
+
+  life_rises : (work : Work) (before after : Image) → IsLifeOf g work before after → RisesBy g work before after
+  life_rises work before after life =
+      subst (λ (w : Work). RisesBy g w before after) (sym life.work_is)
+      (subst (λ (i : Image). RisesBy g (work_of (begun_by life.call)) i after) (sym life.entry)
+      (subst (λ (i : Image). RisesBy g (work_of (begun_by life.call)) life.old.image i) (sym life.after_is)
+      (call_rises life.old life.new life.call life.snapshot life.left)))
+
+  blank_given : HasGiven g 0 no_work (blank_image g)
+  blank_given =
       let blocks = (unused ring_of_zeros g limits Blocks).none in
       let masters = (unused ring_of_zeros g limits Masters).none in
-      record { blocks = omega (arith, blocks); masters = omega (arith, masters) }
+      let groups = (unused ring_of_zeros g limits Groups).none in
+      record {
+        on_log = record { blocks = omega (arith, blocks); masters = omega (arith, masters) };
+        groups = omega (arith, groups);
+      }
 
-  life_numbers : (lives made more saved others : ℕ) (before after : Image) → HasNumbers g (lives * g.blocks + made) (lives + saved) before → IsLifeOf g more others before after → HasNumbers g (suc lives * g.blocks + (made + more)) (suc lives + (saved + others)) after
-  life_numbers lives made more saved others before after has life =
-      let opens = life.good.opens in
-      let records = log_under opens.newest opens.blocks in
-      let left : GivesNumbers (begun_of life.headline) records life.old.image life.snapshot.image =
-      left_has life.old life.new (λ s. GivesNumbers (begun_of life.headline) records life.old.image s.image) (life.headline.resources.asked.numbers opens.newest opens.blocks opens.sound) life.snapshot life.left in
-      let room = opens.sound.records.room_for_undo in
-      let blocks = has.blocks in
-      let masters = has.masters in
-      let left_blocks = left.blocks in
-      let left_masters = left.masters in
+  given_more : (lives : ℕ) (done more : Work) (before after : Image) → HasGiven g lives done before → RisesBy g more before after → HasGiven g (suc lives) (both done more) after
+  given_more lives done more before after has risen =
+      let blocks = has.on_log.blocks in
+      let masters = has.on_log.masters in
+      let groups = has.groups in
+      let blocks' = risen.on_log.blocks in
+      let masters' = risen.on_log.masters in
+      let groups' = risen.groups in
       let product = suc-mul lives g.blocks in
-      let blocks_there : hi_of (log_shape g) life.old.image.log ≡ hi_of (log_shape g) before.log = ap (λ (i : Image). hi_of (log_shape g) i.log) life.entry in
-      let masters_there : hi_of master_shape life.old.image.log ≡ hi_of master_shape before.log = ap (λ (i : Image). hi_of master_shape i.log) life.entry in
-      let made_is = life.records_are in
-      let saved_is = life.checkpoints_are in
-      subst (HasNumbers g (suc lives * g.blocks + (made + more)) (suc lives + (saved + others))) (sym life.after_is) (record {
-        blocks = omega (arith, left_blocks, blocks, blocks_there, room, product, made_is);
-        masters = omega (arith, left_masters, masters, masters_there, saved_is);
-      })
+      let product' = suc-mul lives (42 * g.blocks) in
+      record {
+        on_log = record { blocks = omega (arith, blocks, blocks', product); masters = omega (arith, masters, masters') };
+        groups = omega (arith, groups, groups', product');
+      }
 
-  numbers : (lives records checkpoints : ℕ) (image : Image) → HaveLives g lives records checkpoints image → HasNumbers g (lives * g.blocks + records) (lives + checkpoints) image
-  numbers zero records checkpoints image is = subst (HasNumbers g (zero * g.blocks + records) (zero + checkpoints)) (sym is) (blank_numbers _ _)
-  numbers (suc lives) records checkpoints image h =
+  numbers : (lives : ℕ) (work : Work) (image : Image) → HaveLives g lives work image → HasGiven g lives work image
+  numbers zero work image h = subst (λ (w : Work). HasGiven g 0 w image) (sym h.1) (subst (HasGiven g 0 no_work) (sym h.0) blank_given)
+  numbers (suc lives) work image h =
       let before = h.0 in
-      let made = h.1 in
+      let done = h.1 in
       let more = h.2 in
-      let saved = h.3 in
-      let others = h.4 in
-      subst (λ (n : ℕ). HasNumbers g (suc lives * g.blocks + records) (suc lives + n) image) (sym h.8)
-      (subst (λ (n : ℕ). HasNumbers g (suc lives * g.blocks + n) (suc lives + (saved + others)) image) (sym h.7)
-      (life_numbers lives made more saved others before image (numbers lives made saved before h.5) h.6))
+      subst (λ (w : Work). HasGiven g (suc lives) w image) (sym h.5)
+      (given_more lives done more before image (numbers lives done before h.3) (life_rises more before image h.4))
 
-pub numbers_of_lives : BlankIsRing → NumbersOfLives
-numbers_of_lives ring_of_zeros g limits = numbers ring_of_zeros g limits
+  room : (lives : ℕ) (work : Work) (image : Image) → HaveLives g lives work image → (run : Run) → run.geometry ≡ g → RingsSuffice g (lives + 1) (both work (work_of run)) → HasLogRoom run image × ((pool : ℕ) → NeverWears pool run image)
+  room lives work image h run same enough = (log_room, group_room)
+    where
+      has : HasGiven g lives work image
+      has = numbers lives work image h
 
-pub lives_have_room : BlankIsRing → LivesHaveRoom
-lives_have_room ring_of_zeros g limits lives records checkpoints image h run same few less newest blocks sound =
-    let has = numbers ring_of_zeros g limits lives records checkpoints image h in
-    let room = sound.records.room_for_undo in
-    let blocks_there : hi_of (log_shape run.geometry) image.log ≡ hi_of (log_shape g) image.log = ap (λ (k : Geometry). hi_of (log_shape k) image.log) same in
-    let size : run.geometry.blocks ≡ g.blocks = ap (λ (k : Geometry). k.blocks) same in
-    let made = has.blocks in
-    let saved = has.masters in
-    let product = suc-mul lives g.blocks in
-    record { blocks = omega (arith, made, room, blocks_there, size, few, product); masters = omega (arith, saved, less) }
+      size : run.geometry.blocks ≡ g.blocks
+      size = ap (λ (k : Geometry). k.blocks) same
+
+      log_room : HasLogRoom run image
+      log_room newest blocks sound =
+          let room = sound.records.room_for_undo in
+          let there : hi_of (log_shape run.geometry) image.log ≡ hi_of (log_shape g) image.log = ap (λ (k : Geometry). hi_of (log_shape k) image.log) same in
+          let size' = size in
+          let made = has.on_log.blocks in
+          let saved = has.on_log.masters in
+          let product = suc-mul lives g.blocks in
+          let few = enough.blocks in
+          let less = enough.masters in
+          record { blocks = omega (arith, made, room, there, size', few, product); masters = omega (arith, saved, less) }
+
+      group_room : (pool : ℕ) → NeverWears pool run image
+      group_room pool newest blocks sound =
+          let there : hi_of (group_shape run.geometry) image.flash ≡ hi_of (group_shape g) image.flash = ap (λ (k : Geometry). hi_of (group_shape k) image.flash) same in
+          let size' : 42 * run.geometry.blocks ≡ 42 * g.blocks = ap (λ (n : ℕ). 42 * n) size in
+          let given = has.groups in
+          let pushes = run_pushes work_pushes lines_push pool run (subst HasLimits (sym same) limits) newest image blocks sound in
+          let few = enough.groups in
+          let product = suc-mul lives (42 * g.blocks) in
+          omega (arith, given, pushes, there, size', few, product)
+
+pub numbers_of_lives : BlankIsRing → WorkPushesFew → LinesPushFew → NumbersOfLives
+numbers_of_lives ring_of_zeros work_pushes lines_push g limits = numbers ring_of_zeros work_pushes lines_push g limits
+
+pub lives_have_room : BlankIsRing → WorkPushesFew → LinesPushFew → LivesHaveRoom
+lives_have_room ring_of_zeros work_pushes lines_push g limits = room ring_of_zeros work_pushes lines_push g limits
+
+pub runs_are_complete : BlankIsRing → WorkPushesFew → LinesPushFew → RunsAreComplete
+runs_are_complete ring_of_zeros work_pushes lines_push g limits lives work old h opening good enough pool new status contract quiet in_time =
+    let rooms = room ring_of_zeros work_pushes lines_push g limits lives work old.image h (run_of g opening true old.input.left []) refl enough in
+    contract.complete g opening good quiet (rooms.1 pool) rooms.0 in_time
+
+pub loads_are_complete : BlankIsRing → WorkPushesFew → LinesPushFew → LoadsAreComplete
+loads_are_complete ring_of_zeros work_pushes lines_push g limits lives work old h opening good load enough new status contract quiet =
+    let rooms = room ring_of_zeros work_pushes lines_push g limits lives work old.image h (load_run g opening load) refl enough in
+    contract.complete g opening good quiet (rooms.1 load.pool) rooms.0

@@ -2,7 +2,7 @@
 ghost use Rattle.face.specs.Check.{OpeningIsSound, SoundOpens};
 ghost use Rattle.face.specs.Image.{OneMeaning, OneOpening, OpensWhereItStands, BlankLaw};
 ghost use Rattle.face.specs.Lives.{LawOfLives, LawOfLoads};
-ghost use Rattle.face.specs.RingNumbers.{LivesHaveRoom, NumbersOfLives};
+ghost use Rattle.face.specs.RingNumbers.{LivesHaveRoom, LoadsAreComplete, NumbersOfLives, RunsAreComplete};
 
 /// Law: an image stands for one table and one number of commits only.
 pub fn one_meaning()
@@ -51,12 +51,18 @@ pub fn what_a_load_leaves_opens()
     ensures { LawOfLoads }
 {}
 
-/// Law: over lives that begin with blank devices, each of them a run on what the one before may have left, the rings on
-/// the log's device give no more numbers than the lives make records and checkpoints, with as many for each life as a
-/// log has blocks; so a next run comes to the end of neither until these sums pass 2^40.
+/// Law: over lives that begin with blank devices, each of them a run or a load on what the one before may have left, no
+/// ring gives more numbers than the lives' work needs. That of the log's blocks: one for each record that they log, and
+/// for each life as many as a log has blocks. That of the master units: one for each checkpoint and each life. That of
+/// groups: one for each record that they read, two for each that they log, and for each life 42 for each block. So a
+/// next run or load comes to the end of none until these sums pass 2^40, and is complete till then.
 pub fn rings_last_for_lives()
     ensures numbers { NumbersOfLives }
     ensures room { LivesHaveRoom }
+    ensures run { RunsAreComplete }
+    ensures load { LoadsAreComplete }
 {
     sealed_ring::blank_is_ring();
+    second_chance::work_pushes_few();
+    second_chance::lines_push_few();
 }
