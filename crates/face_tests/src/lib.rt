@@ -8,6 +8,8 @@ mod random_tests;
 #[cfg(test)]
 mod session_tests;
 #[cfg(test)]
+mod steps;
+#[cfg(test)]
 mod tests;
 #[cfg(test)]
 mod trial_tests;

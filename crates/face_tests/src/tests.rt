@@ -1,128 +1,116 @@
 // The top call over a site in memory. What is expected was worked out by hand or by another program.
-use face::face;
-use site::{Call, Dev, Geometry, MemSite, Site};
-use std::alloc::{AllocError, Global};
+use crate::steps::{SMALL, STANDARD, Step, call, play, play_on};
+use site::{Call, Dev, Geometry, MemSite};
+use std::alloc::Global;
 use std::test::Fail;
 
-const STANDARD: Geometry = Geometry {
+// Sizes that no database has.
+const ODD: Geometry = Geometry {
     pages: 16,
-    groups: 8,
+    groups: 9,
     blocks: 64,
 };
 
-// Calls the program on a site, and answers its status.
-fn call(alloc: Global, words: &[&str], site: &mut MemSite) -> Result<u8, AllocError> {
-    let mut owned = Vec::new(alloc);
-    for word in words {
-        owned.push(String::from_str(alloc, word)?)?;
-    }
-    Ok(face(alloc, owned.as_slice(), site))
-}
+const LARGE: Geometry = Geometry {
+    pages: 1_024,
+    groups: 64,
+    blocks: 400,
+};
 
-// Runs the program over some input, and answers its status.
-fn run(alloc: Global, site: &mut MemSite, input: &[u8]) -> Result<u8, Fail> {
-    site.feed(input)?;
-    Ok(call(alloc, &["run", "1"], site)?)
-}
+const LINES: [Step<'static>; 11] = [
+    Step::Run("set 5 0a0b\nget 5\n", "open 0\ncommitted 1\nvalue 0a0b\n"),
+    Step::New(STANDARD),
+    Step::Run("", "open 0\n"),
+    Step::New(STANDARD),
+    Step::Run(
+        "set 511 01\nset 512 01\nget 511\n",
+        "open 0\ncommitted 1\nrefused record\nvalue 01\n",
+    ),
+    Step::New(STANDARD),
+    Step::Run("get 5", "open 0\nnone\n"),
+    Step::New(STANDARD),
+    Step::Run(
+        "set 7 aa\nset 7 bb\nget 7\nget 512\n",
+        "open 0\ncommitted 1\ncommitted 2\nvalue bb\nrefused record\n",
+    ),
+    Step::New(STANDARD),
+    Step::Run(
+        "set 3 00ff\n\nget 3",
+        "open 0\ncommitted 1\nrefused line\nvalue 00ff\n",
+    ),
+];
 
 #[test]
 fn lines_are_answered(rt: HostRuntime) -> Result<(), Fail> {
-    let rows: [(&[u8], &[u8]); 6] = [
-        (b"set 5 0a0b\nget 5\n", b"open 0\ncommitted 1\nvalue 0a0b\n"),
-        (b"", b"open 0\n"),
-        (
-            b"set 511 01\nset 512 01\nget 511\n",
-            b"open 0\ncommitted 1\nrefused record\nvalue 01\n",
-        ),
-        (b"get 5", b"open 0\nnone\n"),
-        (
-            b"set 7 aa\nset 7 bb\nget 7\nget 512\n",
-            b"open 0\ncommitted 1\ncommitted 2\nvalue bb\nrefused record\n",
-        ),
-        (
-            b"set 3 00ff\n\nget 3",
-            b"open 0\ncommitted 1\nrefused line\nvalue 00ff\n",
-        ),
-    ];
-    for (input, told) in rows {
-        let mut site = MemSite::new(rt.alloc(), &STANDARD)?;
-        assert_eq!(rt; run(rt.alloc(), &mut site, input)?, 0);
-        assert!(rt; site.told() == told);
-    }
+    assert_eq!(rt; play(rt.alloc(), &LINES)?, LINES.len());
     Ok(())
+}
+
+const OTHER_LINES: &str = "
+get 05
+get  5
+get 5\x20
+ get 5
+set 5 0
+set 5 0g
+set 5
+set 5\x20
+set 5 --
+quit now
+GET 5
+get
+get -1
+get 1234567890
+scan 0 0 65
+checkpoint 0
+cache 0
+get 5\r";
+
+// Whether a run over this line refuses it and makes no change but those of a restart.
+fn refuses_line(alloc: Global, line: &str) -> Result<bool, Fail> {
+    let mut site = MemSite::new(alloc, &STANDARD)?;
+    site.feed(line.as_bytes())?;
+    site.feed(b"\n")?;
+    let status = call(alloc, &mut site, "run 1")?;
+    let told = site.told() == b"open 0\nrefused line\n".as_slice();
+    Ok(status == 0 && told && site.changes() == 7)
 }
 
 #[test]
 fn other_lines_are_refused(rt: HostRuntime) -> Result<(), Fail> {
-    let lines: [&[u8]; 19] = [
-        b"\n",
-        b"get 05\n",
-        b"get  5\n",
-        b"get 5 \n",
-        b" get 5\n",
-        b"set 5 0\n",
-        b"set 5 0g\n",
-        b"set 5\n",
-        b"set 5 \n",
-        b"set 5 --\n",
-        b"quit now\n",
-        b"GET 5\n",
-        b"get\n",
-        b"get -1\n",
-        b"get 1234567890\n",
-        b"scan 0 0 65\n",
-        b"checkpoint 0\n",
-        b"cache 0\n",
-        b"get 5\r\n",
-    ];
-    for line in lines {
-        let mut site = MemSite::new(rt.alloc(), &STANDARD)?;
-        assert_eq!(rt; run(rt.alloc(), &mut site, line)?, 0);
-        assert!(rt; site.told() == b"open 0\nrefused line\n".as_slice());
-        assert_eq!(rt; site.changes(), 7);
+    for line in OTHER_LINES.split('\n') {
+        assert!(rt; refuses_line(rt.alloc(), line)?, "{line}");
     }
     Ok(())
 }
+
+const LISTINGS: [Step<'static>; 5] = [
+    Step::Run("cache\n", "open 0\nend 0\n"),
+    Step::New(STANDARD),
+    Step::Run(
+        "set 0 01\nset 32 02\ncache\n",
+        "open 0\ncommitted 1\ncommitted 2\nframe 0 0 page 0 vd-\npool 1*\nend 2\n",
+    ),
+    Step::New(STANDARD),
+    Step::Run(
+        "set 0 01\ncache\nget 32\ncache\nget 0\ncache\n",
+        "open 0\ncommitted 1\npool 0*\nend 1\nnone\nframe 0 0 page 0 vd-\npool 1\nend 2\nvalue 01\n\
+        frame 0 0 page 0 vdr\nframe 1 0 page 1 v--\npool 0\nend 3\n",
+    ),
+];
 
 #[test]
 fn the_cache_is_listed(rt: HostRuntime) -> Result<(), Fail> {
-    let rows: [(&[u8], &[u8]); 3] = [
-        (b"cache\n", b"open 0\nend 0\n"),
-        (
-            b"set 0 01\nset 32 02\ncache\n",
-            b"open 0\ncommitted 1\ncommitted 2\nframe 0 0 page 0 vd-\npool 1*\nend 2\n",
-        ),
-        (
-            b"set 0 01\ncache\nget 32\ncache\nget 0\ncache\n",
-            b"open 0\ncommitted 1\npool 0*\nend 1\nnone\nframe 0 0 page 0 vd-\npool 1\nend 2\nvalue 01\n\
-            frame 0 0 page 0 vdr\nframe 1 0 page 1 v--\npool 0\nend 3\n",
-        ),
-    ];
-    for (input, told) in rows {
-        let mut site = MemSite::new(rt.alloc(), &STANDARD)?;
-        assert_eq!(rt; run(rt.alloc(), &mut site, input)?, 0);
-        assert!(rt; site.told() == told);
-    }
+    assert_eq!(rt; play(rt.alloc(), &LISTINGS)?, LISTINGS.len());
     Ok(())
 }
 
-// Whether one page of the disk was written, and no other one.
-fn only_this_was_written(site: &MemSite, page: usize) -> bool {
-    site.content(Dev::Disk).chunks(4_096).enumerate().all(|(place, octets)| octets
-        .iter()
-        .any(|octet| *octet != 0)
-        == (place == page))
-}
-
 // The frame that was read goes into the new group as the first group leaves, and not to the disk.
-#[test]
-fn a_full_queue_is_listed(rt: HostRuntime) -> Result<(), Fail> {
-    let mut site = MemSite::new(rt.alloc(), &STANDARD)?;
-    let input =
-        b"set 0 01\nset 32 02\nget 0\nset 64 03\nset 96 04\nset 128 05\nset 160 06\nset 192 07\nset 224 08\n\
-        set 256 09\ncache\n";
-    assert_eq!(rt; run(rt.alloc(), &mut site, input)?, 0);
-    let told = b"\
+const FULL_QUEUE: [Step<'static>; 2] = [
+    Step::Run(
+        "set 0 01\nset 32 02\nget 0\nset 64 03\nset 96 04\nset 128 05\nset 160 06\nset 192 07\nset 224 08\n\
+        set 256 09\ncache\n",
+        "\
 open 0
 committed 1
 committed 2
@@ -144,27 +132,29 @@ frame 7 0 page 0 vd-
 frame 7 1 page 7 vd-
 pool 8*
 end 9
-";
-    assert!(rt; site.told() == told.as_slice());
-    assert!(rt; site.content(Dev::Disk).iter().all(|octet| *octet == 0));
+",
+    ),
+    Step::Zeros(Dev::Disk, 0, 65_536),
+];
+
+#[test]
+fn a_full_queue_is_listed(rt: HostRuntime) -> Result<(), Fail> {
+    assert_eq!(rt; play(rt.alloc(), &FULL_QUEUE)?, FULL_QUEUE.len());
     Ok(())
 }
 
 // A group is filled from the pool, all its frames are read, and seven checkpoints push groups of one page: as the first
-// group leaves, the eighth frame that was read goes to the disk.
-#[test]
-fn seven_frames_have_a_second_chance(rt: HostRuntime) -> Result<(), Fail> {
-    let mut site = MemSite::new(rt.alloc(), &STANDARD)?;
-    site.feed(
-        b"set 0 00\nset 32 01\nset 64 02\nset 96 03\nset 128 04\nset 160 05\nset 192 06\nset 224 07\nset 256 08\n",
-    )?;
-    site.feed(b"get 0\nget 32\nget 64\nget 96\nget 128\nget 160\nget 192\nget 224\n")?;
-    for _checkpoint in 0..6 {
-        site.feed(b"set 256 08\ncheckpoint\n")?;
-    }
-    site.feed(b"cache\n")?;
-    assert_eq!(rt; call(rt.alloc(), &["run", "8"], &mut site)?, 0);
-    let told = b"\
+// group leaves, the eighth frame that was read goes to the disk, and no other page.
+const SECOND_CHANCES: [Step<'static>; 8] = [
+    Step::Feed(
+        "set 0 00\nset 32 01\nset 64 02\nset 96 03\nset 128 04\nset 160 05\nset 192 06\nset 224 07\nset 256 08\n\
+        get 0\nget 32\nget 64\nget 96\nget 128\nget 160\nget 192\nget 224\n",
+    ),
+    Step::FeedMany(6, "set 256 08\ncheckpoint\n"),
+    Step::Feed("cache\n"),
+    Step::Call("run 8", 0),
+    Step::Told(
+        "\
 open 0
 committed 1
 committed 2
@@ -218,9 +208,16 @@ pool 3
 pool 2
 pool 1
 end 22
-";
-    assert!(rt; site.told() == told.as_slice());
-    assert!(rt; only_this_was_written(&site, 7));
+",
+    ),
+    Step::Zeros(Dev::Disk, 0, 28_672),
+    Step::Filled(Dev::Disk, 28_672, 32_768),
+    Step::Zeros(Dev::Disk, 32_768, 65_536),
+];
+
+#[test]
+fn seven_frames_have_a_second_chance(rt: HostRuntime) -> Result<(), Fail> {
+    assert_eq!(rt; play(rt.alloc(), &SECOND_CHANCES)?, SECOND_CHANCES.len());
     Ok(())
 }
 
@@ -243,33 +240,49 @@ const FIRST_SLOT: [u8; 64] = [
     0, 0, 0, 0, 0, 0, 0, 0, 0, // nothing behind
 ];
 
+// The restart's master unit says nothing: the log keeps the blocks from the first one on, and no transaction is
+// unfinished.
+const ONE_SET: [Step<'static>; 7] = [
+    Step::Run("set 5 0a0b\nget 5\n", "open 0\ncommitted 1\nvalue 0a0b\n"),
+    Step::Has(Dev::Log, 1_536, &FIRST_SLOT),
+    Step::Has(Dev::Log, 0, &[0xA5]),
+    Step::Zeros(Dev::Log, 1, 1_536),
+    Step::Zeros(Dev::Log, 1_600, 34_304),
+    Step::Zeros(Dev::Flash, 0, 271_360),
+    Step::Zeros(Dev::Disk, 0, 65_536),
+];
+
 #[test]
 fn a_set_fills_the_first_slot(rt: HostRuntime) -> Result<(), Fail> {
-    let mut site = MemSite::new(rt.alloc(), &STANDARD)?;
-    assert_eq!(rt; run(rt.alloc(), &mut site, b"set 5 0a0b\nget 5\n")?, 0);
-    assert!(rt; site.told() == b"open 0\ncommitted 1\nvalue 0a0b\n".as_slice());
-    let log = site.content(Dev::Log);
-    let slot = log.get(1_536..1_600);
-    assert!(rt; slot.is_some_and(|slot| slot == FIRST_SLOT.as_slice()));
-    // The restart's master unit, which says nothing: the log keeps the blocks from the first one on, and no transaction
-    // is unfinished.
-    assert!(rt; log.get(0) == Some(&0xA5));
-    assert!(rt; log.iter().take(1_536).skip(1).all(|octet| *octet == 0));
-    assert!(rt; log.iter().skip(1_600).all(|octet| *octet == 0));
-    assert!(rt; site.content(Dev::Flash).iter().all(|octet| *octet == 0));
-    assert!(rt; site.content(Dev::Disk).iter().all(|octet| *octet == 0));
+    assert_eq!(rt; play(rt.alloc(), &ONE_SET)?, ONE_SET.len());
     Ok(())
 }
 
+const SPELLINGS: [Step<'static>; 1] = [Step::Run(
+    "set 3 -\nget 3\nget 4\nset 5 AB\nget 5\nset 5 aBcD\nget 5\n",
+    "open 0\ncommitted 1\nvalue -\nnone\ncommitted 2\nvalue ab\ncommitted 3\nvalue abcd\n",
+)];
+
 #[test]
 fn values_have_every_spelling(rt: HostRuntime) -> Result<(), Fail> {
-    let mut site = MemSite::new(rt.alloc(), &STANDARD)?;
-    let input = b"set 3 -\nget 3\nget 4\nset 5 AB\nget 5\nset 5 aBcD\nget 5\n";
-    assert_eq!(rt; run(rt.alloc(), &mut site, input)?, 0);
-    assert!(rt;
-        site.told()
-            == b"open 0\ncommitted 1\nvalue -\nnone\ncommitted 2\nvalue ab\ncommitted 3\nvalue abcd\n".as_slice()
-    );
+    assert_eq!(rt; play(rt.alloc(), &SPELLINGS)?, SPELLINGS.len());
+    Ok(())
+}
+
+// Sets of record 3 to 120 and to 121 octets.
+const LONG_VALUES: [Step<'static>; 7] = [
+    Step::Feed("set 3 "),
+    Step::FeedMany(120, "5a"),
+    Step::Feed("\nset 3 "),
+    Step::FeedMany(121, "5a"),
+    Step::Feed("\nset 3 -\nget 3\nget 4\n"),
+    Step::Call("run 1", 0),
+    Step::Told("open 0\ncommitted 1\nrefused long\ncommitted 2\nvalue -\nnone\n"),
+];
+
+#[test]
+fn a_long_value_is_refused(rt: HostRuntime) -> Result<(), Fail> {
+    assert_eq!(rt; play(rt.alloc(), &LONG_VALUES)?, LONG_VALUES.len());
     Ok(())
 }
 
@@ -283,18 +296,6 @@ fn feed_long_set(site: &mut MemSite, octets: usize) -> Result<(), Fail> {
     Ok(())
 }
 
-#[test]
-fn a_long_value_is_refused(rt: HostRuntime) -> Result<(), Fail> {
-    let mut site = MemSite::new(rt.alloc(), &STANDARD)?;
-    feed_long_set(&mut site, 120)?;
-    feed_long_set(&mut site, 121)?;
-    assert_eq!(rt; run(rt.alloc(), &mut site, b"set 3 -\nget 3\nget 4\n")?, 0);
-    assert!(rt;
-        site.told() == b"open 0\ncommitted 1\nrefused long\ncommitted 2\nvalue -\nnone\n".as_slice()
-    );
-    Ok(())
-}
-
 // 135 lines of 400, 402, .. up to 500 octets, again and again: 60,291 octets with their newlines.
 fn feed_long_lines(site: &mut MemSite) -> Result<(), Fail> {
     for line in 0..135 {
@@ -303,448 +304,437 @@ fn feed_long_lines(site: &mut MemSite) -> Result<(), Fail> {
     Ok(())
 }
 
+const LONG_INPUT: [Step<'static>; 7] = [
+    Step::Feed("get 3\n"),
+    Step::Call("run 1", 0),
+    Step::Length(1_767),
+    Step::Begins("open 0\n"),
+    Step::Repeats(7, 135, "refused long\n"),
+    Step::Ends("none\n"),
+    Step::Changes(142),
+];
+
 #[test]
 fn a_long_input_is_heard_to_its_end(rt: HostRuntime) -> Result<(), Fail> {
     let mut site = MemSite::new(rt.alloc(), &STANDARD)?;
     feed_long_lines(&mut site)?;
-    assert_eq!(rt; run(rt.alloc(), &mut site, b"get 3\n")?, 0);
-    let told = site.told();
-    assert_eq!(rt; told.len(), 1_767);
-    assert!(rt; told.starts_with(b"open 0\n"));
-    assert!(rt; told.ends_with(b"none\n"));
-    let refusals = told.get(7..1_762);
-    assert!(rt;
-        refusals.is_some_and(|lines| lines
-            .chunks(13)
-            .all(|line| line == b"refused long\n".as_slice()))
-    );
-    assert_eq!(rt; site.changes(), 142);
+    assert_eq!(rt; play_on(rt.alloc(), site, &LONG_INPUT)?, LONG_INPUT.len());
     Ok(())
 }
+
+const QUITS: [Step<'static>; 3] = [
+    Step::Run("get 5", "open 0\nnone\n"),
+    Step::New(STANDARD),
+    Step::Run("quit\nget 5\n", "open 0\nbye\n"),
+];
 
 #[test]
 fn quit_ends_the_run(rt: HostRuntime) -> Result<(), Fail> {
-    let mut site = MemSite::new(rt.alloc(), &STANDARD)?;
-    assert_eq!(rt; run(rt.alloc(), &mut site, b"get 5")?, 0);
-    assert!(rt; site.told() == b"open 0\nnone\n".as_slice());
-    let mut site = MemSite::new(rt.alloc(), &STANDARD)?;
-    assert_eq!(rt; run(rt.alloc(), &mut site, b"quit\nget 5\n")?, 0);
-    assert!(rt; site.told() == b"open 0\nbye\n".as_slice());
+    assert_eq!(rt; play(rt.alloc(), &QUITS)?, QUITS.len());
     Ok(())
 }
+
+// A line of 5,501 octets.
+const LONG_LINE: [Step<'static>; 2] = [
+    Step::FeedMany(5_501, "7"),
+    Step::Run("\nget 5\n", "open 0\nrefused line\nnone\n"),
+];
 
 #[test]
 fn a_long_line_is_refused_once(rt: HostRuntime) -> Result<(), Fail> {
-    let mut site = MemSite::new(rt.alloc(), &STANDARD)?;
-    site.feed(&[b'7'; 501])?;
-    site.feed(&[b'7'; 5000])?;
-    assert_eq!(rt; run(rt.alloc(), &mut site, b"\nget 5\n")?, 0);
-    assert!(rt; site.told() == b"open 0\nrefused line\nnone\n".as_slice());
+    assert_eq!(rt; play(rt.alloc(), &LONG_LINE)?, LONG_LINE.len());
     Ok(())
 }
+
+const MANY_SETS: [Step<'static>; 9] = [
+    Step::New(SMALL),
+    Step::FeedMany(100, "set 0 aa\n"),
+    Step::Feed("stat\n"),
+    Step::Call("run 1", 0),
+    Step::Begins("open 0\ncommitted 1\ncommitted 2\n"),
+    Step::Ends("committed 99\ncommitted 100\nstat commits 100 used 3 owed 0 cap 15 active 0\n"),
+    Step::Length(1_346),
+    Step::Crash(0),
+    Step::Run("get 0\n", "open 100\nvalue aa\n"),
+];
 
 #[test]
 fn a_small_log_is_used_again(rt: HostRuntime) -> Result<(), Fail> {
-    let small = Geometry {
-        pages: 16,
-        groups: 8,
-        blocks: 16,
-    };
-    let mut site = MemSite::new(rt.alloc(), &small)?;
-    for _set in 0..100 {
-        site.feed(b"set 0 aa\n")?;
-    }
-    assert_eq!(rt; run(rt.alloc(), &mut site, b"stat\n")?, 0);
-    let told = site.told();
-    assert!(rt; told.starts_with(b"open 0\ncommitted 1\ncommitted 2\n"));
-    assert!(rt;
-        told.ends_with(
-            b"committed 99\ncommitted 100\nstat commits 100 used 3 owed 0 cap 15 active 0\n"
-        )
-    );
-    assert_eq!(rt; told.len(), 1_346);
-    let mut site = site.crash(0);
-    assert_eq!(rt; run(rt.alloc(), &mut site, b"get 0\n")?, 0);
-    assert!(rt; site.told() == b"open 100\nvalue aa\n".as_slice());
+    assert_eq!(rt; play(rt.alloc(), &MANY_SETS)?, MANY_SETS.len());
     Ok(())
 }
+
+// The records of an active session stay.
+const CHECKPOINTS: [Step<'static>; 3] = [
+    Step::Run(
+        "set 0 01\ncheckpoint\ncheckpoint\nstat\nget 0\n",
+        "open 0\ncommitted 1\ncheckpoint\ncheckpoint\nstat commits 1 used 0 owed 0 cap 63 active 0\nvalue 01\n",
+    ),
+    Step::New(STANDARD),
+    Step::Run(
+        "begin 0\nwrite 0 1 aa\ncheckpoint\nstat\nwrite 0 2 bb\ncheckpoint\nstat\ncommit 0\nstat\ncheckpoint\nstat\n",
+        "open 0\nok\nok\ncheckpoint\nstat commits 0 used 2 owed 2 cap 63 active 1\nok\ncheckpoint\n\
+        stat commits 0 used 3 owed 3 cap 63 active 1\ncommitted 1\nstat commits 1 used 4 owed 0 cap 63 active 0\n\
+        checkpoint\nstat commits 1 used 0 owed 0 cap 63 active 0\n",
+    ),
+];
 
 #[test]
 fn a_checkpoint_lets_records_go(rt: HostRuntime) -> Result<(), Fail> {
-    let rows: [(&[u8], &[u8]); 2] = [
-        (
-            b"set 0 01\ncheckpoint\ncheckpoint\nstat\nget 0\n",
-            b"open 0\ncommitted 1\ncheckpoint\ncheckpoint\nstat commits 1 used 0 owed 0 cap 63 active 0\nvalue 01\n",
-        ),
-        // The records of an active session stay.
-        (
-            b"begin 0\nwrite 0 1 aa\ncheckpoint\nstat\nwrite 0 2 bb\ncheckpoint\nstat\ncommit 0\nstat\ncheckpoint\n\
-            stat\n",
-            b"open 0\nok\nok\ncheckpoint\nstat commits 0 used 2 owed 2 cap 63 active 1\nok\ncheckpoint\n\
-            stat commits 0 used 3 owed 3 cap 63 active 1\ncommitted 1\nstat commits 1 used 4 owed 0 cap 63 active 0\n\
-            checkpoint\nstat commits 1 used 0 owed 0 cap 63 active 0\n",
-        ),
-    ];
-    for (input, told) in rows {
-        let mut site = MemSite::new(rt.alloc(), &STANDARD)?;
-        assert_eq!(rt; run(rt.alloc(), &mut site, input)?, 0);
-        assert!(rt; site.told() == told);
-    }
+    assert_eq!(rt; play(rt.alloc(), &CHECKPOINTS)?, CHECKPOINTS.len());
     Ok(())
 }
+
+const WORN: [Step<'static>; 4] = [
+    Step::Write(Dev::Log, 0, &[0xA5, 0, 0, 0, 0xFF, 0xFF, 0xFF, 0xFF, 0xFF]),
+    Step::Write(Dev::Log, 1_025, &[0, 0, 0, 0xFF, 0xFF, 0xFF, 0xFF, 0xFE]),
+    Step::Call("run 1", 8),
+    Step::Told("fault worn log\n"),
+];
 
 #[test]
 fn a_worn_ring_of_masters_ends_a_run(rt: HostRuntime) -> Result<(), Fail> {
-    let mut site = MemSite::new(rt.alloc(), &STANDARD)?;
-    site.write_at(Dev::Log, 0, &[0xA5, 0, 0, 0, 0xFF, 0xFF, 0xFF, 0xFF, 0xFF])?;
-    site.write_at(Dev::Log, 1_025, &[0, 0, 0, 0xFF, 0xFF, 0xFF, 0xFF, 0xFE])?;
-    site.sync(Dev::Log)?;
-    assert_eq!(rt; run(rt.alloc(), &mut site, b"")?, 8);
-    assert!(rt; site.told() == b"fault worn log\n".as_slice());
+    assert_eq!(rt; play(rt.alloc(), &WORN)?, WORN.len());
     Ok(())
 }
 
+const NEW: [Step<'static>; 23] = [
+    Step::Call("new 16 8 64", 0),
+    Step::Told("ready 16 8 64\n"),
+    Step::Changes(1),
+    Step::New(STANDARD),
+    Step::Put(Dev::Disk, 7, 1),
+    Step::Put(Dev::Disk, 9, 1),
+    Step::Call("new 16 8 64", 10),
+    Step::Told("fault notblank disk 7\n"),
+    Step::New(STANDARD),
+    Step::Put(Dev::Flash, 271_359, 1),
+    Step::Call("new 16 8 64", 10),
+    Step::Told("fault notblank flash 271359\n"),
+    Step::New(STANDARD),
+    Step::Call("new 16 8 65", 9),
+    Step::Told("fault foreign\n"),
+    Step::New(STANDARD),
+    Step::Fail(Call::Read(Dev::Log), 2),
+    Step::Call("new 16 8 64", 3),
+    Step::Told("fault log\n"),
+    Step::New(STANDARD),
+    Step::Fail(Call::Tell, 1),
+    Step::Call("new 16 8 64", 6),
+    Step::Length(0),
+];
+
 #[test]
 fn a_new_database_is_tested(rt: HostRuntime) -> Result<(), Fail> {
-    let words = ["new", "16", "8", "64"].as_slice();
-    let mut site = MemSite::new(rt.alloc(), &STANDARD)?;
-    assert_eq!(rt; call(rt.alloc(), words, &mut site)?, 0);
-    assert!(rt; site.told() == b"ready 16 8 64\n".as_slice());
-    assert_eq!(rt; site.changes(), 1);
-
-    let mut site = MemSite::new(rt.alloc(), &STANDARD)?;
-    site.poke(Dev::Disk, 7, 1);
-    site.poke(Dev::Disk, 9, 1);
-    assert_eq!(rt; call(rt.alloc(), words, &mut site)?, 10);
-    assert!(rt; site.told() == b"fault notblank disk 7\n".as_slice());
-
-    let mut site = MemSite::new(rt.alloc(), &STANDARD)?;
-    site.poke(Dev::Flash, 271_359, 1);
-    assert_eq!(rt; call(rt.alloc(), words, &mut site)?, 10);
-    assert!(rt; site.told() == b"fault notblank flash 271359\n".as_slice());
-
-    let mut site = MemSite::new(rt.alloc(), &STANDARD)?;
-    assert_eq!(rt; call(rt.alloc(), &["new", "16", "8", "65"], &mut site)?, 9);
-    assert!(rt; site.told() == b"fault foreign\n".as_slice());
-
-    let mut site = MemSite::new(rt.alloc(), &STANDARD)?;
-    site.fail(Call::Read(Dev::Log), 2)?;
-    assert_eq!(rt; call(rt.alloc(), words, &mut site)?, 3);
-    assert!(rt; site.told() == b"fault log\n".as_slice());
-
-    let mut site = MemSite::new(rt.alloc(), &STANDARD)?;
-    site.fail(Call::Tell, 1)?;
-    assert_eq!(rt; call(rt.alloc(), words, &mut site)?, 6);
-    assert_eq!(rt; site.told().len(), 0);
+    assert_eq!(rt; play(rt.alloc(), &NEW)?, NEW.len());
     Ok(())
 }
 
 // A verdict is told, and nothing else is done; devices without sizes aren't read.
+const CHECKS: [Step<'static>; 7] = [
+    Step::Call("check", 0),
+    Step::Told("sound records 0 commits 0\n"),
+    Step::Changes(1),
+    Step::New(ODD),
+    Step::Call("check", 11),
+    Step::Told("unsound S1\n"),
+    Step::Reads(Dev::Log, 0),
+];
+
 #[test]
 fn devices_are_checked(rt: HostRuntime) -> Result<(), Fail> {
-    let words = ["check"].as_slice();
-    let mut site = MemSite::new(rt.alloc(), &STANDARD)?;
-    assert_eq!(rt; call(rt.alloc(), words, &mut site)?, 0);
-    assert!(rt; site.told() == b"sound records 0 commits 0\n".as_slice());
-    assert_eq!(rt; site.changes(), 1);
-
-    let odd = Geometry {
-        pages: 16,
-        groups: 9,
-        blocks: 64,
-    };
-    let mut site = MemSite::new(rt.alloc(), &odd)?;
-    assert_eq!(rt; call(rt.alloc(), words, &mut site)?, 11);
-    assert!(rt; site.told() == b"unsound S1\n".as_slice());
-    assert_eq!(rt; site.reads(Dev::Log), 0);
+    assert_eq!(rt; play(rt.alloc(), &CHECKS)?, CHECKS.len());
     Ok(())
 }
 
+const LARGE_DEVICES: [Step<'static>; 3] = [
+    Step::New(LARGE),
+    Step::Call("new 1024 64 400", 0),
+    Step::Told("ready 1024 64 400\n"),
+];
+
 #[test]
 fn large_devices_are_tested(rt: HostRuntime) -> Result<(), Fail> {
-    let sizes = Geometry {
-        pages: 1_024,
-        groups: 64,
-        blocks: 400,
-    };
-    let mut site = MemSite::new(rt.alloc(), &sizes)?;
-    assert_eq!(rt;
-        call(rt.alloc(), &["new", "1024", "64", "400"], &mut site)?,
-        0
-    );
-    assert!(rt; site.told() == b"ready 1024 64 400\n".as_slice());
+    assert_eq!(rt; play(rt.alloc(), &LARGE_DEVICES)?, LARGE_DEVICES.len());
     Ok(())
+}
+
+// The first line has no words, and one ends with an empty word.
+const OTHER_WORDS: &str = "
+help run
+check x
+check check
+run help
+run 1 2
+1 run 1
+serve 1
+runs 1
+run new 16 8 64
+-h
+run
+run 0
+run 4097
+run 01
+run 1 1
+help
+run -1
+run\x20
+--help
+--version
+run -- 1
+new 16 8
+new 16 8 64 1
+new 16 10 64
+new 0 8 64
+new 65537 8 64
+new 16 8 15
+new 16 16388 64
+load 1 1
+load 1 1 4 1
+load 0 1 4
+load 100001 1 4
+load 1 18446744073709551616 4
+load 1 01 4
+load 1 +1 4
+load 1 1 4097
+trial 16 8 64
+trial 1025 8 64 1
+trial 16 260 64 1
+trial 16 10 64 1
+trial 16 8 4097 1
+trial 16 8 64 4097
+trial 16 8 64 1 1
+simulate 8
+simulate 8 1 1
+simulate 4 1
+simulate 10 1
+simulate 16388 1
+simulate 8 4097";
+
+// Whether these words are refused, and nothing is done but telling it.
+fn refuses_words(alloc: Global, words: &str) -> Result<bool, Fail> {
+    let mut site = MemSite::new(alloc, &STANDARD)?;
+    let status = call(alloc, &mut site, words)?;
+    let told = site.told() == b"fault words\n".as_slice();
+    Ok(status == 2 && told && site.changes() == 1)
 }
 
 #[test]
 fn other_words_are_refused(rt: HostRuntime) -> Result<(), Fail> {
-    let lists: [&[&str]; 50] = [
-        &[],
-        &["help", "run"],
-        &["check", "x"],
-        &["check", "check"],
-        &["run", "help"],
-        &["run", "1", "2"],
-        &["1", "run", "1"],
-        &["serve", "1"],
-        &["runs", "1"],
-        &["run", "new", "16", "8", "64"],
-        &["-h"],
-        &["run"],
-        &["run", "0"],
-        &["run", "4097"],
-        &["run", "01"],
-        &["run", "1", "1"],
-        &["help"],
-        &["run", "-1"],
-        &["run", ""],
-        &["--help"],
-        &["--version"],
-        &["run", "--", "1"],
-        &["new", "16", "8"],
-        &["new", "16", "8", "64", "1"],
-        &["new", "16", "10", "64"],
-        &["new", "0", "8", "64"],
-        &["new", "65537", "8", "64"],
-        &["new", "16", "8", "15"],
-        &["new", "16", "16388", "64"],
-        &["load", "1", "1"],
-        &["load", "1", "1", "4", "1"],
-        &["load", "0", "1", "4"],
-        &["load", "100001", "1", "4"],
-        &["load", "1", "18446744073709551616", "4"],
-        &["load", "1", "01", "4"],
-        &["load", "1", "+1", "4"],
-        &["load", "1", "1", "4097"],
-        &["trial", "16", "8", "64"],
-        &["trial", "1025", "8", "64", "1"],
-        &["trial", "16", "260", "64", "1"],
-        &["trial", "16", "10", "64", "1"],
-        &["trial", "16", "8", "4097", "1"],
-        &["trial", "16", "8", "64", "4097"],
-        &["trial", "16", "8", "64", "1", "1"],
-        &["simulate", "8"],
-        &["simulate", "8", "1", "1"],
-        &["simulate", "4", "1"],
-        &["simulate", "10", "1"],
-        &["simulate", "16388", "1"],
-        &["simulate", "8", "4097"],
-    ];
-    for words in lists {
-        let mut site = MemSite::new(rt.alloc(), &STANDARD)?;
-        assert_eq!(rt; call(rt.alloc(), words, &mut site)?, 2);
-        assert!(rt; site.told() == b"fault words\n".as_slice());
-        assert_eq!(rt; site.changes(), 1);
+    for words in OTHER_WORDS.split('\n') {
+        assert!(rt; refuses_words(rt.alloc(), words)?, "{words}");
     }
-    let mut site = MemSite::new(rt.alloc(), &STANDARD)?;
-    assert_eq!(rt; call(rt.alloc(), &["run", "4096"], &mut site)?, 0);
+    assert_eq!(rt; play(rt.alloc(), &[Step::Call("run 4096", 0)])?, 1);
     Ok(())
 }
 
-// The words, the input, the status and what is told. No device is touched.
-#[test]
-fn a_trace_is_reported(rt: HostRuntime) -> Result<(), Fail> {
-    let rows: [(&[&str], &[u8], u8, &[u8]); 2] = [
-        (
-            &["simulate", "16384", "4096"],
-            b"r 0\nr 0\n",
-            0,
-            b"\
+// No device is touched.
+const TRACES: [Step<'static>; 11] = [
+    Step::Feed("r 0\nr 0\n"),
+    Step::Call("simulate 16384 4096", 0),
+    Step::Told(
+        "\
 fifo touches 2 pool 1 flash 0 disk 1 staged 0 pushed 0
 group touches 2 pool 1 flash 0 disk 1 staged 0 pushed 0
 chance touches 2 pool 1 flash 0 disk 1 staged 0 pushed 0
 ",
-        ),
-        (
-            &["simulate", "8", "1"],
-            b"r 0\nx 1\n",
-            16,
-            b"fault trace 2\n",
-        ),
-    ];
-    for (words, input, status, told) in rows {
-        let mut site = MemSite::new(rt.alloc(), &STANDARD)?;
-        site.feed(input)?;
-        assert_eq!(rt; call(rt.alloc(), words, &mut site)?, status);
-        assert!(rt; site.told() == told);
-        assert_eq!(rt; site.reads(Dev::Log), 0);
-        assert_eq!(rt; site.changes(), 1);
-    }
+    ),
+    Step::Reads(Dev::Log, 0),
+    Step::Changes(1),
+    Step::New(STANDARD),
+    Step::Feed("r 0\nx 1\n"),
+    Step::Call("simulate 8 1", 16),
+    Step::Told("fault trace 2\n"),
+    Step::Reads(Dev::Log, 0),
+    Step::Changes(1),
+];
+
+#[test]
+fn a_trace_is_reported(rt: HostRuntime) -> Result<(), Fail> {
+    assert_eq!(rt; play(rt.alloc(), &TRACES)?, TRACES.len());
     Ok(())
 }
+
+const FAULTS: [Step<'static>; 39] = [
+    Step::Fail(Call::Read(Dev::Log), 1),
+    Step::Feed("set 5 0a0b\n"),
+    Step::Call("run 1", 3),
+    Step::Told("fault log\n"),
+    Step::New(STANDARD),
+    Step::Fail(Call::Write(Dev::Log), 1),
+    Step::Feed("set 5 0a0b\n"),
+    Step::Call("run 1", 3),
+    Step::Told("fault log\n"),
+    Step::New(STANDARD),
+    Step::Fail(Call::Sync(Dev::Log), 1),
+    Step::Feed("get 5\n"),
+    Step::Call("run 1", 3),
+    Step::Told("fault log\n"),
+    Step::New(STANDARD),
+    Step::Fail(Call::Write(Dev::Log), 4),
+    Step::Feed("set 5 0a0b\n"),
+    Step::Call("run 1", 3),
+    Step::Told("open 0\nfault log\n"),
+    Step::New(STANDARD),
+    Step::Fail(Call::Sync(Dev::Log), 3),
+    Step::Feed("set 5 0a0b\n"),
+    Step::Call("run 1", 3),
+    Step::Told("open 0\nfault log\n"),
+    Step::New(STANDARD),
+    Step::Fail(Call::Take, 1),
+    Step::Feed("get 5\n"),
+    Step::Call("run 1", 5),
+    Step::Told("open 0\nfault input\n"),
+    Step::New(STANDARD),
+    Step::Fail(Call::Take, 2),
+    Step::Feed("set 5 0a0b\n"),
+    Step::Call("run 1", 5),
+    Step::Told("open 0\ncommitted 1\nfault input\n"),
+    Step::New(STANDARD),
+    Step::Fail(Call::Tell, 2),
+    Step::Feed("set 5 0a0b\nget 5\n"),
+    Step::Call("run 1", 6),
+    Step::Told("open 0\n"),
+];
 
 #[test]
 fn faults_have_their_status(rt: HostRuntime) -> Result<(), Fail> {
-    let set = b"set 5 0a0b\n".as_slice();
-    let rows: [(Call, u64, &[u8], u8, &[u8]); 8] = [
-        (Call::Read(Dev::Log), 1, set, 3, b"fault log\n"),
-        (Call::Write(Dev::Log), 1, set, 3, b"fault log\n"),
-        (Call::Sync(Dev::Log), 1, b"get 5\n", 3, b"fault log\n"),
-        (Call::Write(Dev::Log), 4, set, 3, b"open 0\nfault log\n"),
-        (Call::Sync(Dev::Log), 3, set, 3, b"open 0\nfault log\n"),
-        (Call::Take, 1, b"get 5\n", 5, b"open 0\nfault input\n"),
-        (Call::Take, 2, set, 5, b"open 0\ncommitted 1\nfault input\n"),
-        (Call::Tell, 2, b"set 5 0a0b\nget 5\n", 6, b"open 0\n"),
-    ];
-    for (call, nth, input, status, told) in rows {
-        let mut site = MemSite::new(rt.alloc(), &STANDARD)?;
-        assert!(rt; nth >= 1);
-        site.fail(call, nth)?;
-        assert_eq!(rt; run(rt.alloc(), &mut site, input)?, status);
-        assert!(rt; site.told() == told);
-    }
+    assert_eq!(rt; play(rt.alloc(), &FAULTS)?, FAULTS.len());
     Ok(())
 }
 
-// The call that fails, the input and what is told; then the power cut, where there is one, the next input, and all that
-// is told since.
+const FOLLOWERS: [Step<'static>; 11] = [
+    Step::Fail(Call::Read(Dev::Flash), 1),
+    Step::Call("run 1", 3),
+    Step::Told("fault flash\n"),
+    Step::Run("", "fault flash\nopen 0\n"),
+    Step::New(STANDARD),
+    Step::Fail(Call::Write(Dev::Disk), 1),
+    Step::Feed(
+        "set 0 01\nset 32 02\nset 64 03\nset 96 04\nset 128 05\nset 160 06\nset 192 07\nset 224 08\nset 256 09\n",
+    ),
+    Step::Call("run 1", 3),
+    Step::Told(
+        "open 0\ncommitted 1\ncommitted 2\ncommitted 3\ncommitted 4\ncommitted 5\ncommitted 6\ncommitted 7\n\
+        committed 8\nfault disk\n",
+    ),
+    Step::Crash(2),
+    Step::Run("get 0\n", "open 8\nvalue 01\n"),
+];
+
 #[test]
 fn a_run_follows_a_fault(rt: HostRuntime) -> Result<(), Fail> {
-    let rows: [(Call, &[u8], &[u8], Option<u64>, &[u8], &[u8]); 2] = [
-        (
-            Call::Read(Dev::Flash),
-            b"",
-            b"fault flash\n",
-            None,
-            b"",
-            b"fault flash\nopen 0\n",
-        ),
-        (
-            Call::Write(Dev::Disk),
-            b"set 0 01\nset 32 02\nset 64 03\nset 96 04\nset 128 05\nset 160 06\nset 192 07\nset 224 08\nset 256 09\n",
-            b"open 0\ncommitted 1\ncommitted 2\ncommitted 3\ncommitted 4\ncommitted 5\ncommitted 6\ncommitted 7\n\
-            committed 8\nfault disk\n",
-            Some(2),
-            b"get 0\n",
-            b"open 8\nvalue 01\n",
-        ),
-    ];
-    for (call, input, told, seed, next_input, next_told) in rows {
-        let mut site = MemSite::new(rt.alloc(), &STANDARD)?;
-        site.fail(call, 1)?;
-        assert_eq!(rt; run(rt.alloc(), &mut site, input)?, 3);
-        assert!(rt; site.told() == told);
-        if let Some(seed) = seed {
-            site = site.crash(seed);
-        }
-        assert_eq!(rt; run(rt.alloc(), &mut site, next_input)?, 0);
-        assert!(rt; site.told() == next_told);
-    }
+    assert_eq!(rt; play(rt.alloc(), &FOLLOWERS)?, FOLLOWERS.len());
     Ok(())
 }
+
+// Six reads of flash find the ring of segments, one the first gate of the groups.
+const SHORT_TELL: [Step<'static>; 5] = [
+    Step::ShortTell(2, 3),
+    Step::Run("set 5 0a0b\nget 5\n", "open 0\ncommitted 1\nvalue 0a0b\n"),
+    Step::Reads(Dev::Log, 69),
+    Step::Reads(Dev::Flash, 7),
+    Step::Reads(Dev::Disk, 1),
+];
 
 #[test]
 fn a_short_tell_goes_on(rt: HostRuntime) -> Result<(), Fail> {
-    let mut site = MemSite::new(rt.alloc(), &STANDARD)?;
-    site.short_tell(2, 3)?;
-    assert_eq!(rt; run(rt.alloc(), &mut site, b"set 5 0a0b\nget 5\n")?, 0);
-    assert!(rt; site.told() == b"open 0\ncommitted 1\nvalue 0a0b\n".as_slice());
-    assert_eq!(rt; site.reads(Dev::Log), 69);
-    // Six find the ring of segments, one the first gate of the groups.
-    assert_eq!(rt; site.reads(Dev::Flash), 7);
-    assert_eq!(rt; site.reads(Dev::Disk), 1);
+    assert_eq!(rt; play(rt.alloc(), &SHORT_TELL)?, SHORT_TELL.len());
     Ok(())
 }
 
+// An open gate over a block of zeros; then a first slot that says that more octets are used than it has; then lengths
+// that no sizes have.
+const DAMAGED: [Step<'static>; 17] = [
+    Step::Put(Dev::Log, 1_536, 0xA5),
+    Step::Feed("get 5\n"),
+    Step::Call("run 1", 9),
+    Step::Told("fault foreign\n"),
+    Step::New(STANDARD),
+    Step::Feed("set 5 0a0b\nget 5\n"),
+    Step::Call("run 1", 0),
+    Step::Crash(0),
+    Step::Put(Dev::Log, 1_545, 0xFF),
+    Step::Feed("get 5\n"),
+    Step::Call("run 1", 9),
+    Step::Told("fault foreign\n"),
+    Step::New(ODD),
+    Step::Feed("get 5\n"),
+    Step::Call("run 1", 9),
+    Step::Reads(Dev::Log, 0),
+    Step::Changes(1),
+];
+
 #[test]
 fn damaged_devices_are_foreign(rt: HostRuntime) -> Result<(), Fail> {
-    // An open gate over a block of zeros.
-    let mut site = MemSite::new(rt.alloc(), &STANDARD)?;
-    site.poke(Dev::Log, 1_536, 0xA5);
-    assert_eq!(rt; run(rt.alloc(), &mut site, b"get 5\n")?, 9);
-    assert!(rt; site.told() == b"fault foreign\n".as_slice());
-    // The log's first slot says that more octets are used than it has.
-    let mut site = MemSite::new(rt.alloc(), &STANDARD)?;
-    assert_eq!(rt; run(rt.alloc(), &mut site, b"set 5 0a0b\nget 5\n")?, 0);
-    let mut site = site.crash(0);
-    assert!(rt; site.len(Dev::Log) == 34_304);
-    site.poke(Dev::Log, 1_545, 0xFF);
-    assert_eq!(rt; run(rt.alloc(), &mut site, b"get 5\n")?, 9);
-    assert!(rt; site.told() == b"fault foreign\n".as_slice());
-    // Lengths that no sizes have.
-    let odd = Geometry {
-        pages: 16,
-        groups: 9,
-        blocks: 64,
-    };
-    let mut site = MemSite::new(rt.alloc(), &odd)?;
-    assert_eq!(rt; run(rt.alloc(), &mut site, b"get 5\n")?, 9);
-    assert_eq!(rt; site.reads(Dev::Log), 0);
-    assert_eq!(rt; site.changes(), 1);
+    assert_eq!(rt; play(rt.alloc(), &DAMAGED)?, DAMAGED.len());
     Ok(())
 }
 
 // A load of a few sets on blank devices, and what a run finds after it. The numbers were worked out by another program.
+const LOAD: [Step<'static>; 2] = [
+    Step::Call("load 1 1 4", 0),
+    Step::Told("open 0\nload 1 committed 1 checkpoints 0 found 1\n"),
+];
+
 #[test]
 fn a_load_is_summed_up(rt: HostRuntime) -> Result<(), Fail> {
-    let mut site = MemSite::new(rt.alloc(), &STANDARD)?;
-    assert_eq!(rt; call(rt.alloc(), &["load", "1", "1", "4"], &mut site)?, 0);
-    assert!(rt; site.told() == b"open 0\nload 1 committed 1 checkpoints 0 found 1\n".as_slice());
+    assert_eq!(rt; play(rt.alloc(), &LOAD)?, LOAD.len());
     Ok(())
 }
 
+const LOAD_AND_RUN: [Step<'static>; 4] = [
+    Step::Call("load 1 1 4", 0),
+    Step::Feed("get 470\n"),
+    Step::Call("run 4", 0),
+    Step::Told(
+        "open 0\nload 1 committed 1 checkpoints 0 found 1\nopen 1\nvalue 6c576fac43fd007c\n",
+    ),
+];
+
 #[test]
 fn a_load_is_found_again(rt: HostRuntime) -> Result<(), Fail> {
-    let mut site = MemSite::new(rt.alloc(), &STANDARD)?;
-    let _ = call(rt.alloc(), &["load", "1", "1", "4"], &mut site)?;
-    site.feed(b"get 470\n")?;
-    assert_eq!(rt; call(rt.alloc(), &["run", "4"], &mut site)?, 0);
-    assert!(rt;
-        site.told()
-            == b"open 0\nload 1 committed 1 checkpoints 0 found 1\nopen 1\nvalue 6c576fac43fd007c\n".as_slice()
-    );
+    assert_eq!(rt; play(rt.alloc(), &LOAD_AND_RUN)?, LOAD_AND_RUN.len());
     Ok(())
 }
 
 // The sets make checkpoints where the log is half full: 3 of 12 do in a log of 16 blocks.
+const LOAD_IN_A_SMALL_LOG: [Step<'static>; 3] = [
+    Step::New(SMALL),
+    Step::Call("load 12 5 1", 0),
+    Step::Told("open 0\nload 12 committed 12 checkpoints 3 found 12\n"),
+];
+
 #[test]
 fn a_load_makes_checkpoints(rt: HostRuntime) -> Result<(), Fail> {
-    let mut site = MemSite::new(
-        rt.alloc(),
-        &Geometry {
-            pages: 16,
-            groups: 8,
-            blocks: 16,
-        },
-    )?;
-    assert_eq!(rt; call(rt.alloc(), &["load", "12", "5", "1"], &mut site)?, 0);
-    assert!(rt; site.told() == b"open 0\nload 12 committed 12 checkpoints 3 found 12\n".as_slice());
+    assert_eq!(rt;
+        play(rt.alloc(), &LOAD_IN_A_SMALL_LOG)?,
+        LOAD_IN_A_SMALL_LOG.len()
+    );
     Ok(())
 }
 
 // Two of 200 sets make one in a log of 400 blocks.
+const LONG_LOAD: [Step<'static>; 3] = [
+    Step::New(LARGE),
+    Step::Call("load 200 7 64", 0),
+    Step::Told("open 0\nload 200 committed 200 checkpoints 2 found 200\n"),
+];
+
 #[test]
 fn a_long_load_is_summed_up(rt: HostRuntime) -> Result<(), Fail> {
-    let mut site = MemSite::new(
-        rt.alloc(),
-        &Geometry {
-            pages: 1_024,
-            groups: 64,
-            blocks: 400,
-        },
-    )?;
-    assert_eq!(rt;
-        call(rt.alloc(), &["load", "200", "7", "64"], &mut site)?,
-        0
-    );
-    assert!(rt;
-        site.told() == b"open 0\nload 200 committed 200 checkpoints 2 found 200\n".as_slice()
-    );
+    assert_eq!(rt; play(rt.alloc(), &LONG_LOAD)?, LONG_LOAD.len());
     Ok(())
 }
 
 // The largest seed is read.
+const LARGEST_SEED: [Step<'static>; 2] = [
+    Step::Call("load 1 18446744073709551615 1", 0),
+    Step::Told("open 0\nload 1 committed 1 checkpoints 0 found 1\n"),
+];
+
 #[test]
 fn a_seed_has_64_bits(rt: HostRuntime) -> Result<(), Fail> {
-    let mut site = MemSite::new(rt.alloc(), &STANDARD)?;
-    assert_eq!(rt;
-        call(
-            rt.alloc(),
-            &["load", "1", "18446744073709551615", "1"],
-            &mut site
-        )?,
-        0
-    );
-    assert!(rt; site.told() == b"open 0\nload 1 committed 1 checkpoints 0 found 1\n".as_slice());
+    assert_eq!(rt; play(rt.alloc(), &LARGEST_SEED)?, LARGEST_SEED.len());
     Ok(())
 }
