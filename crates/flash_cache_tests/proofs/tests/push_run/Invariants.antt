@@ -1,11 +1,5 @@
-use Rattle.std.proofs.Common.{◌≡◌}
-use Rattle.site.specs.MemState.{state_of}
 use Rattle.flash_cache.specs.Representation.{Invariant}
-use Rattle.flash_cache_tests.specs.Trying.{small}
 use Rattle.flash_cache_tests.proofs.tests.push_run.Given as goal
 
 abbrev pub invariant-loop-page : goal.invariant-loop-page
-invariant-loop-page l = record {
-  going : Invariant l.cache (state_of l.site);
-  geometry : l.cache.geometry ≡ small;
-}
+invariant-loop-page g l = Invariant l.cache (g.S.Site.state l.site)
