@@ -1,5 +1,6 @@
-// Pages of a site in memory. The mixed script's pool, queue and counts were worked out by another program.
-ghost use Rattle.std.specs.Prelude.{◌≡◌, ◌<◌, ◌≤◌, length, IfOk};
+// Pages of a site in memory. A test is a table of rows, which one function plays. The mixed script's pool, queue and
+// counts were worked out by another program.
+ghost use Rattle.std.specs.Prelude.{◌≡◌, ◌<◌, ◌≤◌, length, true, IfOk};
 ghost use Rattle.site.specs.State.{State};
 ghost use Rattle.site.specs.Geometry.{HasLengths};
 ghost use Rattle.site.specs.MemState.{state_of};
@@ -14,7 +15,7 @@ use log_records::LogRecord;
 use log_store::LogStore;
 use page_store::PageStore;
 use record_model::{CacheLine, Listing, Octets};
-use site::{Call, Dev, Geometry, MemSite, Stop};
+use site::{Call, Dev, Geometry, MemSite, Site, Stop};
 use std::alloc::Global;
 use std::test::Fail;
 
@@ -24,12 +25,34 @@ const SMALL: Geometry = Geometry {
     blocks: 16,
 };
 
-// What a script does with a page.
+// A row of a script.
 #[derive(Clone, Copy)]
-enum Work {
-    Touch,
-    Change,
+enum Row {
+    // A page is touched.
+    Touch(u32),
+    // A page is touched, and its slot 5 gets the place of the row as its octet.
+    Change(u32),
+    // The changed pages are pushed.
     Flush,
+    // A page is touched, and its slot 5 has this octet.
+    Octet(u32, u8),
+    // A touch of a page is stopped so.
+    Stops(u32, Stop),
+    // The store is ended, or not.
+    Ended(bool),
+    // So many lines are listed.
+    Lines(usize),
+    // At a place of the listing there is a frame: the number of its group, its place there, its page, and whether it is
+    // valid, dirty and referenced.
+    Frame(usize, u64, u8, u32, bool, bool, bool),
+    // At a place of the listing there is a page of the pool, which was changed or not.
+    Pool(usize, u32, bool),
+    // So many changes were asked for, so many reads of the disk made, and so many of the flash by the rows.
+    Changes(u64),
+    DiskReads(u64),
+    FlashReads(u64),
+    // The log is sealed up to this LSN.
+    Sealed(u64),
 }
 
 // A log record of 25 octets.
@@ -58,13 +81,32 @@ fn opened(alloc: Global, site: &mut MemSite, pool: u32) -> Result<(PageStore, Lo
     Ok((pages, log))
 }
 
+// Touches a page that exists, once the blocks before the next one may be overwritten.
+fn touch<S: Site>(
+    pages: &mut PageStore,
+    log: &mut LogStore,
+    site: &mut S,
+    page: u32,
+) -> Result<bool, Stop>
+    requires going { AreGoing pages.old log.old (S.state site.old) }
+    ensures going { AreGoing pages.new log.new (S.state site.new) }
+    ensures there { IfOk result (λ exists. exists ≡ true → 0 < length pages.new.pool.frames) }
+{
+    if page >= 16 {
+        return Ok(false);
+    }
+    log.keep(log.sealed_end() / 512);
+    pages.touch(site, log, page)?;
+    Ok(true)
+}
+
 // Appends a record, once the blocks before the next one may be overwritten.
-fn append(log: &mut LogStore, site: &mut MemSite) -> Result<u64, Stop>
-    requires going { log_store.Invariant log.old (state_of site.old) }
+fn append<S: Site>(log: &mut LogStore, site: &mut S) -> Result<u64, Stop>
+    requires going { log_store.Invariant log.old (S.state site.old) }
     requires sizes { log.old.geometry ≡ small }
-    ensures going { log_store.Invariant log.new (state_of site.new) }
+    ensures going { log_store.Invariant log.new (S.state site.new) }
     ensures sizes { log.new.geometry ≡ small }
-    ensures goes { Preserves (state_of site.old) (state_of site.new) }
+    ensures goes { Preserves (S.state site.old) (S.state site.new) }
 {
     log.keep(log.sealed_end() / 512);
     log.append(site, &update())
@@ -87,143 +129,71 @@ fn change_front(pages: &mut PageStore, octet: u8, lsn: u64) -> bool
     true
 }
 
-// Touches a page, and gives it this octet where it is to be changed; or flushes.
-fn carry_out(
+// Touches a page, and gives its slot 5 this octet.
+fn change<S: Site>(
     pages: &mut PageStore,
     log: &mut LogStore,
-    site: &mut MemSite,
+    site: &mut S,
     page: u32,
-    what: Work,
     octet: u8,
 ) -> Result<bool, Stop>
-    requires going { AreGoing pages.old log.old (state_of site.old) }
-    requires page { page < 16 }
-    ensures going { AreGoing pages.new log.new (state_of site.new) }
+    requires going { AreGoing pages.old log.old (S.state site.old) }
+    ensures going { AreGoing pages.new log.new (S.state site.new) }
 {
-    log.keep(log.sealed_end() / 512);
-    match what {
-        Work::Flush => {
-            pages.flush_all(site, log)?;
-            Ok(true)
-        }
-        Work::Touch => {
-            pages.touch(site, log, page)?;
-            Ok(true)
-        }
-        Work::Change => {
-            pages.touch(site, log, page)?;
-            let lsn = append(log, site)?;
-            Ok(change_front(pages, octet, lsn))
-        }
+    if !touch(pages, log, site, page)? {
+        return Ok(false);
     }
+    let lsn = append(log, site)?;
+    Ok(change_front(pages, octet, lsn))
 }
 
-// Plays a script, in which the octet of a change is its place.
-fn play(
-    pages: &mut PageStore,
-    log: &mut LogStore,
-    site: &mut MemSite,
-    script: &[(u32, Work)],
-) -> Result<bool, Stop>
-    requires going { AreGoing pages.old log.old (state_of site.old) }
-    ensures going { AreGoing pages.new log.new (state_of site.new) }
+// Pushes the changed pages.
+fn flush<S: Site>(pages: &mut PageStore, log: &mut LogStore, site: &mut S) -> Result<bool, Stop>
+    requires going { AreGoing pages.old log.old (S.state site.old) }
+    ensures going { AreGoing pages.new log.new (S.state site.new) }
 {
-    for (place, (page, what)) in script.iter().enumerate() {
-        if *page >= 16 {
-            return Ok(false);
-        }
-        if !carry_out(pages, log, site, *page, *what, (place % 256) as u8)? {
-            return Ok(false);
-        }
-    }
+    log.keep(log.sealed_end() / 512);
+    pages.flush_all(site, log)?;
     Ok(true)
 }
 
-// Sixty pieces of work on a pool of three pages.
-const MIXED: [(u32, Work); 60] = [
-    (8, Work::Change),
-    (8, Work::Touch),
-    (0, Work::Change),
-    (5, Work::Touch),
-    (1, Work::Change),
-    (8, Work::Touch),
-    (1, Work::Change),
-    (0, Work::Touch),
-    (4, Work::Touch),
-    (7, Work::Touch),
-    (4, Work::Change),
-    (3, Work::Change),
-    (2, Work::Touch),
-    (2, Work::Change),
-    (6, Work::Touch),
-    (4, Work::Touch),
-    (0, Work::Change),
-    (3, Work::Touch),
-    (6, Work::Touch),
-    (2, Work::Touch),
-    (7, Work::Change),
-    (7, Work::Flush),
-    (7, Work::Touch),
-    (0, Work::Touch),
-    (2, Work::Change),
-    (3, Work::Change),
-    (8, Work::Change),
-    (8, Work::Flush),
-    (6, Work::Touch),
-    (1, Work::Change),
-    (7, Work::Change),
-    (4, Work::Change),
-    (8, Work::Touch),
-    (7, Work::Touch),
-    (8, Work::Change),
-    (8, Work::Touch),
-    (6, Work::Touch),
-    (4, Work::Touch),
-    (1, Work::Change),
-    (6, Work::Flush),
-    (4, Work::Change),
-    (8, Work::Touch),
-    (1, Work::Touch),
-    (5, Work::Touch),
-    (8, Work::Change),
-    (8, Work::Change),
-    (6, Work::Change),
-    (8, Work::Change),
-    (5, Work::Touch),
-    (6, Work::Change),
-    (8, Work::Change),
-    (3, Work::Change),
-    (5, Work::Touch),
-    (2, Work::Change),
-    (5, Work::Change),
-    (7, Work::Change),
-    (4, Work::Change),
-    (3, Work::Touch),
-    (3, Work::Change),
-    (7, Work::Flush),
-];
+// Whether slot 5 of a page has this octet.
+fn has_octet<S: Site>(
+    pages: &mut PageStore,
+    log: &mut LogStore,
+    site: &mut S,
+    page: u32,
+    octet: u8,
+) -> Result<bool, Stop>
+    requires going { AreGoing pages.old log.old (S.state site.old) }
+    ensures going { AreGoing pages.new log.new (S.state site.new) }
+{
+    if !touch(pages, log, site, page)? {
+        return Ok(false);
+    }
+    Ok(pages.get(5) == Some(&[octet]))
+}
 
-// The frames that are in the queue then: the number of the group, the frame's place in it, its page, and whether it is
-// valid, dirty and referenced.
-const FRAMES: [(u64, u8, u32, bool, bool, bool); 17] = [
-    (7, 0, 1, false, true, true),
-    (7, 1, 7, false, true, true),
-    (7, 2, 4, false, true, true),
-    (8, 0, 8, false, true, true),
-    (9, 0, 1, true, true, false),
-    (10, 0, 6, false, false, true),
-    (10, 1, 4, false, true, true),
-    (11, 0, 0, true, true, false),
-    (11, 1, 5, false, false, true),
-    (11, 2, 6, true, true, false),
-    (11, 3, 8, true, true, false),
-    (12, 0, 3, false, true, true),
-    (12, 1, 2, true, true, false),
-    (12, 2, 5, true, true, false),
-    (13, 0, 7, true, true, false),
-    (13, 1, 4, true, true, false),
-    (13, 2, 3, true, true, false),
-];
+// Makes the call of a row, whose place is this octet, and answers whether it is as the row says.
+fn carry_out<S: Site>(
+    pages: &mut PageStore,
+    log: &mut LogStore,
+    site: &mut S,
+    row: Row,
+    octet: u8,
+) -> Result<bool, Stop>
+    requires going { AreGoing pages.old log.old (S.state site.old) }
+    ensures going { AreGoing pages.new log.new (S.state site.new) }
+{
+    match row {
+        Row::Touch(page) => touch(pages, log, site, page),
+        Row::Change(page) => change(pages, log, site, page, octet),
+        Row::Flush => flush(pages, log, site),
+        Row::Octet(page, wanted) => has_octet(pages, log, site, page, wanted),
+        Row::Stops(page, stop) => Ok(touch(pages, log, site, page) == Err(stop)),
+        _ => Ok(true),
+    }
+}
 
 // The listing of a store over a site.
 fn listed(pages: &PageStore, _site: &MemSite) -> Result<Listing, Stop>
@@ -232,155 +202,251 @@ fn listed(pages: &PageStore, _site: &MemSite) -> Result<Listing, Stop>
     pages.listing()
 }
 
-// Whether the line at a place is this one.
-fn has_line(lines: &Listing, place: usize, wanted: CacheLine) -> bool {
-    place < lines.len() && *lines.at(place) == wanted
+// Whether the line at a place of the listing is this one.
+fn has_line(
+    pages: &PageStore,
+    site: &MemSite,
+    place: usize,
+    wanted: CacheLine,
+) -> Result<bool, Stop>
+    requires going { Invariant pages.now (state_of site.now) }
+{
+    let lines = listed(pages, site)?;
+    Ok(place < lines.len() && *lines.at(place) == wanted)
 }
 
-#[test]
-fn a_mixed_script(rt: HostRuntime) -> Result<(), Fail> {
-    let mut site = MemSite::new(rt.alloc(), &SMALL)?;
-    let (mut pages, mut log) = opened(rt.alloc(), &mut site, 3)?;
-    let reads = site.reads(Dev::Flash);
-    assert!(rt; play(&mut pages, &mut log, &mut site, &MIXED)?);
-    let lines = listed(&pages, &site)?;
-    assert_eq!(rt; lines.len(), 20);
-    for (place, (group, index, page, valid, dirty, referenced)) in FRAMES.iter().enumerate() {
-        let wanted = CacheLine::Frame {
-            group: *group,
-            index: *index,
-            page: *page,
-            valid: *valid,
-            dirty: *dirty,
-            referenced: *referenced,
-        };
-        assert!(rt; has_line(&lines, place, wanted));
+// Whether what a row says of the listing holds.
+fn is_listed(pages: &PageStore, site: &MemSite, row: Row) -> Result<bool, Stop>
+    requires going { Invariant pages.now (state_of site.now) }
+{
+    match row {
+        Row::Lines(count) => Ok(listed(pages, site)?.len() == count),
+        Row::Frame(place, group, index, page, valid, dirty, referenced) => {
+            let wanted = CacheLine::Frame {
+                group,
+                index,
+                page,
+                valid,
+                dirty,
+                referenced,
+            };
+            has_line(pages, site, place, wanted)
+        }
+        Row::Pool(place, page, changed) => {
+            has_line(pages, site, place, CacheLine::Pool { page, changed })
+        }
+        _ => Ok(true),
     }
-    for (place, page) in [(17, 3), (18, 4), (19, 7)] {
-        let wanted = CacheLine::Pool {
-            page,
-            changed: false,
-        };
-        assert!(rt; has_line(&lines, place, wanted));
-    }
-    // Three segments are saved.
-    assert_eq!(rt; site.changes(), 155);
-    assert_eq!(rt; site.reads(Dev::Disk), 10);
-    assert_eq!(rt; site.reads(Dev::Flash).saturating_sub(reads), 43);
-    assert_eq!(rt; log.sealed_end(), 7168);
-    Ok(())
 }
 
-// Whether slot 5 of a page has this octet.
-fn has_octet(
+// Whether what a row says of store, log and site holds. The flash had been read so often before the first row.
+fn holds(pages: &PageStore, log: &LogStore, site: &MemSite, row: Row, before: u64) -> bool
+    requires going { AreGoing pages.now log.now (state_of site.now) }
+{
+    match row {
+        Row::Ended(ended) => pages.ended() == ended,
+        Row::Changes(count) => site.changes() == count,
+        Row::DiskReads(count) => site.reads(Dev::Disk) == count,
+        Row::FlashReads(count) => site.reads(Dev::Flash).saturating_sub(before) == count,
+        Row::Sealed(end) => log.sealed_end() == end,
+        _ => true,
+    }
+}
+
+// Plays rows, and answers how many are as they say, up to the first one that isn't.
+fn play(
     pages: &mut PageStore,
     log: &mut LogStore,
     site: &mut MemSite,
-    page: u32,
-    octet: u8,
-) -> Result<bool, Stop>
+    rows: &[Row],
+) -> Result<usize, Stop>
     requires going { AreGoing pages.old log.old (state_of site.old) }
-    requires page { page < 16 }
     ensures going { AreGoing pages.new log.new (state_of site.new) }
 {
-    log.keep(log.sealed_end() / 512);
-    pages.touch(site, log, page)?;
-    Ok(pages.get(5) == Some(&[octet]))
+    let before = site.reads(Dev::Flash);
+    for (place, row) in rows.iter().enumerate() {
+        if !carry_out(pages, log, site, *row, (place % 256) as u8)? {
+            return Ok(place);
+        }
+        if !is_listed(pages, site, *row)? {
+            return Ok(place);
+        }
+        if !holds(pages, log, site, *row, before) {
+            return Ok(place);
+        }
+    }
+    Ok(rows.len())
 }
+
+// Plays rows over blank devices, with a pool of so many pages.
+fn run(alloc: Global, pool: u32, rows: &[Row]) -> Result<usize, Stop>
+    requires least { 1 ≤ pool }
+    requires most { pool ≤ 4096 }
+{
+    let mut site = MemSite::new(alloc, &SMALL)?;
+    let (mut pages, mut log) = opened(alloc, &mut site, pool)?;
+    play(&mut pages, &mut log, &mut site, rows)
+}
+
+// Sixty pieces of work on a pool of three pages, and the pool and the queue then.
+const MIXED: [Row; 85] = [
+    Row::Change(8),
+    Row::Touch(8),
+    Row::Change(0),
+    Row::Touch(5),
+    Row::Change(1),
+    Row::Touch(8),
+    Row::Change(1),
+    Row::Touch(0),
+    Row::Touch(4),
+    Row::Touch(7),
+    Row::Change(4),
+    Row::Change(3),
+    Row::Touch(2),
+    Row::Change(2),
+    Row::Touch(6),
+    Row::Touch(4),
+    Row::Change(0),
+    Row::Touch(3),
+    Row::Touch(6),
+    Row::Touch(2),
+    Row::Change(7),
+    Row::Flush,
+    Row::Touch(7),
+    Row::Touch(0),
+    Row::Change(2),
+    Row::Change(3),
+    Row::Change(8),
+    Row::Flush,
+    Row::Touch(6),
+    Row::Change(1),
+    Row::Change(7),
+    Row::Change(4),
+    Row::Touch(8),
+    Row::Touch(7),
+    Row::Change(8),
+    Row::Touch(8),
+    Row::Touch(6),
+    Row::Touch(4),
+    Row::Change(1),
+    Row::Flush,
+    Row::Change(4),
+    Row::Touch(8),
+    Row::Touch(1),
+    Row::Touch(5),
+    Row::Change(8),
+    Row::Change(8),
+    Row::Change(6),
+    Row::Change(8),
+    Row::Touch(5),
+    Row::Change(6),
+    Row::Change(8),
+    Row::Change(3),
+    Row::Touch(5),
+    Row::Change(2),
+    Row::Change(5),
+    Row::Change(7),
+    Row::Change(4),
+    Row::Touch(3),
+    Row::Change(3),
+    Row::Flush,
+    Row::Lines(20),
+    Row::Frame(0, 7, 0, 1, false, true, true),
+    Row::Frame(1, 7, 1, 7, false, true, true),
+    Row::Frame(2, 7, 2, 4, false, true, true),
+    Row::Frame(3, 8, 0, 8, false, true, true),
+    Row::Frame(4, 9, 0, 1, true, true, false),
+    Row::Frame(5, 10, 0, 6, false, false, true),
+    Row::Frame(6, 10, 1, 4, false, true, true),
+    Row::Frame(7, 11, 0, 0, true, true, false),
+    Row::Frame(8, 11, 1, 5, false, false, true),
+    Row::Frame(9, 11, 2, 6, true, true, false),
+    Row::Frame(10, 11, 3, 8, true, true, false),
+    Row::Frame(11, 12, 0, 3, false, true, true),
+    Row::Frame(12, 12, 1, 2, true, true, false),
+    Row::Frame(13, 12, 2, 5, true, true, false),
+    Row::Frame(14, 13, 0, 7, true, true, false),
+    Row::Frame(15, 13, 1, 4, true, true, false),
+    Row::Frame(16, 13, 2, 3, true, true, false),
+    Row::Pool(17, 3, false),
+    Row::Pool(18, 4, false),
+    Row::Pool(19, 7, false),
+    // Three segments are saved.
+    Row::Changes(155),
+    Row::DiskReads(10),
+    Row::FlashReads(43),
+    Row::Sealed(7_168),
+];
+
+#[test]
+fn a_mixed_script(rt: HostRuntime) -> Result<(), Fail> {
+    assert_eq!(rt; run(rt.alloc(), 3, &MIXED)?, MIXED.len());
+    Ok(())
+}
+
+const BACK: [Row; 6] = [
+    Row::Change(0),
+    Row::Change(7),
+    Row::Change(2),
+    Row::Octet(7, 1),
+    Row::Octet(0, 0),
+    Row::Octet(2, 2),
+];
 
 #[test]
 fn changed_pages_come_back(rt: HostRuntime) -> Result<(), Fail> {
-    let mut site = MemSite::new(rt.alloc(), &SMALL)?;
-    let (mut pages, mut log) = opened(rt.alloc(), &mut site, 1)?;
-    let script = [(0, Work::Change), (7, Work::Change), (2, Work::Change)];
-    assert!(rt; play(&mut pages, &mut log, &mut site, &script)?);
-    assert!(rt; has_octet(&mut pages, &mut log, &mut site, 7, 1)?);
-    assert!(rt; has_octet(&mut pages, &mut log, &mut site, 0, 0)?);
-    assert!(rt; has_octet(&mut pages, &mut log, &mut site, 2, 2)?);
+    assert_eq!(rt; run(rt.alloc(), 1, &BACK)?, BACK.len());
     Ok(())
 }
+
+const HITS: [Row; 10] = [
+    Row::Touch(3),
+    Row::Touch(4),
+    Row::DiskReads(2),
+    Row::FlashReads(0),
+    Row::Touch(3),
+    Row::Touch(3),
+    Row::Touch(4),
+    Row::DiskReads(2),
+    Row::FlashReads(0),
+    Row::Changes(0),
+];
 
 // A touch of a page that is in the pool makes no device call.
 #[test]
 fn a_hit_makes_no_call(rt: HostRuntime) -> Result<(), Fail> {
-    let mut site = MemSite::new(rt.alloc(), &SMALL)?;
-    let (mut pages, mut log) = opened(rt.alloc(), &mut site, 2)?;
-    let script = [(3, Work::Touch), (4, Work::Touch)];
-    assert!(rt; play(&mut pages, &mut log, &mut site, &script)?);
-    assert_eq!(rt; site.reads(Dev::Disk), 2);
-    let reads = site.reads(Dev::Flash);
-    let again = [(3, Work::Touch), (3, Work::Touch), (4, Work::Touch)];
-    assert!(rt; play(&mut pages, &mut log, &mut site, &again)?);
-    assert_eq!(rt; site.reads(Dev::Disk), 2);
-    assert_eq!(rt; site.reads(Dev::Flash), reads);
-    assert_eq!(rt; site.changes(), 0);
+    assert_eq!(rt; run(rt.alloc(), 2, &HITS)?, HITS.len());
     Ok(())
 }
 
-// Nine pages change in a pool of one page; page 0 is read again behind page 1.
-const NINE: [(u32, Work); 10] = [
-    (0, Work::Change),
-    (1, Work::Change),
-    (0, Work::Touch),
-    (2, Work::Change),
-    (3, Work::Change),
-    (4, Work::Change),
-    (5, Work::Change),
-    (6, Work::Change),
-    (7, Work::Change),
-    (8, Work::Change),
-];
-
-// The frames in the queue then, each by its group, its place there, and its page: page 0 has a second chance.
-const LISTED: [(u64, u8, u32); 8] = [
-    (1, 0, 1),
-    (2, 0, 2),
-    (3, 0, 3),
-    (4, 0, 4),
-    (5, 0, 5),
-    (6, 0, 6),
-    (7, 0, 0),
-    (7, 1, 7),
+// Nine pages change in a pool of one page; page 0 is read again behind page 1. In the queue it has a second chance then.
+const NINE: [Row; 20] = [
+    Row::Change(0),
+    Row::Change(1),
+    Row::Touch(0),
+    Row::Change(2),
+    Row::Change(3),
+    Row::Change(4),
+    Row::Change(5),
+    Row::Change(6),
+    Row::Change(7),
+    Row::Change(8),
+    Row::Lines(9),
+    Row::Frame(0, 1, 0, 1, true, true, false),
+    Row::Frame(1, 2, 0, 2, true, true, false),
+    Row::Frame(2, 3, 0, 3, true, true, false),
+    Row::Frame(3, 4, 0, 4, true, true, false),
+    Row::Frame(4, 5, 0, 5, true, true, false),
+    Row::Frame(5, 6, 0, 6, true, true, false),
+    Row::Frame(6, 7, 0, 0, true, true, false),
+    Row::Frame(7, 7, 1, 7, true, true, false),
+    Row::Pool(8, 8, true),
 ];
 
 #[test]
 fn nine_pages_are_listed(rt: HostRuntime) -> Result<(), Fail> {
-    let mut site = MemSite::new(rt.alloc(), &SMALL)?;
-    let (mut pages, mut log) = opened(rt.alloc(), &mut site, 1)?;
-    assert!(rt; play(&mut pages, &mut log, &mut site, &NINE)?);
-    let lines = listed(&pages, &site)?;
-    assert_eq!(rt; lines.len(), 9);
-    for (place, (group, index, page)) in LISTED.iter().enumerate() {
-        let wanted = CacheLine::Frame {
-            group: *group,
-            index: *index,
-            page: *page,
-            valid: true,
-            dirty: true,
-            referenced: false,
-        };
-        assert!(rt; has_line(&lines, place, wanted));
-    }
-    let last = CacheLine::Pool {
-        page: 8,
-        changed: true,
-    };
-    assert!(rt; has_line(&lines, 8, last));
+    assert_eq!(rt; run(rt.alloc(), 1, &NINE)?, NINE.len());
     Ok(())
-}
-
-// Two pages change in turn in a pool of one page, and only so many changes of the devices pass. Answers whether the
-// log's block and page 0's frame are there after a crash.
-fn stopped_at(alloc: Global, changes: u64, seed: u64) -> Result<(bool, bool), Stop> {
-    let mut site = MemSite::new(alloc, &SMALL)?;
-    site.fuse(changes);
-    let (mut pages, mut log) = opened(alloc, &mut site, 1)?;
-    let script = [(0, Work::Change), (1, Work::Change)];
-    let _stopped = play(&mut pages, &mut log, &mut site, &script);
-    let mut site = crashed(site, seed);
-    let log = LogStore::start(&mut site, &SMALL)?;
-    let flash = FlashCache::start(alloc, &mut site, &SMALL)?;
-    Ok((log.sealed_end() == 512, flash.holds(0)))
 }
 
 // What a crash leaves.
@@ -391,25 +457,53 @@ fn crashed(site: MemSite, seed: u64) -> MemSite
     site.crash(seed)
 }
 
+// Two pages change in turn in a pool of one page, and only so many changes of the devices pass. Answers what a crash
+// leaves then.
+fn stopped(alloc: Global, changes: u64, seed: u64) -> Result<MemSite, Stop>
+    ensures { IfOk result (λ site. HasLengths small (state_of site).image) }
+{
+    let mut site = MemSite::new(alloc, &SMALL)?;
+    site.fuse(changes);
+    let (mut pages, mut log) = opened(alloc, &mut site, 1)?;
+    let rows = [Row::Change(0), Row::Change(1)];
+    let _stopped = play(&mut pages, &mut log, &mut site, &rows);
+    Ok(crashed(site, seed))
+}
+
+// Whether the log's block and page 0's frame are there then.
+fn stopped_at(alloc: Global, changes: u64, seed: u64) -> Result<(bool, bool), Stop> {
+    let mut site = stopped(alloc, changes, seed)?;
+    let log = LogStore::start(&mut site, &SMALL)?;
+    let flash = FlashCache::start(alloc, &mut site, &SMALL)?;
+    Ok((log.sealed_end() == 512, flash.holds(0)))
+}
+
 // The log is sealed, by five changes, before the first of the five changes that append page 0.
 #[test]
 fn the_log_is_sealed_before_a_page_leaves(rt: HostRuntime) -> Result<(), Fail> {
-    assert_eq!(rt; stopped_at(rt.alloc(), 3, 1)?, (false, false));
-    assert_eq!(rt; stopped_at(rt.alloc(), 5, 1)?, (true, false));
-    assert_eq!(rt; stopped_at(rt.alloc(), 8, 1)?, (true, false));
-    assert_eq!(rt; stopped_at(rt.alloc(), 10, 1)?, (true, true));
+    for (changes, sealed, holds) in [
+        (3, false, false),
+        (5, true, false),
+        (8, true, false),
+        (10, true, true),
+    ] {
+        assert_eq!(rt; stopped_at(rt.alloc(), changes, 1)?, (sealed, holds));
+    }
     Ok(())
 }
+
+const FAULT: [Row; 4] = [
+    Row::Touch(3),
+    Row::Ended(false),
+    Row::Stops(4, Stop::Device(Dev::Disk)),
+    Row::Ended(true),
+];
 
 #[test]
 fn a_fault_ends_the_store(rt: HostRuntime) -> Result<(), Fail> {
     let mut site = MemSite::new(rt.alloc(), &SMALL)?;
     site.fail(Call::Read(Dev::Disk), 2)?;
     let (mut pages, mut log) = opened(rt.alloc(), &mut site, 2)?;
-    assert!(rt; play(&mut pages, &mut log, &mut site, &[(3, Work::Touch)])?);
-    assert!(rt; !pages.ended());
-    let stopped = play(&mut pages, &mut log, &mut site, &[(4, Work::Touch)]);
-    assert!(rt; matches!(stopped, Err(Stop::Device(Dev::Disk))));
-    assert!(rt; pages.ended());
+    assert_eq!(rt; play(&mut pages, &mut log, &mut site, &FAULT)?, FAULT.len());
     Ok(())
 }
