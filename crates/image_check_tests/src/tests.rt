@@ -1,6 +1,4 @@
-// The rules on a site in memory.
-ghost use Rattle.std.specs.Prelude.{◌<◌, ◌≤◌, length, IfOk};
-ghost use Rattle.site.specs.MemState.{state_of};
+// The rules on a site in memory. A test is a table of devices and of what is found on them, which one function plays.
 
 use checkpoint::{Master, Pairs};
 use image_check::{
@@ -40,7 +38,7 @@ const BLOCK: [u8; 55] = [
 // The first octet of the block, its gate; the last ones of what its records name; and the end of its records.
 const GATE_AT: u8 = 0;
 
-const USED_AT: usize = 10;
+const USED_AT: u64 = 10;
 
 const PREV_AT: u8 = 28;
 
@@ -50,12 +48,22 @@ const TXN_AT: u8 = 46;
 
 const COMMIT_AT: u8 = 54;
 
-// The octets of the block without its Commit, and where they end.
-const UNFINISHED_LEN: usize = 38;
+// The block of the first transaction without its Commit.
+const UNFINISHED: [u8; 38] = [
+    0xa5, // gate
+    0x00, 0x00, 0x00, 0x00, 0x00, 0x00, 0x00, 0x00, // number
+    0x00, 0x1d, // used
+    0x01, // Begin
+    0x02, // Update
+    0x00, 0x00, 0x00, 0x00, 0x00, 0x00, 0x00, 0x02, // txn
+    0x00, 0x00, 0x00, 0x00, 0x00, 0x00, 0x00, 0x02, // prev
+    0x00, 0x00, 0x00, 0x00, // page
+    0x05, // slot
+    0x00, // before
+    0x03, 0x0a, 0x0b, // after
+];
 
-const UNFINISHED_USED: u8 = 0x1d;
-
-// What a second transaction has written behind the unfinished one.
+// What a second transaction has written behind the unfinished one, from octet 38 on.
 const SECOND: [u8; 27] = [
     0x01, // Begin
     0x02, // Update
@@ -72,23 +80,173 @@ const SECOND_SLOT_AT: u8 = 60;
 
 const SECOND_USED: u8 = 0x38;
 
-// Writes octets into the first block's slot.
-fn put_in_block(site: &mut MemSite, at: u8, octets: &[u8]) -> Result<(), Failed>
-    requires few { length octets.now ≤ 65 }
-    requires long { 9728 ≤ length (state_of site.old).image.log }
-    ensures { 9728 ≤ length (state_of site.new).image.log }
-{
-    site.write_at(Dev::Log, 1_536 + at as u64, octets)
+// Where the first block's slot stands in the log.
+const BLOCK_AT: u64 = 1_536;
+
+// The front of group 0 in its slot: a clean frame of page 0.
+const GROUP: [u8; 10] = [
+    0xa5, // gate
+    0x00, 0x00, 0x00, 0x00, 0x00, 0x00, 0x00, 0x00, // number
+    0x01, // present
+];
+
+// The front of a page whose slot 5 has the last two octets, which knows of the first Update.
+const PAGE: [u8; 40] = [
+    0x00, 0x00, 0x00, 0x00, 0x00, 0x00, 0x00, 0x03, // LSN
+    0x00, 0x02, // used
+    0x00, 0x00, 0x00, 0x00, 0x00, 0x00, // zeros
+    0x00, 0x00, 0x00, 0x00, // slot 0
+    0x00, 0x00, 0x00, 0x00, // slot 1
+    0x00, 0x00, 0x00, 0x00, // slot 2
+    0x00, 0x00, 0x00, 0x00, // slot 3
+    0x00, 0x00, 0x00, 0x00, // slot 4
+    0x0f, 0xfe, 0x00, 0x03, // slot 5
+];
+
+// The gate of the first slot of groups: group 0 stands there, with a frame of page 0 that has no values and the LSN 0,
+// or it doesn't.
+const FRAMED: u8 = 0xa5;
+
+const BARE: u8 = 0;
+
+// The entry of a slot with the empty value.
+const ENTRY: [u8; 4] = [0x10, 0x00, 0x00, 0x01];
+
+// The devices of a row.
+#[derive(Clone, Copy)]
+enum Devices {
+    // Blank ones, but for this octet of the disk page, which is to be zero.
+    Blank(u8),
+    // A block at the front of the log, with another octet at a place of it: the first commit, the first transaction
+    // without its Commit, and two transactions without Commits.
+    Finished(u8, u8),
+    Unfinished(u8, u8),
+    TwoUnfinished(u8, u8),
+    // Four groups of a clean frame of page 0 each, and what is written besides.
+    Groups(Written),
+    // The block of the first commit; a disk page with the last octets of its LSN and of slot 5; the gate of group 0.
+    Page([u8; 2], u8, u8),
 }
 
-// Devices with a block at the front of the log.
-fn with_block(alloc: Global, block: &[u8]) -> Result<MemSite, Fail>
-    requires { length block.now ≤ 65 }
-    ensures { IfOk result (λ site. 9728 ≤ length (state_of site).image.log) }
-{
-    let mut site = MemSite::new(alloc, &SMALL)?;
-    put_in_block(&mut site, 0, block)?;
-    Ok(site)
+// What is written besides four groups.
+#[derive(Clone, Copy)]
+enum Written {
+    Nothing,
+    // the LSN of another page in the head of the first group
+    OtherLsn,
+    // a disk page of another form
+    OtherPage,
+    // the segment of the groups, and one with another head: a dirty frame in the fourth group
+    Segment,
+    OtherSegment,
+    // a value in slot 0 of the frame in the fourth group
+    Shown,
+    // or in those of the disk page and of the frame in the third
+    Hidden,
+}
+
+// Writes octets, each behind its device and place.
+fn put<S: Site>(site: &mut S, octets: &[(Dev, u64, &[u8])]) -> Result<(), Failed> {
+    for &(dev, at, piece) in octets {
+        let len = site.len(dev);
+        if len < at {
+            return Err(Failed);
+        }
+        if len - at < piece.len() as u64 {
+            return Err(Failed);
+        }
+        site.write_at(dev, at, piece)?;
+    }
+    Ok(())
+}
+
+// Writes segment 0, whose four groups have a frame of page 0 each: a clean one, or a dirty one in the fourth.
+fn put_segment<S: Site>(site: &mut S, dirty: u8) -> Result<(), Failed> {
+    let mut octets = [0u8; 521];
+    octets[0] = 0xa5;
+    octets[9] = 1;
+    octets[137] = 1;
+    octets[265] = 1;
+    octets[393] = 1;
+    octets[394] = dirty;
+    put(site, &[(Dev::Flash, 266_240, &octets)])
+}
+
+// Writes the fronts of four groups.
+fn put_groups<S: Site>(site: &mut S) -> Result<(), Failed> {
+    put(
+        site,
+        &[
+            (Dev::Flash, 0, &GROUP),
+            (Dev::Flash, 33_280, &GROUP),
+            (Dev::Flash, 33_288, &[1]),
+            (Dev::Flash, 66_560, &GROUP),
+            (Dev::Flash, 66_568, &[2]),
+            (Dev::Flash, 99_840, &GROUP),
+            (Dev::Flash, 99_848, &[3]),
+        ],
+    )
+}
+
+// Writes what stands besides four groups.
+fn put_besides<S: Site>(site: &mut S, written: Written) -> Result<(), Failed> {
+    match written {
+        Written::Nothing => Ok(()),
+        Written::OtherLsn => put(site, &[(Dev::Flash, 24, &[1])]),
+        Written::OtherPage => put(site, &[(Dev::Disk, 10, &[1])]),
+        Written::Segment => put_segment(site, 0),
+        Written::OtherSegment => put_segment(site, 1),
+        Written::Shown => put(site, &[(Dev::Flash, 99_993, &ENTRY)]),
+        Written::Hidden => put(
+            site,
+            &[(Dev::Disk, 16, &ENTRY), (Dev::Flash, 66_713, &ENTRY)],
+        ),
+    }
+}
+
+// Writes the devices of a row over blank ones.
+fn put_devices<S: Site>(site: &mut S, devices: Devices) -> Result<(), Failed> {
+    match devices {
+        Devices::Blank(octet) => put(site, &[(Dev::Disk, 10, &[octet])]),
+        Devices::Finished(at, octet) => put(
+            site,
+            &[
+                (Dev::Log, BLOCK_AT, &BLOCK),
+                (Dev::Log, BLOCK_AT + at as u64, &[octet]),
+            ],
+        ),
+        Devices::Unfinished(at, octet) => put(
+            site,
+            &[
+                (Dev::Log, BLOCK_AT, &UNFINISHED),
+                (Dev::Log, BLOCK_AT + at as u64, &[octet]),
+            ],
+        ),
+        Devices::TwoUnfinished(at, octet) => put(
+            site,
+            &[
+                (Dev::Log, BLOCK_AT, &UNFINISHED),
+                (Dev::Log, BLOCK_AT + 38, &SECOND),
+                (Dev::Log, BLOCK_AT + USED_AT, &[SECOND_USED]),
+                (Dev::Log, BLOCK_AT + at as u64, &[octet]),
+            ],
+        ),
+        Devices::Groups(written) => {
+            put_groups(site)?;
+            put_besides(site, written)
+        }
+        Devices::Page(lsn, value, gate) => put(
+            site,
+            &[
+                (Dev::Log, BLOCK_AT, &BLOCK),
+                (Dev::Disk, 0, &PAGE),
+                (Dev::Disk, 6, &lsn),
+                (Dev::Disk, 4_094, &[0x0a, value]),
+                (Dev::Flash, 0, &GROUP),
+                (Dev::Flash, 0, &[gate]),
+            ],
+        ),
+    }
 }
 
 // The rules on the log, the first and the third as one.
@@ -134,101 +292,20 @@ fn holds_of_log(
     Ok(Some(holds))
 }
 
-// A place in the block, another octet there, and whether a rule then holds.
-type LogRow = (u8, u8, LogRule, bool);
-
-// The first row that isn't so of devices with this block.
-fn first_wrong(
-    alloc: Global,
-    block: &[u8],
-    master: &Master,
-    rows: &[LogRow],
-) -> Result<Option<usize>, Fail>
-    requires { length block.now ≤ 65 }
-{
-    for (index, &(at, octet, rule, holds)) in rows.iter().enumerate() {
-        let mut site = with_block(alloc, block)?;
-        put_in_block(&mut site, at, &[octet])?;
-        if holds_of_log(alloc, &mut site, master, rule)? != Some(holds) {
-            return Ok(Some(index));
-        }
+// Whether a master before the second block that names these transactions, the active one or none, names the active
+// ones.
+fn names_the_active(alloc: Global, site: &mut MemSite, named: bool) -> Result<Option<bool>, Stop> {
+    let mut active = Pairs::new();
+    if named {
+        active.push(2, 3);
     }
-    Ok(None)
-}
-
-#[test]
-fn a_finished_transaction(rt: HostRuntime) -> Result<(), Fail> {
-    let rows = [
-        (GATE_AT, 0xa5, LogRule::Formed, true),
-        (GATE_AT, 0xa5, LogRule::OneCommit, true),
-        (PAGE_AT, 1, LogRule::Formed, false),
-        (TXN_AT, 3, LogRule::Formed, false),
-        (COMMIT_AT, 2, LogRule::OneCommit, false),
-    ];
-    let wrong = first_wrong(rt.alloc(), &BLOCK, &Master::blank(), &rows)?;
-    assert_eq!(rt; wrong, None);
-    Ok(())
-}
-
-// A block of the first transaction without its Commit.
-fn unfinished() -> [u8; UNFINISHED_LEN] {
-    let mut block = [0u8; UNFINISHED_LEN];
-    block.copy_from_slice(&BLOCK[..UNFINISHED_LEN]);
-    block[USED_AT] = UNFINISHED_USED;
-    block
-}
-
-#[test]
-fn an_unfinished_transaction(rt: HostRuntime) -> Result<(), Fail> {
-    let rows = [
-        (GATE_AT, 0xa5, LogRule::Room, true),
-        (GATE_AT, 0xa5, LogRule::Undoable, true),
-        (PREV_AT, 1, LogRule::Undoable, false),
-    ];
-    let wrong = first_wrong(rt.alloc(), &unfinished(), &Master::blank(), &rows)?;
-    assert_eq!(rt; wrong, None);
-    Ok(())
-}
-
-// Whether a master before the second block that names these transactions names the active ones.
-fn names_the_active(alloc: Global, active: Pairs) -> Result<Option<bool>, Fail> {
     let master = Master {
         redo: 1,
         kept: 0,
         commits: 0,
         active,
     };
-    let mut site = with_block(alloc, &unfinished())?;
-    Ok(holds_of_log(alloc, &mut site, &master, LogRule::Named)?)
-}
-
-#[test]
-fn a_master_with_an_active_transaction(rt: HostRuntime) -> Result<(), Fail> {
-    let mut active = Pairs::new();
-    active.push(2, 3);
-    assert_eq!(rt; names_the_active(rt.alloc(), active)?, Some(true));
-    assert_eq!(rt; names_the_active(rt.alloc(), Pairs::new())?, Some(false));
-    Ok(())
-}
-
-// A block of two transactions without Commits.
-fn two_unfinished() -> [u8; 65] {
-    let mut block = [0u8; 65];
-    block[..UNFINISHED_LEN].copy_from_slice(&BLOCK[..UNFINISHED_LEN]);
-    block[UNFINISHED_LEN..].copy_from_slice(&SECOND);
-    block[USED_AT] = SECOND_USED;
-    block
-}
-
-#[test]
-fn two_unfinished_transactions(rt: HostRuntime) -> Result<(), Fail> {
-    let rows = [
-        (SECOND_SLOT_AT, 6, LogRule::Apart, true),
-        (SECOND_SLOT_AT, 5, LogRule::Apart, false),
-    ];
-    let wrong = first_wrong(rt.alloc(), &two_unfinished(), &Master::blank(), &rows)?;
-    assert_eq!(rt; wrong, None);
-    Ok(())
+    holds_of_log(alloc, site, &master, LogRule::Named)
 }
 
 // The rules on the rings of flash, and on pages.
@@ -259,171 +336,6 @@ fn holds_of_pages(site: &mut MemSite, rule: PageRule) -> Result<Option<bool>, St
     Ok(Some(failing.is_none()))
 }
 
-#[test]
-fn blank_devices(rt: HostRuntime) -> Result<(), Fail> {
-    let mut site = MemSite::new(rt.alloc(), &SMALL)?;
-    assert_eq!(rt; rule_lengths(&site), Some(SMALL));
-    assert_eq!(rt; rule_master(&mut site)?, Some(Master::blank()));
-    assert_eq!(rt; holds_of_pages(&mut site, PageRule::Segments)?, Some(true));
-    Ok(())
-}
-
-#[test]
-fn a_disk_page_of_another_form(rt: HostRuntime) -> Result<(), Fail> {
-    let mut site = MemSite::new(rt.alloc(), &SMALL)?;
-    site.write_at(Dev::Disk, 10, &[1])?;
-    assert_eq!(rt; holds_of_pages(&mut site, PageRule::Versions)?, Some(false));
-    Ok(())
-}
-
-// The front of group 0 in its slot: a clean frame of page 0.
-const GROUP: [u8; 10] = [
-    0xa5, // gate
-    0x00, 0x00, 0x00, 0x00, 0x00, 0x00, 0x00, 0x00, // number
-    0x01, // present
-];
-
-// Writes the front of a group of one clean frame of page 0.
-fn put_group(site: &mut MemSite, number: u8) -> Result<(), Failed>
-    requires few { number < 8 }
-    requires long { 271360 ≤ length (state_of site.old).image.flash }
-    requires disk { 4096 ≤ length (state_of site.old).image.disk }
-    ensures long { 271360 ≤ length (state_of site.new).image.flash }
-    ensures disk { 4096 ≤ length (state_of site.new).image.disk }
-{
-    let mut octets = GROUP;
-    octets[8] = number;
-    site.write_at(Dev::Flash, 33_280 * number as u64, &octets)
-}
-
-// Writes segment 0, whose four groups have a frame of page 0 each: a clean one, or a dirty one in the fourth.
-fn put_segment(site: &mut MemSite, dirty: u8) -> Result<(), Failed>
-    requires { 271360 ≤ length (state_of site.old).image.flash }
-{
-    let mut octets = [0u8; 521];
-    octets[0] = 0xa5;
-    octets[9] = 1;
-    octets[137] = 1;
-    octets[265] = 1;
-    octets[393] = 1;
-    octets[394] = dirty;
-    site.write_at(Dev::Flash, 266_240, &octets)
-}
-
-// Devices with four groups.
-fn with_groups(alloc: Global) -> Result<MemSite, Fail>
-    ensures long { IfOk result (λ site. 271360 ≤ length (state_of site).image.flash) }
-    ensures disk { IfOk result (λ site. 4096 ≤ length (state_of site).image.disk) }
-{
-    let mut site = MemSite::new(alloc, &SMALL)?;
-    put_group(&mut site, 0)?;
-    put_group(&mut site, 1)?;
-    put_group(&mut site, 2)?;
-    put_group(&mut site, 3)?;
-    Ok(site)
-}
-
-// What is written besides four groups.
-#[derive(Clone, Copy, Drop)]
-enum Written {
-    Nothing,
-    // the LSN of another page in the head of the first group
-    OtherLsn,
-    // a disk page of another form
-    OtherPage,
-    // the segment of the groups, and one with another head
-    Segment,
-    OtherSegment,
-}
-
-fn put_written(site: &mut MemSite, written: Written) -> Result<(), Failed>
-    requires long { 271360 ≤ length (state_of site.old).image.flash }
-    requires disk { 4096 ≤ length (state_of site.old).image.disk }
-{
-    match written {
-        Written::Nothing => Ok(()),
-        Written::OtherLsn => site.write_at(Dev::Flash, 24, &[1]),
-        Written::OtherPage => site.write_at(Dev::Disk, 10, &[1]),
-        Written::Segment => put_segment(site, 0),
-        Written::OtherSegment => put_segment(site, 1),
-    }
-}
-
-// What is written, and whether a rule then holds.
-type PageRow = (Written, PageRule, bool);
-
-// The first row that isn't so.
-fn first_wrong_of_groups(alloc: Global, rows: &[PageRow]) -> Result<Option<usize>, Fail> {
-    for (index, &(written, rule, holds)) in rows.iter().enumerate() {
-        let mut site = with_groups(alloc)?;
-        put_written(&mut site, written)?;
-        if holds_of_pages(&mut site, rule)? != Some(holds) {
-            return Ok(Some(index));
-        }
-    }
-    Ok(None)
-}
-
-#[test]
-fn four_groups_of_one_frame(rt: HostRuntime) -> Result<(), Fail> {
-    let rows = [
-        (Written::Nothing, PageRule::Groups, true),
-        (Written::OtherLsn, PageRule::Groups, false),
-        (Written::OtherPage, PageRule::Versions, true),
-        (Written::Nothing, PageRule::Clean, true),
-        (Written::OtherPage, PageRule::Clean, false),
-        (Written::Segment, PageRule::Following, true),
-        (Written::OtherSegment, PageRule::Following, false),
-    ];
-    assert_eq!(rt; first_wrong_of_groups(rt.alloc(), &rows)?, None);
-    Ok(())
-}
-
-// The front of a page whose slot 5 has the last two octets, which knows of the first Update.
-const PAGE: [u8; 40] = [
-    0x00, 0x00, 0x00, 0x00, 0x00, 0x00, 0x00, 0x03, // LSN
-    0x00, 0x02, // used
-    0x00, 0x00, 0x00, 0x00, 0x00, 0x00, // zeros
-    0x00, 0x00, 0x00, 0x00, // slot 0
-    0x00, 0x00, 0x00, 0x00, // slot 1
-    0x00, 0x00, 0x00, 0x00, // slot 2
-    0x00, 0x00, 0x00, 0x00, // slot 3
-    0x00, 0x00, 0x00, 0x00, // slot 4
-    0x0f, 0xfe, 0x00, 0x03, // slot 5
-];
-
-// The gate of the first slot of groups: group 0 stands there, with a frame of page 0 that has no values and the LSN 0,
-// or it doesn't.
-const FRAMED: u8 = 0xa5;
-
-const BARE: u8 = 0;
-
-// The redo block; the last octets of the LSN and of slot 5 of the disk page; the gate of group 0; and whether versions
-// then show the block of the first commit.
-type ShownRow = (u64, [u8; 2], u8, u8, bool);
-
-// The page with these octets.
-fn page_of(lsn: [u8; 2], value: u8) -> [u8; 4096] {
-    let mut page = [0u8; 4096];
-    page[..40].copy_from_slice(&PAGE);
-    page[6] = lsn[0];
-    page[7] = lsn[1];
-    page[4_094] = 0x0a;
-    page[4_095] = value;
-    page
-}
-
-// Devices with the block of the first commit and that page.
-fn with_page(alloc: Global, lsn: [u8; 2], value: u8, gate: u8) -> Result<MemSite, Fail> {
-    let mut site = MemSite::new(alloc, &SMALL)?;
-    let mut group = GROUP;
-    group[0] = gate;
-    site.write_at(Dev::Log, 1_536, &BLOCK)?;
-    site.write_at(Dev::Disk, 0, &page_of(lsn, value))?;
-    site.write_at(Dev::Flash, 0, &group)?;
-    Ok(site)
-}
-
 // How many numbers have a value, where lengths, rings and kept blocks are so and versions show what the log has.
 fn values_after(alloc: Global, site: &mut MemSite, redo: u64) -> Result<Option<u64>, Stop> {
     let master = Master {
@@ -445,118 +357,6 @@ fn values_after(alloc: Global, site: &mut MemSite, redo: u64) -> Result<Option<u
     Ok(rule_shown(alloc, site, &log, &rings, &master)?.ok())
 }
 
-// The first row that isn't so.
-fn first_not_shown(alloc: Global, rows: &[ShownRow]) -> Result<Option<usize>, Fail> {
-    for (index, &(redo, lsn, value, gate, shown)) in rows.iter().enumerate() {
-        let mut site = with_page(alloc, lsn, value, gate)?;
-        if values_after(alloc, &mut site, redo)?.is_some() != shown {
-            return Ok(Some(index));
-        }
-    }
-    Ok(None)
-}
-
-#[test]
-fn a_page_of_the_first_commit(rt: HostRuntime) -> Result<(), Fail> {
-    let rows = [
-        (1, [0x00, 0x03], 0x0b, BARE, true),
-        (0, [0x00, 0x03], 0x0c, BARE, false),
-        (0, [0x00, 0x03], 0x0c, FRAMED, true),
-        (0, [0x00, 0x02], 0x0c, BARE, true),
-        (1, [0x00, 0x02], 0x0b, BARE, false),
-        (0, [0x01, 0xff], 0x0b, BARE, true),
-        (0, [0x02, 0x00], 0x0b, BARE, false),
-    ];
-    assert_eq!(rt; first_not_shown(rt.alloc(), &rows)?, None);
-    Ok(())
-}
-
-// The entry of a slot with the empty value.
-const ENTRY: [u8; 4] = [0x10, 0x00, 0x00, 0x01];
-
-#[test]
-fn values_of_one_transaction(rt: HostRuntime) -> Result<(), Fail> {
-    let mut finished = with_block(rt.alloc(), &BLOCK)?;
-    assert_eq!(rt; values_after(rt.alloc(), &mut finished, 0)?, Some(1));
-    let mut left = with_block(rt.alloc(), &unfinished())?;
-    assert_eq!(rt; values_after(rt.alloc(), &mut left, 0)?, Some(0));
-    Ok(())
-}
-
-// Slot 0 of the frame in the fourth group has a value, or those of the disk page and of the frame in the third.
-#[test]
-fn values_of_the_newest_frame(rt: HostRuntime) -> Result<(), Fail> {
-    let mut shown = with_groups(rt.alloc())?;
-    shown.write_at(Dev::Flash, 99_993, &ENTRY)?;
-    assert_eq!(rt; values_after(rt.alloc(), &mut shown, 0)?, Some(1));
-    let mut hidden = with_groups(rt.alloc())?;
-    hidden.write_at(Dev::Disk, 16, &ENTRY)?;
-    hidden.write_at(Dev::Flash, 66_713, &ENTRY)?;
-    assert_eq!(rt; values_after(rt.alloc(), &mut hidden, 0)?, Some(0));
-    Ok(())
-}
-
-// The verdict on devices with this block, with another octet of it.
-fn verdict_on(alloc: Global, block: &[u8], at: u8, octet: u8) -> Result<Verdict, Fail>
-    requires { length block.now ≤ 65 }
-{
-    let mut site = with_block(alloc, block)?;
-    put_in_block(&mut site, at, &[octet])?;
-    Ok(check_image(alloc, &mut site)?)
-}
-
-#[test]
-fn verdicts_on_the_first_commit(rt: HostRuntime) -> Result<(), Fail> {
-    assert_eq!(rt;
-        verdict_on(rt.alloc(), &BLOCK, GATE_AT, 0xa5)?,
-        Verdict::Sound {
-            records: 1,
-            commits: 1
-        }
-    );
-    assert_eq!(rt;
-        verdict_on(rt.alloc(), &BLOCK, TXN_AT, 3)?,
-        Verdict::Unsound {
-            rule: 3,
-            place: Place::Block(0)
-        }
-    );
-    assert_eq!(rt;
-        verdict_on(rt.alloc(), &BLOCK, COMMIT_AT, 2)?,
-        Verdict::Unsound {
-            rule: 11,
-            place: Place::Blocks
-        }
-    );
-    Ok(())
-}
-
-// The verdict on blank devices, with another octet of the one page of the disk.
-fn verdict_with_page(alloc: Global, octet: u8) -> Result<Verdict, Fail> {
-    let mut site = MemSite::new(alloc, &SMALL)?;
-    site.write_at(Dev::Disk, 10, &[octet])?;
-    Ok(check_image(alloc, &mut site)?)
-}
-
-#[test]
-fn verdicts_on_blank_devices(rt: HostRuntime) -> Result<(), Fail> {
-    assert_eq!(rt;
-        verdict_with_page(rt.alloc(), 0)?,
-        Verdict::Sound {
-            records: 0,
-            commits: 0
-        }
-    );
-    assert_eq!(rt;
-        verdict_with_page(rt.alloc(), 1)?,
-        Verdict::Unsound {
-            rule: 1,
-            place: Place::Page(0)
-        }
-    );
-    Ok(())
-}
-
 // The place where devices fail the first rule that fails, if one does.
 fn place_on(alloc: Global, site: &mut MemSite) -> Result<Option<Place>, Stop> {
     match check_image(alloc, site)? {
@@ -565,65 +365,346 @@ fn place_on(alloc: Global, site: &mut MemSite) -> Result<Option<Place>, Stop> {
     }
 }
 
-// A place in the first commit's block, another octet there, and the place that is then found.
-type BlockPlaceRow = (u8, u8, Option<Place>);
+// What is asked of devices, and what is found.
+#[derive(Clone, Copy)]
+enum Finds {
+    // Whether a rule on the log holds, under the master of blank devices.
+    OnLog(LogRule, bool),
+    // Whether a master that names the active transaction, or none, names the active ones.
+    Named(bool, bool),
+    // The sizes and the master are those of blank devices.
+    Lengths,
+    Master,
+    // Whether a rule on the rings of flash or on pages holds.
+    OnPages(PageRule, bool),
+    // Whether versions show what the log has from this redo block on, and how many numbers then have a value.
+    Shown(u64, bool),
+    Values(u64, u64),
+    // The verdict, or its place alone.
+    Judged(Verdict),
+    At(Option<Place>),
+}
 
-// The first row that isn't so.
-fn first_misplaced(alloc: Global, rows: &[BlockPlaceRow]) -> Result<Option<usize>, Fail> {
-    for (index, &(at, octet, place)) in rows.iter().enumerate() {
-        let mut site = with_block(alloc, &BLOCK)?;
-        put_in_block(&mut site, at, &[octet])?;
-        if place_on(alloc, &mut site)? != place {
-            return Ok(Some(index));
+// Whether this is found.
+fn is_found(alloc: Global, site: &mut MemSite, found: Finds) -> Result<bool, Stop> {
+    match found {
+        Finds::OnLog(rule, holds) => {
+            Ok(holds_of_log(alloc, site, &Master::blank(), rule)? == Some(holds))
+        }
+        Finds::Named(named, holds) => Ok(names_the_active(alloc, site, named)? == Some(holds)),
+        Finds::Lengths => Ok(rule_lengths(site) == Some(SMALL)),
+        Finds::Master => {
+            if site.len(Dev::Log) < 1_536 {
+                return Ok(false);
+            }
+            Ok(rule_master(site)? == Some(Master::blank()))
+        }
+        Finds::OnPages(rule, holds) => Ok(holds_of_pages(site, rule)? == Some(holds)),
+        Finds::Shown(redo, shown) => Ok(values_after(alloc, site, redo)?.is_some() == shown),
+        Finds::Values(redo, count) => Ok(values_after(alloc, site, redo)? == Some(count)),
+        Finds::Judged(verdict) => Ok(check_image(alloc, site)? == verdict),
+        Finds::At(place) => Ok(place_on(alloc, site)? == place),
+    }
+}
+
+// Makes the devices of each row, and answers of how many this is found, up to the first one of which it isn't.
+fn play(alloc: Global, rows: &[(Devices, Finds)]) -> Result<usize, Fail> {
+    for (index, &(devices, found)) in rows.iter().enumerate() {
+        let mut site = MemSite::new(alloc, &SMALL)?;
+        put_devices(&mut site, devices)?;
+        if !is_found(alloc, &mut site, found)? {
+            return Ok(index);
         }
     }
-    Ok(None)
+    Ok(rows.len())
+}
+
+#[test]
+fn a_finished_transaction(rt: HostRuntime) -> Result<(), Fail> {
+    let rows = [
+        (
+            Devices::Finished(GATE_AT, 0xa5),
+            Finds::OnLog(LogRule::Formed, true),
+        ),
+        (
+            Devices::Finished(GATE_AT, 0xa5),
+            Finds::OnLog(LogRule::OneCommit, true),
+        ),
+        (
+            Devices::Finished(PAGE_AT, 1),
+            Finds::OnLog(LogRule::Formed, false),
+        ),
+        (
+            Devices::Finished(TXN_AT, 3),
+            Finds::OnLog(LogRule::Formed, false),
+        ),
+        (
+            Devices::Finished(COMMIT_AT, 2),
+            Finds::OnLog(LogRule::OneCommit, false),
+        ),
+    ];
+    assert_eq!(rt; play(rt.alloc(), &rows)?, rows.len());
+    Ok(())
+}
+
+#[test]
+fn an_unfinished_transaction(rt: HostRuntime) -> Result<(), Fail> {
+    let rows = [
+        (
+            Devices::Unfinished(GATE_AT, 0xa5),
+            Finds::OnLog(LogRule::Room, true),
+        ),
+        (
+            Devices::Unfinished(GATE_AT, 0xa5),
+            Finds::OnLog(LogRule::Undoable, true),
+        ),
+        (
+            Devices::Unfinished(PREV_AT, 1),
+            Finds::OnLog(LogRule::Undoable, false),
+        ),
+    ];
+    assert_eq!(rt; play(rt.alloc(), &rows)?, rows.len());
+    Ok(())
+}
+
+#[test]
+fn a_master_with_an_active_transaction(rt: HostRuntime) -> Result<(), Fail> {
+    let rows = [
+        (Devices::Unfinished(GATE_AT, 0xa5), Finds::Named(true, true)),
+        (
+            Devices::Unfinished(GATE_AT, 0xa5),
+            Finds::Named(false, false),
+        ),
+    ];
+    assert_eq!(rt; play(rt.alloc(), &rows)?, rows.len());
+    Ok(())
+}
+
+#[test]
+fn two_unfinished_transactions(rt: HostRuntime) -> Result<(), Fail> {
+    let rows = [
+        (
+            Devices::TwoUnfinished(SECOND_SLOT_AT, 6),
+            Finds::OnLog(LogRule::Apart, true),
+        ),
+        (
+            Devices::TwoUnfinished(SECOND_SLOT_AT, 5),
+            Finds::OnLog(LogRule::Apart, false),
+        ),
+    ];
+    assert_eq!(rt; play(rt.alloc(), &rows)?, rows.len());
+    Ok(())
+}
+
+#[test]
+fn blank_devices(rt: HostRuntime) -> Result<(), Fail> {
+    let rows = [
+        (Devices::Blank(0), Finds::Lengths),
+        (Devices::Blank(0), Finds::Master),
+        (Devices::Blank(0), Finds::OnPages(PageRule::Segments, true)),
+    ];
+    assert_eq!(rt; play(rt.alloc(), &rows)?, rows.len());
+    Ok(())
+}
+
+#[test]
+fn a_disk_page_of_another_form(rt: HostRuntime) -> Result<(), Fail> {
+    let rows = [(Devices::Blank(1), Finds::OnPages(PageRule::Versions, false))];
+    assert_eq!(rt; play(rt.alloc(), &rows)?, rows.len());
+    Ok(())
+}
+
+#[test]
+fn four_groups_of_one_frame(rt: HostRuntime) -> Result<(), Fail> {
+    let rows = [
+        (
+            Devices::Groups(Written::Nothing),
+            Finds::OnPages(PageRule::Groups, true),
+        ),
+        (
+            Devices::Groups(Written::OtherLsn),
+            Finds::OnPages(PageRule::Groups, false),
+        ),
+        (
+            Devices::Groups(Written::OtherPage),
+            Finds::OnPages(PageRule::Versions, true),
+        ),
+        (
+            Devices::Groups(Written::Nothing),
+            Finds::OnPages(PageRule::Clean, true),
+        ),
+        (
+            Devices::Groups(Written::OtherPage),
+            Finds::OnPages(PageRule::Clean, false),
+        ),
+        (
+            Devices::Groups(Written::Segment),
+            Finds::OnPages(PageRule::Following, true),
+        ),
+        (
+            Devices::Groups(Written::OtherSegment),
+            Finds::OnPages(PageRule::Following, false),
+        ),
+    ];
+    assert_eq!(rt; play(rt.alloc(), &rows)?, rows.len());
+    Ok(())
+}
+
+#[test]
+fn a_page_of_the_first_commit(rt: HostRuntime) -> Result<(), Fail> {
+    let rows = [
+        (
+            Devices::Page([0x00, 0x03], 0x0b, BARE),
+            Finds::Shown(1, true),
+        ),
+        (
+            Devices::Page([0x00, 0x03], 0x0c, BARE),
+            Finds::Shown(0, false),
+        ),
+        (
+            Devices::Page([0x00, 0x03], 0x0c, FRAMED),
+            Finds::Shown(0, true),
+        ),
+        (
+            Devices::Page([0x00, 0x02], 0x0c, BARE),
+            Finds::Shown(0, true),
+        ),
+        (
+            Devices::Page([0x00, 0x02], 0x0b, BARE),
+            Finds::Shown(1, false),
+        ),
+        (
+            Devices::Page([0x01, 0xff], 0x0b, BARE),
+            Finds::Shown(0, true),
+        ),
+        (
+            Devices::Page([0x02, 0x00], 0x0b, BARE),
+            Finds::Shown(0, false),
+        ),
+    ];
+    assert_eq!(rt; play(rt.alloc(), &rows)?, rows.len());
+    Ok(())
+}
+
+#[test]
+fn values_of_one_transaction(rt: HostRuntime) -> Result<(), Fail> {
+    let rows = [
+        (Devices::Finished(GATE_AT, 0xa5), Finds::Values(0, 1)),
+        (Devices::Unfinished(GATE_AT, 0xa5), Finds::Values(0, 0)),
+    ];
+    assert_eq!(rt; play(rt.alloc(), &rows)?, rows.len());
+    Ok(())
+}
+
+// Slot 0 of the frame in the fourth group has a value, or those of the disk page and of the frame in the third.
+#[test]
+fn values_of_the_newest_frame(rt: HostRuntime) -> Result<(), Fail> {
+    let rows = [
+        (Devices::Groups(Written::Shown), Finds::Values(0, 1)),
+        (Devices::Groups(Written::Hidden), Finds::Values(0, 0)),
+    ];
+    assert_eq!(rt; play(rt.alloc(), &rows)?, rows.len());
+    Ok(())
+}
+
+#[test]
+fn verdicts_on_the_first_commit(rt: HostRuntime) -> Result<(), Fail> {
+    let rows = [
+        (
+            Devices::Finished(GATE_AT, 0xa5),
+            Finds::Judged(Verdict::Sound {
+                records: 1,
+                commits: 1,
+            }),
+        ),
+        (
+            Devices::Finished(TXN_AT, 3),
+            Finds::Judged(Verdict::Unsound {
+                rule: 3,
+                place: Place::Block(0),
+            }),
+        ),
+        (
+            Devices::Finished(COMMIT_AT, 2),
+            Finds::Judged(Verdict::Unsound {
+                rule: 11,
+                place: Place::Blocks,
+            }),
+        ),
+    ];
+    assert_eq!(rt; play(rt.alloc(), &rows)?, rows.len());
+    Ok(())
+}
+
+#[test]
+fn verdicts_on_blank_devices(rt: HostRuntime) -> Result<(), Fail> {
+    let rows = [
+        (
+            Devices::Blank(0),
+            Finds::Judged(Verdict::Sound {
+                records: 0,
+                commits: 0,
+            }),
+        ),
+        (
+            Devices::Blank(1),
+            Finds::Judged(Verdict::Unsound {
+                rule: 1,
+                place: Place::Page(0),
+            }),
+        ),
+    ];
+    assert_eq!(rt; play(rt.alloc(), &rows)?, rows.len());
+    Ok(())
 }
 
 #[test]
 fn places_in_the_log(rt: HostRuntime) -> Result<(), Fail> {
     let rows = [
-        (GATE_AT, 0xa5, None),
-        (PAGE_AT, 1, Some(Place::Block(0))),
-        (TXN_AT, 3, Some(Place::Block(0))),
+        (Devices::Finished(GATE_AT, 0xa5), Finds::At(None)),
+        (
+            Devices::Finished(PAGE_AT, 1),
+            Finds::At(Some(Place::Block(0))),
+        ),
+        (
+            Devices::Finished(TXN_AT, 3),
+            Finds::At(Some(Place::Block(0))),
+        ),
     ];
-    assert_eq!(rt; first_misplaced(rt.alloc(), &rows)?, None);
+    assert_eq!(rt; play(rt.alloc(), &rows)?, rows.len());
     Ok(())
-}
-
-// What is written besides four groups, and the place that is then found.
-type GroupPlaceRow = (Written, Option<Place>);
-
-// The first row that isn't so.
-fn first_misplaced_of_groups(alloc: Global, rows: &[GroupPlaceRow]) -> Result<Option<usize>, Fail> {
-    for (index, &(written, place)) in rows.iter().enumerate() {
-        let mut site = with_groups(alloc)?;
-        put_written(&mut site, written)?;
-        if place_on(alloc, &mut site)? != place {
-            return Ok(Some(index));
-        }
-    }
-    Ok(None)
 }
 
 #[test]
 fn places_in_four_groups(rt: HostRuntime) -> Result<(), Fail> {
     let rows = [
-        (Written::Nothing, None),
-        (Written::OtherLsn, Some(Place::Group(0))),
-        (Written::OtherPage, Some(Place::Group(3))),
-        (Written::OtherSegment, Some(Place::Group(3))),
+        (Devices::Groups(Written::Nothing), Finds::At(None)),
+        (
+            Devices::Groups(Written::OtherLsn),
+            Finds::At(Some(Place::Group(0))),
+        ),
+        (
+            Devices::Groups(Written::OtherPage),
+            Finds::At(Some(Place::Group(3))),
+        ),
+        (
+            Devices::Groups(Written::OtherSegment),
+            Finds::At(Some(Place::Group(3))),
+        ),
     ];
-    assert_eq!(rt; first_misplaced_of_groups(rt.alloc(), &rows)?, None);
+    assert_eq!(rt; play(rt.alloc(), &rows)?, rows.len());
     Ok(())
 }
 
 #[test]
 fn places_on_pages(rt: HostRuntime) -> Result<(), Fail> {
-    let mut other = MemSite::new(rt.alloc(), &SMALL)?;
-    other.write_at(Dev::Disk, 10, &[1])?;
-    assert_eq!(rt; place_on(rt.alloc(), &mut other)?, Some(Place::Page(0)));
-    let mut unshown = with_page(rt.alloc(), [0x00, 0x03], 0x0c, BARE)?;
-    assert_eq!(rt; place_on(rt.alloc(), &mut unshown)?, Some(Place::Page(0)));
+    let rows = [
+        (Devices::Blank(1), Finds::At(Some(Place::Page(0)))),
+        (
+            Devices::Page([0x00, 0x03], 0x0c, BARE),
+            Finds::At(Some(Place::Page(0))),
+        ),
+    ];
+    assert_eq!(rt; play(rt.alloc(), &rows)?, rows.len());
     Ok(())
 }
