@@ -1,10 +1,11 @@
-// The database over a site in memory. What is expected was worked out by hand.
+// The database over a site in memory. What is expected was worked out by hand. A test is a table of rows, which one
+// function plays.
 ghost use Rattle.site.specs.MemState.{state_of};
 ghost use Rattle.std.specs.Prelude.{OnOk, ◌<◌, length};
 ghost use Rattle.engine.specs.Invariant.{Invariant};
 
 use engine::Engine;
-use record_model::{Command, Octets, Reply, Stat, Why};
+use record_model::{Octets, Reply, Stat, Why};
 use site::{Call, Dev, Failed, Geometry, MemSite, Site, Stop};
 use std::alloc::Global;
 use std::test::Fail;
@@ -21,371 +22,49 @@ const SMALL: Geometry = Geometry {
     blocks: 16,
 };
 
+// What is asked of the database.
+#[derive(Clone, Copy)]
+enum Ask {
+    Begin(u32),
+    Read(u32, u32),
+    Write(u32, u32, u8),
+    Erase(u32, u32),
+    Commit(u32),
+    Abort(u32),
+    Get(u32),
+    Set(u32, u8),
+    Checkpoint,
+    // A record is set to this octet 120 times.
+    SetLong(u32, u8),
+    Stat,
+    // The first of 120 octets 0x5A on the flash is set to this one, while the database goes on.
+    Put(u8),
+}
+
+// What the database answers.
+#[derive(Clone, Copy)]
+enum Answer {
+    Done,
+    Nothing,
+    Aborted,
+    Checked,
+    Committed(u64),
+    // The record has this octet alone, or this one and then 119 times the other.
+    Found(u8),
+    FoundLong(u8, u8),
+    Busy(u32),
+    Refused(Why),
+    // So many records are used and owed, of 15 that there is room for.
+    Full(u64, u64),
+    Stat(Stat),
+}
+
 // A value of one octet.
 fn octet(octet: u8) -> Octets {
     match Octets::from_slice(&[octet]) {
         Some(octets) => octets,
         None => unreachable!(),
     }
-}
-
-fn begin(session: u32) -> Command {
-    Command::Begin { session }
-}
-
-fn read(session: u32, number: u32) -> Command {
-    Command::Read { session, number }
-}
-
-fn write(session: u32, number: u32, value: u8) -> Command {
-    Command::Write {
-        session,
-        number,
-        value: octet(value),
-    }
-}
-
-fn erase(session: u32, number: u32) -> Command {
-    Command::Erase { session, number }
-}
-
-fn commit(session: u32) -> Command {
-    Command::Commit { session }
-}
-
-fn abort(session: u32) -> Command {
-    Command::Abort { session }
-}
-
-fn get(number: u32) -> Command {
-    Command::Get { number }
-}
-
-fn set(number: u32, value: u8) -> Command {
-    Command::Set {
-        number,
-        value: octet(value),
-    }
-}
-
-fn found(value: u8) -> Reply {
-    Reply::Value(octet(value))
-}
-
-fn full(used: u64, owed: u64) -> Reply {
-    Reply::Full {
-        used,
-        owed,
-        cap: 15,
-    }
-}
-
-// Whether two replies are the same.
-fn same(reply: &Reply, wanted: &Reply) -> bool {
-    match (reply, wanted) {
-        (Reply::Done, Reply::Done) => true,
-        (Reply::Nothing, Reply::Nothing) => true,
-        (Reply::Aborted, Reply::Aborted) | (Reply::Checked, Reply::Checked) => true,
-        (Reply::Value(a), Reply::Value(b)) => a.as_slice() == b.as_slice(),
-        (Reply::Committed(a), Reply::Committed(b)) => a == b,
-        (Reply::Stat(a), Reply::Stat(b)) => a == b,
-        (Reply::Busy(a), Reply::Busy(b)) => a == b,
-        (Reply::Refused(a), Reply::Refused(b)) => a == b,
-        (
-            Reply::Full { used, owed, cap },
-            Reply::Full {
-                used: wanted_used,
-                owed: wanted_owed,
-                cap: wanted_cap,
-            },
-        ) => used == wanted_used && owed == wanted_owed && cap == wanted_cap,
-        _ => false,
-    }
-}
-
-// Carries out a command.
-fn call(engine: &mut Engine, site: &mut MemSite, command: &Command) -> Result<Reply, Stop>
-    requires going { Invariant engine.old (state_of site.old) }
-    ensures going { OnOk result (Invariant engine.new (state_of site.new)) }
-{
-    match command {
-        Command::Begin { session } => engine.begin(site, *session),
-        Command::Read { session, number } => engine.read(site, *session, *number),
-        Command::Write {
-            session,
-            number,
-            value,
-        } => engine.write(site, *session, *number, value),
-        Command::Erase { session, number } => engine.erase(site, *session, *number),
-        Command::Commit { session } => engine.commit(site, *session),
-        Command::Abort { session } => engine.abort(site, *session),
-        Command::Get { number } => engine.get(site, *number),
-        Command::Set { number, value } => engine.set(site, *number, value),
-        Command::Checkpoint => engine.checkpoint(site),
-        _ => Ok(engine.stat()),
-    }
-}
-
-// Carries out commands, and answers how many of them got the replies that are wanted, up to the first one that didn't.
-fn play(engine: &mut Engine, site: &mut MemSite, script: &[(Command, Reply)]) -> Result<usize, Stop>
-    requires going { Invariant engine.old (state_of site.old) }
-    ensures going { OnOk result (Invariant engine.new (state_of site.new)) }
-{
-    for (place, (command, wanted)) in script.iter().enumerate() {
-        let reply = call(engine, site, command)?;
-        if !same(&reply, wanted) {
-            return Ok(place);
-        }
-    }
-    Ok(script.len())
-}
-
-// Starts on a site, and plays a script.
-fn run(alloc: Global, site: &mut MemSite, script: &[(Command, Reply)]) -> Result<usize, Stop> {
-    let mut engine = Engine::start(alloc, site, 1)?;
-    play(&mut engine, site, script)
-}
-
-#[test]
-fn a_pending_write_is_seen_by_its_session_alone(rt: HostRuntime) -> Result<(), Fail> {
-    let script = [
-        (begin(0), Reply::Done),
-        (write(0, 7, 0x01), Reply::Done),
-        (begin(1), Reply::Done),
-        (read(1, 7), Reply::Busy(0)),
-        (get(7), Reply::Busy(0)),
-        (set(7, 0x02), Reply::Busy(0)),
-        (read(0, 7), found(0x01)),
-        (abort(0), Reply::Aborted),
-        (read(1, 7), Reply::Nothing),
-    ];
-    let mut site = MemSite::new(rt.alloc(), &STANDARD)?;
-    assert_eq!(rt; run(rt.alloc(), &mut site, &script)?, script.len());
-    Ok(())
-}
-
-#[test]
-fn read_locks_last_to_the_end(rt: HostRuntime) -> Result<(), Fail> {
-    let script = [
-        (begin(0), Reply::Done),
-        (begin(1), Reply::Done),
-        (read(0, 9), Reply::Nothing),
-        (read(1, 9), Reply::Nothing),
-        (write(0, 9, 0xaa), Reply::Busy(1)),
-        (commit(1), Reply::Committed(1)),
-        (write(0, 9, 0xaa), Reply::Done),
-        (commit(0), Reply::Committed(2)),
-        (get(9), found(0xaa)),
-    ];
-    let mut site = MemSite::new(rt.alloc(), &STANDARD)?;
-    assert_eq!(rt; run(rt.alloc(), &mut site, &script)?, script.len());
-    Ok(())
-}
-
-#[test]
-fn an_erased_record_has_nothing(rt: HostRuntime) -> Result<(), Fail> {
-    let script = [
-        (begin(0), Reply::Done),
-        (write(0, 1, 0xaa), Reply::Done),
-        (erase(0, 1), Reply::Done),
-        (read(0, 1), Reply::Nothing),
-        (commit(0), Reply::Committed(1)),
-        (get(1), Reply::Nothing),
-    ];
-    let mut site = MemSite::new(rt.alloc(), &STANDARD)?;
-    assert_eq!(rt; run(rt.alloc(), &mut site, &script)?, script.len());
-    Ok(())
-}
-
-#[test]
-fn what_may_not_be_is_refused(rt: HostRuntime) -> Result<(), Fail> {
-    let script = [
-        (begin(8), Reply::Refused(Why::BadSession)),
-        (read(0, 0), Reply::Refused(Why::BadSession)),
-        (begin(0), Reply::Done),
-        (begin(0), Reply::Refused(Why::BadSession)),
-        (write(1, 0, 0x01), Reply::Refused(Why::BadSession)),
-        (erase(1, 0), Reply::Refused(Why::BadSession)),
-        (commit(1), Reply::Refused(Why::BadSession)),
-        (abort(1), Reply::Refused(Why::BadSession)),
-        (read(0, 512), Reply::Refused(Why::NoRecord)),
-        (write(0, 512, 0x01), Reply::Refused(Why::NoRecord)),
-        (get(512), Reply::Refused(Why::NoRecord)),
-        (set(512, 0x01), Reply::Refused(Why::NoRecord)),
-        (set(5, 0xab), Reply::Committed(1)),
-        (get(5), found(0xab)),
-    ];
-    let mut site = MemSite::new(rt.alloc(), &STANDARD)?;
-    assert_eq!(rt; run(rt.alloc(), &mut site, &script)?, script.len());
-    Ok(())
-}
-
-#[test]
-fn undoing_has_room(rt: HostRuntime) -> Result<(), Fail> {
-    let counts = Stat {
-        commits: 0,
-        used: 14,
-        owed: 0,
-        cap: 15,
-        active: 0,
-    };
-    let script = [
-        (begin(0), Reply::Done),
-        (write(0, 1, 0xaa), Reply::Done),
-        (write(0, 1, 0xaa), Reply::Done),
-        (write(0, 1, 0xaa), Reply::Done),
-        (write(0, 1, 0xaa), Reply::Done),
-        (write(0, 1, 0xaa), Reply::Done),
-        (write(0, 1, 0xaa), Reply::Done),
-        (write(0, 1, 0xaa), full(7, 7)),
-        (abort(0), Reply::Aborted),
-        (Command::Stat, Reply::Stat(counts)),
-        (set(0, 0xaa), Reply::Committed(1)),
-    ];
-    let mut site = MemSite::new(rt.alloc(), &SMALL)?;
-    assert_eq!(rt; run(rt.alloc(), &mut site, &script)?, script.len());
-    Ok(())
-}
-
-#[test]
-fn each_session_has_room_to_end(rt: HostRuntime) -> Result<(), Fail> {
-    let counts = Stat {
-        commits: 1,
-        used: 8,
-        owed: 7,
-        cap: 15,
-        active: 7,
-    };
-    let script = [
-        (begin(0), Reply::Done),
-        (begin(1), Reply::Done),
-        (begin(2), Reply::Done),
-        (begin(3), Reply::Done),
-        (begin(4), Reply::Done),
-        (begin(5), Reply::Done),
-        (begin(6), Reply::Done),
-        (begin(7), full(7, 7)),
-        (commit(0), Reply::Committed(1)),
-        (begin(7), Reply::Done),
-        (Command::Stat, Reply::Stat(counts)),
-    ];
-    let mut site = MemSite::new(rt.alloc(), &SMALL)?;
-    assert_eq!(rt; run(rt.alloc(), &mut site, &script)?, script.len());
-    Ok(())
-}
-
-// Stops the commit of a session at one of its changes, and answers whether the next run finds it done.
-fn survives(alloc: Global, changes: u64, seed: u64) -> Result<Option<bool>, Stop> {
-    let mut site = MemSite::new(alloc, &STANDARD)?;
-    let script = [
-        (begin(3), Reply::Done),
-        (write(3, 5, 0x0a), Reply::Done),
-        (write(3, 40, 0x0b), Reply::Done),
-    ];
-    // A start on blank devices saves a master, by five changes. The writes stay in memory, as both pages do.
-    site.fuse(changes.saturating_add(5));
-    let mut engine = Engine::start(alloc, &mut site, 2)?;
-    if play(&mut engine, &mut site, &script)? < script.len() {
-        return Ok(None);
-    }
-    let answered = engine.commit(&mut site, 3).is_ok();
-    let ended = engine.ended();
-    let mut site = site.crash(seed);
-    let mut engine = Engine::start(alloc, &mut site, 1)?;
-    let done = engine.commits() == 1;
-    if answered == ended || answered && !done {
-        return Ok(None);
-    }
-    let script = if done {
-        [(get(5), found(0x0a)), (get(40), found(0x0b))]
-    } else {
-        [(get(5), Reply::Nothing), (get(40), Reply::Nothing)]
-    };
-    if play(&mut engine, &mut site, &script)? < script.len() {
-        return Ok(None);
-    }
-    Ok(Some(done))
-}
-
-#[test]
-fn a_stopped_commit_is_done_or_not(rt: HostRuntime) -> Result<(), Fail> {
-    // By the change that is stopped, and by the seeds 0, 1, 2 and 77.
-    let rows: [[bool; 4]; 7] = [
-        [false, false, false, false],
-        [false, false, false, false],
-        [false, false, false, false],
-        [true, false, true, false],
-        [true, false, true, false],
-        [true, true, true, true],
-        [true, true, true, true],
-    ];
-    for (changes, row) in rows.iter().enumerate() {
-        for (seed, done) in [0, 1, 2, 77].iter().zip(row) {
-            assert_eq!(rt; survives(rt.alloc(), changes as u64, *seed)?, Some(*done));
-        }
-    }
-    Ok(())
-}
-
-// A session's writes are sealed by the set of another record, and the session never ends.
-fn half_done(alloc: Global) -> Result<MemSite, Stop> {
-    let mut site = MemSite::new(alloc, &STANDARD)?;
-    let script = [
-        (set(1, 0xcc), Reply::Committed(1)),
-        (begin(0), Reply::Done),
-        (write(0, 1, 0xaa), Reply::Done),
-        (write(0, 2, 0xbb), Reply::Done),
-        (erase(0, 1), Reply::Done),
-        (set(5, 0x05), Reply::Committed(2)),
-    ];
-    let _played = run(alloc, &mut site, &script)?;
-    Ok(site.crash(1))
-}
-
-// Whether a run finds the table as it was before the session, and two commits.
-fn is_undone(alloc: Global, site: &mut MemSite) -> Result<bool, Stop> {
-    let mut engine = Engine::start(alloc, site, 1)?;
-    if engine.commits() != 2 {
-        return Ok(false);
-    }
-    let script = [
-        (get(1), found(0xcc)),
-        (get(2), Reply::Nothing),
-        (get(5), found(0x05)),
-        (begin(0), Reply::Done),
-        (write(0, 1, 0xdd), Reply::Done),
-        (read(0, 1), found(0xdd)),
-        (abort(0), Reply::Aborted),
-        (get(1), found(0xcc)),
-    ];
-    Ok(play(&mut engine, site, &script)? == script.len())
-}
-
-#[test]
-fn what_is_not_committed_is_undone(rt: HostRuntime) -> Result<(), Fail> {
-    let mut site = half_done(rt.alloc())?;
-    assert!(rt; is_undone(rt.alloc(), &mut site)?);
-    let mut site = site.crash(0);
-    assert!(rt; is_undone(rt.alloc(), &mut site)?);
-    Ok(())
-}
-
-#[test]
-fn a_stopped_restart_is_done_again(rt: HostRuntime) -> Result<(), Fail> {
-    for seed in [0, 1, 2, 77] {
-        for changes in 0..16 {
-            let mut site = half_done(rt.alloc())?;
-            site.fuse(changes);
-            let started = Engine::start(rt.alloc(), &mut site, 1).is_ok();
-            assert_eq!(rt; started, changes >= 15);
-            let mut site = site.crash(seed);
-            site.fuse(changes);
-            let _started = Engine::start(rt.alloc(), &mut site, 1).is_ok();
-            let mut site = site.crash(seed);
-            assert!(rt; is_undone(rt.alloc(), &mut site)?);
-        }
-    }
-    Ok(())
 }
 
 // A value of 120 octets.
@@ -396,17 +75,50 @@ fn long(octet: u8) -> Octets {
     }
 }
 
-fn set_long(number: u32, octet: u8) -> Command {
-    Command::Set {
-        number,
-        value: long(octet),
+// Whether a value is this octet, and then 119 times the other.
+fn is_long(value: &Octets, first: u8, octet: u8) -> bool {
+    let mut wanted = [octet; 120];
+    wanted[0] = first;
+    value.as_slice() == wanted.as_slice()
+}
+
+// Whether a reply is this answer.
+fn is_answer(reply: &Reply, answer: Answer) -> bool {
+    match (reply, answer) {
+        (Reply::Done, Answer::Done) => true,
+        (Reply::Nothing, Answer::Nothing) => true,
+        (Reply::Aborted, Answer::Aborted) => true,
+        (Reply::Checked, Answer::Checked) => true,
+        (Reply::Committed(number), Answer::Committed(wanted)) => *number == wanted,
+        (Reply::Value(value), Answer::Found(octet)) => value.as_slice() == [octet].as_slice(),
+        (Reply::Value(value), Answer::FoundLong(first, octet)) => is_long(value, first, octet),
+        (Reply::Busy(session), Answer::Busy(wanted)) => *session == wanted,
+        (Reply::Refused(why), Answer::Refused(wanted)) => *why == wanted,
+        (Reply::Full { used, owed, cap }, Answer::Full(wanted_used, wanted_owed)) => {
+            *used == wanted_used && *owed == wanted_owed && *cap == 15
+        }
+        (Reply::Stat(counts), Answer::Stat(wanted)) => *counts == wanted,
+        _ => false,
     }
 }
 
-fn found_long(value: &[u8; 120]) -> Reply {
-    match Octets::from_slice(value) {
-        Some(octets) => Reply::Value(octets),
-        None => unreachable!(),
+// Asks the database.
+fn call<S: Site>(engine: &mut Engine, site: &mut S, ask: Ask) -> Result<Reply, Stop>
+    requires going { Invariant engine.old (S.state site.old) }
+    ensures going { OnOk result (Invariant engine.new (S.state site.new)) }
+{
+    match ask {
+        Ask::Begin(session) => engine.begin(site, session),
+        Ask::Read(session, number) => engine.read(site, session, number),
+        Ask::Write(session, number, value) => engine.write(site, session, number, &octet(value)),
+        Ask::Erase(session, number) => engine.erase(site, session, number),
+        Ask::Commit(session) => engine.commit(site, session),
+        Ask::Abort(session) => engine.abort(site, session),
+        Ask::Get(number) => engine.get(site, number),
+        Ask::Set(number, value) => engine.set(site, number, &octet(value)),
+        Ask::SetLong(number, value) => engine.set(site, number, &long(value)),
+        Ask::Checkpoint => engine.checkpoint(site),
+        Ask::Stat | Ask::Put(_) => Ok(engine.stat()),
     }
 }
 
@@ -429,23 +141,371 @@ fn put(engine: &Engine, site: &mut MemSite, place: u64, octet: u8) -> Result<(),
     Ok(())
 }
 
+// Sets the first of the 120 octets 0x5A, where they stand on the flash behind its first octet.
+fn put_first(engine: &Engine, site: &mut MemSite, octet: u8) -> Result<Reply, Stop>
+    requires going { Invariant engine.now (state_of site.old) }
+    ensures going { OnOk result (Invariant engine.now (state_of site.new)) }
+{
+    let place = first_of_page(site).unwrap_or(0) as u64;
+    if place == 0 || place >= site.len(Dev::Flash) {
+        return Ok(Reply::Nothing);
+    }
+    match put(engine, site, place, octet) {
+        Ok(()) => Ok(Reply::Done),
+        Err(_) => Err(Stop::Device(Dev::Flash)),
+    }
+}
+
+// Carries out a row, and answers its reply.
+fn carry_out(engine: &mut Engine, site: &mut MemSite, ask: Ask) -> Result<Reply, Stop>
+    requires going { Invariant engine.old (state_of site.old) }
+    ensures going { OnOk result (Invariant engine.new (state_of site.new)) }
+{
+    match ask {
+        Ask::Put(octet) => put_first(engine, site, octet),
+        _ => call(engine, site, ask),
+    }
+}
+
+// Plays rows, and answers how many of them got the replies that are wanted, up to the first one that didn't.
+fn play(engine: &mut Engine, site: &mut MemSite, rows: &[(Ask, Answer)]) -> Result<usize, Stop>
+    requires going { Invariant engine.old (state_of site.old) }
+    ensures going { OnOk result (Invariant engine.new (state_of site.new)) }
+{
+    for (place, (ask, answer)) in rows.iter().enumerate() {
+        let reply = carry_out(engine, site, *ask)?;
+        if !is_answer(&reply, *answer) {
+            return Ok(place);
+        }
+    }
+    Ok(rows.len())
+}
+
+// Starts on a site, and plays rows.
+fn run_on(alloc: Global, site: &mut MemSite, rows: &[(Ask, Answer)]) -> Result<usize, Stop> {
+    let mut engine = Engine::start(alloc, site, 1)?;
+    play(&mut engine, site, rows)
+}
+
+// Starts on blank devices of these sizes, and plays rows.
+fn run(alloc: Global, sizes: &Geometry, rows: &[(Ask, Answer)]) -> Result<usize, Stop> {
+    let mut site = MemSite::new(alloc, sizes)?;
+    run_on(alloc, &mut site, rows)
+}
+
+const PENDING: [(Ask, Answer); 9] = [
+    (Ask::Begin(0), Answer::Done),
+    (Ask::Write(0, 7, 0x01), Answer::Done),
+    (Ask::Begin(1), Answer::Done),
+    (Ask::Read(1, 7), Answer::Busy(0)),
+    (Ask::Get(7), Answer::Busy(0)),
+    (Ask::Set(7, 0x02), Answer::Busy(0)),
+    (Ask::Read(0, 7), Answer::Found(0x01)),
+    (Ask::Abort(0), Answer::Aborted),
+    (Ask::Read(1, 7), Answer::Nothing),
+];
+
+#[test]
+fn a_pending_write_is_seen_by_its_session_alone(rt: HostRuntime) -> Result<(), Fail> {
+    assert_eq!(rt; run(rt.alloc(), &STANDARD, &PENDING)?, PENDING.len());
+    Ok(())
+}
+
+const READ_LOCKS: [(Ask, Answer); 9] = [
+    (Ask::Begin(0), Answer::Done),
+    (Ask::Begin(1), Answer::Done),
+    (Ask::Read(0, 9), Answer::Nothing),
+    (Ask::Read(1, 9), Answer::Nothing),
+    (Ask::Write(0, 9, 0xaa), Answer::Busy(1)),
+    (Ask::Commit(1), Answer::Committed(1)),
+    (Ask::Write(0, 9, 0xaa), Answer::Done),
+    (Ask::Commit(0), Answer::Committed(2)),
+    (Ask::Get(9), Answer::Found(0xaa)),
+];
+
+#[test]
+fn read_locks_last_to_the_end(rt: HostRuntime) -> Result<(), Fail> {
+    assert_eq!(rt; run(rt.alloc(), &STANDARD, &READ_LOCKS)?, READ_LOCKS.len());
+    Ok(())
+}
+
+const ERASED: [(Ask, Answer); 6] = [
+    (Ask::Begin(0), Answer::Done),
+    (Ask::Write(0, 1, 0xaa), Answer::Done),
+    (Ask::Erase(0, 1), Answer::Done),
+    (Ask::Read(0, 1), Answer::Nothing),
+    (Ask::Commit(0), Answer::Committed(1)),
+    (Ask::Get(1), Answer::Nothing),
+];
+
+#[test]
+fn an_erased_record_has_nothing(rt: HostRuntime) -> Result<(), Fail> {
+    assert_eq!(rt; run(rt.alloc(), &STANDARD, &ERASED)?, ERASED.len());
+    Ok(())
+}
+
+const REFUSED: [(Ask, Answer); 14] = [
+    (Ask::Begin(8), Answer::Refused(Why::BadSession)),
+    (Ask::Read(0, 0), Answer::Refused(Why::BadSession)),
+    (Ask::Begin(0), Answer::Done),
+    (Ask::Begin(0), Answer::Refused(Why::BadSession)),
+    (Ask::Write(1, 0, 0x01), Answer::Refused(Why::BadSession)),
+    (Ask::Erase(1, 0), Answer::Refused(Why::BadSession)),
+    (Ask::Commit(1), Answer::Refused(Why::BadSession)),
+    (Ask::Abort(1), Answer::Refused(Why::BadSession)),
+    (Ask::Read(0, 512), Answer::Refused(Why::NoRecord)),
+    (Ask::Write(0, 512, 0x01), Answer::Refused(Why::NoRecord)),
+    (Ask::Get(512), Answer::Refused(Why::NoRecord)),
+    (Ask::Set(512, 0x01), Answer::Refused(Why::NoRecord)),
+    (Ask::Set(5, 0xab), Answer::Committed(1)),
+    (Ask::Get(5), Answer::Found(0xab)),
+];
+
+#[test]
+fn what_may_not_be_is_refused(rt: HostRuntime) -> Result<(), Fail> {
+    assert_eq!(rt; run(rt.alloc(), &STANDARD, &REFUSED)?, REFUSED.len());
+    Ok(())
+}
+
+const UNDOING: [(Ask, Answer); 11] = [
+    (Ask::Begin(0), Answer::Done),
+    (Ask::Write(0, 1, 0xaa), Answer::Done),
+    (Ask::Write(0, 1, 0xaa), Answer::Done),
+    (Ask::Write(0, 1, 0xaa), Answer::Done),
+    (Ask::Write(0, 1, 0xaa), Answer::Done),
+    (Ask::Write(0, 1, 0xaa), Answer::Done),
+    (Ask::Write(0, 1, 0xaa), Answer::Done),
+    (Ask::Write(0, 1, 0xaa), Answer::Full(7, 7)),
+    (Ask::Abort(0), Answer::Aborted),
+    (
+        Ask::Stat,
+        Answer::Stat(Stat {
+            commits: 0,
+            used: 14,
+            owed: 0,
+            cap: 15,
+            active: 0,
+        }),
+    ),
+    (Ask::Set(0, 0xaa), Answer::Committed(1)),
+];
+
+#[test]
+fn undoing_has_room(rt: HostRuntime) -> Result<(), Fail> {
+    assert_eq!(rt; run(rt.alloc(), &SMALL, &UNDOING)?, UNDOING.len());
+    Ok(())
+}
+
+const CHECKPOINTS: [(Ask, Answer); 5] = [
+    (Ask::Set(0, 0x01), Answer::Committed(1)),
+    (Ask::Checkpoint, Answer::Checked),
+    (Ask::Checkpoint, Answer::Checked),
+    (
+        Ask::Stat,
+        Answer::Stat(Stat {
+            commits: 1,
+            used: 0,
+            owed: 0,
+            cap: 63,
+            active: 0,
+        }),
+    ),
+    (Ask::Get(0), Answer::Found(0x01)),
+];
+
+#[test]
+fn a_checkpoint_lets_records_go(rt: HostRuntime) -> Result<(), Fail> {
+    assert_eq!(rt;
+        run(rt.alloc(), &STANDARD, &CHECKPOINTS)?,
+        CHECKPOINTS.len()
+    );
+    Ok(())
+}
+
+const EACH_SESSION: [(Ask, Answer); 11] = [
+    (Ask::Begin(0), Answer::Done),
+    (Ask::Begin(1), Answer::Done),
+    (Ask::Begin(2), Answer::Done),
+    (Ask::Begin(3), Answer::Done),
+    (Ask::Begin(4), Answer::Done),
+    (Ask::Begin(5), Answer::Done),
+    (Ask::Begin(6), Answer::Done),
+    (Ask::Begin(7), Answer::Full(7, 7)),
+    (Ask::Commit(0), Answer::Committed(1)),
+    (Ask::Begin(7), Answer::Done),
+    (
+        Ask::Stat,
+        Answer::Stat(Stat {
+            commits: 1,
+            used: 8,
+            owed: 7,
+            cap: 15,
+            active: 7,
+        }),
+    ),
+];
+
+#[test]
+fn each_session_has_room_to_end(rt: HostRuntime) -> Result<(), Fail> {
+    assert_eq!(rt; run(rt.alloc(), &SMALL, &EACH_SESSION)?, EACH_SESSION.len());
+    Ok(())
+}
+
+// Two pages are written by a session, which has not committed.
+const WRITES: [(Ask, Answer); 3] = [
+    (Ask::Begin(3), Answer::Done),
+    (Ask::Write(3, 5, 0x0a), Answer::Done),
+    (Ask::Write(3, 40, 0x0b), Answer::Done),
+];
+
+// Both records have what the session wrote, or neither.
+const BOTH: [(Ask, Answer); 2] = [
+    (Ask::Get(5), Answer::Found(0x0a)),
+    (Ask::Get(40), Answer::Found(0x0b)),
+];
+
+const NEITHER: [(Ask, Answer); 2] = [
+    (Ask::Get(5), Answer::Nothing),
+    (Ask::Get(40), Answer::Nothing),
+];
+
+// Stops the commit of a session at one of its changes. Answers what a crash leaves then, and whether the commit was
+// answered: exactly then the database isn't ended.
+fn stopped(alloc: Global, changes: u64, seed: u64) -> Result<Option<(MemSite, bool)>, Stop> {
+    let mut site = MemSite::new(alloc, &STANDARD)?;
+    // A start on blank devices saves a master, by five changes. The writes stay in memory, as both pages do.
+    site.fuse(changes.saturating_add(5));
+    let mut engine = Engine::start(alloc, &mut site, 2)?;
+    if play(&mut engine, &mut site, &WRITES)? < WRITES.len() {
+        return Ok(None);
+    }
+    let answered = engine.commit(&mut site, 3).is_ok();
+    if answered == engine.ended() {
+        return Ok(None);
+    }
+    Ok(Some((site.crash(seed), answered)))
+}
+
+// Whether a run finds the commit done, as both records and the count of commits say it.
+fn is_done(alloc: Global, site: &mut MemSite) -> Result<Option<bool>, Stop> {
+    let mut engine = Engine::start(alloc, site, 1)?;
+    let done = engine.commits() == 1;
+    let rows = if done { BOTH } else { NEITHER };
+    if play(&mut engine, site, &rows)? < rows.len() {
+        return Ok(None);
+    }
+    Ok(Some(done))
+}
+
+// Stops the commit of a session at one of its changes, and answers whether the next run finds it done.
+fn survives(alloc: Global, changes: u64, seed: u64) -> Result<Option<bool>, Stop> {
+    let Some((mut site, answered)) = stopped(alloc, changes, seed)? else {
+        return Ok(None);
+    };
+    let done = is_done(alloc, &mut site)?;
+    if answered && done == Some(false) {
+        return Ok(None);
+    }
+    Ok(done)
+}
+
+#[test]
+fn a_stopped_commit_is_done_or_not(rt: HostRuntime) -> Result<(), Fail> {
+    // By the change that is stopped, and by the seeds 0, 1, 2 and 77.
+    let rows: [[bool; 4]; 7] = [
+        [false, false, false, false],
+        [false, false, false, false],
+        [false, false, false, false],
+        [true, false, true, false],
+        [true, false, true, false],
+        [true, true, true, true],
+        [true, true, true, true],
+    ];
+    for (changes, row) in rows.iter().enumerate() {
+        for (seed, done) in [0, 1, 2, 77].iter().zip(row) {
+            assert_eq!(rt; survives(rt.alloc(), changes as u64, *seed)?, Some(*done));
+        }
+    }
+    Ok(())
+}
+
+const HALF_DONE: [(Ask, Answer); 6] = [
+    (Ask::Set(1, 0xcc), Answer::Committed(1)),
+    (Ask::Begin(0), Answer::Done),
+    (Ask::Write(0, 1, 0xaa), Answer::Done),
+    (Ask::Write(0, 2, 0xbb), Answer::Done),
+    (Ask::Erase(0, 1), Answer::Done),
+    (Ask::Set(5, 0x05), Answer::Committed(2)),
+];
+
+// A session's writes are sealed by the set of another record, and the session never ends.
+fn half_done(alloc: Global) -> Result<MemSite, Stop> {
+    let mut site = MemSite::new(alloc, &STANDARD)?;
+    let _played = run_on(alloc, &mut site, &HALF_DONE)?;
+    Ok(site.crash(1))
+}
+
+const UNDONE: [(Ask, Answer); 8] = [
+    (Ask::Get(1), Answer::Found(0xcc)),
+    (Ask::Get(2), Answer::Nothing),
+    (Ask::Get(5), Answer::Found(0x05)),
+    (Ask::Begin(0), Answer::Done),
+    (Ask::Write(0, 1, 0xdd), Answer::Done),
+    (Ask::Read(0, 1), Answer::Found(0xdd)),
+    (Ask::Abort(0), Answer::Aborted),
+    (Ask::Get(1), Answer::Found(0xcc)),
+];
+
+// Whether a run finds the table as it was before the session, and two commits.
+fn is_undone(alloc: Global, site: &mut MemSite) -> Result<bool, Stop> {
+    let mut engine = Engine::start(alloc, site, 1)?;
+    if engine.commits() != 2 {
+        return Ok(false);
+    }
+    Ok(play(&mut engine, site, &UNDONE)? == UNDONE.len())
+}
+
+#[test]
+fn what_is_not_committed_is_undone(rt: HostRuntime) -> Result<(), Fail> {
+    let mut site = half_done(rt.alloc())?;
+    assert!(rt; is_undone(rt.alloc(), &mut site)?);
+    let mut site = site.crash(0);
+    assert!(rt; is_undone(rt.alloc(), &mut site)?);
+    Ok(())
+}
+
+// What a crash leaves of a restart in which only so many changes pass, and whether it started.
+fn restarted(alloc: Global, mut site: MemSite, changes: u64, seed: u64) -> (MemSite, bool) {
+    site.fuse(changes);
+    let started = Engine::start(alloc, &mut site, 1).is_ok();
+    (site.crash(seed), started)
+}
+
+#[test]
+fn a_stopped_restart_is_done_again(rt: HostRuntime) -> Result<(), Fail> {
+    for seed in [0, 1, 2, 77] {
+        for changes in 0..16 {
+            let site = half_done(rt.alloc())?;
+            let (site, started) = restarted(rt.alloc(), site, changes, seed);
+            assert_eq!(rt; started, changes >= 15);
+            let (mut site, _started) = restarted(rt.alloc(), site, changes, seed);
+            assert!(rt; is_undone(rt.alloc(), &mut site)?);
+        }
+    }
+    Ok(())
+}
+
+const OUTSIDE: [(Ask, Answer); 4] = [
+    (Ask::SetLong(0, 0x5a), Answer::Committed(1)),
+    (Ask::Set(32, 0x02), Answer::Committed(2)),
+    (Ask::Put(0x5b), Answer::Done),
+    (Ask::Get(0), Answer::FoundLong(0x5b, 0x5a)),
+];
+
 // A page that isn't in the pool is read from the flash, each time: what was changed there is seen.
 #[test]
 fn a_page_outside_the_pool_is_read_from_flash(rt: HostRuntime) -> Result<(), Fail> {
-    let mut site = MemSite::new(rt.alloc(), &STANDARD)?;
-    let mut engine = Engine::start(rt.alloc(), &mut site, 1)?;
-    let script = [
-        (set_long(0, 0x5a), Reply::Committed(1)),
-        (set(32, 0x02), Reply::Committed(2)),
-    ];
-    assert_eq!(rt; play(&mut engine, &mut site, &script)?, script.len());
-    let place = first_of_page(&site).unwrap_or(0) as u64;
-    assert!(rt; place > 0 && place < site.len(Dev::Flash));
-    put(&engine, &mut site, place, 0x5b)?;
-    let mut value = [0x5a; 120];
-    value[0] = 0x5b;
-    let script = [(get(0), found_long(&value))];
-    assert_eq!(rt; play(&mut engine, &mut site, &script)?, script.len());
+    assert_eq!(rt; run(rt.alloc(), &STANDARD, &OUTSIDE)?, OUTSIDE.len());
     Ok(())
 }
 
@@ -469,8 +529,6 @@ fn devices_of_no_sizes_are_foreign(rt: HostRuntime) -> Result<(), Fail> {
         groups: 9,
         blocks: 64,
     };
-    let mut site = MemSite::new(rt.alloc(), &odd)?;
-    let started = Engine::start(rt.alloc(), &mut site, 1);
-    assert!(rt; matches!(started, Err(Stop::Foreign)));
+    assert_eq!(rt; run(rt.alloc(), &odd, &[]), Err(Stop::Foreign));
     Ok(())
 }
