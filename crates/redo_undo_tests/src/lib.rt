@@ -2,6 +2,8 @@
 #![tactic(auto)]
 
 #[cfg(test)]
+mod rows;
+#[cfg(test)]
 mod tests;
 #[cfg(test)]
 mod undo_tests;

@@ -1,5 +1,5 @@
 // Log and pages on a site in memory.
-ghost use Rattle.std.specs.Prelude.{◌≡◌, ◌+◌, ◌<◌, ◌≤◌, length, IfOk, OnOk};
+ghost use Rattle.std.specs.Prelude.{◌≡◌, ◌+◌, ◌<◌, ◌≤◌, IfOk};
 ghost use Rattle.site.specs.Geometry.{HasLengths};
 ghost use Rattle.site.specs.MemState.{state_of};
 ghost use Rattle.log_records.specs.Spelling.{HasForm};
@@ -11,12 +11,13 @@ ghost use Rattle.redo_undo.specs.Checkpointing.{begins_of};
 ghost use Rattle.redo_undo.specs.Holding.{Invariant, IsOnPage, blocks_to};
 ghost use Rattle.redo_undo.specs.Stores.{MayWork, MayLog, sizes_of};
 
+use crate::rows::{Row, run};
 use checkpoint::{Master, Pairs, newest};
 use log_records::LogRecord;
 use log_store::LogStore;
 use page_store::PageStore;
 use record_model::Octets;
-use redo_undo::{Redone, Store, log_change, log_record, redo, touch, undo_one};
+use redo_undo::{Store, log_change, log_record, touch, undo_one};
 use site::{Geometry, MemSite, Stop};
 use std::alloc::Global;
 use std::test::Fail;
@@ -73,42 +74,29 @@ fn changed(alloc: Global, site: &mut MemSite) -> Result<(LogStore, PageStore, u6
     Ok((log, pages, lsn))
 }
 
-// Whether record 5 has a value whose first octet is this one.
-fn has_value(
-    site: &mut MemSite,
-    log: &mut LogStore,
-    pages: &mut PageStore,
-    octet: u8,
-) -> Result<bool, Stop>
-    requires going { Invariant log.old pages.old (state_of site.old) }
-    requires pages { pages.old.flash.geometry.pages ≡ 1 }
-    ensures going { OnOk result (Invariant log.new pages.new (state_of site.new)) }
-    ensures there { OnOk result (0 < length pages.new.pool.frames) }
-{
-    touch(site, log, pages, 0)?;
-    match pages.get(5) {
-        Some(value) => Ok(value.get(0) == Some(&octet)),
-        None => Ok(false),
-    }
-}
+const SEEN: [Row; 4] = [
+    Row::Begin(2),
+    Row::Change(3),
+    Row::Value(5, 0x0a, true),
+    Row::Changes(0),
+];
 
 #[test]
 fn a_change_is_seen(rt: HostRuntime) -> Result<(), Fail> {
-    let mut site = MemSite::new(rt.alloc(), &SMALL)?;
-    let (mut log, mut pages, last) = changed(rt.alloc(), &mut site)?;
-    assert_eq!(rt; last, 3);
-    assert!(rt; has_value(&mut site, &mut log, &mut pages, 0x0a)?);
-    assert_eq!(rt; site.changes(), 0);
+    assert_eq!(rt; run(rt.alloc(), &SEEN)?, SEEN.len());
     Ok(())
 }
 
+const UNDONE: [Row; 4] = [
+    Row::Begin(2),
+    Row::ChangeAndUndo(3, 2),
+    Row::Value(5, 0x0a, false),
+    Row::PageLsn(29),
+];
+
 #[test]
 fn a_transaction_is_undone(rt: HostRuntime) -> Result<(), Fail> {
-    let mut site = MemSite::new(rt.alloc(), &SMALL)?;
-    let (mut log, mut pages, last) = changed(rt.alloc(), &mut site)?;
-    undo_one(&mut site, &mut log, &mut pages, 2, last)?;
-    assert!(rt; !has_value(&mut site, &mut log, &mut pages, 0x0a)?);
-    assert_eq!(rt; pages.front_lsn(), 29);
+    assert_eq!(rt; run(rt.alloc(), &UNDONE)?, UNDONE.len());
     Ok(())
 }
 
@@ -177,65 +165,42 @@ fn a_commit_outlives_a_crash(rt: HostRuntime) -> Result<(), Fail> {
     Ok(())
 }
 
-// A life in which a transaction changes record 5, and all of its log is sealed.
-fn earlier(alloc: Global, site: &mut MemSite) -> Result<(), Stop>
-    requires { HasLengths (record { pages = 1; groups = 8; blocks = 16 }) (state_of site.old).image }
-    ensures { OnOk result (HasLengths (record { pages = 1; groups = 8; blocks = 16 }) (state_of site.new).image) }
-{
-    let (mut log, mut pages) = opened(alloc, site)?;
-    log_record(site, &mut log, &LogRecord::Begin)?;
-    touch(site, &mut log, &mut pages, 0)?;
-    log_change(site, &mut log, &mut pages, &update())?;
-    log.force(site)
-}
-
-// Log and pages after analysis and redo of what stands on a site.
-fn reopened(alloc: Global, site: &mut MemSite) -> Result<(LogStore, PageStore, Redone), Stop>
-    requires { HasLengths (record { pages = 1; groups = 8; blocks = 16 }) (state_of site.old).image }
-    ensures going { IfOk result (λ all. Invariant all.0 all.1 (state_of site.new)) }
-    ensures pages { IfOk result (λ all. all.1.flash.geometry.pages ≡ 1) }
-    ensures lengths { OnOk result (HasLengths (record { pages = 1; groups = 8; blocks = 16 })
-        (state_of site.new).image) }
-{
-    let mut pages = PageStore::start(alloc, site, &SMALL, 4)?;
-    let mut log = LogStore::start(site, &SMALL)?;
-    let redone = redo(alloc, site, &mut log, &mut pages, &Master::blank())?;
-    Ok((log, pages, redone))
-}
-
-// The changes that a restart and then a flush of its pages make.
-fn flushed(alloc: Global, site: &mut MemSite) -> Result<u64, Stop>
-    requires { HasLengths (record { pages = 1; groups = 8; blocks = 16 }) (state_of site.old).image }
-    ensures { OnOk result (HasLengths (record { pages = 1; groups = 8; blocks = 16 }) (state_of site.new).image) }
-{
-    let before = site.changes();
-    let (mut log, mut pages, _redone) = reopened(alloc, site)?;
-    pages.flush_all(site, &mut log)?;
-    Ok(site.changes().saturating_sub(before))
-}
+// A life in which a transaction changes record 5, and all of its log is sealed, and the next one.
+const EARLIER: [Row; 7] = [
+    Row::Begin(2),
+    Row::Change(3),
+    Row::Reopen,
+    Row::Redo(2),
+    Row::Losers(1),
+    Row::Value(5, 0x0a, true),
+    Row::PageLsn(3),
+];
 
 // The page has the value that its Update wrote, with the Update's LSN, and the transaction is found as unfinished.
 #[test]
 fn an_earlier_life_is_redone(rt: HostRuntime) -> Result<(), Fail> {
-    let mut site = MemSite::new(rt.alloc(), &SMALL)?;
-    earlier(rt.alloc(), &mut site)?;
-    let (mut log, mut pages, redone) = reopened(rt.alloc(), &mut site)?;
-    assert_eq!(rt; redone.records, 2);
-    assert_eq!(rt; redone.found.losers(), 1);
-    assert!(rt; has_value(&mut site, &mut log, &mut pages, 0x0a)?);
-    assert_eq!(rt; pages.front_lsn(), 3);
+    assert_eq!(rt; run(rt.alloc(), &EARLIER)?, EARLIER.len());
     Ok(())
 }
+
+// The first restart and the flush of its pages make changes behind those that seal the log, and the second makes none.
+const TWICE: [Row; 10] = [
+    Row::Begin(2),
+    Row::Change(3),
+    Row::Reopen,
+    Row::Changes(5),
+    Row::Redo(2),
+    Row::Flush,
+    Row::Changes(10),
+    Row::Redo(2),
+    Row::Flush,
+    Row::Changes(10),
+];
 
 // Once the page is on the flash a second restart finds its LSN there, and leaves it unchanged.
 #[test]
 fn a_record_is_redone_once(rt: HostRuntime) -> Result<(), Fail> {
-    let mut site = MemSite::new(rt.alloc(), &SMALL)?;
-    earlier(rt.alloc(), &mut site)?;
-    let first = flushed(rt.alloc(), &mut site)?;
-    let second = flushed(rt.alloc(), &mut site)?;
-    assert!(rt; first > 0);
-    assert_eq!(rt; second, 0);
+    assert_eq!(rt; run(rt.alloc(), &TWICE)?, TWICE.len());
     Ok(())
 }
 
@@ -265,6 +230,27 @@ fn checkpointed(site: &mut MemSite, store: &mut Store, active: Pairs) -> Result<
     Ok(master)
 }
 
+// What a checkpoint says: from which block on redo reads and which block it keeps, as the master and the log have it, how
+// many commits there were, and how many transactions are active.
+fn told(master: &Master, store: &Store) -> (u64, u64, u64, u64, usize) {
+    let active = master.active.len();
+    (
+        master.redo,
+        master.kept,
+        store.log.kept(),
+        master.commits,
+        active,
+    )
+}
+
+// Whether one transaction is active, which has only its Begin, at this LSN.
+fn is_active(master: &Master, begin: u64) -> bool {
+    if master.active.len() != 1 {
+        return false;
+    }
+    master.active.at(0) == (begin, begin)
+}
+
 // The Begin stands at LSN 514.
 #[test]
 fn a_checkpoint_keeps_the_block_of_an_active_begin(rt: HostRuntime) -> Result<(), Fail> {
@@ -278,12 +264,8 @@ fn a_checkpoint_keeps_the_block_of_an_active_begin(rt: HostRuntime) -> Result<()
         return Ok(());
     }
     let master = checkpointed(&mut site, &mut store, active)?;
-    assert_eq!(rt; master.redo, 2);
-    assert_eq!(rt; master.kept, 1);
-    assert_eq!(rt; store.log.kept(), 1);
-    assert_eq!(rt; master.commits, 1);
-    assert_eq!(rt; master.active.len(), 1);
-    assert_eq!(rt; master.active.at(0), (514, 514));
+    assert_eq!(rt; told(&master, &store), (2, 1, 1, 1, 1));
+    assert!(rt; is_active(&master, 514));
     Ok(())
 }
 
@@ -292,10 +274,6 @@ fn a_checkpoint_of_no_transaction_keeps_no_block(rt: HostRuntime) -> Result<(), 
     let mut site = MemSite::new(rt.alloc(), &SMALL)?;
     let mut store = committed(rt.alloc(), &mut site)?;
     let master = checkpointed(&mut site, &mut store, Pairs::new())?;
-    assert_eq!(rt; master.redo, 1);
-    assert_eq!(rt; master.kept, 1);
-    assert_eq!(rt; store.log.kept(), 1);
-    assert_eq!(rt; master.commits, 1);
-    assert!(rt; master.active.is_empty());
+    assert_eq!(rt; told(&master, &store), (1, 1, 1, 1, 0));
     Ok(())
 }
