@@ -419,7 +419,7 @@ fn a_hit_makes_no_call(rt: HostRuntime) -> Result<(), Fail> {
     Ok(())
 }
 
-// Nine pages change in a pool of one page; page 0 is read again behind page 1. In the queue it has a second chance then.
+// Nine pages change in a pool of one page; page 0 is read again behind page 1, and so has a second chance in the queue.
 const NINE: [Row; 20] = [
     Row::Change(0),
     Row::Change(1),

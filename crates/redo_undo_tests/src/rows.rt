@@ -29,7 +29,7 @@ const SMALL: Geometry = Geometry {
 pub(crate) enum Row {
     // The Begin of a transaction is logged with this LSN.
     Begin(u64),
-    // An Update is logged with this LSN, by a transaction and behind the record at another LSN. A slot had the value 07,
+    // An Update is logged with this LSN, by a transaction, behind the record at another one. A slot had the value 07,
     // and gets 0a0b. The record has 27 octets, and its CLR 32. No page is changed.
     Update(u64, u64, u64, u8),
     // The CLR of such an Update is logged so. Behind the record before it stands where undo goes on.

@@ -230,7 +230,7 @@ fn checkpointed(site: &mut MemSite, store: &mut Store, active: Pairs) -> Result<
     Ok(master)
 }
 
-// What a checkpoint says: from which block on redo reads and which block it keeps, as the master and the log have it, how
+// What a checkpoint says: from which block on redo reads, which block it keeps, as the master and the log have it, how
 // many commits there were, and how many transactions are active.
 fn told(master: &Master, store: &Store) -> (u64, u64, u64, u64, usize) {
     let active = master.active.len();
