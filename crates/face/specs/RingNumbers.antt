@@ -100,7 +100,7 @@ most_masters lives work = lives + work.checkpoints
 
 -- And the ring of groups: a page that is touched pushes a group at most, as one has to leave, and one that is changed
 -- another, to be saved. A restart changes at most twenty pages for each block that it redoes, and one for each that
--- undo owes.
+-- undo owes: that is 42 groups for each block of the log.
 abbrev pub most_groups : Geometry → ℕ → Work → ℕ
 most_groups g lives work = lives * (42 * g.blocks) + work.read + 2 * work.logged
 
@@ -118,13 +118,14 @@ pub record RingsSuffice (g : Geometry) (lives : ℕ) (work : Work) : Type 0 wher
   pub masters : most_masters lives work ≤ 2 ^ 40
   pub groups : most_groups g lives work ≤ 2 ^ 40
 
--- So a run on them comes to the end of no ring as long as there are numbers for one life more and the work of its lines
--- too, whatever its pool.
+-- So a run on them comes to the end of no ring on the log's device as long as these have numbers for one life more and
+-- the work of its lines too; and of none of groups, whatever its pool, as long as that one has.
 abbrev pub LivesHaveRoom : Type 0
 LivesHaveRoom = (g : Geometry) → HasLimits g → (lives : ℕ) (work : Work) (image : Image) →
     HaveLives g lives work image → (run : Run) → run.geometry ≡ g →
-    RingsSuffice g (lives + 1) (both work (work_of run)) →
-    HasLogRoom run image × ((pool : ℕ) → NeverWears pool run image)
+    (most_blocks g (lives + 1) (both work (work_of run)) ≤ 2 ^ 40 →
+    most_masters (lives + 1) (both work (work_of run)) ≤ 2 ^ 40 → HasLogRoom run image)
+    × (most_groups g (lives + 1) (both work (work_of run)) ≤ 2 ^ 40 → (pool : ℕ) → NeverWears pool run image)
 
 -- And where nothing fails then, and the input ends in time, the status of the run is 0, or memory was wanted.
 abbrev pub RunsAreComplete : Type 0
