@@ -2,7 +2,7 @@
 // numbers of writes, syncs, takes and tells were worked out by another program; reads are counted by the site.
 ghost use Rattle.std.specs.Prelude.{◌≤◌};
 
-use face::face;
+use crate::steps;
 use site::{Call, Dev, Geometry, MemSite};
 use std::alloc::{AllocError, Global};
 use std::test::Fail;
@@ -44,7 +44,7 @@ struct Script {
     before: &'static [u8],
     commits: u64,
     work: Work,
-    words: &'static [&'static str],
+    words: &'static str,
     input: &'static [u8],
     calls: [u64; 8],
 }
@@ -56,7 +56,7 @@ const SCRIPTS: [Script; 4] = [
         before: UNFINISHED,
         commits: 4,
         work: Work::Run,
-        words: &["run", "1"],
+        words: "run 1",
         input: b"\n\
 get 0
 begin 0
@@ -78,7 +78,7 @@ quit
         before: UNFINISHED,
         commits: 4,
         work: Work::Load(4),
-        words: &["load", "4", "5", "1"],
+        words: "load 4 5 1",
         input: b"",
         calls: [24, 24, 1, 16, 16, 1, 0, 2],
     },
@@ -86,7 +86,7 @@ quit
         before: b"",
         commits: 0,
         work: Work::Nothing,
-        words: &["new", "16", "8", "16"],
+        words: "new 16 8 16",
         input: b"",
         calls: [0, 0, 0, 0, 0, 0, 0, 1],
     },
@@ -94,7 +94,7 @@ quit
         before: b"",
         commits: 0,
         work: Work::Nothing,
-        words: &["trial", "16", "8", "16", "1"],
+        words: "trial 16 8 16 1",
         input: b"\nset 0 01\nstop 9 1\nset 0 02\nset 0 03\nstop 20 2\nget 0\n",
         calls: [0, 0, 0, 0, 0, 0, 2, 6],
     },
@@ -110,21 +110,12 @@ write 0 32 bb
 set 96 04
 ";
 
-// Calls the program on a site, and answers its status.
-fn called(alloc: Global, words: &[&str], site: &mut MemSite) -> Result<u8, AllocError> {
-    let mut owned = Vec::new(alloc);
-    for word in words {
-        owned.push(String::from_str(alloc, word)?)?;
-    }
-    Ok(face(alloc, owned.as_slice(), site))
-}
-
 // The devices and the input of a script.
 fn prepared(alloc: Global, script: &Script) -> Result<MemSite, Fail> {
     let mut site = MemSite::new(alloc, &SMALL)?;
     if !script.before.is_empty() {
         site.feed(script.before)?;
-        let _status = called(alloc, &["run", "1"], &mut site)?;
+        let _status = steps::call(alloc, &mut site, "run 1")?;
         site = site.crash(0);
     }
     site.feed(&[b'7'; 4_000])?;
@@ -243,7 +234,7 @@ fn play(
 {
     let mut site = prepared(alloc, script)?;
     site.fail(call, nth)?;
-    let status = called(alloc, script.words, &mut site)?;
+    let status = steps::call(alloc, &mut site, script.words)?;
     if status == 0 && site.told() == whole {
         return Ok(Played::Unmet);
     }
@@ -251,7 +242,7 @@ fn play(
         return Ok(Played::Wrong);
     };
     let mut site = site.crash(seed);
-    let status = called(alloc, &["run", "1"], &mut site)?;
+    let status = steps::call(alloc, &mut site, "run 1")?;
     if status == 0 && opens(alloc, site.told(), range)? {
         return Ok(Played::Failed);
     }
@@ -293,7 +284,7 @@ fn failed(alloc: Global, script: &Script, whole: &[u8], call: Call) -> Result<Op
 fn every_call_that_can_fail_fails(rt: HostRuntime) -> Result<(), Fail> {
     for script in SCRIPTS {
         let mut site = prepared(rt.alloc(), &script)?;
-        assert_eq!(rt; called(rt.alloc(), script.words, &mut site)?, 0);
+        assert_eq!(rt; steps::call(rt.alloc(), &mut site, script.words)?, 0);
         for dev in [Dev::Log, Dev::Flash, Dev::Disk] {
             let reads = failed(rt.alloc(), &script, site.told(), Call::Read(dev))?;
             assert_eq!(rt; reads, Some(site.reads(dev)));

@@ -1,6 +1,6 @@
 // Random lines in a log of the least size, over several lives. What is told is compared, by its hash, with what another
 // program told.
-use face::face;
+use crate::steps;
 use site::{Geometry, MemSite};
 use std::alloc::{AllocError, Global};
 use std::test::Fail;
@@ -45,13 +45,6 @@ fn feed_lines(alloc: Global, site: &mut MemSite, first: u64) -> Result<u64, Fail
     Ok(x)
 }
 
-fn run(alloc: Global, site: &mut MemSite) -> Result<u8, AllocError> {
-    let mut words = Vec::new(alloc);
-    words.push(String::from_str(alloc, "run")?)?;
-    words.push(String::from_str(alloc, "2")?)?;
-    Ok(face(alloc, words.as_slice(), site))
-}
-
 // The hash FNV-1a with 64 bits, gone on with from another one.
 fn hashed(octets: &[u8], from: u64) -> u64 {
     let mut hash = from;
@@ -68,7 +61,7 @@ fn a_small_log_serves_random_lines_for_four_lives(rt: HostRuntime) -> Result<(),
     let mut hash = 14_695_981_039_346_656_037;
     for life in 0..4 {
         x = feed_lines(rt.alloc(), &mut site, x)?;
-        assert_eq!(rt; run(rt.alloc(), &mut site)?, 0);
+        assert_eq!(rt; steps::call(rt.alloc(), &mut site, "run 2")?, 0);
         hash = hashed(site.told(), hash);
         site = site.crash(life);
     }
