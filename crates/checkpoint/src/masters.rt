@@ -153,6 +153,8 @@ pub fn save<S: Site>(site: &mut S, ring: &mut Ring, master: &Master) -> Result<(
     ensures settled { IsTrue (S.state site.old).honest → OnOk result (IsSettled Dev.Log (S.state site.new)) }
     ensures quiet { IsTrue (S.state site.old).honest → IsQuiet (S.state site.old)
         → OnOk result (IsQuiet (S.state site.new)) }
+    ensures past { IsTrue (S.state site.old).honest
+        → OnOk result (length (S.state site.new).past ≡ length (S.state site.old).past + 5) }
 
     // Of every site.
     ensures unit { IsUnit (unit master.now) master.now }

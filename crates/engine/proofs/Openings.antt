@@ -1,13 +1,11 @@
 -- What a restart finds on devices.
 use Rattle.image_meaning.proofs.Reading.{spelled_again, each_has}
-use Rattle.std_lemmas.proofs.AllOf.{all_left, all_right}
 use Rattle.sealed_ring.proofs.Alters.{length-units}
 use Rattle.std.proofs.Common.{Option, ◌≡◌, zero, suc, ◌+◌, ◌-◌, ◌<◌, min, List, [], ◌∷◌, length, map, take, None, Some, refl, sym, ap, subst, ◌∙◌, arith, ℕ}
 use Rattle.std.specs.Prelude.{if◌then◌else◌}
 use Rattle.std.specs.List.{AllByRecursion, slice_get}
 use Rattle.std.proofs.lemmas.Option.{none-some, same_Some}
 use Rattle.std.proofs.Math.Nat.{min-le_left}
-use Rattle.std.proofs.lemmas.List.Concat.{flat_map-cons}
 use Rattle.std.proofs.lemmas.List.Sums.{sum_by-cons}
 use Rattle.site.specs.declared.geometry.Geometry.{Geometry}
 use Rattle.site.specs.State.{State, Image, IsQuiet}
@@ -26,9 +24,8 @@ use Rattle.checkpoint.specs.Newest.{blank, newest_of, IsOf, HasMaster}
 use Rattle.analysis.specs.declared.analysis.Loser.{Loser}
 use Rattle.analysis.specs.Open.{Open, owed_one, owed_for}
 use Rattle.analysis.specs.Read.{loser_of}
-use Rattle.frame_group.specs.Groups.{Frame, group, frames_in, IsGroup}
-use Rattle.frame_group.specs.Versions.{frames_of}
-use Rattle.flash_cache.specs.Representation.{HasFrames, HasGroups, groups_on}
+use Rattle.frame_group.specs.Groups.{Frame, frames_in}
+use Rattle.flash_cache.specs.Representation.{HasGroups, groups_on}
 use Rattle.log_store.specs.declared.store.LogStore.{LogStore}
 use Rattle.log_store.specs.Representation as log_store
 use Rattle.log_store.specs.Representation.{has_tail}

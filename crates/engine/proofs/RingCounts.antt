@@ -14,11 +14,11 @@ use Rattle.site.specs.Moments.{Leaves, LeavesOnly}
 use Rattle.site.specs.Laws.{in_sequence}
 use Rattle.sealed_ring.specs.Ring.{hi_of}
 use Rattle.image_changes.specs.Rings.{log_shape, master_shape}
+use Rattle.image_changes.proofs.Counting.{calls_then, calls_unchanged}
 use Rattle.record_model.specs.State.{Content, State}
 use Rattle.record_model.specs.declared.words.Command.{Command}
-use Rattle.record_model.specs.declared.words.Command.TheVariants.{Begin, Write, Erase, Commit, Abort, Set}
 use Rattle.record_model.specs.declared.words.Reply.{Reply}
-use Rattle.record_model.specs.Step.{refusal, outcome, effect, lacks_room}
+use Rattle.record_model.specs.Step.{refusal, outcome, lacks_room}
 use Rattle.log_records.specs.declared.log_record.LogRecord.{LogRecord}
 use Rattle.log_records.specs.Log.{Entry}
 use Rattle.log_records.specs.Unfinished.{owed}
@@ -55,7 +55,7 @@ pub count_failed : {T E A : Type 0} {worn : E} (e : E) (old new new' : Engine) (
 count_failed {T} {E} {A} {worn = worn} e old new new' before now s u after m few first = record {
   records = first.records;
   made = let made = first.made in omega (arith, made, few);
-  skips = record { log = tt; any_moment = first.any_moment; saved = tt; worn = λ is. first.worn (again {A = T} {B = A} e worn is) };
+  skips = record { log = tt; any_moment = first.any_moment; saved = tt; past = tt; worn = λ is. first.worn (again {A = T} {B = A} e worn is) };
 }
 
 -- an error of the caller behind a call that was Ok
@@ -63,7 +63,7 @@ pub count_refused : {T E A F : Type 0} {worn : E} {other : F} (x : A) (e : E) (o
 count_refused {T} {worn = worn} x e old new new' before now s after m never first = record {
   records = first.records;
   made = first.made;
-  skips = record { log = tt; any_moment = first.any_moment; saved = tt; worn = λ is. absurd (never (error_is {T = T} e worn is)) };
+  skips = record { log = tt; any_moment = first.any_moment; saved = tt; past = tt; worn = λ is. absurd (never (error_is {T = T} e worn is)) };
 }
 
 -- a call behind one that was Ok
@@ -118,6 +118,7 @@ restart_failed {T} {A} e f g records old new before now n m is few one first =
       log = tt;
       any_moment = leaves_more g before now _ (hi_of (log_shape g) before.image.log + owed records) (hi_of master_shape before.image.log + m) (hi_of master_shape before.image.log + 1) blocks (omega (arith, one)) first.any_moment;
       saved = tt;
+      past = tt;
       worn = λ past. passes_more _ (hi_of (log_shape g) before.image.log + owed records) (hi_of master_shape before.image.log + m) (hi_of master_shape before.image.log + 1) blocks (omega (arith, one)) (first.worn (again {A = T} {B = A} e (Worn Log) past));
     }
 
@@ -128,15 +129,16 @@ restart_done x y f g records old new before now n is few last first = record {
   log = let more = first.log in let same = ap blocks_to last in omega (arith, more, is, few, same);
   any_moment = leaves_more g before now _ (hi_of (log_shape g) before.image.log + owed records) _ _ (omega (arith, is, few)) (omega arith) first.any_moment;
   saved = first.saved;
+  past = first.past;
   worn = λ past. absurd (ok_no_error y (Worn Log) past);
 }
 
 -- a restart within a call
 pub restart_again : {T A : Type 0} (e : Stop) (f : A → LogStore) (h : T → LogStore) (g : Geometry) (records : List Entry) (before now : Site) → RestartsWithin {T = A} (Err e) f g records before now → RestartsWithin {T = T} (Err e) h g records before now
-restart_again {T} {A} e f h g records before now first = record { log = tt; any_moment = first.any_moment; saved = tt; worn = λ past. first.worn (again {A = T} {B = A} e (Worn Log) past) }
+restart_again {T} {A} e f h g records before now first = record { log = tt; any_moment = first.any_moment; saved = tt; past = tt; worn = λ past. first.worn (again {A = T} {B = A} e (Worn Log) past) }
 
 pub restart_stopped : {T A : Type 0} (x : A) (e : Stop) (f : A → LogStore) (h : T → LogStore) (g : Geometry) (records : List Entry) (before now : Site) → e ≡ Memory → RestartsWithin {T = A} (Ok x) f g records before now → RestartsWithin {T = T} (Err e) h g records before now
-restart_stopped {T} x e f h g records before now memory first = record { log = tt; any_moment = first.any_moment; saved = tt; worn = λ past. absurd (never (sym memory ∙ error_is {T = T} e (Worn Log) past)) }
+restart_stopped {T} x e f h g records before now memory first = record { log = tt; any_moment = first.any_moment; saved = tt; past = tt; worn = λ past. absurd (never (sym memory ∙ error_is {T = T} e (Worn Log) past)) }
   where
     never : Memory ≡ Worn Log → ⊥
     never is = cc
@@ -146,6 +148,7 @@ restart_answered x y f h g records before now same first = record {
   log = let more = first.log in let last = ap blocks_to same in omega (arith, more, last);
   any_moment = first.any_moment;
   saved = first.saved;
+  past = first.past;
   worn = λ past. absurd (ok_no_error y (Worn Log) past);
 }
 
@@ -155,7 +158,7 @@ reads_numbers g records before now quiet same = leaves_unchanged before now (λ 
 
 -- it stops there
 pub restart_unmoved : {T : Type 0} (e : Stop) (f : T → LogStore) (g : Geometry) (records : List Entry) (before now : Site) → IsQuiet before → IsUnchanged before now → (IsErrOf {T = T} (Err e) (Worn Log) → ⊥) → RestartsWithin {T = T} (Err e) f g records before now
-restart_unmoved e f g records before now quiet same never = record { log = tt; any_moment = reads_numbers g records before now quiet same; saved = tt; worn = λ past. absurd (never past) }
+restart_unmoved e f g records before now quiet same never = record { log = tt; any_moment = reads_numbers g records before now quiet same; saved = tt; past = tt; worn = λ past. absurd (never past) }
 
 -- it goes on
 pub restart_behind : {T : Type 0} (r : Result T Stop) (f : T → LogStore) (g g' : Geometry) (records : List Entry) (before middle now : Site) → g ≡ g' → IsQuiet before → IsUnchanged before middle → RestartsWithin r f g records middle now → RestartsWithin r f g' records before now
@@ -168,5 +171,6 @@ restart_behind r f g g' records before middle now sizes quiet same first =
       any_moment = in_sequence before middle now (Leaves (λ s. HasNumbers g' (hi_of (log_shape g') before.image.log + owed records) (hi_of master_shape before.image.log + 1) s.image)) (reads_numbers g' records before middle quiet same)
           (leaves_more g' middle now _ (hi_of (log_shape g') before.image.log + owed records) _ (hi_of master_shape before.image.log + 1) (omega (arith, blocks)) (omega (arith, masters)) all.any_moment);
       saved = ok_as r _ _ (λ more. let is : hi_of master_shape now.image.log ≡ hi_of master_shape before.image.log + 1 = omega (arith, more, masters) in is) all.saved;
+      past = ok_as r _ _ (λ more. calls_then g' before middle now (calls_unchanged g' before middle same) more) all.past;
       worn = λ past. passes_more _ (hi_of (log_shape g') before.image.log + owed records) _ (hi_of master_shape before.image.log + 1) (omega (arith, blocks)) (omega (arith, masters)) (all.worn past);
     }

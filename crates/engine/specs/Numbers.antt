@@ -9,6 +9,7 @@ use Rattle.site.specs.State.{State as Site, IsQuiet}
 use Rattle.site.specs.Moments.{LeavesOnly}
 use Rattle.sealed_ring.specs.Ring.{hi_of}
 use Rattle.image_changes.specs.Rings.{log_shape, master_shape}
+use Rattle.image_changes.specs.Costs.{CallsForUnits}
 use Rattle.record_model.specs.State.{State}
 use Rattle.record_model.specs.declared.words.Command.{Command}
 use Rattle.record_model.specs.declared.words.Reply.{Reply}
@@ -37,14 +38,16 @@ pub record CountsOn {T E : Type 0} (result : Result T E) (at_end : E) (old new :
 
 -- A restart on these records. However it ends, and wherever a crash ends it, the ring of the log's blocks has at most
 -- one number more for each record that undo owes, and the ring of the master units one for its checkpoint. At Ok the
--- blocks are no more than that with the tail, too, and the master unit is there. It answers that the log is worn only
--- where that many are past the end of a ring.
+-- blocks are no more than that with the tail, too, the master unit is there, and no more calls of the site were made
+-- than the units need that were appended. It answers that the log is worn only where that many are past the end of a
+-- ring.
 pub record RestartsWithin {T : Type 0} (result : Result T Stop) (log_of : T
     → LogStore) (g : Geometry) (records : List Entry) (before now : Site) : Type 0 where
   pub log : IfOk result (λ x. blocks_to (log_of x) ≤ hi_of (log_shape g) before.image.log + unfinished.owed records)
   pub any_moment : LeavesOnly before now (λ s. HasNumbers g (hi_of (log_shape g) before.image.log
       + unfinished.owed records) (hi_of master_shape before.image.log + 1) s.image)
   pub saved : OnOk result (hi_of master_shape now.image.log ≡ hi_of master_shape before.image.log + 1)
+  pub past : OnOk result (CallsForUnits g before now)
   pub worn : IsErrOf result (Worn Log) → PassesEnd (hi_of (log_shape g) before.image.log + unfinished.owed records)
       (hi_of master_shape before.image.log + 1)
 

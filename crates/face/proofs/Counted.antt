@@ -3,8 +3,8 @@ use Rattle.face.specs.Filled.{FillsBy, line_octets}
 use Rattle.face.proofs.Fillings.{filled_blocks, octets_next, first_fill}
 use Rattle.engine.specs.Paging.{cache_on}
 use Rattle.page_store.specs.Caching.{cache_of, next_group}
-use Rattle.std.proofs.Common.{◌≡◌, ℕ, suc, ◌+◌, ◌*◌, ◌≤◌, Bool, true, false, List, [], ◌∷◌, ◌++◌, take, drop, refl, sym, ◌∙◌, ap, subst, arith}
-use Rattle.std.specs.Prelude.{Result, Ok, Err, IsErrOf, Some, None, if◌then◌else◌}
+use Rattle.std.proofs.Common.{◌≡◌, ℕ, suc, ◌+◌, ◌≤◌, Bool, true, false, List, [], ◌∷◌, ◌++◌, take, drop, refl, sym, ◌∙◌, ap, subst, arith}
+use Rattle.std.specs.Prelude.{Result, Ok, Err, IsErrOf, OnOk, Some, None, if◌then◌else◌}
 use Rattle.std_lemmas.proofs.Results.{on_ok}
 use Rattle.site.specs.declared.geometry.Geometry.{Geometry}
 use Rattle.site.specs.declared.outside.Dev.TheVariants.{Log}
@@ -12,10 +12,13 @@ use Rattle.site.specs.declared.outside.Stop.{Stop}
 use Rattle.site.specs.declared.outside.Stop.TheVariants.{Worn}
 use Rattle.site.specs.State.{State as Site, Image, IsQuiet}
 use Rattle.site.specs.Laws.{holds_now, in_sequence, unchanged}
+use Rattle.site.proofs.Working.{ok_as}
 use Rattle.site.specs.Moments.{EachMoment, Leaves, LeavesOnly}
 use Rattle.site.specs.Telling.{TellsPart}
 use Rattle.sealed_ring.specs.Ring.{hi_of}
+use Rattle.image_changes.specs.Costs.{CallsForUnits}
 use Rattle.image_changes.specs.Rings.{log_shape, master_shape}
+use Rattle.image_changes.proofs.Counting.{calls_then}
 use Rattle.record_model.specs.declared.words.CacheLine.{CacheLine}
 use Rattle.record_model.specs.declared.words.Reply.{Reply}
 use Rattle.record_model.specs.declared.words.Reply.TheVariants as reply
@@ -35,6 +38,7 @@ use Rattle.engine.specs.Numbers.{CountsOn, RestartsWithin}
 use Rattle.face.specs.Going.{IsCounted}
 use Rattle.face.specs.Lines.{HearsOnly, up_to_quit}
 use Rattle.face.specs.Range.{GivesNumbers, SkipsNoNumber, blocks_by, made_by, masters_by}
+use Rattle.face.proofs.CallCounts.{calls_heard}
 use Rattle.face.proofs.Writings.{images_heard, images_told}
 use Rattle.face.specs.Run.{Run, after_lines, answered, checkpoints_of, first_lines, line_checkpoints, listing_at, state_at, step, turns_of}
 use Rattle.face.specs.Workload.{checkpoints_in, makes_one}
@@ -52,13 +56,13 @@ pub counts_as : {A B E F : Type 0} {worn : F} {other : E} (x : A) (r : Result B 
 counts_as x r old new before now s after n never c = record {
   records = c.records;
   made = c.made;
-  skips = record { log = on_ok r _ c.log; any_moment = c.any_moment; saved = on_ok r _ c.saved; worn = λ is. absurd (never is) };
+  skips = record { log = on_ok r _ c.log; any_moment = c.any_moment; saved = on_ok r _ c.saved; worn = λ is. absurd (never is); past = on_ok r _ c.past };
 }
 
 -- behind which something is told
-pub counts_told : {A B E F : Type 0} {worn : F} {other : E} (x : A) (r : Result B F) (old new : Engine) (piece : List ℕ) (before mid now : Site) (s after : State) (n : ℕ) → EachMoment mid now (TellsPart piece mid) → now.image ≡ mid.image → (IsErrOf r worn → ⊥) → CountsOn {T = A} {E = E} (Ok x) other old new before mid s after n →
+pub counts_told : {A B E F : Type 0} {worn : F} {other : E} (x : A) (r : Result B F) (old new : Engine) (piece : List ℕ) (before mid now : Site) (s after : State) (n : ℕ) → EachMoment mid now (TellsPart piece mid) → now.image ≡ mid.image → OnOk r (CallsForUnits (sizes_of old.store) mid now) → (IsErrOf r worn → ⊥) → CountsOn {T = A} {E = E} (Ok x) other old new before mid s after n →
     CountsOn r worn old new before now s after n
-counts_told x r old new piece before mid now s after n tells same never c = record {
+counts_told x r old new piece before mid now s after n tells same calls never c = record {
   records = c.records;
   made = c.made;
   skips = record {
@@ -66,6 +70,7 @@ counts_told x r old new piece before mid now s after n tells same never c = reco
     any_moment = images_told (λ (i : Image). HasNumbers (sizes_of old.store) (blocks_to old.store.log + c.records) (hi_of master_shape before.image.log + n) i) piece before mid now c.any_moment tells;
     saved = on_ok r _ (ap (λ (i : Image). hi_of master_shape i.log) same ∙ c.saved);
     worn = λ is. absurd (never is);
+    past = ok_as r _ _ (calls_then (sizes_of old.store) before mid now c.past) calls;
   };
 }
 
@@ -74,7 +79,7 @@ pub counts_err : {A B E F : Type 0} {other : E} {worn : F} (e : E) (f : F) (old 
 counts_err {B = B} {worn = worn} e f old new before now s after n back c = record {
   records = c.records;
   made = c.made;
-  skips = record { log = tt; any_moment = c.any_moment; saved = tt; worn = λ is. c.worn (ap Err (back (error_is {T = B} f worn is))) };
+  skips = record { log = tt; any_moment = c.any_moment; saved = tt; worn = λ is. c.worn (ap Err (back (error_is {T = B} f worn is))); past = tt };
 }
 
 -- no call
@@ -159,12 +164,13 @@ module _ (run : Run) (records : List Entry) (entry : Site) where
   pub restart_told : {T : Type 0} (result : Result T Stop) (log_of : T → LogStore) (piece : List ℕ) (mid now : Site) → EachMoment mid now (TellsPart piece mid) → RestartsWithin result log_of run.geometry records entry mid → LeavesOnly entry now (λ s. Given 0 s.image)
   restart_told result log_of piece mid now tells within = images_told (Given 0) piece entry mid now (restart_numbers result log_of mid within) tells
 
-  pub first_counted : (engine : Engine) (piece : List ℕ) (mid now : Site) → EachMoment mid now (TellsPart piece mid) → RestartsWithin {T = Engine} (Ok engine) (λ e. e.store.log) run.geometry records entry mid → Invariant engine now →
+  pub first_counted : (engine : Engine) (piece : List ℕ) (mid now : Site) → EachMoment mid now (TellsPart piece mid) → CallsForUnits run.geometry mid now → RestartsWithin {T = Engine} (Ok engine) (λ e. e.store.log) run.geometry records entry mid → Invariant engine now →
       next_group (cache_on run.geometry entry.image) ≤ next_group (cache_of engine.store.pages) → IsCounted run records entry now engine 0
-  first_counted engine piece mid now tells within may rise = record {
+  first_counted engine piece mid now tells calls within may rise = record {
     log = let few = within.log in omega (arith, few);
     fills = let few = within.log in let filled = filled_blocks engine.store.log may.store.both.log_going.high in omega (arith, few, filled, rise);
     numbers = restart_told (Ok engine) (λ e. e.store.log) piece mid now tells within;
+    past = calls_then run.geometry entry mid now within.past calls;
   }
 
   -- while only is heard
@@ -220,6 +226,8 @@ module _ (run : Run) (records : List Entry) (entry : Site) where
           log = let few = c.log in omega (arith, few, log, was, made, some);
           numbers = counts_next (Ok x) c;
           fills = let so_far = counted.fills in let octets = octets_next run i line rest is in omega (arith, so_far, fills, octets);
+          past = calls_then run.geometry entry mid new counted.past
+              (calls_then run.geometry mid next new (calls_heard run.geometry mid next same) (subst (λ (g : Geometry). CallsForUnits g next new) sizes c.past));
         }
 
 -- it doesn't depend on what the cache lists
@@ -232,6 +240,7 @@ counted_on run listings records old now engine i counted =
       log = let log = counted.log in omega (arith, log, made);
       fills = let fills = counted.fills in let there = first_fill i run.opening run.lines listings in let here = first_fill i run.opening run.lines run.listings in omega (arith, fills, there, here);
       numbers = leaves_more run.geometry old now _ _ _ _ (omega (arith, made)) (omega (arith, checkpoints)) counted.numbers;
+      past = counted.past;
     }
 
 -- what nothing was done to

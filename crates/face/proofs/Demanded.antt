@@ -1,6 +1,8 @@
 -- What a run asks of the devices, by how it ends.
 use Rattle.face.proofs.Fillings.{seals_all}
+use Rattle.image_changes.specs.Costs.{CallsForUnits}
 use Rattle.image_changes.specs.Rings.{log_shape}
+use Rattle.image_changes.proofs.Counting.{calls_then}
 use Rattle.sealed_ring.specs.Ring.{hi_of}
 use Rattle.face.specs.Filled.{SealsNoMore}
 use Rattle.std.proofs.Common.{◌≡◌, ◌⊎◌, ⊎_elim, ℕ, ◌≤◌, List, [], length, sym, ◌∙◌, ap, subst, arith}
@@ -33,23 +35,24 @@ same_halt : {T : Type 0} (h is : Halt) → IsErrOf {T = T} (Err h) is → h ≡ 
 same_halt h is same = cc
 
 module _ (pool : ℕ) (run : Run) (old new : Site) where
-  pub demands_ok : {T : Type 0} (x : T) → NeverWears pool run old.image → LeavesItsQueue pool run old.image new.image → LeavesVersions pool run old.image new.image → LeavesStaged pool run old new → SealsNoMore pool run old.image new.image → SkipsNoNumber run old new → AsksNoMore pool run old new →
+  pub demands_ok : {T : Type 0} (x : T) → NeverWears pool run old.image → LeavesItsQueue pool run old.image new.image → LeavesVersions pool run old.image new.image → LeavesStaged pool run old new → SealsNoMore pool run old.image new.image → CallsForUnits run.geometry old new → SkipsNoNumber run old new → AsksNoMore pool run old new →
       Demands pool run old new (Ok x)
-  demands_ok x room queue versions staged seals numbers reads = record { seals = seals; worn = λ is. absurd (no_error x (halt.Stop (Worn Flash)) is); worn_log = λ is. absurd (no_error x (halt.Stop (Worn Log)) is); room = room; queue = queue; versions = versions; staged = staged; numbers = numbers; reads = reads }
+  demands_ok x room queue versions staged seals calls numbers reads = record { seals = seals; past = calls; worn = λ is. absurd (no_error x (halt.Stop (Worn Flash)) is); worn_log = λ is. absurd (no_error x (halt.Stop (Worn Log)) is); room = room; queue = queue; versions = versions; staged = staged; numbers = numbers; reads = reads }
 
   pub demands_err : {T : Type 0} (h : Halt) → (h ≡ halt.Stop (Worn Flash) → WearsOut pool run old.image) → (h ≡ halt.Stop (Worn Log) → WearsLog run old.image) → SkipsNoNumber run old new → AsksNoMore pool run old new → Demands {T = T} pool run old new (Err h)
-  demands_err {T} h worn log numbers reads = record { worn = λ is. worn (same_halt {T = T} h (halt.Stop (Worn Flash)) is); worn_log = λ is. log (same_halt {T = T} h (halt.Stop (Worn Log)) is); room = tt; queue = tt; versions = tt; seals = tt; staged = tt; numbers = numbers; reads = reads }
+  demands_err {T} h worn log numbers reads = record { worn = λ is. worn (same_halt {T = T} h (halt.Stop (Worn Flash)) is); worn_log = λ is. log (same_halt {T = T} h (halt.Stop (Worn Log)) is); room = tt; queue = tt; versions = tt; seals = tt; staged = tt; past = tt; numbers = numbers; reads = reads }
 
 -- where something more is told
 module _ (pool : ℕ) (run : Run) (old mid new : Site) (image : new.image ≡ mid.image) (reads : SameReads mid new) {piece : List ℕ} (tells : EachMoment mid new (TellsPart piece mid)) where
   still_reads : AsksNoMore pool run old mid → AsksNoMore pool run old new
   still_reads few newest blocks sound = few_told _ _ _ _ _ old mid new reads tells (few newest blocks sound)
 
-  pub demands_done : {T U : Type 0} (x : T) (y : U) → Demands pool run old mid (Ok x) → Demands pool run old new (Ok y)
-  demands_done x y d = demands_ok pool run old new y d.room (λ newest blocks sound. ap (λ (i : Image). cache_on run.geometry i) image ∙ d.queue newest blocks sound)
+  pub demands_done : {T U : Type 0} (x : T) (y : U) → CallsForUnits run.geometry mid new → Demands pool run old mid (Ok x) → Demands pool run old new (Ok y)
+  demands_done x y calls d = demands_ok pool run old new y d.room (λ newest blocks sound. ap (λ (i : Image). cache_on run.geometry i) image ∙ d.queue newest blocks sound)
       (λ newest blocks sound. subst (λ (i : Image). VersionsAreSeen run.geometry (cache_by pool run (turns_of run) newest old.image blocks).pool i (left_by run.opening (turns_of run))) (sym image) (d.versions newest blocks sound))
       (λ newest blocks sound. last_still run.geometry (staged_by_run pool run (turns_of run) newest old.image blocks) old mid new (d.reads newest blocks sound).writes.grown tells.grown (ap (λ (i : Image). i.disk) image) (d.staged newest blocks sound))
       (λ newest blocks sound. let same = ap (λ (i : Image). hi_of (log_shape run.geometry) i.log) image in let seals = d.seals newest blocks sound in omega (arith, same, seals))
+      (calls_then run.geometry old mid new d.past calls)
       (skips_still run piece old mid new tells d.numbers) (still_reads d.reads)
 
   pub demands_lost : {T U : Type 0} (x : T) → Demands pool run old mid (Ok x) → Demands {T = U} pool run old new (Err halt.Output)
@@ -68,6 +71,7 @@ module _ (pool : ℕ) (run : Run) (n : ℕ) (old new : Site) where
     versions = λ zero. leaves_versions pool run n all old.image new.image d.versions;
     seals = λ zero. seals_all pool run n all old.image new.image d.seals;
     staged = λ zero. leaves_staged pool run n all old new d.staged;
+    past = λ zero. d.past;
     numbers = d.numbers;
     reads = d.reads;
   }
@@ -80,6 +84,7 @@ module _ (pool : ℕ) (run : Run) (n : ℕ) (old new : Site) where
     versions = λ zero. absurd (some zero);
     seals = λ zero. absurd (some zero);
     staged = λ zero. absurd (some zero);
+    past = λ zero. absurd (some zero);
     numbers = d.numbers;
     reads = d.reads;
   }

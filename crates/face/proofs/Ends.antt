@@ -13,6 +13,7 @@ use Rattle.engine.specs.Image.{Stands}
 use Rattle.engine.specs.Representation.{Matches}
 use Rattle.engine.specs.Invariant.{sizes_of}
 use Rattle.flash_cache.specs.Representation.{IsWorn}
+use Rattle.image_changes.specs.Costs.{CallsForUnits}
 use Rattle.redo_undo.specs.Holding.{IsLogWorn}
 use Rattle.record_model.specs.Run.{Line, is_quit}
 use Rattle.face.specs.declared.halt.Halt.{Halt}
@@ -110,9 +111,9 @@ module _ (pool : ℕ) (run : Run) (old mid new : Site) (engine : Engine) (source
       }
 
   -- there are no more lines
-  pub finished : {T : Type 0} (x : T) → to_hear source mid ≡ [] → new.input.left ≡ [] → NeverWears pool (first_lines run i) old.image → LeavesItsQueue pool (first_lines run i) old.image new.image → LeavesVersions pool (first_lines run i) old.image new.image → LeavesStaged pool (first_lines run i) old new → SealsNoMore pool (first_lines run i) old.image new.image → SkipsNoNumber (first_lines run i) old new →
+  pub finished : {T : Type 0} (x : T) → to_hear source mid ≡ [] → new.input.left ≡ [] → NeverWears pool (first_lines run i) old.image → LeavesItsQueue pool (first_lines run i) old.image new.image → LeavesVersions pool (first_lines run i) old.image new.image → LeavesStaged pool (first_lines run i) old new → SealsNoMore pool (first_lines run i) old.image new.image → CallsForUnits run.geometry old new → SkipsNoNumber (first_lines run i) old new →
       RunOutcome pool run old new (Ok x)
-  finished x none left room queue versions staged seals numbers =
+  finished x none left room queue versions staged seals calls numbers =
       let f = has_heard_all old.input.left source mid i cut is_source old new refl none left in
       record {
         heard = i;
@@ -122,7 +123,7 @@ module _ (pool : ℕ) (run : Run) (old mid new : Site) (engine : Engine) (source
         stops = tt;
         begun = begun_before run old new engine i going;
         done = (inl refl, f.1, going.moments, ended run old new engine i going, going.quiet);
-        demands = demands_ok pool (first_lines run i) old new x room queue versions staged seals numbers reads;
+        demands = demands_ok pool (first_lines run i) old new x room queue versions staged seals calls numbers reads;
         listed = listed;
         written = written;
         answers = answers;
@@ -150,9 +151,9 @@ module _ (pool : ℕ) (run : Run) (old mid next new : Site) (source source' : So
   }
 
   -- a quit was answered
-  pub quitted : {T : Type 0} (x : T) (engine : Engine) → is_quit line ≡ true → Going run old new engine (suc i) → NeverWears pool (first_lines run (suc i)) old.image → LeavesItsQueue pool (first_lines run (suc i)) old.image new.image → LeavesVersions pool (first_lines run (suc i)) old.image new.image → LeavesStaged pool (first_lines run (suc i)) old new → SealsNoMore pool (first_lines run (suc i)) old.image new.image → SkipsNoNumber (first_lines run (suc i)) old new →
+  pub quitted : {T : Type 0} (x : T) (engine : Engine) → is_quit line ≡ true → Going run old new engine (suc i) → NeverWears pool (first_lines run (suc i)) old.image → LeavesItsQueue pool (first_lines run (suc i)) old.image new.image → LeavesVersions pool (first_lines run (suc i)) old.image new.image → LeavesStaged pool (first_lines run (suc i)) old new → SealsNoMore pool (first_lines run (suc i)) old.image new.image → CallsForUnits run.geometry old new → SkipsNoNumber (first_lines run (suc i)) old new →
       RunOutcome pool run old new (Ok x)
-  quitted x engine quits going room queue versions staged seals numbers =
+  quitted x engine quits going room queue versions staged seals calls numbers =
       let all = quit_is_last old.input.left source mid i cut is_source source' next line h last is' quits in
       record {
         heard = suc i;
@@ -162,7 +163,7 @@ module _ (pool : ℕ) (run : Run) (old mid next new : Site) (source source' : So
         stops = tt;
         begun = begun_before run old new engine (suc i) going;
         done = (inr all.1, all.0, going.moments, ended run old new engine (suc i) going, going.quiet);
-        demands = demands_ok pool (first_lines run (suc i)) old new x room queue versions staged seals numbers reads;
+        demands = demands_ok pool (first_lines run (suc i)) old new x room queue versions staged seals calls numbers reads;
         listed = listed;
         written = written;
         answers = answers;

@@ -1,5 +1,5 @@
 -- How much of the log's blocks is filled, line by line.
-use Rattle.std.proofs.Common.{◌≡◌, ◌⊎◌, ⊎_elim, ℕ, suc, ◌+◌, ◌-◌, ◌*◌, ◌≤◌, ◌<◌, Bool, true, false, nat_lt, List, [], ◌∷◌, ◌++◌, length, take, drop, refl, sym, ap, subst, ◌∙◌, arith}
+use Rattle.std.proofs.Common.{◌≡◌, ⊎_elim, ℕ, suc, ◌+◌, ◌*◌, ◌≤◌, Bool, true, false, nat_lt, List, [], ◌∷◌, ◌++◌, length, take, drop, refl, sym, ap, subst, ◌∙◌, arith}
 use Rattle.std.specs.Prelude.{Result, Ok, Err, OnOk, Option, Some, if◌then◌else◌}
 use Rattle.std.proofs.lemmas.Bool.{ltb-false}
 use Rattle.site.specs.declared.outside.Stop.{Stop}
@@ -15,9 +15,8 @@ use Rattle.record_model.specs.declared.words.Command.{Command}
 use Rattle.record_model.specs.declared.words.Command.TheVariants.{Begin}
 use Rattle.log_records.specs.Spelling.{block_len}
 use Rattle.log_store.specs.declared.store.LogStore.{LogStore}
-use Rattle.log_store.specs.Representation.{has_tail}
 use Rattle.page_store.specs.Caching.{cache_of, next_group, rules}
-use Rattle.second_chance.specs.Machine.{Rules, Cache, after_works}
+use Rattle.second_chance.specs.Machine.{Rules, Cache}
 use Rattle.redo_undo.specs.Filling.{FindsRoom, Fills}
 use Rattle.redo_undo.specs.Holding.{blocks_to}
 use Rattle.redo_undo.specs.MachineSteps.{StepsMachine}

@@ -1,3 +1,4 @@
+mod CallCounts
 mod CauseLaws
 mod CheckLaws
 mod CommandLaws

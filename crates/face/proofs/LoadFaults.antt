@@ -1,5 +1,5 @@
 -- A load that halts with its fault line, and one that is summed up.
-use Rattle.std.proofs.Common.{◌≡◌, ◌≢◌, ◌⊎◌, inl, inr, ⊎_elim, ℕ, ◌-◌, ◌≤◌, List, [], ◌++◌, take, refl, sym, ◌∙◌, ap, subst, arith, append_assoc}
+use Rattle.std.proofs.Common.{◌≡◌, ◌≢◌, ◌⊎◌, inl, inr, ⊎_elim, ℕ, ◌+◌, ◌-◌, ◌≤◌, List, [], ◌++◌, length, take, refl, sym, ◌∙◌, ap, subst, arith, append_assoc}
 use Rattle.std.specs.Prelude.{Ok, Err, Result, IsTrue}
 use Rattle.std.proofs.lemmas.List.{append-nil, take_all}
 use Rattle.site.specs.declared.geometry.Geometry.{Geometry}
@@ -26,6 +26,7 @@ use Rattle.face.specs.Run.{IsFront, Run, first_lines, turns_of}
 use Rattle.face.specs.Texts.{fault_line, status_of}
 use Rattle.face.specs.Tells.{EndsBehind, Tells}
 use Rattle.face.specs.Workload.{load_run, load_texts, opening_text, summary_text}
+use Rattle.face.proofs.CallCounts.{calls_told}
 use Rattle.face.proofs.Endings.{ends_whole, ends_with}
 use Rattle.face.proofs.Demanded.{asked_done, asked_halted, demands_done, demands_err, demands_failed, demands_lost}
 use Rattle.face.proofs.Faults.{not_zero, worn_by, worn_nowhere}
@@ -100,8 +101,8 @@ module _ (pool : ℕ) (run : Run) (summary : List ℕ) (old : Site) where
         }) (tell_leaves (StandsAfter run (all_commits run)) summary mid new (λ s left. subst (StandsAfter run (all_commits run)) (sym (image_is (now_of mid) s works.done.quiet left)) works.done.whole.stands) tells))
 
     -- it is summed up
-    pub summed_up : {U : Type 0} (y : U) → new.told ≡ mid.told ++ summary → LoadWorks {T = U} pool run summary old new (Ok y)
-    summed_up {U} y told = record {
+    pub summed_up : {U : Type 0} (y : U) → new.told ≡ mid.told ++ summary → length new.past ≤ length mid.past + length summary → LoadWorks {T = U} pool run summary old new (Ok y)
+    summed_up {U} y told few = record {
       stops = tt;
       done = record {
         any_moment = summing;
@@ -114,7 +115,7 @@ module _ (pool : ℕ) (run : Run) (summary : List ℕ) (old : Site) where
       begun = works.begun;
       has_begun = still_begun run works.begun summary old mid new tells works.has_begun;
       all = works.all;
-      demands = demands_done pool (first_lines run works.begun) old mid new same.image read tells x y works.demands;
+      demands = demands_done pool (first_lines run works.begun) old mid new same.image read tells x y (calls_told run.geometry summary mid new same.image told few) works.demands;
       left = same.left ∙ works.left;
     }
 

@@ -1,5 +1,7 @@
 -- What a load leaves: while it opens, while its lines are carried out, and when they are done.
+use Rattle.image_changes.specs.Costs.{CallsForUnits}
 use Rattle.image_changes.specs.Rings.{log_shape}
+use Rattle.image_changes.proofs.Counting.{calls_then}
 use Rattle.sealed_ring.specs.Ring.{hi_of}
 use Rattle.face.specs.Filled.{octets_of}
 use Rattle.face.proofs.Fillings.{first_fill, next_there}
@@ -314,8 +316,8 @@ module _ (g : Geometry) (opening : State) (load : Load) where
         left = left_new (Err h) some;
       }
 
-      pub load_finished : {T : Type 0} → QueueIsOnFlash → WhereItFits → LeavesStaged load.pool (first_lines opening_run 0) old mid → (x : T) → CarriesOut (Ok x) run.lines before after mid new → LoadWorks {T = T} load.pool run [] old new (Ok x)
-      load_finished {T} law seen staged x course =
+      pub load_finished : {T : Type 0} → QueueIsOnFlash → WhereItFits → LeavesStaged load.pool (first_lines opening_run 0) old mid → CallsForUnits g old mid → (x : T) → CarriesOut (Ok x) run.lines before after mid new → LoadWorks {T = T} load.pool run [] old new (Ok x)
+      load_finished {T} law seen staged calls x course =
           let some = carries_all x run.lines before after mid new course in
           record {
             stops = tt;
@@ -357,6 +359,7 @@ module _ (g : Geometry) (opening : State) (load : Load) where
                 let lines = first_fill some.begun opening run.lines [] ∙ ap (λ (l : List Line). octets_of opening l) all in
                 let low = course.going.store.both.log_going.low in
                 omega (arith, there, next, opened, later, lines, low))
+                (calls_then g old mid new calls (subst (λ (y : Geometry). CallsForUnits y mid new) going.geometry (course.numbers opening going.fits going.quiet).past))
                 (numbers_are (Ok x) some) (reads_are (Ok x) some);
             left = left_new (Ok x) some;
           }

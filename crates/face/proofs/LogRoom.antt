@@ -5,7 +5,6 @@ use Rattle.site.specs.State.{Image}
 use Rattle.site.specs.declared.geometry.Geometry.{Geometry}
 use Rattle.record_model.specs.declared.words.CacheLine.{CacheLine}
 use Rattle.record_model.specs.declared.words.Command.{Command}
-use Rattle.record_model.specs.declared.words.Command.TheVariants as command
 use Rattle.record_model.specs.declared.words.Reply.{Reply}
 use Rattle.record_model.specs.State.{State}
 use Rattle.record_model.specs.Step.{Outcome, answer, effect, full, lacks_room, outcome, ready, refusal}

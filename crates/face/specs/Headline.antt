@@ -11,6 +11,7 @@ use Rattle.record_model.specs.State.{State}
 use Rattle.face.specs.declared.halt.Halt.{Halt}
 use Rattle.face.specs.declared.halt.Halt.TheVariants.{Stop}
 use Rattle.face.specs.Texts.{IsLineOf, fault_line, status_of}
+use Rattle.image_changes.specs.Costs.{CallsForUnits}
 use Rattle.redo_undo.specs.Holding.{IsLogWorn}
 use Rattle.engine.specs.Image.{Opens}
 use Rattle.face.specs.Causes.{HasCause}
@@ -120,6 +121,8 @@ pub record Resources (pool : ℕ) (run : Run) (begun : ℕ) (fault : List ℕ) (
   pub seals : status ≡ 0 → SealsNoMore pool run old.image new.image
   -- and each page that it has staged is on the disk as the frame that was staged last
   pub staged : status ≡ 0 → LeavesStaged pool run old new
+  -- and no more calls were made than its units and its texts need
+  pub past : status ≡ 0 → CallsForUnits run.geometry old new
   -- whatever the status, with these lines no ring number is skipped on the log's device
   pub numbers : SkipsNoNumber (first_lines run begun) old new
   -- no more is read and written than they ask for

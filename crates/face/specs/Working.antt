@@ -11,6 +11,7 @@ use Rattle.record_model.specs.Run.{commit_marks, commits_among, is_quit}
 use Rattle.record_model.specs.Touches.{CacheWork}
 use Rattle.log_records.specs.declared.log_record.LogRecord.{LogRecord}
 use Rattle.checkpoint.specs.declared.master.Master.{Master}
+use Rattle.image_changes.specs.Costs.{CallsForUnits}
 use Rattle.face.specs.declared.halt.Halt.{Halt}
 use Rattle.face.specs.declared.halt.Halt.TheVariants.{Stop, Output, Input, Limit}
 use Rattle.face.specs.Filled.{SealsNoMore}
@@ -81,7 +82,8 @@ pub record AnswersFirst (run : Run) (lines : ℕ) (old now : Site) : Type 0 wher
   pub count : now.input.heard + length now.input.left ≡ old.input.heard + length old.input.left
 
 -- What a run that ends so asks of the devices. Flash is worn only where it asks for more groups than the ring can have,
--- and the log's device only where what it appends at most passes the end of a ring; no ring number is skipped there.
+-- and the log's device only where what it appends at most passes the end of a ring; no ring number is skipped there. At
+-- Ok no more calls were made than its units and its texts need.
 pub record Demands {T : Type 0} (pool : ℕ) (run : Run) (old new : Site) (result : Result T Halt) : Type 0 where
   pub worn : IsErrOf result (Stop (Worn Flash)) → WearsOut pool run old.image
   pub worn_log : IsErrOf result (Stop (Worn Log)) → WearsLog run old.image
@@ -90,6 +92,7 @@ pub record Demands {T : Type 0} (pool : ℕ) (run : Run) (old new : Site) (resul
   pub versions : OnOk result (LeavesVersions pool run old.image new.image)
   pub seals : OnOk result (SealsNoMore pool run old.image new.image)
   pub staged : OnOk result (LeavesStaged pool run old new)
+  pub past : OnOk result (CallsForUnits run.geometry old new)
   pub numbers : SkipsNoNumber run old new
   pub reads : AsksNoMore pool run old new
 

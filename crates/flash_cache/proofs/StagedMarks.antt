@@ -9,6 +9,7 @@ use Rattle.second_chance.specs.declared.frame.Frame.{Frame as Known}
 use Rattle.second_chance.specs.Queue.{group_marks, front_marks}
 use Rattle.second_chance.specs.Plans.{Placed, chances_given, staged_of}
 use Rattle.second_chance.specs.Machine.{rules_of, leaving}
+use Rattle.stage_out.specs.Staged.{calls_of}
 use Rattle.second_chance.proofs.DistinctStaged.{staged_stand_in, staged_apart}
 use Rattle.second_chance.proofs.Chances.{chances_stand_in, chances_are_not_staged}
 use Rattle.flash_cache.specs.declared.cache.FlashCache.{FlashCache}
@@ -57,6 +58,11 @@ read_at f groups marks places stand is =
 pub marks_exist : (pages : ℕ) (groups : List (List Known)) (marks : List Placed) → AreNumbered (front_marks groups) marks → AllByRecursion (λ frames. AllByRecursion (λ (frame : Known). frame.page < pages) frames) groups → All (λ page. page < pages) (map (λ f. f.1.page) marks)
 marks_exist pages groups marks stand exist = All-map (λ (page : ℕ). page < pages) (λ (f : Placed). f.1.page) marks (λ k d lt. front_exists pages groups _ _ exist (stand k d lt))
 
+-- a page or a sync for each
+calls_most : (pages : List ℕ) (n : ℕ) → length pages ≤ n → calls_of pages ≤ n + 1
+calls_most [] n few = omega arith
+calls_most (page ∷ pages) n few = omega (arith, few)
+
 module _ (cache : FlashCache) where
   abbrev front : List Mark
   front = front_marks cache.directory.groups
@@ -88,6 +94,14 @@ module _ (cache : FlashCache) where
       let some = marks_few (front_leaves cache) in
       let few = front_few cache.directory.groups sizes in
       omega (arith, first, second, apart, some, few)
+
+  pub calls_few : AllByRecursion (λ frames. (1 ≤ length frames) × (length frames ≤ 8)) cache.directory.groups → calls_of (staged_pages cache) ≤ 9
+  calls_few sizes =
+      let marks = staged_marks cache in
+      let few = reads_few (map (λ f. f.0) marks) (map (λ f. f.0) (chance_marks cache)) sizes refl refl in
+      let numbers = length-map marks (λ (f : Placed). f.0) in
+      let pages = length-map marks (λ (f : Placed). f.1.page) in
+      calls_most (staged_pages cache) 8 (omega (arith, few, numbers, pages))
 
   apart_by : (given b : Bool) (groups : List (List Known)) → AllPairs (λ x y. x.1.page ≢ y.1.page) (staged_of given (cond b (front_marks groups) []))
   apart_by given false groups = λ i j d before within. absurd (omega (arith, within))

@@ -20,7 +20,7 @@ ghost use Rattle.frame_group.specs.Groups.{Frame, IsFrame, heads_of, group};
 ghost use Rattle.tail_rebuild.specs.Saving.{is_due};
 ghost use Rattle.second_chance.specs.Queue.{has_frame, with_read, marks, front_marks};
 ghost use Rattle.second_chance.specs.Machine.{rules_of, leaving, staged_in_push};
-ghost use Rattle.stage_out.specs.Staged.{HasStaged};
+ghost use Rattle.stage_out.specs.Staged.{HasStaged, calls_of};
 ghost use Rattle.flash_directory.specs.Heads.{frames_in};
 ghost use Rattle.flash_cache.specs.Representation.{Invariant, Matches, IsWorn, HasGroups, HasFrames, AreSaved};
 ghost use Rattle.flash_cache.specs.Representation.{Represents, queue_of, version_on};
@@ -287,6 +287,9 @@ impl FlashCache {
         ensures fits { Matches self.old (S.state site.old) → OnOk result (Matches self.new (S.state site.new)) }
         ensures quiet { IsTrue (S.state site.old).honest → IsQuiet (S.state site.old)
             → OnOk result (IsQuiet (S.state site.new)) }
+        // Five calls for the group, five for a segment, and one for each page that is staged and for the sync.
+        ensures past { IsTrue (S.state site.old).honest
+            → OnOk result (length (S.state site.new).past ≤ length (S.state site.old).past + 19) }
         ensures quiet_err { IsTrue (S.state site.old).honest → IsQuiet (S.state site.old)
             → IfErr result (λ stop. ((d : Dev) → stop ≢ Stop.Device d) → IsQuiet (S.state site.new)) }
 
@@ -383,6 +386,9 @@ impl FlashCache {
         ensures fits { Matches self.old (S.state site.old) → OnOk result (Matches self.new (S.state site.new)) }
         ensures quiet { IsTrue (S.state site.old).honest → IsQuiet (S.state site.old)
             → OnOk result (IsQuiet (S.state site.new)) }
+        ensures past { IsTrue (S.state site.old).honest
+            → OnOk result (length (S.state site.new).past
+            ≡ length (S.state site.old).past + (calls_of (staged_pages self.old) + 5)) }
         ensures quiet_err { IsTrue (S.state site.old).honest → IsQuiet (S.state site.old)
             → IfErr result (λ stop. ((d : Dev) → stop ≢ Stop.Device d) → IsQuiet (S.state site.new)) }
 
@@ -464,6 +470,9 @@ impl FlashCache {
         ensures fits { Matches self.old (S.state site.old) → OnOk result (Matches self.new (S.state site.new)) }
         ensures quiet { IsTrue (S.state site.old).honest → IsQuiet (S.state site.old)
             → OnOk result (IsQuiet (S.state site.new)) }
+        ensures past { IsTrue (S.state site.old).honest
+            → OnOk result (length (S.state site.new).past
+            ≡ length (S.state site.old).past + (calls_of staged.now + 5)) }
         ensures quiet_err { IsTrue (S.state site.old).honest → IsQuiet (S.state site.old)
             → IfErr result (λ stop. ((d : Dev) → stop ≢ Stop.Device d) → IsQuiet (S.state site.new)) }
 
@@ -517,6 +526,8 @@ impl FlashCache {
         ensures fits { Matches self.old (S.state site.old) → OnOk result (Matches self.new (S.state site.new)) }
         ensures quiet { IsTrue (S.state site.old).honest → IsQuiet (S.state site.old)
             → OnOk result (IsQuiet (S.state site.new)) }
+        ensures past { IsTrue (S.state site.old).honest
+            → OnOk result (length (S.state site.new).past ≡ length (S.state site.old).past + 5) }
         ensures quiet_err { IsTrue (S.state site.old).honest → IsQuiet (S.state site.old)
             → IfErr result (λ stop. ((d : Dev) → stop ≢ Stop.Device d) → IsQuiet (S.state site.new)) }
 

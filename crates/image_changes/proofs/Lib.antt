@@ -1,3 +1,4 @@
 pub mod Adding
 pub mod AppendLaws
+pub mod Counting
 pub mod Sequence

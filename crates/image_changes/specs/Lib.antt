@@ -1,4 +1,5 @@
 pub mod Changes
+pub mod Costs
 pub mod Laws
 pub mod Reached
 pub mod Rings

@@ -176,6 +176,9 @@ impl LogStore {
             → ChangesOnly Dev.Log (S.state site.old) (S.state site.new) }
         ensures quiet { IsTrue (S.state site.old).honest → IsQuiet (S.state site.old)
             → OnOk result (IsQuiet (S.state site.new)) }
+        ensures past { IsTrue (S.state site.old).honest
+            → OnOk result (length (S.state site.new).past + 5 * self.old.ring.hi
+            ≡ length (S.state site.old).past + 5 * self.new.ring.hi) }
 
         // Of every site.
         ensures lsn { IfOk result (λ lsn. lsn ≡ next_lsn self.old rec.now) }
@@ -242,6 +245,9 @@ impl LogStore {
             → ChangesOnly Dev.Log (S.state site.old) (S.state site.new) }
         ensures quiet { IsTrue (S.state site.old).honest → IsQuiet (S.state site.old)
             → OnOk result (IsQuiet (S.state site.new)) }
+        ensures past { IsTrue (S.state site.old).honest
+            → OnOk result (length (S.state site.new).past + 5 * self.old.ring.hi
+            ≡ length (S.state site.old).past + 5 * self.new.ring.hi) }
 
         // Of every site.
         ensures empty { OnOk result (self.new.used ≡ 2) }
@@ -304,6 +310,9 @@ impl LogStore {
             → ChangesOnly Dev.Log (S.state site.old) (S.state site.new) }
         ensures quiet { IsTrue (S.state site.old).honest → IsQuiet (S.state site.old)
             → OnOk result (IsQuiet (S.state site.new)) }
+        ensures past { IsTrue (S.state site.old).honest
+            → OnOk result (length (S.state site.new).past + 5 * self.old.ring.hi
+            ≡ length (S.state site.old).past + 5 * self.new.ring.hi) }
 
         ensures used { OnOk result (self.new.used ≡ (if wanted then 2 else self.old.used)) }
         ensures next { OnOk result (self.new.ring.hi

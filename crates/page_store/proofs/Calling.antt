@@ -18,6 +18,8 @@ use Rattle.site.proofs.Working.{no_error, err_always, ok_as, ok_always, calls_th
 use Rattle.image_changes.specs.Changes.{Change, Reaches}
 use Rattle.image_changes.specs.Reached.{IsReached, IsFrontOf, LeavesFront}
 use Rattle.image_changes.specs.Laws.{ChangesAddUp, FrontsAddUp}
+use Rattle.image_changes.specs.Costs.{CallsForUnits}
+use Rattle.image_changes.proofs.Counting.{calls_none, calls_then as counts_then}
 use Rattle.image_meaning.specs.Beside.{AreRingsSoundUnder}
 use Rattle.slotted_page.specs.Layout.{IsSound}
 use Rattle.flash_cache.specs.Representation.{IsWorn}
@@ -119,6 +121,7 @@ stands_still {log = log} {pages = pages} {pages' = pages'} {site = site} {list =
   ahead = λ ahead. record { pool = logged ahead.pool; versions = subst (λ (g : Geometry). AreSealed g site.image) (sym geometry) ahead.versions };
   rings = λ newest rings. rings;
   reaches = subst (λ (l : List Change). Reaches pages.flash.geometry l site.image site.image) (sym unchanged) (reads_itself pages.flash.geometry site.image);
+  past = calls_none pages.flash.geometry site;
 }
 
 -- A page is read behind a call that was Ok, or want of memory stops it.
@@ -268,6 +271,7 @@ stands_then {new = new} {pages = pages} {between = between} {pages' = pages'} {b
       ahead = λ ahead. second.ahead (first.ahead ahead);
       rings = λ newest rings. subst (λ (k : Geometry). AreRingsSoundUnder newest k now.image) geometry (second.rings newest (subst (λ (k : Geometry). AreRingsSoundUnder newest k middle.image) (sym geometry) (first.rings newest rings)));
       reaches = law g c d before.image middle.image now.image first.reaches (subst (λ (k : Geometry). Reaches k d middle.image now.image) geometry second.reaches);
+      past = counts_then g before middle now first.past (subst (λ (k : Geometry). CallsForUnits k middle now) geometry second.past);
     }
 
 -- more may be sealed, and more changes may be made
@@ -321,4 +325,5 @@ stands_given {store = store} {before = before} {now = now} own geometry ready cu
   ahead = λ ahead. record { pool = logged ahead.pool; versions = subst (λ (g : Geometry). AreSealed g now.image) (sym geometry) (push.sealed ahead.versions (own.logged ahead.pool)) };
   rings = λ newest rings. push.rings newest rings own.sound;
   reaches = push.reaches;
+  past = push.past;
 }

@@ -361,9 +361,9 @@ pub ok_four : {A E : Type 0} (r : Result A E) (P Q R S Z : Type 0) → (P → Q 
 ok_four (Ok x) P Q R S Z f p q r s = f p q r s
 ok_four (Err e) P Q R S Z f p q r s = tt
 
-pub ok_six : {A E : Type 0} (r : Result A E) (P Q R S T U Z : Type 0) → (P → Q → R → S → T → U → Z) → OnOk r P → OnOk r Q → OnOk r R → OnOk r S → OnOk r T → OnOk r U → OnOk r Z
-ok_six (Ok x) P Q R S T U Z f p q r s t u = f p q r s t u
-ok_six (Err e) P Q R S T U Z f p q r s t u = tt
+pub ok_seven : {A E : Type 0} (r : Result A E) (P Q R S T U V Z : Type 0) → (P → Q → R → S → T → U → V → Z) → OnOk r P → OnOk r Q → OnOk r R → OnOk r S → OnOk r T → OnOk r U → OnOk r V → OnOk r Z
+ok_seven (Ok x) P Q R S T U V Z f p q r s t u v = f p q r s t u v
+ok_seven (Err e) P Q R S T U V Z f p q r s t u v = tt
 
 -- the log that was found, where nothing of its device is loose
 pub log_fits : (log : LogStore) (site : State) → IsQuiet site → log_store.Finds log site → log_store.Matches log site

@@ -12,6 +12,7 @@ use Rattle.site.specs.Moments.{LeavesOnly}
 use Rattle.site.specs.Work.{Calls}
 use Rattle.image_changes.specs.Changes.{Change, Reaches}
 use Rattle.image_changes.specs.Reached.{LeavesFront}
+use Rattle.image_changes.specs.Costs.{CallsForUnits}
 use Rattle.slotted_page.specs.Layout.{IsSound}
 use Rattle.flash_cache.specs.Representation.{IsWorn}
 use Rattle.flash_cache.specs.Pushed.{chance_marks, pushed_queue}
@@ -158,6 +159,8 @@ pub record Stands (old new : LogStore) (pages pages' : PageStore) (before now : 
   pub rings : (newest : Option Master) → AreRingsSoundUnder newest pages.flash.geometry before.image →
       AreRingsSoundUnder newest pages.flash.geometry now.image
   pub reaches : Reaches pages.flash.geometry changes before.image now.image
+  -- and no more calls were made than the units cost that were appended
+  pub past : CallsForUnits pages.flash.geometry before now
 
 -- The same of a push of these pages, whatever is given as their contents.
 pub record KeepsGiven {T : Type 0} (result : Result T Stop) (log : LogStore) (pages : PageStore) (numbers : List ℕ)
@@ -181,6 +184,7 @@ pub record StandsGiven (log new : LogStore) (pages pages' : PageStore) (numbers 
     (contents : List (List ℕ)) (before now : State) (list : LogList) (changes : List Change) : Type 0 where
   pub gives : Gives pages.flash.geometry numbers contents before.image now.image
   pub reaches : Reaches pages.flash.geometry changes before.image now.image
+  pub past : CallsForUnits pages.flash.geometry before now
   pub leaves : (given : ℕ → List ℕ) → AreGiven given numbers contents →
       AreCleanGiven pages.flash numbers changed contents before.image →
       LeavesPages pages.flash.geometry given (forces log contents) list before (snapshot_of now)

@@ -1,5 +1,6 @@
 // The log is sealed before pages leave for the devices.
-ghost use Rattle.std.specs.Prelude.{◌≡◌, ◌≢◌, ◌⊎◌, ◌↔◌, ◌^◌, ◌≤◌, true, false, IsTrue, OnOk, OnErr, IfErr, IsErrOf};
+ghost use Rattle.std.specs.Prelude.{◌≡◌, ◌≢◌, ◌⊎◌, ◌↔◌, ◌+◌, ◌*◌, ◌^◌, ◌≤◌, length, true, false, IsTrue, OnOk, OnErr};
+ghost use Rattle.std.specs.Prelude.{IfErr, IsErrOf};
 ghost use Rattle.std.specs.List.{AllByRecursion};
 ghost use Rattle.site.specs.declared.outside.Dev.{Dev};
 ghost use Rattle.site.specs.declared.outside.Stop.{Stop};
@@ -72,6 +73,9 @@ pub fn force_for<S: Site>(site: &mut S, log: &mut LogStore, contents: &[Page]) -
         → ChangesOnly Dev.Log (S.state site.old) (S.state site.new) }
     ensures quiet_err { IsTrue (S.state site.old).honest → IsQuiet (S.state site.old)
         → IfErr result (λ stop. ((d : Dev) → stop ≢ Stop.Device d) → IsQuiet (S.state site.new)) }
+    ensures past { IsTrue (S.state site.old).honest
+        → OnOk result (length (S.state site.new).past + 5 * log.old.ring.hi
+        ≡ length (S.state site.old).past + 5 * log.new.ring.hi) }
 
     // Of every site.
     ensures calls { Calls result (S.state site.old) (S.state site.new) }

@@ -24,7 +24,7 @@ use Rattle.page_store.specs.Laws.{FitsBeside}
 use Rattle.checkpoint.specs.declared.master.Master.{Master}
 use Rattle.image_meaning.specs.Moments.{LeavesTableUnder, LeavesFor}
 use Rattle.redo_undo.proofs.Saved.{then_for}
-use Rattle.redo_undo.specs.Holding.{blocks_to, Invariant, Represents, IsLogWorn}
+use Rattle.redo_undo.specs.Holding.{Invariant, Represents, IsLogWorn}
 use Rattle.redo_undo.specs.Calls.{KeepsInvariant, LogsNothing, KeepsInvariantBeside, ReadsOne, Keeps, KeepsBeside}
 use Rattle.redo_undo.specs.Laws.{PageLaws}
 use Rattle.redo_undo.specs.RedoLaws.{RedoLaws}

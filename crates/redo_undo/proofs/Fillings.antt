@@ -1,11 +1,10 @@
 -- When a block of the log is sealed though nothing asks for it.
-use Rattle.std.proofs.Common.{◌≡◌, ◌⊎◌, inl, inr, ⊎_elim, ℕ, ◌+◌, ◌*◌, ◌≤◌, ◌<◌, Bool, true, false, nat_lt, ◌&&◌, List, [], ◌∷◌, map, reverse, length, refl, sym, ap, ◌∙◌, arith, true≢false, length-append, Some, None}
+use Rattle.std.proofs.Common.{◌≡◌, inl, inr, ⊎_elim, ℕ, ◌+◌, ◌*◌, ◌≤◌, Bool, true, false, nat_lt, ◌&&◌, List, [], ◌∷◌, map, reverse, length, refl, sym, ap, ◌∙◌, arith, true≢false, length-append, Some, None}
 use Rattle.std.specs.Prelude.{Result, Ok, Err, OnOk, IfOk, if◌then◌else◌}
 use Rattle.std.proofs.lemmas.Bool.{ltb-true}
 use mathlib.Core.List.{reverse_aux}
 use Rattle.buffer_pool.specs.declared.frame.Frame.{Frame}
 use Rattle.record_model.specs.State.{Content}
-use Rattle.log_records.specs.declared.log_record.LogRecord.{LogRecord}
 use Rattle.log_records.specs.declared.log_record.LogRecord.TheVariants.{Begin, Update}
 use Rattle.log_records.specs.Spelling.{spelling, content_spelling, block_len, used_by, IsShort}
 use Rattle.log_store.specs.declared.store.LogStore.{LogStore}
@@ -17,7 +16,7 @@ use Rattle.page_store.specs.declared.store.PageStore.{PageStore}
 use Rattle.page_store.specs.Caching.{cache_of, rules, pool_page, first_pushed, is_pushed, pushes, next_group}
 use Rattle.page_store.specs.Pulling.{evicted_of, pulled_frames}
 use Rattle.page_store.specs.Ahead.{forces, evicted, pushed_by_touch}
-use Rattle.redo_undo.specs.Filling.{FindsRoom, SealsFull, Fills}
+use Rattle.redo_undo.specs.Filling.{FindsRoom, Fills}
 
 -- A log is forced for a touch only where that pushes.
 

@@ -1,6 +1,6 @@
 -- The numbers of the rings in what a call has left.
-use Rattle.std.proofs.Common.{◌≡◌, inl, inr, ◌+◌, ◌≤◌, Bool, true, List, [], ◌∷◌, ◌++◌, length, ap, subst, arith, ℕ}
-use Rattle.std.specs.Prelude.{Result, Err, OnOk, IsErrOf, Some, ◌≢◌, ◌^◌, if◌then◌else◌}
+use Rattle.std.proofs.Common.{◌≡◌, inl, inr, ◌+◌, ◌*◌, ◌≤◌, Bool, true, false, List, [], ◌∷◌, ◌++◌, length, refl, ap, subst, arith, ℕ}
+use Rattle.std.specs.Prelude.{Result, Ok, Err, OnOk, IsErrOf, Some, ◌≢◌, ◌^◌, if◌then◌else◌}
 use Rattle.std.specs.List.{AllByRecursion}
 use Rattle.std.proofs.lemmas.List.{length-append}
 use Rattle.std_lemmas.proofs.AllOf.{all_left}
@@ -9,13 +9,15 @@ use Rattle.site.specs.State.{State, Image, Snapshot, snapshot_of}
 use Rattle.site.specs.declared.outside.Dev.TheVariants.{Log}
 use Rattle.site.specs.declared.outside.Stop.{Stop}
 use Rattle.site.specs.declared.outside.Stop.TheVariants.{Worn}
-use Rattle.site.specs.Moments.{Leaves, LeavesOnly}
+use Rattle.site.specs.Moments.{Leaves, LeavesOnly, ChangesOnly}
 use Rattle.site.specs.Laws.{each_both, each_weaker, holds_now, leaves_weaker}
 use Rattle.sealed_ring.specs.Ring.{hi_of, Units}
 use Rattle.image_changes.specs.Rings.{Masters, Blocks, log_shape, master_shape, KeepsUnits}
 use Rattle.image_changes.specs.Changes.{Change, AppendsMaster, Reaches, ring_of}
 use Rattle.image_changes.specs.Reached.{IsReached, IsFrontOf, LeavesFront}
 use Rattle.image_changes.specs.Laws.{RingKept}
+use Rattle.image_changes.specs.Costs.{CallsForUnits}
+use Rattle.image_changes.proofs.Counting.{paid, cost_reached}
 use Rattle.log_store.specs.declared.store.LogStore.{LogStore}
 use Rattle.log_store.specs.LogList.{LogList, changes_if}
 use Rattle.log_store.specs.Representation.{LeavesLog, has_tail}
@@ -61,27 +63,52 @@ past_end log sealing n masters some is = let hi = is.1 in let one = ap tail_bloc
 same_saved : {T : Type 0} (r : Result T Stop) (old new : Image) → KeepsUnits master_shape old new → OnOk r (hi_of master_shape new.log ≡ hi_of master_shape old.log + 0)
 same_saved r old new keeps = let same = masters_same old new keeps in ok_always r _ (let all : hi_of master_shape new.log ≡ hi_of master_shape old.log + 0 = omega (arith, same) in all)
 
+-- what the blocks cost that a call on the log seals
+paid_if : (sealing : Bool) (list : LogList) (hi hi' : ℕ) → hi' ≡ (if sealing then hi + 1 else hi) → paid (changes_if sealing list) + 5 * hi ≡ 5 * hi'
+paid_if true list hi hi' next = let five : paid (changes_if true list) ≡ 5 = refl in omega (arith, five, next)
+paid_if false list hi hi' next = let none : paid (changes_if false list) ≡ 0 = refl in omega (arith, none, next)
+
+-- a call on the log makes so many calls of the site
+pub log_calls : {T : Type 0} (r : Result T Stop) (g : Geometry) (hi hi' : ℕ) (list : LogList) (sealing : Bool) (site new : State) → ChangesOnly Log site new → OnOk r (Reaches g (changes_if sealing list) site.image new.image)
+    → OnOk r (hi' ≡ (if sealing then hi + 1 else hi)) → OnOk r (length new.past + 5 * hi ≡ length site.past + 5 * hi') → OnOk r (CallsForUnits g site new)
+log_calls (Ok x) g hi hi' list sealing site new changes reaches next calls =
+    let told : length new.told ≡ length site.told = ap length changes.only.now.told in
+    let cost = cost_reached g (changes_if sealing list) site.image new.image reaches in
+    let paid = paid_if sealing list hi hi' next in
+    omega (arith, told, cost, paid, calls)
+log_calls (Err e) g hi hi' list sealing site new changes reaches next calls = tt
+
+-- so does one that appends a master unit
+pub save_calls : (g : Geometry) (unit : List ℕ) (site new : State) → ChangesOnly Log site new → Reaches g (AppendsMaster unit ∷ []) site.image new.image → length new.past ≡ length site.past + 5 → CallsForUnits g site new
+save_calls g unit site new changes reaches calls =
+    let told : length new.told ≡ length site.told = ap length changes.only.now.told in
+    let cost = cost_reached g (AppendsMaster unit ∷ []) site.image new.image reaches in
+    let five : paid (AppendsMaster unit ∷ []) ≡ 5 = refl in
+    omega (arith, told, cost, five, calls)
+
 -- a call on pages
 pub pages_skip : {T : Type 0} (r : Result T Stop) (g : Geometry) (given : ℕ → List ℕ) (log log' : LogStore) (list : LogList) (sealing : Bool) (site new : State) → log.ring.hi ≡ list.first + length list.blocks → (sealing ≡ true → has_tail log ≡ true)
-    → LeavesOnly site new (LeavesPages g given sealing list site) → OnOk r (end_forced log' ≡ end_forced log) → (IsErrOf r (Worn Log) → (sealing ≡ true) × (log.ring.hi ≡ 2 ^ 40)) → SkipsNone r (Worn Log) g log log' site new 0 0
-pages_skip r g given log log' list sealing site new hi some leaves end worn = record {
+    → LeavesOnly site new (LeavesPages g given sealing list site) → OnOk r (end_forced log' ≡ end_forced log) → OnOk r (CallsForUnits g site new) → (IsErrOf r (Worn Log) → (sealing ≡ true) × (log.ring.hi ≡ 2 ^ 40)) → SkipsNone r (Worn Log) g log log' site new 0 0
+pages_skip r g given log log' list sealing site new hi some leaves end calls worn = record {
   log = ok_as r _ _ (λ is. omega (arith, is)) end;
   any_moment = leaves_weaker site new (LeavesPages g given sealing list site) (λ s. HasNumbers g (blocks_to log + 0) (hi_of master_shape site.image.log + 0) s.image)
       (λ s left. numbers_left g log list sealing site.told site.image 0 s hi some left.log left.masters) leaves;
   saved = same_saved r site.image new.image (holds_now site new (LeavesPages g given sealing list site) leaves).masters;
+  past = calls;
   worn = λ is. past_end log sealing 0 (hi_of master_shape site.image.log + 0) some (worn is);
 }
 
 -- a call on the log
 pub log_skips : RingKept → {T : Type 0} (r : Result T Stop) (g : Geometry) (log log' : LogStore) (list : LogList) (sealing : Bool) (site new : State) (n : ℕ) → log.ring.hi ≡ list.first + length list.blocks → (sealing ≡ true → has_tail log ≡ true)
-    → LeavesOnly site new (LeavesLog g sealing list site.told) → LeavesFront g (changes_if sealing list) site new → OnOk r (blocks_to log' ≤ blocks_to log + n) → (IsErrOf r (Worn Log) → (sealing ≡ true) × (log.ring.hi ≡ 2 ^ 40)) → SkipsNone r (Worn Log) g log log' site new n 0
-log_skips kept r g log log' list sealing site new n hi some leaves front count worn = record {
+    → LeavesOnly site new (LeavesLog g sealing list site.told) → LeavesFront g (changes_if sealing list) site new → OnOk r (blocks_to log' ≤ blocks_to log + n) → OnOk r (CallsForUnits g site new) → (IsErrOf r (Worn Log) → (sealing ≡ true) × (log.ring.hi ≡ 2 ^ 40)) → SkipsNone r (Worn Log) g log log' site new n 0
+log_skips kept r g log log' list sealing site new n hi some leaves front count calls worn = record {
   log = count;
   any_moment = each_weaker site new (λ m. Leaves (LeavesLog g sealing list site.told) m × Leaves (IsReached g (IsFrontOf (changes_if sealing list)) site) m)
       (Leaves (λ s. HasNumbers g (blocks_to log + n) (hi_of master_shape site.image.log + 0) s.image))
       (λ m both s left. numbers_left g log list sealing site.told site.image n s hi some (both.0 s left) (masters_kept s (both.1 s left)))
       (each_both site new (Leaves (LeavesLog g sealing list site.told)) (Leaves (IsReached g (IsFrontOf (changes_if sealing list)) site)) leaves front);
   saved = same_saved r site.image new.image (masters_kept (snapshot_of new) (holds_now site new (IsReached g (IsFrontOf (changes_if sealing list)) site) front));
+  past = calls;
   worn = λ is. past_end log sealing n (hi_of master_shape site.image.log + 0) some (worn is);
 }
   where
@@ -114,12 +141,13 @@ masters_left g unit (other ∷ []) left old new is made = absurd cc
 
 -- a call that appends a master unit
 pub save_skips : {T : Type 0} (r : Result T Stop) (g : Geometry) (log log' : LogStore) (unit : List ℕ) (site new : State) → log.ring.hi ≡ hi_of (log_shape g) site.image.log → LeavesFront g (AppendsMaster unit ∷ []) site new
-    → OnOk r (blocks_to log' ≡ blocks_to log) → OnOk r (hi_of master_shape new.image.log ≡ hi_of master_shape site.image.log + 1) → (IsErrOf r (Worn Log) → hi_of master_shape site.image.log ≡ 2 ^ 40) → SkipsNone r (Worn Log) g log log' site new 0 1
-save_skips r g log log' unit site new hi front count saved worn = record {
+    → OnOk r (blocks_to log' ≡ blocks_to log) → OnOk r (hi_of master_shape new.image.log ≡ hi_of master_shape site.image.log + 1) → OnOk r (CallsForUnits g site new) → (IsErrOf r (Worn Log) → hi_of master_shape site.image.log ≡ 2 ^ 40) → SkipsNone r (Worn Log) g log log' site new 0 1
+save_skips r g log log' unit site new hi front count saved calls worn = record {
   log = ok_as r _ _ (λ same. omega (arith, same)) count;
   any_moment = leaves_weaker site new (IsReached g (IsFrontOf (AppendsMaster unit ∷ [])) site) (λ s. HasNumbers g (blocks_to log + 0) (hi_of master_shape site.image.log + 1) s.image)
       (λ s is. let has = masters_left g unit is.changes is.made.0 site.image s.image is.made.1 is.reaches in record { blocks = omega (arith, has.blocks, hi); masters = has.masters }) front;
   saved = saved;
+  past = calls;
   worn = λ is. inr (let end = worn is in omega (arith, end));
 }
 
@@ -129,5 +157,6 @@ skips_not_saved e g old new before now n m j few first = record {
   log = tt;
   any_moment = leaves_more g before now _ _ (hi_of master_shape before.image.log + m) (hi_of master_shape before.image.log + j) (omega arith) (omega (arith, few)) first.any_moment;
   saved = tt;
+  past = tt;
   worn = λ past. passes_more _ _ (hi_of master_shape before.image.log + m) (hi_of master_shape before.image.log + j) (omega arith) (omega (arith, few)) (first.worn past);
 }

@@ -8,6 +8,7 @@ use Rattle.site.specs.Moments.{Leaves, LeavesOnly}
 use Rattle.site.specs.Laws.{in_sequence, leaves_weaker, no_call, quiet_leaves, unchanged_calm}
 use Rattle.sealed_ring.specs.Ring.{hi_of}
 use Rattle.image_changes.specs.Rings.{log_shape, master_shape}
+use Rattle.image_changes.proofs.Counting.{calls_then, calls_unchanged}
 use Rattle.log_store.specs.declared.store.LogStore.{LogStore}
 use Rattle.redo_undo.specs.Holding.{blocks_to}
 use Rattle.redo_undo.specs.Numbers.{HasNumbers, PassesEnd, SkipsNone}
@@ -58,20 +59,21 @@ then_skips r x g old mid new before middle now n m n' m' k j first second few is
           (leaves_more g before middle (blocks_to old + n) (blocks_to old + k) (hi_of master_shape before.image.log + m) (hi_of master_shape before.image.log + j) (omega (arith, few)) (omega (arith, is)) first.any_moment)
           (leaves_more g middle now (blocks_to mid + n') (blocks_to old + k) (hi_of master_shape middle.image.log + m') (hi_of master_shape before.image.log + j) blocks masters second.any_moment);
       saved = ok_as r _ _ (λ more. let all : hi_of master_shape now.image.log ≡ hi_of master_shape before.image.log + j = omega (arith, more, saved, is) in all) second.saved;
+      past = ok_as r _ _ (λ more. calls_then g before middle now first.past more) second.past;
       worn = λ past. passes_more (blocks_to mid + n') (blocks_to old + k) (hi_of master_shape middle.image.log + m') (hi_of master_shape before.image.log + j) blocks masters (second.worn past);
     }
 
 -- the error of a call is the error of its caller
 pub skips_again : {A B E : Type 0} {worn : E} (e : E) (g : Geometry) (old new : LogStore) (before now : State) (n m : ℕ) → SkipsNone {T = A} {E = E} (Err e) worn g old new before now n m → SkipsNone {T = B} {E = E} (Err e) worn g old new before now n m
-skips_again {A} {B} {worn = worn} e g old new before now n m first = record { log = tt; any_moment = first.any_moment; saved = tt; worn = λ is. first.worn (again {A = B} {B = A} e worn is) }
+skips_again {A} {B} {worn = worn} e g old new before now n m first = record { log = tt; any_moment = first.any_moment; saved = tt; past = tt; worn = λ is. first.worn (again {A = B} {B = A} e worn is) }
 
 -- a call that was Ok, and an error of its caller
 pub skips_refused : {A B E F : Type 0} {worn : E} {other : F} (x : A) (e : E) (g : Geometry) (old new : LogStore) (before now : State) (n m : ℕ) → (e ≡ worn → ⊥) → SkipsNone {T = A} {E = F} (Ok x) other g old new before now n m → SkipsNone {T = B} {E = E} (Err e) worn g old new before now n m
-skips_refused {B = B} {worn = worn} x e g old new before now n m never first = record { log = tt; any_moment = first.any_moment; saved = tt; worn = λ is. absurd (never (error_is {T = B} e worn is)) }
+skips_refused {B = B} {worn = worn} x e g old new before now n m never first = record { log = tt; any_moment = first.any_moment; saved = tt; past = tt; worn = λ is. absurd (never (error_is {T = B} e worn is)) }
 
 -- a call that was Ok, and another value of its caller
 pub skips_answered : {A B E F : Type 0} {worn : F} {other : E} (x : A) (y : B) (g : Geometry) (old new : LogStore) (before now : State) (n m : ℕ) → SkipsNone {T = A} {E = E} (Ok x) other g old new before now n m → SkipsNone {T = B} {E = F} (Ok y) worn g old new before now n m
-skips_answered {worn = worn} x y g old new before now n m first = record { log = first.log; any_moment = first.any_moment; saved = first.saved; worn = λ is. absurd (ok_no_error y worn is) }
+skips_answered {worn = worn} x y g old new before now n m first = record { log = first.log; any_moment = first.any_moment; saved = first.saved; past = first.past; worn = λ is. absurd (ok_no_error y worn is) }
 
 -- more records may have been made
 pub skips_weaker : {T E : Type 0} {worn : E} (r : Result T E) (g : Geometry) (old new : LogStore) (before now : State) (n k m : ℕ) → n ≤ k → SkipsNone r worn g old new before now n m → SkipsNone r worn g old new before now k m
@@ -79,6 +81,7 @@ skips_weaker r g old new before now n k m few first = record {
   log = ok_as r _ _ (λ more. omega (arith, more, few)) first.log;
   any_moment = leaves_more g before now (blocks_to old + n) (blocks_to old + k) _ _ (omega (arith, few)) (omega arith) first.any_moment;
   saved = first.saved;
+  past = first.past;
   worn = λ past. passes_more (blocks_to old + n) (blocks_to old + k) _ _ (omega (arith, few)) (omega arith) (first.worn past);
 }
 
@@ -90,6 +93,7 @@ skips_still r g log before now n hi quiet same never =
       log = ok_always r _ (omega (arith));
       any_moment = leaves_unchanged before now (λ s. HasNumbers g (blocks_to log + n) (hi_of master_shape before.image.log + 0) s.image) quiet same (record { blocks = omega (arith, hi); masters = omega arith });
       saved = ok_always r _ (let all : hi_of master_shape now.image.log ≡ hi_of master_shape before.image.log + 0 = omega (arith, masters) in all);
+      past = ok_always r _ (calls_unchanged g before now same);
       worn = λ is. absurd (never is);
     }
 

@@ -1,5 +1,5 @@
 -- The numbers of the rings while records of an opened log are redone.
-use Rattle.std.proofs.Common.{◌≡◌, ◌∙◌, ◌+◌, Bool, true, false, true≢false, List, [], length, refl, sym, arith, ℕ}
+use Rattle.std.proofs.Common.{◌≡◌, ◌∙◌, ◌+◌, Bool, true, false, true≢false, List, [], length, refl, sym, subst, arith}
 use Rattle.std.specs.Prelude.{Result, OnOk, IsErrOf, ◌^◌}
 use Rattle.site.specs.declared.outside.Dev.TheVariants.{Log}
 use Rattle.site.specs.declared.outside.Stop.{Stop}
@@ -10,6 +10,7 @@ use Rattle.site.specs.Moments.{LeavesOnly}
 use Rattle.site.specs.Laws.{holds_now, leaves_weaker}
 use Rattle.sealed_ring.specs.Ring.{hi_of}
 use Rattle.image_changes.specs.Rings.{master_shape}
+use Rattle.image_changes.specs.Costs.{CallsForUnits}
 use Rattle.log_records.specs.Log.{Entry}
 use Rattle.log_store.specs.declared.store.LogStore.{LogStore}
 use Rattle.log_store.specs.LogList.{LogList}
@@ -36,8 +37,8 @@ module _ (o : Opening) (log : LogStore) (pages : PageStore) (site : State) (fron
 -- A touch while records are redone makes none, wherever it stops: no tail is sealed for it.
 module _ (laws : PageLaws) (redo : RedoLaws) (o : Opening) (log : LogStore) (pages : PageStore) (site : State) (front : List Entry) (h : IsRedoing o log pages site front) (sealing : Bool) (never : sealing ≡ false) (new : State) where
   pub skips_touch : {T : Type 0} (r : Result T Stop) (log' : LogStore) (pages' : PageStore) → LeavesOnly site new (LeavesPages pages.flash.geometry (current pages site.image) sealing (record { first = kept_by o.newest; blocks = o.blocks; tail = [] }) site) →
-      OnOk r (IsRedoing o log' pages' new front) → (IsErrOf r (Worn Log) → (sealing ≡ true) × (log.ring.hi ≡ 2 ^ 40)) → SkipsNone r (Worn Log) pages.flash.geometry log log' site new 0 0
-  skips_touch r log' pages' leaves redone worn =
+      OnOk r (IsRedoing o log' pages' new front) → OnOk r (CallsForUnits pages.flash.geometry site new) → (IsErrOf r (Worn Log) → (sealing ≡ true) × (log.ring.hi ≡ 2 ^ 40)) → SkipsNone r (Worn Log) pages.flash.geometry log log' site new 0 0
+  skips_touch r log' pages' leaves redone calls worn =
       let list : LogList = record { first = kept_by o.newest; blocks = o.blocks; tail = [] } in
       let all = leaves_so laws redo o log pages site front h sealing never new leaves in
       let first = opened_end o log pages site front h in
@@ -50,5 +51,6 @@ module _ (laws : PageLaws) (redo : RedoLaws) (o : Opening) (log : LogStore) (pag
               masters = omega (arith, masters_same site.image s.image now.masters);
             }) all;
         saved = ok_always r _ (let is : hi_of master_shape new.image.log ≡ hi_of master_shape site.image.log + 0 = omega (arith, same) in is);
+        past = subst (λ (g : Geometry). OnOk r (CallsForUnits g site new)) h.geometry calls;
         worn = λ is. absurd (true≢false (sym (worn is).0 ∙ never));
       })

@@ -6,6 +6,7 @@ use Rattle.site.specs.State.{State, Image}
 use Rattle.site.specs.Moments.{LeavesOnly}
 use Rattle.sealed_ring.specs.Ring.{hi_of}
 use Rattle.image_changes.specs.Rings.{log_shape, master_shape}
+use Rattle.image_changes.specs.Costs.{CallsForUnits}
 use Rattle.log_store.specs.declared.store.LogStore.{LogStore}
 use Rattle.redo_undo.specs.Holding.{blocks_to}
 
@@ -21,13 +22,15 @@ PassesEnd blocks masters = (2 ^ 40 < blocks) ⊎ (2 ^ 40 < masters)
 -- A call makes at most so many records, and so many checkpoints. However it ends, and wherever a crash ends it, the
 -- ring of the log's blocks has at most one number more for each record, beside the one for the tail that the call
 -- found, and the ring of the master units at most one for each checkpoint. At Ok the blocks are no more than that with
--- the tail that it leaves, too, and each checkpoint has its master unit. It answers that the log is worn (`at_end`)
--- only where that many are past the end of a ring.
+-- the tail that it leaves, too, each checkpoint has its master unit, and no more calls of the site were made than the
+-- units need that were appended. It answers that the log is worn (`at_end`) only where that many are past the end of a
+-- ring.
 pub record SkipsNone {T E : Type 0} (result : Result T E) (at_end : E) (g : Geometry) (old new : LogStore)
     (before now : State) (records checkpoints : ℕ) : Type 0 where
   pub log : OnOk result (blocks_to new ≤ blocks_to old + records)
   pub any_moment : LeavesOnly before now (λ s. HasNumbers g (blocks_to old + records)
       (hi_of master_shape before.image.log + checkpoints) s.image)
   pub saved : OnOk result (hi_of master_shape now.image.log ≡ hi_of master_shape before.image.log + checkpoints)
+  pub past : OnOk result (CallsForUnits g before now)
   pub worn : IsErrOf result at_end → PassesEnd (blocks_to old + records)
       (hi_of master_shape before.image.log + checkpoints)

@@ -65,6 +65,8 @@ pub record HasStaged {T : Type 0} (s : Shape) (hi : ℕ) (bytes : List ℕ) (old
   pub changes : ChangesOnly s.dev old new
   pub stages : OnOk result (Stages s hi bytes (region s old) (region s new))
   pub settled : OnOk result (IsSettled s.dev new)
+  -- two writes and a sync
+  pub past : OnOk result (length new.past ≡ length old.past + 3)
 
 -- the unit was staged and its gate opened; a crash leaves the units below it, or this one too
 pub record HasSealed {T : Type 0} (s : Shape) (hi : ℕ) (bytes : List ℕ) (old new : State)
@@ -76,3 +78,5 @@ pub record HasSealed {T : Type 0} (s : Shape) (hi : ℕ) (bytes : List ℕ) (old
   pub form : HasForm s hi (region s old) → OnOk result (HasForm s (hi + 1) (region s new))
   pub stands : HasForm s hi (region s old)
       → OnOk result (units_of s (region s new) ≡ appended s (units_of s (region s old)) bytes)
+  -- three writes and two syncs
+  pub past : OnOk result (length new.past ≡ length old.past + 5)

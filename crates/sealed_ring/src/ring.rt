@@ -330,6 +330,9 @@ impl Ring {
             → OnOk result (IsSettled self.old.shape.dev (S.state site.new)) }
         ensures quiet { IsTrue (S.state site.old).honest → IsQuiet (S.state site.old)
             → OnOk result (IsQuiet (S.state site.new)) }
+        // Three writes and two syncs.
+        ensures past { IsTrue (S.state site.old).honest
+            → OnOk result (length (S.state site.new).past ≡ length (S.state site.old).past + 5) }
         ensures fits { IsTrue (S.state site.old).honest → Matches self.old (S.state site.old)
             → OnOk result (Matches self.new (S.state site.new)) }
 

@@ -731,3 +731,7 @@ quiet_again dev old new changes quiet settled = settled_quiet new (λ d. elim (c
   | inl same ↦ subst (λ (x : Dev). IsSettled x new) (sym same) settled
   | inr other ↦ changes.only.now.loose d other ∙ quiet_settled d old quiet
 ])
+
+-- a call that comes of the site is one moment more
+pub one_call_more : (moment : Moment) (old new : State) → Adds moment old new → length new.past ≡ length old.past + 1
+one_call_more moment old new adds = ap length adds ∙ length-append old.past (moment ∷ [])

@@ -1,5 +1,5 @@
 // Telling a whole piece.
-ghost use Rattle.std.specs.Prelude.{◌≡◌, ◌++◌, IsTrue, OnOk, OnErr};
+ghost use Rattle.std.specs.Prelude.{◌≡◌, ◌+◌, ◌≤◌, ◌++◌, length, IsTrue, OnOk, OnErr};
 ghost use Rattle.site.specs.Calls.{Preserves, SameReads, Rose};
 ghost use Rattle.site.specs.Faults.{TellFaults};
 ghost use Rattle.site.specs.Moments.{EachMoment};
@@ -14,6 +14,9 @@ pub fn tell_all<S: Site>(site: &mut S, piece: &[u8]) -> Result<(), Failed>
         → EachMoment (S.state site.old) (S.state site.new) (TellsPart piece.now (S.state site.old)) }
     ensures told { IsTrue (S.state site.old).honest
         → OnOk result ((S.state site.new).told ≡ (S.state site.old).told ++ piece.now) }
+    // It takes no more calls than the piece has octets.
+    ensures past { IsTrue (S.state site.old).honest
+        → OnOk result (length (S.state site.new).past ≤ length (S.state site.old).past + length piece.now) }
     ensures same { IsTrue (S.state site.old).honest → SameDevices (S.state site.old) (S.state site.new) }
     ensures reads { SameReads (S.state site.old) (S.state site.new) }
     ensures goes { Preserves (S.state site.old) (S.state site.new) }

@@ -1,6 +1,6 @@
 // A segment is saved where one is due.
 ghost use Rattle.std.specs.Prelude.{◌≡◌, ◌≢◌, ◌⊎◌, ◌+◌, ◌*◌, ◌<◌, ◌≤◌, ◌++◌, ℕ, List, take, drop, false, IsTrue, IfOk};
-ghost use Rattle.std.specs.Prelude.{OnOk, OnErr, IfErr, IsErrOf};
+ghost use Rattle.std.specs.Prelude.{OnOk, OnErr, IfErr, IsErrOf, length};
 ghost use Rattle.site.specs.declared.outside.Dev.{Dev};
 ghost use Rattle.site.specs.declared.outside.Stop.{Stop};
 ghost use Rattle.site.specs.Geometry.{HasLimits, HasLengths};
@@ -89,6 +89,8 @@ pub fn save_due<S: Site>(
         → ChangesOnly Dev.Flash (S.state site.old) (S.state site.new) }
     ensures quiet { IsTrue (S.state site.old).honest → IsQuiet (S.state site.old)
         → OnOk result (IsQuiet (S.state site.new)) }
+    ensures past { IsTrue (S.state site.old).honest
+        → OnOk result (length (S.state site.new).past ≤ length (S.state site.old).past + 5) }
     ensures quiet_err { IsTrue (S.state site.old).honest → IsQuiet (S.state site.old)
         → IfErr result (λ stop. ((d : Dev) → stop ≢ Stop.Device d) → IsQuiet (S.state site.new)) }
 

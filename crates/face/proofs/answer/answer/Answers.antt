@@ -1,3 +1,4 @@
+use Rattle.face.proofs.CallCounts.{calls_told}
 use Rattle.face.proofs.Counted.{counts_err, counts_told}
 use Rattle.face.proofs.Pagings.{serves_ok, serves_err, serves_lost}
 use Rattle.std.proofs.Common.{◌++◌, List, ℕ, refl, ap, subst, ◌∙◌}
@@ -86,12 +87,13 @@ returns-in-Err-clause-numbers g c s fits quiet = counts_err c.in-Err.stop (halt.
 pub returns-in-Ok-tell_reply-clause-numbers : goal.returns-in-Ok-tell_reply-clause-numbers
 returns-in-Ok-tell_reply-clause-numbers g c s fits quiet =
     let honest = (c.in-Ok.ensures.after s (listing_of c.args.engine.now) (λ asks. refl) fits).honest in
-    counts_told c.in-Ok.reply _ _ _ _ _ _ _ s _ _ (c.tell_reply.ensures.any_moment honest) (c.tell_reply.ensures.same honest).image (λ is. cc) (c.in-Ok.ensures.numbers s fits quiet)
+    counts_told c.in-Ok.reply _ _ _ _ _ _ _ s _ _ (c.tell_reply.ensures.any_moment honest) (c.tell_reply.ensures.same honest).image
+    (calls_told (sizes_of c.args.engine.now.store) (reply_text c.in-Ok.reply) (g.S.Site.state c.carry_out.new.site) (g.S.Site.state c.tell_reply.new.site) (c.tell_reply.ensures.same honest).image (c.in-Ok-tell_reply.ensures.told honest) (c.in-Ok-tell_reply.ensures.past honest)) (λ is. cc) (c.in-Ok.ensures.numbers s fits quiet)
 
 pub returns-clause-numbers : goal.returns-clause-numbers
 returns-clause-numbers g c s fits quiet =
     let honest = (c.in-Ok.ensures.after s (listing_of c.args.engine.now) (λ asks. refl) fits).honest in
-    counts_told c.in-Ok.reply _ _ _ _ _ _ _ s _ _ (c.tell_reply.ensures.any_moment honest) (c.tell_reply.ensures.same honest).image (λ is. cc) (c.in-Ok.ensures.numbers s fits quiet)
+    counts_told c.in-Ok.reply _ _ _ _ _ _ _ s _ _ (c.tell_reply.ensures.any_moment honest) (c.tell_reply.ensures.same honest).image tt (λ is. cc) (c.in-Ok.ensures.numbers s fits quiet)
 
 pub returns-in-Ok-tell_reply-clause-fills : goal.returns-in-Ok-tell_reply-clause-fills
 returns-in-Ok-tell_reply-clause-fills g c s fits quiet = c.in-Ok.ensures.fills s fits quiet

@@ -1,4 +1,4 @@
-use Rattle.std.proofs.Common.{◌≡◌, ◌++◌, ◌∙◌, ℕ, List, ap, subst}
+use Rattle.std.proofs.Common.{◌≡◌, ◌+◌, ◌≤◌, ◌++◌, ◌∙◌, ℕ, List, length, ap, subst}
 use Rattle.site.specs.Laws.{stays_honest}
 use Rattle.site.specs.Moments.{EachMoment}
 use Rattle.site.specs.Telling.{TellsPart}
@@ -23,7 +23,7 @@ returns-in-Ok-tell_all-clause-works g c geometry opening good =
     let honest = stays_honest old mid c.work.ensures.goes good.honest in
     summed_up load.pool run (summary_text run load) old c.in-Ok.counts mid new (c.in-Ok.ensures.works geometry opening good)
     (subst (λ (t : List ℕ). EachMoment mid new (TellsPart t mid)) text (c.tell_all.ensures.any_moment honest)) (c.tell_all.ensures.same honest) c.tell_all.ensures.reads _
-    (c.in-Ok-tell_all.ensures.told honest ∙ ap (λ (t : List ℕ). mid.told ++ t) text)
+    (c.in-Ok-tell_all.ensures.told honest ∙ ap (λ (t : List ℕ). mid.told ++ t) text) (subst (λ (t : List ℕ). length new.past ≤ length mid.past + length t) text (c.in-Ok-tell_all.ensures.past honest))
 
 pub returns-in-Err-tell_all-clause-works : goal.returns-in-Err-tell_all-clause-works
 returns-in-Err-tell_all-clause-works g c geometry opening good =

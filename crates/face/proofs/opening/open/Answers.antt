@@ -2,6 +2,7 @@ use Rattle.face.proofs.Fillings.{restart_rises}
 use Rattle.site.specs.declared.outside.Dev.TheVariants.{Flash, Log}
 use Rattle.site.specs.declared.outside.Stop.TheVariants.{Worn}
 use Rattle.engine.specs.Image.{log_under}
+use Rattle.face.proofs.CallCounts.{calls_told}
 use Rattle.face.proofs.Counted.{first_counted, restart_numbers, restart_told, restart_wears}
 use Rattle.engine.specs.Paging.{HasLastFrom, restart_works, cache_on}
 use Rattle.second_chance.specs.Machine.{rules_of}
@@ -86,8 +87,10 @@ pub returns-in-Ok-tell_all-clause-counted : goal.returns-in-Ok-tell_all-clause-c
 returns-in-Ok-tell_all-clause-counted g c run begins newest blocks sound =
     let entry = g.S.Site.state c.args.site.now in
     let mid = g.S.Site.state c.start.new.site in
+    let honest = stays_honest entry mid c.start.ensures.calls.goes begins.honest in
     let some : 1 ≤ (rules_of c.args.pool run.geometry.groups).groups = (let least = sound.octets.limits.groups in omega (arith, least)) in
-    first_counted run (log_under newest blocks) entry c.in-Ok.engine _ mid (g.S.Site.state c.tell_all.new.site) (c.tell_all.ensures.any_moment (stays_honest entry mid c.start.ensures.calls.goes begins.honest)) (c.in-Ok.ensures.numbers begins.honest begins.quiet run.geometry newest blocks sound) (goes_on c.in-Ok.engine mid (g.S.Site.state c.tell_all.new.site) c.in-Ok.ensures.going c.tell_all.ensures.goes)
+    first_counted run (log_under newest blocks) entry c.in-Ok.engine _ mid (g.S.Site.state c.tell_all.new.site) (c.tell_all.ensures.any_moment honest)
+    (calls_told run.geometry c.as_slice.result.now mid (g.S.Site.state c.tell_all.new.site) (c.tell_all.ensures.same honest).image (c.in-Ok-tell_all.ensures.told honest) (c.in-Ok-tell_all.ensures.past honest)) (c.in-Ok.ensures.numbers begins.honest begins.quiet run.geometry newest blocks sound) (goes_on c.in-Ok.engine mid (g.S.Site.state c.tell_all.new.site) c.in-Ok.ensures.going c.tell_all.ensures.goes)
     (restart_rises c.in-Ok.engine (rules_of c.args.pool run.geometry.groups) _ (cache_on run.geometry entry.image) _ _ _ some (c.in-Ok.ensures.asks begins.honest run.geometry newest blocks sound))
 
 pub returns-in-Ok-tell_all-clause-numbers : goal.returns-in-Ok-tell_all-clause-numbers

@@ -1,4 +1,4 @@
-use Rattle.std.proofs.Common.{◌≡◌, ◌++◌, IsTrue}
+use Rattle.std.proofs.Common.{◌≡◌, ◌+◌, ◌≤◌, ◌++◌, length, IsTrue}
 use Rattle.site.specs.Calls.{Preserves, SameReads}
 use Rattle.site.specs.Moments.{EachMoment}
 use Rattle.site.specs.Telling.{TellsPart, SameDevices}
@@ -17,5 +17,6 @@ invariant-loop-place g l =
       reads : SameReads old now;
       same : IsTrue old.honest → SameDevices old now;
       told : IsTrue old.honest → now.told ≡ old.told ++ first_of l.place (reply_lines l.reply);
+      past : IsTrue old.honest → length now.past ≤ length old.past + length (first_of l.place (reply_lines l.reply));
       moments : IsTrue old.honest → EachMoment old now (TellsPart (reply_text l.reply) old);
     }

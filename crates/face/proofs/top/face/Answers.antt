@@ -1,4 +1,4 @@
-use Rattle.std.proofs.Common.{arith, inl, inr, rules, subst, ℕ, List, [], ◌∷◌}
+use Rattle.std.proofs.Common.{arith, inl, rules, subst, ℕ, List, [], ◌∷◌}
 use Rattle.site.specs.declared.geometry.Geometry.{Geometry}
 use Rattle.face.specs.TopCall.{LoadContract, NewContract, RunContract}
 use Rattle.command_line.specs.declared.request.Load.{Load}

@@ -2,7 +2,7 @@ use Rattle.face.proofs.Fillings.{seals_no_more}
 use Rattle.std.proofs.Common.{ℕ, suc, List, [], drop, refl, sym, ◌∙◌, ap, subst, arith, add-one}
 use Rattle.std.proofs.lemmas.List.{append-nil}
 use Rattle.std.specs.Prelude.{Err}
-use Rattle.site.specs.State.{Input, Image}
+use Rattle.site.specs.State.{Input}
 use Rattle.site.specs.Laws.{stays_honest, goes_in_sequence}
 use Rattle.record_model.specs.Run.{Line}
 use Rattle.face.specs.Going.{Going, IsCounted, IsPaged}
@@ -10,6 +10,8 @@ use Rattle.engine.specs.Image.{log_under}
 use Rattle.record_model.specs.Touches.{CacheWork}
 use Rattle.second_chance.specs.Machine.{after_works, rules_of}
 use Rattle.engine.specs.Paging.{HasLastFrom, cache_on}
+use Rattle.image_changes.proofs.Counting.{calls_then}
+use Rattle.face.proofs.CallCounts.{calls_heard}
 use Rattle.face.proofs.Counted.{counted_on, counts_next, counts_still, next_counted, wears_next}
 use Rattle.face.proofs.Writings.{engine_queue, last_heard}
 use Rattle.face.proofs.Pagings.{asked_with, log_reads_with, next_last, next_paged, next_reads, next_worn, paged_queue, paged_room, paged_versions, few_heard}
@@ -99,6 +101,7 @@ returns-in-End-clause-works g c =
           (λ newest blocks sound. last_heard run.geometry (rules_of c.args.pool run.geometry.groups) (asked_after run newest entry.image blocks c.loop-line._line) (cache_on run.geometry entry.image) entry mid next (c.next.ensures.same honest) (c.loop-line.invariant.staged run begins newest blocks sound))
           (λ newest blocks sound. seals_no_more c.args.pool run c.loop-line._line newest blocks entry mid next.image c.loop-line.engine next refl going.geometry going.fits (engine_goes_on c.loop-line.engine mid next c.loop-line.invariant.engine c.next.ensures.goes) (c.loop-line.invariant.paged run begins newest blocks sound)
           (c.loop-line.invariant.counted run begins newest blocks sound))
+          (calls_then run.geometry entry mid next (c.loop-line.invariant.counted run begins begins.opens.newest begins.opens.blocks begins.opens.sound).past (calls_heard run.geometry mid next (c.next.ensures.same honest)))
           (λ newest blocks sound. counts_still run (log_under newest blocks) entry mid next c.loop-line._line (c.next.ensures.same honest) (c.loop-line.invariant.counted run begins newest blocks sound).numbers),
     )
 
@@ -317,6 +320,7 @@ returns-then-last-clause-works g c =
           ((c.answer.ensures.asks (state_at run i) going.fits).writes (engine_queue c.loop-line.engine next (state_at run i) (engine_goes_on c.loop-line.engine mid next c.loop-line.invariant.engine c.next.ensures.goes) going.fits) going.quiet) (c.loop-line.invariant.staged run begins newest blocks sound)
           ((c.in_default.ensures.asks (state_at run i) going.fits).last (engine_queue c.loop-line.engine next (state_at run i) (engine_goes_on c.loop-line.engine mid next c.loop-line.invariant.engine c.next.ensures.goes) going.fits) going.quiet))
           (λ newest blocks sound. seals_no_more c.args.pool run (suc i) newest blocks entry new new.image c.answer.new.engine new refl gone.geometry gone.fits c.in_default.ensures.going (next_paged c.args.pool run newest entry.image blocks c.works_add_up.ensures.works i c.in-Line.line _ is c.loop-line.engine (c.loop-line.invariant.paged run begins newest blocks sound) c.in_default.field-0 c.answer.new.engine next new (c.in_default.ensures.asks (state_at run i) going.fits)) (next_counted run (log_under newest blocks) entry mid next new c.loop-line.engine c.answer.new.engine i c.in-Line.line _ is (c.next.ensures.same honest) going.geometry (c.loop-line.invariant.counted run begins newest blocks sound) c.in_default.field-0 (c.in_default.ensures.numbers (state_at run i) going.fits going.quiet) (c.in_default.ensures.fills (state_at run i) going.fits going.quiet)))
+          (next_counted run (log_under begins.opens.newest begins.opens.blocks) entry mid next new c.loop-line.engine c.answer.new.engine i c.in-Line.line _ is (c.next.ensures.same honest) going.geometry (c.loop-line.invariant.counted run begins begins.opens.newest begins.opens.blocks begins.opens.sound) c.in_default.field-0 (c.in_default.ensures.numbers (state_at run i) going.fits going.quiet) (c.in_default.ensures.fills (state_at run i) going.fits going.quiet)).past
           (λ newest blocks sound. (next_counted run (log_under newest blocks) entry mid next new c.loop-line.engine c.answer.new.engine i c.in-Line.line _ is (c.next.ensures.same honest) going.geometry (c.loop-line.invariant.counted run begins newest blocks sound) c.in_default.field-0 (c.in_default.ensures.numbers (state_at run i) going.fits going.quiet) (c.in_default.ensures.fills (state_at run i) going.fits going.quiet)).numbers),
     )
 

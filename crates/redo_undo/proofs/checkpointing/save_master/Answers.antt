@@ -16,7 +16,7 @@ use Rattle.redo_undo.proofs.WornLogs.{masters_at_end}
 use Rattle.sealed_ring.specs.Ring.{Units}
 use Rattle.redo_undo.specs.Holding.{blocks_to, Represents}
 use Rattle.redo_undo.proofs.RingNumbers.{hi_on}
-use Rattle.redo_undo.proofs.LeftNumbers.{save_skips}
+use Rattle.redo_undo.proofs.LeftNumbers.{save_skips, save_calls}
 use Rattle.redo_undo.proofs.AskingFlush.{never_worn_flash}
 use Rattle.redo_undo.proofs.Calling.{appends_foreign}
 use Rattle.checkpoint.specs.Units.{unit}
@@ -113,7 +113,7 @@ returns-in-Err-clause-keeps g c pages newest records table sizes h empty clean m
       };
       numbers = λ quiet. save_skips _ pages.flash.geometry log log (unit (m g s pages newest records table sizes h empty clean may)) site _
           (hi_on log.geometry pages.flash.geometry log site.image sizes h.log_holds.ready.blocks.hi)
-          (front g s pages newest records table sizes h empty clean may quiet) tt tt
+          (front g s pages newest records table sizes h empty clean may quiet) tt tt tt
           (λ is. let same : c.in-Err.stop ≡ Worn Log = cc in masters_at_end c.args.masters.now site site c.requires.shape may.ring refl (c.in-Err.ensures.worn.0 (ap Err same)));
       masters = λ none. tt;
     }
@@ -129,6 +129,8 @@ returns-clause-keeps g c pages newest records table sizes h empty clean may =
           (g.S.Site.state c.save.new.site)
           (hi_on log.geometry pages.flash.geometry log site.image sizes h.log_holds.ready.blocks.hi)
           (front g s pages newest records table sizes h empty clean may quiet)
-          (ap blocks_to c.keep.ensures.kept) (ap (λ (u : Units). u.hi) (c.in-Ok.ensures.stands h.log_holds.ready.blocks.honest may.ring)) (λ is. cc);
+          (ap blocks_to c.keep.ensures.kept) (ap (λ (u : Units). u.hi) (c.in-Ok.ensures.stands h.log_holds.ready.blocks.honest may.ring))
+          (save_calls pages.flash.geometry (unit (m g s pages newest records table sizes h empty clean may)) site (g.S.Site.state c.save.new.site) (c.save.ensures.changes h.log_holds.ready.blocks.honest)
+          (c.in-Ok.ensures.reaches pages.flash.geometry h.log_holds.rings.limits h.log_holds.rings.lengths h.log_holds.ready.blocks.honest may.ring) (c.in-Ok.ensures.past h.log_holds.ready.blocks.honest)) (λ is. cc);
       masters = λ none. absurd (omega (arith, none));
     }

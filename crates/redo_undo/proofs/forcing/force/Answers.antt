@@ -12,7 +12,7 @@ use Rattle.redo_undo.proofs.Appended.{append_leaves}
 use Rattle.redo_undo.proofs.Forced.{forced_holds, some_now, ok_five, quiet_stops, seals_only}
 use Rattle.redo_undo.proofs.WornLogs.{log_at_end}
 use Rattle.redo_undo.proofs.RingNumbers.{skips_nothing}
-use Rattle.redo_undo.proofs.LeftNumbers.{log_skips, ready_next, same_at_most}
+use Rattle.redo_undo.proofs.LeftNumbers.{log_skips, log_calls, ready_next, same_at_most}
 use Rattle.redo_undo.proofs.forcing.force.Goals as goal
 
 pub returns-clause-holds : goal.returns-clause-holds
@@ -54,7 +54,8 @@ returns-clause-keeps g c pages newest records table commits h =
           (c.force.ensures.front list (log_fits log site quiet ready.blocks) ready.records quiet) going.pages_going.own (λ tail. tail);
       numbers = λ going quiet. log_skips c.ring_kept.ensures c.force.result log.geometry log c.force.new.self list (has_tail log) site new 0 (ready_next pages log list site ready) (λ tail. tail)
           (c.force.ensures.any_moment list (log_fits log site quiet ready.blocks) ready.records) (c.force.ensures.front list (log_fits log site quiet ready.blocks) ready.records quiet)
-          (ok_both c.force.result _ _ _ (λ next empty. same_at_most log c.force.new.self some next empty) c.force.ensures.next c.force.ensures.empty) c.force.ensures.worn.0;
+          (ok_both c.force.result _ _ _ (λ next empty. same_at_most log c.force.new.self some next empty) c.force.ensures.next c.force.ensures.empty)
+          (log_calls c.force.result log.geometry log.ring.hi c.force.new.self.ring.hi list (has_tail log) site new (c.force.ensures.changes ready.blocks.honest) (c.force.ensures.reaches list ready.blocks ready.records) c.force.ensures.next (c.force.ensures.past ready.blocks.honest)) c.force.ensures.worn.0;
       quiet = λ quiet. quiet_stops c.force.result new site quiet (λ is. ap g.S.Site.state (c.force.ensures.unchanged (inr (c.force.ensures.worn.0 is).1))) c.force.ensures.stops;
       worn_log = λ is. (let worn = (c.force.ensures.worn.0 is).1 in log_at_end log site new ready.blocks (ap g.S.Site.state (c.force.ensures.unchanged (inr worn))) worn);
       masters = ok_as c.force.result _ (KeepsUnits master_shape site.image new.image)

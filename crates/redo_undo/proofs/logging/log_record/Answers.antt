@@ -24,7 +24,7 @@ use Rattle.redo_undo.proofs.Changed.{holds_off}
 use Rattle.image_changes.specs.Rings.{Masters, KeepsUnits, master_shape}
 use Rattle.site.proofs.Working.{ok_as}
 use Rattle.redo_undo.proofs.WornLogs.{log_at_end}
-use Rattle.redo_undo.proofs.LeftNumbers.{log_skips, ready_next}
+use Rattle.redo_undo.proofs.LeftNumbers.{log_skips, log_calls, ready_next}
 use Rattle.redo_undo.proofs.logging.log_record.Given.{Over}
 use Rattle.redo_undo.proofs.logging.log_record.Goals.{After-append}
 use Rattle.redo_undo.proofs.logging.log_record.Goals as goal
@@ -150,7 +150,8 @@ returns-clause-keeps g c pages newest records table commits h =
           (c.append.ensures.front list (log_fits log site quiet ready.blocks) ready.records quiet) going.pages_going.own full;
       numbers = λ going quiet. log_skips c.ring_kept.ensures c.append.result log.geometry log c.append.new.self list sealing site new 1 (ready_next pages log list site ready) full
           (c.append.ensures.any_moment list (log_fits log site quiet ready.blocks) ready.records) (c.append.ensures.front list (log_fits log site quiet ready.blocks) ready.records quiet)
-          (ok_by c.append.result _ _ (λ lsn is. most_blocks log c.append.new.self lsn sealing full is) (numbered g c)) c.append.ensures.worn.0;
+          (ok_by c.append.result _ _ (λ lsn is. most_blocks log c.append.new.self lsn sealing full is) (numbered g c))
+          (log_calls c.append.result log.geometry log.ring.hi c.append.new.self.ring.hi list sealing site new (c.append.ensures.changes ready.blocks.honest) (c.append.ensures.reaches list ready.blocks ready.records) c.append.ensures.next (c.append.ensures.past ready.blocks.honest)) c.append.ensures.worn.0;
       quiet = λ quiet. quiet_stops c.append.result new site quiet (λ is. ap g.S.Site.state (c.append.ensures.unchanged (inr (c.append.ensures.worn.0 is).1))) c.append.ensures.stops;
       worn_log = λ is. (let worn = (c.append.ensures.worn.0 is).1 in log_at_end log site new ready.blocks (ap g.S.Site.state (c.append.ensures.unchanged (inr worn))) worn);
       masters = ok_as c.append.result _ (KeepsUnits master_shape site.image new.image)

@@ -1,5 +1,7 @@
+use Rattle.std.proofs.Common.{arith}
 use Rattle.std_lemmas.proofs.Results.{on_ok}
-use Rattle.site.specs.Laws.{then_sync, stays_honest}
+use Rattle.site.proofs.Working.{ok_as}
+use Rattle.site.specs.Laws.{then_sync, stays_honest, one_call_more}
 use Rattle.sealed_ring.specs.Ring.{Opens}
 use Rattle.sealed_ring.specs.Ready.{region, LeavesEither}
 use Rattle.sealed_ring.proofs.Runs.{opening, opened, wrote_changes, synced_changes, changes_in_sequence}
@@ -40,3 +42,12 @@ returns-clause-opens g c honest =
     on_ok c.sync.result (Opens c.args.shape c.args.hi (region c.args.shape old) (region c.args.shape new))
     (opened c.args.shape c.args.hi old c.requires.fits c.requires.bounded mid new c.sync.result (c.in_ok-write_at.ensures.wrote honest).written
     (c.sync.ensures.synced (stays_honest old mid c.write_at.ensures.goes honest)))
+
+pub returns-clause-past : goal.returns-clause-past
+returns-clause-past g c honest =
+    let old = g.S.Site.state c.args.site.now in
+    let mid = g.S.Site.state c.write_at.new.self in
+    let new = g.S.Site.state c.sync.new.self in
+    let one = one_call_more _ old mid (c.in_ok-write_at.ensures.wrote honest).past_ok in
+    ok_as c.sync.result _ _ (λ adds. let two = one_call_more _ mid new adds in omega (arith, one, two))
+    (c.sync.ensures.synced (stays_honest old mid c.write_at.ensures.goes honest)).past_ok

@@ -1,4 +1,5 @@
-use Rattle.std.proofs.Common.{rules}
+use Rattle.std.proofs.Common.{arith, rules}
+use Rattle.site.proofs.Working.{ok_as}
 use Rattle.site.specs.Laws.{stays_honest}
 use Rattle.sealed_ring.specs.Ready.{region}
 use Rattle.sealed_ring.proofs.Runs.{changes_in_sequence}
@@ -20,6 +21,7 @@ returns-in_err-stage-clause-sealed g c honest =
       settled = search rules;
       form = λ form. search rules;
       stands = λ form. search rules;
+      past = search rules;
     }
 
 pub returns-clause-sealed : goal.returns-clause-sealed
@@ -44,4 +46,7 @@ returns-clause-sealed g c honest =
       settled = c.open.ensures.settled honest-mid;
       form = λ form. form_ok s c.args.hi bytes (region s old) (region s mid) (region s new) c.requires.fits c.requires.bounded stages form c.open.result opens;
       stands = λ form. stands_ok s c.args.hi bytes (region s old) (region s mid) (region s new) c.requires.fits c.requires.bounded stages form c.open.result opens;
+      past =
+          let before = (c.in_ok-stage.ensures.staged honest).past in
+          ok_as c.open.result _ _ (λ opened. omega (arith, before, opened)) (c.open.ensures.past honest-mid);
     }

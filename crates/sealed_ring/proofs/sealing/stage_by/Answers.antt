@@ -2,7 +2,8 @@ use Rattle.std.proofs.Common.{◌≡◌, ◌+◌, length, ◌∙◌, ap, arith, 
 use Rattle.std.proofs.lemmas.List.{length-append}
 use Rattle.std.specs.Int.{to_be_bytes, w64}
 use Rattle.std_lemmas.proofs.Results.{on_ok}
-use Rattle.site.specs.Laws.{then_sync, stays_honest}
+use Rattle.site.proofs.Working.{ok_as}
+use Rattle.site.specs.Laws.{then_sync, stays_honest, one_call_more}
 use Rattle.sealed_ring.specs.Ring.{Stages}
 use Rattle.sealed_ring.specs.Ready.{region, LeavesKept}
 use Rattle.sealed_ring.proofs.Runs.{first, second, staged, wrote_changes, synced_changes, changes_in_sequence, synced_settles}
@@ -20,6 +21,7 @@ returns-in_err-write_at-clause-staged g c honest =
       changes = wrote_changes s.dev _ _ old mid c.write_at.result wrote;
       stages = search rules;
       settled = search rules;
+      past = search rules;
     }
 
 pub returns-in_err-write_at-2-clause-staged : goal.returns-in_err-write_at-2-clause-staged
@@ -38,6 +40,7 @@ returns-in_err-write_at-2-clause-staged g c honest =
       changes = changes_in_sequence s.dev old mid late (wrote_changes s.dev _ _ old mid c.write_at.result wrote) (wrote_changes s.dev _ _ mid late c.write_at-2.result wrote-2);
       stages = search rules;
       settled = search rules;
+      past = search rules;
     }
 
 pub returns-clause-staged : goal.returns-clause-staged
@@ -64,4 +67,8 @@ returns-clause-staged g c honest =
       stages = on_ok c.sync.result (Stages s c.args.hi c.args.content.now (region s old) (region s new))
           (staged s c.args.hi old c.requires.fits c.requires.bounded c.spell.new.into c.args.content.now mid late new c.sync.result c.spell.ensures c.requires.room one two synced);
       settled = synced_settles s.dev late new c.sync.result synced;
+      past =
+          let first = one_call_more _ old mid (c.in_ok-write_at.ensures.wrote honest).past_ok in
+          let second = one_call_more _ mid late (c.in_ok-write_at-2.ensures.wrote honest-mid).past_ok in
+          ok_as c.sync.result _ _ (λ adds. let third = one_call_more _ late new adds in omega (arith, first, second, third)) synced.past_ok;
     }

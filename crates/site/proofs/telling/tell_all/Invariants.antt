@@ -1,4 +1,4 @@
-use Rattle.std.proofs.Common.{◌≡◌, ◌++◌, ◌-◌, ◌≤◌, length, take, IsTrue}
+use Rattle.std.proofs.Common.{◌≡◌, ◌++◌, ◌+◌, ◌-◌, ◌≤◌, length, take, IsTrue}
 use Rattle.site.specs.Calls.{Preserves, SameReads}
 use Rattle.site.specs.Faults.{faults_in}
 use Rattle.site.specs.Moments.{EachMoment}
@@ -16,6 +16,7 @@ invariant-loop-at g l =
       faults : faults_in now ≡ faults_in old;
       same : IsTrue old.honest → SameDevices old now;
       told : IsTrue old.honest → now.told ≡ old.told ++ take l.at l.piece;
+      past : IsTrue old.honest → length now.past ≤ length old.past + l.at;
       any_moment : IsTrue old.honest → EachMoment old now (TellsPart l.piece old);
     }
 

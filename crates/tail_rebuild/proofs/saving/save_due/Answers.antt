@@ -114,3 +114,9 @@ returns-clause-changes g c honest =
 
 pub returns-clause-reads : goal.returns-clause-reads
 returns-clause-reads g c = omega (arith, c.append.ensures.reads Flash, c.in-Ok.ensures.reads.reads)
+
+pub returns-clause-past : goal.returns-clause-past
+returns-clause-past g c honest =
+    let same = ap length (c.in-Ok.ensures.reads.same honest).past in
+    let five = c.in_default.ensures.past (stays_honest (g.S.Site.state c.args.site.now) (g.S.Site.state c.read_last_four.new.site) c.in-Ok.ensures.reads.goes honest) in
+    omega (arith, same, five)

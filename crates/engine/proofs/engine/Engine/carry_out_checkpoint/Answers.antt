@@ -1,5 +1,5 @@
 use Rattle.std.specs.Prelude.{Ok}
-use Rattle.std.proofs.Common.{Err, ◌≤◌, ◌+◌, List, refl, sym, subst, arith, ℕ, rules}
+use Rattle.std.proofs.Common.{Err, ◌≤◌, ◌+◌, List, refl, sym, subst, arith, ℕ}
 use Rattle.site.specs.Laws.{stays_honest}
 use Rattle.checkpoint.specs.declared.pairs.Pair.{Pair}
 use Rattle.image_meaning.specs.Flushed.{first_block}

@@ -1,4 +1,4 @@
-use Rattle.std.proofs.Common.{◌/◌, inr, refl, ◌∙◌}
+use Rattle.std.proofs.Common.{◌/◌, inr, refl}
 use Rattle.record_model.specs.declared.words.Command.TheVariants.{Set}
 use Rattle.redo_undo.specs.MachineSteps.{one_change}
 use Rattle.page_store.specs.Caching.{cache_of, rules}

@@ -6,7 +6,7 @@ use Rattle.site.specs.State.{Image, Loose}
 use Rattle.site.specs.Laws.{stays_honest, untouched_in_sequence}
 use Rattle.site.specs.Moments.{LeavesOnly, SameAt}
 use Rattle.image_changes.specs.Changes.{Reaches}
-use Rattle.stage_out.specs.Staged.{HasStaged}
+use Rattle.stage_out.specs.Staged.{HasStaged, calls_of}
 use Rattle.frame_group.specs.Groups.{Frame, IsFrame, group, heads_of}
 use Rattle.frame_group.proofs.Front.{begins_with_heads}
 use Rattle.second_chance.specs.declared.frame.Frame.{Frame as Known}
@@ -230,3 +230,14 @@ returns-clause-shown g c honest some =
     on_ok_weaker c.write.result (λ shown. some_after_reads old mid new (SameAt Flash old) same.past
     (some_weaker mid new (SameAt Flash mid) (SameAt Flash old) (λ m is. record { content = is.content ∙ ap (λ (i : Image). i.flash) same.image; loose = is.loose ∙ ap (λ (l : Loose). l.flash) same.loose }) shown))
     (c.write.ensures.shown (stays_honest old mid c.frames_leaving.ensures.goes honest) (subst (λ (l : List ℕ). 1 ≤ length l) (sym numbers) some))
+
+pub returns-clause-past : goal.returns-clause-past
+returns-clause-past g c honest =
+    let old = g.S.Site.state c.args.site.now in
+    let mid = g.S.Site.state c.frames_leaving.new.site in
+    let new = g.S.Site.state c.write.new.site in
+    let same = ap length (c.frames_leaving.ensures.same honest).past in
+    let items : c.as_slice-pages.result.now ≡ c.in-Ok.both.0.pages.items = search rules in
+    let numbers : c.as_slice-pages.result.now ≡ staged_pages c.args.self.now = items ∙ pages_are c.args.self.now c.args.plan.now.staged c.in-Ok.both.0 c.in-Ok.ensures.staged c.requires.staged in
+    let calls = ap calls_of numbers in
+    on_ok_weaker c.write.result (λ wrote. omega (arith, same, calls, wrote)) (c.write.ensures.past (stays_honest old mid c.frames_leaving.ensures.goes honest))

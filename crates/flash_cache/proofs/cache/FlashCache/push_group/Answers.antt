@@ -1,4 +1,4 @@
-use Rattle.std.proofs.Common.{true}
+use Rattle.std.proofs.Common.{true, arith}
 use Rattle.site.specs.declared.outside.Dev.TheVariants.{Flash, Disk}
 use Rattle.site.specs.Laws.{others_untouched, untouched_in_sequence, stays_honest}
 use Rattle.site.proofs.Working.{err_again}
@@ -6,6 +6,7 @@ use Rattle.frame_group.specs.Groups.{group}
 use Rattle.flash_cache.specs.Pushed.{frames_pushed}
 use Rattle.flash_cache.proofs.StagedContents.{pushed_has, given_few}
 use Rattle.flash_cache.proofs.Staging.{pages_changed, pages_in_sequence}
+use Rattle.flash_cache.proofs.StagedMarks.{calls_few}
 use Rattle.flash_cache.proofs.Pushing.{ring_found}
 use Rattle.flash_cache.proofs.PushLaws.{push_front}
 use Rattle.flash_cache.proofs.SavedFirst.{stands_there, goes_on_saved, segments_found, fits_behind, is_behind, moment_behind, reaches_behind, staged_behind, failed_moment}
@@ -232,3 +233,10 @@ returns-clause-holds g c groups fits holds =
     holds_behind c.args.self.now groups (g.S.Site.state c.args.site.now) c.requires.going fits holds
     c.args.pages.now c.args.changed.now c.args.contents.now c.requires.marks c.requires.lists c.requires.apart (returns-clause-frames g c groups fits holds)
     c.push.new.self (g.S.Site.state c.push.new.site).image (returns-clause-staged g c groups fits holds) (returns-clause-reaches g c groups fits holds) c.in_default-push.ensures.directory c.push.ensures.geometry
+
+pub returns-clause-past : goal.returns-clause-past
+returns-clause-past g c honest =
+    let saved = c.in_default.ensures.past honest in
+    let pushed = c.in_default-push.ensures.past (stays_honest (g.S.Site.state c.args.site.now) (g.S.Site.state c.save_due.new.site) c.save_due.ensures.goes honest) in
+    let nine = calls_few c.args.self.now c.requires.going.sizes in
+    omega (arith, saved, pushed, nine)

@@ -8,7 +8,7 @@ use Rattle.site.specs.Moments.{SameAt, SameBut, Untouched}
 use Rattle.stage_out.specs.Staged.{HasStaged, calls_of}
 use Rattle.flash_cache.proofs.PushLaws.{push_leaves, stage_only}
 use Rattle.flash_cache.proofs.Staging.{goes_on_later, fits_on, pages_changed, pages_in_sequence, all_made}
-use Rattle.site.proofs.Working.{lengths_later}
+use Rattle.site.proofs.Working.{lengths_later, ok_as}
 use Rattle.flash_cache.proofs.SomeMoments.{some_first, some_of}
 use Rattle.flash_cache.proofs.cache.FlashCache.write.Goals as goal
 
@@ -94,3 +94,8 @@ returns-clause-shown g c honest some =
     (some_of old mid (SameAt Flash old)
     (each_weaker old mid (SameBut Disk old) (SameAt Flash old) (λ m same. record { content = same.content Flash (λ h. cc); loose = same.loose Flash (λ h. cc) }) changes.only)
     (omega (arith, calls, one))))
+
+pub returns-clause-past : goal.returns-clause-past
+returns-clause-past g c honest =
+    let first = c.in_default.ensures.calls honest in
+    ok_as c.append.result _ _ (λ more. omega (arith, first, more)) (c.append.ensures.past (stays_honest (g.S.Site.state c.args.site.now) (g.S.Site.state c.stage.new.site) c.stage.ensures.goes honest))

@@ -70,3 +70,9 @@ returns-clause-rises g c =
     let lsn = c.place.ensures.lsn in
     let some = some_octet c.args.rec.now in
     (omega (arith, past, lsn), omega (arith, lsn, hi, used, some))
+
+pub returns-clause-past : goal.returns-clause-past
+returns-clause-past g c honest =
+    let hi = ap (λ (s : LogStore). s.ring.hi) c.place.ensures.rest in
+    let sealed = c.in_ok-seal_if.ensures.past honest in
+    omega (arith, hi, sealed)

@@ -110,3 +110,9 @@ returns-clause-outside g c honest =
     let old = g.S.Site.state c.args.site.now in
     let new = g.S.Site.state c.append.new.site in
     subst (λ (s : Shape). SameOutside s (region s old) (region s new)) c.requires.going.shape (c.in_ok-append.ensures.outside honest)
+
+pub returns-clause-past : goal.returns-clause-past
+returns-clause-past g c honest =
+    let more = ap (λ (r : Ring). r.hi) c.in_ok-append.ensures.ok in
+    let five = c.in_ok-append.ensures.past honest in
+    omega (arith, more, five)

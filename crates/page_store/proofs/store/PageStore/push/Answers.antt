@@ -21,7 +21,7 @@ use Rattle.page_store.specs.Leaves.{AreReady, LeavesPages, LeavesRings}
 use Rattle.page_store.specs.Stopping.{IsLogAtEnd}
 use Rattle.second_chance.specs.Queue.{Queue}
 use Rattle.page_store.proofs.Rings.{sealing_keeps, sound_pushed, pushing_keeps, rings_front}
-use Rattle.page_store.proofs.PushLaws.{version_same, group_changes_since, kept_where, masters_kept, own_sealing, force_leaves, force_sealed, between, Pushed, pushed, pushed_now, pushed_pages, push_leaves, pushed_sealed, reached_all, clean_given_same, gives_since, ok_under, ok_six, fits_behind, log_fits, log_found, log_units_same}
+use Rattle.page_store.proofs.PushLaws.{version_same, group_changes_since, kept_where, masters_kept, own_sealing, force_leaves, force_sealed, between, Pushed, pushed, pushed_now, pushed_pages, push_leaves, pushed_sealed, reached_all, clean_given_same, gives_since, ok_under, ok_seven, fits_behind, log_fits, log_found, log_units_same}
 use Rattle.page_store.specs.Changing.{given_changes}
 use Rattle.page_store.proofs.Changing.{front_more}
 use Rattle.second_chance.specs.Machine.{staged_in_push}
@@ -33,6 +33,7 @@ use Rattle.page_store.proofs.StagingLaws.{stages_beside, stages_between, stages_
 use Rattle.site.proofs.Working.{ok_as}
 use Rattle.flash_cache.specs.declared.cache.FlashCache.{FlashCache}
 use Rattle.page_store.specs.Representation.{AreTold, Invariant}
+use Rattle.page_store.proofs.PushCalls.{paid_group, push_calls}
 use Rattle.page_store.proofs.ToldPages.{fits_told, going_told, told_pushed}
 use Rattle.page_store.proofs.store.PageStore.push.Goals as goal
 
@@ -167,14 +168,17 @@ returns-in-Ok g c =
           let own = c.push_group-pushed.ensures.changes b.honest in
           let units = log_units_same log'.geometry mid.image new.image own.log.now.content in
           let cleaned = clean_given_same store.flash pages changed contents old.image mid.image b.disk in
-          ok_six c.push_group-pushed.result _ _ _ _ _ _ (StandsGiven log log' store after pages changed contents old new list (given_changes log list store old.image pages changed contents))
-          (λ queue is reaches clean fits holds.
+          ok_seven c.push_group-pushed.result _ _ _ _ _ _ _ (StandsGiven log log' store after pages changed contents old new list (given_changes log list store old.image pages changed contents))
+          (λ queue is reaches clean fits holds past.
           let gives = gives_since h pages contents old.image mid.image new.image b.flash b.disk (record { given = is.given; others = is.others }) in
           let now = pushed_now store.flash groups pages changed contents old mid new b.flash b.disk b.told (sym own.log.now.content) own.told
           (subst (λ (q : Queue). GivesVersions h q.first (pushed_groups store.flash groups (frames_pushed store.flash mid.image pages changed contents)) pages contents mid.image new.image) queue is) in
+          let made = subst (λ (l : List Change). Reaches h (first list ++ l) old.image new.image) (same list ready) (c.changes_add_up.ensures h (first list) second old.image mid.image new.image (reached list ready) reaches) in
           record {
             gives = gives;
-            reaches = subst (λ (l : List Change). Reaches h (first list ++ l) old.image new.image) (same list ready) (c.changes_add_up.ensures h (first list) second old.image mid.image new.image (reached list ready) reaches);
+            reaches = made;
+            past = push_calls h list sealing (changes_of_group store.flash old.image pages changed contents) log.ring.hi log'.ring.hi old mid new made (paid_group store.flash old.image pages changed contents)
+                c.in-Ok.ensures.forces.next (c.in-Ok.ensures.past ready.blocks.honest) past (own.told ∙ b.told);
             leaves = λ given are given_clean. pushed_pages store.flash groups pages changed contents old mid new b.flash b.disk b.told c.ring_kept.ensures
                 (masters_kept c.ring_kept.ensures h (first list) old (snapshot_of mid) (own_sealing sealing list) (reached_all h (first list) old mid b.told (reached list ready))) given sealing list are (sealed_blocks list ready)
                 (snapshot_of new) now (clean (cleaned given_clean)) (reached_all h _ mid new own.told reaches);
@@ -190,7 +194,8 @@ returns-in-Ok g c =
             };
           })
           c.push_group-pushed.ensures.directory (c.push_group-pushed.ensures.gives groups b.fits b.holds b.clean) (c.push_group-pushed.ensures.reaches groups b.fits b.holds)
-          (ok_under c.push_group-pushed.result _ _ (c.push_group-pushed.ensures.clean groups b.fits b.holds b.clean)) (c.push_group-pushed.ensures.fits b.fits) (c.push_group-pushed.ensures.holds groups b.fits b.holds);
+          (ok_under c.push_group-pushed.result _ _ (c.push_group-pushed.ensures.clean groups b.fits b.holds b.clean)) (c.push_group-pushed.ensures.fits b.fits) (c.push_group-pushed.ensures.holds groups b.fits b.holds)
+          (c.push_group-pushed.ensures.past b.honest);
       pushes =
           let log_reads = c.push_group-pushed.ensures.others Log (λ same. cc) ∙ c.force_for.ensures.reads Log in
           let going : Invariant after new = going_told store cache after old new c.push_group-pushed.ensures.geometry told c.push_group-pushed.ensures.going are_told c.requires.going.pages_going in

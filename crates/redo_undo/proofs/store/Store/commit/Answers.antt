@@ -10,6 +10,7 @@ use Rattle.log_store.specs.LogList.{LogList, sealed_if, changes_if}
 use Rattle.log_store.specs.Representation as log_store
 use Rattle.log_store.specs.Representation.{has_tail}
 use Rattle.image_changes.specs.Rings.{Masters, KeepsUnits, master_shape}
+use Rattle.image_changes.specs.Costs.{CallsForUnits}
 use Rattle.image_meaning.specs.Meaning.{kept_by, versions_on, master_of}
 use Rattle.image_meaning.proofs.Leaving.{under_leaves_either_for}
 use Rattle.redo_undo.specs.Holding.{IsLogWorn, blocks_to}
@@ -19,7 +20,7 @@ use Rattle.redo_undo.proofs.AskingFlush.{never_worn_flash}
 use Rattle.redo_undo.proofs.Calling.{appends_foreign, keeps_appended}
 use Rattle.redo_undo.proofs.Committed.{leaves_either, rings_then, sealed_then, commit_holds, before_only, either_after}
 use Rattle.redo_undo.proofs.Forced.{seals_only}
-use Rattle.redo_undo.proofs.LeftNumbers.{log_skips, ready_next, same_at_most}
+use Rattle.redo_undo.proofs.LeftNumbers.{log_skips, log_calls, ready_next, same_at_most}
 use Rattle.redo_undo.proofs.Orderlies.{ends_orderly}
 use Rattle.redo_undo.proofs.RingNumbers.{then_skips, skips_on}
 use Rattle.redo_undo.proofs.Saved.{finds_kept}
@@ -84,14 +85,14 @@ module _ (g : Over) (c : After-force g) (newest : Option Master) (records : List
       (c.force.ensures.any_moment list (fits quiet) last.ready.records)
       (c.force.ensures.front list (fits quiet) last.ready.records (calm quiet)) c.requires.may.going.both.pages_going.own))
 
-  skips : (r : Result ℕ Stop) → OnOk r (blocks_to c.force.new.self ≤ blocks_to log + 0) → (IsErrOf r (Worn Log) → (has_tail log ≡ true) × (log.ring.hi ≡ 2 ^ 40)) → IsQuiet old →
+  skips : (r : Result ℕ Stop) → OnOk r (blocks_to c.force.new.self ≤ blocks_to log + 0) → OnOk r (CallsForUnits log.geometry mid new) → (IsErrOf r (Worn Log) → (has_tail log ≡ true) × (log.ring.hi ≡ 2 ^ 40)) → IsQuiet old →
       SkipsNone r (Worn Log) pages.flash.geometry c.args.self.now.log c.force.new.self old new 1 0
-  skips r few worn quiet = then_skips r c.in-Ok.lsn pages.flash.geometry c.args.self.now.log log c.force.new.self old mid new 1 0 0 0 1 0
+  skips r few calls worn quiet = then_skips r c.in-Ok.lsn pages.flash.geometry c.args.self.now.log log c.force.new.self old mid new 1 0 0 0 1 0
       (skips_on _ c.args.self.now.log.geometry pages.flash.geometry c.args.self.now.log log old mid 1 0 c.requires.may.going.both.sizes
       ((c.in-Ok.ensures.keeps pages newest records table commits held.both).numbers c.requires.may.going.both quiet))
       (skips_on r log.geometry pages.flash.geometry log c.force.new.self mid new 0 0 sizes
       (log_skips c.ring_kept.ensures r log.geometry log c.force.new.self list (has_tail log) mid new 0 (ready_next pages log list mid last.ready) (λ tail. tail)
-      (c.force.ensures.any_moment list (fits quiet) last.ready.records) (c.force.ensures.front list (fits quiet) last.ready.records (calm quiet)) few worn)) (omega arith) refl
+      (c.force.ensures.any_moment list (fits quiet) last.ready.records) (c.force.ensures.front list (fits quiet) last.ready.records (calm quiet)) few calls worn)) (omega arith) refl
 
 pub returns-in-Ok-force-clause-holds : goal.returns-in-Ok-force-clause-holds
 returns-in-Ok-force-clause-holds g c newest records table commits held may =
@@ -156,15 +157,19 @@ returns-in-Err-force-clause-keeps g c newest records table commits held may =
         worn = λ is. absurd (never_worn_flash (Err c.in-Err-force.stop) c.in-Err-force.ensures.stops is);
         readable = appends_foreign (Err c.in-Err-force.stop) c.in-Err-force.ensures.stops;
       };
-      numbers = skips g s newest records table commits held may (Err c.in-Err-force.stop) tt (λ is. let same : c.in-Err-force.stop ≡ Worn Log = cc in c.in-Err-force.ensures.worn.0 (ap Err same));
+      numbers = skips g s newest records table commits held may (Err c.in-Err-force.stop) tt tt (λ is. let same : c.in-Err-force.stop ≡ Worn Log = cc in c.in-Err-force.ensures.worn.0 (ap Err same));
     }
 
 pub returns-in-Ok-force-clause-keeps : goal.returns-in-Ok-force-clause-keeps
 returns-in-Ok-force-clause-keeps g c newest records table commits held may =
     let s = (goal.at.returns-in-Ok-force-clause-keeps g c).After-force in
+    let log = c.log_record.new.log in
+    let m = last g s newest records table commits held may in
     keeps_ok (moments g s newest records table commits held may)
     (skips g s newest records table commits held may (Ok c.in-Ok.lsn)
-    (same_at_most c.log_record.new.log c.force.new.self c.in-Ok.ensures.some c.in-Ok-force.ensures.next c.in-Ok-force.ensures.empty) (λ is. cc))
+    (same_at_most c.log_record.new.log c.force.new.self c.in-Ok.ensures.some c.in-Ok-force.ensures.next c.in-Ok-force.ensures.empty)
+    (log_calls (Ok c.in-Ok.lsn) log.geometry log.ring.hi c.force.new.self.ring.hi (list g s newest records table commits held may) (has_tail log) (g.S.Site.state c.log_record.new.site) (g.S.Site.state c.force.new.site)
+    (c.force.ensures.changes m.ready.blocks.honest) (c.in-Ok-force.ensures.reaches _ m.ready.blocks m.ready.records) c.in-Ok-force.ensures.next (c.in-Ok-force.ensures.past m.ready.blocks.honest)) (λ is. cc))
 
 pub returns-in-Err-clause-asks : goal.returns-in-Err-clause-asks
 returns-in-Err-clause-asks g c = asks_nothing _ c.args.self.now.pages _ _ c.log_record.ensures.works.reads (never_worn_flash (Err c.in-Err.stop) c.in-Err.ensures.stops) (stages_err (stages_log c.in-Err.ensures.works))

@@ -1,0 +1,19 @@
+-- How many calls are made, by the units that are appended.
+use Rattle.std.specs.Prelude.{ℕ, ◌+◌, ◌*◌, ◌≤◌, length}
+use Rattle.site.specs.declared.geometry.Geometry.{Geometry}
+use Rattle.site.specs.State.{State, Image}
+use Rattle.sealed_ring.specs.Ring.{hi_of}
+use Rattle.image_changes.specs.Rings.{log_shape, master_shape, group_shape}
+
+-- What the units that the rings have had cost at most: a log block and a master unit five calls each, three writes and
+-- two syncs; and a group nineteen: its own five, five of a segment, and nine for at most eight pages that leave for the
+-- disk and its sync.
+abbrev pub cost_of : Geometry → Image → ℕ
+cost_of g image =
+    5 * (hi_of (log_shape g) image.log + hi_of master_shape image.log) + 19 * hi_of (group_shape g) image.flash
+
+-- There were no more writes and syncs than the units cost that were appended, and no more tells than octets were told.
+abbrev pub CallsForUnits : Geometry → State → State → Type 0
+CallsForUnits g old new =
+    length new.past + (cost_of g old.image + length old.told)
+    ≤ length old.past + (cost_of g new.image + length new.told)
