@@ -12,7 +12,8 @@ abbrev pub cost_of : Geometry → Image → ℕ
 cost_of g image =
     5 * (hi_of (log_shape g) image.log + hi_of master_shape image.log) + 19 * hi_of (group_shape g) image.flash
 
--- There were no more writes and syncs than the units cost that were appended, and no more tells than octets were told.
+-- Writes, syncs and tells together are no more than the units cost that were appended, with one for each octet told. So
+-- where nothing was told these are writes and syncs alone; a text that is told by few tells leaves room for others.
 abbrev pub CallsForUnits : Geometry → State → State → Type 0
 CallsForUnits g old new =
     length new.past + (cost_of g old.image + length old.told)
