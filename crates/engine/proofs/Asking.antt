@@ -1,7 +1,7 @@
 -- Calls that ask the cache for work, one after the other.
 use Rattle.std.proofs.Common.{map, append_assoc, ◌-◌, ◌/◌, ◌≡◌, ◌+◌, ◌≤◌, ◌<◌, List, [], ◌∷◌, ◌++◌, arith, sym, ap, subst, ◌∙◌, ℕ}
 use Rattle.std.specs.Prelude.{Result, Ok, Err, IsErrOf}
-use Rattle.site.specs.declared.outside.Dev.TheVariants.{Flash, Disk}
+use Rattle.site.specs.declared.outside.Dev.TheVariants.{Flash, Disk, Log}
 use Rattle.site.specs.declared.outside.Stop.{Stop}
 use Rattle.site.specs.declared.outside.Stop.TheVariants.{Worn, Memory}
 use Rattle.site.specs.State.{State as Site, Image, Snapshot, IsQuiet}
@@ -22,7 +22,8 @@ use Rattle.engine.proofs.Scans.{range_more, range_at}
 use Rattle.second_chance.specs.Machine.{Rules, Cache, after_works, staged_by_works}
 use Rattle.page_store.specs.declared.store.PageStore.{PageStore}
 use Rattle.page_store.specs.Caching.{cache_of, rules, with_change, next_group}
-use Rattle.redo_undo.specs.MachineSteps.{one_touch, StepsMachine, NumbersRise, one_change}
+use Rattle.redo_undo.specs.MachineSteps.{one_touch, StepsMachine, NumbersRise, PushesGroups, one_change}
+use Rattle.redo_undo.proofs.Costs.{numbers_rise, works_add_up}
 use Rattle.redo_undo.specs.declared.store.Store.{Store}
 use Rattle.engine.specs.declared.engine.Engine.{Engine}
 use Rattle.engine.specs.Invariant.{Invariant}
@@ -44,6 +45,10 @@ change_ok {A} {B} a b page old mid new before between now some law asks changed 
 
 pub memory_only : (stop : Stop) → stop ≡ Memory → stop ≡ Worn Flash → ⊥
 memory_only stop is worn = cc
+
+-- nor is the log worn where memory was wanting
+pub never_log : {T : Type 0} {stop : Stop} → stop ≡ Memory → IsErrOf {T = T} (Err stop) (Worn Log) → ⊥
+never_log {stop = stop} memory is = cc
 
 -- a queue on flash has room for a group
 pub store_has_group : {store : Store} {site : Site} → MayWork store site → 1 ≤ (rules store.pages).groups
@@ -70,6 +75,24 @@ scan_stops {A} {B} stop number offset count old new before now some less asks =
     range_at number offset count less ∙ sym (append_assoc (range_with_len number offset) ((number + offset) ∷ []) rest) ∙ ap (λ (l : List ℕ). l ++ rest) (sym (range_more number offset)) in
     asks_same {T = B} (Err stop) _ _ old new before now (ap (map read_touch) all ∙ map-append read_touch (range_with_len number (offset + 1)) rest)
     (asks_stopped stop (map read_touch (range_with_len number (offset + 1))) (map read_touch rest) old new before now some asks)
+
+-- and the log is worn only where one of them pushes a group
+pub scan_pushes : {A : Type 0} {a : A} (number offset count : ℕ) (old mid : PageStore) (before between : Site) → 1 ≤ (rules old).groups → offset < count → StepsMachine {T = A} (Ok a) (map read_touch (range_with_len number offset)) old mid before between →
+    PushesGroups (rules mid) (one_touch ((number + offset) / 32)) (cache_of mid) → PushesGroups (rules old) (map read_touch (range_with_len number count)) (cache_of old)
+scan_pushes number offset count old mid before between some less first pushes =
+    let front : List CacheWork = map read_touch (range_with_len number offset) in
+    let own : List CacheWork = one_touch ((number + offset) / 32) in
+    let rest : List CacheWork = map read_touch (range_with_len (number + offset + 1) (count - offset - 1)) in
+    let start : Cache = after_works (rules old) front (cache_of old) in
+    let all : map read_touch (range_with_len number count) ≡ front ++ (own ++ rest) =
+    ap (map read_touch) (range_at number offset count less) ∙ map-append read_touch (range_with_len number offset) ((number + offset) ∷ range_with_len (number + offset + 1) (count - offset - 1)) in
+    let end : after_works (rules old) (map read_touch (range_with_len number count)) (cache_of old) ≡ after_works (rules old) rest (after_works (rules old) own start) =
+    ap (λ (w : List CacheWork). after_works (rules old) w (cache_of old)) all ∙ works_add_up (rules old) front (own ++ rest) (cache_of old) ∙ works_add_up (rules old) own rest start in
+    let there : PushesGroups (rules old) own start = subst (λ (r : Rules). PushesGroups r own start) first.rules_are (subst (λ (k : Cache). PushesGroups (rules mid) own k) first.machine pushes) in
+    let early = numbers_rise (rules old) front (cache_of old) some in
+    let late = numbers_rise (rules old) rest (after_works (rules old) own start) some in
+    let same = ap next_group end in
+    omega (arith, early, late, there, same)
 
 -- A restart.
 

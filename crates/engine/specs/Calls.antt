@@ -1,5 +1,5 @@
 -- What the calls of a run say, each as one record with the call's result as its index.
-use Rattle.std.specs.Prelude.{◌≡◌, List, Result, IfOk, OnOk, IfErr, ℕ}
+use Rattle.std.specs.Prelude.{◌≡◌, List, Result, IfOk, OnOk, IfErr, IsErrOf, ℕ}
 use Rattle.site.specs.declared.outside.Dev.TheVariants.{Log}
 use Rattle.site.specs.declared.outside.Stop.{Stop}
 use Rattle.site.specs.declared.outside.Stop.TheVariants.{Worn}
@@ -15,7 +15,7 @@ pub use Rattle.redo_undo.specs.Calls.{Ends}
 use Rattle.engine.specs.declared.engine.Engine.{Engine}
 use Rattle.engine.specs.Invariant.{Invariant, sizes_of}
 use Rattle.engine.specs.Representation.{Matches}
-use Rattle.engine.specs.Numbers.{CountsOn}
+use Rattle.engine.specs.Numbers.{AppendsToLog, CountsOn}
 
 -- A call of the database, on every site.
 pub record KeepsEngine {T : Type 0} (result : Result T Stop) (old new : Engine) (before now : Site) : Type 0 where
@@ -39,9 +39,11 @@ pub record Does {T : Type 0} (result : Result T Stop) (old new : Engine) (before
   pub open ends use *
   pub numbers : IsQuiet before → CountsOn result (Worn Log) old new before now s after checkpoints
 
--- A command: it answers what the model answers, and does and asks what the model does and asks.
+-- A command: it answers what the model answers, and does and asks what the model does and asks. That the log is worn is
+-- answered only where it has something to append there.
 pub record Answers (result : Result Reply Stop) (old new : Engine) (before now : Site) (s : State) (o : Outcome)
     (works : List CacheWork) (P : Snapshot → Type 0) (checkpoints : ℕ) : Type 0 where
   pub reply : IfOk result (λ reply. reply ≡ o.reply)
   pub asks : StepsMachine result works old.store.pages new.store.pages before now
   pub does : Does result old new before now s o.after P checkpoints
+  pub appends : IsErrOf result (Worn Log) → AppendsToLog s o.after checkpoints works old.store.pages

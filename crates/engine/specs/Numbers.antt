@@ -1,6 +1,6 @@
 -- No number is skipped by the rings on the log's device, and it is worn only where, by counts, more is appended than
 -- they have numbers for.
-use Rattle.std.specs.Prelude.{◌≡◌, ℕ, ◌+◌, ◌≤◌, true, if◌then◌else◌, List, Result, Ok, OnOk, IfOk, IsErrOf}
+use Rattle.std.specs.Prelude.{◌≡◌, ◌⊎◌, ℕ, ◌+◌, ◌≤◌, ◌<◌, true, if◌then◌else◌, List, Result, Ok, OnOk, IfOk, IsErrOf}
 use Rattle.site.specs.declared.outside.Dev.TheVariants.{Log}
 use Rattle.site.specs.declared.outside.Stop.{Stop}
 use Rattle.site.specs.declared.outside.Stop.TheVariants.{Worn}
@@ -14,6 +14,10 @@ use Rattle.record_model.specs.State.{State}
 use Rattle.record_model.specs.declared.words.Command.{Command}
 use Rattle.record_model.specs.declared.words.Reply.{Reply}
 use Rattle.record_model.specs.Step.{makes_checkpoint}
+use Rattle.record_model.specs.Touches.{CacheWork}
+use Rattle.page_store.specs.declared.store.PageStore.{PageStore}
+use Rattle.page_store.specs.Caching.{cache_of, rules}
+use Rattle.redo_undo.specs.MachineSteps.{PushesGroups}
 use Rattle.log_records.specs.Log.{Entry}
 use Rattle.log_records.specs.Unfinished as unfinished
 use Rattle.log_store.specs.declared.store.LogStore.{LogStore}
@@ -35,6 +39,12 @@ pub record CountsOn {T E : Type 0} (result : Result T E) (at_end : E) (old new :
   pub made : s.made + records ≤ after.made
   pub skips : SkipsNone result at_end (sizes_of old.store) old.store.log new.store.log before now records checkpoints
   pub open skips use *
+
+-- A command has something to append on the log's device: it makes records, or a checkpoint, or its work pushes a group,
+-- before which the log may have to be sealed.
+abbrev pub AppendsToLog : State → State → ℕ → List CacheWork → PageStore → Type 0
+AppendsToLog s after checkpoints works pages =
+    (s.made < after.made) ⊎ ((1 ≤ checkpoints) ⊎ PushesGroups (rules pages) works (cache_of pages))
 
 -- A restart on these records. However it ends, and wherever a crash ends it, the ring of the log's blocks has at most
 -- one number more for each record that undo owes, and the ring of the master units one for its checkpoint. At Ok the

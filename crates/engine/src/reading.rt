@@ -11,7 +11,7 @@ ghost use Rattle.record_model.specs.declared.words.Reply.{Reply};
 ghost use Rattle.record_model.specs.State.{State, seen, content_at};
 ghost use Rattle.record_model.specs.Step.{found};
 ghost use Rattle.lock_table.specs.Locks.{AddsLock};
-ghost use Rattle.redo_undo.specs.Filling.{FindsRoom};
+ghost use Rattle.redo_undo.specs.Filling.{FindsRoom, LogsForGroups};
 ghost use Rattle.engine.specs.Invariant.{Invariant, sizes_of};
 ghost use Rattle.engine.specs.Permits.{MayShow, MayRead, MayScan};
 ghost use Rattle.engine.specs.Representation.{Matches, run, with_read, with_reads, Refuses, Accepts};
@@ -100,8 +100,8 @@ impl Engine {
             → Does result self.old self.new (S.state site.old) (S.state site.new) s (with_read s session number)
             (LeavesTable (sizes_of self.old.store) s.table s.commits (S.state site.old).told) 0 }
         ensures fills { (s : State) → Matches self.old (S.state site.old) s
-            → OnOk result (FindsRoom 0 self.old.store.log self.new.store.log self.old.store.pages
-            self.new.store.pages) }
+            → LogsForGroups result (one_touch (number / 32)) self.old.store.log self.new.store.log
+            self.old.store.pages self.new.store.pages }
 
         // Of every site.
         ensures serves { KeepsUnread result self.old self.new (S.state site.old) (S.state site.new) }
@@ -202,8 +202,8 @@ impl Engine {
             (with_reads s session (range_with_len number count))
             (LeavesTable (sizes_of self.old.store) s.table s.commits (S.state site.old).told) 0 }
         ensures fills { (s : State) → Matches self.old (S.state site.old) s
-            → OnOk result (FindsRoom 0 self.old.store.log self.new.store.log self.old.store.pages
-            self.new.store.pages) }
+            → LogsForGroups result (map read_touch (range_with_len number count)) self.old.store.log self.new.store.log
+            self.old.store.pages self.new.store.pages }
 
         // Of every site.
         ensures serves { KeepsUnread result self.old self.new (S.state site.old) (S.state site.new) }
@@ -287,8 +287,8 @@ impl Engine {
             → Does result self.old self.new (S.state site.old) (S.state site.new) s s
             (LeavesTable (sizes_of self.old.store) s.table s.commits (S.state site.old).told) 0 }
         ensures fills { (s : State) → Matches self.old (S.state site.old) s
-            → OnOk result (FindsRoom 0 self.old.store.log self.new.store.log self.old.store.pages
-            self.new.store.pages) }
+            → LogsForGroups result (one_touch (number / 32)) self.old.store.log self.new.store.log
+            self.old.store.pages self.new.store.pages }
 
         // Of every site.
         ensures serves { KeepsUnread result self.old self.new (S.state site.old) (S.state site.new) }

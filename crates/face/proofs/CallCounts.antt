@@ -1,21 +1,38 @@
 -- Calls are counted by the units that are appended and the octets that are told.
-use Rattle.std.proofs.Common.{◌≡◌, ◌+◌, ◌≤◌, ℕ, List, ◌++◌, length, length-append, ◌∙◌, ap, arith}
+use Rattle.std.proofs.Common.{◌≡◌, List, ◌++◌, ℕ, length, length-append, ◌∙◌, ap, arith}
 use Rattle.site.specs.declared.geometry.Geometry.{Geometry}
-use Rattle.site.specs.State.{State as Site}
+use Rattle.site.specs.State.{State as Site, Image}
+use Rattle.site.specs.Moments.{works_in}
+use Rattle.site.specs.Telling.{TellsOnly}
 use Rattle.image_changes.specs.Costs.{CallsForUnits, cost_of}
+use Rattle.sealed_ring.specs.Ring.{hi_of}
+use Rattle.image_changes.specs.Rings.{master_shape}
+use Rattle.image_changes.proofs.Counting.{calls_then}
 use Rattle.face.specs.Lines.{HearsOnly}
+use Rattle.face.specs.Range.{CountsUnits}
+use Rattle.face.specs.Run.{Run}
 
 -- while only is heard
 pub calls_heard : (g : Geometry) (mid now : Site) → HearsOnly mid now → CallsForUnits g mid now
 calls_heard g mid now same =
+    let works = ap works_in same.past in
     let calls = ap length same.past in
     let told = ap length same.told in
     let cost = ap (cost_of g) same.image in
-    omega (arith, calls, told, cost)
+    record { works = omega (arith, works, cost); calls = omega (arith, calls, told, cost) }
 
--- a piece is told, by no more calls than it has octets
-pub calls_told : (g : Geometry) (piece : List ℕ) (mid now : Site) → now.image ≡ mid.image → now.told ≡ mid.told ++ piece → length now.past ≤ length mid.past + length piece → CallsForUnits g mid now
-calls_told g piece mid now same told few =
+-- a piece is told, by tells alone and by no more than it has octets
+pub calls_told : (g : Geometry) (piece : List ℕ) (mid now : Site) → now.image ≡ mid.image → now.told ≡ mid.told ++ piece → TellsOnly (length piece) mid now → CallsForUnits g mid now
+calls_told g piece mid now same told tells =
     let octets = ap length told ∙ length-append mid.told piece in
     let cost = ap (cost_of g) same in
-    omega (arith, octets, cost, few)
+    let works = tells.works in
+    let calls = tells.calls in
+    record { works = omega (arith, works, cost); calls = omega (arith, octets, cost, calls) }
+
+-- of a run, while only is heard
+pub units_heard : (run : Run) (old mid now : Site) → HearsOnly mid now → CountsUnits run old mid → CountsUnits run old now
+units_heard run old mid now same units = record {
+  masters = ap (λ (i : Image). hi_of master_shape i.log) same.image ∙ units.masters;
+  past = calls_then run.geometry old mid now units.past (calls_heard run.geometry mid now same);
+}

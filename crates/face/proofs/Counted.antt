@@ -140,6 +140,18 @@ turns_make s (line ∷ lines) listings =
 pub checkpoints_are : (run : Run) (lines : ℕ) → checkpoints_in (turns_of (first_lines run lines)) ≡ checkpoints_of run.opening (take lines (answered run))
 checkpoints_are run lines = turns_make run.opening (take lines run.lines) run.listings ∙ ap (checkpoints_of run.opening) (lines_first run lines)
 
+-- What one line more makes.
+
+pub made_next : (run : Run) (i : ℕ) (line : Line) (rest : List Line) → drop i (answered run) ≡ line ∷ rest → made_by (first_lines run (suc i)) ≡ (step (state_at run i) line []).after.made
+made_next run i line rest is = made_are run (suc i) ∙ ap (λ (s : State). s.made) (state_next run i line rest is ∙ after_same (state_at run i) line (listing_at run i) [])
+
+pub checkpoints_next : (run : Run) (i : ℕ) (line : Line) (rest : List Line) → drop i (answered run) ≡ line ∷ rest → checkpoints_in (turns_of (first_lines run (suc i))) ≡ checkpoints_in (turns_of (first_lines run i)) + line_checkpoints (state_at run i) line
+checkpoints_next run i line rest is =
+    let own = turn_at run i line rest is in
+    ap checkpoints_in (turns_next run i line rest is)
+    ∙ count_join (λ t. makes_one t.before t.line) (turns_of (first_lines run i)) (own ∷ [])
+    ∙ ap (λ (n : ℕ). checkpoints_in (turns_of (first_lines run i)) + n) (count_one (λ t. makes_one t.before t.line) own ∙ one_makes (state_at run i) line)
+
 -- A run, line by line.
 
 module _ (run : Run) (records : List Entry) (entry : Site) where
@@ -170,7 +182,10 @@ module _ (run : Run) (records : List Entry) (entry : Site) where
     log = let few = within.log in omega (arith, few);
     fills = let few = within.log in let filled = filled_blocks engine.store.log may.store.both.log_going.high in omega (arith, few, filled, rise);
     numbers = restart_told (Ok engine) (λ e. e.store.log) piece mid now tells within;
-    past = calls_then run.geometry entry mid now within.past calls;
+    units = record {
+      masters = let saved = within.saved in let same = ap (λ (i : Image). hi_of master_shape i.log) tells.now.image in omega (arith, saved, same);
+      past = calls_then run.geometry entry mid now within.past calls;
+    };
   }
 
   -- while only is heard
@@ -179,33 +194,23 @@ module _ (run : Run) (records : List Entry) (entry : Site) where
 
   module _ (mid next new : Site) (engine engine' : Engine) (i : ℕ) (line : Line) (rest : List Line) (is : drop i (answered run) ≡ line ∷ rest) (same : HearsOnly mid next) (sizes : sizes_of engine.store ≡ run.geometry)
       (counted : IsCounted run records entry mid engine i) where
-    made_next : made_by (first_lines run (suc i)) ≡ (step (state_at run i) line []).after.made
-    made_next = made_are run (suc i) ∙ ap (λ (s : State). s.made) (state_next run i line rest is ∙ after_same (state_at run i) line (listing_at run i) [])
-
-    checkpoints_next : checkpoints_in (turns_of (first_lines run (suc i))) ≡ checkpoints_in (turns_of (first_lines run i)) + line_checkpoints (state_at run i) line
-    checkpoints_next =
-        let own = turn_at run i line rest is in
-        ap checkpoints_in (turns_next run i line rest is)
-        ∙ count_join (λ t. makes_one t.before t.line) (turns_of (first_lines run i)) (own ∷ [])
-        ∙ ap (λ (n : ℕ). checkpoints_in (turns_of (first_lines run i)) + n) (count_one (λ t. makes_one t.before t.line) own ∙ one_makes (state_at run i) line)
-
     -- a line was heard, however its answer ends
     module _ {T E : Type 0} {worn : E} (result : Result T E) (c : CountsOn result worn engine engine' next new (state_at run i) (step (state_at run i) line []).after (line_checkpoints (state_at run i) line)) where
       before : LeavesOnly entry next (λ s. Given i s.image)
       before = counts_still mid next i same counted.numbers
 
       more_blocks : blocks_to engine.store.log + c.records ≤ blocks_at (suc i)
-      more_blocks = let was = made_are run i in let made = made_next in let log = counted.log in let some = c.made in omega (arith, was, made, log, some)
+      more_blocks = let was = made_are run i in let made = made_next run i line rest is in let log = counted.log in let some = c.made in omega (arith, was, made, log, some)
 
       more_masters : hi_of master_shape next.image.log + line_checkpoints (state_at run i) line ≤ masters_at (suc i)
-      more_masters = let has = (holds_now entry next (λ s. Given i s.image) before).masters in let checkpoints = checkpoints_next in omega (arith, has, checkpoints)
+      more_masters = let has = (holds_now entry next (λ s. Given i s.image) before).masters in let checkpoints = checkpoints_next run i line rest is in omega (arith, has, checkpoints)
 
       pub counts_next : LeavesOnly entry new (λ s. Given (suc i) s.image)
       counts_next =
           let was = made_are run i in
-          let made = made_next in
+          let made = made_next run i line rest is in
           let some = c.made in
-          let checkpoints = checkpoints_next in
+          let checkpoints = checkpoints_next run i line rest is in
           let own : LeavesOnly next new (λ s. HasNumbers run.geometry (blocks_to engine.store.log + c.records) (hi_of master_shape next.image.log + line_checkpoints (state_at run i) line) s.image) =
           subst (λ (g : Geometry). LeavesOnly next new (λ s. HasNumbers g (blocks_to engine.store.log + c.records) (hi_of master_shape next.image.log + line_checkpoints (state_at run i) line) s.image)) sizes c.any_moment in
           in_sequence entry next new (Leaves (λ s. Given (suc i) s.image))
@@ -219,15 +224,18 @@ module _ (run : Run) (records : List Entry) (entry : Site) where
     pub next_counted : {T E : Type 0} {worn : E} (x : T) → CountsOn {T = T} {E = E} (Ok x) worn engine engine' next new (state_at run i) (step (state_at run i) line []).after (line_checkpoints (state_at run i) line) → FillsBy (line_octets (state_at run i) line) engine engine' → IsCounted run records entry new engine' (suc i)
     next_counted x c fills =
         let was = made_are run i in
-        let made = made_next in
+        let made = made_next run i line rest is in
         let log = counted.log in
         let some = c.made in
         record {
           log = let few = c.log in omega (arith, few, log, was, made, some);
           numbers = counts_next (Ok x) c;
           fills = let so_far = counted.fills in let octets = octets_next run i line rest is in omega (arith, so_far, fills, octets);
-          past = calls_then run.geometry entry mid new counted.past
-              (calls_then run.geometry mid next new (calls_heard run.geometry mid next same) (subst (λ (g : Geometry). CallsForUnits g next new) sizes c.past));
+          units = record {
+            masters = (let so_far = counted.units.masters in let heard = ap (λ (i : Image). hi_of master_shape i.log) same.image in let saved = c.saved in let checkpoints = checkpoints_next run i line rest is in omega (arith, so_far, heard, saved, checkpoints));
+            past = calls_then run.geometry entry mid new counted.units.past
+                (calls_then run.geometry mid next new (calls_heard run.geometry mid next same) (subst (λ (g : Geometry). CallsForUnits g next new) sizes c.past));
+          };
         }
 
 -- it doesn't depend on what the cache lists
@@ -240,7 +248,7 @@ counted_on run listings records old now engine i counted =
       log = let log = counted.log in omega (arith, log, made);
       fills = let fills = counted.fills in let there = first_fill i run.opening run.lines listings in let here = first_fill i run.opening run.lines run.listings in omega (arith, fills, there, here);
       numbers = leaves_more run.geometry old now _ _ _ _ (omega (arith, made)) (omega (arith, checkpoints)) counted.numbers;
-      past = counted.past;
+      units = record { masters = (let masters = counted.units.masters in omega (arith, masters, checkpoints)); past = counted.units.past };
     }
 
 -- what nothing was done to

@@ -13,7 +13,6 @@ use Rattle.engine.specs.Image.{Stands}
 use Rattle.engine.specs.Representation.{Matches}
 use Rattle.engine.specs.Invariant.{sizes_of}
 use Rattle.flash_cache.specs.Representation.{IsWorn}
-use Rattle.image_changes.specs.Costs.{CallsForUnits}
 use Rattle.redo_undo.specs.Holding.{IsLogWorn}
 use Rattle.record_model.specs.Run.{Line, is_quit}
 use Rattle.face.specs.declared.halt.Halt.{Halt}
@@ -25,13 +24,13 @@ use Rattle.engine.specs.declared.engine.Engine.{Engine}
 use Rattle.face.specs.Causes.{HasCause, AnswerFailsBy}
 use Rattle.face.specs.Lines.{HasEnded, to_hear, total, IsSource, HearsLine, Hears, IsCutOff}
 use Rattle.site.specs.declared.outside.Dev.TheVariants.{Log, Flash, Disk}
-use Rattle.face.specs.Range.{AsksNoMore, HasBegun, IsLeft, LeavesItsQueue, LeavesStaged, LeavesVersions, ListsTheMachine, NeverWears, SkipsNoNumber, WearsLog, WearsOut, WritesAsTold}
+use Rattle.face.specs.Range.{AppendsLast, AsksNoMore, CountsUnits, HasBegun, IsLeft, LeavesItsQueue, LeavesStaged, LeavesVersions, ListsTheMachine, NeverWears, SkipsNoNumber, WearsLog, WearsOut, WritesAsTold}
 use Rattle.face.specs.Run.{Run, first_lines}
 use Rattle.face.specs.Working.{AnswersFirst, HasHeard, Stops, StopsTaking, RunOutcome}
 use Rattle.face.specs.Going.{Going}
 use Rattle.face.proofs.Cuts.{Cut, has_heard_all, input_failed, over_limit, taken_by, heard_line, quit_is_last}
 use Rattle.face.proofs.RunsSoFar.{begun_before, stopped, ended}
-use Rattle.face.proofs.Demanded.{demands_err, demands_ok}
+use Rattle.face.proofs.Demanded.{demands_err, demands_ok, same_halt}
 use Rattle.face.proofs.Lefts.{left_first}
 use Rattle.face.proofs.Listed.{no_turn}
 use Rattle.face.proofs.Waits.{answers_none}
@@ -69,6 +68,7 @@ never_opened pool run old new h stops ne left worn log numbers reads = record {
       };
   done = tt;
   demands = demands_err pool (first_lines run 0) old new h worn log numbers reads;
+  appends = λ is. inl refl;
   listed = lists_nothing pool run old.image;
   written = written_opened pool run old new stops.any_moment reads;
   answers = answers_none run old new left;
@@ -90,6 +90,7 @@ module _ (pool : ℕ) (run : Run) (old mid new : Site) (engine : Engine) (source
         begun = begun_before run old new engine i going;
         done = tt;
         demands = demands_err pool (first_lines run i) old new halt.Input (λ e. cc) (λ e. cc) numbers reads;
+        appends = λ is. cc;
         listed = listed;
         written = written;
         answers = answers;
@@ -105,13 +106,14 @@ module _ (pool : ℕ) (run : Run) (old mid new : Site) (engine : Engine) (source
         begun = begun_before run old new engine i going;
         done = tt;
         demands = demands_err pool (first_lines run i) old new halt.Limit (λ e. cc) (λ e. cc) numbers reads;
+        appends = λ is. cc;
         listed = listed;
         written = written;
         answers = answers;
       }
 
   -- there are no more lines
-  pub finished : {T : Type 0} (x : T) → to_hear source mid ≡ [] → new.input.left ≡ [] → NeverWears pool (first_lines run i) old.image → LeavesItsQueue pool (first_lines run i) old.image new.image → LeavesVersions pool (first_lines run i) old.image new.image → LeavesStaged pool (first_lines run i) old new → SealsNoMore pool (first_lines run i) old.image new.image → CallsForUnits run.geometry old new → SkipsNoNumber (first_lines run i) old new →
+  pub finished : {T : Type 0} (x : T) → to_hear source mid ≡ [] → new.input.left ≡ [] → NeverWears pool (first_lines run i) old.image → LeavesItsQueue pool (first_lines run i) old.image new.image → LeavesVersions pool (first_lines run i) old.image new.image → LeavesStaged pool (first_lines run i) old new → SealsNoMore pool (first_lines run i) old.image new.image → CountsUnits (first_lines run i) old new → SkipsNoNumber (first_lines run i) old new →
       RunOutcome pool run old new (Ok x)
   finished x none left room queue versions staged seals calls numbers =
       let f = has_heard_all old.input.left source mid i cut is_source old new refl none left in
@@ -124,6 +126,7 @@ module _ (pool : ℕ) (run : Run) (old mid new : Site) (engine : Engine) (source
         begun = begun_before run old new engine i going;
         done = (inl refl, f.1, going.moments, ended run old new engine i going, going.quiet);
         demands = demands_ok pool (first_lines run i) old new x room queue versions staged seals calls numbers reads;
+        appends = λ is. cc;
         listed = listed;
         written = written;
         answers = answers;
@@ -135,8 +138,8 @@ module _ (pool : ℕ) (run : Run) (old mid next new : Site) (source source' : So
   has_heard_it = heard_line old.input.left source mid i cut is_source source' next line h last is' old new refl left
 
   -- a line's answer failed
-  pub answer_failed : {T : Type 0} (fault : Halt) → Stops run (suc i) old new fault → HasBegun run (suc i) [] old new → (fault ≢ halt.Input) × (fault ≢ halt.Limit) → (fault ≡ halt.Stop (Worn Flash) → WearsOut pool (first_lines run (suc i)) old.image) → (fault ≡ halt.Stop (Worn Log) → WearsLog (first_lines run (suc i)) old.image) → SkipsNoNumber (first_lines run (suc i)) old new → RunOutcome {T = T} pool run old new (Err fault)
-  answer_failed fault stops begun ne worn log numbers = record {
+  pub answer_failed : {T : Type 0} (fault : Halt) → Stops run (suc i) old new fault → HasBegun run (suc i) [] old new → (fault ≢ halt.Input) × (fault ≢ halt.Limit) → (fault ≡ halt.Stop (Worn Flash) → WearsOut pool (first_lines run (suc i)) old.image) → (fault ≡ halt.Stop (Worn Log) → WearsLog (first_lines run (suc i)) old.image) → (fault ≡ halt.Stop (Worn Log) → AppendsLast pool run (suc i) old.image) → SkipsNoNumber (first_lines run (suc i)) old new → RunOutcome {T = T} pool run old new (Err fault)
+  answer_failed {T} fault stops begun ne worn log appends numbers = record {
     heard = suc i;
     octets = taken_by old.input.left source mid i cut is_source source' next line h last is';
     ended = source'.ended;
@@ -145,13 +148,14 @@ module _ (pool : ℕ) (run : Run) (old mid next new : Site) (source source' : So
     begun = begun;
     done = tt;
     demands = demands_err pool (first_lines run (suc i)) old new fault worn log numbers reads;
+    appends = λ is. appends (same_halt {T = T} fault (halt.Stop (Worn Log)) is);
     listed = listed;
     written = written;
     answers = answers;
   }
 
   -- a quit was answered
-  pub quitted : {T : Type 0} (x : T) (engine : Engine) → is_quit line ≡ true → Going run old new engine (suc i) → NeverWears pool (first_lines run (suc i)) old.image → LeavesItsQueue pool (first_lines run (suc i)) old.image new.image → LeavesVersions pool (first_lines run (suc i)) old.image new.image → LeavesStaged pool (first_lines run (suc i)) old new → SealsNoMore pool (first_lines run (suc i)) old.image new.image → CallsForUnits run.geometry old new → SkipsNoNumber (first_lines run (suc i)) old new →
+  pub quitted : {T : Type 0} (x : T) (engine : Engine) → is_quit line ≡ true → Going run old new engine (suc i) → NeverWears pool (first_lines run (suc i)) old.image → LeavesItsQueue pool (first_lines run (suc i)) old.image new.image → LeavesVersions pool (first_lines run (suc i)) old.image new.image → LeavesStaged pool (first_lines run (suc i)) old new → SealsNoMore pool (first_lines run (suc i)) old.image new.image → CountsUnits (first_lines run (suc i)) old new → SkipsNoNumber (first_lines run (suc i)) old new →
       RunOutcome pool run old new (Ok x)
   quitted x engine quits going room queue versions staged seals calls numbers =
       let all = quit_is_last old.input.left source mid i cut is_source source' next line h last is' quits in
@@ -164,6 +168,7 @@ module _ (pool : ℕ) (run : Run) (old mid next new : Site) (source source' : So
         begun = begun_before run old new engine (suc i) going;
         done = (inr all.1, all.0, going.moments, ended run old new engine (suc i) going, going.quiet);
         demands = demands_ok pool (first_lines run (suc i)) old new x room queue versions staged seals calls numbers reads;
+        appends = λ is. cc;
         listed = listed;
         written = written;
         answers = answers;

@@ -33,6 +33,7 @@ use Rattle.face.specs.Range.{HasLogRoom, IsLeft, IsWhole, ListsTheMachine, Never
 use Rattle.face.specs.Range.{first_texts, run_of, run_text, texts}
 use Rattle.face.specs.Tells.{EndsBehind, Tells}
 use Rattle.face.proofs.Endings.{ends_whole, ends_with}
+use Rattle.face.proofs.Appending.{appends_same}
 use Rattle.face.proofs.Demanded.{asked_done, asked_halted, demands_failed}
 use Rattle.face.proofs.Pagings.{wears_out_all}
 use Rattle.face.specs.TopCall.{RunContract}
@@ -162,10 +163,10 @@ worn_by g opening halt.Output old new good cause e = absurd (omega (arith, e))
 worn_by g opening halt.Limit old new good cause e = absurd (omega (arith, e))
 
 -- the device that it names is none where no ring is appended to past its end
-pub worn_nowhere : (pool : ℕ) (run : Run) (old now : Image) (dev : Dev) → WearsAt dev pool run old now → (WearsOut pool run old → ⊥) → (WearsLog run old → ⊥) → ⊥
-worn_nowhere pool run old now Flash wears flash log = flash wears
-worn_nowhere pool run old now Log wears flash log = log wears.0
-worn_nowhere pool run old now Disk wears flash log = wears
+pub worn_nowhere : (pool : ℕ) (run : Run) (begun : ℕ) (old now : Image) (dev : Dev) → WearsAt dev pool run begun old now → (WearsOut pool (first_lines run begun) old → ⊥) → (WearsLog (first_lines run begun) old → ⊥) → ⊥
+worn_nowhere pool run begun old now Flash wears flash log = flash wears
+worn_nowhere pool run begun old now Log wears flash log = log wears.1
+worn_nowhere pool run begun old now Disk wears flash log = wears
 
 module _ (pool : ℕ) (g : Geometry) (opening : State) (listings : List (List CacheLine)) (old : Site) where
   abbrev run : Run
@@ -240,7 +241,7 @@ module _ (pool : ℕ) (g : Geometry) (opening : State) (listings : List (List Ca
         resources = record {
           begun = works.heard;
           has_begun = begun_same run lines works.heard heard.same old mid new (fault_line h) now.0 (sym (append-nil new.told) ∙ now.1) heard.enough works.begun;
-          asked = asked_halted pool own works.heard old new {T = T} h status (λ zero. not_zero h (sym is ∙ zero)) (λ eight. worn_by g opening h old new good cause (sym is ∙ eight))
+          asked = asked_halted pool own works.heard old new {T = T} h status (λ zero. not_zero h (sym is ∙ zero)) (λ eight. worn_by g opening h old new good cause (sym is ∙ eight)) (λ e. appends_same pool run lines works.heard heard.same old.image (works.appends (ap Err e)))
               (demands_failed pool (first_lines own works.heard) old mid new same_devices.image told.reads tells h (subst (λ (r : Run). Demands {T = T} pool r old mid (Err h)) (sym front) works.demands));
           listed = subst (λ (r : Run). ListsTheMachine pool r old.image) (sym front) works.listed;
           written = written_same pool run lines works.heard heard.same old new (written_told pool run works.heard (fault_line h) old mid new tells works.written);
@@ -313,7 +314,7 @@ pub complete : OverflowsWithMore → (pool : ℕ) (g : Geometry) (opening : Stat
 complete more pool g opening old new status good none room log_room ends causes h =
     ⊎_elim (λ e. inl e) (⊎_elim (λ e. let c = causes.device e in absurd (none.devices c.0 c.1)) (⊎_elim (λ e. inr e) (⊎_elim (λ e. absurd (none.input (causes.input e)))
     (⊎_elim (λ e. absurd (none.output (causes.output e))) (⊎_elim (λ e. absurd (in_time (d.over e)))
-    (⊎_elim (λ e. absurd (let worn = h.resources.asked.worn e in worn_nowhere pool (first_lines (run_of g opening d.ended d.octets d.listings) h.resources.begun) old.image new.image worn.0 worn.2 never never_log)) (λ e. absurd (causes.foreign e good.honest g opening.table opening.commits stands)))))))) causes.others
+    (⊎_elim (λ e. absurd (let worn = h.resources.asked.worn e in worn_nowhere pool (run_of g opening d.ended d.octets d.listings) h.resources.begun old.image new.image worn.0 worn.2 never never_log)) (λ e. absurd (causes.foreign e good.honest g opening.table opening.commits stands)))))))) causes.others
   where
     d : Durability g opening old new status
     d = h.durability

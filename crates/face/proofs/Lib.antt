@@ -1,3 +1,4 @@
+mod Appending
 mod CallCounts
 mod CauseLaws
 mod CheckLaws

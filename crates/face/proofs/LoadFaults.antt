@@ -3,12 +3,13 @@ use Rattle.std.proofs.Common.{◌≡◌, ◌≢◌, ◌⊎◌, inl, inr, ⊎_eli
 use Rattle.std.specs.Prelude.{Ok, Err, Result, IsTrue}
 use Rattle.std.proofs.lemmas.List.{append-nil, take_all}
 use Rattle.site.specs.declared.geometry.Geometry.{Geometry}
+use Rattle.site.specs.declared.outside.Dev.TheVariants.{Log}
 use Rattle.site.specs.declared.outside.Stop.TheVariants.{Device, Memory, Worn, Foreign}
 use Rattle.site.specs.State.{State as Site, Snapshot, now_of}
 use Rattle.site.specs.Calls.{Preserves, SameReads}
 use Rattle.site.specs.Moments.{EachMoment, Leaves, LeavesOnly}
 use Rattle.site.specs.Laws.{image_is, in_sequence, leaves_weaker, stays_honest, tell_leaves, told_is}
-use Rattle.site.specs.Telling.{SameDevices, TellsPart}
+use Rattle.site.specs.Telling.{SameDevices, TellsOnly, TellsPart}
 use Rattle.site.specs.declared.outside.Failed.{Failed}
 use Rattle.record_model.specs.State.{State}
 use Rattle.record_model.specs.Run.{commit_marks, commits_among}
@@ -28,7 +29,7 @@ use Rattle.face.specs.Tells.{EndsBehind, Tells}
 use Rattle.face.specs.Workload.{load_run, load_texts, opening_text, summary_text}
 use Rattle.face.proofs.CallCounts.{calls_told}
 use Rattle.face.proofs.Endings.{ends_whole, ends_with}
-use Rattle.face.proofs.Demanded.{asked_done, asked_halted, demands_done, demands_err, demands_failed, demands_lost}
+use Rattle.face.proofs.Demanded.{asked_done, asked_halted, demands_done, demands_err, demands_failed, demands_lost, same_halt}
 use Rattle.face.proofs.Faults.{not_zero, worn_by, worn_nowhere}
 use Rattle.face.proofs.Pagings.{wears_out_later}
 use Rattle.face.proofs.Meanings.{stands_by}
@@ -71,7 +72,7 @@ still_begun run begun text old mid new tells b =
 module _ (pool : ℕ) (run : Run) (summary : List ℕ) (old : Site) where
   -- it stops before its summary
   pub stopped_before : {T U : Type 0} (new : Site) (h : Halt) → LoadWorks {T = T} pool run [] old new (Err h) → LoadWorks {T = U} pool run summary old new (Err h)
-  stopped_before new h works = record {
+  stopped_before {T} {U} new h works = record {
     stops = record {
       any_moment = leaves_weaker old new (IsLeftOf run [] [] old.told) (IsLeftOf run summary [] old.told) (λ s l. more_left run summary [] old.told s l) works.stops.any_moment;
       between = works.stops.between;
@@ -82,6 +83,7 @@ module _ (pool : ℕ) (run : Run) (summary : List ℕ) (old : Site) where
     has_begun = works.has_begun;
     all = tt;
     demands = demands_err pool (first_lines run works.begun) old new h (λ e. works.demands.worn (ap Err e)) (λ e. works.demands.worn_log (ap Err e)) works.demands.numbers works.demands.reads;
+    appends = λ is. works.appends (ap Err (same_halt {T = U} h (halt.Stop (Worn Log)) is));
     left = works.left;
   }
 
@@ -101,7 +103,7 @@ module _ (pool : ℕ) (run : Run) (summary : List ℕ) (old : Site) where
         }) (tell_leaves (StandsAfter run (all_commits run)) summary mid new (λ s left. subst (StandsAfter run (all_commits run)) (sym (image_is (now_of mid) s works.done.quiet left)) works.done.whole.stands) tells))
 
     -- it is summed up
-    pub summed_up : {U : Type 0} (y : U) → new.told ≡ mid.told ++ summary → length new.past ≤ length mid.past + length summary → LoadWorks {T = U} pool run summary old new (Ok y)
+    pub summed_up : {U : Type 0} (y : U) → new.told ≡ mid.told ++ summary → TellsOnly (length summary) mid new → LoadWorks {T = U} pool run summary old new (Ok y)
     summed_up {U} y told few = record {
       stops = tt;
       done = record {
@@ -116,6 +118,7 @@ module _ (pool : ℕ) (run : Run) (summary : List ℕ) (old : Site) where
       has_begun = still_begun run works.begun summary old mid new tells works.has_begun;
       all = works.all;
       demands = demands_done pool (first_lines run works.begun) old mid new same.image read tells x y (calls_told run.geometry summary mid new same.image told few) works.demands;
+      appends = λ is. cc;
       left = same.left ∙ works.left;
     }
 
@@ -128,6 +131,7 @@ module _ (pool : ℕ) (run : Run) (summary : List ℕ) (old : Site) where
       has_begun = still_begun run works.begun summary old mid new tells works.has_begun;
       all = tt;
       demands = demands_lost pool (first_lines run works.begun) old mid new same.image read tells x works.demands;
+      appends = λ is. cc;
       left = same.left ∙ works.left;
     }
 
@@ -211,7 +215,7 @@ module _ (load : Load) (g : Geometry) (opening : State) (old : Site) (good : IsG
         resources = record {
           begun = works.begun;
           has_begun = still_begun run' works.begun (fault_line h) old mid new tells works.has_begun;
-          asked = asked_halted load.pool run' works.begun old new {T = T} h status (λ zero. not_zero h (sym is ∙ zero)) (λ eight. worn_by g opening h old new good cause (sym is ∙ eight))
+          asked = asked_halted load.pool run' works.begun old new {T = T} h status (λ zero. not_zero h (sym is ∙ zero)) (λ eight. worn_by g opening h old new good cause (sym is ∙ eight)) (λ e. works.appends (ap Err e))
               (demands_failed load.pool (first_lines run' works.begun) old mid new same.image read tells h works.demands);
         };
       }
@@ -241,7 +245,7 @@ module _ (load : Load) (g : Geometry) (opening : State) (old : Site) (good : IsG
   load_complete more new status none room log_room untaken causes h =
       ⊎_elim (λ e. inl e) (⊎_elim (λ e. let c = causes.device e in absurd (none.devices c.0 c.1)) (⊎_elim (λ e. inr e) (⊎_elim (λ e. absurd (untaken.0 e))
       (⊎_elim (λ e. absurd (none.output (causes.output e))) (⊎_elim (λ e. absurd (untaken.1 e))
-      (⊎_elim (λ e. absurd (let worn = h.resources.asked.worn e in worn_nowhere load.pool (first_lines run' h.resources.begun) old.image new.image worn.0 worn.2 never never_log)) (λ e. absurd (causes.foreign e good.honest g opening.table opening.commits (stands_by g old.image opening good.opens))))))))) causes.others
+      (⊎_elim (λ e. absurd (let worn = h.resources.asked.worn e in worn_nowhere load.pool run' h.resources.begun old.image new.image worn.0 worn.2 never never_log)) (λ e. absurd (causes.foreign e good.honest g opening.table opening.commits (stands_by g old.image opening good.opens))))))))) causes.others
     where
       never_log : WearsLog (first_lines run' h.resources.begun) old.image → ⊥
       never_log wears = never_worn_within run' h.resources.begun old.image good.opens.newest good.opens.blocks good.opens.sound wears log_room

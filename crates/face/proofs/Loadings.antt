@@ -6,10 +6,10 @@ use Rattle.sealed_ring.specs.Ring.{hi_of}
 use Rattle.face.specs.Filled.{octets_of}
 use Rattle.face.proofs.Fillings.{first_fill, next_there}
 use Rattle.flash_cache.specs.Representation.{start_reads}
-use Rattle.std.proofs.Common.{◌≡◌, ◌⊎◌, inl, inr, ⊎_elim, ℕ, zero, suc, ◌+◌, ◌-◌, ◌*◌, ◌<◌, ◌≤◌, ◌^◌, Bool, true, List, [], ◌++◌, length, take, drop, refl, sym, ◌∙◌, ap, subst, arith, take-append-drop}
+use Rattle.std.proofs.Common.{◌≡◌, ◌⊎◌, inl, inr, ⊎_elim, ℕ, zero, suc, ◌+◌, ◌-◌, ◌*◌, ◌<◌, ◌≤◌, ◌^◌, Bool, true, List, [], ◌∷◌, ◌++◌, length, take, drop, refl, sym, ◌∙◌, ap, subst, arith, take-append-drop}
 use Rattle.std.specs.Prelude.{Option, Result, Ok, Err, IsErrOf, OnOk, count_by}
 use Rattle.std.proofs.lemmas.Bool.{cases_lt}
-use Rattle.std.proofs.lemmas.List.{append-nil, length-take-le, take_all, take-take}
+use Rattle.std.proofs.lemmas.List.{append-nil, length-append, length-take, length-take-le, take_all, take-append-le, take-take}
 use Rattle.site.specs.declared.geometry.Geometry.{Geometry}
 use Rattle.site.specs.declared.outside.Dev.TheVariants.{Flash, Log}
 use Rattle.site.specs.declared.outside.Stop.TheVariants.{Worn}
@@ -47,17 +47,17 @@ use Rattle.face.specs.Going.{Going, IsCounted, IsPaged}
 use Rattle.face.specs.Loads.{CarriesFirst, CarriesOut, HasBegunLoad, IsLeftOf, IsOpened, IsUntold, LeavesSome, LoadStops, LoadWorks}
 use Rattle.flash_cache.specs.OnDisk.{HasLastStaged}
 use Rattle.site.proofs.Working.{ok_as}
-use Rattle.face.specs.Range.{AsksNoMore, IsLeft, LeavesStaged, SkipsNoNumber, StandsAfter, WearsLog, WearsOut, all_commits, cache_by, first_texts, run_of, staged_by_run, texts}
+use Rattle.face.specs.Range.{AppendsLast, AppendsSince, AsksNoMore, CountsUnits, IsLeft, LeavesStaged, SkipsNoNumber, StandsAfter, WearsLog, WearsOut, all_commits, cache_by, first_texts, run_of, staged_by_run, texts}
 use Rattle.face.specs.Run.{AsksFew, Run, StandsFor, after_lines, answered, checkpoints_of, first_lines, works_of, turns_of, log_reads_of}
 use Rattle.face.specs.Working.{StandsNear, Stops, asked_after, log_reads_after}
 use Rattle.face.specs.Texts.{status_of}
 use Rattle.face.specs.Workload.{get_line, load_run, numbers_of, opening_text, set_line, set_lines, get_lines}
-use Rattle.face.proofs.Counted.{skips_course, wears_course}
+use Rattle.face.proofs.Counted.{checkpoints_are, made_are, skips_course, wears_course}
 use Rattle.face.proofs.Logs.{fits_stands}
 use Rattle.face.proofs.UntoldLines.{carries_all, leaves_first}
 use Rattle.face.proofs.Fronts.{state_by_turns}
 use Rattle.face.proofs.Lefts.{left_first, left_none, none_among}
-use Rattle.face.proofs.Demanded.{demands_err, demands_ok}
+use Rattle.face.proofs.Demanded.{demands_err, demands_ok, same_halt}
 use Rattle.face.proofs.Pagings.{first_ask, first_log_reads}
 use Rattle.face.proofs.Ranges.{all_among, stands_after}
 use Rattle.face.proofs.LinesBeforeQuit.{NoneQuits, all_answered, count_join, none_quits_join, none_quits_map}
@@ -167,6 +167,7 @@ module _ (g : Geometry) (opening : State) (load : Load) where
       has_begun = none_begun new h stops;
       all = tt;
       demands = demands_err load.pool (first_lines run 0) old new h worn log numbers reads;
+      appends = λ is. inl refl;
       left = left;
     }
 
@@ -231,13 +232,37 @@ module _ (g : Geometry) (opening : State) (load : Load) where
               );
         }
 
+        next_at : (n : ℕ) (newest : Option Master) (blocks : List (List LogRecord)) → IsSound newest g old.image blocks →
+            after_works (rules before.store.pages) (works_of opening (take n run.lines)) (cache_of before.store.pages) ≡ cache_by load.pool run (turns_of (first_lines run n)) newest old.image blocks
+        next_at n newest blocks sound =
+            let p = paged newest blocks sound in
+            (λ j. after_works (p.rules_are j) (works_of opening (take n run.lines)) (p.machine j))
+            ∙ sym (add (rules_of load.pool g.groups) (asked_after opening_run newest old.image blocks 0) (works_of opening (take n run.lines)) (cache_on g old.image))
+            ∙ ap (λ (w : List CacheWork). after_works (rules_of load.pool g.groups) w (cache_on g old.image)) (sym (first_asked n newest old.image blocks))
+
         next_is : (newest : Option Master) (blocks : List (List LogRecord)) → IsSound newest g old.image blocks →
             after_works (rules before.store.pages) (works_of opening first) (cache_of before.store.pages) ≡ cache_by load.pool run (turns_of (first_lines run some.begun)) newest old.image blocks
-        next_is newest blocks sound =
-            let p = paged newest blocks sound in
-            (λ j. after_works (p.rules_are j) (works_of opening first) (p.machine j))
-            ∙ sym (add (rules_of load.pool g.groups) (asked_after opening_run newest old.image blocks 0) (works_of opening first) (cache_on g old.image))
-            ∙ ap (λ (w : List CacheWork). after_works (rules_of load.pool g.groups) w (cache_on g old.image)) (sym (first_asked some.begun newest old.image blocks))
+        next_is = next_at some.begun
+
+        appends_begun : IsErrOf result (halt.Stop (Worn Log)) → AppendsLast load.pool run some.begun old.image
+        appends_begun is =
+            let w = some.course.appends opening going.fits is in
+            let k = length w.front in
+            let few = some.few in
+            let size = length-take some.begun run.lines in
+            let are = ap length w.are in
+            let parts = length-append w.front (w.last ∷ []) in
+            let one : length (w.last ∷ []) ≡ 1 = refl in
+            let long : k ≡ some.begun - 1 = omega (arith, few, size, are, parts, one) in
+            let front : take k run.lines ≡ w.front =
+            sym (take-take k some.begun run.lines (omega (arith, few, size, are, parts, one))) ∙ ap (take k) w.are ∙ take-append-le k w.front (w.last ∷ []) (omega arith) ∙ take_all k w.front (omega arith) in
+            let made = λ (n : ℕ). made_are run n ∙ ap (λ (l : List Line). (after_lines opening (take n l) []).made) all_lines in
+            let checks = λ (n : ℕ). checkpoints_are run n ∙ ap (λ (l : List Line). checkpoints_of opening (take n l)) all_lines in
+            inr (subst (λ (n : ℕ). AppendsSince load.pool run n some.begun old.image) long (λ newest blocks sound. ⊎_elim
+            (λ more. inl (let was = made k ∙ ap (λ (l : List Line). (after_lines opening l []).made) front in let now = made some.begun in omega (arith, more, was, now)))
+            (⊎_elim
+            (λ more. inr (inl (let was = checks k ∙ ap (checkpoints_of opening) front in let now = checks some.begun in omega (arith, more, was, now))))
+            (λ more. inr (inr (let was = ap next_group (ap (λ (l : List Line). after_works (rules before.store.pages) (works_of opening l) (cache_of before.store.pages)) (sym front) ∙ next_at k newest blocks sound) in let now = ap next_group (next_is newest blocks sound) in omega (arith, more, was, now))))) w.appends))
 
         worn_out : IsErrOf result (halt.Stop (Worn Flash)) → WearsOut load.pool (first_lines run some.begun) old.image
         worn_out is newest blocks sound = subst (λ (c : Cache). 2 ^ 40 < next_group c) (next_is newest blocks sound) ((some.course.serves opening going.fits).worn is)
@@ -313,10 +338,11 @@ module _ (g : Geometry) (opening : State) (load : Load) where
         has_begun = has_begun (Err h) some;
         all = tt;
         demands = demands_err load.pool (first_lines run some.begun) old new h (λ e. worn_out (Err h) some (ap Err e)) (λ e. worn_log (Err h) some (ap Err e)) (numbers_are (Err h) some) (reads_are (Err h) some);
+        appends = λ is. appends_begun (Err h) some (ap Err (same_halt {T = T} h (halt.Stop (Worn Log)) is));
         left = left_new (Err h) some;
       }
 
-      pub load_finished : {T : Type 0} → QueueIsOnFlash → WhereItFits → LeavesStaged load.pool (first_lines opening_run 0) old mid → CallsForUnits g old mid → (x : T) → CarriesOut (Ok x) run.lines before after mid new → LoadWorks {T = T} load.pool run [] old new (Ok x)
+      pub load_finished : {T : Type 0} → QueueIsOnFlash → WhereItFits → LeavesStaged load.pool (first_lines opening_run 0) old mid → CountsUnits (first_lines opening_run 0) old mid → (x : T) → CarriesOut (Ok x) run.lines before after mid new → LoadWorks {T = T} load.pool run [] old new (Ok x)
       load_finished {T} law seen staged calls x course =
           let some = carries_all x run.lines before after mid new course in
           record {
@@ -332,6 +358,7 @@ module _ (g : Geometry) (opening : State) (load : Load) where
             begun = some.begun;
             has_begun = has_begun (Ok x) some;
             all = let same = ap length all_lines in omega (arith, same);
+            appends = λ is. cc;
             demands = demands_ok load.pool (first_lines run some.begun) old new x
                 (λ newest blocks sound.
                 let next = course.going.store.both.pages_going.flash.next in
@@ -359,7 +386,14 @@ module _ (g : Geometry) (opening : State) (load : Load) where
                 let lines = first_fill some.begun opening run.lines [] ∙ ap (λ (l : List Line). octets_of opening l) all in
                 let low = course.going.store.both.log_going.low in
                 omega (arith, there, next, opened, later, lines, low))
-                (calls_then g old mid new calls (subst (λ (y : Geometry). CallsForUnits y mid new) going.geometry (course.numbers opening going.fits going.quiet).past))
+                (record {
+                  masters = (let before = calls.masters in
+                      let saved = (course.numbers opening going.fits going.quiet).saved in
+                      let all : take some.begun (answered run) ≡ run.lines = take_all some.begun (answered run) (let same = ap length all_lines in omega (arith, same)) ∙ all_lines in
+                      let checkpoints = checkpoints_are run some.begun ∙ ap (checkpoints_of opening) all in
+                      omega (arith, before, saved, checkpoints));
+                  past = calls_then g old mid new calls.past (subst (λ (y : Geometry). CallsForUnits y mid new) going.geometry (course.numbers opening going.fits going.quiet).past);
+                })
                 (numbers_are (Ok x) some) (reads_are (Ok x) some);
             left = left_new (Ok x) some;
           }

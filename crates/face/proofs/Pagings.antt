@@ -228,7 +228,7 @@ module _ (pool : ℕ) (run : Run) (newest : Option Master) (image : Image) (bloc
 
   module _ (add : WorksAddUp) (i : ℕ) (line : Line) (rest : List Line) (is : drop i (answered run) ≡ line ∷ rest) (engine : Engine) (paged : IsPaged pool run newest image blocks engine i) where
     -- what the pages come to by the line's work
-    next_is : after_works (rules engine.store.pages) (line_touches true (state_at run i) line) (cache_of engine.store.pages) ≡ after_works r (asked_after run newest image blocks (suc i)) (cache_on run.geometry image)
+    pub next_is : after_works (rules engine.store.pages) (line_touches true (state_at run i) line) (cache_of engine.store.pages) ≡ after_works r (asked_after run newest image blocks (suc i)) (cache_on run.geometry image)
     next_is =
         (λ j. after_works (paged.rules_are j) (line_touches true (state_at run i) line) (paged.machine j))
         ∙ sym (add r (asked_after run newest image blocks i) (line_touches true (state_at run i) line) (cache_on run.geometry image))

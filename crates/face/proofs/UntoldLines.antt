@@ -38,6 +38,7 @@ use Rattle.face.specs.Run.{StandsFor, after_lines, checkpoints_of, step, works_o
 use Rattle.engine.specs.Numbers.{RestCountsNothing}
 use Rattle.engine.proofs.RingCounts.{count_then}
 use Rattle.redo_undo.proofs.RingNumbers.{ok_no_error}
+use Rattle.face.proofs.Appending.{within_join}
 use Rattle.face.proofs.Counted.{checkpoints_join, counts_as, counts_err, counts_none}
 use Rattle.face.proofs.Logs.{fits_stands}
 use Rattle.face.proofs.LinesBeforeQuit.{after_cons, after_join, works_join}
@@ -96,6 +97,7 @@ carries_none {T} x engine site rest going = record {
   serves = λ s fits. record { log_reads = omega arith; machine = refl; worn = λ is. absurd (no_error is); reads = record { flash = omega arith; disk = omega arith }; rules_are = refl; writes = λ has calm. writes_nothing engine.store.pages site has calm; last = λ has calm. last_none engine.store.pages.flash.geometry [] site site refl; geometry = refl };
   numbers = λ s fits quiet. counts_none (Ok x) engine site s rest fits going quiet (ok_no_error x (halt.Stop (Worn Log)));
   fills = λ s fits quiet. fills_same 0 engine;
+  appends = λ s fits is. cc;
   left = λ honest. refl;
   stays_quiet = λ honest quiet. quiet;
   quiet = λ s fits quiet. tt;
@@ -117,6 +119,7 @@ carries_with {T} {U} x y lines a b old new one = record {
   serves = λ s fits. let serves = one.serves s fits in record { log_reads = serves.log_reads; machine = serves.machine; worn = λ is. absurd (no_error is); reads = serves.reads; rules_are = serves.rules_are; writes = serves.writes; last = serves.last; geometry = serves.geometry };
   numbers = λ s fits quiet. counts_as x (Ok y) a b old new s _ _ (ok_no_error y (halt.Stop (Worn Log))) (one.numbers s fits quiet);
   fills = one.fills;
+  appends = λ s fits is. cc;
   left = one.left;
   stays_quiet = one.stays_quiet;
   quiet = λ s fits quiet. tt;
@@ -219,6 +222,7 @@ module _ {T U : Type 0} (add : WorksAddUp) (reads_add : ReadsAddUp) (x : T) (res
     serves = serves_join;
     numbers = numbers_join;
     fills = λ s fits quiet. ok_then result (octets_of s first) (octets_of (after_lines s first []) later) (octets_of s (first ++ later)) a b c (octets_of_both s first later) (one.fills s fits quiet) (two.fills (after_lines s first []) (one.fits s fits) (one.stays_quiet fits.honest quiet));
+    appends = λ s fits is. (let front = one.serves s fits in within_join add s first later a.store.pages b.store.pages front.machine front.rules_are (two.appends (after_lines s first []) (one.fits s fits) is));
     left = λ honest. two.left (stays_honest old mid one.goes honest) ∙ one.left honest;
     stays_quiet = λ honest quiet. two.stays_quiet (stays_honest old mid one.goes honest) (one.stays_quiet honest quiet);
     quiet = λ s fits quiet. two.quiet (after_lines s first []) (one.fits s fits) (one.stays_quiet fits.honest quiet);
@@ -237,6 +241,7 @@ carries_err {T} {U} h lines a b old new one = record {
   serves = λ s fits. let serves = one.serves s fits in record { log_reads = serves.log_reads; machine = tt; worn = λ is. serves.worn (ap Err (same_halt is)); reads = serves.reads; rules_are = serves.rules_are; writes = serves.writes; last = λ has calm. tt; geometry = serves.geometry };
   numbers = λ s fits quiet. counts_err h h a b old new s _ _ (λ is. is) (one.numbers s fits quiet);
   fills = λ s fits quiet. tt;
+  appends = λ s fits is. one.appends s fits (ap Err (log_halt is));
   left = one.left;
   stays_quiet = λ honest quiet. tt;
   quiet = one.quiet;
@@ -248,6 +253,9 @@ carries_err {T} {U} h lines a b old new one = record {
   where
     same_halt : IsErrOf {T = U} (Err h) (halt.Stop (Worn Flash)) → h ≡ halt.Stop (Worn Flash)
     same_halt is = cc
+
+    log_halt : IsErrOf {T = U} (Err h) (halt.Stop (Worn Log)) → h ≡ halt.Stop (Worn Log)
+    log_halt is = cc
 
 -- All lines, or the first ones.
 

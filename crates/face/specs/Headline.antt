@@ -11,7 +11,6 @@ use Rattle.record_model.specs.State.{State}
 use Rattle.face.specs.declared.halt.Halt.{Halt}
 use Rattle.face.specs.declared.halt.Halt.TheVariants.{Stop}
 use Rattle.face.specs.Texts.{IsLineOf, fault_line, status_of}
-use Rattle.image_changes.specs.Costs.{CallsForUnits}
 use Rattle.redo_undo.specs.Holding.{IsLogWorn}
 use Rattle.engine.specs.Image.{Opens}
 use Rattle.face.specs.Causes.{HasCause}
@@ -26,7 +25,7 @@ use Rattle.face.specs.Run.{Run, IsFront, first_lines, turns_of}
 use Rattle.face.specs.Range.{run_of, texts, run_text, IsLeft, IsWhole, WearsOut, NeverWears}
 use Rattle.face.specs.Waiting.{NobodyWaits}
 use Rattle.face.specs.Range.{LeavesItsQueue, LeavesVersions, SkipsNoNumber, AsksNoMore, ListsTheMachine, HasBegun}
-use Rattle.face.specs.Range.{WearsLog}
+use Rattle.face.specs.Range.{AppendsLast, CountsUnits, WearsLog}
 use Rattle.face.specs.Range.{LeavesStaged, WritesAsTold}
 
 -- an honest and quiet site, whose image is sound, and over which a run opens with this state
@@ -99,19 +98,21 @@ pub record Durability (g : Geometry) (opening : State) (old new : Site) (status 
 abbrev pub ran : {g : Geometry} {s : State} {old new : Site} {status : ℕ} → Durability g s old new status → Run
 ran {g} {s} d = run_of g s d.ended d.octets d.listings
 
--- These lines append more groups than the ring of groups has numbers for; or what they append at most to a ring on the
--- log's device, by counts, passes its end, and a ring there stands at its end now.
-abbrev pub WearsAt : Dev → ℕ → Run → Image → Image → Type 0
-WearsAt Flash pool run old now = WearsOut pool run old
-WearsAt Log pool run old now = WearsLog run old × IsLogWorn run.geometry now
-WearsAt Disk pool run old now = ⊥
+-- So many lines of a run append more groups than the ring of groups has numbers for. Or the last of them has something
+-- to append on the log's device, what they append there at most, by counts, passes the end of a ring, and a ring there
+-- stands at its end now.
+abbrev pub WearsAt : Dev → ℕ → Run → ℕ → Image → Image → Type 0
+WearsAt Flash pool run begun old now = WearsOut pool (first_lines run begun) old
+WearsAt Log pool run begun old now = AppendsLast pool run begun old × WearsLog (first_lines run begun) old
+    × IsLogWorn run.geometry now
+WearsAt Disk pool run begun old now = ⊥
 
 -- What a run with a pool of so many pages asks of the devices, of which so many lines were begun, and this fault line
 -- is told.
 pub record Resources (pool : ℕ) (run : Run) (begun : ℕ) (fault : List ℕ) (old new : Site) (status : ℕ) : Type 0 where
   -- with 8 a ring on the device that is told is at its end for these; with 0 no group is appended past its ring's end
   pub worn : status ≡ 8 → (dev : Dev) × (fault ≡ fault_line (Stop (Worn dev)))
-      × WearsAt dev pool (first_lines run begun) old.image new.image
+      × WearsAt dev pool run begun old.image new.image
   pub room : status ≡ 0 → NeverWears pool run old.image
   -- with 0 the frames on flash are those that the cache machine has in its queue
   pub frames : status ≡ 0 → LeavesItsQueue pool run old.image new.image
@@ -121,8 +122,8 @@ pub record Resources (pool : ℕ) (run : Run) (begun : ℕ) (fault : List ℕ) (
   pub seals : status ≡ 0 → SealsNoMore pool run old.image new.image
   -- and each page that it has staged is on the disk as the frame that was staged last
   pub staged : status ≡ 0 → LeavesStaged pool run old new
-  -- and no more calls were made than its units and its texts need
-  pub past : status ≡ 0 → CallsForUnits run.geometry old new
+  -- and its master units are those of its checkpoints, and no more calls were made than its units and its texts need
+  pub units : status ≡ 0 → CountsUnits run old new
   -- whatever the status, with these lines no ring number is skipped on the log's device
   pub numbers : SkipsNoNumber (first_lines run begun) old new
   -- no more is read and written than they ask for

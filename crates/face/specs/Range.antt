@@ -1,5 +1,5 @@
 -- What a run may tell and leave: its commits, the numbers that it gives, and its work on the page cache.
-use Rattle.std.specs.Prelude.{◌≡◌, ◌⊎◌, ℕ, ◌+◌, ◌<◌, ◌≤◌, Bool, true, List, [], ◌∷◌, ◌++◌, ◌^◌, length, take}
+use Rattle.std.specs.Prelude.{◌≡◌, ◌⊎◌, ℕ, ◌+◌, ◌-◌, ◌<◌, ◌≤◌, Bool, true, List, [], ◌∷◌, ◌++◌, ◌^◌, length, take}
 use Rattle.std.specs.Prelude.{slice_index_or}
 use Rattle.std.specs.Prelude.{flat_map, count_by, Option}
 use Rattle.site.specs.State.{State as Site, Snapshot, Image}
@@ -25,6 +25,7 @@ use Rattle.engine.specs.LogReads.{restart_log_reads}
 use Rattle.engine.specs.SeenVersions.{VersionsAreSeen}
 use Rattle.sealed_ring.specs.Ring.{hi_of}
 use Rattle.image_changes.specs.Rings.{log_shape, master_shape}
+use Rattle.image_changes.specs.Costs.{CallsForUnits}
 use Rattle.log_records.specs.Log.{Entry}
 use Rattle.log_records.specs.Unfinished.{owed}
 use Rattle.face.specs.Workload.{checkpoints_in}
@@ -107,6 +108,12 @@ WearsLog run image = (newest : Option Master) (blocks : List (List LogRecord)) �
     IsSound newest run.geometry image blocks →
     PassesEnd (blocks_by run (log_under newest blocks) image) (masters_by run image)
 
+-- A run has appended one master unit for its restart and one for each checkpoint, and made no more calls than its units
+-- and its texts need.
+pub record CountsUnits (run : Run) (old now : Site) : Type 0 where
+  pub masters : hi_of master_shape now.image.log ≡ masters_by run old.image
+  pub past : CallsForUnits run.geometry old now
+
 -- The rings on the log's device have numbers for all that the restart and the run append, over an image whose log has
 -- these records.
 pub record HasNumbersFor (run : Run) (records : List Entry) (image : Image) : Type 0 where
@@ -128,6 +135,21 @@ abbrev pub cache_by : ℕ → Run → List Turn → Option Master → Image → 
 cache_by pool run done newest image blocks =
     after_works (rules_of pool run.geometry.groups) (works_by run done newest image blocks)
     (cache_on run.geometry image)
+
+-- The lines up to the later number make a record or a checkpoint more than those up to the earlier one, or a group is
+-- appended for them.
+abbrev pub AppendsSince : ℕ → Run → ℕ → ℕ → Image → Type 0
+AppendsSince pool run earlier later image = (newest : Option Master) (blocks : List (List LogRecord)) →
+    IsSound newest run.geometry image blocks →
+    (made_by (first_lines run earlier) < made_by (first_lines run later))
+    ⊎ ((checkpoints_in (turns_of (first_lines run earlier)) < checkpoints_in (turns_of (first_lines run later)))
+    ⊎ (next_group (cache_by pool run (turns_of (first_lines run earlier)) newest image blocks)
+    < next_group (cache_by pool run (turns_of (first_lines run later)) newest image blocks)))
+
+-- So the last of so many lines that were begun has something to append on the log's device, as the restart has, which
+-- makes a checkpoint.
+abbrev pub AppendsLast : ℕ → Run → ℕ → Image → Type 0
+AppendsLast pool run begun image = (begun ≡ 0) ⊎ AppendsSince pool run (begun - 1) begun image
 
 -- and it stages these frames meanwhile
 abbrev pub staged_by_run : ℕ → Run → List Turn → Option Master → Image → List (List LogRecord) → List Staged

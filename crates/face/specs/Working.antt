@@ -11,14 +11,13 @@ use Rattle.record_model.specs.Run.{commit_marks, commits_among, is_quit}
 use Rattle.record_model.specs.Touches.{CacheWork}
 use Rattle.log_records.specs.declared.log_record.LogRecord.{LogRecord}
 use Rattle.checkpoint.specs.declared.master.Master.{Master}
-use Rattle.image_changes.specs.Costs.{CallsForUnits}
 use Rattle.face.specs.declared.halt.Halt.{Halt}
 use Rattle.face.specs.declared.halt.Halt.TheVariants.{Stop, Output, Input, Limit}
 use Rattle.face.specs.Filled.{SealsNoMore}
 use Rattle.face.specs.Lines.{HeardAll, answered_of, commands_of, limit}
 use Rattle.face.specs.Range.{AsksNoMore, HasBegun, IsLeft, IsWhole, LeavesItsQueue, LeavesStaged, LeavesVersions}
 use Rattle.face.specs.Range.{NeverWears, SkipsNoNumber, StandsAfter, WearsOut, WritesAsTold, first_texts}
-use Rattle.face.specs.Range.{WearsLog, log_reads_by_turns, texts}
+use Rattle.face.specs.Range.{AppendsLast, CountsUnits, WearsLog, log_reads_by_turns, texts}
 use Rattle.face.specs.Range.{ListsTheMachine, works_by}
 use Rattle.face.specs.Run.{Run, first_lines, turns_of}
 use Rattle.face.specs.Texts.{status_of}
@@ -83,7 +82,7 @@ pub record AnswersFirst (run : Run) (lines : ℕ) (old now : Site) : Type 0 wher
 
 -- What a run that ends so asks of the devices. Flash is worn only where it asks for more groups than the ring can have,
 -- and the log's device only where what it appends at most passes the end of a ring; no ring number is skipped there. At
--- Ok no more calls were made than its units and its texts need.
+-- Ok its master units are those of its checkpoints, and no more calls were made than its units and its texts need.
 pub record Demands {T : Type 0} (pool : ℕ) (run : Run) (old new : Site) (result : Result T Halt) : Type 0 where
   pub worn : IsErrOf result (Stop (Worn Flash)) → WearsOut pool run old.image
   pub worn_log : IsErrOf result (Stop (Worn Log)) → WearsLog run old.image
@@ -92,7 +91,7 @@ pub record Demands {T : Type 0} (pool : ℕ) (run : Run) (old new : Site) (resul
   pub versions : OnOk result (LeavesVersions pool run old.image new.image)
   pub seals : OnOk result (SealsNoMore pool run old.image new.image)
   pub staged : OnOk result (LeavesStaged pool run old new)
-  pub past : OnOk result (CallsForUnits run.geometry old new)
+  pub units : OnOk result (CountsUnits run old new)
   pub numbers : SkipsNoNumber run old new
   pub reads : AsksNoMore pool run old new
 
@@ -108,6 +107,7 @@ pub record RunOutcome {T : Type 0} (pool : ℕ) (run : Run) (old new : Site) (re
       × LeavesOnly old new (IsLeft (first_lines run heard) old.told []) × IsWhole (first_lines run heard) old new
       × (new.loose ≡ no_loose))
   pub demands : Demands pool (first_lines run heard) old new result
+  pub appends : IsErrOf result (Stop (Worn Log)) → AppendsLast pool run heard old.image
   pub listed : ListsTheMachine pool (first_lines run heard) old.image
   pub written : WritesAsTold pool run heard old new
   pub answers : AnswersFirst run heard old new

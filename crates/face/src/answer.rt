@@ -1,5 +1,5 @@
 // A line is carried out, and its reply is told.
-ghost use Rattle.std.specs.Prelude.{◌≡◌, ◌≢◌, true, [], ◌++◌, List, IfErr, IsTrue, OnOk};
+ghost use Rattle.std.specs.Prelude.{◌≡◌, ◌≢◌, true, [], ◌++◌, List, IfErr, IsErrOf, IsTrue, OnOk};
 ghost use Rattle.face.specs.Causes.{RunFaults};
 ghost use Rattle.site.specs.State.{IsQuiet};
 ghost use Rattle.site.specs.Calls.{Preserves};
@@ -11,7 +11,7 @@ ghost use Rattle.record_model.specs.State.{State};
 ghost use Rattle.engine.specs.Invariant.{Invariant, sizes_of};
 ghost use Rattle.engine.specs.Representation.{Matches};
 ghost use Rattle.engine.specs.Listings.{listing_of};
-ghost use Rattle.engine.specs.Numbers.{CountsOn};
+ghost use Rattle.engine.specs.Numbers.{AppendsToLog, CountsOn};
 ghost use Rattle.face.specs.Causes.{AnswerFailsBy};
 ghost use Rattle.shell_text.specs.Texts.{reply_text};
 ghost use Rattle.face.specs.Filled.{FillsBy, line_octets};
@@ -58,6 +58,9 @@ pub fn answer<S: Site>(engine: &mut Engine, site: &mut S, line: Option<Command>)
     ensures fills { (s : State) → Matches engine.old (S.state site.old) s
         → IsQuiet (S.state site.old)
         → OnOk result (FillsBy (line_octets s line) engine.old engine.new) }
+    ensures appends { (s : State) → Matches engine.old (S.state site.old) s
+        → IsErrOf result (Halt.Stop (Stop.Worn Dev.Log)) → AppendsToLog s (step s line []).after
+        (line_checkpoints s line) (line_touches true s line) engine.old.store.pages }
     ensures left { IsTrue (S.state site.old).honest → (S.state site.new).input ≡ (S.state site.old).input }
     ensures stays_quiet { IsTrue (S.state site.old).honest → IsQuiet (S.state site.old)
         → OnOk result (IsQuiet (S.state site.new)) }

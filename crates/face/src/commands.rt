@@ -1,5 +1,5 @@
 // The commands are carried out.
-ghost use Rattle.std.specs.Prelude.{◌≡◌, ◌≢◌, ◌+◌, ◌≤◌, false, true, [], List, IsTrue, IfOk, IfErr, OnOk};
+ghost use Rattle.std.specs.Prelude.{◌≡◌, ◌≢◌, ◌+◌, ◌≤◌, false, true, [], List, IsTrue, IfOk, IfErr, OnOk, IsErrOf};
 ghost use Rattle.site.specs.Faults.{WorkFaults};
 ghost use Rattle.site.specs.declared.outside.Dev.{Dev};
 ghost use Rattle.site.specs.declared.outside.Stop.{Stop};
@@ -13,7 +13,7 @@ ghost use Rattle.engine.specs.Invariant.{Invariant, sizes_of};
 ghost use Rattle.engine.specs.Representation.{Matches};
 ghost use Rattle.engine.specs.Leaves.{LeavesEither};
 ghost use Rattle.engine.specs.Listings.{listing_of};
-ghost use Rattle.engine.specs.Numbers.{CountsOn};
+ghost use Rattle.engine.specs.Numbers.{AppendsToLog, CountsOn};
 ghost use Rattle.face.specs.Causes.{FailsBy};
 ghost use Rattle.face.specs.Filled.{FillsBy, line_octets};
 ghost use Rattle.face.specs.Run.{step, IsAsked, line_checkpoints, line_log_reads};
@@ -54,6 +54,9 @@ fn carry_out_plain<S: Site>(
     ensures fills { (s : State) → Matches engine.old (S.state site.old) s
         → IsQuiet (S.state site.old)
         → OnOk result (FillsBy (line_octets s line) engine.old engine.new) }
+    ensures appends { (s : State) → Matches engine.old (S.state site.old) s
+        → IsErrOf result (Stop.Worn Dev.Log) → AppendsToLog s (step s line []).after (line_checkpoints s line)
+        (line_touches true s line) engine.old.store.pages }
     ensures left { IsTrue (S.state site.old).honest
         → (S.state site.new).input ≡ (S.state site.old).input }
     ensures stays_quiet { IsTrue (S.state site.old).honest → IsQuiet (S.state site.old)
@@ -138,6 +141,9 @@ pub fn carry_out<S: Site>(
     ensures fills { (s : State) → Matches engine.old (S.state site.old) s
         → IsQuiet (S.state site.old)
         → OnOk result (FillsBy (line_octets s line) engine.old engine.new) }
+    ensures appends { (s : State) → Matches engine.old (S.state site.old) s
+        → IsErrOf result (Stop.Worn Dev.Log) → AppendsToLog s (step s line []).after (line_checkpoints s line)
+        (line_touches true s line) engine.old.store.pages }
     ensures left { IsTrue (S.state site.old).honest
         → (S.state site.new).input ≡ (S.state site.old).input }
     ensures stays_quiet { IsTrue (S.state site.old).honest → IsQuiet (S.state site.old)

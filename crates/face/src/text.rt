@@ -1,9 +1,9 @@
 // Replies are told.
-ghost use Rattle.std.specs.Prelude.{◌≡◌, ◌+◌, ◌≤◌, ◌++◌, length, IsTrue, OnOk, OnErr};
+ghost use Rattle.std.specs.Prelude.{◌≡◌, ◌++◌, length, IsTrue, OnOk, OnErr};
 ghost use Rattle.site.specs.Faults.{TellFaults};
 ghost use Rattle.site.specs.Calls.{Preserves, Rose, SameReads};
 ghost use Rattle.site.specs.Moments.{EachMoment};
-ghost use Rattle.site.specs.Telling.{TellsPart, SameDevices};
+ghost use Rattle.site.specs.Telling.{TellsOnly, TellsPart, SameDevices};
 ghost use Rattle.shell_text.specs.Texts.{reply_text};
 
 use record_model::Reply;
@@ -17,9 +17,9 @@ pub fn tell_reply<S: Site>(site: &mut S, reply: &Reply) -> Result<(), Failed>
         → EachMoment (S.state site.old) (S.state site.new) (TellsPart (reply_text reply.now) (S.state site.old)) }
     ensures told { IsTrue (S.state site.old).honest
         → OnOk result ((S.state site.new).told ≡ (S.state site.old).told ++ reply_text reply.now) }
-    // It takes no more calls than the text has octets.
-    ensures past { IsTrue (S.state site.old).honest → OnOk result
-        (length (S.state site.new).past ≤ length (S.state site.old).past + length (reply_text reply.now)) }
+    // It takes no more calls than the text has octets, and none but tells.
+    ensures past { IsTrue (S.state site.old).honest
+        → OnOk result (TellsOnly (length (reply_text reply.now)) (S.state site.old) (S.state site.new)) }
     ensures same { IsTrue (S.state site.old).honest → SameDevices (S.state site.old) (S.state site.new) }
     ensures reads { SameReads (S.state site.old) (S.state site.new) }
     ensures goes { Preserves (S.state site.old) (S.state site.new) }

@@ -1,26 +1,39 @@
 -- Calls are counted by the units that are appended.
-use Rattle.std.proofs.Common.{◌≡◌, ℕ, ◌+◌, List, [], ◌∷◌, ◌++◌, length, ap, arith}
+use Rattle.std.proofs.Common.{◌≡◌, ℕ, ◌+◌, ◌≤◌, List, [], ◌∷◌, ◌++◌, length, ap, arith}
 use Rattle.site.specs.declared.geometry.Geometry.{Geometry}
 use Rattle.site.specs.State.{State, Image}
 use Rattle.site.specs.Calls.{IsUnchanged}
+use Rattle.site.specs.Moments.{since, works_in}
+use Rattle.site.proofs.Working.{works_rise}
 use Rattle.sealed_ring.specs.Ring.{hi_of, Units}
 use Rattle.image_changes.specs.Rings.{Masters, Blocks, Groups, log_shape, master_shape, group_shape}
 use Rattle.image_changes.specs.Changes.{Change, SealsBlock, RewritesPages, AppendsGroup, AppendsSegment, AppendsMaster, ReadsAs, Makes, Reaches}
 use Rattle.image_changes.specs.Costs.{cost_of, CallsForUnits}
 
 pub calls_none : (g : Geometry) (s : State) → CallsForUnits g s s
-calls_none g s = omega arith
+calls_none g s = record { works = omega arith; calls = omega arith }
 
 pub calls_then : (g : Geometry) (a b c : State) → CallsForUnits g a b → CallsForUnits g b c → CallsForUnits g a c
-calls_then g a b c first second = omega (arith, first, second)
+calls_then g a b c first second = record {
+  works = omega (arith, first.works, second.works);
+  calls = omega (arith, first.calls, second.calls);
+}
 
 -- nothing but counts changed
 pub calls_unchanged : (g : Geometry) (old new : State) → IsUnchanged old new → CallsForUnits g old new
 calls_unchanged g old new same =
+    let works = ap works_in same.past in
     let calls = ap length same.past in
     let told = ap length same.told in
     let cost = ap (cost_of g) same.image in
-    omega (arith, calls, told, cost)
+    record { works = omega (arith, works, cost); calls = omega (arith, calls, told, cost) }
+
+-- nothing was told, and all calls are paid for
+pub calls_quiet : (g : Geometry) (old new : State) → new.past ≡ old.past ++ since old new → new.told ≡ old.told → length new.past + cost_of g old.image ≤ length old.past + cost_of g new.image → CallsForUnits g old new
+calls_quiet g old new grown same paid =
+    let few = works_rise old new grown in
+    let told = ap length same in
+    record { works = omega (arith, few, paid); calls = omega (arith, told, paid) }
 
 -- what the units of changes cost
 abbrev pub paid_by : Change → ℕ

@@ -2,6 +2,7 @@
 use Rattle.std.specs.Prelude.{ℕ, ◌+◌, ◌*◌, ◌≤◌, length}
 use Rattle.site.specs.declared.geometry.Geometry.{Geometry}
 use Rattle.site.specs.State.{State, Image}
+use Rattle.site.specs.Moments.{works_in}
 use Rattle.sealed_ring.specs.Ring.{hi_of}
 use Rattle.image_changes.specs.Rings.{log_shape, master_shape, group_shape}
 
@@ -12,9 +13,9 @@ abbrev pub cost_of : Geometry → Image → ℕ
 cost_of g image =
     5 * (hi_of (log_shape g) image.log + hi_of master_shape image.log) + 19 * hi_of (group_shape g) image.flash
 
--- Writes, syncs and tells together are no more than the units cost that were appended, with one for each octet told. So
--- where nothing was told these are writes and syncs alone; a text that is told by few tells leaves room for others.
-abbrev pub CallsForUnits : Geometry → State → State → Type 0
-CallsForUnits g old new =
-    length new.past + (cost_of g old.image + length old.told)
-    ≤ length old.past + (cost_of g new.image + length new.told)
+-- Writes and syncs are no more than the units cost that were appended, and with the tells all calls are no more than
+-- that and one for each octet told.
+pub record CallsForUnits (g : Geometry) (old new : State) : Type 0 where
+  pub works : works_in new.past + cost_of g old.image ≤ works_in old.past + cost_of g new.image
+  pub calls : length new.past + (cost_of g old.image + length old.told)
+      ≤ length old.past + (cost_of g new.image + length new.told)

@@ -2,6 +2,8 @@
 use Rattle.std.proofs.Common.{◌≡◌, ℕ, ◌+◌, ◌*◌, ◌≤◌, Bool, true, false, cond, List, [], ◌∷◌, ◌++◌, length, refl, ap, arith}
 use Rattle.site.specs.declared.geometry.Geometry.{Geometry}
 use Rattle.site.specs.State.{State, Image}
+use Rattle.site.specs.Moments.{since}
+use Rattle.site.proofs.Working.{works_rise}
 use Rattle.image_changes.specs.Changes.{Change, AppendsGroup, Reaches}
 use Rattle.image_changes.specs.Costs.{CallsForUnits}
 use Rattle.image_changes.proofs.Counting.{paid, paid_append, cost_reached}
@@ -34,16 +36,20 @@ paid_group cache image pages changed contents =
 
 -- a force of the log, and the push behind it
 pub push_calls : (g : Geometry) (list : LogList) (sealing : Bool) (second : List Change) (hi hi' : ℕ) (old mid new : State) → Reaches g (changes_if sealing list ++ second) old.image new.image → paid second ≡ 19
-    → hi' ≡ cond sealing (hi + 1) hi → length mid.past + 5 * hi ≡ length old.past + 5 * hi' → length new.past ≤ length mid.past + 19 → new.told ≡ old.told → CallsForUnits g old new
-push_calls g list true second hi hi' old mid new reaches is next sealed pushed told =
+    → hi' ≡ cond sealing (hi + 1) hi → length mid.past + 5 * hi ≡ length old.past + 5 * hi' → length new.past ≤ length mid.past + 19 → new.told ≡ old.told → mid.past ≡ old.past ++ since old mid → new.past ≡ mid.past ++ since mid new → CallsForUnits g old new
+push_calls g list true second hi hi' old mid new reaches is next sealed pushed told first later =
     let cost = cost_reached g (changes_if true list ++ second) old.image new.image reaches in
     let parts = paid_append (changes_if true list) second in
     let five : paid (changes_if true list) ≡ 5 = refl in
     let same = ap length told in
-    omega (arith, cost, parts, five, is, next, sealed, pushed, same)
-push_calls g list false second hi hi' old mid new reaches is next sealed pushed told =
+    let forced = works_rise old mid first in
+    let grouped = works_rise mid new later in
+    record { works = omega (arith, cost, parts, five, is, next, sealed, pushed, forced, grouped); calls = omega (arith, cost, parts, five, is, next, sealed, pushed, same) }
+push_calls g list false second hi hi' old mid new reaches is next sealed pushed told first later =
     let cost = cost_reached g (changes_if false list ++ second) old.image new.image reaches in
     let parts = paid_append (changes_if false list) second in
     let none : paid (changes_if false list) ≡ 0 = refl in
     let same = ap length told in
-    omega (arith, cost, parts, none, is, next, sealed, pushed, same)
+    let forced = works_rise old mid first in
+    let grouped = works_rise mid new later in
+    record { works = omega (arith, cost, parts, none, is, next, sealed, pushed, forced, grouped); calls = omega (arith, cost, parts, none, is, next, sealed, pushed, same) }

@@ -16,7 +16,14 @@ use Rattle.page_store.specs.declared.store.PageStore.{PageStore}
 use Rattle.page_store.specs.Caching.{cache_of, rules, pool_page, first_pushed, is_pushed, pushes, next_group}
 use Rattle.page_store.specs.Pulling.{evicted_of, pulled_frames}
 use Rattle.page_store.specs.Ahead.{forces, evicted, pushed_by_touch}
-use Rattle.redo_undo.specs.Filling.{FindsRoom, Fills}
+use Rattle.redo_undo.specs.Filling.{FindsRoom, Fills, LogsForGroups}
+use Rattle.redo_undo.specs.MachineSteps.{PushesGroups, one_touch}
+use Rattle.redo_undo.proofs.Costs.{touched_next}
+use Rattle.site.specs.declared.outside.Dev.TheVariants.{Log}
+use Rattle.site.specs.declared.outside.Stop.{Stop}
+use Rattle.site.specs.declared.outside.Stop.TheVariants.{Worn}
+use Rattle.site.proofs.Working.{err_again, no_error}
+use Rattle.record_model.specs.Touches.{CacheWork}
 
 -- A log is forced for a touch only where that pushes.
 
@@ -45,6 +52,20 @@ forced_pushes log store page is = by (lacks_room (rules store) page (cache_of st
     by : (b : Bool) → forces log (if b then evicted store else []) ≡ true → (b && is_pushed (cache_of store)) ≡ true
     by true forced = ap (first_pushed store.flash.directory) (turned store.pool.frames) ∙ evicted_pushes log (rules store) store.flash.directory (reverse store.pool.frames) forced
     by false forced = absurd (never_both (has_tail log) forced)
+
+-- so the log is forced for it only where it pushes a group
+pub forced_touch : (log : LogStore) (store : PageStore) (page : ℕ) → 1 ≤ (rules store).groups → forces log (pushed_by_touch store page) ≡ true → PushesGroups (rules store) (one_touch page) (cache_of store)
+forced_touch log store page some is =
+    let one : ◌≡◌ {A = ℕ} (if pushes (rules store) page (cache_of store) then 1 else 0) 1 = ap (λ (b : Bool). if b then 1 else 0) (forced_pushes log store page is) in
+    let next = touched_next (rules store) page false (cache_of store) some in
+    omega (arith, one, next)
+
+-- a call that logs nothing, within another one
+pub groups_ok : {T : Type 0} {x : T} {works : List CacheWork} {old new : LogStore} {pages pages' : PageStore} → FindsRoom 0 old new pages pages' → LogsForGroups {T = T} (Ok x) works old new pages pages'
+groups_ok room = record { room = room; worn = λ is. absurd (no_error is) }
+
+pub groups_err : {A B : Type 0} {stop : Stop} {works : List CacheWork} {old new new' : LogStore} {pages pages' other : PageStore} → LogsForGroups {T = A} (Err stop) works old new pages pages' → LogsForGroups {T = B} (Err stop) works old new' pages other
+groups_err {stop = stop} first = record { room = tt; worn = λ is. first.worn (err_again stop (Worn Log) is) }
 
 -- what the tail has then
 pub used_where : (sealing : Bool) (list : LogList) → used_by (sealed_if sealing list).tail ≡ (if sealing then 2 else used_by list.tail)

@@ -17,7 +17,7 @@ use Rattle.image_changes.specs.Changes.{Change, AppendsMaster, Reaches, ring_of}
 use Rattle.image_changes.specs.Reached.{IsReached, IsFrontOf, LeavesFront}
 use Rattle.image_changes.specs.Laws.{RingKept}
 use Rattle.image_changes.specs.Costs.{CallsForUnits}
-use Rattle.image_changes.proofs.Counting.{paid, cost_reached}
+use Rattle.image_changes.proofs.Counting.{calls_quiet, paid, cost_reached}
 use Rattle.log_store.specs.declared.store.LogStore.{LogStore}
 use Rattle.log_store.specs.LogList.{LogList, changes_if}
 use Rattle.log_store.specs.Representation.{LeavesLog, has_tail}
@@ -72,19 +72,17 @@ paid_if false list hi hi' next = let none : paid (changes_if false list) ≡ 0 =
 pub log_calls : {T : Type 0} (r : Result T Stop) (g : Geometry) (hi hi' : ℕ) (list : LogList) (sealing : Bool) (site new : State) → ChangesOnly Log site new → OnOk r (Reaches g (changes_if sealing list) site.image new.image)
     → OnOk r (hi' ≡ (if sealing then hi + 1 else hi)) → OnOk r (length new.past + 5 * hi ≡ length site.past + 5 * hi') → OnOk r (CallsForUnits g site new)
 log_calls (Ok x) g hi hi' list sealing site new changes reaches next calls =
-    let told : length new.told ≡ length site.told = ap length changes.only.now.told in
     let cost = cost_reached g (changes_if sealing list) site.image new.image reaches in
     let paid = paid_if sealing list hi hi' next in
-    omega (arith, told, cost, paid, calls)
+    calls_quiet g site new changes.only.grown changes.only.now.told (omega (arith, cost, paid, calls))
 log_calls (Err e) g hi hi' list sealing site new changes reaches next calls = tt
 
 -- so does one that appends a master unit
 pub save_calls : (g : Geometry) (unit : List ℕ) (site new : State) → ChangesOnly Log site new → Reaches g (AppendsMaster unit ∷ []) site.image new.image → length new.past ≡ length site.past + 5 → CallsForUnits g site new
 save_calls g unit site new changes reaches calls =
-    let told : length new.told ≡ length site.told = ap length changes.only.now.told in
     let cost = cost_reached g (AppendsMaster unit ∷ []) site.image new.image reaches in
     let five : paid (AppendsMaster unit ∷ []) ≡ 5 = refl in
-    omega (arith, told, cost, five, calls)
+    calls_quiet g site new changes.only.grown changes.only.now.told (omega (arith, cost, five, calls))
 
 -- a call on pages
 pub pages_skip : {T : Type 0} (r : Result T Stop) (g : Geometry) (given : ℕ → List ℕ) (log log' : LogStore) (list : LogList) (sealing : Bool) (site new : State) → log.ring.hi ≡ list.first + length list.blocks → (sealing ≡ true → has_tail log ≡ true)

@@ -52,6 +52,10 @@ checkpoint_works = flush ∷ []
 abbrev pub Overflows : Rules → List CacheWork → Cache → Type 0
 Overflows rules works cache = 2 ^ 40 < next_group (after_works rules works cache)
 
+-- this work pushes a group
+abbrev pub PushesGroups : Rules → List CacheWork → Cache → Type 0
+PushesGroups rules works cache = next_group cache < next_group (after_works rules works cache)
+
 -- The pages that it reads.
 
 -- how many touches find their page on flash, and how many miss it there; a touch of a page in the pool does neither

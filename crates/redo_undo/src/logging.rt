@@ -19,7 +19,7 @@ ghost use Rattle.page_store.specs.Ahead.{end_forced};
 ghost use Rattle.checkpoint.specs.declared.master.Master.{Master};
 ghost use Rattle.image_meaning.specs.Moments.{LeavesTableUnder};
 ghost use Rattle.redo_undo.specs.Holding.{Invariant, RepresentsLog, Represents, MayGrow, KeepsPages, IsOnPage};
-ghost use Rattle.redo_undo.specs.Filling.{Fills, FindsRoom};
+ghost use Rattle.redo_undo.specs.Filling.{Fills, LogsForGroups};
 ghost use Rattle.redo_undo.specs.Holding.{blocks_to};
 ghost use Rattle.redo_undo.specs.Committing.{EndsWith};
 ghost use Rattle.redo_undo.specs.MachineSteps.{StepsMachine, one_touch};
@@ -72,7 +72,7 @@ pub fn touch<S: Site>(
     ensures front { OnOk result ((front_of pages.new.pool.frames).page ≡ page) }
     ensures fills { (newest : Option Master) (records : List Entry) (table : List Content) (commits : ℕ)
         → Represents log.old pages.old (S.state site.old) newest records table commits
-        → OnOk result (FindsRoom 0 log.old log.new pages.old pages.new) }
+        → LogsForGroups result (one_touch page) log.old log.new pages.old pages.new }
     ensures there { OnOk result (0 < length pages.new.pool.frames) }
     ensures logs_nothing { LogsNothing result log.old log.new pages.old pages.new (S.state site.old)
         (S.state site.new) }

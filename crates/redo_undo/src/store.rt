@@ -15,7 +15,7 @@ ghost use Rattle.page_store.specs.Representation.{IsStore};
 ghost use Rattle.checkpoint.specs.declared.master.Master.{Master};
 ghost use Rattle.image_meaning.specs.Meaning.{master_of};
 ghost use Rattle.image_meaning.specs.Moments.{LeavesFor};
-ghost use Rattle.redo_undo.specs.Filling.{Fills, FindsRoom};
+ghost use Rattle.redo_undo.specs.Filling.{Fills, LogsForGroups};
 ghost use Rattle.redo_undo.specs.Holding.{blocks_to};
 ghost use Rattle.redo_undo.specs.Holding as both;
 ghost use Rattle.redo_undo.specs.Stores.{sizes_of, MayWork, MayLog, Represents, MayGrow, IsInFront, shown_in};
@@ -144,7 +144,7 @@ impl Store {
         ensures log_reads { (S.state site.new).log_reads ≡ (S.state site.old).log_reads }
         ensures fills { (newest : Option Master) (records : List Entry) (table : List Content) (commits : ℕ)
             → Represents self.old (S.state site.old) newest records table commits
-            → OnOk result (FindsRoom 0 self.old.log self.new.log self.old.pages self.new.pages) }
+            → LogsForGroups result (one_touch (number / 32)) self.old.log self.new.log self.old.pages self.new.pages }
         ensures asks { StepsMachine result (one_touch (number / 32)) self.old.pages self.new.pages
             (S.state site.old) (S.state site.new) }
     {

@@ -1,12 +1,14 @@
 -- One tell more.
-use Rattle.std.proofs.Common.{◌≡◌, ℕ, ◌+◌, List, [], ◌++◌, take, drop, sym, ◌∙◌, ap, arith, append_assoc}
+use Rattle.std.proofs.Common.{◌≡◌, ◌==◌, ℕ, ◌+◌, ◌≤◌, Bool, false, cond, List, [], ◌∷◌, ◌++◌, length, take, drop, sym, ◌∙◌, ap, arith, append_assoc, inl, inr}
+use Rattle.std.proofs.lemmas.Bool.Decides.{eqb_tells}
 use Rattle.std.proofs.lemmas.List.{append-nil, take_all}
 use Rattle.std.proofs.Math.Seq.{take-add}
 use Rattle.std.specs.Prelude.{Result, Ok, Err}
 use Rattle.site.specs.declared.outside.Failed.{Failed}
 use Rattle.site.specs.State.{State}
-use Rattle.site.specs.Calls.{Told, within_tell}
-use Rattle.site.specs.Moments.{EachMoment}
+use Rattle.site.specs.Calls.{Adds, Told, within_tell}
+use Rattle.site.specs.Moments.{EachMoment, works_in}
+use Rattle.site.proofs.Working.{works_join}
 use Rattle.site.specs.Laws.{one_call, in_sequence}
 use Rattle.site.specs.Telling.{TellsPart, SameDevices}
 
@@ -30,3 +32,16 @@ one_tell piece at rest old mid new result is same told so_far t =
 pub told_more : (piece : List ℕ) (at : ℕ) (rest : List ℕ) (old mid new : State) (n : ℕ) → rest ≡ drop at piece → mid.told ≡ old.told ++ take at piece → new.told ≡ mid.told ++ take n rest → new.told ≡ old.told ++ take (at + n) piece
 told_more piece at rest old mid new n is told more =
     more ∙ (λ i. told i ++ take n (is i)) ∙ append_assoc old.told (take at piece) (take n (drop at piece)) ∙ ap (λ (l : List ℕ). old.told ++ l) (sym (take-add at n piece))
+
+-- a tell of some octets is no write and no sync
+pub tell_no_work : (piece : List ℕ) (mid new : State) → 1 ≤ length piece → Adds (within_tell piece mid) mid new → works_in new.past ≡ works_in mid.past
+tell_no_work piece mid new some adds =
+    let all = ap works_in adds ∙ works_join mid.past (within_tell piece mid ∷ []) in
+    let none : works_in (within_tell piece mid ∷ []) ≡ 0 = ap (λ (b : Bool). 0 + cond b 1 0) (not_empty piece some) in
+    omega (arith, all, none)
+  where
+    not_empty : (l : List ℕ) → 1 ≤ length l → (length l == 0) ≡ false
+    not_empty l some = elim (eqb_tells (length l) 0) [
+      | inl is ↦ absurd (let none = is.1 in omega (arith, none, some))
+      | inr not ↦ not.0
+    ]

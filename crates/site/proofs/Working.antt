@@ -1,11 +1,13 @@
 -- Work one after the other, known by its record; and what is said of a result.
-use Rattle.std.proofs.Common.{◌≡◌, ◌≢◌, refl, sym, subst, ap, ◌∙◌, ◌⊎◌, inl, inr}
+use Rattle.std.proofs.Common.{◌≡◌, ◌≢◌, ◌==◌, ℕ, ◌+◌, ◌≤◌, cond, List, ◌++◌, length, length-append, refl, sym, subst, ap, ◌∙◌, ◌⊎◌, inl, inr, arith}
+use Rattle.std.proofs.lemmas.List.Sums.{sum_by-append, count_by-le-length}
 use Rattle.std.specs.Prelude.{Result, Ok, Err, OnOk, IfErr, IsErrOf}
 pub use Rattle.std_lemmas.proofs.Results.{on_ok as ok_always}
 use Rattle.site.specs.declared.outside.Dev.{Dev}
 use Rattle.site.specs.declared.outside.Stop.{Stop}
 use Rattle.site.specs.declared.outside.Stop.TheVariants.{Device, Worn, Foreign, Memory}
-use Rattle.site.specs.State.{State}
+use Rattle.site.specs.State.{State, Moment}
+use Rattle.site.specs.Moments.{since, works_in}
 use Rattle.site.specs.Faults.{Faults, faults_in, after_work, TellFaults, with_output_fault}
 use Rattle.site.specs.Laws.{stays_honest, fault_since, goes_in_sequence, goes_nowhere, unchanged_in_sequence}
 use Rattle.site.specs.Work.{Calls, OnlyReads}
@@ -142,3 +144,16 @@ looks_failed {A} {B} stop a b reads = record {
   device = λ d says. reads.device d (err_again stop (Device d) says);
   stops = reads.stops;
 }
+
+-- Writes and syncs.
+
+pub works_join : (first later : List Moment) → works_in (first ++ later) ≡ works_in first + works_in later
+works_join = sum_by-append (λ m. cond (length m.telling == 0) 1 0)
+
+-- there are no more of them than calls
+pub works_rise : (old new : State) → new.past ≡ old.past ++ since old new → works_in new.past + length old.past ≤ works_in old.past + length new.past
+works_rise old new grown =
+    let works = ap works_in grown ∙ works_join old.past (since old new) in
+    let calls = ap length grown ∙ length-append old.past (since old new) in
+    let few = count_by-le-length (λ m. length m.telling == 0) (since old new) in
+    omega (arith, works, calls, few)

@@ -1,6 +1,6 @@
 -- Statements over the moments of calls.
-use Rattle.std.specs.Prelude.{◌≡◌, ◌≢◌, List, [], ◌++◌, length, drop}
-use Rattle.std.specs.List.{AllByRecursion}
+use Rattle.std.specs.Prelude.{◌≡◌, ◌≢◌, ◌==◌, ℕ, List, [], ◌++◌, length, drop}
+use Rattle.std.specs.List.{AllByRecursion, count_by}
 use Rattle.site.specs.declared.outside.Dev.{Dev}
 use Rattle.site.specs.State.{State, Moment, Snapshot, MayLeave, content_of, loose_of, now_of}
 
@@ -11,6 +11,10 @@ Leaves P moment = (snapshot : Snapshot) → MayLeave moment snapshot → P snaps
 -- the moments within calls since then
 abbrev pub since : State → State → List Moment
 since old new = drop (length old.past) new.past
+
+-- how many of these moments are within writes and syncs: nothing is being told then, and within a tell a piece is
+abbrev pub works_in : List Moment → ℕ
+works_in moments = count_by (λ m. length m.telling == 0) moments
 
 -- Each moment within the calls from old to new has Q, and so has the one now. What a crash between two of the calls
 -- leaves, a crash within a call beside it leaves too, so these are all the moments from old to now.

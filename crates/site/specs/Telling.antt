@@ -1,6 +1,7 @@
 -- What telling leaves.
-use Rattle.std.specs.Prelude.{◌≡◌, ℕ, List, ◌++◌, take}
+use Rattle.std.specs.Prelude.{◌≡◌, ℕ, ◌+◌, ◌≤◌, List, ◌++◌, length, take}
 use Rattle.site.specs.State.{State, Moment}
+use Rattle.site.specs.Moments.{works_in}
 
 -- the devices, and the octets left to hear, are as they were
 pub record SameDevices (old new : State) : Type 0 where
@@ -13,3 +14,8 @@ pub record TellsPart (piece : List ℕ) (old : State) (moment : Moment) : Type 0
   pub image : moment.image ≡ old.image
   pub loose : moment.loose ≡ old.loose
   pub told : (j : ℕ) → (k : ℕ) × (moment.told ++ take j moment.telling ≡ old.told ++ take k piece)
+
+-- so many octets were told by no more calls, and none of these wrote or synced
+pub record TellsOnly (octets : ℕ) (old new : State) : Type 0 where
+  pub calls : length new.past ≤ length old.past + octets
+  pub works : works_in new.past ≡ works_in old.past

@@ -1,9 +1,9 @@
 // Telling a whole piece.
-ghost use Rattle.std.specs.Prelude.{◌≡◌, ◌+◌, ◌≤◌, ◌++◌, length, IsTrue, OnOk, OnErr};
+ghost use Rattle.std.specs.Prelude.{◌≡◌, ◌++◌, length, IsTrue, OnOk, OnErr};
 ghost use Rattle.site.specs.Calls.{Preserves, SameReads, Rose};
 ghost use Rattle.site.specs.Faults.{TellFaults};
 ghost use Rattle.site.specs.Moments.{EachMoment};
-ghost use Rattle.site.specs.Telling.{TellsPart, SameDevices};
+ghost use Rattle.site.specs.Telling.{TellsOnly, TellsPart, SameDevices};
 
 use crate::outside::{Failed, Site};
 
@@ -14,9 +14,9 @@ pub fn tell_all<S: Site>(site: &mut S, piece: &[u8]) -> Result<(), Failed>
         → EachMoment (S.state site.old) (S.state site.new) (TellsPart piece.now (S.state site.old)) }
     ensures told { IsTrue (S.state site.old).honest
         → OnOk result ((S.state site.new).told ≡ (S.state site.old).told ++ piece.now) }
-    // It takes no more calls than the piece has octets.
+    // It takes no more calls than the piece has octets, and none but tells.
     ensures past { IsTrue (S.state site.old).honest
-        → OnOk result (length (S.state site.new).past ≤ length (S.state site.old).past + length piece.now) }
+        → OnOk result (TellsOnly (length piece.now) (S.state site.old) (S.state site.new)) }
     ensures same { IsTrue (S.state site.old).honest → SameDevices (S.state site.old) (S.state site.new) }
     ensures reads { SameReads (S.state site.old) (S.state site.new) }
     ensures goes { Preserves (S.state site.old) (S.state site.new) }

@@ -1,3 +1,4 @@
+use Rattle.face.proofs.Appending.{stop_again}
 use Rattle.face.proofs.CallCounts.{calls_told}
 use Rattle.face.proofs.Counted.{counts_err, counts_told}
 use Rattle.face.proofs.Pagings.{serves_ok, serves_err, serves_lost}
@@ -97,3 +98,12 @@ returns-clause-numbers g c s fits quiet =
 
 pub returns-in-Ok-tell_reply-clause-fills : goal.returns-in-Ok-tell_reply-clause-fills
 returns-in-Ok-tell_reply-clause-fills g c s fits quiet = c.in-Ok.ensures.fills s fits quiet
+
+pub returns-in-Err-clause-appends : goal.returns-in-Err-clause-appends
+returns-in-Err-clause-appends g c s fits is = c.in-Err.ensures.appends s fits (stop_again c.in-Err.stop is)
+
+pub returns-in-Ok-tell_reply-clause-appends : goal.returns-in-Ok-tell_reply-clause-appends
+returns-in-Ok-tell_reply-clause-appends g c s fits is = cc
+
+pub returns-clause-appends : goal.returns-clause-appends
+returns-clause-appends g c s fits is = cc

@@ -78,3 +78,6 @@ returns-then-asks_for_listing-clause-log_reads g c s fits = omega arith
 
 pub returns-then-asks_for_listing-clause-fills : goal.returns-then-asks_for_listing-clause-fills
 returns-then-asks_for_listing-clause-fills g c s fits quiet = ok_same c.cache.result (line_octets s c.args.line) c.args.engine.now
+
+pub returns-then-asks_for_listing-clause-appends : goal.returns-then-asks_for_listing-clause-appends
+returns-then-asks_for_listing-clause-appends g c s fits is = let same = of_error c.cache.result (λ stop. stop ≡ Memory) (Worn Log) c.cache.ensures.stops is in absurd cc

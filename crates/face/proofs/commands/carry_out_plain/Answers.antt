@@ -1,5 +1,6 @@
 use Rattle.record_model.specs.declared.words.Command.TheVariants as command
 use Rattle.face.proofs.Fillings.{ok_room, ok_line, ok_fills, ok_forced, ok_begun, fills_same}
+use Rattle.face.proofs.Appending.{appends_line}
 use Rattle.face.proofs.Pagings.{idle_line}
 use Rattle.redo_undo.specs.MachineSteps.{StepsMachine}
 use Rattle.record_model.specs.Touches.{line_touches}
@@ -384,3 +385,42 @@ returns-in-Quit-clause-fills g c s fits quiet = fills_same _ c.args.engine.now
 
 pub returns-in_default-clause-fills : goal.returns-in_default-clause-fills
 returns-in_default-clause-fills g c s fits quiet = fills_same _ c.args.engine.now
+
+pub returns-in-Begin-clause-appends : goal.returns-in-Begin-clause-appends
+returns-in-Begin-clause-appends g c s fits = appends_line c.begin.result s c.args.line _ c.args.engine.now.store.pages (c.in-Some.is ∙ ap Some c.in-Begin.is) (c.begin.ensures.answers s fits).appends
+
+pub returns-in-Read-clause-appends : goal.returns-in-Read-clause-appends
+returns-in-Read-clause-appends g c s fits = appends_line c.read.result s c.args.line _ c.args.engine.now.store.pages (c.in-Some.is ∙ ap Some c.in-Read.is) (c.read.ensures.answers s fits).appends
+
+pub returns-in-Write-clause-appends : goal.returns-in-Write-clause-appends
+returns-in-Write-clause-appends g c s fits = appends_line c.write.result s c.args.line _ c.args.engine.now.store.pages (c.in-Some.is ∙ ap Some c.in-Write.is) (c.write.ensures.answers s fits).appends
+
+pub returns-in-Erase-clause-appends : goal.returns-in-Erase-clause-appends
+returns-in-Erase-clause-appends g c s fits = appends_line c.erase.result s c.args.line _ c.args.engine.now.store.pages (c.in-Some.is ∙ ap Some c.in-Erase.is) (c.erase.ensures.answers s fits).appends
+
+pub returns-in-Scan-clause-appends : goal.returns-in-Scan-clause-appends
+returns-in-Scan-clause-appends g c s fits = appends_line c.scan.result s c.args.line _ c.args.engine.now.store.pages (c.in-Some.is ∙ ap Some c.in-Scan.is) (c.scan.ensures.answers s fits).appends
+
+pub returns-in-Commit-clause-appends : goal.returns-in-Commit-clause-appends
+returns-in-Commit-clause-appends g c s fits = appends_line c.commit.result s c.args.line _ c.args.engine.now.store.pages (c.in-Some.is ∙ ap Some c.in-Commit.is) (c.commit.ensures.answers s fits).appends
+
+pub returns-in-Abort-clause-appends : goal.returns-in-Abort-clause-appends
+returns-in-Abort-clause-appends g c s fits = appends_line c.abort.result s c.args.line _ c.args.engine.now.store.pages (c.in-Some.is ∙ ap Some c.in-Abort.is) (c.abort.ensures.answers s fits).appends
+
+pub returns-in-Get-clause-appends : goal.returns-in-Get-clause-appends
+returns-in-Get-clause-appends g c s fits = appends_line c.get.result s c.args.line _ c.args.engine.now.store.pages (c.in-Some.is ∙ ap Some c.in-Get.is) (c.get.ensures.answers s fits).appends
+
+pub returns-in-Set-clause-appends : goal.returns-in-Set-clause-appends
+returns-in-Set-clause-appends g c s fits = appends_line c.set.result s c.args.line _ c.args.engine.now.store.pages (c.in-Some.is ∙ ap Some c.in-Set.is) (c.set.ensures.answers s fits).appends
+
+pub returns-in-Checkpoint-clause-appends : goal.returns-in-Checkpoint-clause-appends
+returns-in-Checkpoint-clause-appends g c s fits = appends_line c.checkpoint.result s c.args.line _ c.args.engine.now.store.pages (c.in-Some.is ∙ ap Some c.in-Checkpoint.is) (c.checkpoint.ensures.answers s fits).appends
+
+pub returns-in-Stat-clause-appends : goal.returns-in-Stat-clause-appends
+returns-in-Stat-clause-appends g c s fits is = cc
+
+pub returns-in-Quit-clause-appends : goal.returns-in-Quit-clause-appends
+returns-in-Quit-clause-appends g c s fits is = cc
+
+pub returns-in_default-clause-appends : goal.returns-in_default-clause-appends
+returns-in_default-clause-appends g c s fits is = cc

@@ -2,6 +2,7 @@ use Rattle.std.proofs.Common.{◌∙◌, ap, refl, sym, true≢false, [], arith}
 use Rattle.engine.specs.Invariant.{sizes_of}
 use Rattle.face.specs.declared.halt.Halt.TheVariants as halt
 use Rattle.face.proofs.Writings.{tells_none}
+use Rattle.face.proofs.Appending.{stop_again, within_line}
 use Rattle.face.proofs.Counted.{counts_as, counts_err, counts_line}
 use Rattle.std.specs.Prelude.{Ok}
 use Rattle.face.proofs.UntoldLines.{last_line, leaves_line, serves_line}
@@ -17,6 +18,7 @@ returns-in-Ok-clause-course g c =
       serves = λ s fits. serves_line _ s c.args.line c.args.engine.now.store.pages c.carry_out.new.engine.store.pages _ _ (serves_ok c.in-Ok.reply c.in-Ok.reply _ _ _ _ (g.S.Site.state c.args.site.now) (g.S.Site.state c.carry_out.new.site) (g.S.Site.state c.carry_out.new.site) (λ dev. refl) (c.carry_out.ensures.log_reads s fits) (λ honest. tells_none _) (c.in-Ok.ensures.asks s fits));
       numbers = λ s fits quiet. counts_line _ c.args.line _ _ _ _ s (counts_as c.in-Ok.reply (Ok c.in-Ok.reply) _ _ _ _ s _ _ (λ is. cc) (c.in-Ok.ensures.numbers s fits quiet));
       fills = λ s fits quiet. let fills = c.in-Ok.ensures.fills s fits quiet in omega (arith, fills);
+      appends = λ s fits is. cc;
       left = c.carry_out.ensures.left;
       stays_quiet = c.in-Ok.ensures.stays_quiet;
       quiet = λ s fits quiet. tt;
@@ -37,6 +39,7 @@ returns-in-Err-clause-course g c = record {
   serves = λ s fits. serves_line _ s c.args.line c.args.engine.now.store.pages c.carry_out.new.engine.store.pages _ _ (serves_err c.in-Err.stop _ _ _ _ _ _ (c.carry_out.ensures.log_reads s fits) (c.in-Err.ensures.asks s fits));
   numbers = λ s fits quiet. counts_line _ c.args.line _ _ _ _ s (counts_err c.in-Err.stop (halt.Stop c.in-Err.stop) _ _ _ _ s _ _ (λ is. cc) (c.in-Err.ensures.numbers s fits quiet));
   fills = λ s fits quiet. tt;
+  appends = λ s fits is. within_line s c.args.line c.args.engine.now.store.pages (c.in-Err.ensures.appends s fits (stop_again c.in-Err.stop is));
   left = c.carry_out.ensures.left;
   stays_quiet = λ honest quiet. tt;
   quiet = λ s fits quiet other. c.in-Err.ensures.quiet s fits quiet (λ d is. other d (ap halt.Stop is));

@@ -1,7 +1,7 @@
 use Rattle.std.proofs.Common.{◌≡◌, ◌+◌, ◌≤◌, ◌++◌, ◌∙◌, ℕ, List, length, ap, subst}
 use Rattle.site.specs.Laws.{stays_honest}
 use Rattle.site.specs.Moments.{EachMoment}
-use Rattle.site.specs.Telling.{TellsPart}
+use Rattle.site.specs.Telling.{TellsOnly, TellsPart}
 use Rattle.face.specs.Workload.{load_run, summary_of, summary_text}
 use Rattle.face.proofs.LoadFaults.{stopped_before, summary_lost, summed_up}
 use Rattle.face.proofs.load.load_and_tell.Goals as goal
@@ -23,7 +23,7 @@ returns-in-Ok-tell_all-clause-works g c geometry opening good =
     let honest = stays_honest old mid c.work.ensures.goes good.honest in
     summed_up load.pool run (summary_text run load) old c.in-Ok.counts mid new (c.in-Ok.ensures.works geometry opening good)
     (subst (λ (t : List ℕ). EachMoment mid new (TellsPart t mid)) text (c.tell_all.ensures.any_moment honest)) (c.tell_all.ensures.same honest) c.tell_all.ensures.reads _
-    (c.in-Ok-tell_all.ensures.told honest ∙ ap (λ (t : List ℕ). mid.told ++ t) text) (subst (λ (t : List ℕ). length new.past ≤ length mid.past + length t) text (c.in-Ok-tell_all.ensures.past honest))
+    (c.in-Ok-tell_all.ensures.told honest ∙ ap (λ (t : List ℕ). mid.told ++ t) text) (subst (λ (t : List ℕ). TellsOnly (length t) mid new) text (c.in-Ok-tell_all.ensures.past honest))
 
 pub returns-in-Err-tell_all-clause-works : goal.returns-in-Err-tell_all-clause-works
 returns-in-Err-tell_all-clause-works g c geometry opening good =

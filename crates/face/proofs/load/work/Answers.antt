@@ -63,7 +63,7 @@ returns-in-Ok-make_gets-clause-works g c geometry opening good =
     let start = begins geometry opening [] old good in
     let going = c.in-Ok.ensures.going run start in
     let pages : c.pages_of-pages.result ≡ geometry.pages = c.pages_of-pages.ensures.pages ∙ ap (λ (x : Geometry). x.pages) going.geometry in
-    load_finished geometry opening load old c.works_add_up.ensures.works c.works_add_up.ensures.reads mid new c.in-Ok.engine c.make_gets.new.engine going (c.in-Ok.ensures.paged run start) (c.in-Ok.ensures.counted run start) (c.open.ensures.reads run start) c.in-Ok.ensures.goes_on (c.open.ensures.left good.honest) c.queue_is_on_flash.ensures c.versions_are_seen.ensures (c.in-Ok.ensures.staged run start) (c.in-Ok.ensures.counted run start good.opens.newest good.opens.blocks good.opens.sound).past counts
+    load_finished geometry opening load old c.works_add_up.ensures.works c.works_add_up.ensures.reads mid new c.in-Ok.engine c.make_gets.new.engine going (c.in-Ok.ensures.paged run start) (c.in-Ok.ensures.counted run start) (c.open.ensures.reads run start) c.in-Ok.ensures.goes_on (c.open.ensures.left good.honest) c.queue_is_on_flash.ensures c.versions_are_seen.ensures (c.in-Ok.ensures.staged run start) (c.in-Ok.ensures.counted run start good.opens.newest good.opens.blocks good.opens.sound).units counts
     (subst (λ (n : ℕ). CarriesOut {T = Counts} (Ok counts) (set_lines (32 * n) load.seed load.count ++ get_lines (32 * n) load.seed load.count) c.in-Ok.engine c.make_gets.new.engine mid new) pages
     (carries_with c.in-Ok-make_gets.found counts (set_lines (32 * c.pages_of-pages.result) load.seed load.count ++ get_lines (32 * c.pages_of-pages.result) load.seed load.count) c.in-Ok.engine c.make_gets.new.engine mid new
     (carries_more c.works_add_up.ensures.works c.works_add_up.ensures.reads c.in-Ok-make_sets.made (Ok c.in-Ok-make_gets.found) (set_lines (32 * c.pages_of-pages.result) load.seed load.count) (get_lines (32 * c.pages_of-pages.result) load.seed load.count) c.in-Ok.engine c.make_sets.new.engine c.make_gets.new.engine mid then new (all_carried c.in-Ok-make_sets.made (set_lines (32 * c.pages_of-pages.result) load.seed load.count) c.in-Ok.engine c.make_sets.new.engine (g.S.Site.state c.open.new.site) (g.S.Site.state c.make_sets.new.site) c.in-Ok-make_sets.ensures.course) (all_carried c.in-Ok-make_gets.found (get_lines (32 * c.pages_of-pages.result) load.seed load.count) c.make_sets.new.engine c.make_gets.new.engine (g.S.Site.state c.make_sets.new.site) (g.S.Site.state c.make_gets.new.site) c.in-Ok-make_gets.ensures.course))))

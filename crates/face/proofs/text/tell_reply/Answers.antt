@@ -16,7 +16,7 @@ loop-place-init g c =
       reads = λ dev. refl;
       same = λ honest. record { image = refl; loose = refl; left = refl };
       told = λ honest. sym (append-nil old.told);
-      past = λ honest. omega arith;
+      past = λ honest. record { calls = omega arith; works = refl };
       moments = λ honest. no_call old (TellsPart (reply_text c.args.reply.now) old) (nothing_told (reply_text c.args.reply.now) old);
     }
 
@@ -45,7 +45,7 @@ loop-place-preserved g c =
           let octets = ap length piece in
           let all : length (first_of (place + 1) lines) ≡ length (first_of place lines) + length (get_or lines place []) =
           ap length (ap (λ (n : ℕ). first_of n lines) (add-one place) ∙ more.2) ∙ length-append (first_of place lines) (get_or lines place []) in
-          omega (arith, so_far, calls, octets, all);
+          record { calls = omega (arith, so_far.calls, calls.calls, octets, all); works = calls.works ∙ so_far.works };
       moments = λ honest.
           piece_told (first_of place lines) (get_or lines place []) more.0 (reply_text c.args.reply.now) old mid new more.1 (c.loop-place.invariant.same honest) (c.loop-place.invariant.told honest) (c.loop-place.invariant.moments honest)
           (subst (λ (t : List ℕ). EachMoment mid new (TellsPart t mid)) piece (c.tell_all.ensures.any_moment (stays_honest old mid c.loop-place.invariant.goes honest)));
@@ -69,7 +69,8 @@ returns-clause-past g c honest =
     let lines = reply_lines c.args.reply.now in
     let end : c.loop-place.place ≡ length lines = omega (arith, c.loop-place-test.false, c.loop-place.auto.place-end, c.line_count-place-end.ensures) in
     let whole = ap length (all_lines lines c.loop-place.place end) in
-    omega (arith, c.loop-place.invariant.past honest, whole)
+    let few = c.loop-place.invariant.past honest in
+    record { calls = omega (arith, few.calls, whole); works = few.works }
 
 pub returns-in-Err-clause-reads : goal.returns-in-Err-clause-reads
 returns-in-Err-clause-reads g c dev = c.tell_all.ensures.reads dev ∙ c.loop-place.invariant.reads dev

@@ -1,7 +1,7 @@
-use Rattle.std.proofs.Common.{◌≡◌, ◌+◌, ◌≤◌, ◌++◌, length, IsTrue}
+use Rattle.std.proofs.Common.{◌≡◌, ◌++◌, length, IsTrue}
 use Rattle.site.specs.Calls.{Preserves, SameReads}
 use Rattle.site.specs.Moments.{EachMoment}
-use Rattle.site.specs.Telling.{TellsPart, SameDevices}
+use Rattle.site.specs.Telling.{TellsOnly, TellsPart, SameDevices}
 use Rattle.shell_text.specs.Texts.{reply_text, reply_lines}
 use Rattle.face.proofs.Replies.{first_of}
 use Rattle.face.specs.Causes.{SameFaults}
@@ -17,6 +17,6 @@ invariant-loop-place g l =
       reads : SameReads old now;
       same : IsTrue old.honest → SameDevices old now;
       told : IsTrue old.honest → now.told ≡ old.told ++ first_of l.place (reply_lines l.reply);
-      past : IsTrue old.honest → length now.past ≤ length old.past + length (first_of l.place (reply_lines l.reply));
+      past : IsTrue old.honest → TellsOnly (length (first_of l.place (reply_lines l.reply))) old now;
       moments : IsTrue old.honest → EachMoment old now (TellsPart (reply_text l.reply) old);
     }

@@ -10,8 +10,8 @@ use Rattle.engine.specs.Image.{log_under}
 use Rattle.record_model.specs.Touches.{CacheWork}
 use Rattle.second_chance.specs.Machine.{after_works, rules_of}
 use Rattle.engine.specs.Paging.{HasLastFrom, cache_on}
-use Rattle.image_changes.proofs.Counting.{calls_then}
-use Rattle.face.proofs.CallCounts.{calls_heard}
+use Rattle.face.proofs.Appending.{appends_next}
+use Rattle.face.proofs.CallCounts.{units_heard}
 use Rattle.face.proofs.Counted.{counted_on, counts_next, counts_still, next_counted, wears_next}
 use Rattle.face.proofs.Writings.{engine_queue, last_heard}
 use Rattle.face.proofs.Pagings.{asked_with, log_reads_with, next_last, next_paged, next_reads, next_worn, paged_queue, paged_room, paged_versions, few_heard}
@@ -101,7 +101,7 @@ returns-in-End-clause-works g c =
           (λ newest blocks sound. last_heard run.geometry (rules_of c.args.pool run.geometry.groups) (asked_after run newest entry.image blocks c.loop-line._line) (cache_on run.geometry entry.image) entry mid next (c.next.ensures.same honest) (c.loop-line.invariant.staged run begins newest blocks sound))
           (λ newest blocks sound. seals_no_more c.args.pool run c.loop-line._line newest blocks entry mid next.image c.loop-line.engine next refl going.geometry going.fits (engine_goes_on c.loop-line.engine mid next c.loop-line.invariant.engine c.next.ensures.goes) (c.loop-line.invariant.paged run begins newest blocks sound)
           (c.loop-line.invariant.counted run begins newest blocks sound))
-          (calls_then run.geometry entry mid next (c.loop-line.invariant.counted run begins begins.opens.newest begins.opens.blocks begins.opens.sound).past (calls_heard run.geometry mid next (c.next.ensures.same honest)))
+          (units_heard (first_lines run c.loop-line._line) entry mid next (c.next.ensures.same honest) (c.loop-line.invariant.counted run begins begins.opens.newest begins.opens.blocks begins.opens.sound).units)
           (λ newest blocks sound. counts_still run (log_under newest blocks) entry mid next c.loop-line._line (c.next.ensures.same honest) (c.loop-line.invariant.counted run begins newest blocks sound).numbers),
     )
 
@@ -137,6 +137,7 @@ returns-in-Err-answer-clause-works g c =
           (begun_after run entry next c.loop-line.engine i going new c.in-Line.line _ is (c.answer.ensures.any_moment (state_at run i) (listing_at run i) asked going.fits going.quiet)) (answer_takes_nothing c.in-Err-answer.halt c.loop-line.engine next new c.in-Err-answer.ensures.cause)
           (λ worn newest blocks sound. next_worn c.args.pool run newest entry.image blocks c.works_add_up.ensures.works i c.in-Line.line _ is c.loop-line.engine (c.loop-line.invariant.paged run begins newest blocks sound) ((c.in-Err-answer.ensures.asks (state_at run i) going.fits).worn (ap Err worn)))
           (λ worn newest blocks sound. wears_next run (log_under newest blocks) entry mid next new c.loop-line.engine c.answer.new.engine i c.in-Line.line _ is (c.next.ensures.same honest) going.geometry (c.loop-line.invariant.counted run begins newest blocks sound) _ (c.in-Err-answer.ensures.numbers (state_at run i) going.fits going.quiet) (ap Err worn))
+          (λ worn. appends_next c.args.pool run entry.image c.works_add_up.ensures.works i c.in-Line.line _ is c.loop-line.engine (c.loop-line.invariant.paged run begins) (c.in-Err-answer.ensures.appends (state_at run i) going.fits (ap Err worn)))
           (λ newest blocks sound. counts_next run (log_under newest blocks) entry mid next new c.loop-line.engine c.answer.new.engine i c.in-Line.line _ is (c.next.ensures.same honest) going.geometry (c.loop-line.invariant.counted run begins newest blocks sound) _ (c.in-Err-answer.ensures.numbers (state_at run i) going.fits going.quiet)),
     )
 
@@ -320,7 +321,7 @@ returns-then-last-clause-works g c =
           ((c.answer.ensures.asks (state_at run i) going.fits).writes (engine_queue c.loop-line.engine next (state_at run i) (engine_goes_on c.loop-line.engine mid next c.loop-line.invariant.engine c.next.ensures.goes) going.fits) going.quiet) (c.loop-line.invariant.staged run begins newest blocks sound)
           ((c.in_default.ensures.asks (state_at run i) going.fits).last (engine_queue c.loop-line.engine next (state_at run i) (engine_goes_on c.loop-line.engine mid next c.loop-line.invariant.engine c.next.ensures.goes) going.fits) going.quiet))
           (λ newest blocks sound. seals_no_more c.args.pool run (suc i) newest blocks entry new new.image c.answer.new.engine new refl gone.geometry gone.fits c.in_default.ensures.going (next_paged c.args.pool run newest entry.image blocks c.works_add_up.ensures.works i c.in-Line.line _ is c.loop-line.engine (c.loop-line.invariant.paged run begins newest blocks sound) c.in_default.field-0 c.answer.new.engine next new (c.in_default.ensures.asks (state_at run i) going.fits)) (next_counted run (log_under newest blocks) entry mid next new c.loop-line.engine c.answer.new.engine i c.in-Line.line _ is (c.next.ensures.same honest) going.geometry (c.loop-line.invariant.counted run begins newest blocks sound) c.in_default.field-0 (c.in_default.ensures.numbers (state_at run i) going.fits going.quiet) (c.in_default.ensures.fills (state_at run i) going.fits going.quiet)))
-          (next_counted run (log_under begins.opens.newest begins.opens.blocks) entry mid next new c.loop-line.engine c.answer.new.engine i c.in-Line.line _ is (c.next.ensures.same honest) going.geometry (c.loop-line.invariant.counted run begins begins.opens.newest begins.opens.blocks begins.opens.sound) c.in_default.field-0 (c.in_default.ensures.numbers (state_at run i) going.fits going.quiet) (c.in_default.ensures.fills (state_at run i) going.fits going.quiet)).past
+          (next_counted run (log_under begins.opens.newest begins.opens.blocks) entry mid next new c.loop-line.engine c.answer.new.engine i c.in-Line.line _ is (c.next.ensures.same honest) going.geometry (c.loop-line.invariant.counted run begins begins.opens.newest begins.opens.blocks begins.opens.sound) c.in_default.field-0 (c.in_default.ensures.numbers (state_at run i) going.fits going.quiet) (c.in_default.ensures.fills (state_at run i) going.fits going.quiet)).units
           (λ newest blocks sound. (next_counted run (log_under newest blocks) entry mid next new c.loop-line.engine c.answer.new.engine i c.in-Line.line _ is (c.next.ensures.same honest) going.geometry (c.loop-line.invariant.counted run begins newest blocks sound) c.in_default.field-0 (c.in_default.ensures.numbers (state_at run i) going.fits going.quiet) (c.in_default.ensures.fills (state_at run i) going.fits going.quiet)).numbers),
     )
 

@@ -11,7 +11,7 @@ use Rattle.page_store.proofs.StagingLaws.{stages_as}
 use Rattle.redo_undo.proofs.Costs.{touched_next}
 use Rattle.second_chance.specs.Machine.{rules_of, staged_by}
 use Rattle.page_store.specs.Caching.{cache_of, rules, pushes, next_group}
-use Rattle.redo_undo.proofs.Fillings.{forced_pushes, touch_finds_room, used_where}
+use Rattle.redo_undo.proofs.Fillings.{forced_pushes, forced_touch, touch_finds_room, used_where}
 use Rattle.redo_undo.proofs.Asking.{touch_overflows, touch_reads}
 use Rattle.image_meaning.specs.Meaning.{kept_by}
 use Rattle.redo_undo.proofs.UndoneNumbers.{skips_touch}
@@ -94,9 +94,12 @@ returns g c =
           let ready = h.log_holds.ready in
           let list : LogList = record { first = kept_by newest; blocks = h.log_holds.blocks; tail = h.log_holds.tail } in
           let old = ready.records.tail.end in
-          touch_finds_room c.touch.result sealing (pushes (rules pages) c.args.page (cache_of pages)) (forced_pushes log pages c.args.page) log c.touch.new.log pages c.touch.new.self c.requires.going.log_going.low c.touch.ensures.works.forces.next
-          (ok_as c.touch.result _ _ (λ stands. stands.ready.records.tail.end ∙ used_where sealing list ∙ ap (λ (n : ℕ). if sealing then 2 else n) (sym old)) (c.touch.ensures.stands list ready))
-          (ok_as c.touch.result _ _ (λ machine. ap next_group machine ∙ touched_next (rules pages) c.args.page false (cache_of pages) (some_group c.requires.going)) c.touch.ensures.machine);
+          record {
+            room = touch_finds_room c.touch.result sealing (pushes (rules pages) c.args.page (cache_of pages)) (forced_pushes log pages c.args.page) log c.touch.new.log pages c.touch.new.self c.requires.going.log_going.low c.touch.ensures.works.forces.next
+                (ok_as c.touch.result _ _ (λ stands. stands.ready.records.tail.end ∙ used_where sealing list ∙ ap (λ (n : ℕ). if sealing then 2 else n) (sym old)) (c.touch.ensures.stands list ready))
+                (ok_as c.touch.result _ _ (λ machine. ap next_group machine ∙ touched_next (rules pages) c.args.page false (cache_of pages) (some_group c.requires.going)) c.touch.ensures.machine);
+            worn = λ is. forced_touch log pages c.args.page (some_group c.requires.going) (c.touch.ensures.worn.worn_log is).0;
+          };
       front = search rules;
       there = search rules;
       logs_nothing = grind (arith, common_steps);

@@ -1,7 +1,7 @@
-use Rattle.std.proofs.Common.{◌∙◌, arith}
+use Rattle.std.proofs.Common.{◌∙◌, ap, length, length-drop, arith}
 use Rattle.std.proofs.lemmas.List.{take_rest}
 use Rattle.site.specs.Laws.{stays_honest, goes_in_sequence, one_call_more}
-use Rattle.site.proofs.Tells.{one_tell, told_more}
+use Rattle.site.proofs.Tells.{one_tell, told_more, tell_no_work}
 use Rattle.site.proofs.telling.tell_all.Goals as goal
 
 pub returns-in-Err-clause-any_moment : goal.returns-in-Err-clause-any_moment
@@ -28,7 +28,12 @@ loop-at-preserved g c =
       same = λ honest. let t = c.tell.ensures.told (stays_honest old mid i.goes honest) in record { image = t.image ∙ (i.same honest).image; loose = t.loose ∙ (i.same honest).loose; left = t.left ∙ (i.same honest).left };
       told = λ honest. told_more c.args.piece.now c.loop-at.at _ old mid new c.in-Ok.count rest (i.told honest) (c.in-Ok.ensures.told (stays_honest old mid i.goes honest)).told;
       past = λ honest.
-          let more = one_call_more _ mid new (c.in-Ok.ensures.told (stays_honest old mid i.goes honest)).past_ok in
-          omega (arith, more, i.past honest, c.in-Ok.ensures.at_least);
+          let adds = (c.in-Ok.ensures.told (stays_honest old mid i.goes honest)).past_ok in
+          let more = one_call_more _ mid new adds in
+          let some = ap length rest ∙ length-drop c.loop-at.at c.args.piece.now in
+          record {
+            calls = let few = (i.past honest).calls in omega (arith, more, few, c.in-Ok.ensures.at_least);
+            works = tell_no_work _ mid new (omega (arith, some, c.loop-at-test.true)) adds ∙ (i.past honest).works;
+          };
       any_moment = λ honest. one_tell c.args.piece.now c.loop-at.at _ old mid new c.tell.result rest (i.same honest) (i.told honest) (i.any_moment honest) (c.tell.ensures.told (stays_honest old mid i.goes honest));
     }

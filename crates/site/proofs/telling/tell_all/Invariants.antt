@@ -1,8 +1,8 @@
-use Rattle.std.proofs.Common.{◌≡◌, ◌++◌, ◌+◌, ◌-◌, ◌≤◌, length, take, IsTrue}
+use Rattle.std.proofs.Common.{◌≡◌, ◌++◌, ◌-◌, ◌≤◌, length, take, IsTrue}
 use Rattle.site.specs.Calls.{Preserves, SameReads}
 use Rattle.site.specs.Faults.{faults_in}
 use Rattle.site.specs.Moments.{EachMoment}
-use Rattle.site.specs.Telling.{TellsPart, SameDevices}
+use Rattle.site.specs.Telling.{TellsOnly, TellsPart, SameDevices}
 use Rattle.site.proofs.telling.tell_all.Given as goal
 
 abbrev pub invariant-loop-at : goal.invariant-loop-at
@@ -16,7 +16,7 @@ invariant-loop-at g l =
       faults : faults_in now ≡ faults_in old;
       same : IsTrue old.honest → SameDevices old now;
       told : IsTrue old.honest → now.told ≡ old.told ++ take l.at l.piece;
-      past : IsTrue old.honest → length now.past ≤ length old.past + l.at;
+      past : IsTrue old.honest → TellsOnly l.at old now;
       any_moment : IsTrue old.honest → EachMoment old now (TellsPart l.piece old);
     }
 

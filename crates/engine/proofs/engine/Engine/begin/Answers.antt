@@ -6,7 +6,7 @@ use Rattle.record_model.specs.declared.words.Command.TheVariants.{Begin}
 use Rattle.engine.specs.Invariant.{sizes_of}
 use Rattle.engine.specs.Representation.{checkpointed_if}
 use Rattle.engine.specs.Leaves.{LeavesTable}
-use Rattle.engine.proofs.Calling.{serves_then, first_then, first_failed, late_table}
+use Rattle.engine.proofs.Calling.{serves_then, first_then, first_failed, late_table, wanted_to_fail}
 use Rattle.engine.proofs.engine.Engine.begin.Goals as goal
 
 pub returns-in-Ok-clause-answers : goal.returns-in-Ok-clause-answers
@@ -18,7 +18,7 @@ returns-in-Ok-clause-answers g c s fits =
 pub returns-in-Err-clause-answers : goal.returns-in-Err-clause-answers
 returns-in-Err-clause-answers g c s fits =
     let old = g.S.Site.state c.args.site.now in
-    first_failed (Begin c.args.session) (c.wants_checkpoint_to_begin-wanted.ensures s old fits) (λ o. LeavesTable (sizes_of c.args.self.now.store) s.table s.commits old.told) c.requires.going
+    first_failed (Begin c.args.session) (c.wants_checkpoint_to_begin-wanted.ensures s old fits) (λ o. LeavesTable (sizes_of c.args.self.now.store) s.table s.commits old.told) (wanted_to_fail _ c.in-Err.ensures.rest c.in-Err.ensures.ended c.requires.going.going) c.requires.going
     (λ x p. p) (c.in-Err.ensures.does s fits) c.in-Err.ensures.asks
 
 pub returns-in-Ok-clause-serves : goal.returns-in-Ok-clause-serves

@@ -1,3 +1,4 @@
+use Rattle.redo_undo.proofs.Fillings.{groups_ok, groups_err}
 use Rattle.redo_undo.specs.MachineSteps.{one_touch}
 use Rattle.redo_undo.proofs.Asking.{asks_ok}
 use Rattle.std.proofs.Common.{◌≡◌, ◌*◌, ◌<◌, None, sym, ap, ◌∙◌, arith, ◌/◌, rules}
@@ -31,9 +32,12 @@ returns-in-Ok g c =
           does_of (omega arith) (touched_fits c.args.self.now c.touch.new.self _ _ s fits (stays_honest _ _ c.touch.ensures.works.calls.goes fits.honest) holds c.touch.ensures.made)
           (keeps_answered (c.in-Ok.ensures.keeps fits.newest fits.records s.table s.commits fits.holds));
       serves = record { keeps = search rules; log_reads = c.touch.ensures.log_reads };
-      fills = λ s fits. c.in-Ok.ensures.fills fits.newest fits.records s.table s.commits fits.holds;
+      fills = λ s fits. groups_ok (c.in-Ok.ensures.fills fits.newest fits.records s.table s.commits fits.holds).room;
       asks = asks_ok c.in-Ok.field-0 _ (one_touch (c.args.number / 32)) _ _ _ _ c.in-Ok.ensures.asks;
     }
 
 pub returns-in-Err-clause-does : goal.returns-in-Err-clause-does
 returns-in-Err-clause-does g c s fits = does_of (omega arith) tt (keeps_failed (c.in-Err.ensures.keeps fits.newest fits.records s.table s.commits fits.holds))
+
+pub returns-in-Err-clause-fills : goal.returns-in-Err-clause-fills
+returns-in-Err-clause-fills g c s fits = groups_err (c.in-Err.ensures.fills fits.newest fits.records s.table s.commits fits.holds)

@@ -68,7 +68,7 @@ returns-in-Ok-update g c =
     let owed_is = c.wrote.ensures.owed in
     record {
       done = search rules;
-      fills = λ s fits. room_then (c.in-Ok.ensures.fills fits.newest fits.records s.table s.commits fits.holds) c.in-Ok-update.ensures.fills;
+      fills = λ s fits. room_then (c.in-Ok.ensures.fills fits.newest fits.records s.table s.commits fits.holds).room c.in-Ok-update.ensures.fills;
       does = λ s fits.
           let holds = c.in-Ok.ensures.holds fits.newest fits.records s.table s.commits fits.holds in
           let fits_mid : Matches mid new s = touched_fits engine c.touch.new.self old new s fits (stays_honest old new c.touch.ensures.works.calls.goes fits.honest) holds c.touch.ensures.made in

@@ -8,7 +8,7 @@ use Rattle.engine.specs.Leaves.{LeavesEither}
 use Rattle.site.proofs.Working.{err_again}
 use Rattle.engine.proofs.Asking.{has_group}
 use Rattle.engine.proofs.Firsts.{overflows_before}
-use Rattle.engine.proofs.Calling.{serves_then, first_then, first_failed, early, late_either}
+use Rattle.engine.proofs.Calling.{serves_then, first_then, first_failed, early, late_either, wanted_to_fail}
 use Rattle.engine.proofs.engine.Engine.set.Goals as goal
 
 pub returns-in-Ok-clause-answers : goal.returns-in-Ok-clause-answers
@@ -21,7 +21,7 @@ returns-in-Ok-clause-answers g c s fits =
 pub returns-in-Err-clause-answers : goal.returns-in-Err-clause-answers
 returns-in-Err-clause-answers g c s fits =
     let old = g.S.Site.state c.args.site.now in
-    first_failed (Set c.args.number c.args.value.now) (c.wants_checkpoint_to_set-wanted.ensures s old fits) (λ o. LeavesEither (sizes_of c.args.self.now.store) s o.after old.told) c.requires.going
+    first_failed (Set c.args.number c.args.value.now) (c.wants_checkpoint_to_set-wanted.ensures s old fits) (λ o. LeavesEither (sizes_of c.args.self.now.store) s o.after old.told) (wanted_to_fail _ c.in-Err.ensures.rest c.in-Err.ensures.ended c.requires.going.going) c.requires.going
     (early (sizes_of c.args.self.now.store) s _ old.told) (c.in-Err.ensures.does s fits) c.in-Err.ensures.asks
 
 pub returns-in-Err-clause-worn_flash : goal.returns-in-Err-clause-worn_flash

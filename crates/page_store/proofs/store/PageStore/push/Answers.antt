@@ -178,7 +178,7 @@ returns-in-Ok g c =
             gives = gives;
             reaches = made;
             past = push_calls h list sealing (changes_of_group store.flash old.image pages changed contents) log.ring.hi log'.ring.hi old mid new made (paid_group store.flash old.image pages changed contents)
-                c.in-Ok.ensures.forces.next (c.in-Ok.ensures.past ready.blocks.honest) past (own.told ∙ b.told);
+                c.in-Ok.ensures.forces.next (c.in-Ok.ensures.past ready.blocks.honest) past (own.told ∙ b.told) (c.force_for.ensures.changes ready.blocks.honest).only.grown own.log.grown;
             leaves = λ given are given_clean. pushed_pages store.flash groups pages changed contents old mid new b.flash b.disk b.told c.ring_kept.ensures
                 (masters_kept c.ring_kept.ensures h (first list) old (snapshot_of mid) (own_sealing sealing list) (reached_all h (first list) old mid b.told (reached list ready))) given sealing list are (sealed_blocks list ready)
                 (snapshot_of new) now (clean (cleaned given_clean)) (reached_all h _ mid new own.told reaches);
