@@ -5,8 +5,6 @@
 mod analysis;
 mod laws;
 mod table;
-#[cfg(test)]
-mod tests;
 
 pub use analysis::{Analysis, Loser};
 pub use laws::{losers_are_taken, sound_log_steps, table_of_records};

@@ -5,8 +5,6 @@
 mod fields;
 mod frame_head;
 mod laws;
-#[cfg(test)]
-mod tests;
 
 pub use fields::{get_u16, get_u32, get_u64, put_u16, put_u32, put_u64};
 pub use frame_head::{

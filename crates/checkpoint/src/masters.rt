@@ -89,6 +89,8 @@ pub fn newest<S: Site>(site: &mut S) -> Result<(Ring, Master), Stop>
     ensures ready { IsTrue (S.state site.old).honest → IsSettled Dev.Log (S.state site.old)
         → IsRing master_shape (S.state site.old).image.log
         → IfOk result (λ found. IsReady found.0 (S.state site.new)) }
+    ensures fits { IsTrue (S.state site.old).honest
+        → IfOk result (λ found. Matches found.0 (S.state site.new)) }
     ensures same { IsTrue (S.state site.old).honest
         → IsUnchanged (S.state site.old) (S.state site.new) }
 
@@ -150,6 +152,8 @@ pub fn save<S: Site>(site: &mut S, ring: &mut Ring, master: &Master) -> Result<(
         → OnOk result (SameOutside master_shape (S.state site.old).image.log (S.state site.new).image.log) }
     ensures changes { IsTrue (S.state site.old).honest
         → ChangesOnly Dev.Log (S.state site.old) (S.state site.new) }
+    ensures fits { IsTrue (S.state site.old).honest → Matches ring.old (S.state site.old)
+        → OnOk result (Matches ring.new (S.state site.new)) }
     ensures settled { IsTrue (S.state site.old).honest → OnOk result (IsSettled Dev.Log (S.state site.new)) }
     ensures quiet { IsTrue (S.state site.old).honest → IsQuiet (S.state site.old)
         → OnOk result (IsQuiet (S.state site.new)) }

@@ -3,8 +3,6 @@
 
 mod laws;
 mod pages;
-#[cfg(test)]
-mod tests;
 
 pub use laws::{others_stay, page_is_written, page_stays};
 pub use pages::{PAGE_LEN, read_page, sync_disk, write_page};

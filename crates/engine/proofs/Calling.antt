@@ -43,6 +43,7 @@ use Rattle.site.proofs.Working.{no_error, calls_nothing, calls_then, calls_faile
 use Rattle.site.specs.Work.{Calls}
 use Rattle.redo_undo.specs.StoreCalls.{KeepsInvariant, Keeps}
 use Rattle.redo_undo.proofs.Endings.{ends_behind, ends_failed, ends_leaving, ends_no_memory, ends_ok, leaves_late}
+use Rattle.redo_undo.proofs.NextUnits.{next_then, next_failed, next_answered, next_nothing, next_refused}
 use Rattle.page_store.proofs.StagingLaws.{stages_none}
 use Rattle.redo_undo.proofs.Asking.{asks_nothing, asks_same, asks_then, asks_stopped}
 
@@ -82,7 +83,7 @@ early g s after so_far snapshot q = record { told = q.told; stands = inl q.stand
 -- The database.
 
 pub serves_of : {T : Type 0} {r : Result T Stop} {old new : Engine} {before now : Site} {n : ℕ} → KeepsInvariant r old.store new.store before now n → OnOk r (Invariant new now) → KeepsEngine r old new before now
-serves_of works going = record { calls = works.calls; going = going; sizes = works.sizes; stops = works.stops }
+serves_of works going = record { calls = works.calls; going = going; sizes = works.sizes; stops = works.stops; next = works.next }
 
 -- the sessions stay as they were, and there is room for the records that it makes
 pub serves_still : {T : Type 0} {a : T} {old new : Engine} {before now : Site} {n : ℕ} → Invariant old before → KeepsInvariant {T = T} (Ok a) old.store new.store before now n → new.ended ≡ old.ended → new.cap ≡ old.cap → new.active ≡ old.active →
@@ -107,23 +108,29 @@ serves_still going works ended cap active few commits =
 
 -- and no record of the log is read
 pub serves_then : {A B : Type 0} {a : A} {r : Result B Stop} {old mid new : Engine} {before between now : Site} → KeepsUnread {T = A} (Ok a) old mid before between → KeepsUnread r mid new between now → KeepsUnread r old new before now
-serves_then first second = record {
-  keeps = record { calls = calls_then first.calls second.calls; going = second.going; sizes = second.sizes ∙ first.sizes; stops = second.stops };
+serves_then {before = before} {between = between} first second = record {
+  keeps = record {
+    calls = calls_then first.calls second.calls;
+    going = second.going;
+    sizes = second.sizes ∙ first.sizes;
+    stops = second.stops;
+    next = λ honest. next_then first.sizes (first.next honest) (second.next (stays_honest before between first.calls.goes honest));
+  };
   log_reads = second.log_reads ∙ first.log_reads;
 }
 
 pub serves_failed : {A B : Type 0} {stop : Stop} {old new : Engine} {before now : Site} → KeepsUnread {T = A} (Err stop) old new before now → KeepsUnread {T = B} (Err stop) old new before now
-serves_failed first = record { keeps = record { calls = calls_failed first.calls; going = tt; sizes = first.sizes; stops = first.stops }; log_reads = first.log_reads }
+serves_failed first = record { keeps = record { calls = calls_failed first.calls; going = tt; sizes = first.sizes; stops = first.stops; next = λ honest. next_failed (first.next honest) }; log_reads = first.log_reads }
 
 -- log and pages stop
 pub serves_stopped : {A B : Type 0} {stop : Stop} {old new : Engine} {before now : Site} {n : ℕ} → KeepsInvariant {T = A} (Err stop) old.store new.store before now n → now.log_reads ≡ before.log_reads → KeepsUnread {T = B} (Err stop) old new before now
-serves_stopped works read = record { keeps = record { calls = calls_failed works.calls; going = tt; sizes = works.sizes; stops = works.stops }; log_reads = read }
+serves_stopped works read = record { keeps = record { calls = calls_failed works.calls; going = tt; sizes = works.sizes; stops = works.stops; next = λ honest. next_failed (works.next honest) }; log_reads = read }
 
 pub serves_answered : {A B : Type 0} {a : A} {b : B} {old new : Engine} {before now : Site} → KeepsUnread {T = A} (Ok a) old new before now → KeepsUnread {T = B} (Ok b) old new before now
-serves_answered first = record { keeps = record { calls = calls_answered first.calls; going = first.going; sizes = first.sizes; stops = tt }; log_reads = first.log_reads }
+serves_answered first = record { keeps = record { calls = calls_answered first.calls; going = first.going; sizes = first.sizes; stops = tt; next = λ honest. next_answered (first.next honest) }; log_reads = first.log_reads }
 
 pub serves_nothing : {T : Type 0} {x : T} {engine : Engine} {site : Site} → Invariant engine site → KeepsUnread {T = T} (Ok x) engine engine site site
-serves_nothing going = record { keeps = record { calls = calls_nothing; going = going; sizes = refl; stops = tt }; log_reads = refl }
+serves_nothing going = record { keeps = record { calls = calls_nothing; going = going; sizes = refl; stops = tt; next = λ honest. next_nothing }; log_reads = refl }
 
 -- what log and pages keep, as what the database does
 pub does_of : {T : Type 0} {r : Result T Stop} {old new : Engine} {before now : Site} {s after : State} {P : Snapshot → Type 0} {n m : ℕ} → s.made + n ≤ after.made → OnOk r (Matches new now after) →
@@ -264,9 +271,18 @@ calls_no_memory {stop = stop} memory first = calls_refused {stop = stop} (λ d i
 
 pub serves_no_memory : {A B : Type 0} {a : A} {stop : Stop} {old new : Engine} {before now : Site} → stop ≡ Memory → KeepsUnread {T = A} (Ok a) old new before now → KeepsUnread {T = B} (Err stop) old new before now
 serves_no_memory memory first = record {
-  keeps = record { calls = calls_no_memory memory first.calls; going = tt; sizes = first.sizes; stops = subst MayStop (sym memory) tt };
+  keeps = record {
+    calls = calls_no_memory memory first.calls;
+    going = tt;
+    sizes = first.sizes;
+    stops = subst MayStop (sym memory) tt;
+    next = λ honest. next_refused (λ d is. never (sym memory ∙ is)) (first.next honest);
+  };
   log_reads = first.log_reads;
 }
+  where
+    never : {d : Dev} → Memory ≡ Worn d → ⊥
+    never is = cc
 
 pub does_no_memory : {A B : Type 0} {a : A} {stop : Stop} {old new : Engine} {before now : Site} {s after after' : State} {P : Snapshot → Type 0} {m : ℕ} → stop ≡ Memory → IsTrue before.honest → after.made ≤ after'.made →
     KeepsUnread {T = A} (Ok a) old new before now → Does {T = A} (Ok a) old new before now s after P m → Does {T = B} (Err stop) old new before now s after' P m

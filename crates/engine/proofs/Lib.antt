@@ -14,6 +14,7 @@ pub mod Openings
 pub mod Queues
 pub mod Recovers
 pub mod Replies
+pub mod RestartedUnits
 pub mod Scans
 pub mod Settings
 pub mod Starts

@@ -1,5 +1,5 @@
 -- What the calls of a run say, each as one record with the call's result as its index.
-use Rattle.std.specs.Prelude.{◌≡◌, List, Result, IfOk, OnOk, IfErr, IsErrOf, ℕ}
+use Rattle.std.specs.Prelude.{◌≡◌, List, IsTrue, Result, IfOk, OnOk, IfErr, IsErrOf, ℕ}
 use Rattle.site.specs.declared.outside.Dev.TheVariants.{Log}
 use Rattle.site.specs.declared.outside.Stop.{Stop}
 use Rattle.site.specs.declared.outside.Stop.TheVariants.{Worn}
@@ -10,6 +10,7 @@ use Rattle.record_model.specs.Touches.{CacheWork}
 use Rattle.record_model.specs.declared.words.Reply.{Reply}
 use Rattle.page_store.specs.Stopping.{MayStop}
 use Rattle.redo_undo.specs.MachineSteps.{StepsMachine}
+use Rattle.redo_undo.specs.StoreCalls.{KeepsNext}
 pub use Rattle.site.specs.Work.{Calls}
 pub use Rattle.redo_undo.specs.Calls.{Ends}
 use Rattle.engine.specs.declared.engine.Engine.{Engine}
@@ -23,6 +24,7 @@ pub record KeepsEngine {T : Type 0} (result : Result T Stop) (old new : Engine) 
   pub going : OnOk result (Invariant new now)
   pub sizes : sizes_of new.store ≡ sizes_of old.store
   pub stops : IfErr result (λ stop. MayStop stop)
+  pub next : IsTrue before.honest → KeepsNext result old.store new.store before now
 
 -- The same of a call that reads no record of the log.
 pub record KeepsUnread {T : Type 0} (result : Result T Stop) (old new : Engine) (before now : Site) : Type 0 where

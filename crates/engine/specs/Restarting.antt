@@ -1,6 +1,9 @@
 -- What a restart leaves.
-use Rattle.std.specs.Prelude.{◌≡◌, ◌+◌, ◌<◌, ◌≤◌, false, List, length, Option, Result, IfOk, IfErr, OnOk, ℕ}
+use Rattle.std.specs.Prelude.{◌≡◌, ◌+◌, ◌<◌, ◌≤◌, false, List, length, Option, Result, IfOk, IfErr, OnOk, IsErrOf, ℕ}
+use Rattle.site.specs.declared.outside.Dev.{Dev}
 use Rattle.site.specs.declared.outside.Stop.{Stop}
+use Rattle.site.specs.declared.outside.Stop.TheVariants.{Worn}
+use Rattle.site.specs.declared.geometry.Geometry.{Geometry}
 use Rattle.site.specs.State.{State, IsQuiet}
 use Rattle.sealed_ring.specs.Ready.{IsUsable, Finds}
 use Rattle.record_model.specs.State.{Content}
@@ -15,12 +18,14 @@ use Rattle.log_store.specs.Representation.{end_of}
 use Rattle.page_store.specs.Stopping.{MayStop}
 use Rattle.page_store.specs.Caching.{cache_of, rules}
 use Rattle.redo_undo.specs.Holding as both
-use Rattle.redo_undo.specs.Holding.{blocks_to}
+use Rattle.redo_undo.specs.Holding.{blocks_to, IsSpent}
 use Rattle.redo_undo.specs.Redoing.{IsOpened}
 use Rattle.engine.specs.declared.restart.Opened.{Opened}
 use Rattle.engine.specs.declared.restart.Restarted.{Restarted}
 use Rattle.engine.specs.Invariant.{sizes_of}
 use Rattle.redo_undo.specs.Stores.{MayWork, Represents}
+use Rattle.redo_undo.specs.StoreCalls.{AreNext}
+use Rattle.redo_undo.specs.declared.store.Store.{Store}
 use Rattle.engine.specs.Image.{log_under}
 use Rattle.engine.specs.Leaves.{LeavesTable}
 use Rattle.engine.specs.Calls.{Ends}
@@ -85,6 +90,17 @@ pub record Recovers (result : Result Restarted Stop) (opened : Opened) (before n
   pub last : IsQuiet before → OnOk result (HasLastFrom opened.pages.flash.geometry (rules opened.pages)
       (restart_works (picture_under newest opened.pages.flash.geometry before.image blocks))
       (cache_of opened.pages) before now)
+
+-- what was opened, as a store of which nothing was redone yet
+abbrev pub found_store : Opened → Store
+found_store opened = record { log = opened.log; pages = opened.pages; masters = opened.masters; made = 0 }
+
+-- What a restart leaves of an honest site of these sizes, whatever stood there: the next units of the rings are those
+-- of the content, and a device is worn only where a ring of it is spent.
+pub record LeavesNext {T : Type 0} (result : Result T Stop) (store_of : T → Store) (g : Geometry)
+    (now : State) : Type 0 where
+  pub next : IfOk result (λ x. AreNext (store_of x) now × (sizes_of (store_of x) ≡ g))
+  pub worn : (dev : Dev) → IsErrOf result (Worn dev) → IsSpent dev g now.image
 
 -- the laws of the layers below on what a restart takes of a log
 pub record RecoveryLaws : Type 0 where

@@ -3,6 +3,7 @@ ghost use Rattle.std.specs.Prelude.{Option, ◌≡◌, ◌+◌, ◌*◌, ◌/◌
 ghost use Rattle.std.specs.Prelude.{option_map, IsTrue, IfSome, IfNone, IfOk, IfErr, OnOk, ℕ};
 ghost use Rattle.site.specs.declared.outside.Stop.{Stop};
 ghost use Rattle.site.specs.declared.geometry.Geometry.{Geometry};
+ghost use Rattle.site.specs.Geometry.{HasLimits, HasLengths};
 ghost use Rattle.site.specs.State.{State as Site, IsQuiet};
 ghost use Rattle.record_model.specs.declared.words.Command.{Command};
 ghost use Rattle.record_model.specs.declared.words.Reply.{Reply};
@@ -12,6 +13,7 @@ ghost use Rattle.log_records.specs.declared.log_record.LogRecord.{LogRecord};
 ghost use Rattle.lock_table.specs.Locks.{busy_read, busy_write};
 ghost use Rattle.txn_table.specs.Entries.{owed};
 ghost use Rattle.page_store.specs.Stopping.{MayStop};
+ghost use Rattle.engine.specs.Restarting.{LeavesNext};
 ghost use Rattle.engine.specs.Invariant.{Invariant, sizes_of};
 ghost use Rattle.engine.specs.Image.{log_under, IsSound, Stands, Opens};
 ghost use Rattle.engine.specs.Representation.{Matches, run, IsFull};
@@ -97,6 +99,11 @@ impl Engine {
             → OnOk result (HasLastFrom g (rules_of pool g.groups)
             (restart_works (picture_under newest g (S.state site.old).image blocks))
             (cache_on g (S.state site.old).image) (S.state site.old) (S.state site.new)) }
+
+        // Of every honest site of these sizes.
+        ensures next { IsTrue (S.state site.old).honest
+            → (g : Geometry) → HasLimits g → HasLengths g (S.state site.old).image
+            → LeavesNext result (λ engine. engine.store) g (S.state site.new) }
 
         // Of every site.
         ensures calls { Calls result (S.state site.old) (S.state site.new) }

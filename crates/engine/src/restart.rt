@@ -21,6 +21,8 @@ ghost use Rattle.engine.specs.Invariant.{sizes_of};
 ghost use Rattle.engine.specs.Image.{log_under, IsSound, Stands};
 ghost use Rattle.engine.specs.Leaves.{HasNoSizes, IsRefused, LeavesTable};
 ghost use Rattle.engine.specs.Restarting.{RecoveryLaws, MayRecover, IsReady, RestartedAs, Restarts, Recovers};
+ghost use Rattle.engine.specs.Restarting.{LeavesNext, found_store};
+ghost use Rattle.redo_undo.specs.StoreCalls.{AreNext};
 ghost use Rattle.engine.specs.Calls.{Ends};
 ghost use Rattle.flash_cache.specs.Representation.{start_reads};
 ghost use Rattle.engine.specs.Paging.{AsksFrom, cache_on, restart_works};
@@ -115,6 +117,8 @@ fn open<S: Site>(
         → IsErrOf result Stop.Foreign → ⊥ }
     ensures same { IsTrue (S.state site.old).honest
         → IsUnchanged (S.state site.old) (S.state site.new) }
+    ensures next { IsTrue (S.state site.old).honest
+        → IfOk result (λ opened. AreNext (found_store opened) (S.state site.new)) }
     ensures cache { IsTrue (S.state site.old).honest
         → (newest : Option Master) (blocks : List (List LogRecord))
         → IsSound newest geometry.now (S.state site.old).image blocks
@@ -191,6 +195,10 @@ fn recover<S: Site>(alloc: Global, site: &mut S, opened: Opened) -> Result<Resta
     ensures recovers { (newest : Option Master) (blocks : List (List LogRecord)) (table : List Content) (commits : ℕ)
         → IsReady opened (S.state site.old) newest blocks table commits
         → Recovers result opened (S.state site.old) (S.state site.new) newest blocks table commits }
+
+    // Of every honest site on which the next units are those that were found.
+    ensures next { IsTrue (S.state site.old).honest → AreNext (found_store opened) (S.state site.old)
+        → LeavesNext result (λ restarted. restarted.store) opened.pages.flash.geometry (S.state site.new) }
 
     // Of every site.
     ensures restarts { Restarts result opened.pages.pool.size (S.state site.old) (S.state site.new) }
@@ -280,6 +288,11 @@ pub fn restart<S: Site>(alloc: Global, site: &mut S, pool: u32) -> Result<Restar
         → OnOk result (HasLastFrom g (rules_of pool g.groups)
         (restart_works (picture_under newest g (S.state site.old).image blocks))
         (cache_on g (S.state site.old).image) (S.state site.old) (S.state site.new)) }
+
+    // Of every honest site of these sizes.
+    ensures next { IsTrue (S.state site.old).honest
+        → (g : Geometry) → HasLimits g → HasLengths g (S.state site.old).image
+        → LeavesNext result (λ restarted. restarted.store) g (S.state site.new) }
 
     // Of every site.
     ensures restarts { Restarts result pool (S.state site.old) (S.state site.new) }

@@ -8,7 +8,7 @@ use Rattle.site.specs.Calls.{Preserves}
 use Rattle.site.specs.Laws.{rose_then}
 use Rattle.site.specs.Telling.{SameDevices}
 use Rattle.flash_cache.specs.Representation.{IsWorn}
-use Rattle.redo_undo.specs.Holding.{IsLogWorn}
+use Rattle.redo_undo.specs.Holding.{IsLogWorn, IsSpent}
 use Rattle.face.specs.declared.halt.Halt.{Halt}
 use Rattle.face.specs.declared.halt.Halt.TheVariants as halt
 use Rattle.face.specs.Texts.{status_of}
@@ -18,8 +18,10 @@ use Rattle.face.specs.Causes.{HasCause, HasCauses, IsWornOut}
 pub cause_then : (h : Halt) (a b c : State) → HasCause h a b → Preserves b c → (IsTrue a.honest → SameDevices b c) → HasCause h a c
 cause_then (halt.Stop (Device dev)) a b c cause goes same = rose_then (faults_of dev a) (faults_of dev b) (faults_of dev c) cause (goes.faults dev)
 cause_then (halt.Stop Memory) a b c cause goes same = cause
-cause_then (halt.Stop (Worn Log)) a b c cause goes same = λ honest g table commits stands. subst (IsLogWorn g) (sym (same honest).image) (cause honest g table commits stands)
-cause_then (halt.Stop (Worn Flash)) a b c cause goes same = λ honest g table commits stands. subst (IsWorn g) (sym (same honest).image) (cause honest g table commits stands)
+cause_then (halt.Stop (Worn Log)) a b c cause goes same = λ honest g limits lengths.
+    let worn = cause honest g limits lengths in let here = sym (same honest).image in (subst (IsSpent Log g) here worn.0, λ table commits stands. subst (IsLogWorn g) here (worn.1 table commits stands))
+cause_then (halt.Stop (Worn Flash)) a b c cause goes same = λ honest g limits lengths.
+    let worn = cause honest g limits lengths in let here = sym (same honest).image in (subst (IsSpent Flash g) here worn.0, λ table commits stands. subst (IsWorn g) here (worn.1 table commits stands))
 cause_then (halt.Stop (Worn Disk)) a b c cause goes same = absurd cause
 cause_then (halt.Stop Foreign) a b c cause goes same = cause
 cause_then halt.Input a b c cause goes same = rose_then a.input_faults b.input_faults c.input_faults cause goes.input_faults

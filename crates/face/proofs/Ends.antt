@@ -6,14 +6,16 @@ use Rattle.std.proofs.lemmas.List.{append-nil}
 use Rattle.site.specs.State.{Input, State as Site, Image, faults_of}
 use Rattle.site.specs.declared.geometry.Geometry.{Geometry}
 use Rattle.site.specs.Calls.{Preserves, Rose}
-use Rattle.site.specs.Laws.{holds_now, rose_since}
+use Rattle.site.specs.Laws.{holds_now, rose_since, stays_honest}
 use Rattle.site.specs.declared.outside.Stop.TheVariants.{Device, Memory, Worn, Foreign}
 use Rattle.record_model.specs.State.{Content, State}
 use Rattle.engine.specs.Image.{Stands}
 use Rattle.engine.specs.Representation.{Matches}
 use Rattle.engine.specs.Invariant.{sizes_of}
 use Rattle.flash_cache.specs.Representation.{IsWorn}
-use Rattle.redo_undo.specs.Holding.{IsLogWorn}
+use Rattle.site.specs.Geometry.{HasLimits, HasLengths}
+use Rattle.redo_undo.specs.Holding.{IsLogWorn, IsSpent}
+use Rattle.redo_undo.specs.StoreCalls.{AreNext}
 use Rattle.record_model.specs.Run.{Line, is_quit}
 use Rattle.face.specs.declared.halt.Halt.{Halt}
 use Rattle.face.specs.declared.halt.Halt.TheVariants as halt
@@ -198,15 +200,22 @@ answer_takes_nothing halt.Limit engine old new fails = absurd fails
 
 -- nothing is foreign where the run began over a sound image
 pub answer_cause : (h : Halt) (engine : Engine) (old mid new : Site) → AnswerFailsBy h engine mid new → Preserves old mid
-    → (IsTrue old.honest → (g : Geometry) (table : List Content) (commits : ℕ) → Stands g old.image table commits → ((s : State) × Matches engine mid s) × (sizes_of engine.store ≡ g)) → HasCause h old new
-answer_cause (halt.Stop (Device dev)) engine old mid new fails goes fits = rose_since (faults_of dev old) (faults_of dev mid) (faults_of dev new) (goes.faults dev) fails
-answer_cause (halt.Stop Memory) engine old mid new fails goes fits = fails
-answer_cause (halt.Stop (Worn Log)) engine old mid new fails goes fits = λ honest g table commits stands.
-    let f = fits honest g table commits stands in subst (λ (x : Geometry). IsLogWorn x new.image) f.1 (fails f.0.0 f.0.1)
-answer_cause (halt.Stop (Worn Flash)) engine old mid new fails goes fits = λ honest g table commits stands.
-    let f = fits honest g table commits stands in subst (λ (x : Geometry). IsWorn x new.image) f.1 (fails f.0.0 f.0.1)
-answer_cause (halt.Stop (Worn Disk)) engine old mid new fails goes fits = absurd fails
-answer_cause (halt.Stop Foreign) engine old mid new fails goes fits = λ honest g table commits stands. let f = fits honest g table commits stands in fails f.0.0 f.0.1
-answer_cause halt.Input engine old mid new fails goes fits = absurd fails
-answer_cause halt.Output engine old mid new fails goes fits = rose_since old.output_faults mid.output_faults new.output_faults goes.output_faults fails
-answer_cause halt.Limit engine old mid new fails goes fits = absurd fails
+    → (IsTrue old.honest → (g : Geometry) (table : List Content) (commits : ℕ) → Stands g old.image table commits → ((s : State) × Matches engine mid s) × (sizes_of engine.store ≡ g))
+    → (IsTrue old.honest → (g : Geometry) → HasLimits g → HasLengths g old.image → AreNext engine.store mid × (sizes_of engine.store ≡ g)) → HasCause h old new
+answer_cause (halt.Stop (Device dev)) engine old mid new fails goes fits next = rose_since (faults_of dev old) (faults_of dev mid) (faults_of dev new) (goes.faults dev) fails
+answer_cause (halt.Stop Memory) engine old mid new fails goes fits next = fails
+answer_cause (halt.Stop (Worn Log)) engine old mid new fails goes fits next = λ honest g limits lengths.
+    let n = next honest g limits lengths in (
+      subst (λ (x : Geometry). IsSpent Log x new.image) n.1 (fails.0 (stays_honest old mid goes honest) n.0),
+      λ table commits stands. let f = fits honest g table commits stands in subst (λ (x : Geometry). IsLogWorn x new.image) f.1 (fails.1 f.0.0 f.0.1),
+    )
+answer_cause (halt.Stop (Worn Flash)) engine old mid new fails goes fits next = λ honest g limits lengths.
+    let n = next honest g limits lengths in (
+      subst (λ (x : Geometry). IsSpent Flash x new.image) n.1 (fails.0 (stays_honest old mid goes honest) n.0),
+      λ table commits stands. let f = fits honest g table commits stands in subst (λ (x : Geometry). IsWorn x new.image) f.1 (fails.1 f.0.0 f.0.1),
+    )
+answer_cause (halt.Stop (Worn Disk)) engine old mid new fails goes fits next = absurd fails
+answer_cause (halt.Stop Foreign) engine old mid new fails goes fits next = λ honest g table commits stands. let f = fits honest g table commits stands in fails f.0.0 f.0.1
+answer_cause halt.Input engine old mid new fails goes fits next = absurd fails
+answer_cause halt.Output engine old mid new fails goes fits next = rose_since old.output_faults mid.output_faults new.output_faults goes.output_faults fails
+answer_cause halt.Limit engine old mid new fails goes fits next = absurd fails

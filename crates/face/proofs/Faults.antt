@@ -155,7 +155,7 @@ pub worn_by : (g : Geometry) (opening : State) (h : Halt) (old new : Site) → I
 worn_by g opening (halt.Stop (Device dev)) old new good cause e = absurd (omega (arith, e))
 worn_by g opening (halt.Stop Memory) old new good cause e = absurd (omega (arith, e))
 worn_by g opening (halt.Stop (Worn Flash)) old new good cause e = inl refl
-worn_by g opening (halt.Stop (Worn Log)) old new good cause e = inr (refl, cause good.honest g opening.table opening.commits (stands_by g old.image opening good.opens))
+worn_by g opening (halt.Stop (Worn Log)) old new good cause e = inr (refl, (let stands = stands_by g old.image opening good.opens in (cause good.honest g good.opens.sound.octets.limits good.opens.sound.octets.lengths).1 opening.table opening.commits stands))
 worn_by g opening (halt.Stop (Worn Disk)) old new good cause e = absurd cause
 worn_by g opening (halt.Stop Foreign) old new good cause e = absurd (omega (arith, e))
 worn_by g opening halt.Input old new good cause e = absurd (omega (arith, e))

@@ -28,6 +28,7 @@ mod Longer
 mod Meanings
 mod MemoryLaws
 mod NewLaws
+mod NextUnits
 mod Pagings
 mod Quiet
 mod Ranges

@@ -2,7 +2,7 @@
 use Rattle.face.proofs.Fillings.{fills_same, ok_then, octets_of_both}
 use Rattle.face.specs.Filled.{octets_of}
 use Rattle.std.proofs.Common.{◌≡◌, ⊎_elim, true, suc, ℕ, ◌+◌, ◌<◌, ◌≤◌, ◌^◌, List, [], ◌∷◌, ◌++◌, length, take, refl, sym, ◌∙◌, ap, subst, arith, length-append}
-use Rattle.std.specs.Prelude.{Result, Ok, Err, IfErr, OnOk, IsErrOf}
+use Rattle.std.specs.Prelude.{Result, Ok, Err, IfErr, OnOk, IsErrOf, IsTrue}
 use Rattle.std.proofs.lemmas.List.{append-nil, take-append-le, take_all}
 use Rattle.site.specs.declared.geometry.Geometry.{Geometry}
 use Rattle.site.specs.declared.outside.Dev.TheVariants.{Log, Flash, Disk}
@@ -18,7 +18,8 @@ use Rattle.second_chance.specs.Machine.{Cache, Rules, after_works}
 use Rattle.page_store.specs.declared.store.PageStore.{PageStore}
 use Rattle.page_store.specs.Caching.{cache_of, rules}
 use Rattle.flash_cache.specs.Representation.{IsWorn}
-use Rattle.redo_undo.specs.Holding.{IsLogWorn}
+use Rattle.redo_undo.specs.Holding.{IsLogWorn, IsSpent}
+use Rattle.redo_undo.specs.StoreCalls.{AreNext}
 use Rattle.engine.specs.Paging.{HasLastFrom, WritesFrom}
 use Rattle.site.proofs.Working.{ok_as}
 use Rattle.page_store.proofs.StagingLaws.{last_none}
@@ -68,16 +69,22 @@ leaves_later g s first later told snapshot l = record {
 }
 
 -- why an answer fails, since an earlier state
-fails_since : (h : Halt) (a b : Engine) (old mid new : Site) → AnswerFailsBy h b mid new → Preserves old mid → sizes_of b.store ≡ sizes_of a.store → ((s : State) → Matches a old s → (t : State) × Matches b mid t) → AnswerFailsBy h a old new
-fails_since (halt.Stop (Device dev)) a b old mid new fails goes sizes fits = rose_since (faults_of dev old) (faults_of dev mid) (faults_of dev new) (goes.faults dev) fails
-fails_since (halt.Stop Memory) a b old mid new fails goes sizes fits = tt
-fails_since (halt.Stop (Worn Log)) a b old mid new fails goes sizes fits = λ s f. let still = fits s f in subst (λ (g : Geometry). IsLogWorn g new.image) sizes (fails still.0 still.1)
-fails_since (halt.Stop (Worn Flash)) a b old mid new fails goes sizes fits = λ s f. let still = fits s f in subst (λ (g : Geometry). IsWorn g new.image) sizes (fails still.0 still.1)
-fails_since (halt.Stop (Worn Disk)) a b old mid new fails goes sizes fits = fails
-fails_since (halt.Stop Foreign) a b old mid new fails goes sizes fits = λ s f. let still = fits s f in fails still.0 still.1
-fails_since halt.Input a b old mid new fails goes sizes fits = fails
-fails_since halt.Output a b old mid new fails goes sizes fits = rose_since old.output_faults mid.output_faults new.output_faults goes.output_faults fails
-fails_since halt.Limit a b old mid new fails goes sizes fits = fails
+fails_since : (h : Halt) (a b : Engine) (old mid new : Site) → AnswerFailsBy h b mid new → Preserves old mid → sizes_of b.store ≡ sizes_of a.store → ((s : State) → Matches a old s → (t : State) × Matches b mid t) → (IsTrue old.honest → AreNext a.store old → AreNext b.store mid) → AnswerFailsBy h a old new
+fails_since (halt.Stop (Device dev)) a b old mid new fails goes sizes fits next = rose_since (faults_of dev old) (faults_of dev mid) (faults_of dev new) (goes.faults dev) fails
+fails_since (halt.Stop Memory) a b old mid new fails goes sizes fits next = tt
+fails_since (halt.Stop (Worn Log)) a b old mid new fails goes sizes fits next = (
+  λ honest is. subst (λ (g : Geometry). IsSpent Log g new.image) sizes (fails.0 (stays_honest old mid goes honest) (next honest is)),
+  λ s f. let still = fits s f in subst (λ (g : Geometry). IsLogWorn g new.image) sizes (fails.1 still.0 still.1),
+)
+fails_since (halt.Stop (Worn Flash)) a b old mid new fails goes sizes fits next = (
+  λ honest is. subst (λ (g : Geometry). IsSpent Flash g new.image) sizes (fails.0 (stays_honest old mid goes honest) (next honest is)),
+  λ s f. let still = fits s f in subst (λ (g : Geometry). IsWorn g new.image) sizes (fails.1 still.0 still.1),
+)
+fails_since (halt.Stop (Worn Disk)) a b old mid new fails goes sizes fits next = fails
+fails_since (halt.Stop Foreign) a b old mid new fails goes sizes fits next = λ s f. let still = fits s f in fails still.0 still.1
+fails_since halt.Input a b old mid new fails goes sizes fits next = fails
+fails_since halt.Output a b old mid new fails goes sizes fits next = rose_since old.output_faults mid.output_faults new.output_faults goes.output_faults fails
+fails_since halt.Limit a b old mid new fails goes sizes fits next = fails
 
 if_err : {T : Type 0} (result : Result T Halt) (P Q : Halt → Type 0) → ((h : Halt) → P h → Q h) → IfErr result P → IfErr result Q
 if_err (Ok x) P Q f p = tt
@@ -103,6 +110,7 @@ carries_none {T} x engine site rest going = record {
   quiet = λ s fits quiet. tt;
   going = going;
   cause = tt;
+  next = λ honest is. is;
   goes = goes_nowhere site;
   sizes = refl;
 }
@@ -125,6 +133,7 @@ carries_with {T} {U} x y lines a b old new one = record {
   quiet = λ s fits quiet. tt;
   going = one.going;
   cause = tt;
+  next = one.next;
   goes = one.goes;
   sizes = one.sizes;
 }
@@ -227,7 +236,8 @@ module _ {T U : Type 0} (add : WorksAddUp) (reads_add : ReadsAddUp) (x : T) (res
     stays_quiet = λ honest quiet. two.stays_quiet (stays_honest old mid one.goes honest) (one.stays_quiet honest quiet);
     quiet = λ s fits quiet. two.quiet (after_lines s first []) (one.fits s fits) (one.stays_quiet fits.honest quiet);
     going = two.going;
-    cause = if_err result (λ h. AnswerFailsBy h b mid new) (λ h. AnswerFailsBy h a old new) (λ h fails. fails_since h a b old mid new fails one.goes one.sizes (λ s fits. (after_lines s first [], one.fits s fits))) two.cause;
+    cause = if_err result (λ h. AnswerFailsBy h b mid new) (λ h. AnswerFailsBy h a old new) (λ h fails. fails_since h a b old mid new fails one.goes one.sizes (λ s fits. (after_lines s first [], one.fits s fits)) one.next) two.cause;
+    next = λ honest is. two.next (stays_honest old mid one.goes honest) (one.next honest is);
     goes = goes_in_sequence old mid new one.goes two.goes;
     sizes = two.sizes ∙ one.sizes;
   }
@@ -247,6 +257,7 @@ carries_err {T} {U} h lines a b old new one = record {
   quiet = one.quiet;
   going = tt;
   cause = one.cause;
+  next = λ honest is. tt;
   goes = one.goes;
   sizes = one.sizes;
 }

@@ -6,6 +6,7 @@ use Rattle.site.specs.declared.outside.Dev.TheVariants.{Log, Flash, Disk}
 use Rattle.site.specs.declared.outside.Stop.{Stop}
 use Rattle.site.specs.declared.outside.Stop.TheVariants.{Device, Memory, Worn, Foreign}
 use Rattle.site.specs.declared.geometry.Geometry.{Geometry}
+use Rattle.site.specs.Geometry.{HasLimits, HasLengths}
 use Rattle.site.specs.State.{State, Image, faults_of}
 use Rattle.site.specs.Calls.{Rose}
 use Rattle.site.specs.Faults.{Faults, faults_in, with_fault, with_input_fault, with_output_fault}
@@ -18,7 +19,8 @@ use Rattle.engine.specs.Image.{Stands}
 use Rattle.engine.specs.Representation.{Matches}
 use Rattle.engine.specs.Invariant.{sizes_of}
 use Rattle.flash_cache.specs.Representation.{IsWorn}
-use Rattle.redo_undo.specs.Holding.{IsLogWorn}
+use Rattle.redo_undo.specs.Holding.{IsLogWorn, IsSpent}
+use Rattle.redo_undo.specs.StoreCalls.{AreNext}
 use Rattle.std.specs.List.{list_any}
 use Rattle.record_model.specs.Run.{is_quit}
 use Rattle.face.specs.Lines.{limit, commands_of}
@@ -38,20 +40,24 @@ IsWornAt Flash g image = IsWorn g image
 IsWornAt Log g image = IsLogWorn g image
 IsWornAt Disk g image = ⊥
 
--- of an honest site whose image at entry stands for a table: the device is worn now; of every site: it isn't the disk
+-- of an honest site of these sizes: a ring of the device is spent now, and where the image at entry stands for a table
+-- it stands at its end; of every site: it isn't the disk
 abbrev pub IsWornOut : Dev → State → State → Type 0
 IsWornOut Disk old new = ⊥
-IsWornOut dev old new = IsTrue old.honest → (g : Geometry) (table : List Content) (commits : ℕ) →
-    Stands g old.image table commits → IsWornAt dev g new.image
+IsWornOut dev old new = IsTrue old.honest → (g : Geometry) → HasLimits g → HasLengths g old.image →
+    IsSpent dev g new.image × ((table : List Content) (commits : ℕ) → Stands g old.image table commits →
+    IsWornAt dev g new.image)
 
--- Why a command fails. A device's fault comes only where its count rose. Over a site that the database fits a device is
--- worn only where a ring of it stands at its end, and nothing is foreign. Over no site is it the disk that is worn.
+-- Why a command fails. A device's fault comes only where its count rose. Over an honest site on which the next units of
+-- the rings are those that the database knows a device is worn only where a ring of it is spent, and over one that the
+-- database fits only where it stands at its end, and nothing is foreign. Over no site is it the disk that is worn.
 abbrev pub FailsBy : Stop → Engine → State → State → Type 0
 FailsBy (Device dev) engine old new = Rose (faults_of dev old) (faults_of dev new)
 FailsBy Memory engine old new = ⊤
 FailsBy (Worn Disk) engine old new = ⊥
-FailsBy (Worn dev) engine old new = (s : model.State) → Matches engine old s →
-    IsWornAt dev (sizes_of engine.store) new.image
+FailsBy (Worn dev) engine old new =
+    (IsTrue old.honest → AreNext engine.store old → IsSpent dev (sizes_of engine.store) new.image)
+    × ((s : model.State) → Matches engine old s → IsWornAt dev (sizes_of engine.store) new.image)
 FailsBy Foreign engine old new = (s : model.State) → Matches engine old s → ⊥
 
 -- why the answer to a line fails

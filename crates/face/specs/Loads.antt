@@ -10,6 +10,7 @@ use Rattle.site.specs.declared.outside.Dev.TheVariants.{Log}
 use Rattle.site.specs.declared.outside.Stop.TheVariants.{Device, Worn}
 use Rattle.record_model.specs.State.{State}
 use Rattle.record_model.specs.Run.{Line, Turn, commit_marks, commits_among}
+use Rattle.redo_undo.specs.StoreCalls.{AreNext}
 use Rattle.engine.specs.declared.engine.Engine.{Engine}
 use Rattle.engine.specs.Representation.{Matches}
 use Rattle.engine.specs.Invariant.{Invariant, sizes_of}
@@ -181,6 +182,7 @@ pub record CarriesOut {T : Type 0} (result : Result T Halt) (lines : List Line) 
   -- of every site
   pub going : OnOk result (Invariant after new)
   pub cause : IfErr result (λ halt. AnswerFailsBy halt before old new)
+  pub next : IsTrue old.honest → AreNext before.store old → OnOk result (AreNext after.store new)
   pub goes : Preserves old new
   pub sizes : sizes_of after.store ≡ sizes_of before.store
 

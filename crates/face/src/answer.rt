@@ -8,6 +8,7 @@ ghost use Rattle.site.specs.declared.outside.Stop.{Stop};
 ghost use Rattle.site.specs.declared.outside.Dev.{Dev};
 ghost use Rattle.record_model.specs.declared.words.CacheLine.{CacheLine};
 ghost use Rattle.record_model.specs.State.{State};
+ghost use Rattle.redo_undo.specs.StoreCalls.{AreNext};
 ghost use Rattle.engine.specs.Invariant.{Invariant, sizes_of};
 ghost use Rattle.engine.specs.Representation.{Matches};
 ghost use Rattle.engine.specs.Listings.{listing_of};
@@ -71,6 +72,8 @@ pub fn answer<S: Site>(engine: &mut Engine, site: &mut S, line: Option<Command>)
     // Of every site.
     ensures going { OnOk result (Invariant engine.new (S.state site.new)) }
     ensures cause { IfErr result (λ halt. AnswerFailsBy halt engine.old (S.state site.old) (S.state site.new)) }
+    ensures next { IsTrue (S.state site.old).honest → AreNext engine.old.store (S.state site.old)
+        → OnOk result (AreNext engine.new.store (S.state site.new)) }
     ensures goes { Preserves (S.state site.old) (S.state site.new) }
     ensures sizes { sizes_of engine.new.store ≡ sizes_of engine.old.store }
     ensures faults { RunFaults result (S.state site.old) (S.state site.new) }

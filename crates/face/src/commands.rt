@@ -19,6 +19,7 @@ ghost use Rattle.face.specs.Filled.{FillsBy, line_octets};
 ghost use Rattle.face.specs.Run.{step, IsAsked, line_checkpoints, line_log_reads};
 ghost use Rattle.record_model.specs.Touches.{line_touches};
 ghost use Rattle.redo_undo.specs.MachineSteps.{StepsMachine};
+ghost use Rattle.redo_undo.specs.StoreCalls.{AreNext};
 
 use engine::{Engine, rest_counts_nothing};
 use record_model::{Command, Reply, Why};
@@ -69,6 +70,8 @@ fn carry_out_plain<S: Site>(
     // Of every site.
     ensures going { OnOk result (Invariant engine.new (S.state site.new)) }
     ensures cause { IfErr result (λ stop. FailsBy stop engine.old (S.state site.old) (S.state site.new)) }
+    ensures next { IsTrue (S.state site.old).honest → AreNext engine.old.store (S.state site.old)
+        → OnOk result (AreNext engine.new.store (S.state site.new)) }
     ensures sizes { sizes_of engine.new.store ≡ sizes_of engine.old.store }
     ensures goes { Preserves (S.state site.old) (S.state site.new) }
     ensures faults { WorkFaults result (S.state site.old) (S.state site.new) }
@@ -156,6 +159,8 @@ pub fn carry_out<S: Site>(
     // Of every site.
     ensures going { OnOk result (Invariant engine.new (S.state site.new)) }
     ensures cause { IfErr result (λ stop. FailsBy stop engine.old (S.state site.old) (S.state site.new)) }
+    ensures next { IsTrue (S.state site.old).honest → AreNext engine.old.store (S.state site.old)
+        → OnOk result (AreNext engine.new.store (S.state site.new)) }
     ensures sizes { sizes_of engine.new.store ≡ sizes_of engine.old.store }
     ensures goes { Preserves (S.state site.old) (S.state site.new) }
     ensures faults { WorkFaults result (S.state site.old) (S.state site.new) }

@@ -11,6 +11,8 @@ ghost use Rattle.site.specs.declared.outside.Stop.{Stop};
 ghost use Rattle.checkpoint.specs.declared.master.Master.{Master};
 ghost use Rattle.log_records.specs.declared.log_record.LogRecord.{LogRecord};
 ghost use Rattle.engine.specs.Representation.{Matches};
+ghost use Rattle.site.specs.Geometry.{HasLimits, HasLengths};
+ghost use Rattle.redo_undo.specs.StoreCalls.{AreNext};
 ghost use Rattle.engine.specs.Invariant.{Invariant, sizes_of};
 ghost use Rattle.engine.specs.Leaves.{HasNoSizes};
 ghost use Rattle.face.specs.Causes.{HasCause, RefusesAsForeign};
@@ -34,6 +36,10 @@ pub fn open<S: Site>(alloc: Global, pool: u32, site: &mut S) -> Result<Engine, H
     ensures fits { IsTrue (S.state site.old).honest → (g : Geometry) (table : List Content) (commits : ℕ)
         → Stands g (S.state site.old).image table commits → IfOk result (λ engine. ((s : State)
         × Matches engine (S.state site.new) s) × (sizes_of engine.store ≡ g)) }
+    // Of every honest site of these sizes the next units of the rings are those that the database knows.
+    ensures next { IsTrue (S.state site.old).honest → (g : Geometry) → HasLimits g
+        → HasLengths g (S.state site.old).image
+        → IfOk result (λ engine. AreNext engine.store (S.state site.new) × (sizes_of engine.store ≡ g)) }
     ensures stops { (run : Run) → Begins run (S.state site.old)
         → IfErr result (λ halt. Stops run 0 (S.state site.old) (S.state site.new) halt) }
     // The page cache has done the restart's work.

@@ -1,6 +1,7 @@
 pub mod Gathering
 pub mod Given
 pub mod Heads
+pub mod NextSegments
 pub mod PushLaws
 pub mod Pushing
 pub mod PushedImages

@@ -1,6 +1,10 @@
 -- What the cache knows of the queue on flash, and what an image has of it.
 use Rattle.std.specs.Prelude.{◌≡◌, ℕ, ◌+◌, ◌*◌, ◌/◌, ◌^◌, ◌≤◌, ◌<◌, List, [], ◌∷◌, length, map, IsTrue}
+use Rattle.std.specs.Prelude.{Result, OnOk, IsErrOf}
 use Rattle.std.specs.List.{AllByRecursion}
+use Rattle.site.specs.declared.outside.Dev.TheVariants.{Flash}
+use Rattle.site.specs.declared.outside.Stop.{Stop}
+use Rattle.site.specs.declared.outside.Stop.TheVariants.{Worn}
 use Rattle.site.specs.declared.geometry.Geometry.{Geometry}
 use Rattle.site.specs.Geometry.{HasLimits, HasLengths}
 use Rattle.site.specs.State.{State, Image}
@@ -72,6 +76,20 @@ start_reads g = 2 * (g.groups / 4 + 3) + 12
 -- the ring of groups stands at its end: no group can be appended
 abbrev pub IsWorn : Geometry → Image → Type 0
 IsWorn g image = hi_of (group_shape g) image.flash ≡ 2 ^ 40
+
+-- over an honest site, whatever stands there: the next segment of the cache is that of the content
+abbrev pub IsNext : FlashCache → State → Type 0
+IsNext cache site = cache.segments.hi ≡ hi_of (segment_shape cache.geometry) site.image.flash
+
+-- the ring of segments, of four groups each, has numbers for at most one more: so at most four groups more have one
+abbrev pub IsSpent : Geometry → Image → Type 0
+IsSpent g image = 2 ^ 38 ≤ hi_of (segment_shape g) image.flash + 1
+
+-- A call on an honest site, whatever stands there: the next segment of the cache is that of the content again, and
+-- flash is worn only where hardly a segment has a number left.
+pub record KeepsNext {T : Type 0} (result : Result T Stop) (old new : FlashCache) (before now : State) : Type 0 where
+  pub next : IsNext old before → OnOk result (IsNext new now)
+  pub worn : IsNext old before → IsErrOf result (Worn Flash) → IsSpent old.geometry now.image
 
 -- a frame in the directory shows the page and the mark of one on flash
 pub record Shows (known : Known) (frame : Frame) : Type 0 where

@@ -22,8 +22,8 @@ ghost use Rattle.second_chance.specs.Queue.{has_frame, with_read, marks, front_m
 ghost use Rattle.second_chance.specs.Machine.{rules_of, leaving, staged_in_push};
 ghost use Rattle.stage_out.specs.Staged.{HasStaged, calls_of};
 ghost use Rattle.flash_directory.specs.Heads.{frames_in};
-ghost use Rattle.flash_cache.specs.Representation.{Invariant, Matches, IsWorn, HasGroups, HasFrames, AreSaved};
-ghost use Rattle.flash_cache.specs.Representation.{Represents, queue_of, version_on};
+ghost use Rattle.flash_cache.specs.Representation.{Invariant, Matches, IsNext, KeepsNext, IsWorn, HasGroups};
+ghost use Rattle.flash_cache.specs.Representation.{HasFrames, AreSaved, Represents, queue_of, version_on};
 ghost use Rattle.flash_cache.specs.Representation.{PagesExist, IsCleanOn, start_reads};
 ghost use Rattle.flash_cache.specs.Pushed.{staged_marks, staged_pages, staged_contents, chance_marks, pages_pushed};
 ghost use Rattle.flash_cache.specs.Pushed.{frames_given, frames_pushed, known_pushed, pushed_groups, pushed_queue};
@@ -88,6 +88,9 @@ impl FlashCache {
             → (first : ℕ) (groups : List (List Frame))
             → HasGroups geometry.now first groups (S.state site.old).image
             → AreSaved geometry.now groups (S.state site.old).image → ⊥ }
+
+        // Of every honest site.
+        ensures is_next { IsTrue (S.state site.old).honest → IfOk result (λ cache. IsNext cache (S.state site.new)) }
 
         // Of every site.
         ensures going { IfOk result (λ cache. Invariant cache (S.state site.new)) }
@@ -155,6 +158,7 @@ impl FlashCache {
             → OnOk result (Represents self.new (S.state site.new).image groups) }
         ensures err { OnErr result (self.new ≡ record self.old { ended = true }) }
         ensures geometry { self.new.geometry ≡ self.old.geometry }
+        ensures segments { self.new.segments ≡ self.old.segments }
         ensures same { IsTrue (S.state site.old).honest
             → IsUnchanged (S.state site.old) (S.state site.new) }
         ensures goes { Preserves (S.state site.old) (S.state site.new) }
@@ -285,6 +289,8 @@ impl FlashCache {
             (pushed_groups self.old groups
             (frames_pushed self.old (S.state site.old).image pages.now changed.now contents.now))) }
         ensures fits { Matches self.old (S.state site.old) → OnOk result (Matches self.new (S.state site.new)) }
+        ensures next_segment { IsTrue (S.state site.old).honest
+            → KeepsNext result self.old self.new (S.state site.old) (S.state site.new) }
         ensures quiet { IsTrue (S.state site.old).honest → IsQuiet (S.state site.old)
             → OnOk result (IsQuiet (S.state site.new)) }
         // Five calls for the group, five for a segment, and one for each page that is staged and for the sync.
@@ -384,6 +390,8 @@ impl FlashCache {
         ensures alone { IsTrue (S.state site.old).honest → staged_pages self.old ≡ []
             → Untouched Dev.Disk (S.state site.old) (S.state site.new) }
         ensures fits { Matches self.old (S.state site.old) → OnOk result (Matches self.new (S.state site.new)) }
+        ensures next_segment { IsTrue (S.state site.old).honest
+            → KeepsNext result self.old self.new (S.state site.old) (S.state site.new) }
         ensures quiet { IsTrue (S.state site.old).honest → IsQuiet (S.state site.old)
             → OnOk result (IsQuiet (S.state site.new)) }
         ensures past { IsTrue (S.state site.old).honest
@@ -468,6 +476,8 @@ impl FlashCache {
         ensures alone { IsTrue (S.state site.old).honest → staged.now ≡ []
             → Untouched Dev.Disk (S.state site.old) (S.state site.new) }
         ensures fits { Matches self.old (S.state site.old) → OnOk result (Matches self.new (S.state site.new)) }
+        ensures next_segment { IsTrue (S.state site.old).honest
+            → KeepsNext result self.old self.new (S.state site.old) (S.state site.new) }
         ensures quiet { IsTrue (S.state site.old).honest → IsQuiet (S.state site.old)
             → OnOk result (IsQuiet (S.state site.new)) }
         ensures past { IsTrue (S.state site.old).honest
@@ -524,6 +534,8 @@ impl FlashCache {
         ensures appends { Matches self.old (S.state site.old) → OnOk result (Appends self.old.geometry
             GroupRing content.now (S.state site.old).image (S.state site.new).image) }
         ensures fits { Matches self.old (S.state site.old) → OnOk result (Matches self.new (S.state site.new)) }
+        ensures next_segment { IsTrue (S.state site.old).honest
+            → KeepsNext result self.old self.new (S.state site.old) (S.state site.new) }
         ensures quiet { IsTrue (S.state site.old).honest → IsQuiet (S.state site.old)
             → OnOk result (IsQuiet (S.state site.new)) }
         ensures past { IsTrue (S.state site.old).honest

@@ -5,8 +5,6 @@ mod directory;
 mod group;
 mod place;
 mod places;
-#[cfg(test)]
-mod tests;
 
 pub use directory::{Directory, HeadView};
 pub use place::Place;

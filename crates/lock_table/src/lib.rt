@@ -3,8 +3,6 @@
 
 mod lock;
 mod table;
-#[cfg(test)]
-mod tests;
 
 pub use lock::Lock;
 pub use table::{Busy, LockTable};

@@ -1,8 +1,10 @@
 -- What a log store holds, in memory and on a site.
 use Rattle.std.specs.Prelude.{◌≡◌, ◌⊎◌, ℕ, ◌+◌, ◌-◌, ◌*◌, ◌≤◌, ◌<◌, IsTrue, Bool, true, nat_lt, if◌then◌else◌, List, []}
-use Rattle.std.specs.Prelude.{◌∷◌, ◌++◌, length, drop, map, flat_map, replicate}
+use Rattle.std.specs.Prelude.{◌∷◌, ◌++◌, ◌^◌, length, drop, map, flat_map, replicate, Result, OnOk, IsErrOf}
 use Rattle.std.specs.List.{AllByRecursion}
 use Rattle.site.specs.declared.outside.Dev.TheVariants.{Log}
+use Rattle.site.specs.declared.outside.Stop.{Stop}
+use Rattle.site.specs.declared.outside.Stop.TheVariants.{Worn}
 use Rattle.site.specs.declared.geometry.Geometry.{Geometry}
 use Rattle.site.specs.Geometry.{HasLimits, HasLengths}
 use Rattle.site.specs.State.{State, Image, Snapshot, IsSettled}
@@ -10,7 +12,7 @@ use Rattle.sealed_ring.specs.Ring.{IsRing, SameOutside, hi_of, last_of, unit_at}
 use Rattle.sealed_ring.specs.Ready.{IsUsable}
 use Rattle.log_records.specs.declared.log_record.LogRecord.{LogRecord}
 use Rattle.log_records.specs.Spelling.{spelling, used_by, block, block_len, HasForm, FitsFields, AreBlock}
-use Rattle.image_changes.specs.Rings.{log_shape, units_on}
+use Rattle.image_changes.specs.Rings.{log_shape, master_shape, units_on}
 use Rattle.log_store.specs.declared.store.LogStore.{LogStore}
 use Rattle.log_store.specs.LogList.{LogList}
 
@@ -60,6 +62,17 @@ pub record Finds (store : LogStore) (site : State) : Type 0 where
   pub honest : IsTrue site.honest
   pub form : IsRing (log_shape store.geometry) site.image.log
   pub hi : store.ring.hi ≡ hi_of (log_shape store.geometry) site.image.log
+
+-- over an honest site, whatever stands there: the store's next block is that of the content
+abbrev pub IsNext : LogStore → State → Type 0
+IsNext store site = store.ring.hi ≡ hi_of (log_shape store.geometry) site.image.log
+
+-- A call on an honest site, whatever stands there: so it is again, the ring of the master units beside it stays where
+-- it stands, and the log is worn only where the ring of its blocks stands at its end.
+pub record KeepsNext {T : Type 0} (result : Result T Stop) (old new : LogStore) (before now : State) : Type 0 where
+  pub next : IsNext old before → OnOk result (IsNext new now)
+  pub masters : OnOk result (hi_of master_shape now.image.log ≡ hi_of master_shape before.image.log)
+  pub worn : IsNext old before → IsErrOf result (Worn Log) → hi_of (log_shape old.geometry) now.image.log ≡ 2 ^ 40
 
 -- the newest blocks of an image, from a number on, have these records
 pub record HasBlocks (g : Geometry) (first : ℕ) (blocks : List (List LogRecord)) (image : Image) : Type 0 where

@@ -19,7 +19,7 @@ ghost use Rattle.image_changes.specs.Reached.{LeavesFront};
 ghost use Rattle.log_store.specs.LogList.{LogList, entries, at_lsn, sealed_block, sealed_if, changes_if, with_record};
 ghost use Rattle.log_store.specs.LogList.{from_block};
 ghost use Rattle.log_store.specs.Representation.{Invariant, HasRoom, has_tail, overflows, end_of, next_lsn, block_on};
-ghost use Rattle.log_store.specs.Representation.{Matches, Finds, HasBlocks, HasTail};
+ghost use Rattle.log_store.specs.Representation.{Matches, Finds, IsNext, KeepsNext, HasBlocks, HasTail};
 ghost use Rattle.log_store.specs.Representation.{Represents, LeavesLog, KeepsBeside};
 
 use crate::RECORDS_AT;
@@ -104,6 +104,8 @@ impl LogStore {
         ensures found { IsTrue (S.state site.old).honest
             → IsRing (log_shape geometry.now) (S.state site.old).image.log
             → IfOk result (λ store. Finds store (S.state site.new)) }
+        ensures is_next { IsTrue (S.state site.old).honest
+            → IfOk result (λ store. IsNext store (S.state site.new)) }
         ensures holds { IsTrue (S.state site.old).honest → (first : ℕ) (blocks : List (List LogRecord))
             → HasBlocks geometry.now first blocks (S.state site.old).image
             → IfOk result (λ store. Represents store (S.state site.new).image
@@ -166,6 +168,8 @@ impl LogStore {
             (S.state site.old).image (S.state site.new).image) }
         ensures finds { Finds self.old (S.state site.old) → OnOk result (Finds self.new (S.state site.new)) }
         ensures fits { Matches self.old (S.state site.old) → OnOk result (Matches self.new (S.state site.new)) }
+        ensures next_block { IsTrue (S.state site.old).honest
+            → KeepsNext result self.old self.new (S.state site.old) (S.state site.new) }
         ensures outside { IsTrue (S.state site.old).honest
             → OnOk result (SameOutside (log_shape self.old.geometry)
             (S.state site.old).image.log (S.state site.new).image.log) }
@@ -235,6 +239,8 @@ impl LogStore {
             (S.state site.old).image (S.state site.new).image) }
         ensures finds { Finds self.old (S.state site.old) → OnOk result (Finds self.new (S.state site.new)) }
         ensures fits { Matches self.old (S.state site.old) → OnOk result (Matches self.new (S.state site.new)) }
+        ensures next_block { IsTrue (S.state site.old).honest
+            → KeepsNext result self.old self.new (S.state site.old) (S.state site.new) }
         ensures outside { IsTrue (S.state site.old).honest
             → OnOk result (SameOutside (log_shape self.old.geometry)
             (S.state site.old).image.log (S.state site.new).image.log) }
@@ -300,6 +306,8 @@ impl LogStore {
             (S.state site.old).image (S.state site.new).image) }
         ensures finds { Finds self.old (S.state site.old) → OnOk result (Finds self.new (S.state site.new)) }
         ensures fits { Matches self.old (S.state site.old) → OnOk result (Matches self.new (S.state site.new)) }
+        ensures next_block { IsTrue (S.state site.old).honest
+            → KeepsNext result self.old self.new (S.state site.old) (S.state site.new) }
         ensures outside { IsTrue (S.state site.old).honest
             → OnOk result (SameOutside (log_shape self.old.geometry)
             (S.state site.old).image.log (S.state site.new).image.log) }
@@ -412,6 +420,7 @@ impl LogStore {
         ensures going { (site : State) → Invariant self.old site → Invariant self.new site }
         ensures finds { (site : State) → Finds self.old site → Finds self.new site }
         ensures fits { (site : State) → Matches self.old site → Matches self.new site }
+        ensures is_next { (site : State) → IsNext self.old site → IsNext self.new site }
         ensures holds { (site : State) (log : LogList)
             → Invariant self.old site → Finds self.old site → Represents self.old site.image log
             → Represents self.new site.image (from_block block log) }

@@ -4,8 +4,6 @@
 
 mod laws;
 mod segment;
-#[cfg(test)]
-mod tests;
 
 pub use laws::{one_segment, segments_follow};
 pub use segment::{SEGMENT_HEADS, SEGMENT_LEN, segment_heads, write_segment};

@@ -13,7 +13,7 @@ use Rattle.site.specs.State.{State, Image, IsQuiet, snapshot_of}
 use Rattle.site.specs.Calls.{IsUnchanged}
 use Rattle.site.specs.Work.{Calls}
 use Rattle.site.specs.Moments.{Leaves, LeavesOnly}
-use Rattle.site.specs.Laws.{unchanged_calm, in_sequence, leaves_weaker}
+use Rattle.site.specs.Laws.{unchanged_calm, in_sequence, leaves_weaker, stays_honest}
 use Rattle.site.proofs.Working.{no_error, err_always, ok_as, ok_always, calls_then, calls_failed}
 use Rattle.image_changes.specs.Changes.{Change, Reaches}
 use Rattle.image_changes.specs.Reached.{IsReached, IsFrontOf, LeavesFront}
@@ -22,6 +22,7 @@ use Rattle.image_changes.specs.Costs.{CallsForUnits}
 use Rattle.image_changes.proofs.Counting.{calls_none, calls_then as counts_then}
 use Rattle.image_meaning.specs.Beside.{AreRingsSoundUnder}
 use Rattle.slotted_page.specs.Layout.{IsSound}
+use Rattle.flash_cache.specs.declared.cache.FlashCache.{FlashCache}
 use Rattle.flash_cache.specs.Representation.{IsWorn}
 use Rattle.flash_cache.specs.Kept.{AreCleanGiven}
 use Rattle.buffer_pool.specs.Frames.{State as Pool}
@@ -39,6 +40,7 @@ use Rattle.page_store.proofs.Bringing.{current_again}
 use Rattle.page_store.proofs.Rounds.{sealed_again, more_sealed, one_more_pages, one_more_push}
 use Rattle.page_store.proofs.Changing.{front_more}
 use Rattle.page_store.proofs.Rings.{stays_rings}
+use Rattle.page_store.proofs.NextUnits.{next_still, next_then, next_with, next_failed}
 
 -- The same said otherwise.
 
@@ -73,20 +75,21 @@ forces_still r {log = log} none room = record {
 }
 
 pub pushes_still : {T : Type 0} (r : Result T Stop) {log : LogStore} {pages pages' : PageStore} {site : State} {sealing : Bool} → Calls r site site →
-    IfErr r (λ stop. MayStop stop) → OnOk r (sealing ≡ false) → MayWork log pages site →
-    Invariant pages' site → pages'.flash.geometry ≡ pages.flash.geometry → pages'.pool.size ≡ pages.pool.size → pages'.ended ≡ pages.ended →
+    IfErr r (λ stop. MayStop stop) → (IsErrOf r (Worn Log) → ⊥) → (IsErrOf r (Worn Flash) → ⊥) → OnOk r (sealing ≡ false) → MayWork log pages site →
+    Invariant pages' site → pages'.flash ≡ pages.flash → pages'.pool.size ≡ pages.pool.size → pages'.ended ≡ pages.ended →
     (AreLogged (end_forced log) pages.pool.frames → AreLogged (end_forced log) pages'.pool.frames) →
     Pushes r log log pages pages' site site sealing
-pushes_still r calls stops none may going geometry size ended logged = record {
+pushes_still r calls stops no_log no_flash none may going flash size ended logged = record {
   works = record {
     calls = calls;
     forces = forces_still r none may.room;
     going = going;
     log_going = may.log_going;
-    geometry = geometry;
+    geometry = ap (λ (f : FlashCache). f.geometry) flash;
     size = size;
     log_reads = refl;
     stops = stops;
+    next = λ honest. next_still r flash no_log no_flash;
   };
   logged = λ all. ok_always r _ (logged all);
   ended = ended;
@@ -172,7 +175,7 @@ forces_then {r = r} {old = old} {mid = mid} {new = new} {b = b} {f = f} once fir
 
 pub pushes_then : {A B : Type 0} {a : A} {r : Result B Stop} {old mid new : LogStore} {pages between pages' : PageStore} {before middle now : State} {b f : Bool} → (b ≡ true → f ≡ false) →
     Pushes {T = A} (Ok a) old mid pages between before middle b → Pushes r mid new between pages' middle now f → Pushes r old new pages pages' before now (b || f)
-pushes_then once first second = record {
+pushes_then {before = before} {middle = middle} once first second = record {
   works = record {
     calls = calls_then first.works.calls second.works.calls;
     forces = forces_then once first.works.forces second.works.forces;
@@ -182,6 +185,7 @@ pushes_then once first second = record {
     size = second.works.size ∙ first.works.size;
     log_reads = second.works.log_reads ∙ first.works.log_reads;
     stops = second.works.stops;
+    next = λ honest. next_then first.works.forces.geometry first.works.geometry (first.works.next honest) (second.works.next (stays_honest before middle first.works.calls.goes honest));
   };
   logged = λ all. second.logged (first.logged all);
   ended = second.ended ∙ first.ended;
@@ -190,10 +194,10 @@ pushes_then once first second = record {
 
 -- a push, where the pool is another one before it, or behind it
 pub pushes_with : {T : Type 0} {r : Result T Stop} {old new : LogStore} {pages between middle after : PageStore} {before now : State} {sealing : Bool} →
-    Pushes r old new between middle before now sealing →
+    Pushes r old new between middle before now sealing → pages.flash ≡ between.flash → after.flash ≡ middle.flash →
     Invariant after now → after.flash.geometry ≡ pages.flash.geometry → after.pool.size ≡ pages.pool.size → after.ended ≡ pages.ended →
     (AreLogged (end_forced old) pages.pool.frames → OnOk r (AreLogged (end_forced new) after.pool.frames)) → Pushes r old new pages after before now sealing
-pushes_with push going geometry size ended logged =
+pushes_with push front behind going geometry size ended logged =
     let works = push.works in
     record {
       works = record {
@@ -205,6 +209,7 @@ pushes_with push going geometry size ended logged =
         size = size;
         log_reads = works.log_reads;
         stops = works.stops;
+        next = λ honest. next_with front behind (works.next honest);
       };
       logged = logged;
       ended = ended;
@@ -226,6 +231,7 @@ pushes_failed first =
         size = works.size;
         log_reads = works.log_reads;
         stops = works.stops;
+        next = λ honest. next_failed (works.next honest);
       };
       logged = λ all. tt;
       ended = first.ended;

@@ -13,6 +13,7 @@ pub mod Flushes
 pub mod Left
 pub mod Lines
 pub mod Movable
+pub mod NextUnits
 pub mod Numbers
 pub mod Pools
 pub mod PushCalls

@@ -14,6 +14,7 @@ use Rattle.image_changes.specs.Changes.{Change, Reaches}
 use Rattle.image_changes.specs.Reached.{LeavesFront}
 use Rattle.image_changes.specs.Costs.{CallsForUnits}
 use Rattle.slotted_page.specs.Layout.{IsSound}
+use Rattle.flash_cache.specs.Representation as flash_cache
 use Rattle.flash_cache.specs.Representation.{IsWorn}
 use Rattle.flash_cache.specs.Pushed.{chance_marks, pushed_queue}
 use Rattle.flash_cache.specs.Kept.{AreCleanGiven}
@@ -54,6 +55,13 @@ pub record Forces {T : Type 0} (result : Result T Stop) (old new : LogStore) (se
   pub kept : new.kept ≡ old.kept
   pub geometry : new.geometry ≡ old.geometry
 
+-- Over an honest site, whatever stands there: the next block of the log and the next segment on flash are those of the
+-- content again, and a ring is worn only at its end.
+pub record KeepsNext {T : Type 0} (result : Result T Stop) (old new : LogStore) (pages pages' : PageStore)
+    (before now : State) : Type 0 where
+  pub block : log_store.KeepsNext result old new before now
+  pub segment : flash_cache.KeepsNext result pages.flash pages'.flash before now
+
 -- A call on pages: both may go on, sizes stay, and the log is forced only where that is said.
 pub record KeepsInvariant {T : Type 0} (result : Result T Stop) (old new : LogStore) (pages pages' : PageStore)
     (before now : State) (sealing : Bool) : Type 0 where
@@ -65,6 +73,7 @@ pub record KeepsInvariant {T : Type 0} (result : Result T Stop) (old new : LogSt
   pub size : pages'.pool.size ≡ pages.pool.size
   pub log_reads : now.log_reads ≡ before.log_reads
   pub stops : IfErr result (λ stop. MayStop stop)
+  pub next : IsTrue before.honest → KeepsNext result old new pages pages' before now
 
 -- A call that reads no page in: what it reads is of the queue, and of pages that are logged it leaves such.
 pub record Pushes {T : Type 0} (result : Result T Stop) (old new : LogStore) (pages pages' : PageStore)
@@ -122,6 +131,7 @@ pub record Reads {T : Type 0} (result : Result T Stop) (pages pages' : PageStore
   pub fits : Matches pages before → OnOk result (Matches pages' now)
   pub going : Invariant pages' now
   pub geometry : pages'.flash.geometry ≡ pages.flash.geometry
+  pub segments : pages'.flash.segments ≡ pages.flash.segments
   pub ended : pages'.ended ≡ pages.ended
   pub flash_reads : now.flash_reads ≤ before.flash_reads + (if has_frame pages.flash.directory page then 1 else 0)
   pub disk_reads : now.disk_reads ≤ before.disk_reads + (if has_frame pages.flash.directory page then 0 else 1)

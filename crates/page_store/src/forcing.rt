@@ -10,7 +10,8 @@ ghost use Rattle.site.specs.Moments.{LeavesOnly, ChangesOnly};
 ghost use Rattle.image_changes.specs.Changes.{Reaches};
 ghost use Rattle.image_changes.specs.Reached.{LeavesFront};
 ghost use Rattle.log_store.specs.LogList.{LogList, sealed_if, changes_if};
-ghost use Rattle.log_store.specs.Representation.{Invariant, HasRoom, has_tail, Matches, Finds, Represents, LeavesLog};
+ghost use Rattle.log_store.specs.Representation.{Invariant, HasRoom, has_tail, Matches, Finds, Represents};
+ghost use Rattle.log_store.specs.Representation.{KeepsNext, LeavesLog};
 ghost use Rattle.page_store.specs.Ahead.{IsLogged, end_now, end_forced, is_unsealed, forces};
 ghost use Rattle.site.specs.Work.{Calls};
 ghost use Rattle.page_store.specs.Calls.{Forces};
@@ -73,6 +74,8 @@ pub fn force_for<S: Site>(site: &mut S, log: &mut LogStore, contents: &[Page]) -
         → ChangesOnly Dev.Log (S.state site.old) (S.state site.new) }
     ensures quiet_err { IsTrue (S.state site.old).honest → IsQuiet (S.state site.old)
         → IfErr result (λ stop. ((d : Dev) → stop ≢ Stop.Device d) → IsQuiet (S.state site.new)) }
+    ensures next_block { IsTrue (S.state site.old).honest
+        → KeepsNext result log.old log.new (S.state site.old) (S.state site.new) }
     ensures past { IsTrue (S.state site.old).honest
         → OnOk result (length (S.state site.new).past + 5 * log.old.ring.hi
         ≡ length (S.state site.old).past + 5 * log.new.ring.hi) }

@@ -10,7 +10,8 @@ ghost use Rattle.site.specs.Calls.{Preserves, FaultRose, IsUnchanged};
 ghost use Rattle.site.specs.Faults.{WorkFaults};
 ghost use Rattle.slotted_page.specs.Layout.{lsn_of, slots_of, content_length, IsSound, Matches as FitsPage};
 ghost use Rattle.frame_group.specs.Groups.{Frame as Stored};
-ghost use Rattle.flash_cache.specs.Representation.{HasGroups, AreSaved, version_on, IsCleanOn, queue_of, start_reads};
+ghost use Rattle.flash_cache.specs.Representation.{IsNext, HasGroups, AreSaved, version_on, IsCleanOn, queue_of};
+ghost use Rattle.flash_cache.specs.Representation.{start_reads};
 ghost use Rattle.second_chance.specs.Machine.{touched, holds, finds, misses, wants_flush};
 ghost use Rattle.buffer_pool.specs.Frames.{front_of, ChangesFront};
 ghost use Rattle.log_store.specs.LogList.{LogList};
@@ -76,6 +77,8 @@ impl PageStore {
             → ((page : ℕ) → page < geometry.now.pages
             → IsSound (version_on geometry.now (S.state site.old).image page))
             → IfOk result (λ store. Matches store (S.state site.new)) }
+        ensures is_next { IsTrue (S.state site.old).honest
+            → IfOk result (λ store. IsNext store.flash (S.state site.new)) }
         ensures same { IsTrue (S.state site.old).honest
             → IsUnchanged (S.state site.old) (S.state site.new) }
         ensures goes { Preserves (S.state site.old) (S.state site.new) }

@@ -4,8 +4,6 @@
 mod laws;
 mod lists;
 mod rows;
-#[cfg(test)]
-mod tests;
 mod value;
 mod words;
 

@@ -18,7 +18,9 @@ use Rattle.image_changes.specs.Rings.{log_shape, KeepsUnits, master_shape}
 use Rattle.log_store.specs.declared.store.LogStore.{LogStore}
 use Rattle.log_store.specs.Representation as log_store
 use Rattle.log_store.specs.Representation.{end_of}
+use Rattle.log_store.proofs.NextBlocks as blocks
 use Rattle.page_store.specs.declared.store.PageStore.{PageStore}
+use Rattle.page_store.proofs.NextUnits.{next_nothing, next_then, next_failed, next_answered, next_refused, next_read, next_logged}
 use Rattle.page_store.specs.Stopping.{MayStop}
 use Rattle.page_store.specs.Laws.{FitsBeside}
 use Rattle.checkpoint.specs.declared.master.Master.{Master}
@@ -94,14 +96,15 @@ calls_read {r = r} {before = before} {now = now} read = record {
 -- Log and pages, on every site.
 
 pub works_nothing : {T : Type 0} {x : T} {log : LogStore} {pages : PageStore} {site : State} → Invariant log pages site → KeepsInvariant {T = T} (Ok x) log log pages pages site site
-works_nothing going = record { calls = calls_nothing; going = going; rises = omega arith; kept = refl; log_geometry = refl; geometry = refl; size = refl; stops = tt }
+works_nothing going = record { calls = calls_nothing; going = going; rises = omega arith; kept = refl; log_geometry = refl; geometry = refl; size = refl; stops = tt; next = λ honest. next_nothing refl }
 
 pub works_then : {A B : Type 0} {a : A} {r : Result B Stop} {old mid new : LogStore} {pages between pages' : PageStore} {before middle now : State} →
     KeepsInvariant {T = A} (Ok a) old mid pages between before middle → KeepsInvariant r mid new between pages' middle now → KeepsInvariant r old new pages pages' before now
-works_then {r = r} first second =
+works_then {r = r} {before = before} {middle = middle} first second =
     record {
       calls = calls_then first.calls second.calls;
       going = second.going;
+      next = λ honest. next_then first.log_geometry first.geometry (first.next honest) (second.next (stays_honest before middle first.calls.goes honest));
       rises = ok_as r _ _ (λ more. omega (arith, more, first.rises)) second.rises;
       kept = second.kept ∙ first.kept;
       log_geometry = second.log_geometry ∙ first.log_geometry;
@@ -111,7 +114,7 @@ works_then {r = r} first second =
     }
 
 pub works_failed : {A B : Type 0} {stop : Stop} {old new : LogStore} {pages pages' : PageStore} {before now : State} → KeepsInvariant {T = A} (Err stop) old new pages pages' before now → KeepsInvariant {T = B} (Err stop) old new pages pages' before now
-works_failed first = record { calls = calls_failed first.calls; going = tt; rises = tt; kept = first.kept; log_geometry = first.log_geometry; geometry = first.geometry; size = first.size; stops = first.stops }
+works_failed first = record { calls = calls_failed first.calls; going = tt; next = λ honest. next_failed (first.next honest); rises = tt; kept = first.kept; log_geometry = first.log_geometry; geometry = first.geometry; size = first.size; stops = first.stops }
 
 -- it stops behind a call that was Ok
 pub works_stopped : {A B C : Type 0} {a : A} {stop : Stop} {old mid new : LogStore} {pages between pages' : PageStore} {before middle now : State} →
@@ -119,15 +122,15 @@ pub works_stopped : {A B C : Type 0} {a : A} {stop : Stop} {old mid new : LogSto
 works_stopped first second = works_failed (works_then first second)
 
 pub works_answered : {A B : Type 0} {a : A} {b : B} {old new : LogStore} {pages pages' : PageStore} {before now : State} → KeepsInvariant {T = A} (Ok a) old new pages pages' before now → KeepsInvariant {T = B} (Ok b) old new pages pages' before now
-works_answered first = record { calls = calls_answered first.calls; going = first.going; rises = first.rises; kept = first.kept; log_geometry = first.log_geometry; geometry = first.geometry; size = first.size; stops = tt }
+works_answered first = record { calls = calls_answered first.calls; going = first.going; next = λ honest. next_answered (first.next honest); rises = first.rises; kept = first.kept; log_geometry = first.log_geometry; geometry = first.geometry; size = first.size; stops = tt }
 
-pub works_refused : {A B : Type 0} {a : A} {stop : Stop} {old new : LogStore} {pages pages' : PageStore} {before now : State} → ((d : Dev) → stop ≢ Device d) → MayStop stop →
+pub works_refused : {A B : Type 0} {a : A} {stop : Stop} {old new : LogStore} {pages pages' : PageStore} {before now : State} → ((d : Dev) → stop ≢ Device d) → ((d : Dev) → stop ≢ Worn d) → MayStop stop →
     KeepsInvariant {T = A} (Ok a) old new pages pages' before now → KeepsInvariant {T = B} (Err stop) old new pages pages' before now
-works_refused other stops first = record { calls = calls_refused other first.calls; going = tt; rises = tt; kept = first.kept; log_geometry = first.log_geometry; geometry = first.geometry; size = first.size; stops = stops }
+works_refused other never stops first = record { calls = calls_refused other first.calls; going = tt; next = λ honest. next_refused (never Log) (never Flash) (first.next honest); rises = tt; kept = first.kept; log_geometry = first.log_geometry; geometry = first.geometry; size = first.size; stops = stops }
 
 -- what it read is Foreign
 pub works_foreign : {A B : Type 0} {a : A} {old new : LogStore} {pages pages' : PageStore} {before now : State} → KeepsInvariant {T = A} (Ok a) old new pages pages' before now → KeepsInvariant {T = B} (Err Foreign) old new pages pages' before now
-works_foreign first = works_refused (λ d same. cc) tt first
+works_foreign first = works_refused (λ d same. cc) (λ d same. cc) tt first
 
 pub works_read : {T : Type 0} {r : Result T Stop} {log : LogStore} {pages : PageStore} {before now : State} → Invariant log pages before → ReadsOne r before now → KeepsInvariant r log log pages pages before now
 works_read {r = r} {log = log} {pages = pages} {before = before} {now = now} going read = record {
@@ -139,18 +142,20 @@ works_read {r = r} {log = log} {pages = pages} {before = before} {now = now} goi
   geometry = refl;
   size = refl;
   stops = err_as r _ _ reads_stop read.stops;
+  next = λ honest. next_read r (read.same honest) refl refl (λ is. reads_worn Log (of_error r (λ stop. (stop ≡ Device Log) ⊎ (stop ≡ Foreign)) (Worn Log) read.stops is))
+      (λ is. reads_worn Flash (of_error r (λ stop. (stop ≡ Device Log) ⊎ (stop ≡ Foreign)) (Worn Flash) read.stops is));
 }
 
 -- a call of the log alone
-pub works_beside : {T : Type 0} {r : Result T Stop} {old new : LogStore} {pages : PageStore} {before now : State} → Invariant old pages before → OnOk r (end_of old ≤ end_of new) → IfErr r (λ stop. MayStop stop) →
+pub works_beside : {T : Type 0} {r : Result T Stop} {old new : LogStore} {pages : PageStore} {before now : State} → Invariant old pages before → OnOk r (end_of old ≤ end_of new) → IfErr r (λ stop. MayStop stop) → (IsErrOf r (Worn Flash) → ⊥) →
     KeepsInvariantBeside r old new before now → KeepsInvariant r old new pages pages before now
-works_beside {pages = pages} going rises stops beside =
-    record { calls = beside.calls; going = beside.going pages going; rises = rises; kept = beside.kept; log_geometry = beside.geometry; geometry = refl; size = refl; stops = stops }
+works_beside {pages = pages} going rises stops never beside =
+    record { next = λ honest. next_logged (beside.next honest) (beside.changes honest) never; calls = beside.calls; going = beside.going pages going; rises = rises; kept = beside.kept; log_geometry = beside.geometry; geometry = refl; size = refl; stops = stops }
 
 -- that appends a record
 pub works_appended : {r : Result ℕ Stop} {old new : LogStore} {pages : PageStore} {before now : State} → Invariant old pages before → IfOk r (λ lsn. (end_of old ≤ lsn) × (lsn < end_of new)) →
     IfErr r (λ stop. (stop ≡ Device Log) ⊎ (stop ≡ Worn Log)) → KeepsInvariantBeside r old new before now → KeepsInvariant r old new pages pages before now
-works_appended {r = r} {old = old} {new = new} going rises stops beside = works_beside going (risen r rises) (err_as r _ _ log_stops stops) beside
+works_appended {r = r} {old = old} {new = new} going rises stops beside = works_beside going (risen r rises) (err_as r _ _ log_stops stops) (λ is. of_error r (λ stop. stop ≢ Worn Flash) (Worn Flash) (err_as r _ _ not_worn_flash stops) is refl) beside
   where
     risen : (r : Result ℕ Stop) → IfOk r (λ lsn. (end_of old ≤ lsn) × (lsn < end_of new)) → OnOk r (end_of old ≤ end_of new)
     risen (Ok lsn) rises = omega (arith, rises.0, rises.1)
@@ -175,7 +180,7 @@ log_unchanged : (site : State) → ChangesOnly Log site site
 log_unchanged site = record { only = no_call site (SameBut Log site) (record { told = refl; telling = refl; content = λ d other. refl; loose = λ d other. refl }); left = refl }
 
 pub beside_nothing : {T : Type 0} {x : T} {log : LogStore} {site : State} → log_store.Invariant log site → KeepsInvariantBeside {T = T} (Ok x) log log site site
-beside_nothing {site = site} going = record { calls = calls_nothing; going = λ pages may. may; log_going = going; kept = refl; geometry = refl; reads = λ d. refl; changes = λ honest. log_unchanged site }
+beside_nothing {site = site} going = record { calls = calls_nothing; going = λ pages may. may; log_going = going; kept = refl; geometry = refl; reads = λ d. refl; changes = λ honest. log_unchanged site; next = λ honest. blocks.next_nothing }
 
 pub beside_then : {A B : Type 0} {a : A} {r : Result B Stop} {old mid new : LogStore} {before between now : State} → KeepsInvariantBeside {T = A} (Ok a) old mid before between → KeepsInvariantBeside r mid new between now → KeepsInvariantBeside r old new before now
 beside_then {before = before} {between = between} {now = now} first second = record {
@@ -185,11 +190,12 @@ beside_then {before = before} {between = between} {now = now} first second = rec
   kept = second.kept ∙ first.kept;
   geometry = second.geometry ∙ first.geometry;
   reads = λ d. second.reads d ∙ first.reads d;
+  next = λ honest. blocks.next_then first.geometry (first.next honest) (second.next (stays_honest before between first.calls.goes honest));
   changes = λ honest. changes_in_sequence Log before between now (first.changes honest) (second.changes (stays_honest before between first.calls.goes honest));
 }
 
 pub beside_answered : {A B : Type 0} {a : A} {b : B} {old new : LogStore} {before now : State} → KeepsInvariantBeside {T = A} (Ok a) old new before now → KeepsInvariantBeside {T = B} (Ok b) old new before now
-beside_answered first = record { calls = calls_answered first.calls; going = first.going; log_going = first.log_going; kept = first.kept; geometry = first.geometry; reads = first.reads; changes = first.changes }
+beside_answered first = record { calls = calls_answered first.calls; going = first.going; log_going = first.log_going; kept = first.kept; geometry = first.geometry; reads = first.reads; changes = first.changes; next = λ honest. blocks.next_answered (first.next honest) }
 
 -- Log and pages, on an honest site.
 

@@ -1,3 +1,4 @@
+pub mod NextUnits
 pub mod Runs
 pub mod Standing
 pub mod Touched

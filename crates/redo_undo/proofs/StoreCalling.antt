@@ -7,7 +7,7 @@ use Rattle.site.specs.declared.outside.Stop.TheVariants.{Memory, Worn}
 use Rattle.site.specs.declared.geometry.Geometry.{Geometry}
 use Rattle.site.specs.State.{State as Site, Snapshot, IsQuiet}
 use Rattle.site.specs.Moments.{LeavesOnly}
-use Rattle.site.specs.Laws.{holds_now, leaves_weaker}
+use Rattle.site.specs.Laws.{holds_now, leaves_weaker, stays_honest}
 use Rattle.record_model.specs.State.{Content}
 use Rattle.image_meaning.specs.Moments.{LeavesFor}
 use Rattle.image_meaning.specs.Meaning.{StandsFor}
@@ -17,6 +17,7 @@ use Rattle.redo_undo.proofs.RingNumbers.{skips_on, then_skips, skips_again, skip
 use Rattle.redo_undo.specs.declared.store.Store.{Store}
 use Rattle.redo_undo.proofs.Endings.{ends_answered, ends_behind, ends_failed, ends_leaving, ends_no_memory, ends_ok, leaves_late}
 use Rattle.site.proofs.Working.{ok_as, calls_then, calls_answered}
+use Rattle.redo_undo.proofs.NextUnits.{next_then, next_answered}
 use Rattle.redo_undo.specs.Calls as calls
 use Rattle.redo_undo.specs.StoreCalls.{KeepsInvariant, Keeps}
 
@@ -30,10 +31,11 @@ where_two A B C (Err e) first second then = tt
 
 pub works_then : {A B : Type 0} {a : A} {r : Result B Stop} {old mid new : Store} {before between now : Site} {n n' : ℕ} →
     KeepsInvariant {T = A} (Ok a) old mid before between n → KeepsInvariant r mid new between now n' → KeepsInvariant r old new before now (n + n')
-works_then {r = r} {old = old} {new = new} {n = n} {n' = n'} first second =
+works_then {r = r} {old = old} {new = new} {before = before} {between = between} {n = n} {n' = n'} first second =
     record {
       calls = calls_then first.calls second.calls;
       going = second.going;
+      next = λ honest. next_then first.sizes (first.next honest) (second.next (stays_honest before between first.calls.goes honest));
       made = ok_as r _ _ (λ more. let all : new.made ≡ old.made + (n + n') = omega (arith, more, first.made) in all) second.made;
       blocks = ok_as r _ _ (λ more. omega (arith, more, first.blocks)) second.blocks;
       rises = ok_as r _ _ (λ more. omega (arith, more, first.rises)) second.rises;
@@ -43,7 +45,7 @@ works_then {r = r} {old = old} {new = new} {n = n} {n' = n'} first second =
     }
 
 pub works_answered : {A B : Type 0} {a : A} {b : B} {old new : Store} {before now : Site} {n : ℕ} → KeepsInvariant {T = A} (Ok a) old new before now n → KeepsInvariant {T = B} (Ok b) old new before now n
-works_answered first = record { calls = calls_answered first.calls; going = first.going; made = first.made; blocks = first.blocks; rises = first.rises; kept = first.kept; sizes = first.sizes; stops = tt }
+works_answered first = record { calls = calls_answered first.calls; going = first.going; next = λ honest. next_answered (first.next honest); made = first.made; blocks = first.blocks; rises = first.rises; kept = first.kept; sizes = first.sizes; stops = tt }
 
 -- On an honest site.
 

@@ -16,6 +16,7 @@ use Rattle.log_store.specs.declared.store.LogStore.{LogStore}
 use Rattle.log_store.specs.Representation as log_store
 use Rattle.log_store.specs.Representation.{end_of}
 use Rattle.page_store.specs.declared.store.PageStore.{PageStore}
+use Rattle.page_store.specs.Calls.{KeepsNext}
 use Rattle.page_store.specs.Stopping.{MayStop}
 use Rattle.redo_undo.specs.Holding.{Invariant, IsLogWorn, blocks_to}
 use Rattle.redo_undo.specs.Numbers.{SkipsNone}
@@ -31,6 +32,7 @@ pub record KeepsInvariant {T : Type 0} (result : Result T Stop) (old new : LogSt
   pub geometry : pages'.flash.geometry ≡ pages.flash.geometry
   pub size : pages'.pool.size ≡ pages.pool.size
   pub stops : IfErr result (λ stop. MayStop stop)
+  pub next : IsTrue before.honest → KeepsNext result old new pages pages' before now
 
 -- The same where it logs no record, and reads none.
 pub record LogsNothing {T : Type 0} (result : Result T Stop) (old new : LogStore) (pages pages' : PageStore)
@@ -51,6 +53,7 @@ pub record KeepsInvariantBeside {T : Type 0} (result : Result T Stop) (old new :
   pub geometry : new.geometry ≡ old.geometry
   pub reads : SameReads before now
   pub changes : IsTrue before.honest → ChangesOnly Log before now
+  pub next : IsTrue before.honest → log_store.KeepsNext result old new before now
 
 -- A call that reads one record of the log: nothing else is read, and an honest site stays as it is.
 pub record ReadsOne {T : Type 0} (result : Result T Stop) (before now : State) : Type 0 where

@@ -1,6 +1,8 @@
 -- What the log and the pages hold together.
 use Rattle.std.specs.Prelude.{◌≡◌, ◌⊎◌, ℕ, ◌+◌, ◌-◌, ◌/◌, ◌^◌, ◌≤◌, ◌<◌, if◌then◌else◌, List, [], ◌∷◌, ◌++◌, Some, None}
 use Rattle.std.specs.Prelude.{Option}
+use Rattle.site.specs.declared.outside.Dev.{Dev}
+use Rattle.site.specs.declared.outside.Dev.TheVariants.{Log, Flash, Disk}
 use Rattle.site.specs.declared.geometry.Geometry.{Geometry}
 use Rattle.site.specs.State.{State, Image}
 use Rattle.sealed_ring.specs.Ring.{hi_of}
@@ -11,6 +13,7 @@ use Rattle.log_records.specs.Log.{Entry, number_of}
 use Rattle.log_records.specs.Unfinished.{owed}
 use Rattle.log_records.specs.Sound.{commit_number}
 use Rattle.log_laws.specs.Follow.{Follows}
+use Rattle.flash_cache.specs.Representation as flash_cache
 use Rattle.log_store.specs.declared.store.LogStore.{LogStore}
 use Rattle.log_store.specs.Representation as log_store
 use Rattle.log_store.specs.Representation.{has_tail, end_of}
@@ -88,3 +91,10 @@ pub record KeepsPages (g : Geometry) (pages : PageStore) (old new : Image) : Typ
 -- the ring of the log's blocks, or that of the master units, stands at its end: nothing can be appended to it
 abbrev pub IsLogWorn : Geometry → Image → Type 0
 IsLogWorn g image = IsLogAtEnd g image ⊎ (hi_of master_shape image.log ≡ 2 ^ 40)
+
+-- whatever stands there: on the log one of the two rings stands at its end, on flash the ring of segments has numbers
+-- for at most one more; on the disk there is no ring
+abbrev pub IsSpent : Dev → Geometry → Image → Type 0
+IsSpent Log g image = IsLogWorn g image
+IsSpent Flash g image = flash_cache.IsSpent g image
+IsSpent Disk g image = ⊥

@@ -1,8 +1,10 @@
 // A checkpoint: what is unsealed is sealed, the changed pages are flushed, and a new master is saved.
 ghost use Rattle.std.specs.Prelude.{◌≡◌, ◌≢◌, ◌⊎◌, ◌+◌, ◌<◌, ◌≤◌, List, false, Option, min, IfOk, OnOk, IfErr, ℕ};
+ghost use Rattle.std.specs.Prelude.{◌^◌, IsErrOf};
 ghost use Rattle.site.specs.declared.outside.Dev.{Dev};
 ghost use Rattle.site.specs.declared.outside.Stop.{Stop};
 ghost use Rattle.site.specs.Calls.{SameReads};
+ghost use Rattle.sealed_ring.specs.Ring.{hi_of};
 ghost use Rattle.sealed_ring.specs.Ready.{IsUsable};
 ghost use Rattle.record_model.specs.State.{Content};
 ghost use Rattle.log_records.specs.Log.{Entry};
@@ -156,6 +158,13 @@ fn save_master<S: Site>(
     ensures calls { Calls result (S.state site.old) (S.state site.new) }
     ensures reads { SameReads (S.state site.old) (S.state site.new) }
     ensures changes { IsTrue (S.state site.old).honest → ChangesOnly Dev.Log (S.state site.old) (S.state site.new) }
+    ensures next { IsTrue (S.state site.old).honest → log_store.IsNext log.old (S.state site.old)
+        → masters.old.hi ≡ hi_of master_shape (S.state site.old).image.log
+        → OnOk result (log_store.IsNext log.new (S.state site.new)
+        × (masters.new.hi ≡ hi_of master_shape (S.state site.new).image.log)) }
+    ensures worn { IsTrue (S.state site.old).honest
+        → masters.old.hi ≡ hi_of master_shape (S.state site.old).image.log
+        → IsErrOf result (Stop.Worn Dev.Log) → hi_of master_shape (S.state site.new).image.log ≡ 2 ^ 40 }
     ensures stops { IfErr result (λ stop. (stop ≡ Stop.Device Dev.Log) ⊎ (stop ≡ Stop.Worn Dev.Log)) }
 {
     save_laws();
@@ -210,6 +219,8 @@ impl Store {
 
         // Of every site.
         ensures calls { Calls result (S.state site.old) (S.state site.new) }
+        ensures next { IsTrue (S.state site.old).honest
+            → stores.KeepsNext result self.old self.new (S.state site.old) (S.state site.new) }
         ensures going { OnOk result (MayWork self.new (S.state site.new)) }
         ensures made { OnOk result (self.new.made + first ≡ self.old.made) }
         ensures blocks { OnOk result (blocks_to self.new.log ≡ blocks_to self.old.log) }

@@ -6,8 +6,6 @@ mod laws;
 mod places;
 mod plan;
 mod rows;
-#[cfg(test)]
-mod tests;
 
 pub use frame::Frame;
 pub use laws::{

@@ -15,8 +15,6 @@ mod laws;
 mod room;
 mod slotted;
 mod soundness;
-#[cfg(test)]
-mod tests;
 
 pub use laws::{each_value_fits, slots_of_a_page, zeros_are_blank};
 pub use slotted::Page;

@@ -2,7 +2,5 @@
 #![tactic(auto)]
 
 mod staging;
-#[cfg(test)]
-mod tests;
 
 pub use staging::stage;

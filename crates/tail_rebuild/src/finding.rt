@@ -2,6 +2,7 @@
 ghost use Rattle.std.specs.Prelude.{◌≡◌, ◌+◌, ◌*◌, ◌/◌, ℕ, List, IsTrue, IfOk, IsErrOf};
 ghost use Rattle.site.specs.declared.outside.Stop.{Stop};
 ghost use Rattle.site.specs.Geometry.{HasLimits, HasLengths};
+ghost use Rattle.sealed_ring.specs.Ready.{Matches as RingFits};
 ghost use Rattle.byte_fields.specs.declared.frame_head.FrameHead.{FrameHead};
 ghost use Rattle.frame_group.specs.Groups.{Frame};
 ghost use Rattle.tail_rebuild.specs.Standing.{HasGroups, HasSaved};
@@ -34,6 +35,8 @@ pub fn rebuild<S: Site>(alloc: Global, site: &mut S, geometry: &Geometry) -> Res
         → HasGroups geometry.now first groups (S.state site.old).image
         → HasSaved geometry.now groups segments (S.state site.old).image
         → IfOk result (λ heads. Finds heads groups (S.state site.new)) }
+    ensures segments { IsTrue (S.state site.old).honest
+        → IfOk result (λ heads. RingFits heads.segments (S.state site.new)) }
     ensures reads { ReadsFlash result (2 * (geometry.now.groups / 4 + 3) + 12) (S.state site.old) (S.state site.new) }
     ensures foreign { IsErrOf result Stop.Foreign → IsTrue (S.state site.old).honest
         → (first : ℕ) (groups : List (List Frame)) (segments : List (List FrameHead))

@@ -85,6 +85,8 @@ pub fn save_due<S: Site>(
     ensures fits { IsTrue (S.state site.old).honest
         → RingFinds groups.now (S.state site.old) → RingFinds segments.old (S.state site.old)
         → OnOk result (RingFinds groups.now (S.state site.new) × RingFinds segments.new (S.state site.new)) }
+    ensures segments { IsTrue (S.state site.old).honest → RingFits segments.old (S.state site.old)
+        → OnOk result (RingFits segments.new (S.state site.new)) }
     ensures changes { IsTrue (S.state site.old).honest
         → ChangesOnly Dev.Flash (S.state site.old) (S.state site.new) }
     ensures quiet { IsTrue (S.state site.old).honest → IsQuiet (S.state site.old)

@@ -3,8 +3,6 @@
 
 mod active;
 mod table;
-#[cfg(test)]
-mod tests;
 
 pub use active::Active;
 pub use table::TxnTable;

@@ -7,8 +7,6 @@ mod laws;
 mod lives;
 mod rows;
 mod scripts;
-#[cfg(test)]
-mod tests;
 
 pub use generator::{load_set, next};
 pub use laws::{scripts_are_cut, stop_lines_are_read};

@@ -1,5 +1,8 @@
-use Rattle.std.proofs.Common.{◌∙◌}
+use Rattle.std.proofs.Common.{◌∙◌, sym, ap}
 use Rattle.site.specs.Laws.{stays_honest}
+use Rattle.site.specs.State.{Image}
+use Rattle.sealed_ring.specs.Ring.{hi_of}
+use Rattle.sealed_ring.specs.Ready.{region}
 use Rattle.checkpoint.proofs.Standing.{finds_still, ready_still}
 use Rattle.checkpoint.proofs.masters.newest.Goals as goal
 
@@ -16,3 +19,10 @@ returns-clause-ready g c honest settled form =
     let mid = g.S.Site.state c.scan.new.site in
     ready_still c.in_ok-ring.ring old mid (g.S.Site.state c.master_on.new.site) (c.in_ok-ring.ensures.shape ∙ c.shape.ensures) (c.scan.ensures.same honest)
     (c.master_on.ensures.same (stays_honest old mid c.scan.ensures.goes honest)) settled form (c.in_ok-ring.ensures.fits honest)
+
+pub returns-clause-fits : goal.returns-clause-fits
+returns-clause-fits g c honest =
+    let mid = g.S.Site.state c.scan.new.site in
+    let ring = c.in_ok-ring.ring in
+    c.in_ok-ring.ensures.fits honest ∙ ap (λ (i : Image). hi_of ring.shape (region ring.shape (record mid { image = i })))
+    (sym (c.master_on.ensures.same (stays_honest (g.S.Site.state c.args.site.now) mid c.scan.ensures.goes honest)).image)

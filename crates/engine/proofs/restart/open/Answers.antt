@@ -9,7 +9,9 @@ use Rattle.log_records.specs.declared.log_record.LogRecord.{LogRecord}
 use Rattle.log_store.specs.declared.store.LogStore.{LogStore}
 use Rattle.log_store.specs.Representation as log_store
 use Rattle.sealed_ring.specs.Ring.{hi_of}
-use Rattle.image_changes.specs.Rings.{log_shape}
+use Rattle.image_changes.specs.Rings.{log_shape, segment_shape}
+use Rattle.sealed_ring.specs.declared.slots.Shape.{Shape}
+use Rattle.sealed_ring.specs.Ready.{region}
 use Rattle.engine.specs.Image.{IsSound}
 use Rattle.site.specs.Laws.{stays_honest, unchanged_in_sequence, goes_in_sequence}
 use Rattle.site.specs.declared.outside.Stop.TheVariants.{Foreign}
@@ -185,3 +187,17 @@ returns-in-Ok-keep_from-clause-log_reads g c = let s = c.start-2.ensures.others 
 
 pub returns-in-Err-keep_from-clause-log_reads : goal.returns-in-Err-keep_from-clause-log_reads
 returns-in-Err-keep_from-clause-log_reads g c = let s = c.start-2.ensures.others Log (λ e. cc) in omega (arith, c.start.ensures.reads, s, c.newest.ensures.reads)
+
+pub returns-in-Ok-keep_from-clause-next : goal.returns-in-Ok-keep_from-clause-next
+returns-in-Ok-keep_from-clause-next g c honest =
+    let s = (goal.at.returns-in-Ok-keep_from-clause-next g c).After-newest in
+    let new = g.S.Site.state c.newest.new.site in
+    let read = (c.newest.ensures.same (honest_found g s honest)).image in
+    let behind = read ∙ (c.start-2.ensures.same (honest_mid g s honest)).image in
+    let log = c.in-Ok.log in
+    let master = c.in-Ok-newest.masters in
+    record {
+      block = subst (λ (l : LogStore). log_store.IsNext l new) (sym c.in-Ok-keep_from.ensures.keeps) (c.in-Ok.ensures.is_next honest ∙ ap (λ (i : Image). hi_of (log_shape log.geometry) i.log) (sym behind));
+      master = subst (λ (p : Shape). master.hi ≡ hi_of p (region p new)) c.in-Ok-newest.ensures.shape (c.in-Ok-newest.ensures.fits (honest_found g s honest));
+      segment = c.in-Ok-start.ensures.is_next (honest_mid g s honest) ∙ ap (λ (i : Image). hi_of (segment_shape c.in-Ok-start.pages.flash.geometry) i.flash) (sym read);
+    }

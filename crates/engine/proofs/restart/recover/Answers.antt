@@ -13,7 +13,7 @@ use Rattle.log_records.specs.Sound.{Picture}
 use Rattle.redo_undo.specs.Numbers.{SkipsNone}
 use Rattle.redo_undo.specs.declared.store.Store.{Store}
 use Rattle.engine.specs.declared.restart.Restarted.{Restarted}
-use Rattle.engine.specs.Restarting.{IsReady, RestartedAs}
+use Rattle.engine.specs.Restarting.{IsReady, RestartedAs, found_store}
 use Rattle.log_store.specs.Representation.{has_tail}
 use Rattle.page_store.specs.Caching.{rules}
 use Rattle.checkpoint.specs.declared.pairs.Pair.{Pair}
@@ -36,7 +36,12 @@ use Rattle.site.specs.Work.{Calls}
 use Rattle.engine.proofs.Recovers.{no_tail_still, kept_of, owed_found, commits_fit, commits_found, may_be_made, restarted_as}
 use Rattle.engine.proofs.RingCounts.{opened_next, restart_failed, restart_done}
 use Rattle.redo_undo.proofs.RingNumbers.{skips_on, then_skips}
-use Rattle.std.specs.Prelude.{Ok, OnOk, Option, Result}
+use Rattle.std.specs.Prelude.{Ok, OnOk, Option, Result, IsTrue}
+use Rattle.site.specs.Laws.{stays_honest}
+use Rattle.page_store.proofs.NextUnits.{next_then as next_pages}
+use Rattle.redo_undo.specs.StoreCalls.{KeepsNext}
+use Rattle.redo_undo.proofs.NextUnits.{store_next, next_then}
+use Rattle.engine.proofs.RestartedUnits.{next_at_error, next_not_worn, next_at_end}
 use Rattle.analysis.specs.Open.{owed_for}
 use Rattle.analysis.specs.Table.{listed}
 use Rattle.site.proofs.Working.{calls_then, calls_failed, calls_answered, calls_refused}
@@ -285,3 +290,50 @@ returns-then-commits-sealed_end-clause-restarts g c =
       pool = tt;
       stops = tt;
     }
+
+-- The next units, whatever stood there.
+
+pub returns-in-Err-clause-next : goal.returns-in-Err-clause-next
+returns-in-Err-clause-next g c honest is =
+    let works = c.in-Err.ensures.works in
+    next_at_error {new = record { log = c.redo.new.log; pages = c.redo.new.pages; masters = c.args.opened.masters; made = 0 }} refl is
+    (store_next {old = found_store c.args.opened} c.requires.may.going.sizes refl works.stops (works.next honest))
+
+pub returns-then-sealed_end-owed-clause-next : goal.returns-then-sealed_end-owed-clause-next
+returns-then-sealed_end-owed-clause-next g c honest is = next_not_worn (λ d same. cc)
+
+pub returns-in-Err-undo_all-clause-next : goal.returns-in-Err-undo_all-clause-next
+returns-in-Err-undo_all-clause-next g c honest is =
+    let first = c.in-Ok.ensures.works in
+    let second = c.in-Err-undo_all.ensures.works in
+    next_at_error {new = record { log = c.undo_all.new.log; pages = c.undo_all.new.pages; masters = c.args.opened.masters; made = 0 }} refl is
+    (store_next {old = found_store c.args.opened} c.requires.may.going.sizes refl second.stops
+    (next_pages first.log_geometry first.geometry (first.next honest) (second.next (stays_honest (g.S.Site.state c.args.site.now) (g.S.Site.state c.redo.new.site) first.calls.goes honest))))
+
+pub returns-then-commits-sealed_end-clause-next : goal.returns-then-commits-sealed_end-clause-next
+returns-then-commits-sealed_end-clause-next g c honest is = next_not_worn (λ d same. cc)
+
+module _ (g : Over) (c : After-checkpoint g) (honest : IsTrue (g.S.Site.state c.args.site.now).honest) where
+  honest_mid : IsTrue (g.S.Site.state c.redo.new.site).honest
+  honest_mid = stays_honest (g.S.Site.state c.args.site.now) (g.S.Site.state c.redo.new.site) c.in-Ok.ensures.works.calls.goes honest
+
+  pub honest_then : IsTrue (g.S.Site.state c.undo_all.new.site).honest
+  honest_then = stays_honest (g.S.Site.state c.redo.new.site) (g.S.Site.state c.undo_all.new.site) c.in-Ok-undo_all.ensures.works.calls.goes honest_mid
+
+  -- the store that was undone
+  pub next_undone : (made : ℕ) → KeepsNext {T = Unit {0}} (Ok c.in-Ok-undo_all.field-0) (found_store c.args.opened)
+      (record { log = c.undo_all.new.log; pages = c.undo_all.new.pages; masters = c.args.opened.masters; made = made })
+      (g.S.Site.state c.args.site.now) (g.S.Site.state c.undo_all.new.site)
+  next_undone made =
+      let first = c.in-Ok.ensures.works in
+      store_next c.requires.may.going.sizes refl tt (next_pages first.log_geometry first.geometry (first.next honest) (c.in-Ok-undo_all.ensures.works.next honest_mid))
+
+pub returns-in-Ok-checkpoint-clause-next : goal.returns-in-Ok-checkpoint-clause-next
+returns-in-Ok-checkpoint-clause-next g c honest is =
+    let s = (goal.at.returns-in-Ok-checkpoint-clause-next g c).After-checkpoint in
+    next_at_end ((c.in-Ok-checkpoint.ensures.next (honest_then g s honest)).next ((next_undone g s honest _).next is)) (c.checkpoint.ensures.sizes ∙ c.undo_all.ensures.works.geometry ∙ c.redo.ensures.works.geometry)
+
+pub returns-clause-next : goal.returns-clause-next
+returns-clause-next g c honest is =
+    let s = (goal.at.returns-clause-next g c).After-checkpoint in
+    next_at_error refl is (next_then (c.undo_all.ensures.works.geometry ∙ c.redo.ensures.works.geometry) (next_undone g s honest _) (c.in-Err-checkpoint.ensures.next (honest_then g s honest)))

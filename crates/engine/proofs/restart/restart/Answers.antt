@@ -7,7 +7,7 @@ use Rattle.log_records.specs.Log.{table_of}
 use Rattle.page_store.specs.Caching.{cache_of, rules}
 use Rattle.site.proofs.Working.{ok_as}
 use Rattle.engine.proofs.Asking.{from_found, last_found, not_found, still_writes, writes_found}
-use Rattle.std.specs.Prelude.{Ok, IfOk}
+use Rattle.std.specs.Prelude.{Ok, Err, IfOk}
 use Rattle.std.proofs.Common.{◌≡◌, ◌∙◌, sym, subst, ap, refl, arith, ℕ}
 use Rattle.site.specs.State.{IsQuiet}
 use Rattle.site.specs.declared.geometry.Geometry.{Geometry}
@@ -15,7 +15,8 @@ use Rattle.log_records.specs.Sound.{Means, commit_count}
 use Rattle.image_meaning.specs.Meaning.{picture_under}
 use Rattle.engine.specs.Invariant.{sizes_of}
 use Rattle.engine.specs.Image.{IsSound}
-use Rattle.engine.specs.Restarting.{IsReady, RestartedAs}
+use Rattle.site.specs.Laws.{stays_honest}
+use Rattle.engine.specs.Restarting.{IsReady, LeavesNext, RestartedAs}
 use Rattle.engine.specs.declared.restart.Opened.{Opened}
 use Rattle.engine.specs.Leaves.{LeavesTable}
 use Rattle.engine.specs.Calls.{Ends}
@@ -23,6 +24,7 @@ use Rattle.engine.proofs.Calling.{calls_stopped, calls_behind, ends_then}
 use Rattle.redo_undo.proofs.Endings.{ends_ok}
 use Rattle.site.proofs.Working.{calls_failed, err_again}
 use Rattle.engine.proofs.Openings.{stands_still}
+use Rattle.engine.proofs.RestartedUnits.{next_not_worn}
 use Rattle.engine.proofs.RingCounts.{restart_unmoved, restart_behind}
 use Rattle.redo_undo.proofs.Appended.{if_ok_two}
 use Rattle.engine.proofs.restart.restart.Goals as goal
@@ -98,6 +100,10 @@ returns g c =
           ok_as c.recover.result _ _ (last_found k (rules_of c.args.pool k.groups) (restart_works p) c.in-Ok-open.opened.pages.flash.geometry (rules c.in-Ok-open.opened.pages) (restart_works (picture_under newest c.in-Ok-open.opened.pages.flash.geometry mid.image blocks)) (cache_of c.in-Ok-open.opened.pages) old mid _ unchanged sizes
           (λ i. rules_of (c.in-Ok-open.ensures.pool i) (sizes i).groups) (λ i. restart_works (picture_under newest (sizes i) (unchanged.image i) blocks)) (c.in-Ok-open.ensures.cache honest newest blocks there ∙ ap (λ (x : Geometry). cache_on x old.image) same))
           ((c.recover.ensures.recovers newest blocks (table_of p.log p.pages) (commit_count p) ready).last (unchanged.loose ∙ quiet));
+      next = λ honest k limits lengths.
+          let same : c.in-Ok.geometry ≡ k = (c.in-Ok.ensures.found k limits lengths).1 in
+          subst (λ (x : Geometry). LeavesNext c.recover.result (λ restarted. restarted.store) x (g.S.Site.state c.recover.new.site)) (c.in-Ok-open.ensures.sizes ∙ same)
+          (c.recover.ensures.next (stays_honest old mid c.open.ensures.goes honest) (c.in-Ok-open.ensures.next honest));
       restarts =
           record {
             calls = calls_behind c.open.ensures.goes c.open.ensures.same c.in-Ok-open.ensures.faults behind.calls;
@@ -139,6 +145,7 @@ returns-in-Err-open g c =
       writes = λ honest quiet k newest blocks sound.
           still_writes c.works_add_up.ensures.rise k (rules_of c.args.pool k.groups) (restart_works (picture_under newest k (g.S.Site.state c.args.site.now).image blocks)) (g.S.Site.state c.args.site.now) (g.S.Site.state c.open.new.site) (omega (arith, sound.octets.limits.groups)) quiet (c.open.ensures.same honest);
       last = λ honest quiet k newest blocks sound. tt;
+      next = λ honest k limits lengths. next_not_worn (λ d is. c.in-Err-open.ensures.unworn d (ap Err is));
       restarts =
           record {
             calls = calls_failed (calls_stopped c.open.ensures.goes c.open.ensures.same c.in-Err-open.ensures.device c.in-Err-open.ensures.faults);

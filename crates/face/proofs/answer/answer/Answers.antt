@@ -6,6 +6,7 @@ use Rattle.std.proofs.Common.{◌++◌, List, ℕ, refl, ap, subst, ◌∙◌}
 use Rattle.site.specs.declared.geometry.Geometry.{Geometry}
 use Rattle.site.specs.Moments.{EachMoment}
 use Rattle.site.specs.Laws.{holds_now, stays_honest}
+use Rattle.face.proofs.NextUnits.{next_later}
 use Rattle.site.specs.Telling.{TellsPart}
 use Rattle.shell_text.specs.Texts.{reply_text}
 use Rattle.engine.specs.Invariant.{sizes_of}
@@ -107,3 +108,9 @@ returns-in-Ok-tell_reply-clause-appends g c s fits is = cc
 
 pub returns-clause-appends : goal.returns-clause-appends
 returns-clause-appends g c s fits is = cc
+
+pub returns-in-Ok-tell_reply-clause-next : goal.returns-in-Ok-tell_reply-clause-next
+returns-in-Ok-tell_reply-clause-next g c honest is =
+    let mid = g.S.Site.state c.carry_out.new.site in
+    let same = c.tell_reply.ensures.same (stays_honest (g.S.Site.state c.args.site.now) mid c.carry_out.ensures.goes honest) in
+    next_later c.carry_out.new.engine.store mid (g.S.Site.state c.tell_reply.new.site) same.image (c.in-Ok.ensures.next honest is)

@@ -6,7 +6,7 @@ use Rattle.record_model.specs.Touches.{line_touches}
 use Rattle.std.proofs.Common.{◌≡◌, ◌∙◌, List, IfOk, OnOk, sym, ap, subst, true, [], arith}
 use Rattle.site.specs.declared.outside.Dev.TheVariants.{Log}
 use Rattle.site.specs.declared.outside.Stop.TheVariants.{Memory, Worn}
-use Rattle.site.proofs.Working.{of_error}
+use Rattle.site.proofs.Working.{of_error, ok_always}
 use Rattle.site.specs.Moments.{LeavesOnly}
 use Rattle.record_model.specs.declared.words.CacheLine.{CacheLine}
 use Rattle.record_model.specs.declared.words.Reply.TheVariants as reply
@@ -81,3 +81,6 @@ returns-then-asks_for_listing-clause-fills g c s fits quiet = ok_same c.cache.re
 
 pub returns-then-asks_for_listing-clause-appends : goal.returns-then-asks_for_listing-clause-appends
 returns-then-asks_for_listing-clause-appends g c s fits is = let same = of_error c.cache.result (λ stop. stop ≡ Memory) (Worn Log) c.cache.ensures.stops is in absurd cc
+
+pub returns-then-asks_for_listing-clause-next : goal.returns-then-asks_for_listing-clause-next
+returns-then-asks_for_listing-clause-next g c honest is = ok_always c.cache.result _ is

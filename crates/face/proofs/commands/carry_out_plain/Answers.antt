@@ -108,34 +108,34 @@ pub returns-in-Get-clause-any_moment : goal.returns-in-Get-clause-any_moment
 returns-in-Get-clause-any_moment g c s fits quiet = table_stays (sizes_of c.args.engine.now.store) (g.S.Site.state c.args.site.now) (g.S.Site.state c.get.new.site) s _ ((c.get.ensures.answers s fits).does.any_moment quiet)
 
 pub returns-in-Begin-clause-cause : goal.returns-in-Begin-clause-cause
-returns-in-Begin-clause-cause g c = fails_by c.begin.result c.args.engine.now (g.S.Site.state c.args.site.now) (g.S.Site.state c.begin.new.site) c.begin.ensures.serves.stops c.begin.ensures.serves.calls.device (λ s fits is. (c.begin.ensures.answers s fits).does.worn_log is) (λ s fits is. (c.begin.ensures.answers s fits).does.worn is) (λ is s fits. (c.begin.ensures.answers s fits).does.readable is)
+returns-in-Begin-clause-cause g c = fails_by c.begin.result c.args.engine.now (g.S.Site.state c.args.site.now) (g.S.Site.state c.begin.new.site) c.begin.ensures.serves.stops c.begin.ensures.serves.next c.begin.ensures.serves.calls.device (λ s fits is. (c.begin.ensures.answers s fits).does.worn_log is) (λ s fits is. (c.begin.ensures.answers s fits).does.worn is) (λ is s fits. (c.begin.ensures.answers s fits).does.readable is)
 
 pub returns-in-Checkpoint-clause-cause : goal.returns-in-Checkpoint-clause-cause
-returns-in-Checkpoint-clause-cause g c = fails_by c.checkpoint.result c.args.engine.now (g.S.Site.state c.args.site.now) (g.S.Site.state c.checkpoint.new.site) c.checkpoint.ensures.serves.stops c.checkpoint.ensures.serves.calls.device (λ s fits is. (c.checkpoint.ensures.answers s fits).does.worn_log is) (λ s fits is. (c.checkpoint.ensures.answers s fits).does.worn is) (λ is s fits. (c.checkpoint.ensures.answers s fits).does.readable is)
+returns-in-Checkpoint-clause-cause g c = fails_by c.checkpoint.result c.args.engine.now (g.S.Site.state c.args.site.now) (g.S.Site.state c.checkpoint.new.site) c.checkpoint.ensures.serves.stops c.checkpoint.ensures.serves.next c.checkpoint.ensures.serves.calls.device (λ s fits is. (c.checkpoint.ensures.answers s fits).does.worn_log is) (λ s fits is. (c.checkpoint.ensures.answers s fits).does.worn is) (λ is s fits. (c.checkpoint.ensures.answers s fits).does.readable is)
 
 pub returns-in-Commit-clause-cause : goal.returns-in-Commit-clause-cause
-returns-in-Commit-clause-cause g c = log_fails c.commit.result c.args.engine.now (g.S.Site.state c.args.site.now) (g.S.Site.state c.commit.new.site) c.commit.ensures.stops c.commit.ensures.serves.calls.device (λ s fits is. (c.commit.ensures.answers s fits).does.worn_log is)
+returns-in-Commit-clause-cause g c = log_fails c.commit.result c.args.engine.now (g.S.Site.state c.args.site.now) (g.S.Site.state c.commit.new.site) c.commit.ensures.stops c.commit.ensures.serves.next c.commit.ensures.serves.calls.device (λ s fits is. (c.commit.ensures.answers s fits).does.worn_log is)
 
 pub returns-in-Read-clause-cause : goal.returns-in-Read-clause-cause
-returns-in-Read-clause-cause g c = fails_by c.read.result c.args.engine.now (g.S.Site.state c.args.site.now) (g.S.Site.state c.read.new.site) c.read.ensures.serves.stops c.read.ensures.serves.calls.device (λ s fits is. (c.read.ensures.answers s fits).does.worn_log is) (λ s fits is. (c.read.ensures.answers s fits).does.worn is) (λ is s fits. (c.read.ensures.answers s fits).does.readable is)
+returns-in-Read-clause-cause g c = fails_by c.read.result c.args.engine.now (g.S.Site.state c.args.site.now) (g.S.Site.state c.read.new.site) c.read.ensures.serves.stops c.read.ensures.serves.next c.read.ensures.serves.calls.device (λ s fits is. (c.read.ensures.answers s fits).does.worn_log is) (λ s fits is. (c.read.ensures.answers s fits).does.worn is) (λ is s fits. (c.read.ensures.answers s fits).does.readable is)
 
 pub returns-in-Write-clause-cause : goal.returns-in-Write-clause-cause
-returns-in-Write-clause-cause g c = fails_by c.write.result c.args.engine.now (g.S.Site.state c.args.site.now) (g.S.Site.state c.write.new.site) c.write.ensures.serves.stops c.write.ensures.serves.calls.device (λ s fits is. (c.write.ensures.answers s fits).does.worn_log is) (λ s fits is. (c.write.ensures.answers s fits).does.worn is) (λ is s fits. (c.write.ensures.answers s fits).does.readable is)
+returns-in-Write-clause-cause g c = fails_by c.write.result c.args.engine.now (g.S.Site.state c.args.site.now) (g.S.Site.state c.write.new.site) c.write.ensures.serves.stops c.write.ensures.serves.next c.write.ensures.serves.calls.device (λ s fits is. (c.write.ensures.answers s fits).does.worn_log is) (λ s fits is. (c.write.ensures.answers s fits).does.worn is) (λ is s fits. (c.write.ensures.answers s fits).does.readable is)
 
 pub returns-in-Erase-clause-cause : goal.returns-in-Erase-clause-cause
-returns-in-Erase-clause-cause g c = fails_by c.erase.result c.args.engine.now (g.S.Site.state c.args.site.now) (g.S.Site.state c.erase.new.site) c.erase.ensures.serves.stops c.erase.ensures.serves.calls.device (λ s fits is. (c.erase.ensures.answers s fits).does.worn_log is) (λ s fits is. (c.erase.ensures.answers s fits).does.worn is) (λ is s fits. (c.erase.ensures.answers s fits).does.readable is)
+returns-in-Erase-clause-cause g c = fails_by c.erase.result c.args.engine.now (g.S.Site.state c.args.site.now) (g.S.Site.state c.erase.new.site) c.erase.ensures.serves.stops c.erase.ensures.serves.next c.erase.ensures.serves.calls.device (λ s fits is. (c.erase.ensures.answers s fits).does.worn_log is) (λ s fits is. (c.erase.ensures.answers s fits).does.worn is) (λ is s fits. (c.erase.ensures.answers s fits).does.readable is)
 
 pub returns-in-Scan-clause-cause : goal.returns-in-Scan-clause-cause
-returns-in-Scan-clause-cause g c = fails_by c.scan.result c.args.engine.now (g.S.Site.state c.args.site.now) (g.S.Site.state c.scan.new.site) c.scan.ensures.serves.stops c.scan.ensures.serves.calls.device (λ s fits is. (c.scan.ensures.answers s fits).does.worn_log is) (λ s fits is. (c.scan.ensures.answers s fits).does.worn is) (λ is s fits. (c.scan.ensures.answers s fits).does.readable is)
+returns-in-Scan-clause-cause g c = fails_by c.scan.result c.args.engine.now (g.S.Site.state c.args.site.now) (g.S.Site.state c.scan.new.site) c.scan.ensures.serves.stops c.scan.ensures.serves.next c.scan.ensures.serves.calls.device (λ s fits is. (c.scan.ensures.answers s fits).does.worn_log is) (λ s fits is. (c.scan.ensures.answers s fits).does.worn is) (λ is s fits. (c.scan.ensures.answers s fits).does.readable is)
 
 pub returns-in-Abort-clause-cause : goal.returns-in-Abort-clause-cause
-returns-in-Abort-clause-cause g c = fails_by c.abort.result c.args.engine.now (g.S.Site.state c.args.site.now) (g.S.Site.state c.abort.new.site) c.abort.ensures.serves.stops c.abort.ensures.serves.calls.device (λ s fits is. (c.abort.ensures.answers s fits).does.worn_log is) (λ s fits is. (c.abort.ensures.answers s fits).does.worn is) (λ is s fits. (c.abort.ensures.answers s fits).does.readable is)
+returns-in-Abort-clause-cause g c = fails_by c.abort.result c.args.engine.now (g.S.Site.state c.args.site.now) (g.S.Site.state c.abort.new.site) c.abort.ensures.serves.stops c.abort.ensures.serves.next c.abort.ensures.serves.calls.device (λ s fits is. (c.abort.ensures.answers s fits).does.worn_log is) (λ s fits is. (c.abort.ensures.answers s fits).does.worn is) (λ is s fits. (c.abort.ensures.answers s fits).does.readable is)
 
 pub returns-in-Get-clause-cause : goal.returns-in-Get-clause-cause
-returns-in-Get-clause-cause g c = fails_by c.get.result c.args.engine.now (g.S.Site.state c.args.site.now) (g.S.Site.state c.get.new.site) c.get.ensures.serves.stops c.get.ensures.serves.calls.device (λ s fits is. (c.get.ensures.answers s fits).does.worn_log is) (λ s fits is. (c.get.ensures.answers s fits).does.worn is) (λ is s fits. (c.get.ensures.answers s fits).does.readable is)
+returns-in-Get-clause-cause g c = fails_by c.get.result c.args.engine.now (g.S.Site.state c.args.site.now) (g.S.Site.state c.get.new.site) c.get.ensures.serves.stops c.get.ensures.serves.next c.get.ensures.serves.calls.device (λ s fits is. (c.get.ensures.answers s fits).does.worn_log is) (λ s fits is. (c.get.ensures.answers s fits).does.worn is) (λ is s fits. (c.get.ensures.answers s fits).does.readable is)
 
 pub returns-in-Set-clause-cause : goal.returns-in-Set-clause-cause
-returns-in-Set-clause-cause g c = fails_by c.set.result c.args.engine.now (g.S.Site.state c.args.site.now) (g.S.Site.state c.set.new.site) c.set.ensures.serves.stops c.set.ensures.serves.calls.device (λ s fits is. (c.set.ensures.answers s fits).does.worn_log is) (λ s fits is. (c.set.ensures.answers s fits).does.worn is) (λ is s fits. (c.set.ensures.answers s fits).does.readable is)
+returns-in-Set-clause-cause g c = fails_by c.set.result c.args.engine.now (g.S.Site.state c.args.site.now) (g.S.Site.state c.set.new.site) c.set.ensures.serves.stops c.set.ensures.serves.next c.set.ensures.serves.calls.device (λ s fits is. (c.set.ensures.answers s fits).does.worn_log is) (λ s fits is. (c.set.ensures.answers s fits).does.worn is) (λ is s fits. (c.set.ensures.answers s fits).does.readable is)
 
 pub returns-in-Stat-clause-reply : goal.returns-in-Stat-clause-reply
 returns-in-Stat-clause-reply g c s fits = c.stat.ensures s (g.S.Site.state c.args.site.now) fits ∙ (λ i. (step s (sym (c.in-Some.is ∙ ap Some c.in-Stat.is) i) []).reply)
@@ -424,3 +424,33 @@ returns-in-Quit-clause-appends g c s fits is = cc
 
 pub returns-in_default-clause-appends : goal.returns-in_default-clause-appends
 returns-in_default-clause-appends g c s fits is = cc
+
+pub returns-in-Begin-clause-next : goal.returns-in-Begin-clause-next
+returns-in-Begin-clause-next g c honest is = (c.begin.ensures.serves.next honest).next is
+
+pub returns-in-Checkpoint-clause-next : goal.returns-in-Checkpoint-clause-next
+returns-in-Checkpoint-clause-next g c honest is = (c.checkpoint.ensures.serves.next honest).next is
+
+pub returns-in-Commit-clause-next : goal.returns-in-Commit-clause-next
+returns-in-Commit-clause-next g c honest is = (c.commit.ensures.serves.next honest).next is
+
+pub returns-in-Read-clause-next : goal.returns-in-Read-clause-next
+returns-in-Read-clause-next g c honest is = (c.read.ensures.serves.next honest).next is
+
+pub returns-in-Write-clause-next : goal.returns-in-Write-clause-next
+returns-in-Write-clause-next g c honest is = (c.write.ensures.serves.next honest).next is
+
+pub returns-in-Erase-clause-next : goal.returns-in-Erase-clause-next
+returns-in-Erase-clause-next g c honest is = (c.erase.ensures.serves.next honest).next is
+
+pub returns-in-Scan-clause-next : goal.returns-in-Scan-clause-next
+returns-in-Scan-clause-next g c honest is = (c.scan.ensures.serves.next honest).next is
+
+pub returns-in-Abort-clause-next : goal.returns-in-Abort-clause-next
+returns-in-Abort-clause-next g c honest is = (c.abort.ensures.serves.next honest).next is
+
+pub returns-in-Get-clause-next : goal.returns-in-Get-clause-next
+returns-in-Get-clause-next g c honest is = (c.get.ensures.serves.next honest).next is
+
+pub returns-in-Set-clause-next : goal.returns-in-Set-clause-next
+returns-in-Set-clause-next g c honest is = (c.set.ensures.serves.next honest).next is

@@ -24,6 +24,7 @@ returns-in-Ok-clause-course g c =
       quiet = λ s fits quiet. tt;
       going = c.in-Ok.ensures.going;
       cause = tt;
+      next = c.in-Ok.ensures.next;
       goes = c.carry_out.ensures.goes;
       sizes = c.carry_out.ensures.sizes;
     }
@@ -45,6 +46,7 @@ returns-in-Err-clause-course g c = record {
   quiet = λ s fits quiet other. c.in-Err.ensures.quiet s fits quiet (λ d is. other d (ap halt.Stop is));
   going = tt;
   cause = c.in-Err.ensures.cause;
+  next = λ honest is. tt;
   goes = c.carry_out.ensures.goes;
   sizes = c.carry_out.ensures.sizes;
 }

@@ -80,3 +80,8 @@ pub returns-clause-count : goal.returns-clause-count
 returns-clause-count g c s fits =
     let end : c.loop-get._get ≡ c.args.load.now.count = omega (arith, c.loop-get-test.false, c.loop-get.auto._get-end) in
     subst (λ (n : ℕ). c.loop-get.found ≡ found_in (turns true s (get_lines (32 * c.args.pages) c.args.load.now.seed n) [])) end (c.loop-get.invariant.found s fits)
+
+pub overflow_add-found : goal.overflow_add-found
+overflow_add-found g c =
+    let one = one_most _ c.one_if-found.result c.one_if-found.ensures in
+    omega (arith, one, c.loop-get.invariant.few, c.loop-get-test.true, c.fits-load.0.1)

@@ -85,3 +85,13 @@ pub returns-clause-made : goal.returns-clause-made
 returns-clause-made g c s fits =
     let end : c.loop-set._set ≡ c.args.load.now.count = omega (arith, c.loop-set-test.false, c.loop-set.auto._set-end) in
     subst (λ (n : ℕ). HasMade (turns true s (set_lines (32 * c.args.pages) c.args.load.now.seed n) []) c.loop-set.committed c.loop-set.checkpoints) end (c.loop-set.invariant.made s fits)
+
+pub overflow_add-committed : goal.overflow_add-committed
+overflow_add-committed g c =
+    let one = one_most _ c.one_if-committed.result c.one_if-committed.ensures in
+    omega (arith, one, c.loop-set.invariant.committed, c.loop-set-test.true, c.fits-load.0.1)
+
+pub overflow_add-checkpoints : goal.overflow_add-checkpoints
+overflow_add-checkpoints g c =
+    let one = one_most _ c.one_if-checkpoints.result c.one_if-checkpoints.ensures in
+    omega (arith, one, c.loop-set.invariant.checkpoints, c.loop-set-test.true, c.fits-load.0.1)

@@ -83,14 +83,14 @@ returns-in-Ok-make_gets-clause-counts g c geometry opening good =
 
 pub returns-in-Err-make_sets-clause-cause : goal.returns-in-Err-make_sets-clause-cause
 returns-in-Err-make_sets-clause-cause g c =
-    answer_cause c.in-Err-make_sets.halt c.in-Ok.engine (g.S.Site.state c.args.site.now) (g.S.Site.state c.open.new.site) (g.S.Site.state c.make_sets.new.site) c.in-Err-make_sets.ensures.course.course.cause c.open.ensures.goes c.in-Ok.ensures.fits
+    answer_cause c.in-Err-make_sets.halt c.in-Ok.engine (g.S.Site.state c.args.site.now) (g.S.Site.state c.open.new.site) (g.S.Site.state c.make_sets.new.site) c.in-Err-make_sets.ensures.course.course.cause c.open.ensures.goes c.in-Ok.ensures.fits c.in-Ok.ensures.next
 
 pub returns-clause-cause : goal.returns-clause-cause
 returns-clause-cause g c =
     let load = c.args.load.now in
     answer_cause c.in-Err-make_gets.halt c.in-Ok.engine (g.S.Site.state c.args.site.now) (g.S.Site.state c.open.new.site) (g.S.Site.state c.make_gets.new.site)
     (carries_on c.works_add_up.ensures.works c.works_add_up.ensures.reads c.in-Ok-make_sets.made (Err c.in-Err-make_gets.halt) (set_lines (32 * c.pages_of-pages.result) load.seed load.count) (get_lines (32 * c.pages_of-pages.result) load.seed load.count) c.in-Ok.engine c.make_sets.new.engine c.make_gets.new.engine (g.S.Site.state c.open.new.site) (g.S.Site.state c.make_sets.new.site) (g.S.Site.state c.make_gets.new.site) (all_carried c.in-Ok-make_sets.made (set_lines (32 * c.pages_of-pages.result) load.seed load.count) c.in-Ok.engine c.make_sets.new.engine (g.S.Site.state c.open.new.site) (g.S.Site.state c.make_sets.new.site) c.in-Ok-make_sets.ensures.course) c.in-Err-make_gets.ensures.course).course.cause
-    c.open.ensures.goes c.in-Ok.ensures.fits
+    c.open.ensures.goes c.in-Ok.ensures.fits c.in-Ok.ensures.next
 
 pub returns-in-Err-make_sets-clause-halts : goal.returns-in-Err-make_sets-clause-halts
 returns-in-Err-make_sets-clause-halts g c = answer_takes_nothing c.in-Err-make_sets.halt c.in-Ok.engine (g.S.Site.state c.open.new.site) (g.S.Site.state c.make_sets.new.site) c.in-Err-make_sets.ensures.course.course.cause

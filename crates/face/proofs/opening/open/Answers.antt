@@ -14,6 +14,7 @@ use Rattle.face.proofs.Pagings.{first_paged, first_reads, never_paged}
 use Rattle.std.specs.Prelude.{Err}
 use Rattle.std.proofs.Common.{◌∙◌, ap, ◌≡◌, List, refl, ◌≤◌, arith, subst, sym}
 use Rattle.site.specs.Laws.{stays_honest, goes_in_sequence}
+use Rattle.face.proofs.NextUnits.{next_later}
 use Rattle.shell_text.specs.Texts.{open_text}
 use Rattle.face.specs.Texts.{status_of}
 use Rattle.face.specs.declared.halt.Halt.TheVariants as halt
@@ -31,7 +32,7 @@ returns-in-Err-clause-stops g c run begins =
     (λ ne. ends.quiet begins.quiet (λ d is. ne (ap (λ x. status_of (halt.Stop x)) is)))
 
 pub returns-in-Err-clause-cause : goal.returns-in-Err-clause-cause
-returns-in-Err-clause-cause g c = start_cause c.start.result c.in-Err.stop (g.S.Site.state c.args.site.now) (g.S.Site.state c.start.new.site) c.in-Err.is c.in-Err.ensures.stops c.start.ensures.calls.device c.start.ensures.ends
+returns-in-Err-clause-cause g c = start_cause c.start.result c.in-Err.stop (g.S.Site.state c.args.site.now) (g.S.Site.state c.start.new.site) c.in-Err.is c.in-Err.ensures.stops c.start.ensures.calls.device c.start.ensures.ends c.start.ensures.next
 
 pub returns-in-Err-tell_all-clause-stops : goal.returns-in-Err-tell_all-clause-stops
 returns-in-Err-tell_all-clause-stops g c run begins =
@@ -148,3 +149,10 @@ returns-in-Err-tell_all-clause-reads g c run begins newest blocks sound =
 
 pub returns-in-Err-tell_all-clause-goes : goal.returns-in-Err-tell_all-clause-goes
 returns-in-Err-tell_all-clause-goes g c = goes_in_sequence _ _ _ c.start.ensures.calls.goes c.tell_all.ensures.goes
+
+pub returns-in-Ok-tell_all-clause-next : goal.returns-in-Ok-tell_all-clause-next
+returns-in-Ok-tell_all-clause-next g c honest geometry limits lengths =
+    let mid = g.S.Site.state c.start.new.site in
+    let next = (c.in-Ok.ensures.next honest geometry limits lengths).next in
+    let same = c.tell_all.ensures.same (stays_honest (g.S.Site.state c.args.site.now) mid c.start.ensures.calls.goes honest) in
+    (next_later c.in-Ok.engine.store mid (g.S.Site.state c.tell_all.new.site) same.image next.0, next.1)

@@ -29,6 +29,7 @@ use Rattle.face.proofs.Listed.{with_line, going_before, answers_before, written_
 use Rattle.face.proofs.Written.{written_answered, written_heard, written_opened}
 use Rattle.face.proofs.RunsSoFar.{begun_after, moved, cut_short, goes_on}
 use Rattle.face.proofs.Logs.{still_fits, goes_on as engine_goes_on}
+use Rattle.face.proofs.NextUnits.{next_later}
 use Rattle.face.proofs.top.work.Goals as goal
 
 pub returns-in-Err-clause-works : goal.returns-in-Err-clause-works
@@ -45,6 +46,7 @@ loop-line-init g c = record {
   engine = c.in-Ok.ensures.goes_on;
   cut = λ honest. no_cut _ c.new-source.result _ c.new-source.ensures.empty c.new-source.ensures.taken c.new-source.ensures.going (ap (λ (input : Input). input.left) (c.open.ensures.left honest));
   fits = c.in-Ok.ensures.fits;
+  next = c.in-Ok.ensures.next;
   under_way = record { listings = []; left = λ run later begins is. is; going = λ run later begins is. c.in-Ok.ensures.going run begins; listed = λ run later begins is. lists_nothing c.args.pool run (g.S.Site.state c.args.site.now).image; written = λ run later begins is. written_opened c.args.pool run _ _ (c.in-Ok.ensures.going run begins).moments (c.open.ensures.reads run begins); answers = λ run later begins is. answers_none run _ _ (c.open.ensures.left begins.honest) };
   paged = c.in-Ok.ensures.paged;
   reads = c.open.ensures.reads;
@@ -165,6 +167,11 @@ loop-line-preserved g c =
           let honest = so_far.0.1.honest in
           let still = still_fits c.loop-line.engine mid next so_far.0.0 so_far.0.1 c.next.ensures.goes (c.next.ensures.same honest).image in
           ((_, c.in_default.ensures.fits so_far.0.0 (listing_of c.loop-line.engine) (λ asks. refl) still), c.answer.ensures.sizes ∙ so_far.1);
+      next = λ honest-entry geometry limits lengths.
+          let so_far = c.loop-line.invariant.next honest-entry geometry limits lengths in
+          let honest = stays_honest entry mid c.loop-line.invariant.goes honest-entry in
+          let still = next_later c.loop-line.engine.store mid next (c.next.ensures.same honest).image so_far.0 in
+          (c.in_default.ensures.next (stays_honest mid next c.next.ensures.goes honest) still, c.answer.ensures.sizes ∙ so_far.1);
       under_way =
           let under_way = c.loop-line.invariant.under_way in
           record {
@@ -348,6 +355,9 @@ returns-in-Err-answer-clause-cause g c =
     (λ honest geometry table commits stands.
     let so_far = c.loop-line.invariant.fits honest geometry table commits stands in
     ((so_far.0.0, still_fits c.loop-line.engine mid next so_far.0.0 so_far.0.1 c.next.ensures.goes (c.next.ensures.same so_far.0.1.honest).image), so_far.1))
+    (λ honest geometry limits lengths.
+    let so_far = c.loop-line.invariant.next honest geometry limits lengths in
+    (next_later c.loop-line.engine.store mid next (c.next.ensures.same (stays_honest entry mid c.loop-line.invariant.goes honest)).image so_far.0, so_far.1))
 
 pub returns-in-Err-next-clause-goes : goal.returns-in-Err-next-clause-goes
 returns-in-Err-next-clause-goes g c = goes_in_sequence _ _ _ c.loop-line.invariant.goes c.next.ensures.goes

@@ -3,6 +3,8 @@ use Rattle.checkpoint.specs.declared.master.Master.{Master}
 use Rattle.site.specs.declared.geometry.Geometry.{Geometry}
 use Rattle.record_model.specs.State.{State, Content}
 use Rattle.engine.specs.Image.{IsSound, Stands, log_under}
+use Rattle.site.specs.Geometry.{HasLimits, HasLengths}
+use Rattle.redo_undo.specs.StoreCalls.{AreNext}
 use Rattle.engine.specs.Representation.{Matches}
 use Rattle.site.specs.Calls.{Preserves}
 use Rattle.face.specs.Going.{IsUnderWay, IsPaged, IsCounted}
@@ -26,6 +28,7 @@ invariant-loop-line g l =
       engine : Invariant l.engine now;
       cut : IsTrue old.honest → Cut old.input.left l.source now l._line;
       fits : IsTrue old.honest → (g : Geometry) (table : List Content) (commits : ℕ) → Stands g old.image table commits → ((s : State) × Matches l.engine now s) × (sizes_of l.engine.store ≡ g);
+      next : IsTrue old.honest → (g : Geometry) → HasLimits g → HasLengths g old.image → AreNext l.engine.store now × (sizes_of l.engine.store ≡ g);
       under_way : IsUnderWay l.pool old now l.engine l._line;
       paged : (run : Run) → Begins run old → (newest : Option Master) (blocks : List (List LogRecord)) → IsSound newest run.geometry old.image blocks → IsPaged l.pool run newest old.image blocks l.engine l._line;
       reads : (run : Run) → Begins run old → AsksNoMore l.pool (first_lines run l._line) old now;

@@ -1,10 +1,10 @@
-use Rattle.std.proofs.Common.{inl, inr, ◌≡◌, ◌≤◌, ◌/◌, ℕ, sym, subst, arith, refl, ap, Err, List, false, [], ◌∷◌}
+use Rattle.std.proofs.Common.{inl, inr, ◌≡◌, ◌∙◌, ◌≤◌, ◌/◌, ℕ, sym, subst, arith, refl, ap, Err, List, false, [], ◌∷◌}
 use Rattle.site.specs.declared.outside.Dev.TheVariants.{Log}
 use Rattle.site.specs.State.{State, IsSettled, IsQuiet}
 use Rattle.site.specs.Laws.{quiet_settled}
 use Rattle.sealed_ring.specs.declared.ring.Ring.{Ring}
 use Rattle.sealed_ring.specs.declared.slots.Shape.{Shape}
-use Rattle.sealed_ring.specs.Ready.{IsReady, Finds}
+use Rattle.sealed_ring.specs.Ready.{region, IsReady, Finds}
 use Rattle.image_changes.specs.Rings.{master_shape}
 use Rattle.checkpoint.specs.declared.master.Master.{Master}
 use Rattle.image_meaning.specs.Flushed.{first_block}
@@ -13,7 +13,9 @@ use Rattle.redo_undo.proofs.Endings.{ends_ok}
 use Rattle.redo_undo.proofs.Saved.{needed_there, save_leaves, is_saved, log_still}
 use Rattle.site.specs.declared.outside.Stop.TheVariants.{Worn}
 use Rattle.redo_undo.proofs.WornLogs.{masters_at_end}
-use Rattle.sealed_ring.specs.Ring.{Units}
+use Rattle.sealed_ring.specs.Ring.{Units, hi_of}
+use Rattle.site.proofs.Working.{no_error}
+use Rattle.log_store.proofs.NextBlocks.{blocks_beside}
 use Rattle.redo_undo.specs.Holding.{blocks_to, Represents}
 use Rattle.redo_undo.proofs.RingNumbers.{hi_on}
 use Rattle.redo_undo.proofs.LeftNumbers.{save_skips, save_calls}
@@ -107,14 +109,14 @@ returns-in-Err-clause-keeps g c pages newest records table sizes h empty clean m
         worn_log = λ is.
             let same : c.in-Err.stop ≡ Worn Log = cc in
             let worn = c.in-Err.ensures.worn.0 (ap Err same) in
-            inr (masters_at_end c.args.masters.now site _ c.requires.shape may.ring (ap g.S.Site.state (c.save.ensures.unchanged worn)) worn);
+            inr (masters_at_end c.args.masters.now site _ c.requires.shape may.ring.hi (ap g.S.Site.state (c.save.ensures.unchanged worn)) worn);
         worn = λ is. absurd (never_worn_flash (Err c.in-Err.stop) c.in-Err.ensures.stops is);
         readable = appends_foreign (Err c.in-Err.stop) c.in-Err.ensures.stops;
       };
       numbers = λ quiet. save_skips _ pages.flash.geometry log log (unit (m g s pages newest records table sizes h empty clean may)) site _
           (hi_on log.geometry pages.flash.geometry log site.image sizes h.log_holds.ready.blocks.hi)
           (front g s pages newest records table sizes h empty clean may quiet) tt tt tt
-          (λ is. let same : c.in-Err.stop ≡ Worn Log = cc in masters_at_end c.args.masters.now site site c.requires.shape may.ring refl (c.in-Err.ensures.worn.0 (ap Err same)));
+          (λ is. let same : c.in-Err.stop ≡ Worn Log = cc in masters_at_end c.args.masters.now site site c.requires.shape may.ring.hi refl (c.in-Err.ensures.worn.0 (ap Err same)));
       masters = λ none. tt;
     }
 
@@ -134,3 +136,22 @@ returns-clause-keeps g c pages newest records table sizes h empty clean may =
           (c.in-Ok.ensures.reaches pages.flash.geometry h.log_holds.rings.limits h.log_holds.rings.lengths h.log_holds.ready.blocks.honest may.ring) (c.in-Ok.ensures.past h.log_holds.ready.blocks.honest)) (λ is. cc);
       masters = λ none. absurd (omega (arith, none));
     }
+
+pub returns-in-Err-clause-worn : goal.returns-in-Err-clause-worn
+returns-in-Err-clause-worn g c honest is says =
+    let same : c.in-Err.stop ≡ Worn Log = cc in
+    let full = c.in-Err.ensures.worn.0 (ap Err same) in
+    ap (λ (s : State). hi_of master_shape s.image.log) (ap g.S.Site.state (c.save.ensures.unchanged full)) ∙ sym is ∙ full
+
+pub returns-clause-worn : goal.returns-clause-worn
+returns-clause-worn g c honest is says = absurd (no_error says)
+
+pub returns-clause-next : goal.returns-clause-next
+returns-clause-next g c honest block master =
+    let old = g.S.Site.state c.args.site.now in
+    let new = g.S.Site.state c.save.new.site in
+    let log = c.args.log.now in (
+      c.keep.ensures.is_next new (block ∙ sym (blocks_beside log.geometry old new c.requires.going.limits c.requires.going.lengths c.save.ensures.goes (c.in-Ok.ensures.beside honest))),
+      subst (λ (s : Shape). c.save.new.ring.hi ≡ hi_of s (region s new)) c.save.ensures.shape
+          (c.in-Ok.ensures.fits honest (subst (λ (s : Shape). c.args.masters.now.hi ≡ hi_of s (region s old)) (sym c.requires.shape) master)),
+    )

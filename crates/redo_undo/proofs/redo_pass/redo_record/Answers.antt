@@ -1,4 +1,5 @@
-use Rattle.std.proofs.Common.{◌≡◌, ◌∷◌, [], sym, ap, ◌∙◌, arith}
+use Rattle.std.specs.Prelude.{Ok, IsTrue}
+use Rattle.std.proofs.Common.{◌≡◌, ◌∷◌, [], refl, sym, ap, ◌∙◌, arith}
 use Rattle.site.specs.declared.outside.Stop.TheVariants.{Foreign}
 use Rattle.redo_undo.specs.Redoing.{touches_of}
 use Rattle.std.proofs.lemmas.Option.{none-some}
@@ -13,7 +14,9 @@ use Rattle.redo_undo.proofs.CallsInSequence.{some_group}
 use Rattle.redo_undo.proofs.Changed.{front_is_current}
 use Rattle.redo_undo.proofs.NextRecords.{page_exists, lsn_sealed, no_change, changed, front_knows}
 use Rattle.redo_undo.proofs.RedoWorks.{stops_first, asks_no_page, stops_in_touch, asks_known, asks_redone}
-use Rattle.redo_undo.proofs.Calling.{keeps_redoing, logs_nothing}
+use Rattle.redo_undo.proofs.Calling.{keeps_redoing, logs_answered, logs_nothing}
+use Rattle.page_store.specs.Calls.{KeepsNext}
+use Rattle.page_store.proofs.NextUnits.{next_answered, next_with}
 use Rattle.std.proofs.lemmas.Grind.{common_steps}
 use Rattle.redo_undo.proofs.redo_pass.redo_record.Goals as goal
 
@@ -45,7 +48,7 @@ returns-then-front_lsn-lsn g c =
           c.in-Some.page on.0 on.1 on.2 c.args.pages.now (g.S.Site.state c.args.site.now) _ c.in-Ok.ensures.asks
           (front_knows pages site.image c.args.rec.now c.args.lsn c.in-Some.page c.in-Ok.ensures.there c.in-Ok.ensures.front on
           (omega (arith, c.front_lsn.ensures, c.if-front_lsn-lsn.true)) c.in-Some.page on.0 on.1 on.2);
-      logs_nothing = grind (arith, common_steps);
+      logs_nothing = logs_answered c.in-Ok.ensures.logs_nothing;
     }
 
 pub returns : goal.returns
@@ -56,6 +59,8 @@ returns g c =
     let e : Entry = record { lsn = c.args.lsn; rec = c.args.rec.now } in
     let first = (front_of pages.pool.frames).page in
     let content : lsn_of (current pages site.image first) ≡ lsn_of (front_of pages.pool.frames).content = ap lsn_of (front_is_current pages site.image c.in-Ok.ensures.there) in
+    let next : IsTrue (g.S.Site.state c.args.site.now).honest → KeepsNext {T = Unit {0}} (Ok tt) c.args.log.now c.touch.new.log c.args.pages.now c.change_front.new.pages (g.S.Site.state c.args.site.now) site =
+    λ honest. next_answered (next_with refl c.change_front.ensures.flash (c.in-Ok.ensures.logs_nothing.works.next honest)) in
     record {
       redoing = λ o front rest h is.
           let now = c.in-Ok.ensures.redoing o front h in

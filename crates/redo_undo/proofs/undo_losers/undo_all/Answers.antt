@@ -1,5 +1,6 @@
 use Rattle.std.proofs.Common.{true, false, ℕ, List, ◌≡◌, ◌++◌, ◌+◌, [], ◌∙◌, arith, Ok, ◌*◌}
 use Rattle.std.specs.Prelude.{⊤, IsErrOf, Option, option_map}
+use Rattle.site.proofs.Working.{no_error}
 use Rattle.std.specs.List.{AllByRecursion}
 use Rattle.analysis.specs.Table.{listed}
 use Rattle.redo_undo.proofs.CallsInSequence.{some_group}
@@ -21,7 +22,7 @@ use Rattle.log_store.specs.Representation.{has_tail}
 use Rattle.redo_undo.specs.Holding.{Represents}
 use Rattle.redo_undo.proofs.UndoneUpdates.{AsksUpdates, next_is_last, none_is_next, updates_asked_more, updates_asked_stopped, updates_asked, reads_stopped, reads_asked}
 use Rattle.redo_undo.specs.UndoingAll.{IsUndoing}
-use Rattle.redo_undo.proofs.Calling.{keeps_answered, keeps_failed, keeps_few, keeps_then, works_answered, works_beside, works_then}
+use Rattle.redo_undo.proofs.Calling.{keeps_answered, keeps_failed, keeps_few, keeps_then, works_answered, works_beside, works_stopped, works_then}
 use Rattle.redo_undo.proofs.undo_losers.undo_all.Given.{Over}
 use Rattle.redo_undo.proofs.undo_losers.undo_all.Goals.{After-end_undone, After-next_undo}
 use Rattle.redo_undo.proofs.undo_losers.undo_all.Goals as goal
@@ -62,7 +63,7 @@ loop-next-init g c =
     let fewer = c.in-Ok.ensures.fewer in
     let few = c.in-Ok.ensures.blocks in
     record {
-      works = works_answered (works_beside c.requires.going c.in-Ok.ensures.rises tt c.in-Ok.ensures.works);
+      works = works_answered (works_beside c.requires.going c.in-Ok.ensures.rises tt (λ says. no_error says) c.in-Ok.ensures.works);
       found_going = c.end_undone.ensures.found.going;
       before = c.in-Ok.ensures.before;
       remain = c.in-Ok.ensures.remain;
@@ -184,3 +185,6 @@ returns-in-Err-undo_next-clause-reads g c newest records table commits none h is
 pub returns-clause-reads : goal.returns-clause-reads
 returns-clause-reads g c newest records table commits none h is =
     reads_asked c.loop-next.log c.loop-next.pages (g.S.Site.state c.loop-next.site) newest records table commits c.loop-next.found c.loop-next.known c.args.pages.now (g.S.Site.state c.args.site.now) (before g (goal.at.returns-clause-reads g c).After-next_undo newest records table commits none h is)
+
+pub returns-in-Err-undo_next-clause-works : goal.returns-in-Err-undo_next-clause-works
+returns-in-Err-undo_next-clause-works g c = works_stopped c.loop-next.invariant.works c.in-Err-undo_next.ensures.works

@@ -1,4 +1,4 @@
-use Rattle.std.proofs.Common.{◌++◌, [], ◌∷◌, inr, refl, drop, sym, subst, arith, ℕ}
+use Rattle.std.proofs.Common.{◌≢◌, ◌++◌, [], ◌∷◌, inr, refl, drop, sym, subst, arith, ℕ}
 use Rattle.analysis.specs.Open.{Open, Replaces, TakesOut}
 use Rattle.analysis.specs.Table.{listed}
 use Rattle.redo_undo.specs.UndoingAll.{Remain, HasNone}
@@ -6,16 +6,18 @@ use Rattle.redo_undo.proofs.CallsInSequence.{some_group}
 use Rattle.redo_undo.proofs.Appended.{if_ok_one}
 use Rattle.redo_undo.proofs.Opens.{still_remain, none_remains_of, others_remain}
 use Rattle.redo_undo.proofs.Found.{last_known}
-use Rattle.site.specs.declared.outside.Stop.TheVariants.{Foreign}
+use Rattle.site.specs.declared.outside.Dev.TheVariants.{Flash}
+use Rattle.site.specs.declared.outside.Stop.TheVariants.{Foreign, Worn}
 use Rattle.redo_undo.specs.UndoWorks.{works_of, IsLastAt, UndoesUpdates}
 use Rattle.page_store.proofs.StagingLaws.{stages_none}
 use Rattle.redo_undo.proofs.Asking.{stages_log}
-use Rattle.redo_undo.proofs.AskingUndo.{none_read, not_worn, never_worn, asks_refused, asks_before}
+use Rattle.redo_undo.proofs.AskingUndo.{none_read, not_worn, not_worn_either, never_worn, asks_refused, asks_before}
 use Rattle.redo_undo.proofs.UndoneUpdates.{more_updates}
 use Rattle.redo_undo.proofs.Opens.{some_owed}
 use Rattle.redo_undo.proofs.Calling.{keeps_few, keeps_then, ends_stop, works_beside, works_then}
 use Rattle.site.specs.declared.outside.Dev.TheVariants.{Log}
-use Rattle.site.proofs.Working.{err_as, ok_as}
+use Rattle.std.specs.Prelude.{IsErrOf}
+use Rattle.site.proofs.Working.{err_as, of_error, ok_as}
 use Rattle.redo_undo.proofs.undo_losers.undo_next.Goals as goal
 
 pub returns-then-loser-gt1-clause-remain : goal.returns-then-loser-gt1-clause-remain
@@ -110,4 +112,5 @@ returns-clause-log_reads g c = let one = c.in-Ok.ensures.log_reads in omega (ari
 pub returns-clause-works : goal.returns-clause-works
 returns-clause-works g c =
     let stops = err_as c.end_one.result _ _ ends_stop c.end_one.ensures.stops in
-    works_then c.in-Ok.ensures.works (works_beside c.in-Ok.ensures.works.going c.end_one.ensures.rises stops c.end_one.ensures.works)
+    let never = λ (is : IsErrOf c.end_one.result (Worn Flash)). of_error c.end_one.result (λ stop. stop ≢ Worn Flash) (Worn Flash) (err_as c.end_one.result _ _ not_worn_either c.end_one.ensures.stops) is refl in
+    works_then c.in-Ok.ensures.works (works_beside c.in-Ok.ensures.works.going c.end_one.ensures.rises stops never c.end_one.ensures.works)

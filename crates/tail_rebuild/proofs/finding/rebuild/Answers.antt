@@ -90,3 +90,16 @@ returns-clause-finds g c honest first stand saved has holds =
       segments_fit = fits_again segments one four (same_four ∙ same_three ∙ same_two) segments_fit;
       list = c.of_groups.ensures ∙ front_whole (map heads_of stand) c.list_tail.new.list.items front (omega (arith, hi, own, next, count, size));
     }
+
+pub returns-clause-segments : goal.returns-clause-segments
+returns-clause-segments g c honest =
+    let one = g.S.Site.state c.scan.new.site in
+    let two = g.S.Site.state c.scan_near.new.site in
+    let three = g.S.Site.state c.list_segments.new.site in
+    let four = g.S.Site.state c.list_tail.new.site in
+    let honest_one = stays_honest (g.S.Site.state c.args.site.now) one c.in-Ok.ensures.goes honest in
+    let honest_two = stays_honest one two c.in-Ok-scan_near.ensures.goes honest_one in
+    let same_two = (c.in-Ok-scan_near.ensures.same honest_one).image in
+    let same_three = (c.in_default.ensures.reads.same honest_two).image in
+    let same_four = (c.in_default-list_tail.ensures.reads.same (stays_honest two three c.in_default.ensures.reads.goes honest_two)).image in
+    fits_again c.in-Ok.segments one four (same_four ∙ same_three ∙ same_two) (c.in-Ok.ensures.fits honest)

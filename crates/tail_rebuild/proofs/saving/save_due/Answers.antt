@@ -9,6 +9,7 @@ use Rattle.site.specs.Laws.{stays_honest, changes_in_sequence}
 use Rattle.site.proofs.Working.{err_again}
 use Rattle.meta_segments.proofs.Whole.{segment_form}
 use Rattle.tail_rebuild.specs.Saving.{is_due}
+use Rattle.tail_rebuild.proofs.Standing.{fits_again}
 use Rattle.tail_rebuild.proofs.Save.{none_saved, read_failed, finds_mid, ready_mid, moments, reached, stands_behind, unchanged_changes, finds_later, both_found}
 use Rattle.tail_rebuild.proofs.saving.save_due.Goals as goal
 
@@ -120,3 +121,10 @@ returns-clause-past g c honest =
     let same = ap length (c.in-Ok.ensures.reads.same honest).past in
     let five = c.in_default.ensures.past (stays_honest (g.S.Site.state c.args.site.now) (g.S.Site.state c.read_last_four.new.site) c.in-Ok.ensures.reads.goes honest) in
     omega (arith, same, five)
+
+pub returns-clause-segments : goal.returns-clause-segments
+returns-clause-segments g c honest fit =
+    let old = g.S.Site.state c.args.site.now in
+    let mid = g.S.Site.state c.read_last_four.new.site in
+    let reads = c.in-Ok.ensures.reads in
+    c.in_default.ensures.fits (stays_honest old mid reads.goes honest) (fits_again c.args.segments.now old mid (reads.same honest).image fit)

@@ -7,8 +7,8 @@ use Rattle.engine.proofs.Meanings.{begins_late, fresh_behind}
 use Rattle.engine.proofs.Settings.{begin_at, may_begin}
 use Rattle.engine.proofs.Actives.{begun, none_active}
 use Rattle.engine.proofs.Locks.{locks_stay, at_set}
-use Rattle.engine.proofs.Calling.{does_of, serves_stopped}
-use Rattle.redo_undo.proofs.StoreCalling.{keeps_failed, keeps_answered}
+use Rattle.engine.proofs.Calling.{does_of, serves_of, serves_stopped}
+use Rattle.redo_undo.proofs.StoreCalling.{keeps_failed, keeps_answered, works_answered}
 use Rattle.engine.proofs.engine.Engine.carry_out_begin.Goals as goal
 
 pub returns-in-Err-clause-does : goal.returns-in-Err-clause-does
@@ -39,7 +39,7 @@ pub returns-in-Err-clause-serves : goal.returns-in-Err-clause-serves
 returns-in-Err-clause-serves g c = serves_stopped c.in-Err.ensures.works (c.begin.ensures.reads Log)
 
 pub returns-clause-serves : goal.returns-clause-serves
-returns-clause-serves g c = record { keeps = grind (arith, common_steps); log_reads = c.begin.ensures.reads Log }
+returns-clause-serves g c = record { keeps = serves_of (works_answered c.in-Ok.ensures.works) (grind (arith, common_steps)); log_reads = c.begin.ensures.reads Log }
 
 pub returns-clause-fills : goal.returns-clause-fills
 returns-clause-fills g c = c.in-Ok.ensures.fills

@@ -13,6 +13,7 @@ use Rattle.engine.proofs.Keeping.{LetsGo, lets_go}
 use Rattle.engine.proofs.Checkpoints.{may_be_made, goes_on, fits_after}
 use Rattle.redo_undo.specs.StoreCalls.{Keeps}
 use Rattle.engine.proofs.Calling.{does_of}
+use Rattle.redo_undo.proofs.NextUnits.{next_answered}
 use Rattle.site.proofs.Working.{calls_answered}
 use Rattle.redo_undo.proofs.StoreCalling.{keeps_answered, keeps_failed}
 use Rattle.redo_undo.specs.MachineSteps.{checkpoint_works}
@@ -66,6 +67,7 @@ returns-in-Ok g c =
                   refl;
               sizes = c.checkpoint.ensures.sizes;
               stops = tt;
+              next = λ honest. next_answered (c.in-Ok.ensures.next honest);
             };
             log_reads = c.checkpoint.ensures.log_reads;
           };

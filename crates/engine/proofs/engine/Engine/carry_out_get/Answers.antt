@@ -1,7 +1,7 @@
 use Rattle.redo_undo.proofs.Fillings.{groups_ok, groups_err}
 use Rattle.redo_undo.specs.MachineSteps.{one_touch}
 use Rattle.redo_undo.proofs.Asking.{asks_ok}
-use Rattle.std.proofs.Common.{◌≡◌, ◌*◌, ◌<◌, None, sym, ap, ◌∙◌, arith, ◌/◌, rules}
+use Rattle.std.proofs.Common.{◌≡◌, ◌*◌, ◌<◌, None, refl, sym, ap, ◌∙◌, arith, ◌/◌}
 use Rattle.site.specs.declared.geometry.Geometry.{Geometry}
 use Rattle.site.specs.Laws.{stays_honest}
 use Rattle.record_model.specs.State as model
@@ -11,8 +11,8 @@ use Rattle.engine.specs.Invariant.{sizes_of}
 use Rattle.engine.specs.Representation.{Matches}
 use Rattle.engine.proofs.Meanings.{busy_read_is, got_is}
 use Rattle.engine.proofs.Writes.{touched_fits}
-use Rattle.engine.proofs.Calling.{does_of}
-use Rattle.redo_undo.proofs.StoreCalling.{keeps_failed, keeps_answered}
+use Rattle.engine.proofs.Calling.{does_of, serves_still}
+use Rattle.redo_undo.proofs.StoreCalling.{keeps_failed, keeps_answered, works_answered}
 use Rattle.engine.proofs.engine.Engine.carry_out_get.Goals as goal
 
 pub returns-in-Ok : goal.returns-in-Ok
@@ -31,7 +31,10 @@ returns-in-Ok g c =
           let holds = c.in-Ok.ensures.holds fits.newest fits.records s.table s.commits fits.holds in
           does_of (omega arith) (touched_fits c.args.self.now c.touch.new.self _ _ s fits (stays_honest _ _ c.touch.ensures.works.calls.goes fits.honest) holds c.touch.ensures.made)
           (keeps_answered (c.in-Ok.ensures.keeps fits.newest fits.records s.table s.commits fits.holds));
-      serves = record { keeps = search rules; log_reads = c.touch.ensures.log_reads };
+      serves = record {
+        keeps = serves_still c.requires.going (works_answered c.in-Ok.ensures.works) refl refl refl (omega (arith, c.requires.going.budget)) (omega (arith, c.requires.going.commits, c.in-Ok.ensures.works.rises));
+        log_reads = c.touch.ensures.log_reads;
+      };
       fills = λ s fits. groups_ok (c.in-Ok.ensures.fills fits.newest fits.records s.table s.commits fits.holds).room;
       asks = asks_ok c.in-Ok.field-0 _ (one_touch (c.args.number / 32)) _ _ _ _ c.in-Ok.ensures.asks;
     }

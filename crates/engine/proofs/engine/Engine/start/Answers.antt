@@ -4,6 +4,7 @@ use Rattle.site.specs.Laws.{stays_honest}
 use Rattle.site.specs.declared.geometry.Geometry.{Geometry}
 use Rattle.redo_undo.proofs.Endings.{ends_failed, ends_answered, ends_no_memory}
 use Rattle.engine.proofs.Starts.{started}
+use Rattle.engine.proofs.RestartedUnits.{next_as, next_at_end, next_no_memory}
 use Rattle.engine.proofs.RingCounts.{restart_again, restart_stopped, restart_answered}
 use Rattle.engine.proofs.engine.Engine.start.Goals as goal
 
@@ -37,3 +38,12 @@ returns-in-Err-new-clause-numbers g c honest quiet k newest blocks sound = resta
 
 pub returns-clause-numbers : goal.returns-clause-numbers
 returns-clause-numbers g c honest quiet k newest blocks sound = restart_answered c.in-Ok.restarted _ _ _ k _ _ _ refl (c.in-Ok.ensures.numbers honest quiet k newest blocks sound)
+
+pub returns-in-Err-clause-next : goal.returns-in-Err-clause-next
+returns-in-Err-clause-next g c honest k limits lengths = next_as (c.in-Err.ensures.next honest k limits lengths)
+
+pub returns-in-Err-new-clause-next : goal.returns-in-Err-new-clause-next
+returns-in-Err-new-clause-next g c honest k limits lengths = next_no_memory c.in-Err-new.ensures.memory
+
+pub returns-clause-next : goal.returns-clause-next
+returns-clause-next g c honest k limits lengths = (let next = (c.in-Ok.ensures.next honest k limits lengths).next in next_at_end next.0 next.1)

@@ -1,8 +1,14 @@
-use Rattle.std.proofs.Common.{Bool, refl, ◌∙◌, ap}
+use Rattle.std.proofs.Common.{◌≡◌, Bool, refl, ◌∙◌, ap, sym, subst, rules}
+use Rattle.std.specs.Prelude.{◌^◌}
 use Rattle.site.specs.Laws.{stays_honest}
+use Rattle.site.proofs.Working.{no_error}
+use Rattle.sealed_ring.specs.declared.slots.Shape.{Shape}
 use Rattle.sealed_ring.specs.declared.ring.Ring.{Ring}
+use Rattle.sealed_ring.specs.Ring.{SameOutside}
+use Rattle.sealed_ring.specs.Ready.{region}
 use Rattle.second_chance.specs.Queue.{pushed}
 use Rattle.flash_directory.specs.Heads.{frames_in}
+use Rattle.flash_cache.proofs.NextSegments.{segments_beside, spent_at_end}
 use Rattle.flash_cache.proofs.Pushing.{goes_on_same, goes_on_pushed, full_is, ring_found, fits_again, append_is}
 use Rattle.flash_cache.proofs.cache.FlashCache.append.Goals as goal
 
@@ -45,3 +51,26 @@ returns-clause-fits g c fits =
     let finds = ring_found cache old c.requires.going.rings.groups_shape fits in
     fits_again cache c.append.new.self c.push_group.new.self c.args.content.now old new (c.append.ensures.shape ∙ c.requires.going.rings.groups_shape) (stays_honest old new c.append.ensures.goes fits.honest)
     (c.in_ok-append.ensures.ready fits.honest finds) (returns-clause-appends g c fits) fits
+
+pub returns-in_err-append-clause-next_segment : goal.returns-in_err-append-clause-next_segment
+returns-in_err-append-clause-next_segment g c honest = record {
+  next = λ is. search rules;
+  worn = λ is says.
+      let full : c.args.self.now.ring.hi ≡ 2 ^ 40 = search rules in
+      spent_at_end c.args.self.now (g.S.Site.state c.args.site.now) (g.S.Site.state c.append.new.site) c.requires.going is full (ap g.S.Site.state (c.append.ensures.unchanged full));
+}
+
+pub returns-in-Err-clause-next_segment : goal.returns-in-Err-clause-next_segment
+returns-in-Err-clause-next_segment g c honest = record { next = λ is. tt; worn = search rules }
+
+pub returns-clause-next_segment : goal.returns-clause-next_segment
+returns-clause-next_segment g c honest =
+    let cache = c.args.self.now in
+    let old = g.S.Site.state c.args.site.now in
+    let new = g.S.Site.state c.append.new.site in
+    let going = c.requires.going in
+    record {
+      next = λ is. is ∙ sym (segments_beside cache.geometry old new going.limits going.lengths c.append.ensures.goes
+          (subst (λ (s : Shape). SameOutside s (region s old) (region s new)) going.rings.groups_shape (c.in_ok-append.ensures.outside honest)));
+      worn = λ is says. absurd (no_error says);
+    }

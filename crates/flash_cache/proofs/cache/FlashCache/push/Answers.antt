@@ -1,3 +1,5 @@
+use Rattle.std.specs.Prelude.{Ok}
+use Rattle.site.proofs.Working.{no_error}
 use Rattle.std.proofs.Common.{rules, refl, [], length, ◌≡◌, ◌≢◌, ◌≤◌, ◌<◌, ◌++◌, ℕ, List, ◌∙◌, sym, ap, subst, arith}
 use Rattle.std.proofs.lemmas.Result.{on_ok_weaker}
 use Rattle.std.specs.List.{All, AllPairs, AllByRecursion}
@@ -16,6 +18,7 @@ use Rattle.flash_cache.specs.Leaving.{again}
 use Rattle.flash_cache.specs.Pushed.{staged_marks, staged_pages, chance_marks, frames_given, pushed_queue, changes_of_push, LeavesPush}
 use Rattle.flash_cache.proofs.Heads.{heads_make}
 use Rattle.tail_rebuild.proofs.Standing.{group_exists}
+use Rattle.flash_cache.proofs.NextSegments.{next_elsewhere, next_then}
 use Rattle.flash_cache.proofs.Staging.{goes_on_later, fits_read, pages_read, read_untouched, pages_in_sequence, none_pushed, pushed_since}
 use Rattle.flash_cache.proofs.StagedMarks.{places_inside, reads_few, front_few, staged_numbered, chances_numbered, pages_apart, marks_exist}
 use Rattle.flash_cache.proofs.StagedContents.{pages_are, contents_are, dirty_long, contents_long, all_long, again_is, group_has, group_known, pushed_has, with_parts}
@@ -241,3 +244,14 @@ returns-clause-past g c honest =
     let numbers : c.as_slice-pages.result.now ≡ staged_pages c.args.self.now = items ∙ pages_are c.args.self.now c.args.plan.now.staged c.in-Ok.both.0 c.in-Ok.ensures.staged c.requires.staged in
     let calls = ap calls_of numbers in
     on_ok_weaker c.write.result (λ wrote. omega (arith, same, calls, wrote)) (c.write.ensures.past (stays_honest old mid c.frames_leaving.ensures.goes honest))
+
+pub returns-in-Err-clause-next_segment : goal.returns-in-Err-clause-next_segment
+returns-in-Err-clause-next_segment g c honest = record { next = λ is. tt; worn = search rules }
+
+pub returns-clause-next_segment : goal.returns-clause-next_segment
+returns-clause-next_segment g c honest =
+    let cache = c.args.self.now in
+    let old = g.S.Site.state c.args.site.now in
+    let mid = g.S.Site.state c.frames_leaving.new.site in
+    next_then refl (next_elsewhere {T = Unit {0}} (Ok tt) cache cache old mid refl refl (ap (λ (i : Image). i.flash) (c.frames_leaving.ensures.same honest).image) (λ says. no_error says))
+    (c.write.ensures.next_segment (stays_honest old mid c.frames_leaving.ensures.goes honest))

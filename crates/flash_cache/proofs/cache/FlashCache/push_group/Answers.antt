@@ -1,4 +1,4 @@
-use Rattle.std.proofs.Common.{true, arith}
+use Rattle.std.proofs.Common.{true, arith, refl, rules}
 use Rattle.site.specs.declared.outside.Dev.TheVariants.{Flash, Disk}
 use Rattle.site.specs.Laws.{others_untouched, untouched_in_sequence, stays_honest}
 use Rattle.site.proofs.Working.{err_again}
@@ -8,6 +8,7 @@ use Rattle.flash_cache.proofs.StagedContents.{pushed_has, given_few}
 use Rattle.flash_cache.proofs.Staging.{pages_changed, pages_in_sequence}
 use Rattle.flash_cache.proofs.StagedMarks.{calls_few}
 use Rattle.flash_cache.proofs.Pushing.{ring_found}
+use Rattle.flash_cache.proofs.NextSegments.{next_answered, next_then, next_saved}
 use Rattle.flash_cache.proofs.PushLaws.{push_front}
 use Rattle.flash_cache.proofs.SavedFirst.{stands_there, goes_on_saved, segments_found, fits_behind, is_behind, moment_behind, reaches_behind, staged_behind, failed_moment}
 use Rattle.flash_cache.proofs.PushedOutcome.{leaves_versions, leaves_clean, gives_behind, clean_behind, holds_behind}
@@ -240,3 +241,21 @@ returns-clause-past g c honest =
     let pushed = c.in_default-push.ensures.past (stays_honest (g.S.Site.state c.args.site.now) (g.S.Site.state c.save_due.new.site) c.save_due.ensures.goes honest) in
     let nine = calls_few c.args.self.now c.requires.going.sizes in
     omega (arith, saved, pushed, nine)
+
+pub returns-in-Err-clause-next_segment : goal.returns-in-Err-clause-next_segment
+returns-in-Err-clause-next_segment g c honest = record { next = λ is. tt; worn = search rules }
+
+pub returns-in-Err-push-clause-next_segment : goal.returns-in-Err-push-clause-next_segment
+returns-in-Err-push-clause-next_segment g c honest =
+    let old = g.S.Site.state c.args.site.now in
+    let mid = g.S.Site.state c.save_due.new.site in
+    let saved = next_saved c.args.self.now c.save_due.new.segments old mid c.requires.going.rings c.save_due.ensures.rings (c.in_default.ensures.segments honest) in
+    let both = next_then refl saved (c.in-Err-push.ensures.next_segment (stays_honest old mid c.save_due.ensures.goes honest)) in
+    record { next = λ is. tt; worn = λ is says. both.worn is (err_again _ _ says) }
+
+pub returns-clause-next_segment : goal.returns-clause-next_segment
+returns-clause-next_segment g c honest =
+    let old = g.S.Site.state c.args.site.now in
+    let mid = g.S.Site.state c.save_due.new.site in
+    let saved = next_saved c.args.self.now c.save_due.new.segments old mid c.requires.going.rings c.save_due.ensures.rings (c.in_default.ensures.segments honest) in
+    next_answered (next_then refl saved (c.in_default-push.ensures.next_segment (stays_honest old mid c.save_due.ensures.goes honest)))

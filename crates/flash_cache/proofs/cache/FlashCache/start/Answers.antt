@@ -91,3 +91,7 @@ returns-clause-going g c =
       sizes = sizes_known lists (λ k d lt. (start.are_heads k d lt).are_heads);
       exist = exist_known geometry.pages lists (λ k d lt. (start.are_heads k d lt).exist);
     })
+
+pub returns-clause-is_next : goal.returns-clause-is_next
+returns-clause-is_next g c honest =
+    c.in-Ok.ensures.segments honest ∙ ap (λ (s : Shape). hi_of s (region s (g.S.Site.state c.rebuild.new.site))) c.in-Ok.ensures.start.rings.segments_shape

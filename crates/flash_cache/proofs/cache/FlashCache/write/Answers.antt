@@ -1,12 +1,15 @@
-use Rattle.std.proofs.Common.{◌≡◌, ◌≤◌, ◌∷◌, List, [], ℕ, length, arith, sym, ap, subst}
+use Rattle.std.specs.Prelude.{Ok}
+use Rattle.std.proofs.Common.{rules, refl, ◌≡◌, ◌≤◌, ◌∷◌, List, [], ℕ, length, arith, sym, ap, subst}
 use Rattle.std.proofs.lemmas.Result.{on_ok_weaker}
 use Rattle.std_lemmas.proofs.Results.{on_ok}
 use Rattle.site.specs.declared.outside.Dev.TheVariants.{Flash, Disk}
 use Rattle.site.specs.State.{State}
+use Rattle.site.proofs.Working.{no_error}
 use Rattle.site.specs.Laws.{each_weaker, stays_honest, others_untouched, quiet_settled}
 use Rattle.site.specs.Moments.{SameAt, SameBut, Untouched}
 use Rattle.stage_out.specs.Staged.{HasStaged, calls_of}
 use Rattle.flash_cache.proofs.PushLaws.{push_leaves, stage_only}
+use Rattle.flash_cache.proofs.NextSegments.{next_elsewhere, next_then}
 use Rattle.flash_cache.proofs.Staging.{goes_on_later, fits_on, pages_changed, pages_in_sequence, all_made}
 use Rattle.site.proofs.Working.{lengths_later, ok_as}
 use Rattle.flash_cache.proofs.SomeMoments.{some_first, some_of}
@@ -99,3 +102,14 @@ pub returns-clause-past : goal.returns-clause-past
 returns-clause-past g c honest =
     let first = c.in_default.ensures.calls honest in
     ok_as c.append.result _ _ (λ more. omega (arith, first, more)) (c.append.ensures.past (stays_honest (g.S.Site.state c.args.site.now) (g.S.Site.state c.stage.new.site) c.stage.ensures.goes honest))
+
+pub returns-in-Err-clause-next_segment : goal.returns-in-Err-clause-next_segment
+returns-in-Err-clause-next_segment g c honest = record { next = λ is. tt; worn = search rules }
+
+pub returns-clause-next_segment : goal.returns-clause-next_segment
+returns-clause-next_segment g c honest =
+    let cache = c.args.self.now in
+    let old = g.S.Site.state c.args.site.now in
+    let mid = g.S.Site.state c.stage.new.site in
+    next_then refl (next_elsewhere {T = Unit {0}} (Ok tt) cache cache old mid refl refl ((c.stage.ensures.changes honest).only.now.content Flash (λ h. cc)) (λ says. no_error says))
+    (c.append.ensures.next_segment (stays_honest old mid c.stage.ensures.goes honest))

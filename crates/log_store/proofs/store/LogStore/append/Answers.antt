@@ -1,5 +1,6 @@
-use Rattle.std.proofs.Common.{◌≡◌, ◌+◌, ◌∙◌, ◌++◌, ◌∷◌, [], ℕ, List, Bool, ap, subst, arith, sym}
-use Rattle.std.specs.Prelude.{nat_lt, if◌then◌else◌}
+use Rattle.std.proofs.Common.{rules, ◌≡◌, ◌+◌, ◌∙◌, ◌++◌, ◌∷◌, [], ℕ, List, Bool, ap, subst, arith, sym}
+use Rattle.std.specs.Prelude.{nat_lt, if◌then◌else◌, Result, Err}
+use Rattle.site.specs.declared.outside.Stop.{Stop}
 use Rattle.site.specs.Laws.{goes_nowhere}
 use Rattle.log_records.specs.Spelling.{block_len}
 use Rattle.sealed_ring.specs.declared.ring.Ring.{Ring}
@@ -7,11 +8,13 @@ use Rattle.sealed_ring.specs.Ready.{IsUsable}
 use Rattle.log_records.specs.Log.{Entry}
 use Rattle.log_store.specs.declared.store.LogStore.{LogStore}
 use Rattle.log_store.specs.LogList.{sealed_if, entries, with_record}
-use Rattle.log_store.specs.Representation.{overflows}
+use Rattle.log_store.specs.Representation.{overflows, IsNext, KeepsNext}
 use Rattle.log_store.proofs.TailLaws.{spelling_short, full_tail, room_made, end_rises}
 use Rattle.log_records.proofs.Blocks.{some_octet}
 use Rattle.log_store.proofs.EntryLaws.{sealing_keeps, one_more, next_place}
+use Rattle.site.proofs.Working.{no_error}
 use Rattle.log_store.proofs.GoingOn.{goes_on}
+use Rattle.log_store.proofs.NextBlocks.{next_failed}
 use Rattle.log_store.proofs.store.LogStore.append.Goals as goal
 
 pub overflow_add-wanted : goal.overflow_add-wanted
@@ -76,3 +79,17 @@ returns-clause-past g c honest =
     let hi = ap (λ (s : LogStore). s.ring.hi) c.place.ensures.rest in
     let sealed = c.in_ok-seal_if.ensures.past honest in
     omega (arith, hi, sealed)
+
+pub returns-in_err-seal_if-clause-next_block : goal.returns-in_err-seal_if-clause-next_block
+returns-in_err-seal_if-clause-next_block g c honest =
+    let failed : c.from_residual.result ≡ Err c.in_err-seal_if.field-0.0 = search rules in
+    subst (λ (r : Result ℕ Stop). KeepsNext r c.args.self.now c.seal_if.new.self (g.S.Site.state c.args.site.now) (g.S.Site.state c.seal_if.new.site)) (sym failed) (next_failed (c.in_err-seal_if.ensures.next_block honest))
+
+pub returns-clause-next_block : goal.returns-clause-next_block
+returns-clause-next_block g c honest =
+    let sealed = c.in_ok-seal_if.ensures.next_block honest in
+    record {
+      next = λ is. subst (λ (s : LogStore). IsNext s (g.S.Site.state c.seal_if.new.site)) (sym c.place.ensures.rest) (sealed.next is);
+      masters = sealed.masters;
+      worn = λ is says. absurd (no_error says);
+    }

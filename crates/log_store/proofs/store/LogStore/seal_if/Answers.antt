@@ -1,9 +1,11 @@
-use Rattle.std.proofs.Common.{◌≡◌, ap, arith, refl, true, subst, rules}
+use Rattle.std.proofs.Common.{◌≡◌, ◌∙◌, ◌^◌, ap, arith, refl, true, sym, subst, rules}
 use Rattle.sealed_ring.specs.declared.ring.Ring.{Ring}
 use Rattle.sealed_ring.specs.declared.slots.Shape.{Shape}
-use Rattle.sealed_ring.specs.Ring.{SameOutside}
+use Rattle.sealed_ring.specs.Ring.{SameOutside, hi_of}
 use Rattle.sealed_ring.specs.Ready.{region}
+use Rattle.site.proofs.Working.{no_error}
 use Rattle.log_store.proofs.GoingOn.{goes_on}
+use Rattle.log_store.proofs.NextBlocks.{next_nothing, at_end, masters_beside}
 use Rattle.log_store.proofs.SealLaws.{none_left, none_front, none_beside, seal_beside, ring_ready, ring_finds, seal_left, seal_front, seal_reaches, seal_holds}
 use Rattle.log_store.proofs.Standing.{finds}
 use Rattle.log_store.proofs.store.LogStore.seal_if.Goals as goal
@@ -116,3 +118,28 @@ returns-clause-past g c honest =
     let more = ap (λ (r : Ring). r.hi) c.in_ok-append.ensures.ok in
     let five = c.in_ok-append.ensures.past honest in
     omega (arith, more, five)
+
+pub returns-then-not-wanted-clause-next_block : goal.returns-then-not-wanted-clause-next_block
+returns-then-not-wanted-clause-next_block g c honest = next_nothing
+
+pub returns-in_err-append-clause-next_block : goal.returns-in_err-append-clause-next_block
+returns-in_err-append-clause-next_block g c honest = record {
+  next = λ is. search rules;
+  masters = search rules;
+  worn = λ is says.
+      let full : c.args.self.now.ring.hi ≡ 2 ^ 40 = search rules in
+      at_end c.args.self.now (g.S.Site.state c.args.site.now) (g.S.Site.state c.append.new.site) is full (ap g.S.Site.state (c.append.ensures.unchanged full));
+}
+
+pub returns-clause-next_block : goal.returns-clause-next_block
+returns-clause-next_block g c honest =
+    let old = g.S.Site.state c.args.site.now in
+    let new = g.S.Site.state c.append.new.site in
+    let going = c.requires.going in
+    record {
+      next = λ is. subst (λ (s : Shape). c.append.new.self.hi ≡ hi_of s (region s new)) (c.append.ensures.shape ∙ going.shape)
+          (c.in_ok-append.ensures.fits honest (subst (λ (s : Shape). c.args.self.now.ring.hi ≡ hi_of s (region s old)) (sym going.shape) is));
+      masters = masters_beside c.args.self.now.geometry old new going.limits going.lengths c.append.ensures.goes
+          (subst (λ (s : Shape). SameOutside s (region s old) (region s new)) going.shape (c.in_ok-append.ensures.outside honest));
+      worn = λ is says. absurd (no_error says);
+    }

@@ -2,6 +2,7 @@ use Rattle.std.proofs.Common.{rules, List, [], ◌≤◌, append-nil, refl, ℕ,
 use Rattle.std.specs.Prelude.{if◌then◌else◌}
 use Rattle.site.specs.declared.outside.Dev.TheVariants.{Disk}
 use Rattle.site.specs.State.{Image}
+use Rattle.site.specs.Laws.{stays_honest}
 use Rattle.site.proofs.Working.{calls_then}
 use Rattle.image_changes.specs.Changes.{Reaches}
 use Rattle.second_chance.specs.Queue.{has_frame}
@@ -20,6 +21,7 @@ use Rattle.image_changes.proofs.Counting.{calls_then as counts_then, calls_uncha
 use Rattle.page_store.specs.Calls.{Stands}
 use Rattle.page_store.proofs.PushLaws.{ok_four}
 use Rattle.page_store.proofs.Bringing.{snapshot_same, ready_same, current_again, ahead_in}
+use Rattle.page_store.proofs.NextUnits.{next_then, next_read}
 use Rattle.page_store.proofs.Calling.{forces_again, keeps_read}
 use Rattle.page_store.proofs.StagingLaws.{stages_then, stages_as, stages_up}
 use Rattle.page_store.proofs.store.PageStore.bring_in.Goals as goal
@@ -45,6 +47,8 @@ returns-in-Ok-clause-works g c =
       size = c.read_in.ensures.size ∙ first.size;
       log_reads = read.log_reads ∙ first.log_reads;
       stops = search rules;
+      next = λ honest. next_then first.forces.geometry first.geometry (first.next honest)
+          (next_read c.read_in.result (read.same (stays_honest (g.S.Site.state c.args.site.now) (g.S.Site.state c.make_room.new.site) first.calls.goes honest)) read.segments read.geometry (search rules) (search rules));
     }
 
 pub returns-in-Ok-clause-keeps : goal.returns-in-Ok-clause-keeps

@@ -5,7 +5,7 @@ use Rattle.buffer_pool.specs.declared.frame.Frame.{Frame}
 use Rattle.buffer_pool.specs.Frames.{State as Pool, AreDistinct, frame_of}
 use Rattle.second_chance.specs.Machine.{Cache, evict_coldest, rules_of, staged_in_eviction, staged_in_push}
 use Rattle.flash_cache.specs.declared.cache.FlashCache.{FlashCache}
-use Rattle.site.proofs.Working.{ok_as, calls_nothing}
+use Rattle.site.proofs.Working.{ok_as, calls_nothing, no_error}
 use Rattle.page_store.specs.declared.store.PageStore.{PageStore}
 use Rattle.page_store.specs.Representation.{IsStore, Invariant}
 use Rattle.page_store.specs.Caching.{pool_page, cache_of, rules as rules_for}
@@ -57,7 +57,7 @@ pub returns-then-not-must_be_pushed-clause-pushes : goal.returns-then-not-must_b
 returns-then-not-must_be_pushed-clause-pushes g c =
     let h = has_left g (goal.at.returns-then-not-must_be_pushed-clause-pushes g c).In-Some in
     let none = none_forced _ _ _ h c.args.log.now (sym c.must_be_pushed.ensures ∙ c.if-not-must_be_pushed.true) in
-    pushes_still _ calls_nothing tt none c.requires.going (rest_going _ _ _ h (g.S.Site.state c.args.site.now) c.requires.going.pages_going) refl h.size refl
+    pushes_still _ calls_nothing tt (λ says. no_error says) (λ says. no_error says) none c.requires.going (rest_going _ _ _ h (g.S.Site.state c.args.site.now) c.requires.going.pages_going) refl h.size refl
     (rest_logged _ _ _ h (end_forced c.args.log.now))
 
 -- it is
@@ -144,7 +144,7 @@ returns-in-Ok-clause-pushes g c =
     let h = has_left g (goal.at.returns-in-Ok-clause-pushes g c).In-Some in
     let d = departed g (goal.at.returns-in-Ok-clause-pushes g c).After-deref-in-Ok-2 in
     let push = subst (λ (s : PageStore). Pushes c.push.result log c.push.new.log s c.push.new.self (g.S.Site.state c.args.site.now) (g.S.Site.state c.push.new.site) (forces log c.deref-in-Ok-2.result.now)) c.take_with.ensures.kept c.push.ensures.pushes in
-    pushes_as (d.forced log) (pushes_with push push.works.going push.works.geometry (push.works.size ∙ c.take_with.ensures.size ∙ h.size) push.ended
+    pushes_as (d.forced log) (pushes_with push refl refl push.works.going push.works.geometry (push.works.size ∙ c.take_with.ensures.size ∙ h.size) push.ended
     (λ all. push.logged (logged_left _ _ _ h c.take_with.new.self.pool c.take_with.ensures.part (end_forced log) all)))
 
 pub returns-in-Ok-clause-machine : goal.returns-in-Ok-clause-machine
@@ -179,8 +179,8 @@ returns-in-Err-clause-pushes g c =
     let kept = c.take_with.ensures.kept in
     let going = (going_left _ _ _ h c.take_with.new.self.pool c.take_with.ensures.part c.args.log.now site (subst IsStore kept c.take_with.ensures.store)
     c.requires.going).pages_going in
-    pushes_still _ (search rules) (search rules) tt c.requires.going (subst (λ (s : PageStore). Invariant s site) (sym kept) going)
-    (ap (λ (s : PageStore). s.flash.geometry) kept) (c.take_with.ensures.size ∙ h.size)
+    pushes_still _ (search rules) (search rules) (search rules) (search rules) tt c.requires.going (subst (λ (s : PageStore). Invariant s site) (sym kept) going)
+    (ap (λ (s : PageStore). s.flash) kept) (c.take_with.ensures.size ∙ h.size)
     (ap (λ (s : PageStore). s.ended) kept) (logged_left _ _ _ h c.take_with.new.self.pool c.take_with.ensures.part (end_forced c.args.log.now))
 
 pub returns-in-Err-clause-room_made : goal.returns-in-Err-clause-room_made

@@ -1,11 +1,11 @@
-use Rattle.std.specs.Prelude.{Ok}
+use Rattle.std.specs.Prelude.{Ok, IsTrue}
 use Rattle.std.specs.List.{AllByRecursion}
 use Rattle.std.proofs.Common.{rules, refl, [], length, ◌≡◌, ◌++◌, ◌+◌, ◌*◌, ℕ, Bool, arith, sym, ap, ◌∙◌, subst, List}
 use Rattle.site.specs.declared.outside.Dev.TheVariants.{Log, Flash}
 use Rattle.site.specs.declared.geometry.Geometry.{Geometry}
 use Rattle.site.specs.State.{IsQuiet, snapshot_of}
 use Rattle.site.specs.Moments.{Leaves, LeavesOnly}
-use Rattle.site.specs.Laws.{leaves_weaker, in_sequence, quiet_settled, holds_now}
+use Rattle.site.specs.Laws.{leaves_weaker, in_sequence, quiet_settled, holds_now, stays_honest}
 use Rattle.log_store.specs.LogList.{LogList, sealed_if, changes_if}
 use Rattle.flash_cache.specs.Pushed.{pushed_groups, frames_pushed, changes_of_group}
 use Rattle.slotted_page.specs.Layout.{IsSound}
@@ -30,7 +30,8 @@ use Rattle.page_store.specs.Staging.{HasQueueOn, Stages}
 use Rattle.tail_rebuild.specs.Saving.{is_due}
 use Rattle.flash_cache.specs.Representation.{groups_on}
 use Rattle.page_store.proofs.StagingLaws.{stages_beside, stages_between, stages_then, push_leaves as push_writes, queue_pushed}
-use Rattle.site.proofs.Working.{ok_as}
+use Rattle.site.proofs.Working.{no_error, ok_as}
+use Rattle.page_store.proofs.NextUnits.{next_logged, next_pushed, next_then, next_with}
 use Rattle.flash_cache.specs.declared.cache.FlashCache.{FlashCache}
 use Rattle.page_store.specs.Representation.{AreTold, Invariant}
 use Rattle.page_store.proofs.PushCalls.{paid_group, push_calls}
@@ -43,6 +44,7 @@ returns-in-Err-clause-reads g c = omega (arith, c.force_for.ensures.reads Flash)
 pub returns-in-Err-clause-pushes : goal.returns-in-Err-clause-pushes
 returns-in-Err-clause-pushes g c =
     let log_reads = c.force_for.ensures.reads Log in
+    let next = λ (honest : IsTrue (g.S.Site.state c.args.site.now).honest). next_logged {pages = c.args.self.now} (c.in-Err.ensures.next_block honest) (c.force_for.ensures.changes honest) (search rules) in
     search rules
 
 pub returns-in-Err-clause-keeps : goal.returns-in-Err-clause-keeps
@@ -209,6 +211,11 @@ returns-in-Ok g c =
               size = ap (λ (s : PageStore). s.pool.size) told;
               log_reads = log_reads;
               stops = search rules;
+              next = λ honest.
+                  let own = c.push_group-pushed.ensures.changes (stays_honest old mid c.force_for.ensures.calls.goes honest) in
+                  next_with {middle = store'} refl flash (next_then {a = tt} {between = store} c.force_for.ensures.forces.geometry refl
+                  (next_logged {pages = store} (c.in-Ok.ensures.next_block honest) (c.force_for.ensures.changes honest) (λ says. no_error says))
+                  (next_pushed {pages' = store'} (c.push_group-pushed.ensures.next_segment (stays_honest old mid c.force_for.ensures.calls.goes honest)) own.log.now.content (search rules)));
             };
             logged = λ all. (let all_told = subst (AllByRecursion (λ (f : Frame). IsLogged (end_forced log) f.content)) (sym frames) all in search rules);
             ended = ap (λ (s : PageStore). s.ended) told;

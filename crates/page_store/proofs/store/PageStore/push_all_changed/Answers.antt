@@ -3,7 +3,7 @@ use Rattle.std.proofs.Math.Bool.{or-false}
 use Rattle.std.specs.Prelude.{nat_lt, ◌||◌}
 use Rattle.std.proofs.lemmas.Bool.{true≢false, or_left, or_right, and_left, and_parts}
 use Rattle.std.proofs.lemmas.Bool.Decides.{nat_tests}
-use Rattle.site.proofs.Working.{calls_nothing}
+use Rattle.site.proofs.Working.{calls_nothing, no_error}
 use Rattle.second_chance.specs.Machine.{Rules, rules_of, Cache, push_changed, flushed, wants_flush}
 use Rattle.second_chance.specs.Laws.{changed_count}
 use Rattle.log_store.specs.LogList.{LogList, sealed_if}
@@ -38,7 +38,7 @@ loop-rest-init g c =
     let none : nat_lt log.ring.hi log.ring.hi ≡ false = grind (arith, nat_tests) in
     record {
       going = c.requires.going;
-      pushes = pushes_still _ calls_nothing tt none c.requires.going c.requires.going.pages_going refl refl refl (λ all. all);
+      pushes = pushes_still _ calls_nothing tt (λ says. no_error says) (λ says. no_error says) none c.requires.going c.requires.going.pages_going refl refl refl (λ all. all);
       so_far = λ list ready. record {
         made = [];
         has = subst (λ (b : Bool). HasMade (flush_changes log list store site.image) [] (standing log (sealed_if b list) store site.image) (changed_count (cache_of store).pool)) (sym none)

@@ -31,6 +31,7 @@ returns-in-Ok-clause-reads g c =
           (λ put. put_fits mid c.put.new.self frame new (ap (λ (p : Pool). p.frames) put) version (c.in-Ok.ensures.reads.fits fits)) c.put.ensures.ok;
       going = put_going c.put.result mid c.put.new.self frame c.holds-framed.result new c.put.ensures.ok c.put.ensures.framed c.put.ensures.err c.holds-framed.ensures none room page read.going;
       geometry = read.geometry;
+      segments = read.segments;
       ended = read.ended;
       flash_reads = read.flash_reads;
       disk_reads = read.disk_reads;

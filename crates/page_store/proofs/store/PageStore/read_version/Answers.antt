@@ -43,6 +43,7 @@ returns-then-found-clause-reads g c =
       going = store_with store c.fetch.new.self (g.S.Site.state c.args.site.now) (g.S.Site.state c.fetch.new.site) (ap (λ (f : FlashCache). f.geometry) (c.in-Ok.ensures.marked has))
           (λ n. ap (λ (f : FlashCache). has_frame f.directory n) (c.in-Ok.ensures.marked has) ∙ read_has c.args.page store.flash.directory n) c.fetch.ensures.going c.requires.going;
       geometry = search rules;
+      segments = c.fetch.ensures.segments;
       ended = refl;
       flash_reads = search rules;
       disk_reads = omega (arith, c.fetch.ensures.others Disk (λ same. cc));
@@ -87,6 +88,7 @@ returns-in-Ok-read_disk-clause-reads g c =
           (flash_holds_same cache mid.image new.image fits.groups flash (c.in-Ok.ensures.holds fits.groups fits.flash fits.holds))) c.sound_page-in-Ok-read_disk.ensures.sound;
       going = goes_on g s;
       geometry = same_geometry g s;
+      segments = c.fetch.ensures.segments;
       ended = refl;
       flash_reads = search rules;
       disk_reads = search rules;

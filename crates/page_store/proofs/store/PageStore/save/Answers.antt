@@ -117,7 +117,7 @@ returns-in-Ok g c =
           (record { pages = saved_fits c.frames_of_pages.ensures.cleared store mid pages contents old new same_frames push.works.geometry stands.gives facts.chosen_are.each framed after.pages; blocks = after.blocks; records = after.records })
           (saved_current c.frames_of_pages.ensures.cleared store mid pages contents old new same_frames push.works.geometry stands.gives facts.chosen_are.each framed facts.chosen_are.there) logged stands));
       pushes = pushes_as forced (subst (λ (s : PageStore). Pushes (Ok tt) log log' store s old new (forces log contents)) (sym cleared)
-          (pushes_with push (pool_going mid pool new refl (subst (λ (s : PageStore). IsPool s.pool) cleared c.clear_all.ensures.pool)
+          (pushes_with push refl refl (pool_going mid pool new refl (subst (λ (s : PageStore). IsPool s.pool) cleared c.clear_all.ensures.pool)
           (pages_cleared mid.flash.geometry.pages pages mid.pool.frames exist_now) (subst AreTold cleared (c.clear_all.ensures.told push.works.going.own.told)) push.works.going)
           push.works.geometry push.works.size push.ended logged));
       stages = stages_between refl (ap (λ (s : PageStore). s.flash) cleared) c.in-Ok.ensures.stages;

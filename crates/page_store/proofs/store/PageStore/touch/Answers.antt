@@ -13,6 +13,7 @@ use Rattle.page_store.specs.Caching.{pushes, pool_page, rules as rules_for, cach
 use Rattle.page_store.specs.Ahead.{IsLogged, end_forced, forces, pushed_for_room, pushed_by_touch}
 use Rattle.page_store.proofs.Pools.{touched_held}
 use Rattle.page_store.proofs.Touching.{way, pushed_same, pushes_same, finds_same, misses_same, not_there, count_if, other_count, nothing_forced, nothing_pushed, nothing_staged, all_touched, order_fits, order_current, pool_going, changes_same, nothing_changes, room_staged, room_next}
+use Rattle.page_store.proofs.NextUnits.{next_nothing}
 use Rattle.page_store.proofs.Calling.{forces_still, works_as, stops_as, keeps_as, stands_as, keeps_nothing, stands_still}
 use Rattle.page_store.proofs.StagingLaws.{stages_none, stages_as, stages_between}
 use Rattle.page_store.proofs.ToldPages.{told_touched}
@@ -69,6 +70,7 @@ returns-then-is_some-clause-works g c =
       size = size;
       log_reads = refl;
       stops = tt;
+      next = λ honest. next_nothing refl;
     }
 
 pub returns-then-is_some-clause-worn : goal.returns-then-is_some-clause-worn

@@ -1,13 +1,17 @@
 use Rattle.redo_undo.proofs.Fillings.{fills_more, begin_octets}
-use Rattle.std.proofs.Common.{refl, arith}
+use Rattle.std.proofs.Common.{refl, arith, ℕ, ◌+◌, rules}
 use Rattle.image_meaning.proofs.Leaving.{under_leaves_for}
 use Rattle.page_store.proofs.StagingLaws.{stages_ok, stages_err}
 use Rattle.redo_undo.proofs.Asking.{asks_nothing, stages_log}
 use Rattle.redo_undo.proofs.AskingFlush.{never_worn_flash}
-use Rattle.redo_undo.proofs.Calling.{keeps_appended}
+use Rattle.redo_undo.proofs.Calling.{keeps_appended, log_stops}
+use Rattle.site.proofs.Working.{no_error}
+use Rattle.page_store.proofs.NextUnits.{next_logged}
+use Rattle.redo_undo.specs.StoreCalls.{KeepsNext}
+use Rattle.redo_undo.proofs.NextUnits.{store_next}
 use Rattle.redo_undo.proofs.StoreCalling.{keeps_of}
 use Rattle.redo_undo.proofs.Saved.{finds_kept}
-use Rattle.std.specs.Prelude.{Err}
+use Rattle.std.specs.Prelude.{Ok, Err, IsTrue}
 use Rattle.redo_undo.proofs.store.Store.begin.Goals as goal
 
 pub returns-in-Ok-clause-holds : goal.returns-in-Ok-clause-holds
@@ -35,3 +39,19 @@ returns-in-Err-clause-keeps g c newest records table commits h =
 
 pub returns-in-Ok-clause-fills : goal.returns-in-Ok-clause-fills
 returns-in-Ok-clause-fills g c = fills_more (omega (arith, begin_octets)) (c.in-Ok.ensures.fills c.args.self.now.pages)
+
+pub returns-in-Ok-clause-works : goal.returns-in-Ok-clause-works
+returns-in-Ok-clause-works g c =
+    let works = c.in-Ok.ensures.works in
+    let next : IsTrue (g.S.Site.state c.args.site.now).honest → KeepsNext {T = ℕ} (Ok c.in-Ok.lsn) c.args.self.now (record c.args.self.now { log = c.log_record.new.log; made = c.args.self.now.made + 1 })
+    (g.S.Site.state c.args.site.now) (g.S.Site.state c.log_record.new.site) =
+    λ honest. store_next c.requires.may.going.both.sizes refl tt (next_logged (works.next honest) (works.changes honest) (λ says. no_error says)) in
+    search rules
+
+pub returns-in-Err-clause-works : goal.returns-in-Err-clause-works
+returns-in-Err-clause-works g c =
+    let works = c.in-Err.ensures.works in
+    let next : IsTrue (g.S.Site.state c.args.site.now).honest → KeepsNext {T = ℕ} (Err c.in-Err.stop) c.args.self.now (record c.args.self.now { log = c.log_record.new.log })
+    (g.S.Site.state c.args.site.now) (g.S.Site.state c.log_record.new.site) =
+    λ honest. store_next c.requires.may.going.both.sizes refl (log_stops c.in-Err.stop c.in-Err.ensures.stops) (next_logged (works.next honest) (works.changes honest) (never_worn_flash (Err c.in-Err.stop) c.in-Err.ensures.stops)) in
+    search rules

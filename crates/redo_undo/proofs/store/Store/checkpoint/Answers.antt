@@ -1,4 +1,4 @@
-use Rattle.std.proofs.Common.{◌≡◌, Err, refl, ap, arith, ◌≤◌, ◌∙◌}
+use Rattle.std.proofs.Common.{◌≡◌, ◌-◌, Err, refl, ap, arith, ◌≤◌, ◌∙◌}
 use Rattle.site.specs.declared.outside.Dev.TheVariants.{Log, Flash}
 use Rattle.page_store.specs.Caching.{rules}
 use Rattle.redo_undo.specs.MachineSteps.{checkpoint_works}
@@ -7,10 +7,17 @@ use Rattle.page_store.proofs.StagingLaws.{stages_ok, stages_err, stages_beside}
 use Rattle.redo_undo.proofs.Asking.{stages_log}
 use Rattle.redo_undo.proofs.AskingFlush.{never_worn_flash, asks_around, flush_then}
 use Rattle.redo_undo.proofs.Saved.{may_still}
-use Rattle.redo_undo.proofs.Calling.{keeps_answered, keeps_failed, keeps_appended, keeps_saved, keeps_then, keeps_unsaved}
+use Rattle.redo_undo.proofs.Calling.{log_stops, keeps_answered, keeps_failed, keeps_appended, keeps_saved, keeps_then, keeps_unsaved}
 use Rattle.redo_undo.proofs.StoreCalling.{keeps_of}
 use Rattle.site.proofs.Working.{no_error, calls_then}
-use Rattle.std.specs.Prelude.{Ok}
+use Rattle.std.specs.Prelude.{Ok, IsTrue}
+use Rattle.site.specs.Laws.{stays_honest}
+use Rattle.page_store.proofs.NextUnits.{next_logged, next_then}
+use Rattle.redo_undo.specs.declared.store.Store.{Store}
+use Rattle.redo_undo.specs.StoreCalls.{KeepsNext}
+use Rattle.redo_undo.proofs.NextUnits.{store_next, next_saved, next_failed, next_answered}
+use Rattle.redo_undo.proofs.store.Store.checkpoint.Given.{Over}
+use Rattle.redo_undo.proofs.store.Store.checkpoint.Goals.{After-save_master}
 use Rattle.site.specs.declared.outside.Stop.TheVariants.{Worn}
 use Rattle.redo_undo.proofs.store.Store.checkpoint.Goals as goal
 
@@ -118,3 +125,47 @@ returns-in-Err-save_master-clause-log_reads g c = c.save_master.ensures.reads Lo
 
 pub returns-in-Ok-save_master-clause-log_reads : goal.returns-in-Ok-save_master-clause-log_reads
 returns-in-Ok-save_master-clause-log_reads g c = c.save_master.ensures.reads Log ∙ c.flush.ensures.log_reads ∙ c.force.ensures.works.reads Log
+
+pub returns-in-Err-clause-next : goal.returns-in-Err-clause-next
+returns-in-Err-clause-next g c honest =
+    let stops = c.in-Err.ensures.stops in
+    store_next c.requires.going.both.sizes refl (log_stops c.in-Err.stop stops)
+    (next_logged (c.in-Err.ensures.works.next honest) (c.in-Err.ensures.works.changes honest) (never_worn_flash (Err c.in-Err.stop) stops))
+
+pub returns-in-Err-flush-clause-next : goal.returns-in-Err-flush-clause-next
+returns-in-Err-flush-clause-next g c honest =
+    let works = c.in-Ok.ensures.works in
+    store_next c.requires.going.both.sizes refl c.in-Err-flush.ensures.works.stops
+    (next_then works.geometry refl (next_logged (works.next honest) (works.changes honest) (λ says. no_error says))
+    (c.in-Err-flush.ensures.works.next (stays_honest (g.S.Site.state c.args.site.now) (g.S.Site.state c.force.new.site) works.calls.goes honest)))
+
+module _ (g : Over) (c : After-save_master g) (honest : IsTrue (g.S.Site.state c.args.site.now).honest) where
+  abbrev flushed : Store
+  flushed = record { log = c.flush.new.log; pages = c.flush.new.pages; masters = c.args.self.now.masters; made = c.args.self.now.made }
+
+  honest_mid : IsTrue (g.S.Site.state c.force.new.site).honest
+  honest_mid = stays_honest (g.S.Site.state c.args.site.now) (g.S.Site.state c.force.new.site) c.in-Ok.ensures.works.calls.goes honest
+
+  pub honest_then : IsTrue (g.S.Site.state c.flush.new.site).honest
+  honest_then = stays_honest (g.S.Site.state c.force.new.site) (g.S.Site.state c.flush.new.site) c.in-Ok-flush.ensures.works.calls.goes honest_mid
+
+  pub next_flushed : KeepsNext {T = Unit {0}} (Ok tt) c.args.self.now flushed (g.S.Site.state c.args.site.now) (g.S.Site.state c.flush.new.site)
+  next_flushed =
+      let works = c.in-Ok.ensures.works in
+      store_next c.requires.going.both.sizes refl tt
+      (next_then works.geometry refl (next_logged (works.next honest) (works.changes honest) (λ says. no_error says)) (c.in-Ok-flush.ensures.works.next honest_mid))
+
+pub returns-in-Err-save_master-clause-next : goal.returns-in-Err-save_master-clause-next
+returns-in-Err-save_master-clause-next g c honest =
+    let s = (goal.at.returns-in-Err-save_master-clause-next g c).After-save_master in
+    let there = honest_then g s honest in
+    let saved = c.in-Err-save_master.ensures in
+    next_failed (next_saved c.flush.ensures.works.geometry refl (saved.changes there) saved.stops (next_flushed g s honest) (saved.next there) (saved.worn there))
+
+pub returns-in-Ok-save_master-clause-next : goal.returns-in-Ok-save_master-clause-next
+returns-in-Ok-save_master-clause-next g c honest =
+    let s = (goal.at.returns-in-Ok-save_master-clause-next g c).After-save_master in
+    let there = honest_then g s honest in
+    let saved = c.in-Ok-save_master.ensures in
+    next_answered (next_saved {new = record { log = c.save_master.new.log; pages = c.flush.new.pages; masters = c.save_master.new.masters; made = c.args.self.now.made - c.args.first }}
+    c.flush.ensures.works.geometry refl (saved.changes there) tt (next_flushed g s honest) (saved.next there) (saved.worn there))

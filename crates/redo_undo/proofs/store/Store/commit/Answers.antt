@@ -1,6 +1,6 @@
 use Rattle.page_store.proofs.PushLaws.{log_fits}
-use Rattle.std.proofs.Common.{◌≡◌, ◌∙◌, ◌∷◌, [], ◌++◌, ◌+◌, Bool, true, nat_lt, inl, inr, Err, sym, ap, subst, arith, refl, ◌≤◌, ℕ, List}
-use Rattle.std.specs.Prelude.{if◌then◌else◌, ◌^◌, IsErrOf, Ok, OnOk, Option, Result}
+use Rattle.std.proofs.Common.{rules, ◌≡◌, ◌∙◌, ◌∷◌, [], ◌++◌, ◌+◌, Bool, true, nat_lt, inl, inr, Err, sym, ap, subst, arith, refl, ◌≤◌, ℕ, List}
+use Rattle.std.specs.Prelude.{if◌then◌else◌, ◌^◌, IsTrue, IsErrOf, Ok, OnOk, Option, Result}
 use Rattle.site.specs.State.{IsQuiet, State}
 use Rattle.site.specs.declared.outside.Dev.TheVariants.{Log}
 use Rattle.site.specs.declared.outside.Stop.TheVariants.{Worn}
@@ -17,7 +17,13 @@ use Rattle.redo_undo.specs.Holding.{IsLogWorn, blocks_to}
 use Rattle.page_store.proofs.StagingLaws.{stages_err, stages_then}
 use Rattle.redo_undo.proofs.Asking.{asks_nothing, stages_log, stages_alone}
 use Rattle.redo_undo.proofs.AskingFlush.{never_worn_flash}
-use Rattle.redo_undo.proofs.Calling.{appends_foreign, keeps_appended}
+use Rattle.redo_undo.proofs.Calling.{appends_foreign, keeps_appended, log_stops}
+use Rattle.site.proofs.Working.{no_error}
+use Rattle.site.specs.Laws.{stays_honest, changes_in_sequence}
+use Rattle.log_store.proofs.NextBlocks as blocks
+use Rattle.page_store.proofs.NextUnits.{next_logged}
+use Rattle.redo_undo.specs.StoreCalls.{KeepsNext}
+use Rattle.redo_undo.proofs.NextUnits.{store_next}
 use Rattle.redo_undo.proofs.Committed.{leaves_either, rings_then, sealed_then, commit_holds, before_only, either_after}
 use Rattle.redo_undo.proofs.Forced.{seals_only}
 use Rattle.redo_undo.proofs.LeftNumbers.{log_skips, log_calls, ready_next, same_at_most}
@@ -28,7 +34,7 @@ use Rattle.redo_undo.proofs.StoreCalling.{keeps_of, keeps_ok}
 use Rattle.redo_undo.proofs.WornLogs.{log_at_end}
 use Rattle.redo_undo.proofs.store.Store.commit.Given.{Over}
 use Rattle.redo_undo.proofs.store.Store.commit.Goals.{After-force}
-use Rattle.site.specs.Moments.{LeavesOnly}
+use Rattle.site.specs.Moments.{ChangesOnly, LeavesOnly}
 use Rattle.site.specs.declared.outside.Stop.{Stop}
 use Rattle.record_model.specs.State.{Content, table_with}
 use Rattle.log_records.specs.Log.{Entry}
@@ -185,3 +191,41 @@ returns-in-Err-force-clause-reads g c = λ d. c.force.ensures.reads d ∙ c.log_
 
 pub returns-in-Ok-force-clause-reads : goal.returns-in-Ok-force-clause-reads
 returns-in-Ok-force-clause-reads g c = λ d. c.force.ensures.reads d ∙ c.log_record.ensures.works.reads d
+
+-- The next units of the rings.
+
+pub returns-in-Err-clause-works : goal.returns-in-Err-clause-works
+returns-in-Err-clause-works g c =
+    let works = c.in-Err.ensures.works in
+    let next : IsTrue (g.S.Site.state c.args.site.now).honest → KeepsNext {T = ℕ} (Err c.in-Err.stop) c.args.self.now (record c.args.self.now { log = c.log_record.new.log })
+    (g.S.Site.state c.args.site.now) (g.S.Site.state c.log_record.new.site) =
+    λ honest. store_next c.requires.may.going.both.sizes refl (log_stops c.in-Err.stop c.in-Err.ensures.stops) (next_logged (works.next honest) (works.changes honest) (never_worn_flash (Err c.in-Err.stop) c.in-Err.ensures.stops)) in
+    search rules
+
+module _ (g : Over) (c : After-force g) (honest : IsTrue (g.S.Site.state c.args.site.now).honest) where
+  pub honest_logged : IsTrue (g.S.Site.state c.log_record.new.site).honest
+  honest_logged = stays_honest (g.S.Site.state c.args.site.now) (g.S.Site.state c.log_record.new.site) c.in-Ok.ensures.works.calls.goes honest
+
+  pub changes_both : ChangesOnly Log (g.S.Site.state c.args.site.now) (g.S.Site.state c.force.new.site)
+  changes_both = changes_in_sequence Log (g.S.Site.state c.args.site.now) (g.S.Site.state c.log_record.new.site) (g.S.Site.state c.force.new.site) (c.in-Ok.ensures.works.changes honest) (c.force.ensures.changes honest_logged)
+
+pub returns-in-Err-force-clause-works : goal.returns-in-Err-force-clause-works
+returns-in-Err-force-clause-works g c =
+    let s = (goal.at.returns-in-Err-force-clause-works g c).After-force in
+    let works = c.in-Ok.ensures.works in
+    let stops = c.in-Err-force.ensures.stops in
+    let next : IsTrue (g.S.Site.state c.args.site.now).honest → KeepsNext {T = ℕ} (Err c.in-Err-force.stop) c.args.self.now (record c.args.self.now { log = c.force.new.self })
+    (g.S.Site.state c.args.site.now) (g.S.Site.state c.force.new.site) =
+    λ honest. store_next c.requires.may.going.both.sizes refl (log_stops c.in-Err-force.stop stops)
+    (next_logged (blocks.next_failed (blocks.next_then works.geometry (works.next honest) (c.in-Err-force.ensures.next_block (honest_logged g s honest)))) (changes_both g s honest) (never_worn_flash (Err c.in-Err-force.stop) stops)) in
+    search rules
+
+pub returns-in-Ok-force-clause-works : goal.returns-in-Ok-force-clause-works
+returns-in-Ok-force-clause-works g c =
+    let s = (goal.at.returns-in-Ok-force-clause-works g c).After-force in
+    let works = c.in-Ok.ensures.works in
+    let next : IsTrue (g.S.Site.state c.args.site.now).honest → KeepsNext {T = ℕ} (Ok c.in-Ok.lsn) c.args.self.now (record c.args.self.now { log = c.force.new.self; made = c.args.self.now.made + 1 })
+    (g.S.Site.state c.args.site.now) (g.S.Site.state c.force.new.site) =
+    λ honest. store_next c.requires.may.going.both.sizes refl tt
+    (next_logged (blocks.next_answered (blocks.next_then works.geometry (works.next honest) (c.in-Ok-force.ensures.next_block (honest_logged g s honest)))) (changes_both g s honest) (λ says. no_error says)) in
+    search rules

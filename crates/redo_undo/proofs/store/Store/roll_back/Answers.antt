@@ -2,11 +2,14 @@ use Rattle.redo_undo.proofs.Calling.{keeps_few, keeps_failed, keeps_answered}
 use Rattle.redo_undo.proofs.StoreCalling.{keeps_of}
 use Rattle.image_meaning.proofs.Leaving.{under_leaves_for}
 use Rattle.redo_undo.proofs.Asking.{asks_same, asks_err, asks_ok, asks_fails}
-use Rattle.std.proofs.Common.{◌+◌, refl, ap, ◌∙◌, arith, sym}
+use Rattle.std.specs.Prelude.{Ok, Err, IsTrue}
+use Rattle.std.proofs.Common.{rules, ◌+◌, refl, ap, ◌∙◌, arith, sym}
 use Rattle.site.specs.declared.geometry.Geometry.{Geometry}
 use Rattle.site.specs.declared.outside.Stop.TheVariants.{Foreign}
 use Rattle.redo_undo.proofs.Saved.{finds_kept}
 use Rattle.redo_undo.specs.declared.store.Store.{Store}
+use Rattle.redo_undo.specs.StoreCalls.{KeepsNext}
+use Rattle.redo_undo.proofs.NextUnits.{store_next, next_failed, next_answered, next_refused}
 use Rattle.redo_undo.specs.StoreRollback.{RollsBack}
 use Rattle.redo_undo.proofs.StoreRollbacks.{active_left, rolls_back, has_room}
 use Rattle.redo_undo.proofs.store.Store.roll_back.Goals as goal
@@ -89,3 +92,33 @@ pub returns-clause-log_reads : goal.returns-clause-log_reads
 returns-clause-log_reads g c newest records table commits h writes active count =
     let left = active_left c.args.self.now (g.S.Site.state c.args.site.now) newest records table commits c.args.entry.begin c.args.entry.last writes h active in
     omega (arith, c.undo_one.ensures.log_reads newest records table commits _ h.both left refl refl, count)
+
+-- The next units of the rings.
+
+pub returns-in-Err-clause-works : goal.returns-in-Err-clause-works
+returns-in-Err-clause-works g c =
+    let works = c.in-Err.ensures.works in
+    let next : IsTrue (g.S.Site.state c.args.site.now).honest → KeepsNext {T = Unit {0}} (Err c.in-Err.stop) c.args.self.now (record c.args.self.now { log = c.undo_one.new.log; pages = c.undo_one.new.pages }) (g.S.Site.state c.args.site.now) (g.S.Site.state c.undo_one.new.site) =
+    λ honest. next_failed (store_next c.requires.going.both.sizes refl works.stops (works.next honest)) in
+    search rules
+
+pub returns-then-blocks-before-clause-works : goal.returns-then-blocks-before-clause-works
+returns-then-blocks-before-clause-works g c =
+    let works = c.in-Ok.ensures.works in
+    let next : IsTrue (g.S.Site.state c.args.site.now).honest → KeepsNext {T = Unit {0}} (Err Foreign) c.args.self.now (record c.args.self.now { log = c.undo_one.new.log; pages = c.undo_one.new.pages; made = c.args.self.now.made + (c.args.entry.writes + 1) }) (g.S.Site.state c.args.site.now) (g.S.Site.state c.undo_one.new.site) =
+    λ honest. next_refused (λ d same. cc) (store_next c.requires.going.both.sizes refl tt (works.next honest)) in
+    search rules
+
+pub returns-then-blocks-owed-clause-works : goal.returns-then-blocks-owed-clause-works
+returns-then-blocks-owed-clause-works g c =
+    let works = c.in-Ok.ensures.works in
+    let next : IsTrue (g.S.Site.state c.args.site.now).honest → KeepsNext {T = Unit {0}} (Err Foreign) c.args.self.now (record c.args.self.now { log = c.undo_one.new.log; pages = c.undo_one.new.pages; made = c.args.self.now.made + (c.args.entry.writes + 1) }) (g.S.Site.state c.args.site.now) (g.S.Site.state c.undo_one.new.site) =
+    λ honest. next_refused (λ d same. cc) (store_next c.requires.going.both.sizes refl tt (works.next honest)) in
+    search rules
+
+pub returns-clause-works : goal.returns-clause-works
+returns-clause-works g c =
+    let works = c.in-Ok.ensures.works in
+    let next : IsTrue (g.S.Site.state c.args.site.now).honest → KeepsNext {T = Unit {0}} (Ok tt) c.args.self.now (record c.args.self.now { log = c.undo_one.new.log; pages = c.undo_one.new.pages; made = c.args.self.now.made + (c.args.entry.writes + 1) }) (g.S.Site.state c.args.site.now) (g.S.Site.state c.undo_one.new.site) =
+    λ honest. next_answered (store_next c.requires.going.both.sizes refl tt (works.next honest)) in
+    search rules

@@ -1,4 +1,7 @@
-use Rattle.std.proofs.Common.{refl}
+use Rattle.std.proofs.Common.{refl, rules}
+use Rattle.std.specs.Prelude.{IsTrue}
+use Rattle.redo_undo.specs.StoreCalls.{KeepsNext}
+use Rattle.redo_undo.proofs.NextUnits.{store_next}
 use Rattle.image_meaning.proofs.Leaving.{under_leaves_for}
 use Rattle.redo_undo.proofs.Saved.{finds_kept}
 use Rattle.redo_undo.proofs.StoreCalling.{keeps_of, where_two}
@@ -15,3 +18,11 @@ returns-clause-keeps g c newest records table commits h = keeps_of (under_leaves
 
 pub returns-clause-fills : goal.returns-clause-fills
 returns-clause-fills g c newest records table commits h = c.touch.ensures.fills newest records table commits h.both
+
+pub returns-clause-works : goal.returns-clause-works
+returns-clause-works g c =
+    let works = c.touch.ensures.logs_nothing.works in
+    let next : IsTrue (g.S.Site.state c.args.site.now).honest → KeepsNext c.touch.result c.args.self.now (record c.args.self.now { log = c.touch.new.log; pages = c.touch.new.pages })
+    (g.S.Site.state c.args.site.now) (g.S.Site.state c.touch.new.site) =
+    λ honest. store_next c.requires.going.both.sizes refl works.stops (works.next honest) in
+    search rules

@@ -2,10 +2,13 @@ use Rattle.redo_undo.proofs.Fillings.{fills_more, update_octets}
 use Rattle.record_model.specs.State.{Content}
 use Rattle.log_records.specs.Spelling.{content_spelling}
 use Rattle.image_meaning.proofs.Leaving.{under_leaves_for}
-use Rattle.std.proofs.Common.{refl, ◌≡◌, ◌+◌, ◌/◌, ◌%◌, ◌++◌, ◌∷◌, [], length, ap, sym, subst, arith}
+use Rattle.std.proofs.Common.{refl, ℕ, rules, ◌≡◌, ◌+◌, ◌/◌, ◌%◌, ◌++◌, ◌∷◌, [], length, ap, sym, subst, arith}
 use Rattle.log_records.specs.declared.log_record.LogRecord.{LogRecord}
 use Rattle.redo_undo.proofs.Saved.{finds_kept}
+use Rattle.std.specs.Prelude.{Ok, Err, IsTrue}
 use Rattle.redo_undo.proofs.StoreCalling.{keeps_of}
+use Rattle.redo_undo.specs.StoreCalls.{KeepsNext}
+use Rattle.redo_undo.proofs.NextUnits.{store_next}
 use Rattle.redo_undo.specs.Stores.{Represents, MayGrow, shown_in, update_by}
 use Rattle.redo_undo.proofs.store.Store.update.Goals as goal
 
@@ -35,3 +38,19 @@ pub returns-in-Ok-clause-fills : goal.returns-in-Ok-clause-fills
 returns-in-Ok-clause-fills g c =
     let same = ap (λ (x : Content). length (content_spelling x)) c.copy_of.ensures in
     fills_more (omega (arith, same, update_octets c.args.txn c.args.prev (c.args.number / 32) (c.args.number % 32) c.shown.result c.copy_of.result c.shown.ensures.short)) c.in-Ok.ensures.fills
+
+pub returns-in-Ok-clause-works : goal.returns-in-Ok-clause-works
+returns-in-Ok-clause-works g c =
+    let works = c.in-Ok.ensures.works in
+    let next : IsTrue (g.S.Site.state c.args.site.now).honest → KeepsNext {T = ℕ} (Ok c.in-Ok.lsn) c.args.self.now
+    (record c.args.self.now { log = c.log_change.new.log; pages = c.log_change.new.pages; made = c.args.self.now.made + 1 }) (g.S.Site.state c.args.site.now) (g.S.Site.state c.log_change.new.site) =
+    λ honest. store_next c.requires.may.going.both.sizes refl tt (works.next honest) in
+    search rules
+
+pub returns-in-Err-clause-works : goal.returns-in-Err-clause-works
+returns-in-Err-clause-works g c =
+    let works = c.in-Err.ensures.works in
+    let next : IsTrue (g.S.Site.state c.args.site.now).honest → KeepsNext {T = ℕ} (Err c.in-Err.stop) c.args.self.now
+    (record c.args.self.now { log = c.log_change.new.log; pages = c.log_change.new.pages }) (g.S.Site.state c.args.site.now) (g.S.Site.state c.log_change.new.site) =
+    λ honest. store_next c.requires.may.going.both.sizes refl works.stops (works.next honest) in
+    search rules

@@ -1,0 +1,177 @@
+ghost use Rattle.std.specs.Prelude.{◌≡◌, ◌<◌, ◌≤◌, length};
+
+use byte_fields::VALUE_MAX;
+use slotted_page::{PAGE_LEN, Page};
+
+// A page of which slot 5 has 0a0b, and whose LSN is 3.
+fn example() -> [u8; PAGE_LEN] {
+    let mut octets = [0; PAGE_LEN];
+    octets[7] = 3; // LSN
+    octets[9] = 2; // used
+    octets[36] = 0x0f; // slot 5: offset 4,094
+    octets[37] = 0xfe;
+    octets[39] = 3; // length plus one
+    octets[4094] = 0x0a;
+    octets[4095] = 0x0b;
+    octets
+}
+
+// Whether the example is sound, once these octets of it are others.
+fn is_sound_with(changes: &[(usize, u8)]) -> bool {
+    let mut octets = example();
+    for (at, octet) in changes {
+        if *at < PAGE_LEN {
+            octets[*at] = *octet;
+        }
+    }
+    Page::from_bytes(&octets).sound()
+}
+
+// Sets a slot of a page, once it is known that it may be set.
+fn set(page: &mut Page, slot: u8, value: Option<&[u8]>, lsn: u64) -> bool {
+    let short = match value {
+        None => true,
+        Some(value) => value.len() <= VALUE_MAX,
+    };
+    if !short || slot >= 32 || !page.sound() || !page.fits(slot, value) {
+        return false;
+    }
+    page.set(slot, value, lsn);
+    true
+}
+
+#[test]
+fn a_page_is_its_octets(rt: HostRuntime) {
+    let octets = example();
+    let page = Page::from_bytes(&octets);
+    assert_eq!(rt; page.bytes(), octets.as_slice());
+    assert!(rt; page != Page::empty());
+}
+
+#[test]
+fn the_first_value_stands_at_the_end(rt: HostRuntime) {
+    let mut page = Page::empty();
+    assert!(rt; set(&mut page, 5, Some(&[0x0a, 0x0b]), 3));
+    let octets = example();
+    assert_eq!(rt; page.bytes(), octets.as_slice());
+    assert_eq!(rt; page.lsn(), 3);
+    assert!(rt; page.sound());
+    assert_eq!(rt; page.get(5), Some([0x0a_u8, 0x0b].as_slice()));
+    assert_eq!(rt; page.get(4), None);
+}
+
+// Each change of the example breaks one rule, or none.
+#[test]
+fn soundness_by_the_table(rt: HostRuntime) {
+    assert!(rt; is_sound_with(&[]));
+    // Octets 10 to 15 are zero.
+    assert!(rt; !is_sound_with(&[(10, 1)]));
+    assert!(rt; !is_sound_with(&[(15, 1)]));
+    // The heap may take up more than the values do, at most 3,952.
+    assert!(rt; is_sound_with(&[(8, 0x0f), (9, 0x70)]));
+    assert!(rt; !is_sound_with(&[(8, 0x0f), (9, 0x71)]));
+    // and no less.
+    assert!(rt; !is_sound_with(&[(9, 1)]));
+    // An empty slot has the offset 0.
+    assert!(rt; !is_sound_with(&[(41, 1)]));
+    // A value ends within the page.
+    assert!(rt; !is_sound_with(&[(37, 0xff)]));
+    // An empty value may stand at the end of the page, and within another value, but not behind the page.
+    assert!(rt; is_sound_with(&[(40, 0x10), (43, 1)]));
+    assert!(rt; is_sound_with(&[(40, 0x0f), (41, 0xff), (43, 1)]));
+    assert!(rt; !is_sound_with(&[(40, 0x10), (41, 1), (43, 1)]));
+    // Values do not overlap, whichever slot comes first.
+    assert!(rt; !is_sound_with(&[(40, 0x0f), (41, 0xff), (43, 2)]));
+    assert!(rt; !is_sound_with(&[(32, 0x0f), (33, 0xfe), (35, 3)]));
+    assert!(rt; is_sound_with(&[(39, 2), (40, 0x0f), (41, 0xff), (43, 2)]));
+    // The heap takes up 200 octets, and the value in front has 120 or 121.
+    assert!(rt; is_sound_with(&[(9, 200), (40, 0x0f), (41, 0x38), (43, 121)]));
+    assert!(rt; !is_sound_with(&[(9, 200), (40, 0x0f), (41, 0x38), (43, 122)]));
+}
+
+#[test]
+fn a_slot_may_be_emptied(rt: HostRuntime) {
+    let mut page = Page::from_bytes(&example());
+    assert!(rt; set(&mut page, 31, Some(&[]), u64::MAX));
+    assert!(rt; set(&mut page, 5, None, 4));
+    assert_eq!(rt; page.lsn(), 4);
+    assert!(rt; page.sound());
+    assert_eq!(rt; page.get(5), None);
+    assert_eq!(rt; page.get(31), Some([].as_slice()));
+}
+
+// What slot `slot` has after `turn` turns of the test below.
+fn length_in(turn: u8, slot: u8) -> usize
+    requires turn { turn < 8 }
+    requires slot { slot < 32 }
+    ensures { result ≤ VALUE_MAX }
+{
+    if turn % 2 == 0 {
+        VALUE_MAX
+    } else {
+        VALUE_MAX - slot as usize
+    }
+}
+
+// Writes all slots, each of them anew, and looks each time at all of them.
+fn write_all(page: &mut Page, lengths: &mut [usize; 32], octets: &mut [u8; 32], turn: u8) -> bool
+    requires { turn < 8 }
+{
+    for slot in 0..32_u8 {
+        let octet = 32 * turn + slot;
+        let value = [octet; VALUE_MAX];
+        let len = length_in(turn, slot);
+        if !set(page, slot, Some(&value[..len]), u64::from(octet)) {
+            return false;
+        }
+        lengths[slot as usize] = len;
+        octets[slot as usize] = octet;
+        if !is_as(page, lengths, octets) {
+            return false;
+        }
+    }
+    true
+}
+
+// Whether each slot has so many times this octet, none where the length is none.
+fn is_as(page: &Page, lengths: &[usize; 32], octets: &[u8; 32]) -> bool {
+    if !page.sound() {
+        return false;
+    }
+    for slot in 0..32_u8 {
+        let value = [octets[slot as usize]; VALUE_MAX];
+        let len = lengths[slot as usize].min(VALUE_MAX);
+        if page.get(slot) != Some(&value[..len]) {
+            return false;
+        }
+    }
+    true
+}
+
+// 32 values of 120 octets leave room for 112 octets more, so that the heap is packed anew at nearly each write.
+#[test]
+fn values_stay_when_the_heap_is_packed_anew(rt: HostRuntime) {
+    let mut page = Page::empty();
+    let mut lengths = [0; 32];
+    let mut octets = [0; 32];
+    for slot in 0..32_u8 {
+        assert!(rt; set(&mut page, slot, Some(&[]), 0));
+    }
+    for turn in 0..8_u8 {
+        assert!(rt; write_all(&mut page, &mut lengths, &mut octets, turn));
+    }
+    assert_eq!(rt; page.lsn(), 255);
+}
+
+// The heap has room for 3,952 octets.
+#[test]
+fn what_fits(rt: HostRuntime) {
+    let page = Page::from_bytes(&example());
+    let value = [0; 3953];
+    assert!(rt; page.sound());
+    assert!(rt; page.fits(0, Some(&value[..3950])));
+    assert!(rt; !page.fits(0, Some(&value[..3951])));
+    assert!(rt; page.fits(5, Some(&value[..3952])));
+    assert!(rt; !page.fits(5, Some(&value)));
+    assert!(rt; page.fits(5, None));
+}
