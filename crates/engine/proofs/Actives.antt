@@ -1,22 +1,23 @@
 -- The sessions of the model and the unfinished transactions of the log, one record further.
 use Rattle.checkpoint.specs.declared.master.Master.{Master}
-use Rattle.std.proofs.Common.{◌≡◌, ◌≢◌, ℕ, suc, ◌+◌, ◌*◌, ◌≤◌, ◌<◌, false, List, [], ◌∷◌, ◌++◌, length, Option, None, Some, ⊎_elim, refl, sym, ap, subst, ◌∙◌, arith, get_or-set_same, get_or-set_other, length-set}
+use Rattle.std.proofs.Common.{◌≡◌, ◌≢◌, ℕ, suc, ◌+◌, ◌*◌, ◌≤◌, ◌<◌, Bool, cond, false, List, [], ◌∷◌, ◌++◌, length, Option, None, Some, ⊎_elim, refl, sym, ap, subst, ◌∙◌, arith, get_or-set_same, get_or-set_other, length-set}
 use Rattle.std.specs.Prelude.{slice_set, slice_index_or, drop}
 use Rattle.std.proofs.lemmas.Option.{none-some, same_Some}
-use Rattle.std.proofs.lemmas.Bool.{ne_eqb, cases_eq}
+use Rattle.std.proofs.lemmas.Bool.{ne_eqb, eq-eqb, cases_eq}
 use Rattle.record_model.specs.State.{Session, State, session_at}
 use Rattle.record_model.specs.Step.{making, with_session}
 use Rattle.log_records.specs.declared.log_record.LogRecord.TheVariants.{Begin}
 use Rattle.log_records.specs.Log.{Entry, is_of, entries_of}
+use Rattle.log_records.specs.Unfinished.{left_open, open_by, open_updates}
 use Rattle.log_laws.specs.Follow.{IsActive, IsFresh}
 use Rattle.log_laws.proofs.Losers.{active_begun, active_stays, loser_stays}
 use Rattle.log_laws.proofs.Appends.{fresh_entries}
-use Rattle.log_laws.proofs.Owing.{owed_begin}
+use Rattle.log_laws.proofs.Owing.{left_push, owed_begin}
 use Rattle.txn_table.specs.declared.active.Active.{Active}
 use Rattle.txn_table.specs.Entries.{entry_of, ChangesOnly}
 use Rattle.txn_table.specs.Entries as entries
 use Rattle.image_meaning.specs.Meaning.{master_of}
-use Rattle.engine.specs.Representation.{IsUnderWay, SessionIs, SessionsAre}
+use Rattle.engine.specs.Representation.{IsUnderWay, RunOn, SessionIs, SessionsAre}
 
 -- what is active in one is in the other
 pub none_active : (newest : Option Master) (records : List Entry) (active : List Active) (s : State) → SessionsAre newest records active s → (n : ℕ) → entry_of active n ≡ None → session_at s n ≡ None
@@ -50,6 +51,7 @@ others_stay newest kept records e (Some entry) (Some session) other is = record 
   is_active = active_stays (master_of newest) records e entry.begin entry.last session.writes is.is_active (other entry refl);
   born = is.born;
   count = is.count;
+  runs_on = subst RunOn (sym (left_push records e entry.begin ∙ ap (λ (b : Bool). cond b (open_by (left_open records entry.begin) e e.rec) (left_open records entry.begin)) (other entry refl))) is.runs_on;
 }
 
 -- a transaction that is under way isn't fresh
@@ -77,6 +79,7 @@ begun newest records old new s n lsn made entry are small none changes owes fres
             is_active = subst (λ (t : ℕ). IsActive (master_of newest) (records ++ e ∷ []) t entry.last []) (sym begin) (subst (λ (l : ℕ). IsActive (master_of newest) (records ++ e ∷ []) lsn l []) (sym last) (active_begun (master_of newest) records lsn fresh late));
             born = born;
             count = writes;
+            runs_on = subst RunOn (sym (ap (left_open (records ++ e ∷ [])) begin ∙ none_left)) tt;
           }))))
           (λ differ. subst (λ (a : Option Active). SessionIs newest s.kept (records ++ e ∷ []) a (slice_index_or (slice_set s.sessions n (Some session)) m None)) (sym (changes.others m differ))
           (subst (λ (o : Option Session). SessionIs newest s.kept (records ++ e ∷ []) (entry_of old m) o) (sym (get_or-set_other s.sessions n m (Some session) None differ))
@@ -99,6 +102,11 @@ begun newest records old new s n lsn made entry are small none changes owes fres
           (cases_eq i n);
     }
   where
+    none_left : left_open (records ++ record { lsn = lsn; rec = Begin } ∷ []) lsn ≡ []
+    none_left =
+        left_push records (record { lsn = lsn; rec = Begin }) lsn ∙ ap (λ (b : Bool). cond b (left_open records lsn) (left_open records lsn)) (eq-eqb lsn lsn refl)
+        ∙ ap (open_updates []) (fresh_entries lsn records fresh)
+
     other_begin : (m : ℕ) (other : Active) → entry_of old m ≡ Some other → other.begin ≢ lsn
     other_begin m other is = let found = some_active newest records old s are m other is in not_fresh newest s.kept records other found.session lsn found.under_way fresh
 

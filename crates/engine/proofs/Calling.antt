@@ -174,17 +174,17 @@ does_then {a = a} {r = r} {old = old} {mid = mid} {new = new} {before = before} 
 -- Commands.
 
 -- what is carried out is what the model says
-pub answered_as : (P : Outcome → Snapshot → Type 0) → {r : Result Reply Stop} {old new : Engine} {before now : Site} {s : State} {o known : Outcome} {works other : List CacheWork} {m : ℕ} → (o ≡ known) × (works ≡ other) →
+pub answered_as : (P : Outcome → Snapshot → Type 0) → {r : Result Reply Stop} {old new : Engine} {before now : Site} {s : State} {o known : Outcome} {works other : List CacheWork} {m : ℕ} {More : Type 0} → (o ≡ known) × ((works ≡ other) × More) →
     Does r old new before now s known.after (P known) m → IfOk r (λ reply. reply ≡ known.reply) → StepsMachine r other old.store.pages new.store.pages before now → (IsErrOf r (Worn Log) → AppendsToLog s known.after m other old.store.pages) → Answers r old new before now s o works (P o) m
 answered_as P {r = r} {old = old} {new = new} {before = before} {now = now} {s = s} {o = o} {known = known} {works = works} {other = other} {m = m} is does reply asks appends = record {
   reply = subst (λ (x : Outcome). IfOk r (λ (y : Reply). y ≡ x.reply)) (sym is.0) reply;
-  asks = asks_same r works other old.store.pages new.store.pages before now is.1 asks;
+  asks = asks_same r works other old.store.pages new.store.pages before now is.1.0 asks;
   does = subst (λ (x : Outcome). Does r old new before now s x.after (P x) m) (sym is.0) does;
-  appends = λ e. subst (λ (x : Outcome). AppendsToLog s x.after m works old.store.pages) (sym is.0) (subst (λ (w : List CacheWork). AppendsToLog s known.after m w old.store.pages) (sym is.1) (appends e));
+  appends = λ e. subst (λ (x : Outcome). AppendsToLog s x.after m works old.store.pages) (sym is.0) (subst (λ (w : List CacheWork). AppendsToLog s known.after m w old.store.pages) (sym is.1.0) (appends e));
 }
 
 -- that leaves the table
-pub answered : {r : Result Reply Stop} {old new : Engine} {before now : Site} {s : State} {o known : Outcome} {works other : List CacheWork} {P : Snapshot → Type 0} {m : ℕ} → (o ≡ known) × (works ≡ other) →
+pub answered : {r : Result Reply Stop} {old new : Engine} {before now : Site} {s : State} {o known : Outcome} {works other : List CacheWork} {P : Snapshot → Type 0} {m : ℕ} {More : Type 0} → (o ≡ known) × ((works ≡ other) × More) →
     Does r old new before now s known.after P m → IfOk r (λ reply. reply ≡ known.reply) → StepsMachine r other old.store.pages new.store.pages before now → (IsErrOf r (Worn Log) → AppendsToLog s known.after m other old.store.pages) → Answers r old new before now s o works P m
 answered {P = P} is does reply asks appends = answered_as (λ o. P) is does reply asks appends
 
@@ -227,7 +227,7 @@ module _ {s : State} (command : Command) {wanted : Bool} (known : wanted ≡ mak
       Answers r old new before now s (run s command) (command_touches true s command) (R (run s command)) (checkpoints_by s command)
   first_then {a = a} {r = r} {old = old} {mid = mid} {new = new} {before = before} {between = between} {now = now} honest early late serves does asks second =
       subst (λ (b : Bool). Answers r old new before now s (run s command) (command_touches true s command) (R (run s command)) (if b then 1 else 0)) known
-      (answered_as R (step_where s command wanted known, touches_where s command wanted known) (does_then honest (omega arith) early late serves does second.does) second.reply
+      (answered_as R (step_where s command wanted known, (touches_where s command wanted known, tt {0})) (does_then honest (omega arith) early late serves does second.does) second.reply
       (asks_then a r (if wanted then checkpoint_works else []) (command_touches false (checkpointed_if wanted s) command) old.store.pages mid.store.pages new.store.pages before between now asks second.asks) (λ is. appends_first wanted s (run_now (checkpointed_if wanted s) command).after (command_touches false (checkpointed_if wanted s) command) asks (second.appends is)))
 
   -- it fails
@@ -236,7 +236,7 @@ module _ {s : State} (command : Command) {wanted : Bool} (known : wanted ≡ mak
       Answers (Err stop) old mid before now s (run s command) (command_touches true s command) (R (run s command)) (checkpoints_by s command)
   first_failed {A = A} {stop = stop} {old = old} {mid = mid} {before = before} {now = now} is going early does asks =
       subst (λ (b : Bool). Answers (Err stop) old mid before now s (run s command) (command_touches true s command) (R (run s command)) (if b then 1 else 0)) known
-      (answered_as R (step_where s command wanted known, touches_where s command wanted known) (does_failed (run_makes (checkpointed_if wanted s) command) (does_weaker early does)) tt
+      (answered_as R (step_where s command wanted known, (touches_where s command wanted known, tt {0})) (does_failed (run_makes (checkpointed_if wanted s) command) (does_weaker early does)) tt
       (asks_stopped {A = A} {B = Reply} stop (if wanted then checkpoint_works else []) (command_touches false (checkpointed_if wanted s) command) old.store.pages mid.store.pages before now (has_group going) asks) (λ e. inr (inl (subst (λ (b : Bool). 1 ≤ (if b then 1 else 0)) (sym is) (omega arith)))))
 
 -- What a crash leaves of a call behind one that left the table.

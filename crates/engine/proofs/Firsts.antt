@@ -3,7 +3,9 @@ use Rattle.std.proofs.Common.{◌≤◌, ◌≡◌, ◌/◌, ◌&&◌, not, Bool
 use Rattle.std.proofs.Math.Bool.{and-true, and-false}
 use Rattle.std.specs.Prelude.{IsSome, is_none, nat_le, if◌then◌else◌}
 use Rattle.record_model.specs.declared.words.Command.{Command}
-use Rattle.record_model.specs.declared.words.Command.TheVariants.{Begin, Read, Abort}
+use Rattle.record_model.specs.declared.words.Command.TheVariants.{Begin, Read, Write, Erase, Scan, Commit, Abort, Get, Set}
+use Rattle.ring_machine.specs.Machine.{Work}
+use Rattle.ring_machine.specs.Commands.{saves, command_work, record_work}
 use Rattle.record_model.specs.declared.words.Reply.{Reply}
 use Rattle.record_model.specs.State.{State, used, kept_by_checkpoint, is_due}
 use Rattle.record_model.specs.Step.{refusal, outcome, step, carried_out, lacks_room, asks_for_checkpoint, makes_checkpoint, is_accepted}
@@ -55,6 +57,35 @@ touches_are s command =
     by b (Some r) is = refl
     by true None is = ap (λ (a : Bool). not (lacks_room (with_kept s (kept_if s a)) command)) is ∙ ap (λ (a : Bool). not (lacks_room (with_kept s (kept_if s (a && true))) command)) (sym is)
     by false None is = ap (λ (a : Bool). not (lacks_room (with_kept s (kept_if s a)) command)) is ∙ ap (λ (a : Bool). not (lacks_room (with_kept s (kept_if s (a && true))) command)) (sym is)
+
+same_work : (s : State) (k : ℕ) (command : Command) → record_work (with_kept s k) command ≡ record_work s command
+same_work s k (Begin n) = refl
+same_work s k (Read n number) = refl
+same_work s k (Write n number value) = refl
+same_work s k (Erase n number) = refl
+same_work s k (Scan n number count) = refl
+same_work s k (Commit n) = refl
+same_work s k (Abort n) = refl
+same_work s k (Get number) = refl
+same_work s k (Set number value) = refl
+same_work s k _ = refl
+
+-- and so it is with its work on the log
+pub work_is : (s : State) (command : Command) → command_work true s command ≡ (if makes_checkpoint true s command then saves else []) ++ command_work false (checkpointed_if (makes_checkpoint true s command) s) command
+work_is s command =
+    ap (λ (a : Bool). first ++ (if a then record_work s command else [])) (by (asks_for_checkpoint s command) (refusal s command) refl ∙ ap (λ (o : Option Reply). is_none o && not (lacks_room (with_kept s (kept_if s (makes_checkpoint true s command))) command)) (sym (same_refusal s (kept_if s (makes_checkpoint true s command)) command)))
+    ∙ ap (λ (ws : List Work). first ++ (if is_accepted false (with_kept s (kept_if s (makes_checkpoint true s command))) command then ws else [])) (sym (same_work s (kept_if s (makes_checkpoint true s command)) command))
+  where
+    first : List Work
+    first = if makes_checkpoint true s command then saves else []
+
+    by : (b : Bool) (o : Option Reply) → asks_for_checkpoint s command ≡ b → (is_none o && not (lacks_room (with_kept s (kept_if s (asks_for_checkpoint s command))) command)) ≡ (is_none o && not (lacks_room (with_kept s (kept_if s (asks_for_checkpoint s command && is_none o))) command))
+    by b (Some r) is = refl
+    by true None is = ap (λ (a : Bool). not (lacks_room (with_kept s (kept_if s a)) command)) is ∙ ap (λ (a : Bool). not (lacks_room (with_kept s (kept_if s (a && true))) command)) (sym is)
+    by false None is = ap (λ (a : Bool). not (lacks_room (with_kept s (kept_if s a)) command)) is ∙ ap (λ (a : Bool). not (lacks_room (with_kept s (kept_if s (a && true))) command)) (sym is)
+
+pub work_where : (s : State) (command : Command) (wanted : Bool) → wanted ≡ makes_checkpoint true s command → command_work true s command ≡ (if wanted then saves else []) ++ command_work false (checkpointed_if wanted s) command
+work_where s command wanted known = work_is s command ∙ sym (ap (λ (b : Bool). (if b then saves else []) ++ command_work false (checkpointed_if b s) command) known)
 
 -- When one is made.
 

@@ -2,6 +2,8 @@ pub mod Aborts
 pub mod Actives
 pub mod Changes
 pub mod Calling
+pub mod Performing
+pub mod Undoing
 pub mod Checkpoints
 pub mod Commits
 pub mod Firsts

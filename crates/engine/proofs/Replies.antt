@@ -18,6 +18,8 @@ use Rattle.record_model.specs.State as model
 use Rattle.record_model.specs.Touches.{CacheWork, record_touches}
 use Rattle.record_model.specs.Step.{Outcome, refusal, outcome, effect, answer, full, lacks_room, wants_active, wants_record, wants_short, refuse_if, may_write, may_read}
 use Rattle.log_records.specs.Log.{Entry}
+use Rattle.ring_machine.specs.Machine.{Work}
+use Rattle.ring_machine.specs.Commands.{record_work}
 use Rattle.txn_table.specs.declared.active.Active.{Active}
 use Rattle.txn_table.specs.Entries.{IsTable, entry_of}
 use Rattle.txn_table.specs.Entries as entries
@@ -36,16 +38,19 @@ way s command b = if b then record { after = s; reply = full s } else record { a
 abbrev asked : State → Command → Option Reply → Bool → List CacheWork
 asked s command o lacks = if is_none o && not lacks then record_touches s command else []
 
+abbrev worked : State → Command → Option Reply → Bool → List Work
+worked s command o lacks = if is_none o && not lacks then record_work s command else []
+
 pub refused : (s : State) (command : Command) (r : Reply) → refusal s command ≡ Some r → IsRefusedWith s command r
-refused s command r is = (ap (outcome false s command []) is, ap (λ (o : Option Reply). asked s command o (lacks_room s command)) is)
+refused s command r is = (ap (outcome false s command []) is, (ap (λ (o : Option Reply). asked s command o (lacks_room s command)) is, ap (λ (o : Option Reply). worked s command o (lacks_room s command)) is))
 
 pub no_room : (s : State) (command : Command) → refusal s command ≡ None → lacks_room s command ≡ true → IsRefusedWith s command (full s)
 no_room s command none lacks =
-    (ap (outcome false s command []) none ∙ ap (way s command) lacks, ap (λ (o : Option Reply). asked s command o (lacks_room s command)) none ∙ ap (asked s command None) lacks)
+    (ap (outcome false s command []) none ∙ ap (way s command) lacks, (ap (λ (o : Option Reply). asked s command o (lacks_room s command)) none ∙ ap (asked s command None) lacks, ap (λ (o : Option Reply). worked s command o (lacks_room s command)) none ∙ ap (worked s command None) lacks))
 
 pub carried_out : (s : State) (command : Command) → refusal s command ≡ None → lacks_room s command ≡ false → IsCarriedOut s command
 carried_out s command none has =
-    (ap (outcome false s command []) none ∙ ap (way s command) has, ap (λ (o : Option Reply). asked s command o (lacks_room s command)) none ∙ ap (asked s command None) has)
+    (ap (outcome false s command []) none ∙ ap (way s command) has, (ap (λ (o : Option Reply). asked s command o (lacks_room s command)) none ∙ ap (asked s command None) has, ap (λ (o : Option Reply). worked s command o (lacks_room s command)) none ∙ ap (worked s command None) has))
 
 -- What is owed.
 

@@ -4,7 +4,7 @@ use Rattle.std.proofs.Math.Bool.{or-false, and-true}
 use Rattle.image_meaning.proofs.Versions.{length-versions}
 use Rattle.checkpoint.specs.declared.master.Master.{Master}
 use Rattle.std.proofs.Common.{◌≡◌, ℕ, ◌+◌, ◌*◌, ◌/◌, ◌%◌, ◌<◌, ◌≤◌, ◌&&◌, ◌||◌, ◌==◌, Bool, true, false, not, cond, ◌++◌, ◌∷◌, [], List, length, find, Option, None, Some, ⊎_elim, refl, sym, ap, subst, ◌∙◌, arith, IsTrue, get_or-set_same, get_or-set_other, length-set}
-use Rattle.std.specs.Prelude.{slice_set, slice_index_or, option_map}
+use Rattle.std.specs.Prelude.{slice_set, slice_index_or, option_map, unwrap_or}
 use Rattle.std.specs.List.{list_any, range_with_len}
 use Rattle.std.proofs.lemmas.Bool.{cases_eq, eq-eqb, ne_eqb}
 use Rattle.std.proofs.lemmas.Option.{none-some}
@@ -32,6 +32,10 @@ use Rattle.redo_undo.specs.Stores.{Represents, MayGrow, shown_in, update_by}
 use Rattle.engine.specs.Representation.{Matches, LocksAre, SessionIs, SessionsAre, with_write, with_read}
 use Rattle.engine.proofs.Actives.{some_active}
 use Rattle.engine.proofs.Changes.{wrote_more}
+use Rattle.engine.proofs.Undoing.{last_seen}
+use Rattle.log_records.specs.Log.{is_on}
+use Rattle.log_records.specs.Unfinished.{left_open}
+use Rattle.record_model.specs.State.{content_at, last_write, seen}
 use Rattle.engine.proofs.Locks.{at_set}
 use Rattle.engine.proofs.Meanings.{busy_write_is, free_for}
 use Rattle.txn_table.proofs.Owing.{entry_is}
@@ -152,19 +156,21 @@ may_write engine site s fits entry number lsn after table at less free room bloc
       room = omega (arith, owed_update fits.records e refl active.lives.not_closed active.chain, fits.sessions.owes, room, blocks, cap);
     }
 
-pub write_fits : (engine last : Engine) (old new : Site) (s : State) (entry : Active) (number lsn : ℕ) (before after : Content) (fits : Matches engine old s) → IsTable engine.active → entry_of engine.active entry.session ≡ Some entry → IsTrue new.honest →
+pub write_fits : (engine last : Engine) (old new : Site) (s : State) (entry : Active) (number lsn : ℕ) (before after : Content) (fits : Matches engine old s) → IsTable engine.active → entry_of engine.active entry.session ≡ Some entry → IsTrue new.honest → before ≡ seen s entry.session number →
     Represents last.store new fits.newest (fits.records ++ record { lsn = lsn; rec = update_by entry.begin entry.last number before after } ∷ []) s.table s.commits →
     last.store.made ≡ engine.store.made + 1 → last.commits ≡ engine.commits → last.cap ≡ engine.cap →
     AddsLock engine.locks last.locks entry.session number true → ChangesOnly engine.active last.active entry.session (Some (after_write entry lsn)) → entries.owed last.active ≡ entries.owed engine.active + 1 →
     Matches last new (with_write s entry.session (number, after))
-write_fits engine last old new s entry number lsn before after fits table at honest holds made commits cap adds changes owes =
+write_fits engine last old new s entry number lsn before after fits table at honest there holds made commits cap adds changes owes =
     let n = entry.session in
     let e : Entry = record { lsn = lsn; rec = update_by entry.begin entry.last number before after } in
     let found = some_active fits.newest fits.records engine.active s fits.sessions n entry at in
     let small = (entry_is engine.active n entry table at).small in
     let more : SessionsAre fits.newest (fits.records ++ e ∷ []) last.active (with_write s n (number, after)) =
     subst (λ (k : ℕ). SessionsAre fits.newest (fits.records ++ e ∷ []) last.active (with_write s n (k, after))) (page_and_slot number)
-    (wrote_more fits.newest fits.records engine.active last.active s n lsn (number / 32) (number % 32) entry before after fits.sessions small at changes owes) in
+    (wrote_more fits.newest fits.records engine.active last.active s n lsn (number / 32) (number % 32) entry before after fits.sessions small at changes owes
+    (λ x found_there. there ∙ ap (λ (o : Option Session). unwrap_or (last_write (writes_of o) number) (content_at s.table number)) found.is
+    ∙ ap (λ (o : Option Content). unwrap_or o (content_at s.table number)) (last_seen found.under_way number x (ap (λ (k : ℕ). find (is_on k) (left_open fits.records entry.begin)) (sym (page_and_slot number)) ∙ found_there)))) in
     record {
       honest = honest;
       newest = fits.newest;
@@ -189,7 +195,7 @@ read_more newest records active s n number entry are small at =
           (λ (same : m ≡ n). subst (λ (k : ℕ). SessionIs newest s.kept records (entry_of active k) (slice_index_or (slice_set s.sessions n now) k None)) (sym same)
           (subst (λ (a : Option Active). SessionIs newest s.kept records a (slice_index_or (slice_set s.sessions n now) n None)) (sym at)
           (subst (λ (o : Option Session). SessionIs newest s.kept records (Some entry) o) (sym (get_or-set_same s.sessions n now None (omega (arith, small, are.count)) ∙ ap (option_map (having_read (number ∷ []))) found.is))
-          (record { is_active = under.is_active; born = under.born; count = under.count }))))
+          (record { is_active = under.is_active; born = under.born; count = under.count; runs_on = under.runs_on }))))
           (λ differ. subst (λ (o : Option Session). SessionIs newest s.kept records (entry_of active m) o) (sym (get_or-set_other s.sessions n m now None differ)) (are.each m))
           (cases_eq m n);
       all = are.all;

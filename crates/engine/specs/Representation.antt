@@ -1,15 +1,16 @@
 -- The database of an honest site, and the model's state.
-use Rattle.std.specs.Prelude.{◌≡◌, ℕ, ◌+◌, ◌<◌, List, [], ◌∷◌, length, Option, Some, None, option_map, IsTrue, ⊤, Bool}
-use Rattle.std.specs.Prelude.{true, false, if◌then◌else◌}
+use Rattle.std.specs.Prelude.{◌≡◌, ℕ, ◌+◌, ◌<◌, List, [], ◌∷◌, length, find, Option, Some, None, option_map, IsTrue, ⊤}
+use Rattle.std.specs.Prelude.{Bool, true, false, if◌then◌else◌}
 use Rattle.site.specs.State.{State as Site}
 use Rattle.record_model.specs.State.{Session, State, Write, session_at, kept_by_checkpoint}
 use Rattle.record_model.specs.State as model
 use Rattle.record_model.specs.declared.words.Command.{Command}
 use Rattle.record_model.specs.Step.{Outcome, step, effect, answer, making, with_session, having_written, having_read}
 use Rattle.record_model.specs.Touches.{command_touches, record_touches}
+use Rattle.ring_machine.specs.Commands.{command_work, record_work}
 use Rattle.record_model.specs.declared.words.Reply.{Reply}
 use Rattle.record_model.specs.declared.words.Reply.TheVariants as reply
-use Rattle.log_records.specs.Log.{Entry, is_loser}
+use Rattle.log_records.specs.Log.{Entry, is_loser, is_on, number_of, before_of, after_of}
 use Rattle.log_laws.specs.Follow.{IsActive}
 use Rattle.checkpoint.specs.declared.master.Master.{Master}
 use Rattle.image_meaning.specs.Meaning.{master_of}
@@ -22,6 +23,13 @@ use Rattle.log_records.specs.Unfinished as unfinished
 use Rattle.engine.specs.declared.engine.Engine.{Engine}
 use Rattle.redo_undo.specs.Stores.{Represents}
 
+-- Of these Updates, the last one first, one that is on a record that an earlier one is on begins with what the last
+-- such one left there.
+abbrev pub RunOn : List Entry → Type 0
+RunOn [] = ⊤
+RunOn (u ∷ earlier) = ((number : ℕ) → number_of u.rec ≡ Some number → (e : Entry)
+    → find (is_on number) earlier ≡ Some e → before_of u.rec ≡ after_of e.rec) × RunOn earlier
+
 -- a session's transaction: it is open, was never undone, and has made the session's writes; records are counted from
 -- the oldest kept one on
 pub record IsUnderWay (newest : Option Master) (kept : ℕ) (records : List Entry) (entry : Active)
@@ -29,6 +37,7 @@ pub record IsUnderWay (newest : Option Master) (kept : ℕ) (records : List Entr
   pub is_active : IsActive (master_of newest) records entry.begin entry.last session.writes
   pub born : entry.born + kept ≡ session.born
   pub count : entry.writes ≡ length session.writes
+  pub runs_on : RunOn (unfinished.left_open records entry.begin)
 
 -- a session is active in both or in neither
 abbrev pub SessionIs : Option Master → ℕ → List Entry → Option Active → Option Session → Type 0
@@ -92,15 +101,16 @@ with_read s n number = with_session s n (option_map (having_read (number ∷ [])
 abbrev pub with_reads : State → ℕ → List ℕ → State
 with_reads s n numbers = with_session s n (option_map (having_read numbers) (session_at s n))
 
--- where no checkpoint comes first, a command is refused: it changes nothing, and asks nothing of the cache
+-- where no checkpoint comes first, a command is refused: it changes nothing, and asks nothing of the cache and the log
 abbrev pub IsRefusedWith : State → Command → Reply → Type 0
 IsRefusedWith s command reply = (run_now s command ≡ record { after = s; reply = reply })
-    × (command_touches false s command ≡ [])
+    × ((command_touches false s command ≡ []) × (command_work false s command ≡ []))
 
--- where no checkpoint comes first, it is carried out, and touches the pages of its records
+-- where no checkpoint comes first, it is carried out, touches the pages of its records, and logs its own
 abbrev pub IsCarriedOut : State → Command → Type 0
 IsCarriedOut s command = (run_now s command ≡ record { after = effect s command; reply = answer s command [] })
-    × (command_touches false s command ≡ record_touches s command)
+    × ((command_touches false s command ≡ record_touches s command)
+    × (command_work false s command ≡ record_work s command))
 
 -- so it is in whatever state the database stands for
 abbrev pub Refuses : Engine → Command → Reply → Type 0

@@ -6,6 +6,8 @@ ghost use Rattle.site.specs.State.{State as Site};
 ghost use Rattle.record_model.specs.declared.words.Command.{Command};
 ghost use Rattle.record_model.specs.declared.words.Reply.{Reply};
 ghost use Rattle.record_model.specs.State.{State};
+ghost use Rattle.ring_machine.specs.Commands.{saves, command_work};
+ghost use Rattle.redo_undo.specs.Mirroring.{PerformsStore};
 ghost use Rattle.record_model.specs.Step.{makes_checkpoint};
 ghost use Rattle.engine.specs.Invariant.{Invariant, sizes_of};
 ghost use Rattle.engine.specs.Representation.{Matches, run, checkpointed_if};
@@ -66,6 +68,8 @@ impl Engine {
         ensures does { (s : State) → Matches self.old (S.state site.old) s
             → Does result self.old self.new (S.state site.old) (S.state site.new) s (checkpointed_if true s)
             (LeavesTable (sizes_of self.old.store) s.table s.commits (S.state site.old).told) 1 }
+        ensures performs { (s : State) → Matches self.old (S.state site.old) s
+            → PerformsStore result saves self.old.store self.new.store (S.state site.old) (S.state site.new) }
 
         // Of every site.
         ensures serves { KeepsUnread result self.old self.new (S.state site.old) (S.state site.new) }
@@ -93,6 +97,9 @@ impl Engine {
             → Does result self.old self.new (S.state site.old) (S.state site.new) s (checkpointed_if wanted s)
             (LeavesTable (sizes_of self.old.store) s.table s.commits (S.state site.old).told)
             (if wanted then 1 else 0) }
+        ensures performs { (s : State) → Matches self.old (S.state site.old) s
+            → PerformsStore result (if wanted then saves else [])
+            self.old.store self.new.store (S.state site.old) (S.state site.new) }
 
         // Of every site.
         ensures serves { KeepsUnread result self.old self.new (S.state site.old) (S.state site.new) }
@@ -126,6 +133,9 @@ impl Engine {
             (command_touches true s Command.Checkpoint)
             (LeavesTable (sizes_of self.old.store) s.table s.commits (S.state site.old).told)
             (checkpoints_by s Command.Checkpoint) }
+        ensures performs { (s : State) → Matches self.old (S.state site.old) s
+            → PerformsStore result (command_work true s Command.Checkpoint)
+            self.old.store self.new.store (S.state site.old) (S.state site.new) }
 
         // Of every site.
         ensures serves { KeepsUnread result self.old self.new (S.state site.old) (S.state site.new) }

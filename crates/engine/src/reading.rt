@@ -1,6 +1,8 @@
 // Records are read, in a session and outside of one.
 ghost use Rattle.std.specs.Prelude.{Option, map, ◌≡◌, ◌+◌, ◌/◌, ◌<◌, true, false, Some, None, IfSome, IfNone, IfOk};
-ghost use Rattle.std.specs.Prelude.{OnOk, OnErr, IsErrOf};
+ghost use Rattle.std.specs.Prelude.{OnOk, OnErr, IsErrOf, flat_map};
+ghost use Rattle.ring_machine.specs.Commands.{reads, command_work};
+ghost use Rattle.redo_undo.specs.Mirroring.{PerformsStore};
 ghost use Rattle.std.specs.List.{range_with_len};
 ghost use Rattle.site.specs.declared.outside.Dev.{Dev};
 ghost use Rattle.site.specs.declared.outside.Stop.{Stop};
@@ -60,6 +62,9 @@ impl Engine {
             (run s (Command.Read session number)) (command_touches true s (Command.Read session number))
             (LeavesTable (sizes_of self.old.store) s.table s.commits (S.state site.old).told)
             (checkpoints_by s (Command.Read session number)) }
+        ensures performs { (s : State) → Matches self.old (S.state site.old) s
+            → PerformsStore result (command_work true s (Command.Read session number))
+            self.old.store self.new.store (S.state site.old) (S.state site.new) }
         ensures fills { (s : State) → Matches self.old (S.state site.old) s
             → OnOk result (FindsRoom 0 self.old.store.log self.new.store.log self.old.store.pages
             self.new.store.pages) }
@@ -102,6 +107,8 @@ impl Engine {
         ensures fills { (s : State) → Matches self.old (S.state site.old) s
             → LogsForGroups result (one_touch (number / 32)) self.old.store.log self.new.store.log
             self.old.store.pages self.new.store.pages }
+        ensures performs { (s : State) → Matches self.old (S.state site.old) s
+            → PerformsStore result (reads number) self.old.store self.new.store (S.state site.old) (S.state site.new) }
 
         // Of every site.
         ensures serves { KeepsUnread result self.old self.new (S.state site.old) (S.state site.new) }
@@ -159,6 +166,9 @@ impl Engine {
             (run s (Command.Scan session number count)) (command_touches true s (Command.Scan session number count))
             (LeavesTable (sizes_of self.old.store) s.table s.commits (S.state site.old).told)
             (checkpoints_by s (Command.Scan session number count)) }
+        ensures performs { (s : State) → Matches self.old (S.state site.old) s
+            → PerformsStore result (command_work true s (Command.Scan session number count))
+            self.old.store self.new.store (S.state site.old) (S.state site.new) }
         ensures fills { (s : State) → Matches self.old (S.state site.old) s
             → OnOk result (FindsRoom 0 self.old.store.log self.new.store.log self.old.store.pages
             self.new.store.pages) }
@@ -204,6 +214,9 @@ impl Engine {
         ensures fills { (s : State) → Matches self.old (S.state site.old) s
             → LogsForGroups result (map read_touch (range_with_len number count)) self.old.store.log self.new.store.log
             self.old.store.pages self.new.store.pages }
+        ensures performs { (s : State) → Matches self.old (S.state site.old) s
+            → PerformsStore result (flat_map reads (range_with_len number count))
+            self.old.store self.new.store (S.state site.old) (S.state site.new) }
 
         // Of every site.
         ensures serves { KeepsUnread result self.old self.new (S.state site.old) (S.state site.new) }
@@ -252,6 +265,9 @@ impl Engine {
             (command_touches true s (Command.Get number))
             (LeavesTable (sizes_of self.old.store) s.table s.commits (S.state site.old).told)
             (checkpoints_by s (Command.Get number)) }
+        ensures performs { (s : State) → Matches self.old (S.state site.old) s
+            → PerformsStore result (command_work true s (Command.Get number))
+            self.old.store self.new.store (S.state site.old) (S.state site.new) }
         ensures fills { (s : State) → Matches self.old (S.state site.old) s
             → OnOk result (FindsRoom 0 self.old.store.log self.new.store.log self.old.store.pages
             self.new.store.pages) }
@@ -289,6 +305,8 @@ impl Engine {
         ensures fills { (s : State) → Matches self.old (S.state site.old) s
             → LogsForGroups result (one_touch (number / 32)) self.old.store.log self.new.store.log
             self.old.store.pages self.new.store.pages }
+        ensures performs { (s : State) → Matches self.old (S.state site.old) s
+            → PerformsStore result (reads number) self.old.store self.new.store (S.state site.old) (S.state site.new) }
 
         // Of every site.
         ensures serves { KeepsUnread result self.old self.new (S.state site.old) (S.state site.new) }

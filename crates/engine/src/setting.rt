@@ -7,7 +7,10 @@ ghost use Rattle.site.specs.State.{State as Site};
 ghost use Rattle.record_model.specs.declared.words.Command.{Command};
 ghost use Rattle.record_model.specs.declared.words.Why.{Why};
 ghost use Rattle.record_model.specs.declared.words.Reply.{Reply};
-ghost use Rattle.record_model.specs.State.{State};
+ghost use Rattle.record_model.specs.State.{State, content_at};
+ghost use Rattle.ring_machine.specs.Commands.{begins, writes, command_work};
+ghost use Rattle.ring_machine.specs.Commands.{commits as commits_work};
+ghost use Rattle.redo_undo.specs.Mirroring.{PerformsStore};
 ghost use Rattle.byte_fields.specs.declared.TheConstants.{VALUE_MAX};
 ghost use Rattle.record_model.specs.Step.{making, committed};
 ghost use Rattle.log_records.specs.Spelling.{IsShort};
@@ -50,6 +53,9 @@ impl Engine {
         ensures keeps { (s : State) → Matches self.old (S.state site.old) s
             → Keeps result self.old.store self.new.store (S.state site.old) (S.state site.new)
             (LeavesTable (sizes_of self.old.store) s.table s.commits (S.state site.old).told) 2 0 }
+        ensures performs { (s : State) → Matches self.old (S.state site.old) s
+            → PerformsStore result (begins ++ writes number (content_at s.table number) after.now)
+            self.old.store self.new.store (S.state site.old) (S.state site.new) }
 
         // Of every site.
         ensures works { KeepsInvariant result self.old.store self.new.store (S.state site.old) (S.state site.new) 2 }
@@ -92,6 +98,9 @@ impl Engine {
             (making 3 (committed s ((number, after.now) ∷ [])))
             (LeavesEither (sizes_of self.old.store) s (making 3 (committed s ((number, after.now) ∷ [])))
             (S.state site.old).told) 0 }
+        ensures performs { (s : State) → Matches self.old (S.state site.old) s
+            → PerformsStore result ((begins ++ writes number (content_at s.table number) after.now) ++ commits_work)
+            self.old.store self.new.store (S.state site.old) (S.state site.new) }
 
         // Of every site.
         ensures serves { KeepsUnread result self.old self.new (S.state site.old) (S.state site.new) }
@@ -142,6 +151,9 @@ impl Engine {
             (command_touches false s (Command.Set number value.now))
             (LeavesEither (sizes_of self.old.store) s (run_now s (Command.Set number value.now)).after
             (S.state site.old).told) 0 }
+        ensures performs { (s : State) → Matches self.old (S.state site.old) s
+            → PerformsStore result (command_work false s (Command.Set number value.now))
+            self.old.store self.new.store (S.state site.old) (S.state site.new) }
 
         // Of every site.
         ensures serves { KeepsUnread result self.old self.new (S.state site.old) (S.state site.new) }
@@ -174,6 +186,9 @@ impl Engine {
             (command_touches true s (Command.Set number value.now))
             (LeavesEither (sizes_of self.old.store) s (run s (Command.Set number value.now)).after
             (S.state site.old).told) (checkpoints_by s (Command.Set number value.now)) }
+        ensures performs { (s : State) → Matches self.old (S.state site.old) s
+            → PerformsStore result (command_work true s (Command.Set number value.now))
+            self.old.store self.new.store (S.state site.old) (S.state site.new) }
 
         // Of every site.
         ensures serves { KeepsUnread result self.old self.new (S.state site.old) (S.state site.new) }

@@ -17,6 +17,9 @@ ghost use Rattle.log_store.specs.Representation.{end_of};
 ghost use Rattle.image_meaning.specs.Moments as moments;
 ghost use Rattle.redo_undo.specs.Committing.{MayCommit};
 ghost use Rattle.redo_undo.specs.Filling.{Fills};
+ghost use Rattle.redo_undo.specs.Mirroring.{PerformsStore};
+ghost use Rattle.ring_machine.specs.Commands.{begins, command_work, undoes};
+ghost use Rattle.ring_machine.specs.Commands.{commits as commits_work};
 ghost use Rattle.engine.specs.Invariant.{Invariant, sizes_of};
 ghost use Rattle.engine.specs.Permits.{MayBegin};
 ghost use Rattle.redo_undo.specs.Stores.{MayLog};
@@ -68,6 +71,9 @@ impl Engine {
             → Answers result self.old self.new (S.state site.old) (S.state site.new) s
             (run_now s (Command.Begin session)) (command_touches false s (Command.Begin session))
             (LeavesTable (sizes_of self.old.store) s.table s.commits (S.state site.old).told) 0 }
+        ensures performs { (s : State) → Matches self.old (S.state site.old) s
+            → PerformsStore result (command_work false s (Command.Begin session))
+            self.old.store self.new.store (S.state site.old) (S.state site.new) }
 
         // Of every site.
         ensures serves { KeepsUnread result self.old self.new (S.state site.old) (S.state site.new) }
@@ -99,6 +105,9 @@ impl Engine {
             (command_touches true s (Command.Begin session))
             (LeavesTable (sizes_of self.old.store) s.table s.commits (S.state site.old).told)
             (checkpoints_by s (Command.Begin session)) }
+        ensures performs { (s : State) → Matches self.old (S.state site.old) s
+            → PerformsStore result (command_work true s (Command.Begin session))
+            self.old.store self.new.store (S.state site.old) (S.state site.new) }
         ensures fills { (s : State) → Matches self.old (S.state site.old) s
             → makes_checkpoint true s (Command.Begin session) ≡ false
             → OnOk result (Fills 1 self.old.store.log self.new.store.log self.old.store.pages
@@ -127,6 +136,8 @@ impl Engine {
         ensures does { (s : State) → Matches self.old (S.state site.old) s
             → Does result self.old self.new (S.state site.old) (S.state site.new) s (effect s (Command.Begin session))
             (LeavesTable (sizes_of self.old.store) s.table s.commits (S.state site.old).told) 0 }
+        ensures performs { (s : State) → Matches self.old (S.state site.old) s
+            → PerformsStore result begins self.old.store self.new.store (S.state site.old) (S.state site.new) }
 
         // Of every site.
         ensures serves { KeepsUnread result self.old self.new (S.state site.old) (S.state site.new) }
@@ -172,6 +183,9 @@ impl Engine {
             → Keeps result self.old.store self.new.store (S.state site.old) (S.state site.new)
             (moments.LeavesEitherFor (sizes_of self.old.store) table (table_with table (writes_in txn records)) commits
             (S.state site.old).told) 1 0 }
+        ensures performs { (newest : Option Master) (records : List Entry) (table : List Content) (commits : ℕ)
+            → Represents self.old.store (S.state site.old) newest records table commits
+            → PerformsStore result commits_work self.old.store self.new.store (S.state site.old) (S.state site.new) }
 
         // Of every site.
         ensures works { KeepsInvariant result self.old.store self.new.store (S.state site.old) (S.state site.new) 1 }
@@ -207,6 +221,8 @@ impl Engine {
             (effect s (Command.Commit entry.session))
             (LeavesEither (sizes_of self.old.store) s (effect s (Command.Commit entry.session))
             (S.state site.old).told) 0 }
+        ensures performs { (s : State) → Matches self.old (S.state site.old) s
+            → PerformsStore result commits_work self.old.store self.new.store (S.state site.old) (S.state site.new) }
 
         // Of every site.
         ensures serves { KeepsUnread result self.old self.new (S.state site.old) (S.state site.new) }
@@ -234,6 +250,9 @@ impl Engine {
             (command_touches true s (Command.Commit session))
             (LeavesEither (sizes_of self.old.store) s (run s (Command.Commit session)).after (S.state site.old).told)
             (checkpoints_by s (Command.Commit session)) }
+        ensures performs { (s : State) → Matches self.old (S.state site.old) s
+            → PerformsStore result (command_work true s (Command.Commit session))
+            self.old.store self.new.store (S.state site.old) (S.state site.new) }
 
         // Of every site.
         ensures serves { KeepsUnread result self.old self.new (S.state site.old) (S.state site.new) }
@@ -270,6 +289,9 @@ impl Engine {
             self.old.store.pages self.new.store.pages (S.state site.old) (S.state site.new) }
         ensures log_reads { (s : State) → Matches self.old (S.state site.old) s
             → (S.state site.new).log_reads ≤ (S.state site.old).log_reads + undo_reads (session_at s entry.session) }
+        ensures performs { (s : State) → Matches self.old (S.state site.old) s
+            → PerformsStore result (undoes s.table (writes_of (session_at s entry.session))) self.old.store
+            self.new.store (S.state site.old) (S.state site.new) }
 
         // Of every site.
         ensures serves { KeepsEngine result self.old self.new (S.state site.old) (S.state site.new) }
@@ -297,6 +319,9 @@ impl Engine {
             (checkpoints_by s (Command.Abort session)) }
         ensures log_reads { (s : State) → Matches self.old (S.state site.old) s
             → (S.state site.new).log_reads ≤ (S.state site.old).log_reads + undo_reads (session_at s session) }
+        ensures performs { (s : State) → Matches self.old (S.state site.old) s
+            → PerformsStore result (command_work true s (Command.Abort session)) self.old.store self.new.store
+            (S.state site.old) (S.state site.new) }
 
         // Of every site.
         ensures serves { KeepsEngine result self.old self.new (S.state site.old) (S.state site.new) }

@@ -7,10 +7,12 @@ ghost use Rattle.site.specs.State.{State as Site};
 ghost use Rattle.record_model.specs.declared.words.Command.{Command};
 ghost use Rattle.record_model.specs.declared.words.Why.{Why};
 ghost use Rattle.record_model.specs.declared.words.Reply.{Reply};
-ghost use Rattle.record_model.specs.State.{State};
+ghost use Rattle.record_model.specs.State.{State, seen};
+ghost use Rattle.ring_machine.specs.Commands.{writes, command_work};
 ghost use Rattle.byte_fields.specs.declared.TheConstants.{VALUE_MAX};
 ghost use Rattle.log_records.specs.Spelling.{IsShort, content_spelling};
 ghost use Rattle.redo_undo.specs.Filling.{Fills};
+ghost use Rattle.redo_undo.specs.Mirroring.{PerformsStore};
 ghost use Rattle.txn_table.specs.Entries.{entry_of};
 ghost use Rattle.engine.specs.Invariant.{Invariant, sizes_of};
 ghost use Rattle.engine.specs.Permits.{MayWrite};
@@ -51,6 +53,9 @@ impl Engine {
             → Does result self.old self.new (S.state site.old) (S.state site.new) s
             (with_write s entry.session (number, after.now))
             (LeavesTable (sizes_of self.old.store) s.table s.commits (S.state site.old).told) 0 }
+        ensures performs { (s : State) → Matches self.old (S.state site.old) s
+            → PerformsStore result (writes number (seen s entry.session number) after.now)
+            self.old.store self.new.store (S.state site.old) (S.state site.new) }
         ensures fills { (s : State) → Matches self.old (S.state site.old) s
             → OnOk result (Fills (143 + length (content_spelling after.now)) self.old.store.log
             self.new.store.log self.old.store.pages self.new.store.pages) }
@@ -136,6 +141,9 @@ impl Engine {
             (command_touches true s (Command.Write session number value.now))
             (LeavesTable (sizes_of self.old.store) s.table s.commits (S.state site.old).told)
             (checkpoints_by s (Command.Write session number value.now)) }
+        ensures performs { (s : State) → Matches self.old (S.state site.old) s
+            → PerformsStore result (command_work true s (Command.Write session number value.now))
+            self.old.store self.new.store (S.state site.old) (S.state site.new) }
         ensures fills { (s : State) → Matches self.old (S.state site.old) s
             → OnOk result (Fills (144 + length value.now) self.old.store.log self.new.store.log self.old.store.pages
             self.new.store.pages) }
@@ -194,6 +202,9 @@ impl Engine {
             (run s (Command.Erase session number)) (command_touches true s (Command.Erase session number))
             (LeavesTable (sizes_of self.old.store) s.table s.commits (S.state site.old).told)
             (checkpoints_by s (Command.Erase session number)) }
+        ensures performs { (s : State) → Matches self.old (S.state site.old) s
+            → PerformsStore result (command_work true s (Command.Erase session number))
+            self.old.store self.new.store (S.state site.old) (S.state site.new) }
         ensures fills { (s : State) → Matches self.old (S.state site.old) s
             → OnOk result (Fills 144 self.old.store.log self.new.store.log self.old.store.pages
             self.new.store.pages) }

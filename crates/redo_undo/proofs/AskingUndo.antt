@@ -122,7 +122,7 @@ change_made a result page old mid new before between now some law asks changed s
           (stages_as (append-nil (staged_by_works (rules old) (one_touch page) (cache_of old))) (ap next_group asks.machine) (stages_then (λ has. omega (arith, ap next_group asks.machine)) asks.stages still));
     }
 
-page_is : (page slot : ℕ) → slot < 32 → page_of (32 * page + slot) ≡ page
+pub page_is : (page slot : ℕ) → slot < 32 → page_of (32 * page + slot) ≡ page
 page_is page slot less = omega (arith, less)
 
 -- the work of the Update itself

@@ -21,6 +21,7 @@ use Rattle.redo_undo.specs.Laws.{PageLaws, UndoLaws, FoundLaws}
 use Rattle.redo_undo.specs.MachineSteps.{StepsMachine}
 use Rattle.redo_undo.proofs.Compensations.{chain, found_at, entries_are}
 use Rattle.redo_undo.specs.UndoWorks.{works_of}
+use Rattle.redo_undo.specs.Mirroring.{PerformsOn, clrs_for}
 
 -- where some are left there is a last one
 pub first_of : {X : Type 0} (xs : List X) → 0 < length xs → (x : X) × (rest : List X) × (xs ≡ x ∷ rest)
@@ -32,10 +33,11 @@ none_of [] is = refl
 none_of (x ∷ xs) is = absurd (omega (arith, is))
 
 -- Of a transaction these Updates are undone: the cache has done what that asks for, and the others are left.
-pub record AsksSoFar (records clrs : List Entry) (txn : ℕ) (old new : PageStore) (before now : State) : Type 0 where
+pub record AsksSoFar (records clrs : List Entry) (txn : ℕ) (log log' : LogStore) (old new : PageStore) (before now : State) : Type 0 where
   pub done : List Entry
   pub are : left_open records txn ≡ done ++ left_open (records ++ clrs) txn
   pub asks : StepsMachine {T = ⊤} (Ok tt) (works_of done) old new before now
+  pub performs : PerformsOn {T = ⊤} (Ok tt) (clrs_for done) log log' old new before now
 
 -- The record where undoing goes on is the last Update that is left.
 module _ (pages_laws : PageLaws) (found_laws : FoundLaws) (laws : UndoLaws) (log : LogStore) (pages : PageStore) (site : State) (newest : Option Master) (records : List Entry) (table : List Content) (commits : ℕ) (h : Represents log pages site newest records table commits) (x : Unfinished) (unfinished : IsUnfinished records x) (u : Entry) (rest : List Entry) (left : left_open records x.txn ≡ u ∷ rest) where

@@ -10,6 +10,10 @@ pub mod Rollbacks
 pub mod Empties
 pub mod Committed
 pub mod Fillings
+pub mod PushedPages
+pub mod Mirroring
+pub mod MirroringStores
+pub mod UndoneWork
 pub mod Forced
 pub mod Orderlies
 pub mod Saved

@@ -1,5 +1,5 @@
 -- Lists of active transactions.
-use Rattle.std.proofs.Common.{◌≡◌, ◌≢◌, ℕ, suc, ◌+◌, ◌≤◌, ◌<◌, cond, List, [], ◌∷◌, ◌++◌, length, Option, None, Some, refl, sym, ap, subst, ◌∙◌, arith}
+use Rattle.std.proofs.Common.{false, ◌≡◌, ◌≢◌, ℕ, suc, ◌+◌, ◌≤◌, ◌<◌, cond, List, [], ◌∷◌, ◌++◌, length, Option, None, Some, refl, sym, ap, subst, ◌∙◌, arith}
 use Rattle.std.specs.Prelude.{slice_get, map, drop, IfNone}
 use Rattle.std.specs.List.{AllByRecursion}
 use Rattle.std.proofs.lemmas.Bool.{ne_eqb, eq-eqb}
@@ -9,6 +9,7 @@ use Rattle.std_lemmas.proofs.AllOf.{all_both, all_left, all_right}
 use Rattle.analysis.specs.declared.analysis.Loser.{Loser}
 use Rattle.analysis.specs.Open.{Open, owed_one, owed_for, found_in, AscendFrom, Replaces, TakesOut}
 use Rattle.analysis.specs.Read.{loser_of}
+use Rattle.redo_undo.specs.Mirroring.{none_remains}
 use Rattle.redo_undo.specs.UndoingAll.{IsOf, Remain, HasNone}
 use Rattle.flash_cache.proofs.Given.{all_append}
 
@@ -83,6 +84,17 @@ none_remains_of old new loser last ascend ascend' is less r =
       there = ap (λ (l : List Open). found_in l loser.txn) r.new_is ∙ sym (ap (found_in (r.front ++ undone_by last r.was ∷ r.back)) r.of) ∙ found_here 0 r.front (undone_by last r.was) r.back (subst (AscendFrom 0) r.new_is ascend');
       none = drop_none r.was.updates (omega (arith, less, count));
     }
+
+-- of it itself one remains where more than one did
+pub left_then : (old new : List Open) (loser : Loser) (last : ℕ) → AscendFrom 0 old → IsOf old loser → 1 < loser.remaining → Replaces old new loser.txn (undone_by last) → AscendFrom 0 new → (x : Open) × (found_in new loser.txn ≡ Some x) × (none_remains x ≡ false)
+left_then old new loser last ascend is more r ascend' =
+    let same = first_is old loser.txn r.front r.was r.back is.x ascend r.old_is r.of is.there in
+    let count : loser.remaining ≡ length r.was.updates = ap (λ (l : Loser). l.remaining) is.same ∙ sym (ap (λ (x : Open). length x.updates) same) in
+    let some = drop_some r.was.updates (omega (arith, more, count)) in (
+      undone_by last r.was,
+      ap (λ (l : List Open). found_in l loser.txn) r.new_is ∙ sym (ap (found_in (r.front ++ undone_by last r.was ∷ r.back)) r.of) ∙ found_here 0 r.front (undone_by last r.was) r.back (subst (AscendFrom 0) r.new_is ascend'),
+      ne_eqb (length (drop 1 r.was.updates)) 0 (λ none. omega (arith, some, none)),
+    )
 
 -- Then it is taken out, and of all others Updates remain.
 pub others_remain : (old mid new : List Open) (t last : ℕ) → AscendFrom 0 mid → Remain old → Replaces old mid t (undone_by last) → TakesOut mid new t → Remain new

@@ -1,6 +1,6 @@
 -- A session's transaction is undone, CLR by CLR, and its End is logged.
 use Rattle.checkpoint.specs.declared.master.Master.{Master}
-use Rattle.std.proofs.Common.{Option, ◌≡◌, ℕ, ◌+◌, ◌-◌, ◌*◌, ◌≤◌, List, [], ◌∷◌, ◌++◌, length, refl, sym, subst, ◌∙◌, arith}
+use Rattle.std.proofs.Common.{Option, ◌≡◌, ℕ, ◌+◌, ◌-◌, ◌*◌, ◌≤◌, List, [], ◌∷◌, ◌++◌, length, refl, sym, ap, subst, ◌∙◌, arith}
 use Rattle.std.proofs.lemmas.Bool.{ne_eqb}
 use Rattle.std.proofs.lemmas.List.{append_assoc, append-nil}
 use Rattle.site.specs.State.{State}
@@ -8,12 +8,12 @@ use Rattle.sealed_ring.specs.Ready.{Finds}
 use Rattle.record_model.specs.State.{Content, Write}
 use Rattle.log_records.specs.declared.log_record.LogRecord.TheVariants.{End}
 use Rattle.log_records.specs.Log.{Entry, txn_of}
-use Rattle.log_records.specs.Unfinished.{owed}
+use Rattle.log_records.specs.Unfinished.{open_updates, owed}
 use Rattle.log_records.specs.Sound.{IsInOrder}
 use Rattle.log_laws.specs.Follow.{IsActive}
 use Rattle.log_laws.specs.Tail.{next_lsn}
 use Rattle.log_laws.specs.Analysis.{IsUnfinished}
-use Rattle.log_laws.proofs.Losers.{active_stays, loser_stays}
+use Rattle.log_laws.proofs.Losers.{active_stays, entries_other, loser_stays}
 use Rattle.log_laws.proofs.Tails.{whole_in_order}
 use Rattle.log_laws.proofs.UndoingSteps.{active_is_unfinished}
 use Rattle.image_meaning.specs.Meaning.{master_of, picture_under}
@@ -30,6 +30,7 @@ pub concerns_more : (newest : Option Master) (txn : ℕ) (before now : List Entr
 concerns_more newest txn before now e own concerns = record {
   under_way = λ t last writes differ active. active_stays (master_of newest) now e t last writes (concerns.under_way t last writes differ active) (ne_eqb (txn_of e) t (λ same. differ (sym same ∙ own)));
   losers = λ t differ. loser_stays now e t (ne_eqb (txn_of e) t (λ same. differ (sym same ∙ own))) ∙ concerns.losers t differ;
+  left = λ t differ. ap (open_updates []) (entries_other now e t (ne_eqb (txn_of e) t (λ same. differ (sym same ∙ own)))) ∙ concerns.left t differ;
 }
 
 -- so are its CLRs
@@ -56,7 +57,7 @@ rolls_back store last old new newest records table commits begin at writes made 
     let e : Entry = record { lsn = u.lsn; rec = End begin } in
     record {
       log = (records ++ u.clrs) ++ e ∷ [];
-      concerns = concerns_more newest begin records (records ++ u.clrs) e refl (concerns_clrs newest begin records records u.clrs u.own (record { under_way = λ t last writes differ active. active; losers = λ t differ. refl }));
+      concerns = concerns_more newest begin records (records ++ u.clrs) e refl (concerns_clrs newest begin records records u.clrs u.own (record { under_way = λ t last writes differ active. active; losers = λ t differ. refl; left = λ t differ. refl }));
       holds = record { both = u.holds; orderly = u.orderly h.orderly; masters = masters };
       closed = u.closed;
       owes = omega (arith, u.owes, u.count, unfinished.remaining_is, many);

@@ -19,6 +19,11 @@ use Rattle.redo_undo.specs.Rollback.{left_of, Compensates}
 use Rattle.redo_undo.specs.Laws.{PageLaws, UndoLaws}
 use Rattle.redo_undo.specs.MachineSteps.{StepsMachine}
 use Rattle.redo_undo.specs.UndoWorks.{works_of}
+use Rattle.redo_undo.specs.Mirroring.{PerformsOn}
+use Rattle.ring_machine.specs.Restart.{clr_work}
+use Rattle.ring_machine.proofs.Performing.{performs_as, performs_by, performs_then, performs_nothing, performs_answered}
+use Rattle.redo_undo.proofs.UndoneWork.{clrs_more}
+use Rattle.site.proofs.Working.{no_error}
 use Rattle.redo_undo.proofs.Rollbacks.{starts, goes_on}
 use Rattle.page_store.proofs.StagingLaws.{stages_none}
 use Rattle.redo_undo.proofs.Asking.{asks_nothing}
@@ -27,48 +32,51 @@ use Rattle.log_laws.proofs.OpenUpdates.{left_after_clr}
 use Rattle.redo_undo.proofs.LeftUpdates.{AsksSoFar}
 use Rattle.std.proofs.lemmas.List.{length-append}
 
-pub asks_none : (records : List Entry) (txn : ℕ) (pages : PageStore) (site : State) → AsksSoFar records [] txn pages pages site site
-asks_none records txn pages site = record {
+pub asks_none : (records : List Entry) (txn : ℕ) (log : LogStore) (pages : PageStore) (site : State) → AsksSoFar records [] txn log log pages pages site site
+asks_none records txn log pages site = record {
+  performs = performs_nothing (λ m is. is) (λ dev says. absurd (no_error {T = ⊤} {x = tt} {e = Worn dev} says));
   done = [];
   are = sym (ap (λ (l : List Entry). left_open l txn) (append-nil records));
   asks = asks_nothing {T = ⊤} (Ok tt) pages site site (λ d. refl) (λ (is : IsErrOf {T = ⊤} (Ok tt) (Worn Flash)). cc) (stages_none refl (omega arith) refl);
 }
 
 -- one CLR more
-pub asks_one_more : LeftPush → {B : Type 0} (b : B) (records clrs : List Entry) (txn : ℕ) (old mid new : PageStore) (before between now : State) → AsksSoFar records clrs txn old mid before between →
+pub asks_one_more : LeftPush → {B : Type 0} (b : B) (records clrs : List Entry) (txn : ℕ) (log log' log'' : LogStore) (old mid new : PageStore) (before between now : State) → AsksSoFar records clrs txn log log' old mid before between →
     (u : Entry) (rest : List Entry) (e : Entry) → is_clr e.rec ≡ true → txn_of e ≡ txn → left_open (records ++ clrs) txn ≡ u ∷ rest → StepsMachine {T = B} (Ok b) (works_of (u ∷ [])) mid new between now →
-    AsksSoFar records (clrs ++ e ∷ []) txn old new before now
-asks_one_more push b records clrs txn old mid new before between now so_far u rest e clr own left asks =
+    PerformsOn {T = B} (Ok b) (clr_work u) log' log'' mid new between now → AsksSoFar records (clrs ++ e ∷ []) txn log log'' old new before now
+asks_one_more push b records clrs txn log log' log'' old mid new before between now so_far u rest e clr own left asks performs =
     let more : left_open (records ++ (clrs ++ e ∷ [])) txn ≡ rest =
     sym (ap (λ (l : List Entry). left_open l txn) (append_assoc records clrs (e ∷ []))) ∙ left_after_clr push (records ++ clrs) e txn clr own ∙ ap (drop 1) left in
     record {
       done = so_far.done ++ u ∷ [];
       are = so_far.are ∙ ap (λ (l : List Entry). so_far.done ++ l) (left ∙ sym (ap (λ (l : List Entry). u ∷ l) more)) ∙ sym (append_assoc so_far.done (u ∷ []) (left_open (records ++ (clrs ++ e ∷ [])) txn));
       asks = one_more_work tt b so_far.done u old mid new before between now so_far.asks asks;
+      performs = performs_as (clrs_more so_far.done u) (performs_then so_far.performs (performs_by (sym so_far.asks.rules_are) (performs_answered performs)));
     }
 
 -- With the CLRs themselves.
 
-abbrev pub AsksFor : LogStore → PageStore → State → Option Master → List Entry → List Content → ℕ → ℕ → ℕ → Undoing → PageStore → State → Type 0
-AsksFor log pages site newest records table commits txn blocks now old before =
-    (made : Compensates log pages site newest records table commits txn blocks before.log_reads now) × AsksSoFar records made.clrs txn old pages before site
+abbrev pub AsksFor : LogStore → PageStore → State → Option Master → List Entry → List Content → ℕ → ℕ → ℕ → Undoing → LogStore → PageStore → State → Type 0
+AsksFor log pages site newest records table commits txn blocks now first old before =
+    (made : Compensates log pages site newest records table commits txn blocks before.log_reads now) × AsksSoFar records made.clrs txn first log old pages before site
 
 pub starts_asking : (log : LogStore) (pages : PageStore) (site : State) (newest : Option Master) (records : List Entry) (table : List Content) (commits : ℕ) (x : Unfinished) (first : Undoing) → Represents log pages site newest records table commits → IsUnfinished records x → IsAt first x →
-    AsksFor log pages site newest records table commits x.txn (blocks_to log) first pages site
+    AsksFor log pages site newest records table commits x.txn (blocks_to log) first log pages site
 unfolding starts
-starts_asking log pages site newest records table commits x first holds unfinished at = (starts log pages site newest records table commits x first holds unfinished at, asks_none records x.txn pages site)
+starts_asking log pages site newest records table commits x first holds unfinished at = (starts log pages site newest records table commits x first holds unfinished at, asks_none records x.txn log pages site)
 
-pub goes_on_asking : PageLaws → (laws : UndoLaws) (log : LogStore) (pages : PageStore) (site : State) (newest : Option Master) (records : List Entry) (table : List Content) (commits txn blocks : ℕ) (now : Undoing) (old : PageStore) (before : State) →
-    (c : AsksFor log pages site newest records table commits txn blocks now old before) (log' : LogStore) (pages' : PageStore) (new : State) (next : Undoing) (u : Entry) (rest : List Entry) →
+pub goes_on_asking : PageLaws → (laws : UndoLaws) (log : LogStore) (pages : PageStore) (site : State) (newest : Option Master) (records : List Entry) (table : List Content) (commits txn blocks : ℕ) (now : Undoing) (start : LogStore) (old : PageStore) (before : State) →
+    (c : AsksFor log pages site newest records table commits txn blocks now start old before) (log' : LogStore) (pages' : PageStore) (new : State) (next : Undoing) (u : Entry) (rest : List Entry) →
     left_open (records ++ c.0.clrs) now.txn ≡ u ∷ rest → Undone log' pages' new newest (records ++ c.0.clrs) table commits (left_of now c.0.remaining) next → blocks_to log' ≤ blocks_to log + 1 → new.log_reads ≤ site.log_reads + 1 →
-    StepsMachine {T = Undoing} (Ok next) (works_of (u ∷ [])) pages pages' site new → (more : AsksFor log' pages' new newest records table commits txn blocks next old before) × (length c.0.clrs + 1 ≤ length more.0.clrs)
+    StepsMachine {T = Undoing} (Ok next) (works_of (u ∷ [])) pages pages' site new → PerformsOn {T = Undoing} (Ok next) (clr_work u) log log' pages pages' site new →
+    (more : AsksFor log' pages' new newest records table commits txn blocks next start old before) × (length c.0.clrs + 1 ≤ length more.0.clrs)
 unfolding goes_on
-goes_on_asking page_laws laws log pages site newest records table commits txn blocks now old before c log' pages' new next u rest left done one one_read asks =
+goes_on_asking page_laws laws log pages site newest records table commits txn blocks now start old before c log' pages' new next u rest left done one one_read asks performs =
     let made = c.0 in
     let longer : length made.clrs + 1 ≤ length (made.clrs ++ done.e ∷ []) = omega (arith, length-append made.clrs (done.e ∷ [])) in (
       (
         goes_on page_laws laws log pages site newest records table commits txn blocks before.log_reads now made log' pages' new next done one one_read,
-        asks_one_more laws.left_push next records made.clrs txn old pages pages' before site new c.1 u rest done.e done.clr (done.own ∙ made.same) (sym (ap (left_open (records ++ made.clrs)) made.same) ∙ left) asks,
+        asks_one_more laws.left_push next records made.clrs txn start log log' old pages pages' before site new c.1 u rest done.e done.clr (done.own ∙ made.same) (sym (ap (left_open (records ++ made.clrs)) made.same) ∙ left) asks performs,
       ),
       longer,
     )

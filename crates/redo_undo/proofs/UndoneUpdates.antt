@@ -30,6 +30,10 @@ use Rattle.redo_undo.specs.UndoWorks.{works_of, IsLastAt, UndoesUpdates}
 use Rattle.page_store.specs.Caching.{rules}
 use Rattle.redo_undo.proofs.AskingUndo.{one_more_work, more_work_stopped, all_work}
 use Rattle.redo_undo.proofs.Lasts.{split_at}
+use Rattle.redo_undo.specs.Mirroring.{PerformsOn}
+use Rattle.ring_machine.specs.Machine.{Work}
+use Rattle.ring_machine.specs.Restart.{undo_work, undoing_one, undoing_work}
+use Rattle.ring_machine.proofs.Performing.{performs_as, performs_by, performs_then, performs_stopped, performs_answered}
 use Rattle.redo_undo.proofs.Found.{order, undoable, open_is, lives, head_of, one_more, one_end, nothing_undone, more_undone}
 use Rattle.log_laws.proofs.OpenUpdates.{Fall, left_falls}
 use Rattle.log_laws.proofs.Pendings.{last_is, none_last, waits, reversed, pending_after_clr, pending_after_end}
@@ -125,41 +129,65 @@ none_is_next records next never is = none_last (pending records) (by (last_where
     by (Some u) last = absurd (never _ (is ∙ ap (option_map (λ (u : Entry). record { 0 = txn_of u; 1 = u.lsn })) last))
 
 -- Some are undone, and the cache has done what that asks for.
-pub record AsksUpdates (log : LogStore) (pages : PageStore) (site : State) (newest : Option Master) (records : List Entry) (table : List Content) (commits : ℕ) (found : Analysis) (known : ℕ) (old : PageStore) (before : State) : Type 0 where
+pub record AsksUpdates (log : LogStore) (pages : PageStore) (site : State) (newest : Option Master) (records : List Entry) (table : List Content) (commits : ℕ) (found : Analysis) (known : ℕ) (start : LogStore) (old : PageStore) (before : State) : Type 0 where
   pub done : List Entry
   pub updates : UndoesUpdates log pages site newest records table commits found known done
   pub asks : StepsMachine {T = ⊤} (Ok tt) (works_of done) old pages before site
   pub read : site.log_reads ≤ before.log_reads + length done
+  -- the machine has done so much, and what remains is to be done
+  pub worked : List Work
+  pub left_is : undo_work records ≡ worked ++ undoing_work (reverse (pending (records ++ updates.some.more)))
+  pub performs : PerformsOn {T = ⊤} (Ok tt) worked start log old pages before site
 
 -- one Update more is undone
-pub updates_asked_more : {B : Type 0} (b : B) (log log' : LogStore) (pages pages' : PageStore) (site site' : State) (newest : Option Master) (records : List Entry) (table : List Content) (commits : ℕ) (found found' : Analysis) (known known' : ℕ) (old : PageStore) (before : State) →
-    (a : AsksUpdates log pages site newest records table commits found known old before) (u : Entry) → UndoesUpdates log' pages' site' newest (records ++ a.updates.some.more) table commits found' known' (u ∷ []) → StepsMachine {T = B} (Ok b) (works_of (u ∷ [])) pages pages' site site' →
-    site'.log_reads ≤ site.log_reads + 1 → AsksUpdates log' pages' site' newest records table commits found' known' old before
-updates_asked_more b log log' pages pages' site site' newest records table commits found found' known known' old before a u more asks one = record {
-  done = a.done ++ u ∷ [];
-  updates = more_updates log log' pages pages' site site' newest records table commits found found' known known' a.done (u ∷ []) a.updates more;
-  asks = one_more_work tt b a.done u old pages pages' before site site' a.asks asks;
-  read = let so_far = a.read in let long : length (a.done ++ u ∷ []) ≡ length a.done + 1 = length-append a.done (u ∷ []) in omega (arith, so_far, one, long);
-}
+pub updates_asked_more : {B : Type 0} (b : B) (log log' : LogStore) (pages pages' : PageStore) (site site' : State) (newest : Option Master) (records : List Entry) (table : List Content) (commits : ℕ) (found found' : Analysis) (known known' : ℕ) (start : LogStore) (old : PageStore) (before : State) →
+    (a : AsksUpdates log pages site newest records table commits found known start old before) (u : Entry) → UndoesUpdates log' pages' site' newest (records ++ a.updates.some.more) table commits found' known' (u ∷ []) → StepsMachine {T = B} (Ok b) (works_of (u ∷ [])) pages pages' site site' →
+    site'.log_reads ≤ site.log_reads + 1 → ((earlier : List Entry) → reverse (pending (records ++ a.updates.some.more)) ≡ u ∷ earlier → PerformsOn {T = B} (Ok b) (undoing_one u earlier) log log' pages pages' site site') → AsksUpdates log' pages' site' newest records table commits found' known' start old before
+unfolding more_updates
+updates_asked_more b log log' pages pages' site site' newest records table commits found found' known known' start old before a u more asks one performs =
+    let earlier = reverse (pending ((records ++ a.updates.some.more) ++ more.some.more)) in
+    let same : undoing_work earlier ≡ undoing_work (reverse (pending (records ++ (a.updates.some.more ++ more.some.more)))) = ap (λ (l : List Entry). undoing_work (reverse (pending l))) (append_assoc records a.updates.some.more more.some.more) in
+    record {
+      done = a.done ++ u ∷ [];
+      updates = more_updates log log' pages pages' site site' newest records table commits found found' known known' a.done (u ∷ []) a.updates more;
+      asks = one_more_work tt b a.done u old pages pages' before site site' a.asks asks;
+      read = let so_far = a.read in let long : length (a.done ++ u ∷ []) ≡ length a.done + 1 = length-append a.done (u ∷ []) in omega (arith, so_far, one, long);
+      worked = a.worked ++ undoing_one u earlier;
+      left_is = a.left_is ∙ ap (λ (l : List Entry). a.worked ++ undoing_work l) more.left ∙ sym (append_assoc a.worked (undoing_one u earlier) (undoing_work earlier)) ∙ ap (λ (w : List Work). (a.worked ++ undoing_one u earlier) ++ w) same;
+      performs = performs_then a.performs (performs_by (sym a.asks.rules_are) (performs_answered (performs earlier more.left)));
+    }
 
 -- it stops there
-pub updates_asked_stopped : {B C : Type 0} (stop : Stop) (log : LogStore) (pages pages' : PageStore) (site site' : State) (newest : Option Master) (records : List Entry) (table : List Content) (commits : ℕ) (found : Analysis) (known : ℕ) (old : PageStore) (before : State) → 1 ≤ (rules old).groups →
-    (a : AsksUpdates log pages site newest records table commits found known old before) (u : Entry) (txn lsn : ℕ) → IsLastAt (records ++ a.updates.some.more) txn lsn u → StepsMachine {T = B} (Err stop) (works_of (u ∷ [])) pages pages' site site' →
+pub updates_asked_stopped : {B C : Type 0} (stop : Stop) (log : LogStore) (pages pages' : PageStore) (site site' : State) (newest : Option Master) (records : List Entry) (table : List Content) (commits : ℕ) (found : Analysis) (known : ℕ) (start : LogStore) (old : PageStore) (before : State) → 1 ≤ (rules old).groups →
+    (a : AsksUpdates log pages site newest records table commits found known start old before) (u : Entry) (txn lsn : ℕ) → IsLastAt (records ++ a.updates.some.more) txn lsn u → StepsMachine {T = B} (Err stop) (works_of (u ∷ [])) pages pages' site site' →
     StepsMachine {T = C} (Err stop) (undo_works records) old pages' before site'
-updates_asked_stopped stop log pages pages' site site' newest records table commits found known old before some a u txn lsn last asks =
+updates_asked_stopped stop log pages pages' site site' newest records table commits found known start old before some a u txn lsn last asks =
     let front = last_in_front (records ++ a.updates.some.more) txn lsn u last in
     more_work_stopped tt stop (reverse (pending records)) a.done front.0 u old pages pages' before site site' some (a.updates.left ∙ ap (λ (l : List Entry). a.done ++ l) front.1) a.asks asks
 
+pub updates_performed_stopped : {B C : Type 0} (stop : Stop) (log log' : LogStore) (pages pages' : PageStore) (site site' : State) (newest : Option Master) (records : List Entry) (table : List Content) (commits : ℕ) (found : Analysis) (known : ℕ) (start : LogStore) (old : PageStore) (before : State) →
+    (a : AsksUpdates log pages site newest records table commits found known start old before) (u : Entry) (txn lsn : ℕ) → IsLastAt (records ++ a.updates.some.more) txn lsn u →
+    ((earlier : List Entry) → reverse (pending (records ++ a.updates.some.more)) ≡ u ∷ earlier → PerformsOn {T = B} (Err stop) (undoing_one u earlier) log log' pages pages' site site') → PerformsOn {T = C} (Err stop) (undo_work records) start log' old pages' before site'
+updates_performed_stopped stop log log' pages pages' site site' newest records table commits found known start old before a u txn lsn last performs =
+    let front = last_in_front (records ++ a.updates.some.more) txn lsn u last in
+    let is : undo_work records ≡ (a.worked ++ undoing_one u front.0) ++ undoing_work front.0 = a.left_is ∙ ap (λ (l : List Entry). a.worked ++ undoing_work l) front.1 ∙ sym (append_assoc a.worked (undoing_one u front.0) (undoing_work front.0)) in
+    performs_as is (performs_stopped (undoing_work front.0) (performs_then a.performs (performs_by (sym a.asks.rules_are) (performs front.0 front.1))))
+
 -- or all are undone
-pub updates_asked : {B : Type 0} (b : B) (log : LogStore) (pages : PageStore) (site : State) (newest : Option Master) (records : List Entry) (table : List Content) (commits : ℕ) (found : Analysis) (known : ℕ) (old : PageStore) (before : State) →
-    (a : AsksUpdates log pages site newest records table commits found known old before) → pending (records ++ a.updates.some.more) ≡ [] → StepsMachine {T = B} (Ok b) (undo_works records) old pages before site
-updates_asked b log pages site newest records table commits found known old before a none =
+pub updates_asked : {B : Type 0} (b : B) (log : LogStore) (pages : PageStore) (site : State) (newest : Option Master) (records : List Entry) (table : List Content) (commits : ℕ) (found : Analysis) (known : ℕ) (start : LogStore) (old : PageStore) (before : State) →
+    (a : AsksUpdates log pages site newest records table commits found known start old before) → pending (records ++ a.updates.some.more) ≡ [] → StepsMachine {T = B} (Ok b) (undo_works records) old pages before site
+updates_asked b log pages site newest records table commits found known start old before a none =
     all_work tt b (reverse (pending records)) a.done old pages before site (a.updates.left ∙ ap (λ (l : List Entry). a.done ++ reverse l) none ∙ append-nil a.done) a.asks
 
+pub updates_performed : {B : Type 0} (b : B) (log : LogStore) (pages : PageStore) (site : State) (newest : Option Master) (records : List Entry) (table : List Content) (commits : ℕ) (found : Analysis) (known : ℕ) (start : LogStore) (old : PageStore) (before : State) →
+    (a : AsksUpdates log pages site newest records table commits found known start old before) → pending (records ++ a.updates.some.more) ≡ [] → PerformsOn {T = B} (Ok b) (undo_work records) start log old pages before site
+updates_performed b log pages site newest records table commits found known start old before a none =
+    performs_as (a.left_is ∙ ap (λ (l : List Entry). a.worked ++ undoing_work (reverse l)) none ∙ append-nil a.worked) (performs_answered a.performs)
+
 -- No more of the log is read than there are Updates that remain: where it stops
-pub reads_stopped : (log : LogStore) (pages : PageStore) (site site' : State) (newest : Option Master) (records : List Entry) (table : List Content) (commits : ℕ) (found : Analysis) (known : ℕ) (old : PageStore) (before : State) →
-    (a : AsksUpdates log pages site newest records table commits found known old before) (u : Entry) (txn lsn : ℕ) → IsLastAt (records ++ a.updates.some.more) txn lsn u → site'.log_reads ≤ site.log_reads + 1 → site'.log_reads ≤ before.log_reads + length (pending records)
-reads_stopped log pages site site' newest records table commits found known old before a u txn lsn last one =
+pub reads_stopped : (log : LogStore) (pages : PageStore) (site site' : State) (newest : Option Master) (records : List Entry) (table : List Content) (commits : ℕ) (found : Analysis) (known : ℕ) (start : LogStore) (old : PageStore) (before : State) →
+    (a : AsksUpdates log pages site newest records table commits found known start old before) (u : Entry) (txn lsn : ℕ) → IsLastAt (records ++ a.updates.some.more) txn lsn u → site'.log_reads ≤ site.log_reads + 1 → site'.log_reads ≤ before.log_reads + length (pending records)
+reads_stopped log pages site site' newest records table commits found known start old before a u txn lsn last one =
     let front = last_in_front (records ++ a.updates.some.more) txn lsn u last in
     let so_far = a.read in
     let all : length (pending records) ≡ length (a.done ++ u ∷ front.0) = sym (length-reverse (pending records)) ∙ ap length (a.updates.left ∙ ap (λ (l : List Entry). a.done ++ l) front.1) in
@@ -168,9 +196,9 @@ reads_stopped log pages site site' newest records table commits found known old 
     omega (arith, so_far, one, all, long, last_one)
 
 -- and where all are undone
-pub reads_asked : (log : LogStore) (pages : PageStore) (site : State) (newest : Option Master) (records : List Entry) (table : List Content) (commits : ℕ) (found : Analysis) (known : ℕ) (old : PageStore) (before : State) →
-    AsksUpdates log pages site newest records table commits found known old before → site.log_reads ≤ before.log_reads + length (pending records)
-reads_asked log pages site newest records table commits found known old before a =
+pub reads_asked : (log : LogStore) (pages : PageStore) (site : State) (newest : Option Master) (records : List Entry) (table : List Content) (commits : ℕ) (found : Analysis) (known : ℕ) (start : LogStore) (old : PageStore) (before : State) →
+    AsksUpdates log pages site newest records table commits found known start old before → site.log_reads ≤ before.log_reads + length (pending records)
+reads_asked log pages site newest records table commits found known start old before a =
     let rest = reverse (pending (records ++ a.updates.some.more)) in
     let so_far = a.read in
     let all : length (pending records) ≡ length (a.done ++ rest) = sym (length-reverse (pending records)) ∙ ap length a.updates.left in

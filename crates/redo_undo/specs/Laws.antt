@@ -5,7 +5,7 @@ use Rattle.log_laws.specs.ShownLaws.{ShownPush}
 use Rattle.log_laws.specs.TailLaws.{WholeIsUndoable, WholeInOrder}
 use Rattle.log_laws.specs.UndoLaws.{NextOfUndone, NextToUndo, FoundByLsn}
 use Rattle.log_laws.specs.LoserLaws.{ListedIsLoser, LoserIsListed}
-use Rattle.analysis.specs.Laws.{ActiveIsUnfinished}
+use Rattle.analysis.specs.Laws.{OneTable, ActiveIsUnfinished, TableOfUnfinished}
 use Rattle.log_laws.specs.UndoSteps.{UndoGoesOn, UndoEnds, UnfinishedStep}
 use Rattle.log_laws.specs.ActiveLaws.{LoserStays, LoserIsClosed, LoserIsNotClosed}
 use Rattle.log_laws.specs.RoomLaws.{OwedClr, OwedClosing, OwedNone, LeftPush}
@@ -70,6 +70,8 @@ pub record UndoLaws : Type 0 where
 -- on what analysis knows of unfinished transactions
 pub record FoundLaws : Type 0 where
   pub active : ActiveIsUnfinished
+  pub one : OneTable
+  pub unfinished : TableOfUnfinished
   pub loser : ListedIsLoser
   pub listed : LoserIsListed
   pub next : NextToUndo

@@ -3,7 +3,7 @@ use Rattle.std.specs.Prelude.{◌≡◌, ◌≢◌, ℕ, ◌+◌, false, List, O
 use Rattle.site.specs.State.{State}
 use Rattle.record_model.specs.State.{Content, Write}
 use Rattle.log_records.specs.Log.{Entry, is_loser}
-use Rattle.log_records.specs.Unfinished.{owed}
+use Rattle.log_records.specs.Unfinished.{left_open, owed}
 use Rattle.log_laws.specs.Follow.{IsActive}
 use Rattle.checkpoint.specs.declared.master.Master.{Master}
 use Rattle.image_meaning.specs.Meaning.{master_of}
@@ -15,6 +15,7 @@ pub record ConcernsOnly (newest : Option Master) (txn : ℕ) (before now : List 
   pub under_way : (t last : ℕ) (writes : List Write) → t ≢ txn → IsActive (master_of newest) before t last writes
       → IsActive (master_of newest) now t last writes
   pub losers : (t : ℕ) → t ≢ txn → is_loser now t ≡ is_loser before t
+  pub left : (t : ℕ) → t ≢ txn → left_open now t ≡ left_open before t
 
 -- A transaction of so many writes is undone, and its End is logged. It owes nothing any more.
 pub record RollsBack (store : Store) (site : State) (newest : Option Master) (records : List Entry)

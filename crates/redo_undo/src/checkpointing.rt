@@ -25,6 +25,8 @@ ghost use Rattle.redo_undo.specs.Stores.{MayWork, HasCheckpoint, sizes_of};
 ghost use Rattle.redo_undo.specs.StoreCalls as stores;
 ghost use Rattle.redo_undo.specs.MachineSteps.{StepsMachine, checkpoint_works};
 ghost use Rattle.redo_undo.specs.Calls.{KeepsInvariant, Keeps};
+ghost use Rattle.redo_undo.specs.Mirroring.{PerformsOn, PerformsStore, flush_work};
+ghost use Rattle.ring_machine.specs.Commands.{saves};
 ghost use Rattle.site.specs.Work.{Calls};
 ghost use Rattle.std.specs.Prelude.{IsTrue};
 ghost use Rattle.site.specs.Moments.{ChangesOnly};
@@ -77,6 +79,9 @@ fn flush<S: Site>(site: &mut S, log: &mut LogStore, pages: &mut PageStore) -> Re
         → Represents log.old pages.old (S.state site.old) newest records table commits
         → Keeps result pages.old.flash.geometry log.old log.new (S.state site.old) (S.state site.new)
         (LeavesTableUnder newest pages.old.flash.geometry table commits (S.state site.old).told) 0 0 }
+    ensures performs { (newest : Option Master) (records : List Entry) (table : List Content) (commits : ℕ)
+        → Represents log.old pages.old (S.state site.old) newest records table commits
+        → PerformsOn result flush_work log.old log.new pages.old pages.new (S.state site.old) (S.state site.new) }
 
     // Of every site.
     ensures asks { StepsMachine result checkpoint_works pages.old pages.new (S.state site.old) (S.state site.new) }
@@ -165,6 +170,8 @@ fn save_master<S: Site>(
     ensures worn { IsTrue (S.state site.old).honest
         → masters.old.hi ≡ hi_of master_shape (S.state site.old).image.log
         → IsErrOf result (Stop.Worn Dev.Log) → hi_of master_shape (S.state site.new).image.log ≡ 2 ^ 40 }
+    ensures unit { OnOk result (masters.new.hi ≡ masters.old.hi + 1) }
+    ensures at_end { IsErrOf result (Stop.Worn Dev.Log) → masters.old.hi ≡ 2 ^ 40 }
     ensures stops { IfErr result (λ stop. (stop ≡ Stop.Device Dev.Log) ⊎ (stop ≡ Stop.Worn Dev.Log)) }
 {
     save_laws();
@@ -216,6 +223,9 @@ impl Store {
             → MayBeMade self.old.masters (S.state site.old) records active
             → stores.Keeps result self.old self.new (S.state site.old) (S.state site.new)
             (LeavesFor (sizes_of self.old) table commits (S.state site.old).told) 0 1 }
+        ensures performs { (newest : Option Master) (records : List Entry) (table : List Content)
+            → Represents self.old.log self.old.pages (S.state site.old) newest records table commits
+            → PerformsStore result saves self.old self.new (S.state site.old) (S.state site.new) }
 
         // Of every site.
         ensures calls { Calls result (S.state site.old) (S.state site.new) }
@@ -233,6 +243,7 @@ impl Store {
         ensures stops { IfErr result (λ stop. MayStop stop) }
     {
         under_some_master();
+        beside_laws();
         match force(site, &mut self.log) {
             Ok(()) => {}
             Err(stop) => return Err(stop),

@@ -13,6 +13,8 @@ ghost use Rattle.image_meaning.specs.Moments.{LeavesEitherFor};
 ghost use Rattle.redo_undo.specs.Committing.{MayCommit, CommitLaws};
 ghost use Rattle.redo_undo.specs.Stores.{MayLog, Represents, sizes_of};
 ghost use Rattle.redo_undo.specs.StoreCalls.{KeepsInvariant, Keeps};
+ghost use Rattle.redo_undo.specs.Mirroring.{PerformsStore};
+ghost use Rattle.ring_machine.specs.Commands.{commits as commits_work};
 ghost use Rattle.redo_undo.specs.MachineSteps.{StepsMachine};
 
 use crate::laws::{beside_laws, log_laws, page_laws};
@@ -51,6 +53,9 @@ impl Store {
             → Keeps result self.old self.new (S.state site.old) (S.state site.new)
             (LeavesEitherFor (sizes_of self.old) table (table_with table (writes_in txn records)) commits
             (S.state site.old).told) 1 0 }
+        ensures performs { (newest : Option Master) (records : List Entry) (table : List Content) (commits : ℕ)
+            → Represents self.old (S.state site.old) newest records table commits
+            → PerformsStore result commits_work self.old self.new (S.state site.old) (S.state site.new) }
 
         // Of every site.
         ensures works { KeepsInvariant result self.old self.new (S.state site.old) (S.state site.new) 1 }

@@ -8,7 +8,8 @@ ghost use Rattle.log_store.specs.Representation as log_store;
 ghost use Rattle.page_store.specs.declared.store.PageStore.{PageStore};
 ghost use Rattle.checkpoint.specs.declared.master.Master.{Master};
 ghost use Rattle.image_meaning.specs.Moments.{LeavesTableUnder};
-ghost use Rattle.redo_undo.specs.Holding.{Represents, blocks_to};
+ghost use Rattle.redo_undo.specs.Holding.{Invariant, Represents, blocks_to};
+ghost use Rattle.redo_undo.specs.Mirroring.{PerformsOn, force_work};
 ghost use Rattle.redo_undo.specs.Calls.{KeepsInvariantBeside, KeepsBeside};
 
 use crate::laws::{beside_laws, log_laws, page_laws};
@@ -33,6 +34,11 @@ pub(crate) fn force<S: Site>(site: &mut S, log: &mut LogStore) -> Result<(), Sto
         → Represents log.old pages (S.state site.old) newest records table commits
         → KeepsBeside result log.old log.new pages (S.state site.old) (S.state site.new)
         (LeavesTableUnder newest pages.flash.geometry table commits (S.state site.old).told) 0 }
+    ensures performs { (pages : PageStore) (newest : Option Master) (records : List Entry) (table : List Content)
+        (commits : ℕ)
+        → Invariant log.old pages (S.state site.old)
+        → Represents log.old pages (S.state site.old) newest records table commits
+        → PerformsOn result force_work log.old log.new pages pages (S.state site.old) (S.state site.new) }
 
     // Of every site.
     ensures sealed { OnOk result (log.new.used ≡ 2) }

@@ -22,6 +22,7 @@ ghost use Rattle.redo_undo.specs.Holding.{Invariant, RepresentsLog, Represents, 
 ghost use Rattle.redo_undo.specs.Filling.{Fills, LogsForGroups};
 ghost use Rattle.redo_undo.specs.Holding.{blocks_to};
 ghost use Rattle.redo_undo.specs.Committing.{EndsWith};
+ghost use Rattle.redo_undo.specs.Mirroring.{PerformsOn, touch_work, record_work, change_work};
 ghost use Rattle.redo_undo.specs.MachineSteps.{StepsMachine, one_touch};
 ghost use Rattle.redo_undo.specs.Redoing.{Opening, IsRedoing, LeavesOpened};
 ghost use Rattle.redo_undo.specs.Calls.{KeepsInvariant, LogsNothing, KeepsInvariantBeside, Keeps, KeepsBeside};
@@ -73,6 +74,10 @@ pub fn touch<S: Site>(
     ensures fills { (newest : Option Master) (records : List Entry) (table : List Content) (commits : ℕ)
         → Represents log.old pages.old (S.state site.old) newest records table commits
         → LogsForGroups result (one_touch page) log.old log.new pages.old pages.new }
+    ensures performs { (newest : Option Master) (records : List Entry) (table : List Content) (commits : ℕ)
+        → Represents log.old pages.old (S.state site.old) newest records table commits
+        → PerformsOn result (touch_work page) log.old log.new pages.old pages.new (S.state site.old)
+        (S.state site.new) }
     ensures there { OnOk result (0 < length pages.new.pool.frames) }
     ensures logs_nothing { LogsNothing result log.old log.new pages.old pages.new (S.state site.old)
         (S.state site.new) }
@@ -130,6 +135,11 @@ pub fn log_record<S: Site>(site: &mut S, log: &mut LogStore, rec: &LogRecord) ->
         → Represents log.old pages (S.state site.old) newest records table commits
         → KeepsBeside result log.old log.new pages (S.state site.old) (S.state site.new)
         (LeavesTableUnder newest pages.flash.geometry table commits (S.state site.old).told) 1 }
+    ensures performs { (pages : PageStore) (newest : Option Master) (records : List Entry) (table : List Content)
+        (commits : ℕ)
+        → Invariant log.old pages (S.state site.old)
+        → Represents log.old pages (S.state site.old) newest records table commits
+        → PerformsOn result (record_work rec.now) log.old log.new pages pages (S.state site.old) (S.state site.new) }
 
     // Of every site.
     ensures rises { IfOk result (λ lsn. (end_of log.old ≤ lsn) × (lsn < end_of log.new)) }
@@ -183,6 +193,10 @@ pub fn log_change<S: Site>(
         → Represents log.old pages.old (S.state site.old) newest records table commits
         → Keeps result pages.old.flash.geometry log.old log.new (S.state site.old) (S.state site.new)
         (LeavesTableUnder newest pages.old.flash.geometry table commits (S.state site.old).told) 1 0 }
+    ensures performs { (newest : Option Master) (records : List Entry) (table : List Content) (commits : ℕ)
+        → Represents log.old pages.old (S.state site.old) newest records table commits
+        → PerformsOn result (change_work rec.now (front_of pages.old.pool.frames).page) log.old log.new pages.old
+        pages.new (S.state site.old) (S.state site.new) }
 
     // Of every site.
     ensures machine { OnOk result (cache_of pages.new ≡ with_change (cache_of pages.old)) }

@@ -22,6 +22,8 @@ ghost use Rattle.redo_undo.specs.Stores.{sizes_of, MayWork, MayLog, Represents, 
 ghost use Rattle.redo_undo.specs.Stores.{update_by};
 ghost use Rattle.redo_undo.specs.StoreRollback.{RollsBack};
 ghost use Rattle.redo_undo.specs.StoreCalls.{KeepsInvariant, Keeps};
+ghost use Rattle.redo_undo.specs.Mirroring.{PerformsStore, updates, undo_one_work};
+ghost use Rattle.ring_machine.specs.Commands.{reads, begins};
 ghost use Rattle.record_model.specs.Touches.{write_touch};
 ghost use Rattle.redo_undo.specs.MachineSteps.{StepsMachine, one_touch};
 ghost use Rattle.page_store.specs.Caching.{cache_of, rules, with_change};
@@ -111,6 +113,9 @@ impl Store {
             (S.state site.old) (S.state site.new) }
         ensures pages { self.new.pages ≡ self.old.pages }
         ensures fills { OnOk result (Fills 1 self.old.log self.new.log self.old.pages self.new.pages) }
+        ensures performs { (newest : Option Master) (records : List Entry) (table : List Content) (commits : ℕ)
+            → Represents self.old (S.state site.old) newest records table commits
+            → PerformsStore result begins self.old self.new (S.state site.old) (S.state site.new) }
         ensures stops { IfErr result (λ stop. (stop ≡ Stop.Device Dev.Log) ⊎ (stop ≡ Stop.Worn Dev.Log)) }
     {
         match log_record(site, &mut self.log, &LogRecord::Begin) {
@@ -145,6 +150,9 @@ impl Store {
         ensures fills { (newest : Option Master) (records : List Entry) (table : List Content) (commits : ℕ)
             → Represents self.old (S.state site.old) newest records table commits
             → LogsForGroups result (one_touch (number / 32)) self.old.log self.new.log self.old.pages self.new.pages }
+        ensures performs { (newest : Option Master) (records : List Entry) (table : List Content) (commits : ℕ)
+            → Represents self.old (S.state site.old) newest records table commits
+            → PerformsStore result (reads number) self.old self.new (S.state site.old) (S.state site.new) }
         ensures asks { StepsMachine result (one_touch (number / 32)) self.old.pages self.new.pages
             (S.state site.old) (S.state site.new) }
     {
@@ -211,6 +219,10 @@ impl Store {
         ensures rules_stay { rules self.new.pages ≡ rules self.old.pages }
         ensures fills { OnOk result (Fills (143 + length (content_spelling after.now)) self.old.log self.new.log
             self.old.pages self.new.pages) }
+        ensures performs { (newest : Option Master) (records : List Entry) (table : List Content) (commits : ℕ)
+            → Represents self.old (S.state site.old) newest records table commits
+            → PerformsStore result (updates number (shown_in self.old (S.state site.old) records number) after.now)
+            self.old self.new (S.state site.old) (S.state site.new) }
         ensures reads { SameReads (S.state site.old) (S.state site.new) }
         ensures stages { Stages result [] (next_group (cache_of self.old.pages)) self.old.pages self.new.pages
             (S.state site.old) (S.state site.new) }
@@ -266,6 +278,11 @@ impl Store {
             → (writes : List Write) → IsActive (master_of newest) records entry.begin entry.last writes
             → length writes ≡ entry.writes
             → (S.state site.new).log_reads ≤ (S.state site.old).log_reads + (entry.writes + 1) }
+        ensures performs { (newest : Option Master) (records : List Entry) (table : List Content) (commits : ℕ)
+            → Represents self.old (S.state site.old) newest records table commits
+            → (writes : List Write) → IsActive (master_of newest) records entry.begin entry.last writes
+            → PerformsStore result (undo_one_work records entry.begin) self.old self.new (S.state site.old)
+            (S.state site.new) }
 
         // Of every site.
         ensures works { KeepsInvariant result self.old self.new (S.state site.old) (S.state site.new)

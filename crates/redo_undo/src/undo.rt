@@ -4,7 +4,7 @@ ghost use Rattle.std.specs.Prelude.{false, IfOk, IfErr, IfSome, IfNone, OnOk, Op
 ghost use Rattle.site.specs.declared.outside.Stop.{Stop};
 ghost use Rattle.record_model.specs.State.{Content};
 ghost use Rattle.log_records.specs.declared.log_record.LogRecord.{LogRecord};
-ghost use Rattle.log_records.specs.Log.{Entry, txn_by, is_closing, number_of};
+ghost use Rattle.log_records.specs.Log.{Entry, txn_by, is_closing, number_of, before_of};
 ghost use Rattle.log_records.specs.Sound.{AreOrderly};
 ghost use Rattle.log_records.specs.Spelling.{IsShort};
 ghost use Rattle.log_records.specs.Unfinished.{left_open};
@@ -21,6 +21,9 @@ ghost use Rattle.redo_undo.specs.Rollback.{Compensates, RollsBack};
 ghost use Rattle.redo_undo.specs.MachineSteps.{StepsMachine, one_change, undo_one_works};
 ghost use Rattle.redo_undo.specs.UndoWorks.{works_of};
 ghost use Rattle.redo_undo.specs.Calls.{KeepsInvariant, ReadsOne, Keeps};
+ghost use Rattle.redo_undo.specs.Mirroring.{PerformsOn, clrs_for, undo_one_work};
+ghost use Rattle.ring_machine.specs.Commands.{takes_back};
+ghost use Rattle.ring_machine.specs.Restart.{clr_work};
 
 use crate::laws::{beside_laws, found_laws, page_laws, undo_laws};
 use crate::logging::{log_change, log_record, touch};
@@ -88,7 +91,8 @@ fn read_update<S: Site>(log: &LogStore, site: &mut S, at: &Undoing) -> Result<Wa
         → log.now.geometry ≡ pages.flash.geometry
         → Represents log.now pages (S.state site.old) newest records table commits
         → IsUnfinished records x → IsAt at.now x → left_open records x.txn ≡ u ∷ rest
-        → IfOk result (λ wanted. number_of u.rec ≡ Some (32 * wanted.page + wanted.slot)) }
+        → IfOk result (λ wanted. (number_of u.rec ≡ Some (32 * wanted.page + wanted.slot))
+        × (before_of u.rec ≡ wanted.before)) }
 
     // Of every site.
     ensures form { IfOk result (λ wanted. (wanted.slot < 32) × IsShort wanted.before) }
@@ -185,6 +189,10 @@ fn compensate<S: Site>(
         → Represents log.old pages.old (S.state site.old) newest records table commits
         → Keeps result pages.old.flash.geometry log.old log.new (S.state site.old) (S.state site.new)
         (LeavesTableUnder newest pages.old.flash.geometry table commits (S.state site.old).told) 1 0 }
+    ensures performs { (newest : Option Master) (records : List Entry) (table : List Content) (commits : ℕ)
+        → Represents log.old pages.old (S.state site.old) newest records table commits
+        → PerformsOn result (takes_back (32 * wanted.page + wanted.slot, wanted.before)) log.old log.new pages.old
+        pages.new (S.state site.old) (S.state site.new) }
 
     // Of every site.
     ensures asks { StepsMachine result (one_change wanted.page) pages.old pages.new (S.state site.old)
@@ -240,6 +248,11 @@ pub(crate) fn undo_update<S: Site>(
         → Represents log.old pages.old (S.state site.old) newest records table commits
         → IsUnfinished records x → IsAt at x → left_open records x.txn ≡ u ∷ rest
         → StepsMachine result (works_of (u ∷ [])) pages.old pages.new (S.state site.old) (S.state site.new) }
+    ensures performs { (newest : Option Master) (records : List Entry) (table : List Content) (commits : ℕ)
+        (x : Unfinished) (u : Entry) (rest : List Entry)
+        → Represents log.old pages.old (S.state site.old) newest records table commits
+        → IsUnfinished records x → IsAt at x → left_open records x.txn ≡ u ∷ rest
+        → PerformsOn result (clr_work u) log.old log.new pages.old pages.new (S.state site.old) (S.state site.new) }
 
     // Of every site.
     ensures last { IfOk result (λ now. now.last < end_of log.new) }
@@ -303,6 +316,12 @@ fn undo_updates<S: Site>(
         → Represents log.old pages.old (S.state site.old) newest records table commits
         → IsUnfinished records x → IsAt first x
         → StepsMachine result (undo_one_works records x.txn) pages.old pages.new (S.state site.old) (S.state site.new) }
+    ensures performs { (newest : Option Master) (records : List Entry) (table : List Content) (commits : ℕ)
+        (x : Unfinished)
+        → Represents log.old pages.old (S.state site.old) newest records table commits
+        → IsUnfinished records x → IsAt first x
+        → PerformsOn result (clrs_for (left_open records x.txn)) log.old log.new pages.old pages.new (S.state site.old)
+        (S.state site.new) }
 
     // Of every site.
     ensures none { IfOk result (λ now. now.next ≡ now.txn) }
@@ -424,6 +443,12 @@ pub fn undo_one<S: Site>(
         → Represents log.old pages.old (S.state site.old) newest records table commits
         → IsUnfinished records x → x.txn ≡ txn → x.last ≡ last
         → StepsMachine result (undo_one_works records txn) pages.old pages.new (S.state site.old) (S.state site.new) }
+    ensures performs { (newest : Option Master) (records : List Entry) (table : List Content) (commits : ℕ)
+        (x : Unfinished)
+        → Represents log.old pages.old (S.state site.old) newest records table commits
+        → IsUnfinished records x → x.txn ≡ txn → x.last ≡ last
+        → PerformsOn result (undo_one_work records txn) log.old log.new pages.old pages.new (S.state site.old)
+        (S.state site.new) }
 
     // Of every site.
     ensures works { KeepsInvariant result log.old log.new pages.old pages.new (S.state site.old) (S.state site.new) }

@@ -1,5 +1,5 @@
 // Undoing all transactions that a log leaves unfinished.
-ghost use Rattle.std.specs.Prelude.{◌≡◌, ◌⊎◌, ◌+◌, ◌-◌, ◌<◌, ◌≤◌, [], ◌∷◌, ℕ, List, length, drop, false, None};
+ghost use Rattle.std.specs.Prelude.{◌≡◌, ◌⊎◌, ◌+◌, ◌-◌, ◌<◌, ◌≤◌, [], ◌∷◌, ℕ, List, length, drop, reverse, false, None};
 ghost use Rattle.std.specs.Prelude.{Some, IfOk, IfErr, IfSome, IfNone, OnOk, Option};
 ghost use Rattle.site.specs.declared.outside.Dev.{Dev};
 ghost use Rattle.site.specs.declared.outside.Stop.{Stop};
@@ -20,6 +20,9 @@ ghost use Rattle.redo_undo.specs.MachineSteps.{StepsMachine, undo_works};
 ghost use Rattle.redo_undo.specs.UndoWorks.{works_of, IsLastAt, UndoesUpdates};
 ghost use Rattle.redo_undo.specs.UndoingAll.{IsHeard, IsOf, Remain, HasNone, IsUndoing, UndoesAll};
 ghost use Rattle.redo_undo.specs.Calls.{KeepsInvariant, KeepsInvariantBeside, Keeps};
+ghost use Rattle.redo_undo.specs.Mirroring.{PerformsOn, ends_for};
+ghost use Rattle.ring_machine.specs.Commands.{ends};
+ghost use Rattle.ring_machine.specs.Restart.{clr_work, undoing_one, undo_work};
 
 use crate::laws::{found_laws, page_laws, undo_laws};
 use crate::logging::log_record;
@@ -89,6 +92,11 @@ fn end_one<S: Site>(
         → IsUndoing log.old pages (S.state site.old) newest records table commits found.old known
         → IfOk result (λ lsn. UndoesUpdates log.new pages (S.state site.new) newest records table commits
         found.new lsn []) }
+    ensures performs { (pages : PageStore) (newest : Option Master) (records : List Entry) (table : List Content)
+        (commits known : ℕ)
+        → Invariant log.old pages (S.state site.old)
+        → IsUndoing log.old pages (S.state site.old) newest records table commits found.old known
+        → PerformsOn result ends log.old log.new pages pages (S.state site.old) (S.state site.new) }
 
     // Of every site.
     ensures before { IfOk result (λ lsn. lsn < end_of log.new) }
@@ -151,6 +159,12 @@ fn end_undone<S: Site>(
         → IsUndoing log.old pages (S.state site.old) newest records table commits found.old known
         → IfOk result (λ lsn. UndoesUpdates log.new pages (S.state site.new) newest records table commits
         found.new lsn []) }
+    ensures performs { (pages : PageStore) (newest : Option Master) (records : List Entry) (table : List Content)
+        (commits : ℕ)
+        → Invariant log.old pages (S.state site.old)
+        → IsUndoing log.old pages (S.state site.old) newest records table commits found.old known
+        → PerformsOn result (ends_for (listed found.old.table)) log.old log.new pages pages (S.state site.old)
+        (S.state site.new) }
 
     // Of every site.
     ensures before { IfOk result (λ lsn. lsn < end_of log.new) }
@@ -208,6 +222,11 @@ fn undo_greatest<S: Site>(
         → IsUndoing log.old pages.old (S.state site.old) newest records table commits found.old known
         → IsLastAt records loser.txn lsn u
         → StepsMachine result (works_of (u ∷ [])) pages.old pages.new (S.state site.old) (S.state site.new) }
+    ensures performs { (newest : Option Master) (records : List Entry) (table : List Content) (commits known : ℕ)
+        (u : Entry)
+        → IsUndoing log.old pages.old (S.state site.old) newest records table commits found.old known
+        → IsLastAt records loser.txn lsn u
+        → PerformsOn result (clr_work u) log.old log.new pages.old pages.new (S.state site.old) (S.state site.new) }
 
     // Of every site.
     ensures before { IfOk result (λ last. last < end_of log.new) }
@@ -275,6 +294,12 @@ fn undo_next<S: Site>(
         → IsUndoing log.old pages.old (S.state site.old) newest records table commits found.old known
         → IsLastAt records next.0 next.1 u
         → StepsMachine result (works_of (u ∷ [])) pages.old pages.new (S.state site.old) (S.state site.new) }
+    ensures performs { (newest : Option Master) (records : List Entry) (table : List Content) (commits : ℕ) (u : Entry)
+        (earlier : List Entry)
+        → IsUndoing log.old pages.old (S.state site.old) newest records table commits found.old known
+        → IsLastAt records next.0 next.1 u → reverse (pending records) ≡ u ∷ earlier
+        → PerformsOn result (undoing_one u earlier) log.old log.new pages.old pages.new (S.state site.old)
+        (S.state site.new) }
 
     // Of every site.
     ensures before { IfOk result (λ last. last < end_of log.new) }
@@ -336,6 +361,12 @@ pub fn undo_all<S: Site>(
         → Represents log.old pages.old (S.state site.old) newest records table commits
         → IsTable [] records (listed found.old.table)
         → StepsMachine result (undo_works records) pages.old pages.new (S.state site.old) (S.state site.new) }
+    ensures performs { (newest : Option Master) (records : List Entry) (table : List Content) (commits : ℕ)
+        → has_tail log.old ≡ false
+        → Represents log.old pages.old (S.state site.old) newest records table commits
+        → IsTable [] records (listed found.old.table)
+        → PerformsOn result (undo_work records) log.old log.new pages.old pages.new (S.state site.old)
+        (S.state site.new) }
     ensures reads { (newest : Option Master) (records : List Entry) (table : List Content) (commits : ℕ)
         → has_tail log.old ≡ false
         → Represents log.old pages.old (S.state site.old) newest records table commits

@@ -12,6 +12,12 @@ use Rattle.page_store.specs.Flushing.{flushed_contents}
 use Rattle.image_meaning.specs.Meaning.{kept_by}
 use Rattle.redo_undo.specs.Holding.{RepresentsIn, Represents}
 use Rattle.redo_undo.proofs.Endings.{ends_by_pages}
+use Rattle.redo_undo.proofs.Mirroring.{numbers_left, logged_now, flush_performs}
+use Rattle.redo_undo.proofs.Redoings.{never_forced}
+use Rattle.redo_undo.proofs.Fillings.{used_where}
+use Rattle.log_records.specs.Spelling.{used_by}
+use Rattle.std.proofs.Common.{◌≡◌, ap, true≢false, false, ◌+◌}
+use Rattle.std.specs.Prelude.{if◌then◌else◌}
 use Rattle.redo_undo.proofs.Touched.{forced_tail, leaves_table, touched_holds}
 use Rattle.site.proofs.Working.{ok_as}
 use Rattle.page_store.specs.Representation.{current}
@@ -53,6 +59,15 @@ returns g c =
             stages = stages_as (sym (append-nil (staged_by (rules c.args.pages.now) flush (cache_of c.args.pages.now)))) refl c.flush_all.ensures.stages;
             rules_are = (λ i. rules_of (c.flush_all.ensures.works.size i) (c.flush_all.ensures.works.geometry i).groups);
           };
+      performs = λ newest records table commits h.
+          let list : LogList = record { first = kept_by newest; blocks = h.log_holds.blocks; tail = h.log_holds.tail } in
+          let stands = c.flush_all.ensures.stands list h.log_holds.ready in
+          let never : sealing ≡ false = never_forced log (flushed_contents pages) c.requires.sealed in
+          flush_performs log c.flush_all.new.log pages c.flush_all.new.self site new c.requires.going.pages_going.own (logged_now log pages.pool.frames c.requires.sealed h.log_holds.ahead.pool) (record { high = c.requires.going.log_going.high; each = h.below })
+          (numbers_left c.requires.going.log_going c.requires.going.pages_going) c.flush_all.result (λ says. true≢false (sym (c.flush_all.ensures.flushes.worn_log says).0 ∙ never)) c.flush_all.ensures.flushes.overflows c.flush_all.ensures.works.stops
+          (ok_as c.flush_all.result _ _ (λ next. next ∙ ap (λ (b : Bool). if b then log.ring.hi + 1 else log.ring.hi) never) c.flush_all.ensures.works.forces.next)
+          (ok_as c.flush_all.result _ _ (λ s. s.ready.records.tail.end ∙ used_where sealing list ∙ ap (λ (b : Bool). if b then 2 else used_by list.tail) never ∙ sym h.log_holds.ready.records.tail.end) stands)
+          c.flush_all.ensures.flushes.machine (ok_as c.flush_all.result _ _ (λ s. s.current.each) stands) c.flush_all.ensures.works.geometry (numbers_left c.flush_all.ensures.works.log_going c.flush_all.ensures.works.going);
       clean = search rules;
       sealed = grind (arith, common_steps);
       works = grind (arith, common_steps);

@@ -35,6 +35,7 @@ use Rattle.image_changes.specs.Reached.{LeavesFront}
 use Rattle.image_changes.specs.Changes.{AppendsMaster}
 use Rattle.image_meaning.specs.Moments.{LeavesFor}
 use Rattle.redo_undo.proofs.checkpointing.save_master.Goals as goal
+use Rattle.site.proofs.Working.{err_again}
 
 -- the ring that was found, where nothing of its device is loose
 ring_ready : (masters : Ring) (site : State) → masters.shape ≡ master_shape → IsQuiet site → Finds masters site → IsReady masters site
@@ -155,3 +156,14 @@ returns-clause-next g c honest block master =
       subst (λ (s : Shape). c.save.new.ring.hi ≡ hi_of s (region s new)) c.save.ensures.shape
           (c.in-Ok.ensures.fits honest (subst (λ (s : Shape). c.args.masters.now.hi ≡ hi_of s (region s old)) (sym c.requires.shape) master)),
     )
+
+-- The unit itself, on every site.
+
+pub returns-clause-unit : goal.returns-clause-unit
+returns-clause-unit g c = ap (λ (r : Ring). r.hi) c.in-Ok.ensures.ok
+
+pub returns-in-Err-clause-at_end : goal.returns-in-Err-clause-at_end
+returns-in-Err-clause-at_end g c = λ says. c.in-Err.ensures.worn.0 (err_again c.in-Err.stop (Worn Log) says)
+
+pub returns-clause-at_end : goal.returns-clause-at_end
+returns-clause-at_end g c = λ says. absurd (no_error says)

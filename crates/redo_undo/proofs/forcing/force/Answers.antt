@@ -6,7 +6,7 @@ use Rattle.log_store.specs.Representation.{has_tail}
 use Rattle.image_meaning.specs.Meaning.{kept_by}
 use Rattle.image_changes.specs.Rings.{Masters, KeepsUnits, master_shape}
 use Rattle.redo_undo.specs.Holding.{Represents}
-use Rattle.site.proofs.Working.{ok_as}
+use Rattle.site.proofs.Working.{no_error, ok_as}
 use Rattle.redo_undo.proofs.CallsInSequence.{nothing_happens}
 use Rattle.redo_undo.proofs.Appended.{append_leaves}
 use Rattle.redo_undo.proofs.Forced.{forced_holds, some_now, ok_five, quiet_stops, seals_only}
@@ -14,6 +14,11 @@ use Rattle.redo_undo.proofs.WornLogs.{log_at_end}
 use Rattle.redo_undo.proofs.RingNumbers.{skips_nothing}
 use Rattle.redo_undo.proofs.LeftNumbers.{log_skips, log_calls, ready_next, same_at_most}
 use Rattle.redo_undo.proofs.forcing.force.Goals as goal
+use Rattle.redo_undo.proofs.Mirroring.{force_performs, numbers_left}
+use Rattle.redo_undo.proofs.Appended.{current_same}
+use Rattle.std.specs.Prelude.{Ok}
+use Rattle.std.proofs.Common.{◌+◌, Bool, false, nat_lt}
+use Rattle.std.specs.Prelude.{if◌then◌else◌}
 
 pub returns-clause-holds : goal.returns-clause-holds
 returns-clause-holds g c pages newest records table commits sizes h =
@@ -61,3 +66,22 @@ returns-clause-keeps g c pages newest records table commits h =
       masters = ok_as c.force.result _ (KeepsUnits master_shape site.image new.image)
           (λ reaches. c.ring_kept.ensures log.geometry Masters (changes_if (has_tail log) list) site.image new.image (seals_only (has_tail log) list) reaches) (c.force.ensures.reaches list ready.blocks ready.records);
     }
+
+-- What it makes of the machine.
+
+pub returns-then-tail_empty-clause-performs : goal.returns-then-tail_empty-clause-performs
+returns-then-tail_empty-clause-performs g c pages newest records table commits going h =
+    let log = c.args.log.now in
+    let site = g.S.Site.state c.args.site.now in
+    let two : log.used ≡ 2 = c.tail_empty.ensures.0 c.if-tail_empty.true in
+    let none : has_tail log ≡ false = ap (nat_lt 2) two in
+    force_performs log log pages site site (record { high = c.requires.going.high; each = h.below }) (Ok tt) (record { worn_log = λ says. absurd (no_error says); stops = tt }) (ap (λ (b : Bool). if b then log.ring.hi + 1 else log.ring.hi) (sym none)) two c.requires.going.low (λ number. refl)
+    (numbers_left c.requires.going going.pages_going)
+
+pub returns-clause-performs : goal.returns-clause-performs
+returns-clause-performs g c pages newest records table commits going h =
+    let log = c.args.log.now in
+    let site = g.S.Site.state c.args.site.now in
+    let new = g.S.Site.state c.force.new.site in
+    force_performs log c.force.new.self pages site new (record { high = c.requires.going.high; each = h.below }) c.force.result (record { worn_log = c.force.ensures.worn.0; stops = c.force.ensures.stops }) c.force.ensures.next c.force.ensures.empty c.requires.going.low
+    (current_same c.beside_laws.ensures pages site new (c.force.ensures.changes h.log_holds.ready.blocks.honest)) (numbers_left c.force.ensures.going going.pages_going)

@@ -11,6 +11,9 @@ use Rattle.redo_undo.proofs.Asking.{stages_log}
 use Rattle.redo_undo.proofs.logging.log_change.Goals as goal
 use Rattle.buffer_pool.specs.Frames.{front_of}
 use Rattle.redo_undo.proofs.Calling.{keeps_appended}
+use Rattle.ring_machine.specs.Octets.{octets_of}
+use Rattle.ring_machine.proofs.Performing.{performs_refused}
+use Rattle.redo_undo.proofs.Mirroring.{change_performs, change_stopped_by}
 
 pub returns-clause-holds : goal.returns-clause-holds
 returns-clause-holds g c newest records table commits h may =
@@ -60,3 +63,20 @@ returns-clause-stages g c = stages_between {mid = c.args.pages.now} {new = c.arg
 
 pub returns-clause-fills : goal.returns-clause-fills
 returns-clause-fills g c = fills_beside (ap (λ (f : FlashCache). f.directory.first + length f.directory.groups) c.change_front.ensures.flash) (c.in-Ok.ensures.fills c.args.pages.now)
+
+-- What it makes of the machine.
+
+pub returns-in-Err-clause-performs : goal.returns-in-Err-clause-performs
+returns-in-Err-clause-performs g c newest records table commits h = change_stopped_by (c.in-Err.ensures.performs c.args.pages.now newest records table commits c.requires.going h)
+
+pub returns-then-front_lsn-lsn-clause-performs : goal.returns-then-front_lsn-lsn-clause-performs
+returns-then-front_lsn-lsn-clause-performs g c newest records table commits h = performs_refused (λ dev same. cc)
+
+pub returns-clause-performs : goal.returns-clause-performs
+returns-clause-performs g c newest records table commits h =
+    let pages = c.args.pages.now in
+    let new = g.S.Site.state c.log_record.new.site in
+    let front = (front_of pages.pool.frames).page in
+    change_performs c.log_record.new.log pages c.change_front.new.pages new.image front c.in-Ok.lsn (octets_of c.args.rec.now) c.change_front.ensures.machine (ap (λ (f : FlashCache). f.geometry) c.change_front.ensures.flash)
+    (c.change_front.ensures.redoes new.image c.requires.on_page.0 c.requires.on_page.1).lsn (c.change_front.ensures.others new.image)
+    (let rises = c.in-Ok.ensures.rises.0 in let low = c.requires.going.log_going.low in omega (arith, rises, low)) c.in-Ok.ensures.last_block (c.in-Ok.ensures.performs pages newest records table commits c.requires.going h)

@@ -28,6 +28,14 @@ use Rattle.redo_undo.proofs.LeftNumbers.{log_skips, log_calls, ready_next}
 use Rattle.redo_undo.proofs.logging.log_record.Given.{Over}
 use Rattle.redo_undo.proofs.logging.log_record.Goals.{After-append}
 use Rattle.redo_undo.proofs.logging.log_record.Goals as goal
+use Rattle.ring_machine.specs.Machine.{logged}
+use Rattle.ring_machine.specs.Performing.{Performs}
+use Rattle.ring_machine.proofs.Spelled.{octets_spelled}
+use Rattle.log_records.specs.Spelling.{spelling}
+use Rattle.page_store.specs.Caching.{rules as rules_of_pages}
+use Rattle.redo_undo.specs.Mirroring.{Mirrors}
+use Rattle.redo_undo.proofs.Mirroring.{logged_performs, logged_used, numbers_left}
+use Rattle.std.proofs.Common.{length, subst}
 
 pub returns-clause-pages : goal.returns-clause-pages
 returns-clause-pages g c pages newest records table commits h =
@@ -160,3 +168,14 @@ returns-clause-keeps g c pages newest records table commits h =
 
 pub returns-clause-fills : goal.returns-clause-fills
 returns-clause-fills g c pages = append_fills c.append.result (overflows c.args.log.now c.args.rec.now) _ c.args.log.now c.append.new.self pages (spelling_short c.args.rec.now c.requires.form) refl c.append.ensures.next c.append.ensures.lsn c.append.ensures.end
+
+pub returns-clause-performs : goal.returns-clause-performs
+returns-clause-performs g c pages newest records table commits going h =
+    let log = c.args.log.now in
+    let rec = c.args.rec.now in
+    let site = g.S.Site.state c.args.site.now in
+    let new = g.S.Site.state c.append.new.site in
+    subst (λ (n : ℕ). Performs c.append.result (rules_of_pages pages) (logged n ∷ []) (Mirrors log pages site.image) (Mirrors c.append.new.self pages new.image)) (octets_spelled rec)
+    (logged_performs log c.append.new.self pages site new (record { high = c.requires.going.high; each = h.below }) c.append.result (length (spelling rec)) (record { worn_log = c.append.ensures.worn.0; stops = c.append.ensures.stops }) c.append.ensures.next
+    (logged_used c.append.result (overflows log rec) (length (spelling rec)) log c.append.new.self c.append.ensures.next c.append.ensures.lsn c.append.ensures.end)
+    (returns-clause-pages g c pages newest records table commits h).current (numbers_left c.append.ensures.going going.pages_going))

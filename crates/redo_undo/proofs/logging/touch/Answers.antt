@@ -13,6 +13,7 @@ use Rattle.second_chance.specs.Machine.{rules_of, staged_by}
 use Rattle.page_store.specs.Caching.{cache_of, rules, pushes, next_group}
 use Rattle.redo_undo.proofs.Fillings.{forced_pushes, forced_touch, touch_finds_room, used_where}
 use Rattle.redo_undo.proofs.Asking.{touch_overflows, touch_reads}
+use Rattle.redo_undo.proofs.Mirroring.{numbers_left, touch_performs}
 use Rattle.image_meaning.specs.Meaning.{kept_by}
 use Rattle.redo_undo.proofs.UndoneNumbers.{skips_touch}
 use Rattle.image_changes.specs.Rings.{KeepsUnits, master_shape}
@@ -100,6 +101,14 @@ returns g c =
                 (ok_as c.touch.result _ _ (λ machine. ap next_group machine ∙ touched_next (rules pages) c.args.page false (cache_of pages) (some_group c.requires.going)) c.touch.ensures.machine);
             worn = λ is. forced_touch log pages c.args.page (some_group c.requires.going) (c.touch.ensures.worn.worn_log is).0;
           };
+      performs = λ newest records table commits h.
+          let list : LogList = record { first = kept_by newest; blocks = h.log_holds.blocks; tail = h.log_holds.tail } in
+          let stands = c.touch.ensures.stands list h.log_holds.ready in
+          touch_performs log c.touch.new.log pages c.touch.new.self site new c.args.page c.requires.going.pages_going.own h.log_holds.ahead.pool (record { high = c.requires.going.log_going.high; each = h.below }) (some_group c.requires.going)
+          (numbers_left c.requires.going.log_going c.requires.going.pages_going) c.requires.going.pages_going.flash.next c.touch.result
+          (record { worn_log = c.touch.ensures.worn.worn_log; at_log_end = c.touch.ensures.worn.at_log_end; worn_flash = c.touch.ensures.worn.worn_flash; stops = c.touch.ensures.works.stops })
+          c.touch.ensures.works.forces.next (ok_as c.touch.result _ _ (λ s. s.ready.records.tail.end ∙ used_where sealing list ∙ ap (λ (n : ℕ). if sealing then 2 else n) (sym h.log_holds.ready.records.tail.end)) stands)
+          c.touch.ensures.machine (ok_as c.touch.result _ _ (λ s. s.current.each) stands) c.touch.ensures.works.geometry (numbers_left c.touch.ensures.works.log_going c.touch.ensures.works.going);
       front = search rules;
       there = search rules;
       logs_nothing = grind (arith, common_steps);

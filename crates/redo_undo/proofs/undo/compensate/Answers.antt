@@ -12,6 +12,12 @@ use Rattle.redo_undo.proofs.AskingUndo.{change_made, change_stopped, never_worn}
 use Rattle.redo_undo.proofs.Calling.{keeps_failed, keeps_few, keeps_then, works_then}
 use Rattle.std.proofs.lemmas.Grind.{common_steps}
 use Rattle.redo_undo.proofs.undo.compensate.Goals as goal
+use Rattle.std.proofs.Common.{sym}
+use Rattle.buffer_pool.specs.Frames.{front_of}
+use Rattle.ring_machine.specs.Machine.{changed}
+use Rattle.ring_machine.specs.Octets.{clr_octets}
+use Rattle.ring_machine.proofs.Performing.{performs_as, performs_by, performs_then, performs_stopped}
+use Rattle.redo_undo.proofs.UndoneWork.{back_is}
 
 pub log_change-requires-clause-on_page : goal.log_change-requires-clause-on_page
 log_change-requires-clause-on_page g c = (32 * c.args.wanted.page + c.args.wanted.slot, refl, let front = c.in-Ok.ensures.front in let form = c.requires.form.0 in omega (arith, front, form))
@@ -44,6 +50,9 @@ returns-in-Ok g c =
           change_made tt c.log_change.result c.args.wanted.page _ _ _ (g.S.Site.state c.args.site.now) (g.S.Site.state c.touch.new.site) (g.S.Site.state c.log_change.new.site) (some_group c.requires.going) c.touch_then_change.ensures
           c.in-Ok.ensures.asks c.log_change.ensures.machine (λ i. rules_of (c.log_change.ensures.works.size i) (c.log_change.ensures.works.geometry i).groups) c.log_change.ensures.reads
           (never_worn c.log_change.result c.log_change.ensures.stops) c.log_change.ensures.stages;
+      performs = λ newest records table commits h.
+          performs_as (sym (back_is w.page w.slot (front_of c.touch.new.pages.pool.frames).page w.before c.requires.form.0 c.in-Ok.ensures.front))
+          (performs_then (c.in-Ok.ensures.performs newest records table commits h) (performs_by (sym c.in-Ok.ensures.asks.rules_are) (c.log_change.ensures.performs newest records table commits (c.in-Ok.ensures.holds newest records table commits h))));
       before = grind (arith, common_steps);
       works = works_then c.in-Ok.ensures.logs_nothing.works c.log_change.ensures.works;
       blocks = grind (arith, common_steps);
@@ -56,3 +65,8 @@ returns-in-Err-clause-asks g c =
 
 pub returns-in-Err-clause-keeps : goal.returns-in-Err-clause-keeps
 returns-in-Err-clause-keeps g c newest records table commits h = keeps_few (omega arith) (keeps_failed (c.in-Err.ensures.keeps newest records table commits h))
+
+pub returns-in-Err-clause-performs : goal.returns-in-Err-clause-performs
+returns-in-Err-clause-performs g c newest records table commits h =
+    let w = c.args.wanted in
+    performs_as (sym (back_is w.page w.slot w.page w.before c.requires.form.0 refl)) (performs_stopped (changed (clr_octets w.before) w.page ∷ []) (c.in-Err.ensures.performs newest records table commits h))

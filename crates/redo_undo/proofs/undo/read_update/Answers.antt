@@ -4,7 +4,7 @@ use Rattle.log_records.specs.declared.log_record.LogRecord.TheVariants.{Update}
 use Rattle.image_meaning.specs.Meaning.{picture_under}
 use Rattle.redo_undo.proofs.CallsInSequence.{found_now}
 use Rattle.redo_undo.proofs.Compensations.{to_undo, read_is, wanted_is, is_there, next_below, is_one, next_late}
-use Rattle.log_records.specs.Log.{number_of}
+use Rattle.log_records.specs.Log.{number_of, before_of}
 use Rattle.redo_undo.proofs.LeftUpdates.{last_left_is}
 use Rattle.redo_undo.proofs.Lasts.{begin_kept}
 use Rattle.redo_undo.proofs.undo.read_update.Goals as goal
@@ -51,8 +51,9 @@ returns-in_default-clause-readable g c pages newest records table commits x size
 
 pub returns-else-page-geometry-clause-last_left : goal.returns-else-page-geometry-clause-last_left
 returns-else-page-geometry-clause-last_left g c pages newest records table commits x u rest sizes h unfinished at left =
-    ap number_of (last_left_is c.page_laws.ensures c.found_laws.ensures c.undo_laws.ensures c.args.log.now pages (g.S.Site.state c.args.site.now) newest records table commits h x unfinished u rest left c.args.at.now.next (Update _ _ _ _ _ _) at.next
-    (c.in-Ok.ensures.found _ (found_now h) h.log_holds.ready.records (omega arith) ∙ ap Some c.in-Update.is))
+    let is = last_left_is c.page_laws.ensures c.found_laws.ensures c.undo_laws.ensures c.args.log.now pages (g.S.Site.state c.args.site.now) newest records table commits h x unfinished u rest left c.args.at.now.next (Update _ _ _ _ _ _) at.next
+    (c.in-Ok.ensures.found _ (found_now h) h.log_holds.ready.records (omega arith) ∙ ap Some c.in-Update.is) in
+    (ap number_of is, ap before_of is)
 
 pub returns-then-at-kept-clause-readable : goal.returns-then-at-kept-clause-readable
 returns-then-at-kept-clause-readable g c pages newest records table commits x sizes h unfinished at some = λ same.

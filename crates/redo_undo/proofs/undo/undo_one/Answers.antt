@@ -30,6 +30,14 @@ use Rattle.redo_undo.proofs.Asking.{stop_is, asks_err, stages_read, stages_log}
 use Rattle.redo_undo.proofs.undo.undo_one.Given.{Over}
 use Rattle.redo_undo.proofs.undo.undo_one.Goals.{After-undo_updates, In-Ok-undo_updates}
 use Rattle.redo_undo.proofs.undo.undo_one.Goals as goal
+use Rattle.log_store.specs.declared.store.LogStore.{LogStore}
+use Rattle.page_store.specs.Caching.{rules}
+use Rattle.second_chance.specs.Machine.{rules_of}
+use Rattle.redo_undo.specs.declared.undo.Undoing.{Undoing}
+use Rattle.redo_undo.specs.Mirroring.{PerformsOn, clrs_for, undo_one_work}
+use Rattle.ring_machine.specs.Commands.{ends}
+use Rattle.ring_machine.proofs.Performing.{performs_by, performs_then, performs_stopped, performs_answered, performs_failed, performs_refused}
+use Rattle.redo_undo.proofs.UndoneWork.{performs_read, read_refuses}
 
 pub undo_updates-requires-clause-going : goal.undo_updates-requires-clause-going
 undo_updates-requires-clause-going g c = going_still c.args.log.now c.args.pages.now (g.S.Site.state c.args.site.now) (g.S.Site.state c.read_last.new.site) c.read_last.ensures.reads.goes c.requires.going
@@ -80,6 +88,17 @@ module _ (g : Over) (c : In-Ok-undo_updates g) (newest : Option Master) (records
       let read = c.in-Ok.ensures.reads in
       keeps_few (omega arith) (keeps_then h.log_holds.ready.blocks.honest refl refl (calls_read read) (keeps_read c.requires.going.sizes h read tt)
       (c.in-Ok-undo_updates.ensures.keeps newest records table commits x still unfinished at))
+
+  performed : PerformsOn {T = Undoing} (Ok c.in-Ok-undo_updates.at) (clrs_for (left_open records x.txn)) c.args.log.now c.undo_updates.new.log c.args.pages.now c.undo_updates.new.pages old site
+  performed = performs_read (c.read_last.ensures.reads.same h.log_holds.ready.blocks.honest).image (c.in-Ok-undo_updates.ensures.performs newest records table commits x still unfinished at)
+
+  same_rules : rules c.undo_updates.new.pages ≡ rules c.args.pages.now
+  same_rules = λ i. rules_of (c.in-Ok-undo_updates.ensures.works.size i) (c.in-Ok-undo_updates.ensures.works.geometry i).groups
+
+  -- and the End behind it
+  performs_all : (r : Result ⊤ Stop) (log : LogStore) (new : State) → PerformsOn r ends c.undo_updates.new.log log c.undo_updates.new.pages c.undo_updates.new.pages site new →
+      PerformsOn r (undo_one_work records c.args.txn) c.args.log.now log c.args.pages.now c.undo_updates.new.pages old new
+  performs_all r log new end = subst (λ (t : ℕ). PerformsOn r (undo_one_work records t) c.args.log.now log c.args.pages.now c.undo_updates.new.pages old new) own (performs_then performed (performs_by (sym same_rules) end))
 
   -- a call behind it asks no more
   asks_all : (r : Result ⊤ Stop) (new : State) → SameElse site new → (IsErrOf r (Worn Flash) → ⊥) →
@@ -136,6 +155,10 @@ returns-in-Ok-log_record g c =
           asks_all g s newest records table commits x h unfinished own last (Ok tt) new
           (none_read (g.S.Site.state c.undo_updates.new.site) new c.log_record.ensures.works.reads)
           (λ (is : IsErrOf {T = ⊤} (Ok tt) (Worn Flash)). cc) (stages_ok (stages_log c.in-Ok-log_record.ensures.works));
+      performs = λ newest records table commits x h unfinished own last.
+          let s = (goal.at.returns-in-Ok-log_record g c).In-Ok-undo_updates in
+          let done = done g s newest records table commits x h unfinished own last in
+          performs_all g s newest records table commits x h unfinished own last (Ok tt) c.log_record.new.log new (performs_answered (c.in-Ok-log_record.ensures.performs pages newest (records ++ done.clrs) table commits works.going done.holds));
       works =
           works_answered (works_then (works_then (works_read c.requires.going c.in-Ok.ensures.reads) works) (works_appended works.going c.in-Ok-log_record.ensures.rises tt c.in-Ok-log_record.ensures.works));
     }
@@ -162,6 +185,7 @@ returns-then-not-has_room g c =
           asks_all g (goal.at.returns-then-not-has_room g c).In-Ok-undo_updates newest records table commits x h unfinished own last (Err Foreign) _
           (record { flash = refl; disk = refl })
           (λ is. not_worn Foreign (inr refl) (stop_is Foreign (Worn Flash) is)) (stages_none tt (omega arith) refl);
+      performs = λ newest records table commits x h unfinished own last. performs_refused (λ dev same. cc);
       works = works_foreign (works_then (works_read c.requires.going c.in-Ok.ensures.reads) c.in-Ok-undo_updates.ensures.works);
     }
 
@@ -189,6 +213,10 @@ returns-in-Err-log_record g c =
           (none_read (g.S.Site.state c.undo_updates.new.site) new c.log_record.ensures.works.reads)
           (λ is. not_worn_flash stop c.in-Err-log_record.ensures.stops (stop_is stop (Worn Flash) is))
           (stages_err (stages_log c.in-Err-log_record.ensures.works));
+      performs = λ newest records table commits x h unfinished own last.
+          let s = (goal.at.returns-in-Err-log_record g c).In-Ok-undo_updates in
+          let done = done g s newest records table commits x h unfinished own last in
+          performs_all g s newest records table commits x h unfinished own last (Err stop) c.log_record.new.log new (performs_failed (c.in-Err-log_record.ensures.performs c.undo_updates.new.pages newest (records ++ done.clrs) table commits works.going done.holds));
       works =
           works_stopped (works_then (works_read c.requires.going c.in-Ok.ensures.reads) works) (works_appended works.going tt c.in-Err-log_record.ensures.stops c.in-Err-log_record.ensures.works);
     }
@@ -223,3 +251,17 @@ returns-in-Err-undo_updates-clause-keeps g c newest records table commits x h un
     let at = c.in-Ok.ensures.at c.args.pages.now newest records table commits x c.requires.going.sizes h unfinished own last in
     keeps_few (omega arith) (keeps_failed (keeps_then h.log_holds.ready.blocks.honest refl refl (calls_read read) (keeps_read c.requires.going.sizes h read tt)
     (c.in-Err-undo_updates.ensures.keeps newest records table commits x (held_read c.beside_laws.ensures.fits h read) unfinished at)))
+
+pub returns-in-Err-clause-performs : goal.returns-in-Err-clause-performs
+returns-in-Err-clause-performs g c newest records table commits x h unfinished own last = performs_refused (read_refuses c.in-Err.stop c.in-Err.ensures.reads.stops)
+
+pub returns-in-Err-undo_updates-clause-performs : goal.returns-in-Err-undo_updates-clause-performs
+returns-in-Err-undo_updates-clause-performs g c newest records table commits x h unfinished own last =
+    let pages = c.args.pages.now in
+    let old = g.S.Site.state c.args.site.now in
+    let now = g.S.Site.state c.undo_updates.new.site in
+    let read = c.read_last.ensures.reads in
+    let at = c.in-Ok.ensures.at pages newest records table commits x c.requires.going.sizes h unfinished own last in
+    let stop = c.in-Err-undo_updates.stop in
+    subst (λ (t : ℕ). PerformsOn {T = ⊤} (Err stop) (undo_one_work records t) c.args.log.now c.undo_updates.new.log pages c.undo_updates.new.pages old now) own
+    (performs_stopped {A = Undoing} ends (performs_read (read.same h.log_holds.ready.blocks.honest).image (c.in-Err-undo_updates.ensures.performs newest records table commits x (held_read c.beside_laws.ensures.fits h read) unfinished at)))

@@ -1,4 +1,4 @@
-use Rattle.std.proofs.Common.{true≢false, Ok, Err, inr, ◌∷◌, [], refl, sym, ap, subst, ◌∙◌, arith}
+use Rattle.std.proofs.Common.{◌*◌, ◌+◌, true≢false, Ok, Err, inr, ◌∷◌, [], refl, sym, ap, subst, ◌∙◌, arith}
 use Rattle.site.specs.declared.geometry.Geometry.{Geometry}
 use Rattle.site.specs.State.{Image}
 use Rattle.log_records.specs.declared.log_record.LogRecord.TheVariants.{Clr}
@@ -13,6 +13,8 @@ use Rattle.redo_undo.proofs.Calling.{calls_read, held_read, keeps_answered, keep
 use Rattle.redo_undo.proofs.Asking.{asks_err, asks_ok, stages_read}
 use Rattle.std.proofs.lemmas.Grind.{common_steps}
 use Rattle.redo_undo.proofs.undo.undo_update.Goals as goal
+use Rattle.ring_machine.proofs.Performing.{performs_as, performs_answered, performs_failed, performs_refused}
+use Rattle.redo_undo.proofs.UndoneWork.{clr_is, performs_read, read_refuses}
 
 pub compensate-requires-clause-going : goal.compensate-requires-clause-going
 compensate-requires-clause-going g c = going_still c.args.log.now c.args.pages.now (g.S.Site.state c.args.site.now) (g.S.Site.state c.read_update.new.site) c.read_update.ensures.reads.goes c.requires.going
@@ -40,7 +42,11 @@ returns g c =
       asks = λ newest records table commits x u rest h unfinished at left.
           asks_ok c.in-Ok-compensate.last _ (works_of (u ∷ [])) pages _ _ _
           (asks_of_update (Ok c.in-Ok-compensate.last) u c.in-Ok.wanted.page c.in-Ok.wanted.slot pages _ _ mid _ c.in-Ok.ensures.form.0
-          (c.in-Ok.ensures.last_left pages newest records table commits x u rest c.requires.going.sizes h unfinished at left) (log_alone _ mid c.read_update.ensures.reads.others) (stages_read c.read_update.ensures.reads.same c.read_update.ensures.reads.goes) c.in-Ok-compensate.ensures.asks);
+          (c.in-Ok.ensures.last_left pages newest records table commits x u rest c.requires.going.sizes h unfinished at left).0 (log_alone _ mid c.read_update.ensures.reads.others) (stages_read c.read_update.ensures.reads.same c.read_update.ensures.reads.goes) c.in-Ok-compensate.ensures.asks);
+      performs = λ newest records table commits x u rest h unfinished at left.
+          let is = c.in-Ok.ensures.last_left pages newest records table commits x u rest c.requires.going.sizes h unfinished at left in
+          performs_answered (performs_as (clr_is u (32 * w.page + w.slot) w.before is.0 is.1) (performs_read (c.read_update.ensures.reads.same h.log_holds.ready.blocks.honest).image
+          (c.in-Ok-compensate.ensures.performs newest records table commits (held_read c.beside_laws.ensures.fits h c.in-Ok.ensures.reads))));
       last = grind (arith, common_steps);
       falls = grind (arith, common_steps);
       same = search rules;
@@ -64,7 +70,7 @@ pub returns-in-Err-compensate-clause-asks : goal.returns-in-Err-compensate-claus
 returns-in-Err-compensate-clause-asks g c newest records table commits x u rest h unfinished at left =
     asks_err c.in-Err-compensate.stop (works_of (u ∷ [])) _ _ _ _
     (asks_of_update (Err c.in-Err-compensate.stop) u c.in-Ok.wanted.page c.in-Ok.wanted.slot _ _ _ _ _ c.in-Ok.ensures.form.0
-    (c.in-Ok.ensures.last_left _ newest records table commits x u rest c.requires.going.sizes h unfinished at left) (log_alone _ _ c.read_update.ensures.reads.others) (stages_read c.read_update.ensures.reads.same c.read_update.ensures.reads.goes) c.in-Err-compensate.ensures.asks)
+    (c.in-Ok.ensures.last_left _ newest records table commits x u rest c.requires.going.sizes h unfinished at left).0 (log_alone _ _ c.read_update.ensures.reads.others) (stages_read c.read_update.ensures.reads.same c.read_update.ensures.reads.goes) c.in-Err-compensate.ensures.asks)
 
 pub returns-in-Err-clause-keeps : goal.returns-in-Err-clause-keeps
 returns-in-Err-clause-keeps g c newest records table commits x h unfinished at some =
@@ -82,3 +88,18 @@ returns-in-Err-compensate-clause-keeps g c newest records table commits x h unfi
     let read = c.in-Ok.ensures.reads in
     keeps_failed (keeps_then h.log_holds.ready.blocks.honest refl refl (calls_read read) (keeps_read c.requires.going.sizes h read tt)
     (c.in-Err-compensate.ensures.keeps newest records table commits (held_read c.beside_laws.ensures.fits h read)))
+
+-- What it makes of the machine.
+
+pub returns-in-Err-clause-performs : goal.returns-in-Err-clause-performs
+returns-in-Err-clause-performs g c newest records table commits x u rest h unfinished at left = performs_refused (read_refuses c.in-Err.stop c.in-Err.ensures.reads.stops)
+
+pub returns-then-not-has_room-clause-performs : goal.returns-then-not-has_room-clause-performs
+returns-then-not-has_room-clause-performs g c newest records table commits x u rest h unfinished at left = performs_refused (λ dev same. cc)
+
+pub returns-in-Err-compensate-clause-performs : goal.returns-in-Err-compensate-clause-performs
+returns-in-Err-compensate-clause-performs g c newest records table commits x u rest h unfinished at left =
+    let w = c.in-Ok.wanted in
+    let is = c.in-Ok.ensures.last_left c.args.pages.now newest records table commits x u rest c.requires.going.sizes h unfinished at left in
+    performs_failed (performs_as (clr_is u (32 * w.page + w.slot) w.before is.0 is.1) (performs_read (c.read_update.ensures.reads.same h.log_holds.ready.blocks.honest).image
+    (c.in-Err-compensate.ensures.performs newest records table commits (held_read c.beside_laws.ensures.fits h c.in-Ok.ensures.reads))))

@@ -21,7 +21,7 @@ invariant-loop-at g l =
       last : l.at.last < end_of l.log;
       same : l.at.txn ≡ l.fn.first.txn;
       undone : (newest : Option Master) (records : List Entry) (table : List Content) (commits : ℕ) (x : Unfinished) → Represents l.fn.log l.fn.pages old newest records table commits → IsUnfinished records x → IsAt l.fn.first x →
-          (so_far : AsksFor l.log l.pages now newest records table commits x.txn (blocks_to l.fn.log) l.at l.fn.pages old) ×
+          (so_far : AsksFor l.log l.pages now newest records table commits x.txn (blocks_to l.fn.log) l.at l.fn.log l.fn.pages old) ×
           Keeps {T = Unit {0}} (Ok tt) l.fn.pages.flash.geometry l.fn.log l.log old now (LeavesTableUnder newest l.fn.pages.flash.geometry table commits old.told) (length so_far.0.clrs) 0;
     }
 

@@ -8,6 +8,7 @@ use Rattle.redo_undo.proofs.LeftUpdates.{none_of}
 use Rattle.redo_undo.proofs.UndoneUpdates.{end_updates}
 use Rattle.redo_undo.proofs.Calling.{keeps_appended}
 use Rattle.redo_undo.proofs.undo_losers.end_one.Goals as goal
+use Rattle.ring_machine.proofs.Performing.{performs_refused}
 
 pub returns-clause-updates : goal.returns-clause-updates
 returns-clause-updates g c pages newest records table commits known sizes h =
@@ -34,3 +35,14 @@ returns-in-Err-clause-keeps g c pages newest records table commits known going h
 
 pub returns-clause-keeps : goal.returns-clause-keeps
 returns-clause-keeps g c pages newest records table commits known going h = keeps_appended going tt (c.in-Ok.ensures.keeps pages newest records table commits h.holds)
+
+-- What it makes of the machine.
+
+pub returns-then-not-has_room-clause-performs : goal.returns-then-not-has_room-clause-performs
+returns-then-not-has_room-clause-performs g c pages newest records table commits known going h = performs_refused (λ dev same. cc)
+
+pub returns-in-Err-clause-performs : goal.returns-in-Err-clause-performs
+returns-in-Err-clause-performs g c pages newest records table commits known going h = c.in-Err.ensures.performs pages newest records table commits going h.holds
+
+pub returns-clause-performs : goal.returns-clause-performs
+returns-clause-performs g c pages newest records table commits known going h = c.in-Ok.ensures.performs pages newest records table commits going h.holds

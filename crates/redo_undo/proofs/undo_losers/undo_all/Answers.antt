@@ -26,6 +26,14 @@ use Rattle.redo_undo.proofs.Calling.{keeps_answered, keeps_failed, keeps_few, ke
 use Rattle.redo_undo.proofs.undo_losers.undo_all.Given.{Over}
 use Rattle.redo_undo.proofs.undo_losers.undo_all.Goals.{After-end_undone, After-next_undo}
 use Rattle.redo_undo.proofs.undo_losers.undo_all.Goals as goal
+use Rattle.std.proofs.Common.{reverse, sym, ap}
+use Rattle.log_records.specs.Log.{Entry}
+use Rattle.ring_machine.specs.Machine.{Work}
+use Rattle.ring_machine.specs.Restart.{undoing_work}
+use Rattle.ring_machine.proofs.Performing.{performs_answered, performs_stopped, performs_as}
+use Rattle.redo_undo.specs.Mirroring.{ends_for}
+use Rattle.redo_undo.proofs.UndoneWork.{ends_are}
+use Rattle.redo_undo.proofs.UndoneUpdates.{updates_performed, updates_performed_stopped}
 
 module _ (g : Over) (c : After-end_undone g) (newest : Option Master) (records : List Entry) (table : List Content) (commits : ℕ)
     (none : has_tail c.args.log.now ≡ false)
@@ -46,7 +54,7 @@ module _ (g : Over) (c : After-next_undo g) (newest : Option Master) (records : 
     (none : has_tail c.args.log.now ≡ false)
     (h : Represents c.args.log.now c.args.pages.now (g.S.Site.state c.args.site.now) newest records table commits)
     (is : IsTable [] records (listed c.args.found.now.table)) where
-  before : AsksUpdates c.loop-next.log c.loop-next.pages (g.S.Site.state c.loop-next.site) newest records table commits c.loop-next.found c.loop-next.known c.args.pages.now (g.S.Site.state c.args.site.now)
+  before : AsksUpdates c.loop-next.log c.loop-next.pages (g.S.Site.state c.loop-next.site) newest records table commits c.loop-next.found c.loop-next.known c.args.log.now c.args.pages.now (g.S.Site.state c.args.site.now)
   before = c.loop-next.invariant.asked newest records table commits none h is
 
   next_is : c.next_undo.result ≡ option_map (λ (u : Entry). record { 0 = txn_of u; 1 = u.lsn })
@@ -77,6 +85,14 @@ loop-next-init g c =
             (undoing g (goal.at.loop-next-init g c).After-end_undone newest records table commits none h is);
         asks = asks_nothing {T = ⊤} (Ok tt) c.args.pages.now _ (g.S.Site.state c.end_undone.new.site) c.end_undone.ensures.works.reads (λ (worn : IsErrOf {T = ⊤} (Ok tt) (Worn Flash)). cc) (stages_ok (stages_log c.in-Ok.ensures.works));
         read = omega (arith, c.end_undone.ensures.works.reads Log);
+        worked = ends_for (listed c.args.found.now.table);
+        left_is =
+            let s = (goal.at.loop-next-init g c).After-end_undone in
+            let ordered = order c.found_laws.ensures c.undo_laws.ensures c.args.log.now c.args.pages.now (g.S.Site.state c.args.site.now) newest records table commits c.args.found.now h is in
+            let updates = c.in-Ok.ensures.updates c.args.pages.now newest records table commits c.requires.going (undoing g s newest records table commits none h is) in
+            ap (λ (w : List Work). w ++ undoing_work (reverse (pending records))) (sym (ends_are c.found_laws.ensures.one c.found_laws.ensures.unfinished records (listed c.args.found.now.table) (512 * kept_by newest) _ is ordered))
+            ∙ ap (λ (l : List Entry). ends_for (listed c.args.found.now.table) ++ undoing_work l) updates.left;
+        performs = performs_answered (c.in-Ok.ensures.performs c.args.pages.now newest records table commits c.requires.going (undoing g (goal.at.loop-next-init g c).After-end_undone newest records table commits none h is));
       };
       keeps = λ newest records table commits none h is.
           keeps_answered (c.in-Ok.ensures.counted c.args.pages.now newest records table commits c.requires.going
@@ -106,8 +122,9 @@ loop-next-preserved g c =
           let undone = before.updates.some in
           let all = records ++ undone.more in
           let last = next_is_last all c.next_undo.result c.in-Some.next c.in-Some.is (next_is g s newest records table commits none h is) in
-          updates_asked_more c.in-Ok-undo_next.lsn c.loop-next.log c.undo_next.new.log c.loop-next.pages c.undo_next.new.pages _ _ newest records table commits c.loop-next.found c.undo_next.new.found c.loop-next.known c.in-Ok-undo_next.lsn c.args.pages.now _
-          before last.0 (c.in-Ok-undo_next.ensures.updates newest all table commits last.0 undone.now last.1) (c.in-Ok-undo_next.ensures.asks newest all table commits last.0 undone.now last.1) c.undo_next.ensures.log_reads;
+          updates_asked_more c.in-Ok-undo_next.lsn c.loop-next.log c.undo_next.new.log c.loop-next.pages c.undo_next.new.pages _ _ newest records table commits c.loop-next.found c.undo_next.new.found c.loop-next.known c.in-Ok-undo_next.lsn c.args.log.now c.args.pages.now _
+          before last.0 (c.in-Ok-undo_next.ensures.updates newest all table commits last.0 undone.now last.1) (c.in-Ok-undo_next.ensures.asks newest all table commits last.0 undone.now last.1) c.undo_next.ensures.log_reads
+          (λ earlier all_are. c.in-Ok-undo_next.ensures.performs newest all table commits last.0 earlier undone.now last.1 all_are);
       keeps = λ newest records table commits none h is.
           let undone = (before g s newest records table commits none h is).updates.some in
           let all = records ++ undone.more in
@@ -140,14 +157,14 @@ returns-in-Err-undo_next-clause-asks g c newest records table commits none h is 
     let undone = before.updates.some in
     let all = records ++ undone.more in
     let last = next_is_last all c.next_undo.result c.in-Some.next c.in-Some.is (next_is g s newest records table commits none h is) in
-    updates_asked_stopped c.in-Err-undo_next.stop c.loop-next.log c.loop-next.pages c.undo_next.new.pages _ _ newest records table commits c.loop-next.found c.loop-next.known _ _ (some_group c.requires.going) before last.0 c.in-Some.next.0 c.in-Some.next.1 last.1
+    updates_asked_stopped c.in-Err-undo_next.stop c.loop-next.log c.loop-next.pages c.undo_next.new.pages _ _ newest records table commits c.loop-next.found c.loop-next.known _ _ _ (some_group c.requires.going) before last.0 c.in-Some.next.0 c.in-Some.next.1 last.1
     (c.in-Err-undo_next.ensures.asks newest all table commits last.0 undone.now last.1)
 
 pub returns-clause-asks : goal.returns-clause-asks
 returns-clause-asks g c newest records table commits none h is =
     let s = (goal.at.returns-clause-asks g c).After-next_undo in
     let before = before g s newest records table commits none h is in
-    updates_asked tt c.loop-next.log c.loop-next.pages (g.S.Site.state c.loop-next.site) newest records table commits c.loop-next.found c.loop-next.known c.args.pages.now (g.S.Site.state c.args.site.now) before
+    updates_asked tt c.loop-next.log c.loop-next.pages (g.S.Site.state c.loop-next.site) newest records table commits c.loop-next.found c.loop-next.known c.args.log.now c.args.pages.now (g.S.Site.state c.args.site.now) before
     (none_is_next (records ++ before.updates.some.more) c.next_undo.result (λ at is_some. c.in_default.not-Some at is_some)
     (next_is g s newest records table commits none h is))
 
@@ -180,11 +197,37 @@ returns-in-Err-undo_next-clause-reads g c newest records table commits none h is
     let s = (goal.at.returns-in-Err-undo_next-clause-reads g c).After-next_undo in
     let before = before g s newest records table commits none h is in
     let last = next_is_last (records ++ before.updates.some.more) c.next_undo.result c.in-Some.next c.in-Some.is (next_is g s newest records table commits none h is) in
-    reads_stopped c.loop-next.log c.loop-next.pages (g.S.Site.state c.loop-next.site) (g.S.Site.state c.undo_next.new.site) newest records table commits c.loop-next.found c.loop-next.known c.args.pages.now (g.S.Site.state c.args.site.now) before last.0 c.in-Some.next.0 c.in-Some.next.1 last.1 c.undo_next.ensures.log_reads
+    reads_stopped c.loop-next.log c.loop-next.pages (g.S.Site.state c.loop-next.site) (g.S.Site.state c.undo_next.new.site) newest records table commits c.loop-next.found c.loop-next.known c.args.log.now c.args.pages.now (g.S.Site.state c.args.site.now) before last.0 c.in-Some.next.0 c.in-Some.next.1 last.1 c.undo_next.ensures.log_reads
 
 pub returns-clause-reads : goal.returns-clause-reads
 returns-clause-reads g c newest records table commits none h is =
-    reads_asked c.loop-next.log c.loop-next.pages (g.S.Site.state c.loop-next.site) newest records table commits c.loop-next.found c.loop-next.known c.args.pages.now (g.S.Site.state c.args.site.now) (before g (goal.at.returns-clause-reads g c).After-next_undo newest records table commits none h is)
+    reads_asked c.loop-next.log c.loop-next.pages (g.S.Site.state c.loop-next.site) newest records table commits c.loop-next.found c.loop-next.known c.args.log.now c.args.pages.now (g.S.Site.state c.args.site.now) (before g (goal.at.returns-clause-reads g c).After-next_undo newest records table commits none h is)
 
 pub returns-in-Err-undo_next-clause-works : goal.returns-in-Err-undo_next-clause-works
 returns-in-Err-undo_next-clause-works g c = works_stopped c.loop-next.invariant.works c.in-Err-undo_next.ensures.works
+
+-- What it makes of the machine.
+
+pub returns-in-Err-clause-performs : goal.returns-in-Err-clause-performs
+returns-in-Err-clause-performs g c newest records table commits none h is =
+    let s = (goal.at.returns-in-Err-clause-performs g c).After-end_undone in
+    let ordered = order c.found_laws.ensures c.undo_laws.ensures c.args.log.now c.args.pages.now (g.S.Site.state c.args.site.now) newest records table commits c.args.found.now h is in
+    performs_as (ap (λ (w : List Work). w ++ undoing_work (reverse (pending records))) (sym (ends_are c.found_laws.ensures.one c.found_laws.ensures.unfinished records (listed c.args.found.now.table) (512 * kept_by newest) _ is ordered)))
+    (performs_stopped (undoing_work (reverse (pending records))) (c.in-Err.ensures.performs c.args.pages.now newest records table commits c.requires.going (undoing g s newest records table commits none h is)))
+
+pub returns-in-Err-undo_next-clause-performs : goal.returns-in-Err-undo_next-clause-performs
+returns-in-Err-undo_next-clause-performs g c newest records table commits none h is =
+    let s = (goal.at.returns-in-Err-undo_next-clause-performs g c).After-next_undo in
+    let before = before g s newest records table commits none h is in
+    let undone = before.updates.some in
+    let all = records ++ undone.more in
+    let last = next_is_last all c.next_undo.result c.in-Some.next c.in-Some.is (next_is g s newest records table commits none h is) in
+    updates_performed_stopped c.in-Err-undo_next.stop c.loop-next.log c.undo_next.new.log c.loop-next.pages c.undo_next.new.pages (g.S.Site.state c.loop-next.site) (g.S.Site.state c.undo_next.new.site) newest records table commits c.loop-next.found c.loop-next.known c.args.log.now c.args.pages.now (g.S.Site.state c.args.site.now)
+    before last.0 c.in-Some.next.0 c.in-Some.next.1 last.1 (λ earlier all_are. c.in-Err-undo_next.ensures.performs newest all table commits last.0 earlier undone.now last.1 all_are)
+
+pub returns-clause-performs : goal.returns-clause-performs
+returns-clause-performs g c newest records table commits none h is =
+    let s = (goal.at.returns-clause-performs g c).After-next_undo in
+    let before = before g s newest records table commits none h is in
+    updates_performed tt c.loop-next.log c.loop-next.pages (g.S.Site.state c.loop-next.site) newest records table commits c.loop-next.found c.loop-next.known c.args.log.now c.args.pages.now (g.S.Site.state c.args.site.now) before
+    (none_is_next (records ++ before.updates.some.more) c.next_undo.result (λ at is_some. c.in_default.not-Some at is_some) (next_is g s newest records table commits none h is))

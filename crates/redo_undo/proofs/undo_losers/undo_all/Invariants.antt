@@ -29,7 +29,7 @@ invariant-loop-next g l =
       fewer : owed_for (listed l.found.table) ≤ owed_for (listed l.fn.found.table);
       log_reads : now.log_reads + owed_for (listed l.found.table) ≤ old.log_reads + owed_for (listed l.fn.found.table);
       asked : (newest : Option Master) (records : List Entry) (table : List Content) (commits : ℕ) → has_tail l.fn.log ≡ false → Represents l.fn.log l.fn.pages old newest records table commits → IsTable [] records (listed l.fn.found.table) →
-          AsksUpdates l.log l.pages now newest records table commits l.found l.known l.fn.pages old;
+          AsksUpdates l.log l.pages now newest records table commits l.found l.known l.fn.log l.fn.pages old;
       keeps : (newest : Option Master) (records : List Entry) (table : List Content) (commits : ℕ) → has_tail l.fn.log ≡ false → Represents l.fn.log l.fn.pages old newest records table commits → IsTable [] records (listed l.fn.found.table) →
           Keeps {T = Unit {0}} (Ok tt) l.fn.pages.flash.geometry l.fn.log l.log old now (LeavesTableUnder newest l.fn.pages.flash.geometry table commits old.told) (owed_for (listed l.fn.found.table) - owed_for (listed l.found.table)) 0;
     }

@@ -19,6 +19,23 @@ use Rattle.site.specs.declared.outside.Dev.TheVariants.{Log}
 use Rattle.std.specs.Prelude.{IsErrOf}
 use Rattle.site.proofs.Working.{err_as, of_error, ok_as}
 use Rattle.redo_undo.proofs.undo_losers.undo_next.Goals as goal
+use Rattle.std.proofs.Common.{List, ◌≡◌, ◌∙◌, ap, not, reverse, length, nat_eq, Option, Some}
+use Rattle.std.specs.Prelude.{if◌then◌else◌}
+use Rattle.std.specs.List.{list_any}
+use Rattle.analysis.specs.Open.{found_in}
+use Rattle.redo_undo.specs.UndoingAll.{IsUndoing}
+use Rattle.redo_undo.specs.Mirroring.{none_remains}
+use Rattle.redo_undo.proofs.Opens.{left_then}
+use Rattle.record_model.specs.State.{Content}
+use Rattle.log_records.specs.Log.{Entry, txn_of, is_of}
+use Rattle.log_records.specs.Unfinished.{pending}
+use Rattle.checkpoint.specs.declared.master.Master.{Master}
+use Rattle.second_chance.specs.Machine.{rules_of}
+use Rattle.ring_machine.specs.Commands.{ends}
+use Rattle.ring_machine.proofs.Performing.{performs_as, performs_by, performs_then, performs_stopped, performs_refused}
+use Rattle.redo_undo.proofs.UndoneWork.{without_end, with_end, waits_where}
+use Rattle.redo_undo.proofs.undo_losers.undo_next.Given.{Over}
+use Rattle.redo_undo.proofs.undo_losers.undo_next.Goals.{In-Ok}
 
 pub returns-then-loser-gt1-clause-remain : goal.returns-then-loser-gt1-clause-remain
 returns-then-loser-gt1-clause-remain g c =
@@ -114,3 +131,50 @@ returns-clause-works g c =
     let stops = err_as c.end_one.result _ _ ends_stop c.end_one.ensures.stops in
     let never = λ (is : IsErrOf c.end_one.result (Worn Flash)). of_error c.end_one.result (λ stop. stop ≢ Worn Flash) (Worn Flash) (err_as c.end_one.result _ _ not_worn_either c.end_one.ensures.stops) is refl in
     works_then c.in-Ok.ensures.works (works_beside c.in-Ok.ensures.works.going c.end_one.ensures.rises stops never c.end_one.ensures.works)
+
+-- What it makes of the machine.
+
+module _ (g : Over) (c : In-Ok g) (newest : Option Master) (records : List Entry) (table : List Content) (commits : ℕ) (u : Entry) (earlier : List Entry)
+    (h : IsUndoing c.args.log.now c.args.pages.now (g.S.Site.state c.args.site.now) newest records table commits c.args.found.now c.args.known)
+    (last : IsLastAt records c.args.next.0 c.args.next.1 u) (all : reverse (pending records) ≡ u ∷ earlier) where
+  last' : IsLastAt records c.in-Some.loser.txn c.args.next.1 u
+  last' = subst (λ (t : ℕ). IsLastAt records t c.args.next.1 u) (sym c.in-Some.ensures.named) last
+
+  first : UndoesUpdates c.undo_greatest.new.log c.undo_greatest.new.pages (g.S.Site.state c.undo_greatest.new.site) newest records table commits c.undo_greatest.new.found c.in-Ok.last (u ∷ [])
+  first = c.in-Ok.ensures.updates newest records table commits c.args.known u h last'
+
+  -- whether its transaction has one of the earlier Updates is whether analysis has one of it
+  pub waits : (x : Open) → found_in (listed c.undo_greatest.new.found.table) (txn_of u) ≡ Some x → list_any (is_of (txn_of u)) earlier ≡ not (none_remains x)
+  waits x there = waits_where c.found_laws.ensures c.undo_laws.ensures c.undo_greatest.new.log c.undo_greatest.new.pages (g.S.Site.state c.undo_greatest.new.site) newest records table commits c.undo_greatest.new.found c.in-Ok.last u earlier all first x there
+
+  pub own : txn_of u ≡ c.args.next.0
+  own = last.own
+
+pub returns-in_default-clause-performs : goal.returns-in_default-clause-performs
+returns-in_default-clause-performs g c newest records table commits u earlier h last all = performs_refused (λ dev same. cc)
+
+pub returns-then-loser-known-clause-performs : goal.returns-then-loser-known-clause-performs
+returns-then-loser-known-clause-performs g c newest records table commits u earlier h last all = performs_refused (λ dev same. cc)
+
+pub returns-in-Err-clause-performs : goal.returns-in-Err-clause-performs
+returns-in-Err-clause-performs g c newest records table commits u earlier h last all =
+    performs_stopped (if list_any (is_of (txn_of u)) earlier then [] else ends) (c.in-Err.ensures.performs newest records table commits c.args.known u h (subst (λ (t : ℕ). IsLastAt records t c.args.next.1 u) (sym c.in-Some.ensures.named) last))
+
+pub returns-then-loser-gt1-clause-performs : goal.returns-then-loser-gt1-clause-performs
+returns-then-loser-gt1-clause-performs g c newest records table commits u earlier h last all =
+    let s = (goal.at.returns-then-loser-gt1-clause-performs g c).In-Ok in
+    let left = left_then (listed c.args.found.now.table) (listed c.undo_greatest.new.found.table) c.in-Some.loser c.in-Ok.last c.requires.found c.in-Some.ensures.there (omega (arith, c.if-loser-gt1.true)) c.in-Ok.ensures.replaces c.undo_greatest.ensures.found.going in
+    let there : found_in (listed c.undo_greatest.new.found.table) (txn_of u) ≡ Some left.0 = ap (found_in (listed c.undo_greatest.new.found.table)) (last.own ∙ sym c.in-Some.ensures.named) ∙ left.1 in
+    performs_as (without_end u earlier (waits g s newest records table commits u earlier h last all left.0 there ∙ ap not left.2))
+    (c.in-Ok.ensures.performs newest records table commits c.args.known u h (last' g s newest records table commits u earlier h last all))
+
+pub returns-clause-performs : goal.returns-clause-performs
+returns-clause-performs g c newest records table commits u earlier h last all =
+    let s = (goal.at.returns-clause-performs g c).In-Ok in
+    let none = none_remains_of (listed c.args.found.now.table) (listed c.undo_greatest.new.found.table) c.in-Some.loser c.in-Ok.last c.requires.found c.undo_greatest.ensures.found.going c.in-Some.ensures.there (omega (arith, c.if-loser-gt1.false)) c.in-Ok.ensures.replaces in
+    let there : found_in (listed c.undo_greatest.new.found.table) (txn_of u) ≡ Some none.x = ap (found_in (listed c.undo_greatest.new.found.table)) (last.own ∙ sym c.in-Some.ensures.named) ∙ none.there in
+    let first = first g s newest records table commits u earlier h last all in
+    let works = c.in-Ok.ensures.works in
+    performs_as (with_end u earlier (waits g s newest records table commits u earlier h last all none.x there ∙ ap (λ (l : List ℕ). not (nat_eq (length l) 0)) none.none))
+    (performs_then (c.in-Ok.ensures.performs newest records table commits c.args.known u h (last' g s newest records table commits u earlier h last all))
+    (performs_by (λ i. rules_of (sym works.size i) (sym works.geometry i).groups) (c.end_one.ensures.performs c.undo_greatest.new.pages newest (records ++ first.some.more) table commits c.in-Ok.last works.going first.some.now)))

@@ -1,15 +1,15 @@
 use Rattle.engine.specs.LogReads.{undo_reads}
-use Rattle.std.proofs.Common.{◌≡◌, ℕ, Some, refl, sym, ap, subst, ◌∙◌, arith, ◌≤◌, ◌+◌, inl}
+use Rattle.std.proofs.Common.{◌≡◌, ℕ, true, Some, refl, sym, ap, subst, ◌∙◌, arith, ◌≤◌, ◌+◌, inl}
 use Rattle.std.specs.Prelude.{Result}
 use Rattle.site.specs.declared.outside.Stop.{Stop}
 use Rattle.site.specs.State.{State as Site, Snapshot}
-use Rattle.record_model.specs.State.{State, session_at}
+use Rattle.record_model.specs.State.{State, session_at, writes_of}
 use Rattle.record_model.specs.Step.{effect}
 use Rattle.record_model.specs.Touches.{record_touches}
 use Rattle.record_model.specs.declared.words.Reply.{Reply}
 use Rattle.record_model.specs.declared.words.Command.TheVariants.{Abort}
 use Rattle.txn_table.specs.declared.active.Active.{Active}
-use Rattle.txn_table.specs.Entries.{entry_of}
+use Rattle.txn_table.specs.Entries.{IsTable, entry_of}
 use Rattle.engine.specs.declared.engine.Engine.{Engine}
 use Rattle.engine.specs.Representation.{Matches, IsCarriedOut}
 use Rattle.engine.specs.Calls.{Does}
@@ -17,6 +17,9 @@ use Rattle.engine.proofs.Actives.{some_active}
 use Rattle.txn_table.proofs.Owing.{entry_is}
 use Rattle.engine.proofs.Replies.{carried_out, wants_active_is, refused_session}
 use Rattle.engine.proofs.Calling.{answered, does_nothing, does_failed, asks_rest, still, no_stop}
+use Rattle.ring_machine.specs.Commands.{command_work, record_work, undoes}
+use Rattle.ring_machine.proofs.Performing.{performs_as}
+use Rattle.engine.proofs.Performing.{performs_rest}
 use Rattle.engine.proofs.engine.Engine.abort.Goals as goal
 
 runs : (engine : Engine) (site : Site) (s : State) (n : ℕ) (entry : Active) → Matches engine site s → entry_of engine.active n ≡ Some entry → IsCarriedOut s (Abort n)
@@ -39,11 +42,11 @@ returns-in_default-clause-answers g c s fits =
 
 pub returns-in-Ok-clause-answers : goal.returns-in-Ok-clause-answers
 returns-in-Ok-clause-answers g c s fits =
-    answered ((runs c.args.self.now _ s c.args.session c.in-Some.entry fits (sym c.find.ensures.entry ∙ c.in-Some.is)).0, (runs c.args.self.now _ s c.args.session c.in-Some.entry fits (sym c.find.ensures.entry ∙ c.in-Some.is)).1 ∙ ap (λ (n : ℕ). record_touches s (Abort n)) (sym (entry_is c.args.self.now.active c.args.session c.in-Some.entry c.requires.going.table (sym c.find.ensures.entry ∙ c.in-Some.is)).session)) (of_session _ _ (entry_is c.args.self.now.active c.args.session c.in-Some.entry c.requires.going.table (sym c.find.ensures.entry ∙ c.in-Some.is)).session (c.in-Ok.ensures.does s fits)) c.in-Ok.ensures.done (c.in-Ok.ensures.asks s fits) no_stop
+    answered ((runs c.args.self.now _ s c.args.session c.in-Some.entry fits (sym c.find.ensures.entry ∙ c.in-Some.is)).0, ((runs c.args.self.now _ s c.args.session c.in-Some.entry fits (sym c.find.ensures.entry ∙ c.in-Some.is)).1.0 ∙ ap (λ (n : ℕ). record_touches s (Abort n)) (sym (entry_is c.args.self.now.active c.args.session c.in-Some.entry c.requires.going.table (sym c.find.ensures.entry ∙ c.in-Some.is)).session), tt {0})) (of_session _ _ (entry_is c.args.self.now.active c.args.session c.in-Some.entry c.requires.going.table (sym c.find.ensures.entry ∙ c.in-Some.is)).session (c.in-Ok.ensures.does s fits)) c.in-Ok.ensures.done (c.in-Ok.ensures.asks s fits) no_stop
 
 pub returns-in-Err-clause-answers : goal.returns-in-Err-clause-answers
 returns-in-Err-clause-answers g c s fits =
-    answered ((runs c.args.self.now _ s c.args.session c.in-Some.entry fits (sym c.find.ensures.entry ∙ c.in-Some.is)).0, (runs c.args.self.now _ s c.args.session c.in-Some.entry fits (sym c.find.ensures.entry ∙ c.in-Some.is)).1 ∙ ap (λ (n : ℕ). record_touches s (Abort n)) (sym (entry_is c.args.self.now.active c.args.session c.in-Some.entry c.requires.going.table (sym c.find.ensures.entry ∙ c.in-Some.is)).session)) (does_failed (omega arith) (of_session _ _ (entry_is c.args.self.now.active c.args.session c.in-Some.entry c.requires.going.table (sym c.find.ensures.entry ∙ c.in-Some.is)).session (c.in-Err.ensures.does s fits))) tt (c.in-Err.ensures.asks s fits) (λ is. inl (omega arith))
+    answered ((runs c.args.self.now _ s c.args.session c.in-Some.entry fits (sym c.find.ensures.entry ∙ c.in-Some.is)).0, ((runs c.args.self.now _ s c.args.session c.in-Some.entry fits (sym c.find.ensures.entry ∙ c.in-Some.is)).1.0 ∙ ap (λ (n : ℕ). record_touches s (Abort n)) (sym (entry_is c.args.self.now.active c.args.session c.in-Some.entry c.requires.going.table (sym c.find.ensures.entry ∙ c.in-Some.is)).session), tt {0})) (does_failed (omega arith) (of_session _ _ (entry_is c.args.self.now.active c.args.session c.in-Some.entry c.requires.going.table (sym c.find.ensures.entry ∙ c.in-Some.is)).session (c.in-Err.ensures.does s fits))) tt (c.in-Err.ensures.asks s fits) (λ is. inl (omega arith))
 
 reads_of_session : (old new : Site) (s : State) (n k : ℕ) → n ≡ k → new.log_reads ≤ old.log_reads + undo_reads (session_at s n) → new.log_reads ≤ old.log_reads + undo_reads (session_at s k)
 reads_of_session old new s n k same read = subst (λ (j : ℕ). new.log_reads ≤ old.log_reads + undo_reads (session_at s j)) same read
@@ -58,3 +61,17 @@ returns-in-Ok-clause-log_reads g c s fits =
 pub returns-in-Err-clause-log_reads : goal.returns-in-Err-clause-log_reads
 returns-in-Err-clause-log_reads g c s fits =
     reads_of_session (g.S.Site.state c.args.site.now) (g.S.Site.state c.carry_out_abort.new.site) s _ _ (entry_is c.args.self.now.active c.args.session c.in-Some.entry c.requires.going.table (sym c.find.ensures.entry ∙ c.in-Some.is)).session (c.carry_out_abort.ensures.log_reads s fits)
+
+-- What it makes of the machine.
+
+asked : (engine : Engine) (site : Site) (s : State) (n : ℕ) (entry : Active) (fits : Matches engine site s) → IsTable engine.active → entry_of engine.active n ≡ Some entry → command_work true s (Abort n) ≡ undoes s.table (writes_of (session_at s entry.session))
+asked engine site s n entry fits table at = (runs engine site s n entry fits at).1.1 ∙ ap (λ (k : ℕ). record_work s (Abort k)) (sym (entry_is engine.active n entry table at).session)
+
+pub returns-in_default-clause-performs : goal.returns-in_default-clause-performs
+returns-in_default-clause-performs g c s fits = performs_rest (refused_session c.args.self.now (g.S.Site.state c.args.site.now) s (Abort c.args.session) c.args.session fits (sym c.find.ensures.entry ∙ c.in_default.is) refl).1.1
+
+pub returns-in-Ok-clause-performs : goal.returns-in-Ok-clause-performs
+returns-in-Ok-clause-performs g c s fits = performs_as (asked c.args.self.now (g.S.Site.state c.args.site.now) s c.args.session c.in-Some.entry fits c.requires.going.table (sym c.find.ensures.entry ∙ c.in-Some.is)) (c.in-Ok.ensures.performs s fits)
+
+pub returns-in-Err-clause-performs : goal.returns-in-Err-clause-performs
+returns-in-Err-clause-performs g c s fits = performs_as (asked c.args.self.now (g.S.Site.state c.args.site.now) s c.args.session c.in-Some.entry fits c.requires.going.table (sym c.find.ensures.entry ∙ c.in-Some.is)) (c.in-Err.ensures.performs s fits)

@@ -8,6 +8,7 @@ use Rattle.engine.specs.Representation.{checkpointed_if}
 use Rattle.engine.specs.Leaves.{LeavesTable}
 use Rattle.engine.proofs.Calling.{serves_then, first_then, first_failed, late_table, wanted_to_fail}
 use Rattle.engine.proofs.engine.Engine.begin.Goals as goal
+use Rattle.engine.proofs.Performing.{performs_first, performs_unmade}
 
 pub returns-in-Ok-clause-answers : goal.returns-in-Ok-clause-answers
 returns-in-Ok-clause-answers g c s fits =
@@ -28,3 +29,11 @@ pub returns-in-Ok-clause-fills : goal.returns-in-Ok-clause-fills
 returns-in-Ok-clause-fills g c s fits none =
     let same = c.in-Ok.ensures.rest (c.wants_checkpoint_to_begin-wanted.ensures s (g.S.Site.state c.args.site.now) fits ∙ none) in
     subst (λ (e : Engine). OnOk c.begin_now.result (Fills 1 e.store.log c.begin_now.new.self.store.log e.store.pages c.begin_now.new.self.store.pages)) same c.begin_now.ensures.fills
+
+pub returns-in-Ok-clause-performs : goal.returns-in-Ok-clause-performs
+returns-in-Ok-clause-performs g c s fits =
+    performs_first s (Begin c.args.session) (c.wants_checkpoint_to_begin-wanted.ensures s (g.S.Site.state c.args.site.now) fits) c.in-Ok.ensures.asks.rules_are (c.in-Ok.ensures.performs s fits)
+    (c.begin_now.ensures.performs (checkpointed_if c.wants_checkpoint_to_begin-wanted.result s) (c.in-Ok.ensures.does s fits).after_fits)
+
+pub returns-in-Err-clause-performs : goal.returns-in-Err-clause-performs
+returns-in-Err-clause-performs g c s fits = performs_unmade s (Begin c.args.session) (c.wants_checkpoint_to_begin-wanted.ensures s (g.S.Site.state c.args.site.now) fits) (c.in-Err.ensures.performs s fits)

@@ -2,6 +2,8 @@ use Rattle.redo_undo.proofs.Fillings.{fills_none}
 use Rattle.std.proofs.Common.{refl, arith, inl}
 use Rattle.engine.proofs.Calling.{answered, does_nothing, does_failed, asks_rest, still, no_stop}
 use Rattle.engine.proofs.engine.Engine.begin_now.Goals as goal
+use Rattle.ring_machine.proofs.Performing.{performs_as}
+use Rattle.engine.proofs.Performing.{performs_rest}
 
 pub returns-in-Some-clause-answers : goal.returns-in-Some-clause-answers
 returns-in-Some-clause-answers g c s fits =
@@ -20,3 +22,12 @@ returns-in-Some-clause-fills g c = fills_none
 
 pub returns-in-Ok-clause-fills : goal.returns-in-Ok-clause-fills
 returns-in-Ok-clause-fills g c = c.in-Ok.ensures.fills
+
+pub returns-in-Some-clause-performs : goal.returns-in-Some-clause-performs
+returns-in-Some-clause-performs g c s fits = performs_rest (c.in-Some.ensures.refused s (g.S.Site.state c.args.site.now) fits).1.1
+
+pub returns-in-Ok-clause-performs : goal.returns-in-Ok-clause-performs
+returns-in-Ok-clause-performs g c s fits = performs_as (c.in_default.ensures.accepted s (g.S.Site.state c.args.site.now) fits).1.1 (c.in-Ok.ensures.performs s fits)
+
+pub returns-in-Err-clause-performs : goal.returns-in-Err-clause-performs
+returns-in-Err-clause-performs g c s fits = performs_as (c.in_default.ensures.accepted s (g.S.Site.state c.args.site.now) fits).1.1 (c.in-Err.ensures.performs s fits)

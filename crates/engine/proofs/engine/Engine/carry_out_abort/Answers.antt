@@ -8,6 +8,8 @@ use Rattle.engine.specs.declared.engine.Engine.{Engine}
 use Rattle.txn_table.proofs.Owing.{owes, entry_is}
 use Rattle.engine.proofs.Actives.{some_active}
 use Rattle.engine.proofs.Aborts.{aborted_fits}
+use Rattle.engine.proofs.Undoing.{abort_is}
+use Rattle.ring_machine.proofs.Performing.{performs_answered, performs_as, performs_failed}
 use Rattle.engine.proofs.Calling.{does_of}
 use Rattle.redo_undo.proofs.StoreCalling.{keeps_answered, keeps_failed}
 use Rattle.engine.proofs.engine.Engine.carry_out_abort.Goals as goal
@@ -75,3 +77,13 @@ returns-in-Err-clause-log_reads g c s fits =
     let count = sym found.under_way.count in
     let read = c.roll_back.ensures.log_reads fits.newest fits.records s.table s.commits fits.holds found.session.writes found.under_way.is_active count in
     omega (arith, read, count, ap undo_reads found.is)
+
+pub returns-in-Ok-clause-performs : goal.returns-in-Ok-clause-performs
+returns-in-Ok-clause-performs g c s fits =
+    let found = some_active fits.newest fits.records c.args.self.now.active s fits.sessions c.args.entry.session c.args.entry c.requires.active in
+    performs_answered (performs_as (abort_is c.args.self.now (g.S.Site.state c.args.site.now) s c.args.entry fits c.requires.active) (c.in-Ok.ensures.performs fits.newest fits.records s.table s.commits fits.holds found.session.writes found.under_way.is_active))
+
+pub returns-in-Err-clause-performs : goal.returns-in-Err-clause-performs
+returns-in-Err-clause-performs g c s fits =
+    let found = some_active fits.newest fits.records c.args.self.now.active s fits.sessions c.args.entry.session c.args.entry c.requires.active in
+    performs_failed (performs_as (abort_is c.args.self.now (g.S.Site.state c.args.site.now) s c.args.entry fits c.requires.active) (c.in-Err.ensures.performs fits.newest fits.records s.table s.commits fits.holds found.session.writes found.under_way.is_active))

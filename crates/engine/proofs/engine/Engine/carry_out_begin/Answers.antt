@@ -10,6 +10,7 @@ use Rattle.engine.proofs.Locks.{locks_stay, at_set}
 use Rattle.engine.proofs.Calling.{does_of, serves_of, serves_stopped}
 use Rattle.redo_undo.proofs.StoreCalling.{keeps_failed, keeps_answered, works_answered}
 use Rattle.engine.proofs.engine.Engine.carry_out_begin.Goals as goal
+use Rattle.ring_machine.proofs.Performing.{performs_answered, performs_failed}
 
 pub returns-in-Err-clause-does : goal.returns-in-Err-clause-does
 returns-in-Err-clause-does g c s fits = does_of (omega arith) tt (keeps_failed (c.in-Err.ensures.keeps fits.newest fits.records s.table s.commits fits.holds))
@@ -43,3 +44,9 @@ returns-clause-serves g c = record { keeps = serves_of (works_answered c.in-Ok.e
 
 pub returns-clause-fills : goal.returns-clause-fills
 returns-clause-fills g c = c.in-Ok.ensures.fills
+
+pub returns-in-Err-clause-performs : goal.returns-in-Err-clause-performs
+returns-in-Err-clause-performs g c s fits = performs_failed (c.in-Err.ensures.performs fits.newest fits.records s.table s.commits fits.holds)
+
+pub returns-clause-performs : goal.returns-clause-performs
+returns-clause-performs g c s fits = performs_answered (c.in-Ok.ensures.performs fits.newest fits.records s.table s.commits fits.holds)

@@ -19,6 +19,7 @@ use Rattle.redo_undo.proofs.StoreCalling.{keeps_answered, keeps_failed}
 use Rattle.redo_undo.specs.MachineSteps.{checkpoint_works}
 use Rattle.redo_undo.proofs.Asking.{asks_ok}
 use Rattle.engine.proofs.engine.Engine.carry_out_checkpoint.Goals as goal
+use Rattle.ring_machine.proofs.Performing.{performs_answered}
 
 pub checkpoint-requires-clause-first : goal.checkpoint-requires-clause-first
 checkpoint-requires-clause-first g c =
@@ -72,6 +73,8 @@ returns-in-Ok g c =
             log_reads = c.checkpoint.ensures.log_reads;
           };
       asks = asks_ok c.in-Ok.field-0 _ checkpoint_works _ _ _ _ c.in-Ok.ensures.asks;
+      performs = λ s fits.
+          performs_answered (c.in-Ok.ensures.performs fits.newest fits.records s.table (subst (λ (n : ℕ). both.Represents engine.store.log engine.store.pages old fits.newest fits.records s.table n) (sym fits.counts.commits) fits.holds.both));
     }
 
 pub returns-in-Err-clause-does : goal.returns-in-Err-clause-does
@@ -83,3 +86,9 @@ returns-in-Err-clause-does g c s fits =
     let may = subst (MayBeMade engine.store.masters old fits.records) (sym c.named-named.ensures.named) (may_be_made engine old s fits c.requires.going.table) in
     does_of (omega arith) tt
     (keeps_failed (subst (λ (n : ℕ). Keeps {T = Unit {0}} (Err c.in-Err.stop) engine.store c.checkpoint.new.self old new (LeavesTable (sizes_of engine.store) s.table n old.told) 0 1) fits.counts.commits (c.in-Err.ensures.keeps fits.newest fits.records s.table holds may)))
+
+pub returns-in-Err-clause-performs : goal.returns-in-Err-clause-performs
+returns-in-Err-clause-performs g c s fits =
+    let engine = c.args.self.now in
+    let old = g.S.Site.state c.args.site.now in
+    c.in-Err.ensures.performs fits.newest fits.records s.table (subst (λ (n : ℕ). both.Represents engine.store.log engine.store.pages old fits.newest fits.records s.table n) (sym fits.counts.commits) fits.holds.both)

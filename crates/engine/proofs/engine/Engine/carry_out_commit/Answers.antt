@@ -21,3 +21,9 @@ returns-in-Ok-clause-does g c s fits =
     (committed_fits _ c.seal_commit.new.self _ _ _ s c.args.entry sealed.0 fits c.requires.going.table c.requires.active (stays_honest _ _ c.seal_commit.ensures.works.calls.goes fits.honest) sealed.1
     c.seal_commit.ensures.rest c.in-Ok.ensures.commits c.in-Ok.ensures.works.made c.release.ensures c.remove.ensures.entry c.remove.ensures.owed refl refl refl)
     (keeps_weaker (commits_either c.args.self.now s c.args.entry fits c.requires.active) (c.in-Ok.ensures.keeps fits.newest fits.records s.table s.commits fits.holds (may_commit c.args.self.now (g.S.Site.state c.args.site.now) s c.args.entry fits c.requires.active)))
+
+pub returns-in-Ok-clause-performs : goal.returns-in-Ok-clause-performs
+returns-in-Ok-clause-performs g c s fits = c.in-Ok.ensures.performs fits.newest fits.records s.table s.commits fits.holds
+
+pub returns-in-Err-clause-performs : goal.returns-in-Err-clause-performs
+returns-in-Err-clause-performs g c s fits = c.in-Err.ensures.performs fits.newest fits.records s.table s.commits fits.holds

@@ -14,6 +14,7 @@ use Rattle.engine.proofs.Writes.{touched_fits}
 use Rattle.engine.proofs.Calling.{does_of, serves_still}
 use Rattle.redo_undo.proofs.StoreCalling.{keeps_failed, keeps_answered, works_answered}
 use Rattle.engine.proofs.engine.Engine.carry_out_get.Goals as goal
+use Rattle.ring_machine.proofs.Performing.{performs_failed, performs_answered}
 
 pub returns-in-Ok : goal.returns-in-Ok
 returns-in-Ok g c =
@@ -37,6 +38,7 @@ returns-in-Ok g c =
       };
       fills = λ s fits. groups_ok (c.in-Ok.ensures.fills fits.newest fits.records s.table s.commits fits.holds).room;
       asks = asks_ok c.in-Ok.field-0 _ (one_touch (c.args.number / 32)) _ _ _ _ c.in-Ok.ensures.asks;
+      performs = λ s fits. performs_answered (c.in-Ok.ensures.performs fits.newest fits.records s.table s.commits fits.holds);
     }
 
 pub returns-in-Err-clause-does : goal.returns-in-Err-clause-does
@@ -44,3 +46,6 @@ returns-in-Err-clause-does g c s fits = does_of (omega arith) tt (keeps_failed (
 
 pub returns-in-Err-clause-fills : goal.returns-in-Err-clause-fills
 returns-in-Err-clause-fills g c s fits = groups_err (c.in-Err.ensures.fills fits.newest fits.records s.table s.commits fits.holds)
+
+pub returns-in-Err-clause-performs : goal.returns-in-Err-clause-performs
+returns-in-Err-clause-performs g c s fits = performs_failed (c.in-Err.ensures.performs fits.newest fits.records s.table s.commits fits.holds)

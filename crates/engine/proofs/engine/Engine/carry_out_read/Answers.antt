@@ -14,6 +14,7 @@ use Rattle.engine.proofs.Writes.{read_fits, touched_fits}
 use Rattle.engine.proofs.Calling.{does_of, serves_still}
 use Rattle.redo_undo.proofs.StoreCalling.{keeps_failed, keeps_answered, keeps_no_memory, works_answered}
 use Rattle.engine.proofs.engine.Engine.carry_out_read.Goals as goal
+use Rattle.ring_machine.proofs.Performing.{performs_answered, performs_failed, performs_refused}
 
 pub returns-in-Ok-add : goal.returns-in-Ok-add
 returns-in-Ok-add g c =
@@ -41,6 +42,7 @@ returns-in-Ok-add g c =
       };
       asks = asks_ok c.in-Ok.field-0 _ (one_touch (c.args.number / 32)) _ _ _ _ c.in-Ok.ensures.asks;
       fills = λ s fits. groups_ok (c.in-Ok.ensures.fills fits.newest fits.records s.table s.commits fits.holds).room;
+      performs = λ s fits. performs_answered (c.in-Ok.ensures.performs fits.newest fits.records s.table s.commits fits.holds);
       locks = search rules;
       active = search rules;
       kept = search rules;
@@ -57,3 +59,9 @@ returns-in-Err-clause-fills g c s fits = groups_err (c.in-Err.ensures.fills fits
 
 pub returns-in-Err-add-clause-fills : goal.returns-in-Err-add-clause-fills
 returns-in-Err-add-clause-fills g c s fits = record { room = tt; worn = λ is. cc }
+
+pub returns-in-Err-clause-performs : goal.returns-in-Err-clause-performs
+returns-in-Err-clause-performs g c s fits = performs_failed (c.in-Err.ensures.performs fits.newest fits.records s.table s.commits fits.holds)
+
+pub returns-in-Err-add-clause-performs : goal.returns-in-Err-add-clause-performs
+returns-in-Err-add-clause-performs g c s fits = performs_refused (λ dev same. cc)

@@ -18,6 +18,10 @@ use Rattle.engine.proofs.Scans.{free_at, still_busy, reads_none, reads_more, ran
 use Rattle.engine.proofs.Calling.{does_nothing, does_answered, does_failed, does_then, does_no_memory, late_table, serves_nothing, serves_answered, serves_then, serves_failed, serves_no_memory, still}
 use Rattle.redo_undo.proofs.Asking.{asks_same, asks_ok, asks_fails, no_asks}
 use Rattle.engine.proofs.engine.Engine.carry_out_scan.Goals as goal
+use Rattle.std.proofs.Common.{ap, sym, flat_map}
+use Rattle.ring_machine.specs.Commands.{reads}
+use Rattle.ring_machine.proofs.Performing.{performs_as, performs_answered, performs_refused, performs_stopped}
+use Rattle.engine.proofs.Performing.{performs_rest, store_then, memory_refuses, reads_one_more, reads_split}
 
 pub loop-offset-init : goal.loop-offset-init
 loop-offset-init g c =
@@ -31,6 +35,7 @@ loop-offset-init g c =
       does = λ s fits. subst (λ (u : State). Does {T = Unit {0}} (Ok tt) c.args.self.now c.args.self.now old old s u (LeavesTable (sizes_of c.args.self.now.store) s.table s.commits old.told) 0) (sym (reads_none s c.args.session)) (does_nothing fits c.requires.going (still c.hold_together.ensures.moment fits c.requires.going));
       items = λ s fits. c.new-items.ensures;
       asks = no_asks c.args.self.now.store.pages old;
+      performs = λ s fits. performs_rest refl;
     }
 
 pub carry_out_read-requires-clause-may : goal.carry_out_read-requires-clause-may
@@ -68,6 +73,8 @@ loop-offset-preserved g c =
           items_next s c.args.session number offset c.loop-offset.items c.add_item.new.items _ (omega (arith, eight, fits.sessions.count)) (inv.items s fits)
           (c.in-Ok.ensures.content (with_reads s c.args.session (range_with_len number offset)) (inv.does s fits).after_fits) c.in-Ok-add_item.ensures.items;
       asks = scan_more tt (Ok tt) number offset _ _ _ old mid new inv.asks (asks_ok c.in-Ok.content tt _ _ _ _ _ c.in-Ok.ensures.asks);
+      performs = λ s fits.
+          performs_as (reads_one_more number offset) (store_then inv.asks.rules_are (inv.performs s fits) (performs_answered (c.in-Ok.ensures.performs (with_reads s c.args.session (range_with_len number offset)) (inv.does s fits).after_fits)));
     }
 
 pub returns-in-Err : goal.returns-in-Err
@@ -86,6 +93,9 @@ returns-in-Err g c =
       asks =
           scan_stops c.in-Err.stop c.args.number c.loop-offset.offset c.args.count _ _ _ _ (has_group c.requires.going) c.loop-offset-test.true
           (scan_more tt _ c.args.number c.loop-offset.offset _ _ _ _ _ _ c.loop-offset.invariant.asks c.in-Err.ensures.asks);
+      performs = λ s fits.
+          let split = reads_split c.args.number c.loop-offset.offset c.args.count c.loop-offset-test.true in
+          performs_as split.1 (performs_stopped split.0 (store_then inv.asks.rules_are (inv.performs s fits) (c.in-Err.ensures.performs (with_reads s c.args.session (range_with_len c.args.number c.loop-offset.offset)) (inv.does s fits).after_fits)));
     }
 
 pub returns-in-Err-add_item : goal.returns-in-Err-add_item
@@ -102,6 +112,7 @@ returns-in-Err-add_item g c =
           scan_stops c.in-Err-add_item.stop c.args.number c.loop-offset.offset c.args.count _ _ _ _ (has_group c.requires.going) c.loop-offset-test.true
           (scan_more tt _ c.args.number c.loop-offset.offset _ _ _ _ _ _ c.loop-offset.invariant.asks
           (asks_fails {B = Unit {0}} c.in-Ok.content c.in-Err-add_item.stop _ _ _ _ _ (memory_only c.in-Err-add_item.stop c.in-Err-add_item.ensures.stops) c.in-Ok.ensures.asks));
+      performs = λ s fits. performs_refused (memory_refuses c.in-Err-add_item.stop c.in-Err-add_item.ensures.stops);
     }
 
 pub returns : goal.returns
@@ -117,4 +128,5 @@ returns g c =
       asks =
           asks_same _ _ _ _ _ _ _ (ap (λ (k : ℕ). map read_touch (range_with_len c.args.number k)) (sym same))
           (asks_ok tt _ _ _ _ _ _ c.loop-offset.invariant.asks);
+      performs = λ s fits. performs_as (ap (λ (k : ℕ). flat_map reads (range_with_len c.args.number k)) (sym same)) (performs_answered (c.loop-offset.invariant.performs s fits));
     }

@@ -12,6 +12,9 @@ use Rattle.record_model.specs.Touches.{read_touch}
 use Rattle.redo_undo.specs.MachineSteps.{StepsMachine}
 use Rattle.engine.specs.Calls.{KeepsUnread, Does}
 use Rattle.engine.proofs.engine.Engine.carry_out_scan.Given as goal
+use Rattle.std.specs.Prelude.{flat_map}
+use Rattle.ring_machine.specs.Commands.{reads}
+use Rattle.redo_undo.specs.Mirroring.{PerformsStore}
 
 abbrev pub invariant-loop-offset : goal.invariant-loop-offset
 invariant-loop-offset g l =
@@ -26,4 +29,5 @@ invariant-loop-offset g l =
       kept : l.self.store.log.kept ≡ l.fn.self.store.log.kept;
       items : (s : State) → Matches l.fn.self old s → l.items ≡ items_seen s l.session (range_with_len l.number l.offset);
       asks : StepsMachine {T = Unit {0}} (Ok tt) (map read_touch (range_with_len l.number l.offset)) l.fn.self.store.pages l.self.store.pages old now;
+      performs : (s : State) → Matches l.fn.self old s → PerformsStore {T = Unit {0}} (Ok tt) (flat_map reads (range_with_len l.number l.offset)) l.fn.self.store l.self.store old now;
     }

@@ -10,6 +10,9 @@ use Rattle.engine.proofs.Calling.{early, late_commit, serves_still, serves_stopp
 use Rattle.redo_undo.proofs.StoreCalling.{works_then, keeps_then, keeps_weaker, keeps_failed}
 use Rattle.redo_undo.proofs.Asking.{asks_then}
 use Rattle.engine.proofs.engine.Engine.carry_out_set.Goals as goal
+use Rattle.ring_machine.specs.Commands.{commits as commits_work}
+use Rattle.ring_machine.proofs.Performing.{performs_stopped}
+use Rattle.engine.proofs.Performing.{store_then}
 
 pub returns-in-Err-clause-does : goal.returns-in-Err-clause-does
 returns-in-Err-clause-does g c s fits =
@@ -63,3 +66,18 @@ returns-in-Ok-seal_commit-clause-asks g c = asks_then c.in-Ok.txn _ (one_change 
 
 pub returns-in-Err-seal_commit-clause-serves : goal.returns-in-Err-seal_commit-clause-serves
 returns-in-Err-seal_commit-clause-serves g c = serves_stopped (works_then c.in-Ok.ensures.works c.in-Err-seal_commit.ensures.works) (c.seal_commit.ensures.log_reads ∙ c.log_set.ensures.log_reads)
+
+-- What it makes of the machine.
+
+pub returns-in-Err-clause-performs : goal.returns-in-Err-clause-performs
+returns-in-Err-clause-performs g c s fits = performs_stopped commits_work (c.in-Err.ensures.performs s fits)
+
+pub returns-in-Err-seal_commit-clause-performs : goal.returns-in-Err-seal_commit-clause-performs
+returns-in-Err-seal_commit-clause-performs g c s fits =
+    let w = c.in-Ok.ensures.logged s fits in
+    store_then c.in-Ok.ensures.asks.rules_are (c.in-Ok.ensures.performs s fits) (c.in-Err-seal_commit.ensures.performs fits.newest w.log s.table s.commits w.holds)
+
+pub returns-in-Ok-seal_commit-clause-performs : goal.returns-in-Ok-seal_commit-clause-performs
+returns-in-Ok-seal_commit-clause-performs g c s fits =
+    let w = c.in-Ok.ensures.logged s fits in
+    store_then c.in-Ok.ensures.asks.rules_are (c.in-Ok.ensures.performs s fits) (c.in-Ok-seal_commit.ensures.performs fits.newest w.log s.table s.commits w.holds)

@@ -23,6 +23,11 @@ use Rattle.std.specs.Prelude.{Err}
 use Rattle.redo_undo.proofs.AskingUndo.{change_made, never_worn}
 use Rattle.page_store.proofs.StagingLaws.{stages_err, stages_ok}
 use Rattle.engine.proofs.engine.Engine.carry_out_write.Goals as goal
+use Rattle.std.proofs.Common.{ap}
+use Rattle.record_model.specs.State.{Content, seen}
+use Rattle.ring_machine.proofs.Performing.{performs_as, performs_answered, performs_failed, performs_refused, performs_stopped}
+use Rattle.redo_undo.specs.Mirroring.{updates}
+use Rattle.engine.proofs.Performing.{store_then, seen_there}
 
 pub add-requires : goal.add-requires
 add-requires g c = (entry_is c.args.self.now.active c.args.entry.session c.args.entry c.requires.going.table c.requires.active).small
@@ -76,6 +81,7 @@ returns-in-Ok-update g c =
           does_of (omega arith)
           (write_fits mid _ new last s entry number lsn (shown_in c.touch.new.self new fits.records number) after fits_mid going.table c.requires.active
           (stays_honest old last (goes_in_sequence old new last c.touch.ensures.works.calls.goes c.update.ensures.works.calls.goes) fits.honest)
+          (sym (seen_there engine c.touch.new.self old new s entry number fits (stays_honest old new c.touch.ensures.works.calls.goes fits.honest) going.table c.requires.active less c.requires.may.free holds c.touch.ensures.made))
           (c.in-Ok-update.ensures.holds fits.newest fits.records s.table s.commits holds may)
           c.in-Ok-update.ensures.works.made refl refl c.in-Ok-add.ensures.ok c.wrote.ensures.entry c.wrote.ensures.owed)
           (keeps_answered (keeps_both fits.honest c.in-Ok.ensures.works (c.in-Ok.ensures.keeps fits.newest fits.records s.table s.commits fits.holds) (c.in-Ok-update.ensures.keeps fits.newest fits.records s.table s.commits (c.in-Ok.ensures.holds fits.newest fits.records s.table s.commits fits.holds))));
@@ -105,6 +111,10 @@ returns-in-Ok-update g c =
               differ = apart_wrote c.args.self.now.active c.wrote.new.active n _ c.args.entry going.differ c.requires.active changes;
             });
           };
+      performs = λ s fits.
+          store_then c.in-Ok.ensures.asks.rules_are (c.in-Ok.ensures.performs fits.newest fits.records s.table s.commits fits.holds)
+          (performs_answered (performs_as (ap (λ (x : Content). updates number x after) (seen_there c.args.self.now c.touch.new.self old new s entry number fits (stays_honest old new c.touch.ensures.works.calls.goes fits.honest) going.table c.requires.active less c.requires.may.free (c.in-Ok.ensures.holds fits.newest fits.records s.table s.commits fits.holds) c.touch.ensures.made))
+          (c.in-Ok-update.ensures.performs fits.newest fits.records s.table s.commits (c.in-Ok.ensures.holds fits.newest fits.records s.table s.commits fits.holds))));
       asks =
           change_ok c.in-Ok.field-0 _ (c.args.number / 32) _ _ _ _ _ _ (has_group c.requires.going) c.touch_then_change.ensures c.in-Ok.ensures.asks c.in-Ok-update.ensures.machine c.update.ensures.rules_stay c.update.ensures.reads (stages_ok c.in-Ok-update.ensures.stages);
     }
@@ -115,3 +125,24 @@ returns-in-Err-update-clause-asks g c =
 
 pub returns-in-Err-update-clause-serves : goal.returns-in-Err-update-clause-serves
 returns-in-Err-update-clause-serves g c = serves_stopped (works_then c.in-Ok.ensures.works c.in-Err-update.ensures.works) (c.update.ensures.reads Log ∙ c.touch.ensures.log_reads)
+
+-- What it makes of the machine.
+
+pub returns-in-Err-clause-performs : goal.returns-in-Err-clause-performs
+returns-in-Err-clause-performs g c s fits =
+    performs_stopped (updates c.args.number (seen s c.args.entry.session c.args.number) c.args.after.now) (c.in-Err.ensures.performs fits.newest fits.records s.table s.commits fits.holds)
+
+pub returns-in-Err-add-clause-performs : goal.returns-in-Err-add-clause-performs
+returns-in-Err-add-clause-performs g c s fits = performs_refused (λ dev same. cc)
+
+pub returns-in-Err-update-clause-performs : goal.returns-in-Err-update-clause-performs
+returns-in-Err-update-clause-performs g c s fits =
+    let old = g.S.Site.state c.args.site.now in
+    let new = g.S.Site.state c.touch.new.site in
+    let number = c.args.number in
+    let same = ap (λ (x : Geometry). x.pages) c.touch.ensures.works.sizes in
+    let less : number < 32 * (sizes_of c.touch.new.self).pages = omega (arith, same, c.requires.may.number) in
+    let held = c.in-Ok.ensures.holds fits.newest fits.records s.table s.commits fits.holds in
+    store_then c.in-Ok.ensures.asks.rules_are (c.in-Ok.ensures.performs fits.newest fits.records s.table s.commits fits.holds)
+    (performs_failed (performs_as (ap (λ (x : Content). updates number x c.args.after.now) (seen_there c.args.self.now c.touch.new.self old new s c.args.entry number fits (stays_honest old new c.touch.ensures.works.calls.goes fits.honest) c.requires.going.table c.requires.active less c.requires.may.free held c.touch.ensures.made))
+    (c.in-Err-update.ensures.performs fits.newest fits.records s.table s.commits held)))

@@ -7,6 +7,10 @@ use Rattle.engine.specs.Calls.{Does}
 use Rattle.redo_undo.specs.MachineSteps.{StepsMachine, checkpoint_works}
 use Rattle.engine.proofs.Calling.{does_nothing, does_answered, does_failed, serves_nothing, still, asks_rest}
 use Rattle.engine.proofs.engine.Engine.checkpoint_if.Goals as goal
+use Rattle.std.proofs.Common.{ap}
+use Rattle.ring_machine.specs.Commands.{saves}
+use Rattle.ring_machine.proofs.Performing.{performs_as, performs_answered, performs_failed}
+use Rattle.engine.proofs.Performing.{performs_rest}
 
 pub returns-then-not-wanted : goal.returns-then-not-wanted
 returns-then-not-wanted g c =
@@ -21,6 +25,7 @@ returns-then-not-wanted g c =
       rest = λ unwanted. refl;
       ended = search rules;
       asks = subst (λ (b : Bool). StepsMachine {T = Unit {0}} (Ok tt) (if b then checkpoint_works else []) pages pages old old) (sym is) asks_rest;
+      performs = λ s fits. performs_rest (ap (λ (b : Bool). if b then saves else []) is);
     }
 
 pub returns-in-Ok-clause-does : goal.returns-in-Ok-clause-does
@@ -42,3 +47,13 @@ returns-in-Ok-clause-rest g c unwanted = let is : c.args.wanted ≡ true = searc
 
 pub returns-in-Err-clause-rest : goal.returns-in-Err-clause-rest
 returns-in-Err-clause-rest g c unwanted = let is : c.args.wanted ≡ true = search rules in absurd (true≢false (sym is ∙ unwanted))
+
+pub returns-in-Ok-clause-performs : goal.returns-in-Ok-clause-performs
+returns-in-Ok-clause-performs g c s fits =
+    let is : c.args.wanted ≡ true = search rules in
+    performs_as (ap (λ (b : Bool). if b then saves else []) is) (performs_answered (c.in-Ok.ensures.performs s fits))
+
+pub returns-in-Err-clause-performs : goal.returns-in-Err-clause-performs
+returns-in-Err-clause-performs g c s fits =
+    let is : c.args.wanted ≡ true = search rules in
+    performs_as (ap (λ (b : Bool). if b then saves else []) is) (performs_failed (c.in-Err.ensures.performs s fits))

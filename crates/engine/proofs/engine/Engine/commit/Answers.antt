@@ -18,6 +18,8 @@ use Rattle.txn_table.proofs.Owing.{entry_is}
 use Rattle.engine.proofs.Replies.{carried_out, wants_active_is, refused_session}
 use Rattle.engine.proofs.Calling.{answered_as, does_nothing, does_weaker, does_failed, asks_rest, early, still, no_stop}
 use Rattle.engine.proofs.engine.Engine.commit.Goals as goal
+use Rattle.ring_machine.proofs.Performing.{performs_as}
+use Rattle.engine.proofs.Performing.{performs_rest}
 
 runs : (engine : Engine) (site : Site) (s : State) (n : ℕ) (entry : Active) → Matches engine site s → entry_of engine.active n ≡ Some entry → IsCarriedOut s (Commit n)
 runs engine site s n entry fits at =
@@ -48,3 +50,12 @@ pub returns-in-Err-clause-answers : goal.returns-in-Err-clause-answers
 returns-in-Err-clause-answers g c s fits =
     let old = g.S.Site.state c.args.site.now in
     answered_as (λ o. LeavesEither (sizes_of c.args.self.now.store) s o.after old.told) (runs c.args.self.now old s c.args.session c.in-Some.entry fits (sym c.find.ensures.entry ∙ c.in-Some.is)) (of_session _ _ (entry_is c.args.self.now.active c.args.session c.in-Some.entry c.requires.going.table (sym c.find.ensures.entry ∙ c.in-Some.is)).session (does_failed (omega arith) (c.in-Err.ensures.does s fits))) tt c.in-Err.ensures.asks (λ is. inl (omega arith))
+
+pub returns-in_default-clause-performs : goal.returns-in_default-clause-performs
+returns-in_default-clause-performs g c s fits = performs_rest (refused_session c.args.self.now (g.S.Site.state c.args.site.now) s (Commit c.args.session) c.args.session fits (sym c.find.ensures.entry ∙ c.in_default.is) refl).1.1
+
+pub returns-in-Ok-clause-performs : goal.returns-in-Ok-clause-performs
+returns-in-Ok-clause-performs g c s fits = performs_as (runs c.args.self.now (g.S.Site.state c.args.site.now) s c.args.session c.in-Some.entry fits (sym c.find.ensures.entry ∙ c.in-Some.is)).1.1 (c.in-Ok.ensures.performs s fits)
+
+pub returns-in-Err-clause-performs : goal.returns-in-Err-clause-performs
+returns-in-Err-clause-performs g c s fits = performs_as (runs c.args.self.now (g.S.Site.state c.args.site.now) s c.args.session c.in-Some.entry fits (sym c.find.ensures.entry ∙ c.in-Some.is)).1.1 (c.in-Err.ensures.performs s fits)

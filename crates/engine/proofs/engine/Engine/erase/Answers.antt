@@ -5,6 +5,11 @@ use Rattle.txn_table.specs.Entries.{entry_of}
 use Rattle.txn_table.proofs.Owing.{entry_is}
 use Rattle.engine.proofs.Calling.{answered, written, does_nothing, does_failed, asks_rest, still, no_stop}
 use Rattle.engine.proofs.engine.Engine.erase.Goals as goal
+use Rattle.record_model.specs.State.{seen}
+use Rattle.ring_machine.specs.Commands.{writes}
+use Rattle.std.proofs.Common.{None}
+use Rattle.ring_machine.proofs.Performing.{performs_as}
+use Rattle.engine.proofs.Performing.{performs_rest}
 
 pub carry_out_write-requires-clause-active : goal.carry_out_write-requires-clause-active
 carry_out_write-requires-clause-active g c =
@@ -35,3 +40,16 @@ returns-in-Some-clause-fills g c s fits = fills_none
 
 pub returns-in-Ok-clause-fills : goal.returns-in-Ok-clause-fills
 returns-in-Ok-clause-fills g c s fits = fills_more (omega arith) (c.in-Ok.ensures.fills s fits)
+
+pub returns-in-Some-clause-performs : goal.returns-in-Some-clause-performs
+returns-in-Some-clause-performs g c s fits = performs_rest (c.in-Some.ensures.refused s (g.S.Site.state c.args.site.now) fits).1.1
+
+pub returns-in-Ok-clause-performs : goal.returns-in-Ok-clause-performs
+returns-in-Ok-clause-performs g c s fits =
+    performs_as ((c.in_default.ensures.accepted s (g.S.Site.state c.args.site.now) fits).1.1 ∙ ap (λ (n : ℕ). writes c.args.number (seen s n c.args.number) None) (sym (entry_is c.args.self.now.active c.args.session c.entry-entry.result c.requires.going.table c.entry-entry.ensures).session))
+    (c.in-Ok.ensures.performs s fits)
+
+pub returns-in-Err-clause-performs : goal.returns-in-Err-clause-performs
+returns-in-Err-clause-performs g c s fits =
+    performs_as ((c.in_default.ensures.accepted s (g.S.Site.state c.args.site.now) fits).1.1 ∙ ap (λ (n : ℕ). writes c.args.number (seen s n c.args.number) None) (sym (entry_is c.args.self.now.active c.args.session c.entry-entry.result c.requires.going.table c.entry-entry.ensures).session))
+    (c.in-Err.ensures.performs s fits)

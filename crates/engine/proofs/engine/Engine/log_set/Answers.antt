@@ -2,7 +2,7 @@ use Rattle.site.specs.declared.outside.Dev.TheVariants.{Log}
 use Rattle.redo_undo.specs.MachineSteps.{one_change}
 use Rattle.engine.proofs.Asking.{has_group, store_has_group, change_ok}
 use Rattle.std.proofs.Common.{◌++◌, ◌∷◌, [], ◌∙◌, arith, ◌/◌, rules}
-use Rattle.record_model.specs.State.{Content}
+use Rattle.record_model.specs.State.{content_at, Content}
 use Rattle.redo_undo.specs.Stores.{shown_in}
 use Rattle.redo_undo.proofs.StoreCalling.{works_then, works_answered, keeps_both, keeps_before, keeps_answered}
 use Rattle.engine.proofs.Settings.{begin_at, may_begin, may_update, one_write}
@@ -11,6 +11,11 @@ use Rattle.std.specs.Prelude.{Err}
 use Rattle.redo_undo.proofs.AskingUndo.{change_stopped, change_made, never_worn}
 use Rattle.page_store.proofs.StagingLaws.{stages_err, stages_ok}
 use Rattle.engine.proofs.engine.Engine.log_set.Goals as goal
+use Rattle.std.proofs.Common.{ap}
+use Rattle.ring_machine.specs.Commands.{writes}
+use Rattle.ring_machine.proofs.Performing.{performs_as, performs_answered, performs_stopped}
+use Rattle.redo_undo.specs.Mirroring.{updates}
+use Rattle.engine.proofs.Performing.{store_then, set_there}
 
 pub returns-in-Ok-update : goal.returns-in-Ok-update
 returns-in-Ok-update g c =
@@ -40,6 +45,14 @@ returns-in-Ok-update g c =
           let touched = keeps_both fits.honest c.in-Ok.ensures.works (c.in-Ok.ensures.keeps fits.newest fits.records s.table s.commits fits.holds) (c.in-Ok-touch.ensures.keeps fits.newest log s.table s.commits holds) in
           keeps_both fits.honest (works_then c.in-Ok.ensures.works c.in-Ok-touch.ensures.works) touched (keeps_answered (c.in-Ok-update.ensures.keeps fits.newest log s.table s.commits held));
       works = works_then (works_then c.in-Ok.ensures.works c.in-Ok-touch.ensures.works) (works_answered c.in-Ok-update.ensures.works);
+      performs = λ s fits.
+          let log = fits.records ++ begin_at c.in-Ok.txn ∷ [] in
+          let may = may_begin engine old s fits c.in-Ok.txn behind (omega (arith, c.requires.may.room)) going.store.blocks going.cap in
+          let holds = c.in-Ok.ensures.holds fits.newest fits.records s.table s.commits fits.holds may in
+          let held = c.in-Ok-touch.ensures.holds fits.newest log s.table s.commits holds in
+          store_then (c.in-Ok-touch.ensures.asks.rules_are ∙ c.in-Ok.ensures.asks.rules_are)
+          (store_then c.in-Ok.ensures.asks.rules_are (c.in-Ok.ensures.performs fits.newest fits.records s.table s.commits fits.holds) (c.in-Ok-touch.ensures.performs fits.newest log s.table s.commits holds))
+          (performs_answered (performs_as (ap (λ (x : Content). updates number x after) (set_there engine old s number fits going.table c.requires.may.number c.requires.may.free txn behind c.touch.new.self two (c.touch.ensures.works.sizes ∙ c.begin.ensures.works.sizes) held)) (c.in-Ok-update.ensures.performs fits.newest log s.table s.commits held)));
       rest = search rules;
       log_reads = c.update.ensures.reads Log ∙ c.touch.ensures.log_reads ∙ c.begin.ensures.reads Log;
       asks =
@@ -90,3 +103,31 @@ returns-in-Err-touch-clause-log_reads g c = c.touch.ensures.log_reads ∙ c.begi
 
 pub returns-in-Err-update-clause-log_reads : goal.returns-in-Err-update-clause-log_reads
 returns-in-Err-update-clause-log_reads g c = c.update.ensures.reads Log ∙ c.touch.ensures.log_reads ∙ c.begin.ensures.reads Log
+
+-- What it makes of the machine.
+
+pub returns-in-Err-clause-performs : goal.returns-in-Err-clause-performs
+returns-in-Err-clause-performs g c s fits = performs_stopped (writes c.args.number (content_at s.table c.args.number) c.args.after.now) (c.in-Err.ensures.performs fits.newest fits.records s.table s.commits fits.holds)
+
+pub returns-in-Err-touch-clause-performs : goal.returns-in-Err-touch-clause-performs
+returns-in-Err-touch-clause-performs g c s fits =
+    let going = c.requires.going in
+    let log = fits.records ++ begin_at c.in-Ok.txn ∷ [] in
+    let may = may_begin c.args.self.now (g.S.Site.state c.args.site.now) s fits c.in-Ok.txn c.in-Ok.ensures.rises.0 (omega (arith, c.requires.may.room)) going.store.blocks going.cap in
+    let holds = c.in-Ok.ensures.holds fits.newest fits.records s.table s.commits fits.holds may in
+    performs_stopped (updates c.args.number (content_at s.table c.args.number) c.args.after.now)
+    (store_then c.in-Ok.ensures.asks.rules_are (c.in-Ok.ensures.performs fits.newest fits.records s.table s.commits fits.holds) (c.in-Err-touch.ensures.performs fits.newest log s.table s.commits holds))
+
+pub returns-in-Err-update-clause-performs : goal.returns-in-Err-update-clause-performs
+returns-in-Err-update-clause-performs g c s fits =
+    let going = c.requires.going in
+    let old = g.S.Site.state c.args.site.now in
+    let two = g.S.Site.state c.touch.new.site in
+    let number = c.args.number in
+    let log = fits.records ++ begin_at c.in-Ok.txn ∷ [] in
+    let may = may_begin c.args.self.now old s fits c.in-Ok.txn c.in-Ok.ensures.rises.0 (omega (arith, c.requires.may.room)) going.store.blocks going.cap in
+    let holds = c.in-Ok.ensures.holds fits.newest fits.records s.table s.commits fits.holds may in
+    let held = c.in-Ok-touch.ensures.holds fits.newest log s.table s.commits holds in
+    store_then (c.in-Ok-touch.ensures.asks.rules_are ∙ c.in-Ok.ensures.asks.rules_are)
+    (store_then c.in-Ok.ensures.asks.rules_are (c.in-Ok.ensures.performs fits.newest fits.records s.table s.commits fits.holds) (c.in-Ok-touch.ensures.performs fits.newest log s.table s.commits holds))
+    (performs_as (ap (λ (x : Content). updates number x c.args.after.now) (set_there c.args.self.now old s number fits going.table c.requires.may.number c.requires.may.free c.in-Ok.txn c.in-Ok.ensures.rises.0 c.touch.new.self two (c.touch.ensures.works.sizes ∙ c.begin.ensures.works.sizes) held)) (c.in-Err-update.ensures.performs fits.newest log s.table s.commits held))

@@ -5,6 +5,8 @@ use Rattle.record_model.specs.Step.{found}
 use Rattle.redo_undo.proofs.Asking.{asks_ok, asks_err}
 use Rattle.engine.proofs.Calling.{answered, does_nothing, does_answered, does_failed, asks_rest, still, no_stop}
 use Rattle.engine.proofs.engine.Engine.read.Goals as goal
+use Rattle.ring_machine.proofs.Performing.{performs_as, performs_answered, performs_failed}
+use Rattle.engine.proofs.Performing.{performs_rest}
 
 pub returns-in-Some-clause-answers : goal.returns-in-Some-clause-answers
 returns-in-Some-clause-answers g c s fits =
@@ -23,3 +25,12 @@ returns-in-Some-clause-fills g c s fits = room_still
 
 pub returns-in-Ok-clause-fills : goal.returns-in-Ok-clause-fills
 returns-in-Ok-clause-fills g c s fits = (c.in-Ok.ensures.fills s fits).room
+
+pub returns-in-Some-clause-performs : goal.returns-in-Some-clause-performs
+returns-in-Some-clause-performs g c s fits = performs_rest (c.in-Some.ensures.refused s (g.S.Site.state c.args.site.now) fits).1.1
+
+pub returns-in-Ok-clause-performs : goal.returns-in-Ok-clause-performs
+returns-in-Ok-clause-performs g c s fits = performs_as (c.in_default.ensures.accepted s (g.S.Site.state c.args.site.now) fits).1.1 (performs_answered (c.in-Ok.ensures.performs s fits))
+
+pub returns-in-Err-clause-performs : goal.returns-in-Err-clause-performs
+returns-in-Err-clause-performs g c s fits = performs_as (c.in_default.ensures.accepted s (g.S.Site.state c.args.site.now) fits).1.1 (performs_failed (c.in-Err.ensures.performs s fits))

@@ -1,9 +1,9 @@
 use Rattle.std.proofs.Common.{◌≡◌, ◌∙◌, ◌+◌, ◌-◌, ◌*◌, ◌≤◌, ◌<◌, ◌^◌, ◌∷◌, map, None, Some, refl, sym, rules, arith}
 use Rattle.std.specs.List.{range_with_len}
-use Rattle.record_model.specs.Step.{first_refusal, may_read}
+use Rattle.record_model.specs.Step.{first_refusal, may_read, wants_record}
 use Rattle.record_model.specs.declared.words.Command.TheVariants.{Scan}
 use Rattle.engine.specs.Invariant.{sizes_of}
-use Rattle.engine.proofs.Replies.{refused, carried_out, has_record, lacks_record, is_active, has}
+use Rattle.engine.proofs.Replies.{refused, carried_out, has_record, lacks_record, idle_session, is_active, has}
 use Rattle.engine.proofs.Scans.{busy_is, past_all}
 use Rattle.txn_table.proofs.Owing.{entry_is}
 use Rattle.engine.proofs.engine.Engine.scan_refusal.Goals as goal
@@ -58,3 +58,9 @@ returns-clause-accepted c s site fits =
     let free : first_refusal (map (may_read s (Some c.args.session)) numbers) ≡ None = sym (busy_is c.args.self.now.locks s fits.locks_are c.args.session numbers) ∙ sym c.first_busy.ensures ∙ c.in_default-first_busy.is in
     carried_out s (Scan c.args.session c.args.number c.args.count)
     ((λ i. first_refusal (active i ∷ there i ∷ map (may_read s (Some c.args.session)) numbers)) ∙ free) refl
+
+pub returns-then-is_none-clause-refused : goal.returns-then-is_none-clause-refused
+returns-then-is_none-clause-refused c s site fits =
+    let last = c.args.number + c.args.count - 1 in
+    refused s (Scan c.args.session c.args.number c.args.count) _ (λ i. first_refusal
+    ((idle_session c.args.session fits (search rules)) i ∷ wants_record s last ∷ map (may_read s (Some c.args.session)) (range_with_len c.args.number c.args.count)))

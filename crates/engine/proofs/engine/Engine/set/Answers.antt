@@ -10,6 +10,7 @@ use Rattle.engine.proofs.Asking.{has_group}
 use Rattle.engine.proofs.Firsts.{overflows_before}
 use Rattle.engine.proofs.Calling.{serves_then, first_then, first_failed, early, late_either, wanted_to_fail}
 use Rattle.engine.proofs.engine.Engine.set.Goals as goal
+use Rattle.engine.proofs.Performing.{performs_first, performs_unmade}
 
 pub returns-in-Ok-clause-answers : goal.returns-in-Ok-clause-answers
 returns-in-Ok-clause-answers g c s fits =
@@ -30,3 +31,11 @@ returns-in-Err-clause-worn_flash g c is =
 
 pub returns-in-Ok-clause-serves : goal.returns-in-Ok-clause-serves
 returns-in-Ok-clause-serves g c = serves_then c.in-Ok.ensures.serves c.set_now.ensures.serves
+
+pub returns-in-Ok-clause-performs : goal.returns-in-Ok-clause-performs
+returns-in-Ok-clause-performs g c s fits =
+    performs_first s (Set c.args.number c.args.value.now) (c.wants_checkpoint_to_set-wanted.ensures s (g.S.Site.state c.args.site.now) fits) c.in-Ok.ensures.asks.rules_are (c.in-Ok.ensures.performs s fits)
+    (c.set_now.ensures.performs (checkpointed_if c.wants_checkpoint_to_set-wanted.result s) (c.in-Ok.ensures.does s fits).after_fits)
+
+pub returns-in-Err-clause-performs : goal.returns-in-Err-clause-performs
+returns-in-Err-clause-performs g c s fits = performs_unmade s (Set c.args.number c.args.value.now) (c.wants_checkpoint_to_set-wanted.ensures s (g.S.Site.state c.args.site.now) fits) (c.in-Err.ensures.performs s fits)

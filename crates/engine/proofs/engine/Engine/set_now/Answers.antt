@@ -11,6 +11,11 @@ use Rattle.engine.specs.Leaves.{LeavesEither}
 use Rattle.engine.specs.Calls.{Does}
 use Rattle.engine.proofs.Calling.{answered_as, does_nothing, does_weaker, does_failed, asks_rest, early, still, no_stop}
 use Rattle.engine.proofs.engine.Engine.set_now.Goals as goal
+use Rattle.std.proofs.Common.{sym, ap, ◌∙◌, ◌++◌}
+use Rattle.record_model.specs.State.{content_at}
+use Rattle.ring_machine.specs.Commands.{begins, writes, commits}
+use Rattle.ring_machine.proofs.Performing.{performs_as}
+use Rattle.engine.proofs.Performing.{performs_rest}
 
 -- what is written is the value
 written : {r : Result Reply Stop} {old new : Engine} {before now : Site} {s : State} (number : ℕ) {x y : Content} → x ≡ y →
@@ -35,3 +40,16 @@ pub returns-in-Err-clause-answers : goal.returns-in-Err-clause-answers
 returns-in-Err-clause-answers g c s fits =
     answered_as (λ o. LeavesEither (sizes_of c.args.self.now.store) s o.after (g.S.Site.state c.args.site.now).told) (c.in_default.ensures.accepted s (g.S.Site.state c.args.site.now) fits)
     (does_failed (omega arith) (written c.args.number c.value_of-after.ensures (c.in-Err.ensures.does s fits))) tt c.in-Err.ensures.asks (λ is. inl (omega arith))
+
+pub returns-in-Some-clause-performs : goal.returns-in-Some-clause-performs
+returns-in-Some-clause-performs g c s fits = performs_rest (c.in-Some.ensures.refused s (g.S.Site.state c.args.site.now) fits).1.1
+
+pub returns-in-Ok-clause-performs : goal.returns-in-Ok-clause-performs
+returns-in-Ok-clause-performs g c s fits =
+    performs_as ((c.in_default.ensures.accepted s (g.S.Site.state c.args.site.now) fits).1.1 ∙ ap (λ (x : Content). (begins ++ writes c.args.number (content_at s.table c.args.number) x) ++ commits) (sym c.value_of-after.ensures))
+    (c.in-Ok.ensures.performs s fits)
+
+pub returns-in-Err-clause-performs : goal.returns-in-Err-clause-performs
+returns-in-Err-clause-performs g c s fits =
+    performs_as ((c.in_default.ensures.accepted s (g.S.Site.state c.args.site.now) fits).1.1 ∙ ap (λ (x : Content). (begins ++ writes c.args.number (content_at s.table c.args.number) x) ++ commits) (sym c.value_of-after.ensures))
+    (c.in-Err.ensures.performs s fits)

@@ -13,6 +13,7 @@ use Rattle.redo_undo.proofs.StoreCalling.{keeps_of}
 use Rattle.redo_undo.proofs.Saved.{finds_kept}
 use Rattle.std.specs.Prelude.{Ok, Err, IsTrue}
 use Rattle.redo_undo.proofs.store.Store.begin.Goals as goal
+use Rattle.redo_undo.proofs.MirroringStores.{store_performs}
 
 pub returns-in-Ok-clause-holds : goal.returns-in-Ok-clause-holds
 returns-in-Ok-clause-holds g c newest records table commits h = λ may.
@@ -55,3 +56,9 @@ returns-in-Err-clause-works g c =
     (g.S.Site.state c.args.site.now) (g.S.Site.state c.log_record.new.site) =
     λ honest. store_next c.requires.may.going.both.sizes refl (log_stops c.in-Err.stop c.in-Err.ensures.stops) (next_logged (works.next honest) (works.changes honest) (never_worn_flash (Err c.in-Err.stop) c.in-Err.ensures.stops)) in
     search rules
+
+pub returns-in-Ok-clause-performs : goal.returns-in-Ok-clause-performs
+returns-in-Ok-clause-performs g c newest records table commits h = store_performs refl refl (c.in-Ok.ensures.performs c.args.self.now.pages newest records table commits c.requires.may.going.both h.both)
+
+pub returns-in-Err-clause-performs : goal.returns-in-Err-clause-performs
+returns-in-Err-clause-performs g c newest records table commits h = store_performs refl refl (c.in-Err.ensures.performs c.args.self.now.pages newest records table commits c.requires.may.going.both h.both)

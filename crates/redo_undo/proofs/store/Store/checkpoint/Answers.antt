@@ -20,6 +20,23 @@ use Rattle.redo_undo.proofs.store.Store.checkpoint.Given.{Over}
 use Rattle.redo_undo.proofs.store.Store.checkpoint.Goals.{After-save_master}
 use Rattle.site.specs.declared.outside.Stop.TheVariants.{Worn}
 use Rattle.redo_undo.proofs.store.Store.checkpoint.Goals as goal
+use Rattle.ring_machine.specs.Machine.{cached, force, save}
+use Rattle.ring_machine.specs.Performing.{Performs}
+use Rattle.std.proofs.Common.{ℕ, List, ◌∷◌, [], sym}
+use Rattle.std.specs.Prelude.{Option}
+use Rattle.record_model.specs.State.{Content}
+use Rattle.log_records.specs.Log.{Entry}
+use Rattle.log_store.specs.declared.store.LogStore.{LogStore}
+use Rattle.page_store.specs.Representation.{current}
+use Rattle.checkpoint.specs.declared.master.Master.{Master}
+use Rattle.redo_undo.specs.Holding as both
+use Rattle.redo_undo.specs.Mirroring.{MirrorsStore}
+use Rattle.record_model.specs.Touches.{flush}
+use Rattle.ring_machine.proofs.Performing.{performs_by, performs_then, performs_stopped}
+use Rattle.redo_undo.proofs.Mirroring.{numbers_left}
+use Rattle.redo_undo.proofs.MirroringStores.{store_performs, save_performs}
+use Rattle.redo_undo.proofs.Appended.{current_same}
+use Rattle.site.proofs.Working.{err_again}
 
 pub returns-in-Ok-save_master-clause-checkpoint : goal.returns-in-Ok-save_master-clause-checkpoint
 returns-in-Ok-save_master-clause-checkpoint g c newest records table h may =
@@ -169,3 +186,53 @@ returns-in-Ok-save_master-clause-next g c honest =
     let saved = c.in-Ok-save_master.ensures in
     next_answered (next_saved {new = record { log = c.save_master.new.log; pages = c.flush.new.pages; masters = c.save_master.new.masters; made = c.args.self.now.made - c.args.first }}
     c.flush.ensures.works.geometry refl (saved.changes there) tt (next_flushed g s honest) (saved.next there) (saved.worn there))
+
+-- What it makes of the machine.
+
+pub returns-in-Err-clause-performs : goal.returns-in-Err-clause-performs
+returns-in-Err-clause-performs g c newest records table h =
+    performs_stopped (cached flush ∷ save ∷ []) (store_performs {new = record c.args.self.now { log = c.force.new.log }} refl refl (c.in-Err.ensures.performs c.args.self.now.pages newest records table c.args.commits c.requires.going.both h))
+
+pub returns-in-Err-flush-clause-performs : goal.returns-in-Err-flush-clause-performs
+returns-in-Err-flush-clause-performs g c newest records table h =
+    let pages = c.args.self.now.pages in
+    let held = c.in-Ok.ensures.holds pages newest records table c.args.commits c.requires.going.both.sizes h in
+    performs_stopped (save ∷ []) (performs_then (store_performs {new = record c.args.self.now { log = c.force.new.log }} refl refl (c.in-Ok.ensures.performs pages newest records table c.args.commits c.requires.going.both h))
+    (store_performs {old = record c.args.self.now { log = c.force.new.log }} {new = record c.args.self.now { log = c.flush.new.log; pages = c.flush.new.pages }} refl refl (c.in-Err-flush.ensures.performs newest records table c.args.commits held)))
+
+module _ (g : Over) (c : After-save_master g) (newest : Option Master) (records : List Entry) (table : List Content) (h : both.Represents c.args.self.now.log c.args.self.now.pages (g.S.Site.state c.args.site.now) newest records table c.args.commits) where
+  abbrev mid : Store
+  mid = record c.args.self.now { log = c.force.new.log }
+
+  abbrev before_save : Store
+  before_save = record c.args.self.now { log = c.flush.new.log; pages = c.flush.new.pages }
+
+  held : both.Represents c.force.new.log c.args.self.now.pages (g.S.Site.state c.force.new.site) newest records table c.args.commits
+  held = c.in-Ok.ensures.holds c.args.self.now.pages newest records table c.args.commits c.requires.going.both.sizes h
+
+  honest : IsTrue (g.S.Site.state c.args.site.now).honest
+  honest = h.log_holds.ready.blocks.honest
+
+  pub two_first : Performs {T = Unit {0}} (Ok tt) (rules c.args.self.now.pages) (force ∷ cached flush ∷ []) (MirrorsStore c.args.self.now (g.S.Site.state c.args.site.now).image) (MirrorsStore before_save (g.S.Site.state c.flush.new.site).image)
+  two_first = performs_then (store_performs {old = c.args.self.now} {new = mid} refl refl (c.in-Ok.ensures.performs c.args.self.now.pages newest records table c.args.commits c.requires.going.both h))
+      (store_performs {old = mid} {new = before_save} refl refl (c.in-Ok-flush.ensures.performs newest records table c.args.commits held))
+
+  pub same_pages : (page : ℕ) → current c.flush.new.pages (g.S.Site.state c.save_master.new.site).image page ≡ current c.flush.new.pages (g.S.Site.state c.flush.new.site).image page
+  same_pages = current_same c.beside_laws.ensures c.flush.new.pages (g.S.Site.state c.flush.new.site) (g.S.Site.state c.save_master.new.site) (c.save_master.ensures.changes (honest_then g c honest))
+
+pub returns-in-Err-save_master-clause-performs : goal.returns-in-Err-save_master-clause-performs
+returns-in-Err-save_master-clause-performs g c newest records table h =
+    let s = (goal.at.returns-in-Err-save_master-clause-performs g c).After-save_master in
+    let going = c.in-Ok-flush.ensures.works.going in
+    performs_then (two_first g s newest records table h) (performs_by (sym c.flush.ensures.asks.rules_are)
+    (save_performs (before_save g s newest records table h) (record c.args.self.now { log = c.save_master.new.log; pages = c.flush.new.pages; masters = c.save_master.new.masters }) (g.S.Site.state c.flush.new.site) (g.S.Site.state c.save_master.new.site) (numbers_left going.log_going going.pages_going)
+    {T = Unit {0}} (Err c.in-Err-save_master.stop) (λ says. c.in-Err-save_master.ensures.at_end (err_again c.in-Err-save_master.stop (Worn Log) says)) c.in-Err-save_master.ensures.stops tt tt tt tt refl (same_pages g s newest records table h)))
+
+pub returns-in-Ok-save_master-clause-performs : goal.returns-in-Ok-save_master-clause-performs
+returns-in-Ok-save_master-clause-performs g c newest records table h =
+    let s = (goal.at.returns-in-Ok-save_master-clause-performs g c).After-save_master in
+    let going = c.in-Ok-flush.ensures.works.going in
+    let log = c.in-Ok-save_master.ensures.log in
+    performs_then (two_first g s newest records table h) (performs_by (sym c.flush.ensures.asks.rules_are)
+    (save_performs (before_save g s newest records table h) (record c.args.self.now { log = c.save_master.new.log; pages = c.flush.new.pages; masters = c.save_master.new.masters; made = c.args.self.now.made - c.args.first }) (g.S.Site.state c.flush.new.site) (g.S.Site.state c.save_master.new.site) (numbers_left going.log_going going.pages_going)
+    {T = Unit {0}} (Ok tt) (λ says. absurd (no_error says)) tt c.in-Ok-save_master.ensures.unit c.save_master.ensures.usable.bounded (ap (λ (l : LogStore). l.ring.hi) log) (ap (λ (l : LogStore). l.used) log) refl (same_pages g s newest records table h)))

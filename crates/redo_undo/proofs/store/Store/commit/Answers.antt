@@ -47,6 +47,11 @@ use Rattle.redo_undo.specs.Numbers.{SkipsNone}
 use Rattle.page_store.specs.declared.store.PageStore.{PageStore}
 use Rattle.log_store.specs.declared.store.LogStore.{LogStore}
 use Rattle.redo_undo.proofs.store.Store.commit.Goals as goal
+use Rattle.ring_machine.specs.Machine.{force}
+use Rattle.ring_machine.proofs.Performing.{performs_then, performs_stopped, performs_failed}
+use Rattle.redo_undo.proofs.Mirroring.{force_performs, numbers_left}
+use Rattle.redo_undo.proofs.MirroringStores.{store_performs}
+use Rattle.redo_undo.proofs.Appended.{current_same}
 
 -- The Commit is the last record, and is sealed.
 
@@ -229,3 +234,31 @@ returns-in-Ok-force-clause-works g c =
     λ honest. store_next c.requires.may.going.both.sizes refl tt
     (next_logged (blocks.next_answered (blocks.next_then works.geometry (works.next honest) (c.in-Ok-force.ensures.next_block (honest_logged g s honest)))) (changes_both g s honest) (λ says. no_error says)) in
     search rules
+
+-- What it makes of the machine.
+
+pub returns-in-Err-clause-performs : goal.returns-in-Err-clause-performs
+returns-in-Err-clause-performs g c newest records table commits held =
+    performs_stopped (force ∷ []) (store_performs {new = record c.args.self.now { log = c.log_record.new.log }} refl refl (c.in-Err.ensures.performs c.args.self.now.pages newest records table commits c.requires.may.going.both held.both))
+
+pub returns-in-Err-force-clause-performs : goal.returns-in-Err-force-clause-performs
+returns-in-Err-force-clause-performs g c newest records table commits held =
+    let pages = c.args.self.now.pages in
+    let mid = g.S.Site.state c.log_record.new.site in
+    let new = g.S.Site.state c.force.new.site in
+    let last = c.in-Ok.ensures.last pages newest records table commits c.requires.may.going.both.sizes held.both in
+    let going = c.in-Ok.ensures.works.log_going in
+    performs_then (store_performs {new = record c.args.self.now { log = c.log_record.new.log }} refl refl (c.in-Ok.ensures.performs pages newest records table commits c.requires.may.going.both held.both))
+    (store_performs {old = record c.args.self.now { log = c.log_record.new.log }} {new = record c.args.self.now { log = c.force.new.self }} refl refl (performs_failed {A = Unit {0}} (force_performs c.log_record.new.log c.force.new.self pages mid new (record { high = going.high; each = last.below }) (Err c.in-Err-force.stop) (record { worn_log = c.in-Err-force.ensures.worn.0; stops = c.in-Err-force.ensures.stops }) tt tt going.low
+    (current_same c.beside_laws.ensures pages mid new (c.force.ensures.changes last.ready.blocks.honest)) (numbers_left c.force.ensures.going c.requires.may.going.both.pages_going))))
+
+pub returns-in-Ok-force-clause-performs : goal.returns-in-Ok-force-clause-performs
+returns-in-Ok-force-clause-performs g c newest records table commits held =
+    let pages = c.args.self.now.pages in
+    let mid = g.S.Site.state c.log_record.new.site in
+    let new = g.S.Site.state c.force.new.site in
+    let last = c.in-Ok.ensures.last pages newest records table commits c.requires.may.going.both.sizes held.both in
+    let going = c.in-Ok.ensures.works.log_going in
+    performs_then (store_performs {new = record c.args.self.now { log = c.log_record.new.log }} refl refl (c.in-Ok.ensures.performs pages newest records table commits c.requires.may.going.both held.both))
+    (store_performs {old = record c.args.self.now { log = c.log_record.new.log }} refl refl (force_performs c.log_record.new.log c.force.new.self pages mid new (record { high = going.high; each = last.below }) {T = ℕ} (Ok c.in-Ok.lsn) (record { worn_log = λ says. absurd (no_error says); stops = tt }) c.in-Ok-force.ensures.next c.in-Ok-force.ensures.empty going.low
+    (current_same c.beside_laws.ensures pages mid new (c.force.ensures.changes last.ready.blocks.honest)) (numbers_left c.force.ensures.going c.requires.may.going.both.pages_going)))

@@ -13,6 +13,9 @@ use Rattle.redo_undo.proofs.NextUnits.{store_next, next_failed, next_answered, n
 use Rattle.redo_undo.specs.StoreRollback.{RollsBack}
 use Rattle.redo_undo.proofs.StoreRollbacks.{active_left, rolls_back, has_room}
 use Rattle.redo_undo.proofs.store.Store.roll_back.Goals as goal
+use Rattle.log_records.specs.Unfinished.{left_open}
+use Rattle.ring_machine.proofs.Performing.{performs_answered, performs_refused}
+use Rattle.redo_undo.proofs.MirroringStores.{store_performs, undoing_saves_none}
 
 pub returns-clause-undone : goal.returns-clause-undone
 returns-clause-undone g c newest records table commits h writes active count =
@@ -122,3 +125,21 @@ returns-clause-works g c =
     let next : IsTrue (g.S.Site.state c.args.site.now).honest → KeepsNext {T = Unit {0}} (Ok tt) c.args.self.now (record c.args.self.now { log = c.undo_one.new.log; pages = c.undo_one.new.pages; made = c.args.self.now.made + (c.args.entry.writes + 1) }) (g.S.Site.state c.args.site.now) (g.S.Site.state c.undo_one.new.site) =
     λ honest. next_answered (store_next c.requires.going.both.sizes refl tt (works.next honest)) in
     search rules
+
+-- What it makes of the machine.
+
+pub returns-in-Err-clause-performs : goal.returns-in-Err-clause-performs
+returns-in-Err-clause-performs g c newest records table commits h writes active =
+    store_performs (undoing_saves_none (left_open records c.args.entry.begin)) refl
+    (c.in-Err.ensures.performs newest records table commits _ h.both (active_left c.args.self.now _ newest records table commits c.args.entry.begin c.args.entry.last writes h active) refl refl)
+
+pub returns-then-blocks-before-clause-performs : goal.returns-then-blocks-before-clause-performs
+returns-then-blocks-before-clause-performs g c newest records table commits h writes active = performs_refused (λ dev same. cc)
+
+pub returns-then-blocks-owed-clause-performs : goal.returns-then-blocks-owed-clause-performs
+returns-then-blocks-owed-clause-performs g c newest records table commits h writes active = performs_refused (λ dev same. cc)
+
+pub returns-clause-performs : goal.returns-clause-performs
+returns-clause-performs g c newest records table commits h writes active =
+    store_performs (undoing_saves_none (left_open records c.args.entry.begin)) refl
+    (performs_answered (c.in-Ok.ensures.performs newest records table commits _ h.both (active_left c.args.self.now _ newest records table commits c.args.entry.begin c.args.entry.last writes h active) refl refl))

@@ -6,6 +6,7 @@ use Rattle.image_meaning.proofs.Leaving.{under_leaves_for}
 use Rattle.redo_undo.proofs.Saved.{finds_kept}
 use Rattle.redo_undo.proofs.StoreCalling.{keeps_of, where_two}
 use Rattle.redo_undo.proofs.store.Store.touch.Goals as goal
+use Rattle.redo_undo.proofs.MirroringStores.{store_performs}
 
 pub returns-clause-holds : goal.returns-clause-holds
 returns-clause-holds g c newest records table commits h =
@@ -26,3 +27,6 @@ returns-clause-works g c =
     (g.S.Site.state c.args.site.now) (g.S.Site.state c.touch.new.site) =
     λ honest. store_next c.requires.going.both.sizes refl works.stops (works.next honest) in
     search rules
+
+pub returns-clause-performs : goal.returns-clause-performs
+returns-clause-performs g c newest records table commits h = store_performs refl refl (c.touch.ensures.performs newest records table commits h.both)

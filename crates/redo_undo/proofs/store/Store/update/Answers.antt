@@ -2,7 +2,7 @@ use Rattle.redo_undo.proofs.Fillings.{fills_more, update_octets}
 use Rattle.record_model.specs.State.{Content}
 use Rattle.log_records.specs.Spelling.{content_spelling}
 use Rattle.image_meaning.proofs.Leaving.{under_leaves_for}
-use Rattle.std.proofs.Common.{refl, ℕ, rules, ◌≡◌, ◌+◌, ◌/◌, ◌%◌, ◌++◌, ◌∷◌, [], length, ap, sym, subst, arith}
+use Rattle.std.proofs.Common.{refl, ℕ, List, rules, ◌≡◌, ◌+◌, ◌/◌, ◌%◌, ◌++◌, ◌∷◌, [], length, ap, sym, subst, arith}
 use Rattle.log_records.specs.declared.log_record.LogRecord.{LogRecord}
 use Rattle.redo_undo.proofs.Saved.{finds_kept}
 use Rattle.std.specs.Prelude.{Ok, Err, IsTrue}
@@ -11,6 +11,12 @@ use Rattle.redo_undo.specs.StoreCalls.{KeepsNext}
 use Rattle.redo_undo.proofs.NextUnits.{store_next}
 use Rattle.redo_undo.specs.Stores.{Represents, MayGrow, shown_in, update_by}
 use Rattle.redo_undo.proofs.store.Store.update.Goals as goal
+use Rattle.ring_machine.specs.Machine.{Work, changed}
+use Rattle.ring_machine.specs.Octets as octets
+use Rattle.ring_machine.proofs.Performing.{performs_as}
+use Rattle.redo_undo.specs.Mirroring.{updates}
+use Rattle.redo_undo.proofs.MirroringStores.{store_performs}
+use Rattle.buffer_pool.specs.Frames.{front_of}
 
 pub returns-in-Ok-clause-holds : goal.returns-in-Ok-clause-holds
 returns-in-Ok-clause-holds g c newest records table commits h = λ may.
@@ -54,3 +60,21 @@ returns-in-Err-clause-works g c =
     (record c.args.self.now { log = c.log_change.new.log; pages = c.log_change.new.pages }) (g.S.Site.state c.args.site.now) (g.S.Site.state c.log_change.new.site) =
     λ honest. store_next c.requires.may.going.both.sizes refl works.stops (works.next honest) in
     search rules
+
+pub returns-in-Ok-clause-performs : goal.returns-in-Ok-clause-performs
+returns-in-Ok-clause-performs g c newest records table commits h =
+    let store = c.args.self.now in
+    let old = g.S.Site.state c.args.site.now in
+    let front = (front_of store.pages.pool.frames).page in
+    let is : ◌≡◌ {A = List Work} (updates c.args.number (shown_in store old records c.args.number) c.args.after.now) (changed (octets.update_octets c.shown.result c.copy_of.result) front ∷ []) =
+    λ i. changed (octets.update_octets ((sym (c.shown.ensures.shown old newest records table commits h)) i) ((sym c.copy_of.ensures) i)) ((sym c.requires.front.page) i) ∷ [] in
+    store_performs refl refl (performs_as is (c.in-Ok.ensures.performs newest records table commits h.both))
+
+pub returns-in-Err-clause-performs : goal.returns-in-Err-clause-performs
+returns-in-Err-clause-performs g c newest records table commits h =
+    let store = c.args.self.now in
+    let old = g.S.Site.state c.args.site.now in
+    let front = (front_of store.pages.pool.frames).page in
+    let is : ◌≡◌ {A = List Work} (updates c.args.number (shown_in store old records c.args.number) c.args.after.now) (changed (octets.update_octets c.shown.result c.copy_of.result) front ∷ []) =
+    λ i. changed (octets.update_octets ((sym (c.shown.ensures.shown old newest records table commits h)) i) ((sym c.copy_of.ensures) i)) ((sym c.requires.front.page) i) ∷ [] in
+    store_performs refl refl (performs_as is (c.in-Err.ensures.performs newest records table commits h.both))

@@ -1,0 +1,120 @@
+-- What commands make of the machine that mirrors the database.
+use Rattle.std.proofs.Common.{◌≡◌, ℕ, ◌+◌, Bool, true, false, List, [], ◌∷◌, ◌++◌, flat_map, append_assoc, Some, None, sym, ap, ◌∙◌}
+use Rattle.std.specs.Prelude.{Result, Ok, Err, if◌then◌else◌}
+use Rattle.std.specs.List.{range_with_len}
+use Rattle.std.proofs.lemmas.Grind.{flat_map-append}
+use Rattle.site.specs.declared.outside.Dev.{Dev}
+use Rattle.site.specs.declared.outside.Stop.{Stop}
+use Rattle.site.specs.declared.outside.Stop.TheVariants.{Worn, Memory}
+use Rattle.site.specs.State.{Image, State as Site}
+use Rattle.site.proofs.Working.{no_error}
+use Rattle.record_model.specs.declared.words.Command.{Command}
+use Rattle.record_model.specs.State.{State}
+use Rattle.record_model.specs.Step.{makes_checkpoint}
+use Rattle.ring_machine.specs.Machine.{Work}
+use Rattle.ring_machine.specs.Commands.{reads, saves, command_work}
+use Rattle.ring_machine.specs.Performing.{Performs}
+use Rattle.ring_machine.proofs.Performing.{performs_as, performs_by, performs_then, performs_stopped, performs_nothing}
+use Rattle.page_store.specs.Caching.{rules}
+use Rattle.redo_undo.specs.declared.store.Store.{Store}
+use Rattle.redo_undo.specs.Mirroring.{MirrorsStore}
+use Rattle.engine.specs.Representation.{checkpointed_if}
+use Rattle.engine.proofs.Firsts.{work_where}
+use Rattle.engine.proofs.Scans.{range_more, range_at}
+use Rattle.std.proofs.Common.{arith, ◌*◌, ◌<◌, ◌≤◌, ◌-◌, ◌==◌, true≢false, IsTrue}
+use Rattle.std.specs.List.{list_any}
+use Rattle.std.proofs.lemmas.Bool.{false_from_ne_true}
+use Rattle.record_model.specs.State.{Content, Write, content_at, seen}
+use Rattle.log_records.specs.Log.{Entry}
+use Rattle.log_laws.specs.Follow.{IsFree, IsActive}
+use Rattle.log_laws.specs.Follow as follow
+use Rattle.log_laws.proofs.Tables.{content_of_table}
+use Rattle.log_laws.proofs.Losers.{active_begun}
+use Rattle.log_laws.proofs.Shown.{shown_is_value}
+use Rattle.image_meaning.proofs.Versions.{length-versions}
+use Rattle.lock_table.specs.Locks as locks
+use Rattle.txn_table.specs.declared.active.Active.{Active}
+use Rattle.txn_table.specs.Entries.{IsTable, entry_of}
+use Rattle.log_store.specs.Representation.{end_of}
+use Rattle.image_meaning.specs.Meaning.{versions_on, master_of}
+use Rattle.redo_undo.specs.Stores.{Represents, shown_in, sizes_of}
+use Rattle.engine.specs.declared.engine.Engine.{Engine}
+use Rattle.engine.specs.Representation.{Matches}
+use Rattle.engine.proofs.Meanings.{begins_late, busy_write_is, free, fresh_behind, seen_is, table_is}
+use Rattle.log_records.specs.Log.{Version}
+use Rattle.site.specs.declared.geometry.Geometry.{Geometry}
+use Rattle.engine.proofs.Settings.{begin_at, free_begun, unwritten}
+use Rattle.engine.proofs.Writes.{may_read_too, touched_fits}
+
+abbrev PerformsOver : {T : Type 0} → Result T Stop → List Work → Store → Store → Image → Image → Type 0
+PerformsOver result works old new image image' = Performs result (rules old.pages) works (MirrorsStore old image) (MirrorsStore new image')
+
+-- a command that is refused, or only answers
+pub performs_rest : {T : Type 0} {x : T} {works : List Work} {store : Store} {image : Image} → works ≡ [] → PerformsOver {T = T} (Ok x) works store store image image
+performs_rest {T = T} {x = x} none = performs_as none (performs_nothing (λ m is. is) (λ dev says. absurd (no_error {T = T} {x = x} {e = Worn dev} says)))
+
+-- memory is wanting: no device is worn
+pub memory_refuses : (stop : Stop) → stop ≡ Memory → (dev : Dev) → stop ≡ Worn dev → ⊥
+memory_refuses stop memory dev = λ worn. cc
+
+-- one call on a store after another one
+pub store_then : {A B : Type 0} {a : A} {result : Result B Stop} {first later : List Work} {old mid new : Store} {before between now : Image} → rules mid.pages ≡ rules old.pages → PerformsOver {T = A} (Ok a) first old mid before between → PerformsOver result later mid new between now →
+    PerformsOver result (first ++ later) old new before now
+store_then same one two = performs_then one (performs_by (sym same) two)
+
+-- A command before which a checkpoint is made where one is wanted.
+
+pub performs_first : (s : State) (command : Command) {wanted : Bool} → wanted ≡ makes_checkpoint true s command → {A B : Type 0} {a : A} {result : Result B Stop} {old mid new : Store} {before between now : Image} → rules mid.pages ≡ rules old.pages →
+    PerformsOver {T = A} (Ok a) (if wanted then saves else []) old mid before between → PerformsOver result (command_work false (checkpointed_if wanted s) command) mid new between now → PerformsOver result (command_work true s command) old new before now
+performs_first s command {wanted} known same first second = performs_as (work_where s command wanted known) (store_then same first second)
+
+pub performs_unmade : (s : State) (command : Command) {wanted : Bool} → wanted ≡ makes_checkpoint true s command → {A B : Type 0} {stop : Stop} {old mid : Store} {before now : Image} →
+    PerformsOver {T = A} (Err stop) (if wanted then saves else []) old mid before now → PerformsOver {T = B} (Err stop) (command_work true s command) old mid before now
+performs_unmade s command {wanted} known first = performs_as (work_where s command wanted known) (performs_stopped (command_work false (checkpointed_if wanted s) command) first)
+
+-- A scan, record by record.
+
+pub reads_one_more : (number offset : ℕ) → flat_map reads (range_with_len number (offset + 1)) ≡ flat_map reads (range_with_len number offset) ++ reads (number + offset)
+reads_one_more number offset =
+    ap (flat_map reads) (range_more number offset) ∙ flat_map-append reads (range_with_len number offset) ((number + offset) ∷ [])
+
+-- one stops the scan, and others would follow
+pub reads_split : (number offset count : ℕ) → offset < count → (rest : List Work) × (flat_map reads (range_with_len number count) ≡ (flat_map reads (range_with_len number offset) ++ reads (number + offset)) ++ rest)
+reads_split number offset count less =
+    let rest = flat_map reads (range_with_len (number + offset + 1) (count - offset - 1)) in (
+      rest,
+      ap (flat_map reads) (range_at number offset count less) ∙ flat_map-append reads (range_with_len number offset) ((number + offset) ∷ range_with_len (number + offset + 1) (count - offset - 1))
+          ∙ sym (append_assoc (flat_map reads (range_with_len number offset)) (reads (number + offset)) rest),
+    )
+
+-- What stands before a write: what its session sees there.
+pub seen_there : (engine : Engine) (store : Store) (old new : Site) (s : State) (entry : Active) (number : ℕ) (fits : Matches engine old s) → IsTrue new.honest → IsTable engine.active → entry_of engine.active entry.session ≡ Some entry → number < 32 * (sizes_of store).pages →
+    locks.busy_write engine.locks (Some entry.session) number ≡ None → Represents store new fits.newest fits.records s.table s.commits → store.made ≡ engine.store.made → seen s entry.session number ≡ shown_in store new fits.records number
+seen_there engine store old new s entry number fits honest table at less free holds made =
+    seen_is (record engine { store = store }) new s (touched_fits engine store old new s fits honest holds made) entry.session number entry table less at
+    (may_read_too s entry.session number (sym (busy_write_is engine.locks s fits.locks_are (Some entry.session) number) ∙ free))
+
+-- and of a transaction that only begins what the table has
+pub set_there : (engine : Engine) (old : Site) (s : State) (number : ℕ) (fits : Matches engine old s) → IsTable engine.active → number < 32 * (sizes_of engine.store).pages → locks.busy_write engine.locks None number ≡ None → (txn : ℕ) → end_of engine.store.log ≤ txn →
+    (store : Store) (site : Site) → sizes_of store ≡ sizes_of engine.store → Represents store site fits.newest (fits.records ++ begin_at txn ∷ []) s.table s.commits → content_at s.table number ≡ shown_in store site (fits.records ++ begin_at txn ∷ []) number
+set_there engine old s number fits table less unlocked txn behind store site sizes holds =
+    ap (λ (t : List Content). content_at t number) (table_is store site fits.newest log s.table s.commits holds)
+    ∙ content_of_table log versions number (omega (arith, less, length-versions (sizes_of store) site.image, ap (λ (g : Geometry). g.pages) sizes))
+    ∙ sym (shown_is_value log versions number none)
+  where
+    log : List Entry
+    log = fits.records ++ begin_at txn ∷ []
+
+    versions : List Version
+    versions = versions_on (sizes_of store) site.image
+
+    begun : IsActive (master_of fits.newest) log txn txn []
+    begun = active_begun (master_of fits.newest) fits.records txn (fresh_behind engine.store old fits.newest fits.records s.table s.commits txn fits.holds behind) (begins_late engine.store old fits.newest fits.records s.table s.commits txn fits.holds behind)
+
+    none_own : follow.has_written log txn number ≡ false
+    none_own = ap (list_any (λ (write : Write). write.0 == number)) (sym begun.writes_are)
+
+    none : IsFree log number
+    none t lives = false_from_ne_true (follow.has_written log t number) (λ written.
+        let same : t ≡ txn = free_begun fits.records txn number (free fits.newest fits.records engine.active s fits.sessions table number (unwritten s number (sym (busy_write_is engine.locks s fits.locks_are None number) ∙ unlocked))) t lives written in
+        true≢false (sym written ∙ ap (λ (n : ℕ). follow.has_written log n number) same ∙ none_own))

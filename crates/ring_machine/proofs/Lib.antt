@@ -1,0 +1,5 @@
+pub mod Works
+pub mod Ends
+pub mod Performing
+pub mod Spelled
+pub mod Agreeing

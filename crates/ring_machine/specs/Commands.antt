@@ -1,0 +1,79 @@
+-- What commands ask of log and cache.
+use Rattle.std.specs.Prelude.{ℕ, Bool, List, [], ◌∷◌, ◌++◌, flat_map, reverse, unwrap_or, Some, None}
+use Rattle.std.specs.Prelude.{if◌then◌else◌}
+use Rattle.std.specs.List.{range_with_len}
+use Rattle.record_model.specs.declared.words.Command.{Command}
+use Rattle.record_model.specs.declared.words.Command.TheVariants as command
+use Rattle.record_model.specs.State.{Content, Write, State, content_at, last_write, session_at, writes_of, seen}
+use Rattle.record_model.specs.Step.{makes_checkpoint, is_accepted}
+use Rattle.record_model.specs.Run.{Line, Turn}
+use Rattle.record_model.specs.Touches.{flush, page_of, read_touch}
+use Rattle.ring_machine.specs.Machine.{Work, cached, logged, changed, force, save}
+use Rattle.ring_machine.specs.Octets.{update_octets, clr_octets}
+
+-- a page is read
+abbrev pub reads : ℕ → List Work
+reads number = cached (read_touch number) ∷ []
+
+-- a transaction begins, writes a record, is committed, takes a write back, and is ended
+abbrev pub begins : List Work
+begins = logged 1 ∷ []
+
+abbrev pub writes : ℕ → Content → Content → List Work
+writes number before after = cached (read_touch number) ∷ changed (update_octets before after) (page_of number) ∷ []
+
+abbrev pub commits : List Work
+commits = logged 17 ∷ force ∷ []
+
+abbrev pub takes_back : Write → List Work
+takes_back write = cached (read_touch write.0) ∷ changed (clr_octets write.1) (page_of write.0) ∷ []
+
+abbrev pub ends : List Work
+ends = logged 9 ∷ []
+
+-- a checkpoint: what is unsealed is sealed, the changed pages are pushed, and a master is saved
+abbrev pub saves : List Work
+saves = force ∷ cached flush ∷ save ∷ []
+
+-- what stands at a record before a transaction that has made these writes writes there: its last own write, or the
+-- table's content
+abbrev pub stands_at : List Content → List Write → ℕ → Content
+stands_at table earlier number = unwrap_or (last_write earlier number) (content_at table number)
+
+-- of each write of a transaction, behind these ones, what stood there before it
+abbrev pub stood_before : List Content → List Write → List Write → List Write
+stood_before table earlier [] = []
+stood_before table earlier (write ∷ later) =
+    (write.0, stands_at table earlier write.0) ∷ stood_before table (earlier ++ write ∷ []) later
+
+-- a transaction is undone, the last write first
+abbrev pub undoes : List Content → List Write → List Work
+undoes table made = flat_map takes_back (reverse (stood_before table [] made)) ++ ends
+
+-- what a command asks once its tests have let it through
+abbrev pub record_work : State → Command → List Work
+record_work s (command.Begin n) = begins
+record_work s (command.Read n number) = reads number
+record_work s (command.Write n number value) = writes number (seen s n number) (Some value)
+record_work s (command.Erase n number) = writes number (seen s n number) None
+record_work s (command.Scan n number count) = flat_map reads (range_with_len number count)
+record_work s (command.Commit n) = commits
+record_work s (command.Abort n) = undoes s.table (writes_of (session_at s n))
+record_work s (command.Get number) = reads number
+record_work s (command.Set number value) =
+    begins ++ writes number (content_at s.table number) (Some value) ++ commits
+record_work s _ = []
+
+-- what it asks with its checkpoint, where it makes one
+abbrev pub command_work : Bool → State → Command → List Work
+command_work checkpoints s command =
+    (if makes_checkpoint checkpoints s command then saves else [])
+    ++ (if is_accepted checkpoints s command then record_work s command else [])
+
+abbrev pub line_work : Bool → State → Line → List Work
+line_work checkpoints s None = []
+line_work checkpoints s (Some command) = command_work checkpoints s command
+
+-- what a run asks of log and cache
+abbrev pub run_work : Bool → List Turn → List Work
+run_work checkpoints run = flat_map (λ t. line_work checkpoints t.before t.line) run

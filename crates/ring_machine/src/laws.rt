@@ -1,0 +1,19 @@
+// What follows from the machine. The functions do nothing: each states its laws as clauses.
+ghost use Rattle.ring_machine.specs.Laws.{WorkAddsUp, FirstIsFirst, OctetsAreSpelled, CommandsAgree, RestartsAgree};
+
+/// Law: work adds up, and the first ring that is worn by some work is worn by its beginning, or by what follows.
+pub fn work_adds_up()
+    ensures works { WorkAddsUp }
+    ensures first { FirstIsFirst }
+{}
+
+/// Law: the machine counts the octets of the records' spelling.
+pub fn octets_are_spelled()
+    ensures { OctetsAreSpelled }
+{}
+
+/// Law: its cache steps as the cache machine, by the touches and flushes of commands and of a restart.
+pub fn machines_agree()
+    ensures commands { CommandsAgree }
+    ensures restart { RestartsAgree }
+{}

@@ -1,0 +1,9 @@
+//! The rings of the three devices as a machine: which unit each command and a restart append, and which
+//! ring they find at its end first. The functions do nothing: each states its laws as clauses.
+#![tactic(auto)]
+
+mod laws;
+mod rows;
+
+pub use laws::{machines_agree, octets_are_spelled, work_adds_up};
+pub use rows::rows_of_blocks;
