@@ -7,6 +7,7 @@ pub mod LogReads
 pub mod Numbers
 pub mod OneWrite
 pub mod Paging
+pub mod RingWork
 pub mod Permits
 pub mod Representation
 pub mod Restarting

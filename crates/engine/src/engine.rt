@@ -20,6 +20,8 @@ ghost use Rattle.engine.specs.Representation.{Matches, run, IsFull};
 ghost use Rattle.engine.specs.Leaves.{LeavesTable, HasNoSizes, IsRefused};
 ghost use Rattle.flash_cache.specs.Representation.{start_reads};
 ghost use Rattle.engine.specs.Paging.{AsksFrom, cache_on, restart_works};
+ghost use Rattle.ring_machine.specs.Restart.{restart_work};
+ghost use Rattle.engine.specs.RingWork.{PerformsFrom, machine_on};
 ghost use Rattle.second_chance.specs.Machine.{rules_of};
 ghost use Rattle.checkpoint.specs.declared.master.Master.{Master};
 ghost use Rattle.image_meaning.specs.Meaning.{picture_under};
@@ -99,6 +101,12 @@ impl Engine {
             → OnOk result (HasLastFrom g (rules_of pool g.groups)
             (restart_works (picture_under newest g (S.state site.old).image blocks))
             (cache_on g (S.state site.old).image) (S.state site.old) (S.state site.new)) }
+        ensures performs { IsTrue (S.state site.old).honest → IsQuiet (S.state site.old)
+            → (g : Geometry) (newest : Option Master) (blocks : List (List LogRecord))
+            → IsSound newest g (S.state site.old).image blocks
+            → PerformsFrom result (λ engine. engine.store) (rules_of pool g.groups)
+            (restart_work (picture_under newest g (S.state site.old).image blocks))
+            (machine_on g (S.state site.old).image) (S.state site.new) }
 
         // Of every honest site of these sizes.
         ensures next { IsTrue (S.state site.old).honest

@@ -28,7 +28,9 @@ ghost use Rattle.flash_cache.specs.Representation.{start_reads};
 ghost use Rattle.engine.specs.Paging.{AsksFrom, cache_on, restart_works};
 ghost use Rattle.engine.specs.Numbers.{RestartsWithin};
 ghost use Rattle.engine.specs.LogReads.{restart_log_reads};
-ghost use Rattle.page_store.specs.Caching.{cache_of};
+ghost use Rattle.page_store.specs.Caching.{cache_of, rules};
+ghost use Rattle.ring_machine.specs.Restart.{restart_work};
+ghost use Rattle.engine.specs.RingWork.{PerformsFrom, found_machine, machine_on};
 ghost use Rattle.second_chance.specs.Machine.{rules_of};
 ghost use Rattle.engine.specs.Paging.{HasLastFrom, WritesFrom};
 
@@ -195,6 +197,12 @@ fn recover<S: Site>(alloc: Global, site: &mut S, opened: Opened) -> Result<Resta
     ensures recovers { (newest : Option Master) (blocks : List (List LogRecord)) (table : List Content) (commits : ℕ)
         → IsReady opened (S.state site.old) newest blocks table commits
         → Recovers result opened (S.state site.old) (S.state site.new) newest blocks table commits }
+    ensures performs { IsQuiet (S.state site.old)
+        → (newest : Option Master) (blocks : List (List LogRecord)) (table : List Content) (commits : ℕ)
+        → IsReady opened (S.state site.old) newest blocks table commits
+        → PerformsFrom result (λ restarted. restarted.store) (rules opened.pages)
+        (restart_work (picture_under newest opened.pages.flash.geometry (S.state site.old).image blocks))
+        (found_machine opened) (S.state site.new) }
 
     // Of every honest site on which the next units are those that were found.
     ensures next { IsTrue (S.state site.old).honest → AreNext (found_store opened) (S.state site.old)
@@ -288,6 +296,13 @@ pub fn restart<S: Site>(alloc: Global, site: &mut S, pool: u32) -> Result<Restar
         → OnOk result (HasLastFrom g (rules_of pool g.groups)
         (restart_works (picture_under newest g (S.state site.old).image blocks))
         (cache_on g (S.state site.old).image) (S.state site.old) (S.state site.new)) }
+
+    ensures performs { IsTrue (S.state site.old).honest → IsQuiet (S.state site.old)
+        → (g : Geometry) (newest : Option Master) (blocks : List (List LogRecord))
+        → IsSound newest g (S.state site.old).image blocks
+        → PerformsFrom result (λ restarted. restarted.store) (rules_of pool g.groups)
+        (restart_work (picture_under newest g (S.state site.old).image blocks))
+        (machine_on g (S.state site.old).image) (S.state site.new) }
 
     // Of every honest site of these sizes.
     ensures next { IsTrue (S.state site.old).honest

@@ -46,8 +46,16 @@ use Rattle.analysis.specs.Open.{owed_for}
 use Rattle.analysis.specs.Table.{listed}
 use Rattle.site.proofs.Working.{calls_then, calls_failed, calls_answered, calls_refused}
 use Rattle.redo_undo.proofs.Asking.{asks_then, asks_stopped}
+use Rattle.log_records.specs.Log.{Entry}
+use Rattle.ring_machine.specs.Commands.{saves}
+use Rattle.ring_machine.specs.Restart.{redo_work, undo_work}
+use Rattle.ring_machine.specs.Performing.{Performs}
+use Rattle.ring_machine.proofs.Performing.{performs_answered, performs_by, performs_failed, performs_refused, performs_stopped, performs_then}
+use Rattle.redo_undo.specs.Mirroring.{Mirrors}
+use Rattle.engine.specs.RingWork.{found_machine}
+use Rattle.engine.proofs.RestartedRings.{masters_on, performs_of, redo_performs, restart_saves_none, store_from}
 use Rattle.engine.proofs.restart.recover.Given.{Over}
-use Rattle.engine.proofs.restart.recover.Goals.{After-checkpoint}
+use Rattle.engine.proofs.restart.recover.Goals.{After-checkpoint, After-undo_all}
 use Rattle.engine.proofs.restart.recover.Goals as goal
 
 pub returns-in-Err-clause-recovers : goal.returns-in-Err-clause-recovers
@@ -337,3 +345,84 @@ pub returns-clause-next : goal.returns-clause-next
 returns-clause-next g c honest is =
     let s = (goal.at.returns-clause-next g c).After-checkpoint in
     next_at_error refl is (next_then (c.undo_all.ensures.works.geometry ∙ c.redo.ensures.works.geometry) (next_undone g s honest _) (c.in-Err-checkpoint.ensures.next (honest_then g s honest)))
+
+-- What it makes of the machine.
+
+pub returns-in-Err-clause-performs : goal.returns-in-Err-clause-performs
+returns-in-Err-clause-performs g c quiet newest blocks table commits h =
+    let old = g.S.Site.state c.args.site.now in
+    performs_stopped {A = Redone} {Q = Mirrors c.redo.new.log c.redo.new.pages (g.S.Site.state c.redo.new.site).image} saves (performs_stopped (undo_work (log_under newest blocks))
+    (redo_performs (Err c.in-Err.stop) c.args.opened c.redo.new.log c.redo.new.pages old (g.S.Site.state c.redo.new.site) newest (log_under newest blocks) table commits (redo_works (picture_under newest c.args.opened.pages.flash.geometry old.image blocks))
+    c.requires.may.going c.requires.empty c.requires.may.masters.bounded (masters_on c.args.opened old c.requires.may.shape h.masters) (c.in-Err.ensures.asks newest blocks table commits h.master h.opened_is) ((c.in-Err.ensures.keeps newest blocks table commits h.master h.opened_is).numbers quiet)
+    c.in-Err.ensures.works.stops tt tt tt tt))
+
+pub returns-then-sealed_end-owed-clause-performs : goal.returns-then-sealed_end-owed-clause-performs
+returns-then-sealed_end-owed-clause-performs g c quiet newest blocks table commits h = performs_refused (λ dev same. cc)
+
+pub returns-then-commits-sealed_end-clause-performs : goal.returns-then-commits-sealed_end-clause-performs
+returns-then-commits-sealed_end-clause-performs g c quiet newest blocks table commits h = performs_refused (λ dev same. cc)
+
+module _ (g : Over) (c : After-undo_all g) (quiet : IsQuiet (g.S.Site.state c.args.site.now)) (newest : Option Master) (blocks : List (List LogRecord)) (table : List Content) (commits : ℕ)
+    (h : IsReady c.args.opened (g.S.Site.state c.args.site.now) newest blocks table commits) where
+  abbrev start : State
+  start = g.S.Site.state c.args.site.now
+
+  abbrev middle : State
+  middle = g.S.Site.state c.redo.new.site
+
+  abbrev records : List Entry
+  records = log_under newest blocks
+
+  redone : Performs {T = Redone} (Ok c.in-Ok.redone) (rules c.args.opened.pages) (redo_work (picture_under newest c.args.opened.pages.flash.geometry start.image blocks)) (λ m. m ≡ found_machine c.args.opened) (Mirrors c.redo.new.log c.redo.new.pages middle.image)
+  redone =
+      redo_performs (Ok c.in-Ok.redone) c.args.opened c.redo.new.log c.redo.new.pages start middle newest records table commits (redo_works (picture_under newest c.args.opened.pages.flash.geometry start.image blocks))
+      c.requires.may.going c.requires.empty c.requires.may.masters.bounded (masters_on c.args.opened start c.requires.may.shape h.masters) (c.in-Ok.ensures.asks newest blocks table commits h.master h.opened_is) ((c.in-Ok.ensures.keeps newest blocks table commits h.master h.opened_is).numbers quiet)
+      tt (c.in-Ok.ensures.holds newest blocks table commits h.master h.opened_is) c.in-Ok.ensures.blocks c.in-Ok.ensures.rises c.in-Ok.ensures.works.going
+
+  -- the rules stay
+  pub rules_after : rules c.undo_all.new.pages ≡ rules c.redo.new.pages
+  rules_after =
+      let none : has_tail c.redo.new.log ≡ false = no_tail_still c.args.opened.log c.redo.new.log c.requires.empty c.in-Ok.ensures.blocks c.in-Ok.ensures.rises in
+      (c.undo_all.ensures.asks newest records table commits none (c.in-Ok.ensures.holds newest blocks table commits h.master h.opened_is) (c.in-Ok.ensures.unfinished newest blocks table commits h.master h.opened_is)).rules_are
+
+  pub both_done : Performs c.undo_all.result (rules c.args.opened.pages) (redo_work (picture_under newest c.args.opened.pages.flash.geometry start.image blocks) ++ undo_work records) (λ m. m ≡ found_machine c.args.opened)
+      (Mirrors c.undo_all.new.log c.undo_all.new.pages (g.S.Site.state c.undo_all.new.site).image)
+  both_done =
+      let none : has_tail c.redo.new.log ≡ false = no_tail_still c.args.opened.log c.redo.new.log c.requires.empty c.in-Ok.ensures.blocks c.in-Ok.ensures.rises in
+      performs_then redone (performs_by (sym (c.in-Ok.ensures.asks newest blocks table commits h.master h.opened_is).rules_are)
+      (c.undo_all.ensures.performs newest records table commits none (c.in-Ok.ensures.holds newest blocks table commits h.master h.opened_is) (c.in-Ok.ensures.unfinished newest blocks table commits h.master h.opened_is)))
+
+pub returns-in-Err-undo_all-clause-performs : goal.returns-in-Err-undo_all-clause-performs
+returns-in-Err-undo_all-clause-performs g c quiet newest blocks table commits h =
+    let s = (goal.at.returns-in-Err-undo_all-clause-performs g c).After-undo_all in
+    performs_stopped saves (performs_of c.in-Err-undo_all.is (both_done g s quiet newest blocks table commits h))
+
+-- behind undo the store is as it mirrors it, and stands for the table
+module _ (g : Over) (c : After-checkpoint g) (newest : Option Master) (blocks : List (List LogRecord)) (table : List Content) (commits : ℕ)
+    (h : IsReady c.args.opened (g.S.Site.state c.args.site.now) newest blocks table commits) where
+  abbrev after_undo : Store
+  after_undo = record { log = c.undo_all.new.log; pages = c.undo_all.new.pages; masters = c.args.opened.masters; made = c.in-Ok.redone.records + c.owed-owed.result }
+
+  pub at_checkpoint : (more : List Entry) × (both.Represents c.undo_all.new.log c.undo_all.new.pages (g.S.Site.state c.undo_all.new.site) newest (log_under newest blocks ++ more) table c.commits-commits.result)
+  at_checkpoint =
+      let none : has_tail c.redo.new.log ≡ false = no_tail_still c.args.opened.log c.redo.new.log c.requires.empty c.in-Ok.ensures.blocks c.in-Ok.ensures.rises in
+      let undone = c.in-Ok-undo_all.ensures.undone newest (log_under newest blocks) table commits none (c.in-Ok.ensures.holds newest blocks table commits h.master h.opened_is) (c.in-Ok.ensures.unfinished newest blocks table commits h.master h.opened_is) in
+      let found = commits_found c.recovery_laws.ensures.commits c.args.opened (g.S.Site.state c.args.site.now) newest blocks table commits c.in-Ok.redone.found h (c.in-Ok.ensures.read newest blocks table commits h.master h.opened_is) c.requires.may.going.log_going.usable.bounded in
+      let counted : c.commits-commits.result ≡ commits = c.commits-commits.ensures.commits ∙ c.undo_all.ensures.commits ∙ found in
+      (undone.more, subst (both.Represents c.undo_all.new.log c.undo_all.new.pages (g.S.Site.state c.undo_all.new.site) newest (log_under newest blocks ++ undone.more) table) (sym counted) undone.holds)
+
+pub returns-in-Ok-checkpoint-clause-performs : goal.returns-in-Ok-checkpoint-clause-performs
+returns-in-Ok-checkpoint-clause-performs g c quiet newest blocks table commits h =
+    let at = goal.at.returns-in-Ok-checkpoint-clause-performs g c in
+    let held = at_checkpoint g at.After-checkpoint newest blocks table commits h in
+    let p = picture_under newest c.args.opened.pages.flash.geometry (g.S.Site.state c.args.site.now).image blocks in
+    let first = store_from (after_undo g at.After-checkpoint newest blocks table commits h) refl refl (restart_saves_none (redo_works p) (log_under newest blocks)) refl (performs_of c.in-Ok-undo_all.is (both_done g at.After-undo_all quiet newest blocks table commits h)) in
+    performs_then first (performs_by (sym (rules_after g at.After-undo_all quiet newest blocks table commits h ∙ (c.in-Ok.ensures.asks newest blocks table commits h.master h.opened_is).rules_are)) (performs_answered (c.in-Ok-checkpoint.ensures.performs newest (log_under newest blocks ++ held.0) table held.1)))
+
+pub returns-clause-performs : goal.returns-clause-performs
+returns-clause-performs g c quiet newest blocks table commits h =
+    let at = goal.at.returns-clause-performs g c in
+    let held = at_checkpoint g at.After-checkpoint newest blocks table commits h in
+    let p = picture_under newest c.args.opened.pages.flash.geometry (g.S.Site.state c.args.site.now).image blocks in
+    let first = store_from (after_undo g at.After-checkpoint newest blocks table commits h) refl refl (restart_saves_none (redo_works p) (log_under newest blocks)) refl (performs_of c.in-Ok-undo_all.is (both_done g at.After-undo_all quiet newest blocks table commits h)) in
+    performs_then first (performs_by (sym (rules_after g at.After-undo_all quiet newest blocks table commits h ∙ (c.in-Ok.ensures.asks newest blocks table commits h.master h.opened_is).rules_are)) (performs_failed (c.in-Err-checkpoint.ensures.performs newest (log_under newest blocks ++ held.0) table held.1)))

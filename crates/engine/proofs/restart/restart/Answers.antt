@@ -27,6 +27,11 @@ use Rattle.engine.proofs.Openings.{stands_still}
 use Rattle.engine.proofs.RestartedUnits.{next_not_worn}
 use Rattle.engine.proofs.RingCounts.{restart_unmoved, restart_behind}
 use Rattle.redo_undo.proofs.Appended.{if_ok_two}
+use Rattle.image_changes.specs.Rings.{log_shape, master_shape}
+use Rattle.sealed_ring.specs.Ring.{hi_of}
+use Rattle.ring_machine.specs.Restart.{restart_work}
+use Rattle.ring_machine.proofs.Performing.{performs_refused}
+use Rattle.engine.proofs.RestartedRings.{found_on, performs_found}
 use Rattle.engine.proofs.restart.restart.Goals as goal
 
 pub returns : goal.returns
@@ -100,6 +105,19 @@ returns g c =
           ok_as c.recover.result _ _ (last_found k (rules_of c.args.pool k.groups) (restart_works p) c.in-Ok-open.opened.pages.flash.geometry (rules c.in-Ok-open.opened.pages) (restart_works (picture_under newest c.in-Ok-open.opened.pages.flash.geometry mid.image blocks)) (cache_of c.in-Ok-open.opened.pages) old mid _ unchanged sizes
           (λ i. rules_of (c.in-Ok-open.ensures.pool i) (sizes i).groups) (λ i. restart_works (picture_under newest (sizes i) (unchanged.image i) blocks)) (c.in-Ok-open.ensures.cache honest newest blocks there ∙ ap (λ (x : Geometry). cache_on x old.image) same))
           ((c.recover.ensures.recovers newest blocks (table_of p.log p.pages) (commit_count p) ready).last (unchanged.loose ∙ quiet));
+      performs = λ honest quiet k newest blocks sound.
+          let same : c.in-Ok.geometry ≡ k = (c.in-Ok.ensures.found k sound.octets.limits sound.octets.lengths).1 in
+          let there = subst (λ (x : Geometry). IsSound newest x old.image blocks) (sym same) sound in
+          let p = picture_under newest k old.image blocks in
+          let means : Means (picture_under newest k old.image blocks) (table_of p.log p.pages) (commit_count p) = record { table_is = refl; count_is = refl } in
+          let ready : IsReady c.in-Ok-open.opened mid newest blocks (table_of p.log p.pages) (commit_count p) = c.in-Ok-open.ensures.ready honest newest blocks (table_of p.log p.pages) (commit_count p) there (subst (λ (x : Geometry). Means (picture_under newest x old.image blocks) (table_of p.log p.pages) (commit_count p)) (sym same) means) in
+          let sizes = c.in-Ok-open.ensures.sizes ∙ same in
+          let unchanged = c.open.ensures.same honest in
+          let next = c.in-Ok-open.ensures.next honest in
+          performs_found (λ i. rules_of (c.in-Ok-open.ensures.pool i) (sizes i).groups) (λ i. restart_work (picture_under newest (sizes i) (unchanged.image i) blocks))
+          (found_on c.in-Ok-open.opened k old.image (c.in-Ok-open.ensures.cache honest newest blocks there ∙ ap (λ (x : Geometry). cache_on x old.image) same)
+          (next.block ∙ (λ i. hi_of (log_shape ((c.in-Ok-open.ensures.going.going.sizes ∙ sizes) i)) (unchanged.image i).log)) (next.master ∙ (λ i. hi_of master_shape (unchanged.image i).log)))
+          (c.recover.ensures.performs (unchanged.loose ∙ quiet) newest blocks (table_of p.log p.pages) (commit_count p) ready);
       next = λ honest k limits lengths.
           let same : c.in-Ok.geometry ≡ k = (c.in-Ok.ensures.found k limits lengths).1 in
           subst (λ (x : Geometry). LeavesNext c.recover.result (λ restarted. restarted.store) x (g.S.Site.state c.recover.new.site)) (c.in-Ok-open.ensures.sizes ∙ same)
@@ -145,6 +163,7 @@ returns-in-Err-open g c =
       writes = λ honest quiet k newest blocks sound.
           still_writes c.works_add_up.ensures.rise k (rules_of c.args.pool k.groups) (restart_works (picture_under newest k (g.S.Site.state c.args.site.now).image blocks)) (g.S.Site.state c.args.site.now) (g.S.Site.state c.open.new.site) (omega (arith, sound.octets.limits.groups)) quiet (c.open.ensures.same honest);
       last = λ honest quiet k newest blocks sound. tt;
+      performs = λ honest quiet k newest blocks sound. performs_refused (λ d is. c.in-Err-open.ensures.unworn d (ap Err is));
       next = λ honest k limits lengths. next_not_worn (λ d is. c.in-Err-open.ensures.unworn d (ap Err is));
       restarts =
           record {

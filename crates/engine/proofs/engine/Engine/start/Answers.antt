@@ -6,6 +6,8 @@ use Rattle.redo_undo.proofs.Endings.{ends_failed, ends_answered, ends_no_memory}
 use Rattle.engine.proofs.Starts.{started}
 use Rattle.engine.proofs.RestartedUnits.{next_as, next_at_end, next_no_memory}
 use Rattle.engine.proofs.RingCounts.{restart_again, restart_stopped, restart_answered}
+use Rattle.ring_machine.proofs.Performing.{performs_answered, performs_failed, performs_refused}
+use Rattle.engine.proofs.Performing.{memory_refuses}
 use Rattle.engine.proofs.engine.Engine.start.Goals as goal
 
 pub returns-clause-opens : goal.returns-clause-opens
@@ -47,3 +49,12 @@ returns-in-Err-new-clause-next g c honest k limits lengths = next_no_memory c.in
 
 pub returns-clause-next : goal.returns-clause-next
 returns-clause-next g c honest k limits lengths = (let next = (c.in-Ok.ensures.next honest k limits lengths).next in next_at_end next.0 next.1)
+
+pub returns-in-Err-clause-performs : goal.returns-in-Err-clause-performs
+returns-in-Err-clause-performs g c honest quiet k newest blocks sound = performs_failed (c.in-Err.ensures.performs honest quiet k newest blocks sound)
+
+pub returns-in-Err-new-clause-performs : goal.returns-in-Err-new-clause-performs
+returns-in-Err-new-clause-performs g c honest quiet k newest blocks sound = performs_refused (memory_refuses c.in-Err-new.stop c.in-Err-new.ensures.memory)
+
+pub returns-clause-performs : goal.returns-clause-performs
+returns-clause-performs g c honest quiet k newest blocks sound = performs_answered (c.in-Ok.ensures.performs honest quiet k newest blocks sound)
