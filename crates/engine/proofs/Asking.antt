@@ -1,9 +1,8 @@
 -- Calls that ask the cache for work, one after the other.
 use Rattle.std.proofs.Common.{map, append_assoc, ◌-◌, ◌/◌, ◌≡◌, ◌+◌, ◌≤◌, ◌<◌, List, [], ◌∷◌, ◌++◌, arith, sym, ap, subst, ◌∙◌, ℕ}
-use Rattle.std.specs.Prelude.{Result, Ok, Err, IsErrOf}
-use Rattle.site.specs.declared.outside.Dev.TheVariants.{Flash, Disk, Log}
+use Rattle.std.specs.Prelude.{Result, Ok, Err}
+use Rattle.site.specs.declared.outside.Dev.TheVariants.{Flash, Disk}
 use Rattle.site.specs.declared.outside.Stop.{Stop}
-use Rattle.site.specs.declared.outside.Stop.TheVariants.{Worn, Memory}
 use Rattle.site.specs.State.{State as Site, Image, Snapshot, IsQuiet}
 use Rattle.site.specs.declared.geometry.Geometry.{Geometry}
 use Rattle.site.specs.Moments.{Leaves, LeavesOnly}
@@ -22,16 +21,14 @@ use Rattle.engine.proofs.Scans.{range_more, range_at}
 use Rattle.second_chance.specs.Machine.{Rules, Cache, after_works, staged_by_works}
 use Rattle.page_store.specs.declared.store.PageStore.{PageStore}
 use Rattle.page_store.specs.Caching.{cache_of, rules, with_change, next_group}
-use Rattle.redo_undo.specs.MachineSteps.{one_touch, StepsMachine, NumbersRise, PushesGroups, one_change}
-use Rattle.redo_undo.proofs.Costs.{numbers_rise, works_add_up}
+use Rattle.redo_undo.specs.MachineSteps.{one_touch, StepsMachine, NumbersRise, one_change}
 use Rattle.redo_undo.specs.declared.store.Store.{Store}
 use Rattle.engine.specs.declared.engine.Engine.{Engine}
 use Rattle.engine.specs.Invariant.{Invariant}
 use Rattle.engine.specs.Paging.{AsksFrom, HasLastFrom, WritesFrom, cache_on}
 use Rattle.page_store.specs.Staging.{HasQueueOn, Stages, WritesOnly}
-use Rattle.site.proofs.Working.{err_again, no_error}
 use Rattle.redo_undo.specs.Stores.{MayWork}
-use Rattle.redo_undo.proofs.Asking.{asks_then, asks_stopped, asks_same, stop_is}
+use Rattle.redo_undo.proofs.Asking.{asks_then, asks_stopped, asks_same}
 use Rattle.redo_undo.proofs.AskingUndo.{change_made}
 use Rattle.page_store.specs.Laws.{TouchThenChange}
 
@@ -39,16 +36,9 @@ use Rattle.page_store.specs.Laws.{TouchThenChange}
 pub change_ok : {A B : Type 0} (a : A) (b : B) (page : ℕ) (old mid new : PageStore) (before between now : Site) → 1 ≤ (rules old).groups → TouchThenChange → StepsMachine {T = A} (Ok a) (one_touch page) old mid before between →
     cache_of new ≡ with_change (cache_of mid) → rules new ≡ rules mid → SameReads between now → Stages {T = B} (Ok b) [] (next_group (cache_of mid)) mid new between now →
     StepsMachine {T = B} (Ok b) (one_change page) old new before now
-change_ok {A} {B} a b page old mid new before between now some law asks changed same read still = change_made a (Ok b) page old mid new before between now some law asks changed same read (no_error {T = B} {x = b} {e = Worn Flash}) still
+change_ok {A} {B} a b page old mid new before between now some law asks changed same read still = change_made a (Ok b) page old mid new before between now some law asks changed same read still
 
 -- What is asked of each call.
-
-pub memory_only : (stop : Stop) → stop ≡ Memory → stop ≡ Worn Flash → ⊥
-memory_only stop is worn = cc
-
--- nor is the log worn where memory was wanting
-pub never_log : {T : Type 0} {stop : Stop} → stop ≡ Memory → IsErrOf {T = T} (Err stop) (Worn Log) → ⊥
-never_log {stop = stop} memory is = cc
 
 -- a queue on flash has room for a group
 pub store_has_group : {store : Store} {site : Site} → MayWork store site → 1 ≤ (rules store.pages).groups
@@ -76,24 +66,6 @@ scan_stops {A} {B} stop number offset count old new before now some less asks =
     asks_same {T = B} (Err stop) _ _ old new before now (ap (map read_touch) all ∙ map-append read_touch (range_with_len number (offset + 1)) rest)
     (asks_stopped stop (map read_touch (range_with_len number (offset + 1))) (map read_touch rest) old new before now some asks)
 
--- and the log is worn only where one of them pushes a group
-pub scan_pushes : {A : Type 0} {a : A} (number offset count : ℕ) (old mid : PageStore) (before between : Site) → 1 ≤ (rules old).groups → offset < count → StepsMachine {T = A} (Ok a) (map read_touch (range_with_len number offset)) old mid before between →
-    PushesGroups (rules mid) (one_touch ((number + offset) / 32)) (cache_of mid) → PushesGroups (rules old) (map read_touch (range_with_len number count)) (cache_of old)
-scan_pushes number offset count old mid before between some less first pushes =
-    let front : List CacheWork = map read_touch (range_with_len number offset) in
-    let own : List CacheWork = one_touch ((number + offset) / 32) in
-    let rest : List CacheWork = map read_touch (range_with_len (number + offset + 1) (count - offset - 1)) in
-    let start : Cache = after_works (rules old) front (cache_of old) in
-    let all : map read_touch (range_with_len number count) ≡ front ++ (own ++ rest) =
-    ap (map read_touch) (range_at number offset count less) ∙ map-append read_touch (range_with_len number offset) ((number + offset) ∷ range_with_len (number + offset + 1) (count - offset - 1)) in
-    let end : after_works (rules old) (map read_touch (range_with_len number count)) (cache_of old) ≡ after_works (rules old) rest (after_works (rules old) own start) =
-    ap (λ (w : List CacheWork). after_works (rules old) w (cache_of old)) all ∙ works_add_up (rules old) front (own ++ rest) (cache_of old) ∙ works_add_up (rules old) own rest start in
-    let there : PushesGroups (rules old) own start = subst (λ (r : Rules). PushesGroups r own start) first.rules_are (subst (λ (k : Cache). PushesGroups (rules mid) own k) first.machine pushes) in
-    let early = numbers_rise (rules old) front (cache_of old) some in
-    let late = numbers_rise (rules old) rest (after_works (rules old) own start) some in
-    let same = ap next_group end in
-    omega (arith, early, late, there, same)
-
 -- A restart.
 
 -- a call that opens pages was Ok
@@ -101,7 +73,6 @@ pub from_ok : {A B : Type 0} (a : A) (x : B) (pages : B → PageStore) (works : 
     StepsMachine {T = A} (Ok a) works old new before between → AsksFrom {T = B} (Ok x) pages (rules old) works (cache_of old) 0 before now
 from_ok {A} {B} a x pages works old new before between now same still asks = record {
   machine = (ap cache_of same ∙ asks.machine, ap rules same ∙ asks.rules_are);
-  worn = λ is. absurd (no_error {T = B} {x = x} {e = Worn Flash} is);
   flash = (let reads = asks.reads.flash in let f = still Flash in omega (arith, reads, f));
   disk = (let reads = asks.reads.disk in let d = still Disk in omega (arith, reads, d));
 }
@@ -111,7 +82,6 @@ pub from_err : {A B : Type 0} (stop : Stop) (pages : B → PageStore) (works : L
     StepsMachine {T = A} (Err stop) works old new before now → AsksFrom {T = B} (Err stop) pages (rules old) works (cache_of old) 0 before now
 from_err stop pages works old new before now asks = record {
   machine = tt;
-  worn = λ is. asks.worn (err_again stop (Worn Flash) is);
   flash = (let reads = asks.reads.flash in omega (arith, reads));
   disk = asks.reads.disk;
 }
@@ -136,17 +106,15 @@ from_found result pages r r' works works' start start' scanned old mid new same_
     (subst (λ (x : List CacheWork). AsksFrom result pages r x start' scanned old new) same_works
     (subst (λ (x : Cache). AsksFrom result pages r works x scanned old new) same_start (record {
       machine = asks.machine;
-      worn = asks.worn;
       flash = (let reads = asks.flash in omega (arith, reads, flash));
       disk = (let reads = asks.disk in omega (arith, reads, disk));
     })))
 
 -- the queue wasn't found
-pub not_found : NumbersRise → {T : Type 0} (stop : Stop) (pages : T → PageStore) (r : Rules) (works : List CacheWork) (start : Cache) (scanned : ℕ) (old new : Site) → 1 ≤ r.groups → (IsErrOf {T = T} (Err stop) (Worn Flash) → ⊥) →
+pub not_found : NumbersRise → {T : Type 0} (stop : Stop) (pages : T → PageStore) (r : Rules) (works : List CacheWork) (start : Cache) (scanned : ℕ) (old new : Site) → 1 ≤ r.groups →
     new.flash_reads ≤ old.flash_reads + scanned → new.disk_reads ≡ old.disk_reads → AsksFrom {T = T} (Err stop) pages r works start scanned old new
-not_found rise stop pages r works start scanned old new some never flash disk = record {
+not_found rise stop pages r works start scanned old new some flash disk = record {
   machine = tt;
-  worn = λ is. absurd (never is);
   flash = (let up = rise r works start some in omega (arith, flash, up));
   disk = omega (arith, disk);
 }
@@ -156,14 +124,13 @@ pub from_other : {A B : Type 0} (a : A) (b : B) (pages : A → PageStore) (other
     AsksFrom {T = A} (Ok a) pages r works start scanned old new → AsksFrom {T = B} (Ok b) others r works start scanned old new
 from_other {A} {B} a b pages others r works start scanned old new same asks = record {
   machine = (ap cache_of same ∙ asks.machine.0, ap rules same ∙ asks.machine.1);
-  worn = λ is. absurd (no_error {T = B} {x = b} {e = Worn Flash} is);
   flash = asks.flash;
   disk = asks.disk;
 }
 
-pub from_other_fails : {A B : Type 0} (a : A) (stop : Stop) (pages : A → PageStore) (others : B → PageStore) (r : Rules) (works : List CacheWork) (start : Cache) (scanned : ℕ) (old new : Site) → (stop ≡ Worn Flash → ⊥) →
+pub from_other_fails : {A B : Type 0} (a : A) (stop : Stop) (pages : A → PageStore) (others : B → PageStore) (r : Rules) (works : List CacheWork) (start : Cache) (scanned : ℕ) (old new : Site) →
     AsksFrom {T = A} (Ok a) pages r works start scanned old new → AsksFrom {T = B} (Err stop) others r works start scanned old new
-from_other_fails {A} {B} a stop pages others r works start scanned old new never asks = record { machine = tt; worn = λ is. absurd (never (stop_is {U = B} stop (Worn Flash) is)); flash = asks.flash; disk = asks.disk }
+from_other_fails a stop pages others r works start scanned old new asks = record { machine = tt; flash = asks.flash; disk = asks.disk }
 
 -- What a restart writes.
 

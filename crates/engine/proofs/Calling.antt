@@ -1,8 +1,7 @@
 -- Calls one after the other, each known by its record.
-use Rattle.std.proofs.Common.{◌≡◌, inl, inr, ◌+◌, ◌≤◌, List, [], ◌∷◌, ◌++◌, Bool, true, false, true≢false, refl, sym, subst, ap, ◌∙◌, arith, ⊎_elim, ℕ}
+use Rattle.std.proofs.Common.{◌≡◌, inl, inr, ◌+◌, ◌≤◌, List, [], ◌∷◌, Bool, true, false, refl, sym, subst, ap, ◌∙◌, arith, ⊎_elim, ℕ}
 use Rattle.std.specs.Prelude.{Result, Ok, Err, OnOk, IfOk, IsErrOf, IsTrue, if◌then◌else◌}
 use Rattle.site.specs.declared.outside.Dev.{Dev}
-use Rattle.site.specs.declared.outside.Dev.TheVariants.{Log, Flash}
 use Rattle.site.specs.declared.outside.Stop.{Stop}
 use Rattle.site.specs.declared.outside.Stop.TheVariants.{Device, Worn, Memory}
 use Rattle.site.specs.declared.geometry.Geometry.{Geometry}
@@ -21,9 +20,7 @@ use Rattle.page_store.specs.declared.store.PageStore.{PageStore}
 use Rattle.page_store.specs.Stopping.{MayStop}
 use Rattle.redo_undo.specs.HoldingLaws.{HoldsMoment}
 use Rattle.image_meaning.proofs.Leaving.{under_leaves_for}
-use Rattle.redo_undo.specs.MachineSteps.{PushesGroups, StepsMachine, checkpoint_works}
-use Rattle.second_chance.specs.Machine.{Rules, Cache}
-use Rattle.page_store.specs.Caching.{cache_of, rules}
+use Rattle.redo_undo.specs.MachineSteps.{StepsMachine, checkpoint_works}
 use Rattle.log_store.specs.Representation.{end_of}
 use Rattle.txn_table.specs.declared.active.Active.{Active}
 use Rattle.txn_table.specs.Entries.{IsTable, entry_of, owed}
@@ -33,13 +30,13 @@ use Rattle.engine.specs.Invariant.{Invariant, sizes_of}
 use Rattle.engine.specs.Representation.{Matches, run, run_now, checkpointed_if, with_write}
 use Rattle.engine.specs.Image.{Stands}
 use Rattle.engine.specs.Leaves.{LeavesTable, LeavesEither}
-use Rattle.engine.specs.Numbers.{AppendsToLog, checkpoints_by, CountsOn}
+use Rattle.engine.specs.Numbers.{checkpoints_by, CountsOn}
 use Rattle.engine.specs.Calls.{Ends, KeepsEngine, KeepsUnread, Does, Answers}
 use Rattle.engine.proofs.Moments.{and_then}
 use Rattle.engine.proofs.Asking.{has_group}
 use Rattle.engine.proofs.RingCounts.{counts, count_failed, count_answered, count_refused, count_then, run_makes, count_nothing}
 use Rattle.engine.proofs.Firsts.{step_where, touches_where}
-use Rattle.site.proofs.Working.{no_error, calls_nothing, calls_then, calls_failed, calls_answered, calls_refused}
+use Rattle.site.proofs.Working.{calls_nothing, calls_then, calls_failed, calls_answered, calls_refused}
 use Rattle.site.specs.Work.{Calls}
 use Rattle.redo_undo.specs.StoreCalls.{KeepsInvariant, Keeps}
 use Rattle.redo_undo.proofs.Endings.{ends_behind, ends_failed, ends_leaving, ends_no_memory, ends_ok, leaves_late}
@@ -142,7 +139,7 @@ does_of {r = r} {old = old} {new = new} {before = before} {now = now} {s = s} {a
 }
 
 pub does_ok : {T : Type 0} {x : T} {old new : Engine} {before now : Site} {s after : State} {P : Snapshot → Type 0} {m : ℕ} → Matches new now after → (IsQuiet before → LeavesOnly before now P) →
-    (IsQuiet before → CountsOn {T = T} {E = Stop} (Ok x) (Worn Log) old new before now s after m) → Does {T = T} (Ok x) old new before now s after P m
+    (IsQuiet before → CountsOn {T = T} {E = Stop} (Ok x) old new before now s after m) → Does {T = T} (Ok x) old new before now s after P m
 does_ok fits moments numbers = record { after_fits = fits; ends = ends_ok moments; numbers = numbers }
 
 pub does_weaker : {T : Type 0} {r : Result T Stop} {old new : Engine} {before now : Site} {s after : State} {P R : Snapshot → Type 0} {m : ℕ} → ((x : Snapshot) → P x → R x) → Does r old new before now s after P m → Does r old new before now s after R m
@@ -175,38 +172,21 @@ does_then {a = a} {r = r} {old = old} {mid = mid} {new = new} {before = before} 
 
 -- what is carried out is what the model says
 pub answered_as : (P : Outcome → Snapshot → Type 0) → {r : Result Reply Stop} {old new : Engine} {before now : Site} {s : State} {o known : Outcome} {works other : List CacheWork} {m : ℕ} {More : Type 0} → (o ≡ known) × ((works ≡ other) × More) →
-    Does r old new before now s known.after (P known) m → IfOk r (λ reply. reply ≡ known.reply) → StepsMachine r other old.store.pages new.store.pages before now → (IsErrOf r (Worn Log) → AppendsToLog s known.after m other old.store.pages) → Answers r old new before now s o works (P o) m
-answered_as P {r = r} {old = old} {new = new} {before = before} {now = now} {s = s} {o = o} {known = known} {works = works} {other = other} {m = m} is does reply asks appends = record {
+    Does r old new before now s known.after (P known) m → IfOk r (λ reply. reply ≡ known.reply) → StepsMachine r other old.store.pages new.store.pages before now → Answers r old new before now s o works (P o) m
+answered_as P {r = r} {old = old} {new = new} {before = before} {now = now} {s = s} {o = o} {known = known} {works = works} {other = other} {m = m} is does reply asks = record {
   reply = subst (λ (x : Outcome). IfOk r (λ (y : Reply). y ≡ x.reply)) (sym is.0) reply;
   asks = asks_same r works other old.store.pages new.store.pages before now is.1.0 asks;
   does = subst (λ (x : Outcome). Does r old new before now s x.after (P x) m) (sym is.0) does;
-  appends = λ e. subst (λ (x : Outcome). AppendsToLog s x.after m works old.store.pages) (sym is.0) (subst (λ (w : List CacheWork). AppendsToLog s known.after m w old.store.pages) (sym is.1.0) (appends e));
 }
 
 -- that leaves the table
 pub answered : {r : Result Reply Stop} {old new : Engine} {before now : Site} {s : State} {o known : Outcome} {works other : List CacheWork} {P : Snapshot → Type 0} {m : ℕ} {More : Type 0} → (o ≡ known) × ((works ≡ other) × More) →
-    Does r old new before now s known.after P m → IfOk r (λ reply. reply ≡ known.reply) → StepsMachine r other old.store.pages new.store.pages before now → (IsErrOf r (Worn Log) → AppendsToLog s known.after m other old.store.pages) → Answers r old new before now s o works P m
-answered {P = P} is does reply asks appends = answered_as (λ o. P) is does reply asks appends
-
--- what was Ok, and what makes records
-pub no_stop : {T A : Type 0} {x : T} → IsErrOf {T = T} {E = Stop} (Ok x) (Worn Log) → A
-no_stop {T} {x = x} is = absurd (no_error {T = T} {x = x} {e = Worn Log} is)
-
--- where a checkpoint comes first, if it is wanted
-pub appends_first : {A : Type 0} {a : A} (wanted : Bool) (s after : State) (later : List CacheWork) {old mid : PageStore} {before between : Site} → StepsMachine {T = A} (Ok a) (if wanted then checkpoint_works else []) old mid before between → AppendsToLog (checkpointed_if wanted s) after 0 later mid →
-    AppendsToLog s after (if wanted then 1 else 0) ((if wanted then checkpoint_works else []) ++ later) old
-appends_first true s after later asks appends = inr (inl (omega arith))
-appends_first false s after later {old = old} {mid = mid} asks appends = ⊎_elim (λ made. inl made)
-    (⊎_elim (λ one. absurd (omega (arith, one))) (λ pushes. inr (inr (subst (λ (r : Rules). PushesGroups r later (cache_of old)) asks.rules_are (subst (λ (c : Cache). PushesGroups (rules mid) later c) asks.machine pushes))))) appends
-
--- a checkpoint that fails was wanted
-pub wanted_to_fail : (wanted : Bool) {old mid : Engine} → (wanted ≡ false → mid ≡ old) → mid.ended ≡ true → old.ended ≡ false → wanted ≡ true
-wanted_to_fail true rest ended going = refl
-wanted_to_fail false rest ended going = absurd (true≢false (sym ended ∙ ap (λ (e : Engine). e.ended) (rest refl) ∙ going))
+    Does r old new before now s known.after P m → IfOk r (λ reply. reply ≡ known.reply) → StepsMachine r other old.store.pages new.store.pages before now → Answers r old new before now s o works P m
+answered {P = P} is does reply asks = answered_as (λ o. P) is does reply asks
 
 -- nothing is asked
 pub asks_rest : {T : Type 0} {x : T} {pages : PageStore} {site : Site} → StepsMachine {T = T} (Ok x) [] pages pages site site
-asks_rest {T = T} {x = x} {pages = pages} {site = site} = asks_nothing {T = T} (Ok x) pages site site (λ dev. refl) (no_error {T = T} {x = x} {e = Worn Flash}) (stages_none refl (omega arith) refl)
+asks_rest {T = T} {x = x} {pages = pages} {site = site} = asks_nothing {T = T} (Ok x) pages site site (λ dev. refl) (stages_none refl (omega arith) refl)
 
 -- a command that is refused, or only answers: nothing is called
 pub does_nothing : {T : Type 0} {x : T} {engine : Engine} {site : Site} {s : State} {P : Snapshot → Type 0} → Matches engine site s → Invariant engine site → (IsQuiet site → LeavesOnly site site P) → Does {T = T} (Ok x) engine engine site site s s P 0
@@ -228,16 +208,16 @@ module _ {s : State} (command : Command) {wanted : Bool} (known : wanted ≡ mak
   first_then {a = a} {r = r} {old = old} {mid = mid} {new = new} {before = before} {between = between} {now = now} honest early late serves does asks second =
       subst (λ (b : Bool). Answers r old new before now s (run s command) (command_touches true s command) (R (run s command)) (if b then 1 else 0)) known
       (answered_as R (step_where s command wanted known, (touches_where s command wanted known, tt {0})) (does_then honest (omega arith) early late serves does second.does) second.reply
-      (asks_then a r (if wanted then checkpoint_works else []) (command_touches false (checkpointed_if wanted s) command) old.store.pages mid.store.pages new.store.pages before between now asks second.asks) (λ is. appends_first wanted s (run_now (checkpointed_if wanted s) command).after (command_touches false (checkpointed_if wanted s) command) asks (second.appends is)))
+      (asks_then a r (if wanted then checkpoint_works else []) (command_touches false (checkpointed_if wanted s) command) old.store.pages mid.store.pages new.store.pages before between now asks second.asks))
 
   -- it fails
-  pub first_failed : {A : Type 0} {stop : Stop} {old mid : Engine} {before now : Site} {P : Snapshot → Type 0} → wanted ≡ true → Invariant old before → ((x : Snapshot) → P x → R (run_now (checkpointed_if wanted s) command) x) →
+  pub first_failed : {A : Type 0} {stop : Stop} {old mid : Engine} {before now : Site} {P : Snapshot → Type 0} → Invariant old before → ((x : Snapshot) → P x → R (run_now (checkpointed_if wanted s) command) x) →
       Does {T = A} (Err stop) old mid before now s (checkpointed_if wanted s) P (if wanted then 1 else 0) → StepsMachine {T = A} (Err stop) (if wanted then checkpoint_works else []) old.store.pages mid.store.pages before now →
       Answers (Err stop) old mid before now s (run s command) (command_touches true s command) (R (run s command)) (checkpoints_by s command)
-  first_failed {A = A} {stop = stop} {old = old} {mid = mid} {before = before} {now = now} is going early does asks =
+  first_failed {A = A} {stop = stop} {old = old} {mid = mid} {before = before} {now = now} going early does asks =
       subst (λ (b : Bool). Answers (Err stop) old mid before now s (run s command) (command_touches true s command) (R (run s command)) (if b then 1 else 0)) known
       (answered_as R (step_where s command wanted known, (touches_where s command wanted known, tt {0})) (does_failed (run_makes (checkpointed_if wanted s) command) (does_weaker early does)) tt
-      (asks_stopped {A = A} {B = Reply} stop (if wanted then checkpoint_works else []) (command_touches false (checkpointed_if wanted s) command) old.store.pages mid.store.pages before now (has_group going) asks) (λ e. inr (inl (subst (λ (b : Bool). 1 ≤ (if b then 1 else 0)) (sym is) (omega arith)))))
+      (asks_stopped {A = A} {B = Reply} stop (if wanted then checkpoint_works else []) (command_touches false (checkpointed_if wanted s) command) old.store.pages mid.store.pages before now (has_group going) asks))
 
 -- What a crash leaves of a call behind one that left the table.
 
@@ -289,11 +269,8 @@ pub does_no_memory : {A B : Type 0} {a : A} {stop : Stop} {old new : Engine} {be
 does_no_memory {A = A} {B = B} {a = a} {stop = stop} {old = old} {new = new} {before = before} {now = now} {s = s} {after = after} {after' = after'} {m = m} memory honest few serves first = record {
   after_fits = tt;
   ends = ends_no_memory memory (serves.calls.stays_quiet honest) first.ends;
-  numbers = λ quiet. count_failed {T = B} {A = B} stop old new new before now s after after' m few (count_refused {T = B} {A = A} a stop old new new before now s after m (λ is. never (sym memory ∙ is)) (first.numbers quiet));
+  numbers = λ quiet. count_failed {T = B} {A = B} stop old new new before now s after after' m few (count_refused {T = B} {A = A} a stop old new new before now s after m (first.numbers quiet));
 }
-  where
-    never : Memory ≡ Worn Log → ⊥
-    never is = cc
 
 -- Leaves of the tower.
 

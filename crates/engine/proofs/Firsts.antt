@@ -1,5 +1,5 @@
 -- A command before which a checkpoint is made.
-use Rattle.std.proofs.Common.{◌≤◌, ◌≡◌, ◌/◌, ◌&&◌, not, Bool, true, false, List, [], ◌∷◌, ◌++◌, Option, None, Some, refl, sym, ap, ◌∙◌, arith, ℕ}
+use Rattle.std.proofs.Common.{◌≡◌, ◌/◌, ◌&&◌, not, Bool, true, false, List, [], ◌∷◌, ◌++◌, Option, None, Some, refl, sym, ap, ◌∙◌, arith, ℕ}
 use Rattle.std.proofs.Math.Bool.{and-true, and-false}
 use Rattle.std.specs.Prelude.{IsSome, is_none, nat_le, if◌then◌else◌}
 use Rattle.record_model.specs.declared.words.Command.{Command}
@@ -10,8 +10,7 @@ use Rattle.record_model.specs.declared.words.Reply.{Reply}
 use Rattle.record_model.specs.State.{State, used, kept_by_checkpoint, is_due}
 use Rattle.record_model.specs.Step.{refusal, outcome, step, carried_out, lacks_room, asks_for_checkpoint, makes_checkpoint, is_accepted}
 use Rattle.record_model.specs.Touches.{CacheWork, flush, command_touches, record_touches}
-use Rattle.second_chance.specs.Machine.{Rules, Cache}
-use Rattle.redo_undo.specs.MachineSteps.{checkpoint_works, Overflows, OverflowsWithMore}
+use Rattle.redo_undo.specs.MachineSteps.{checkpoint_works}
 use Rattle.site.specs.State.{State as Site}
 use Rattle.engine.specs.declared.engine.Engine.{Engine}
 use Rattle.engine.specs.Representation.{Matches, checkpointed_if}
@@ -111,8 +110,3 @@ step_where s command wanted is = step_is s command ∙ ap (λ (b : Bool). step f
 
 pub touches_where : (s : State) (command : Command) (wanted : Bool) → wanted ≡ makes_checkpoint true s command → command_touches true s command ≡ (if wanted then checkpoint_works else []) ++ command_touches false (checkpointed_if wanted s) command
 touches_where s command wanted is = touches_are s command ∙ ap (λ (b : Bool). (if b then checkpoint_works else []) ++ command_touches false (checkpointed_if b s) command) (sym is)
-
--- the cache overflows where the first part of some work makes it overflow
-pub overflows_before : OverflowsWithMore → (wanted : Bool) (r : Rules) (later : List CacheWork) (c : Cache) → 1 ≤ r.groups → Overflows r (if wanted then checkpoint_works else []) c → Overflows r (checkpoint_works ++ later) c
-overflows_before over true r later c some is = over r checkpoint_works later c some is
-overflows_before over false r later c some is = over r [] (checkpoint_works ++ later) c some is

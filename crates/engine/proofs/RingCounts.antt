@@ -2,11 +2,9 @@
 use Rattle.record_model.proofs.StepLaws.{effect_makes}
 use Rattle.engine.proofs.Replies.{way}
 use Rattle.redo_undo.proofs.Touched.{tail_blocks}
-use Rattle.std.proofs.Common.{◌≡◌, ◌∙◌, ◌+◌, ◌≤◌, Bool, true, false, List, [], Option, None, Some, sym, ap, subst, arith, ℕ}
-use Rattle.std.specs.Prelude.{Result, Ok, Err, IsErrOf}
-use Rattle.site.specs.declared.outside.Dev.TheVariants.{Log}
+use Rattle.std.proofs.Common.{◌≡◌, ◌+◌, ◌≤◌, Bool, true, false, List, [], Option, None, Some, ap, subst, arith, ℕ}
+use Rattle.std.specs.Prelude.{Result, Ok, Err}
 use Rattle.site.specs.declared.outside.Stop.{Stop}
-use Rattle.site.specs.declared.outside.Stop.TheVariants.{Memory, Worn}
 use Rattle.site.specs.declared.geometry.Geometry.{Geometry}
 use Rattle.site.specs.State.{State as Site, Image, IsQuiet}
 use Rattle.site.specs.Calls.{IsUnchanged}
@@ -27,7 +25,7 @@ use Rattle.log_store.specs.Representation.{has_tail}
 use Rattle.checkpoint.specs.declared.master.Master.{Master}
 use Rattle.redo_undo.specs.Holding.{blocks_to}
 use Rattle.redo_undo.specs.Numbers.{HasNumbers, SkipsNone}
-use Rattle.redo_undo.proofs.RingNumbers.{again, error_is, hi_on, leaves_more, leaves_unchanged, ok_no_error, passes_more, skips_answered, skips_nothing, skips_on, then_skips}
+use Rattle.redo_undo.proofs.RingNumbers.{hi_on, leaves_more, leaves_unchanged, skips_answered, skips_nothing, skips_on, then_skips}
 use Rattle.engine.specs.declared.engine.Engine.{Engine}
 use Rattle.engine.specs.declared.restart.Opened.{Opened}
 use Rattle.engine.specs.Representation.{Matches, run_now}
@@ -41,34 +39,34 @@ use Rattle.redo_undo.proofs.Forced.{none_now}
 -- Calls on log and pages, as calls of the database.
 
 -- a call that makes no more records than the model counts
-pub counts : {T E : Type 0} {worn : E} (r : Result T E) (old new : Engine) (before now : Site) (s after : State) (n m : ℕ) → SkipsNone r worn (sizes_of old.store) old.store.log new.store.log before now n m → s.made + n ≤ after.made → CountsOn r worn old new before now s after m
+pub counts : {T E : Type 0} (r : Result T E) (old new : Engine) (before now : Site) (s after : State) (n m : ℕ) → SkipsNone r (sizes_of old.store) old.store.log new.store.log before now n m → s.made + n ≤ after.made → CountsOn r old new before now s after m
 counts r old new before now s after n m first few = record { records = n; made = few; skips = first }
 
 -- Calls of the database, one within the other.
 
 -- another value of the caller
-pub count_answered : {T E A F : Type 0} {worn : E} {other : F} (x : A) (y : T) (old new : Engine) (before now : Site) (s after : State) (m : ℕ) → CountsOn {T = A} {E = F} (Ok x) other old new before now s after m → CountsOn {T = T} {E = E} (Ok y) worn old new before now s after m
+pub count_answered : {T E A F : Type 0} (x : A) (y : T) (old new : Engine) (before now : Site) (s after : State) (m : ℕ) → CountsOn {T = A} {E = F} (Ok x) old new before now s after m → CountsOn {T = T} {E = E} (Ok y) old new before now s after m
 count_answered x y old new before now s after m first = record { records = first.records; made = first.made; skips = skips_answered x y (sizes_of old.store) old.store.log new.store.log before now first.records m first.skips }
 
 -- the error of a call is the error of its caller, whatever that leaves in memory and the model counts more
-pub count_failed : {T E A : Type 0} {worn : E} (e : E) (old new new' : Engine) (before now : Site) (s u after : State) (m : ℕ) → u.made ≤ after.made → CountsOn {T = A} {E = E} (Err e) worn old new before now s u m → CountsOn {T = T} {E = E} (Err e) worn old new' before now s after m
-count_failed {T} {E} {A} {worn = worn} e old new new' before now s u after m few first = record {
+pub count_failed : {T E A : Type 0} (e : E) (old new new' : Engine) (before now : Site) (s u after : State) (m : ℕ) → u.made ≤ after.made → CountsOn {T = A} {E = E} (Err e) old new before now s u m → CountsOn {T = T} {E = E} (Err e) old new' before now s after m
+count_failed e old new new' before now s u after m few first = record {
   records = first.records;
   made = let made = first.made in omega (arith, made, few);
-  skips = record { log = tt; any_moment = first.any_moment; saved = tt; past = tt; worn = λ is. first.worn (again {A = T} {B = A} e worn is) };
+  skips = record { log = tt; any_moment = first.any_moment; past = tt };
 }
 
 -- an error of the caller behind a call that was Ok
-pub count_refused : {T E A F : Type 0} {worn : E} {other : F} (x : A) (e : E) (old new new' : Engine) (before now : Site) (s after : State) (m : ℕ) → (e ≡ worn → ⊥) → CountsOn {T = A} {E = F} (Ok x) other old new before now s after m → CountsOn {T = T} {E = E} (Err e) worn old new' before now s after m
-count_refused {T} {worn = worn} x e old new new' before now s after m never first = record {
+pub count_refused : {T E A F : Type 0} (x : A) (e : E) (old new new' : Engine) (before now : Site) (s after : State) (m : ℕ) → CountsOn {T = A} {E = F} (Ok x) old new before now s after m → CountsOn {T = T} {E = E} (Err e) old new' before now s after m
+count_refused x e old new new' before now s after m first = record {
   records = first.records;
   made = first.made;
-  skips = record { log = tt; any_moment = first.any_moment; saved = tt; past = tt; worn = λ is. absurd (never (error_is {T = T} e worn is)) };
+  skips = record { log = tt; any_moment = first.any_moment; past = tt };
 }
 
 -- a call behind one that was Ok
-pub count_then : {T E A B : Type 0} {worn : E} {other : B} (r : Result T E) (x : A) (old mid new : Engine) (before middle now : Site) (s u after : State) (m m' k : ℕ) → sizes_of mid.store ≡ sizes_of old.store → CountsOn {T = A} {E = B} (Ok x) other old mid before middle s u m → CountsOn r worn mid new middle now u after m'
-    → m + m' ≡ k → CountsOn r worn old new before now s after k
+pub count_then : {T E A B : Type 0} (r : Result T E) (x : A) (old mid new : Engine) (before middle now : Site) (s u after : State) (m m' k : ℕ) → sizes_of mid.store ≡ sizes_of old.store → CountsOn {T = A} {E = B} (Ok x) old mid before middle s u m → CountsOn r mid new middle now u after m'
+    → m + m' ≡ k → CountsOn r old new before now s after k
 count_then r x old mid new before middle now s u after m m' k same first second is = record {
   records = first.records + second.records;
   made = let some = first.made in let more = second.made in omega (arith, some, more);
@@ -82,9 +80,9 @@ count_then r x old mid new before middle now s u after m m' k same first second 
 next_there : (engine : Engine) (site : Site) (s : State) → Matches engine site s → Invariant engine site → engine.store.log.ring.hi ≡ hi_of (log_shape (sizes_of engine.store)) site.image.log
 next_there engine site s fits going = hi_on engine.store.log.geometry (sizes_of engine.store) engine.store.log site.image going.store.both.sizes fits.holds.both.log_holds.ready.blocks.hi
 
-pub count_nothing : {T E : Type 0} {worn : E} (x : T) (engine : Engine) (site : Site) (s after : State) → Matches engine site s → Invariant engine site → IsQuiet site → s.made ≤ after.made → CountsOn {T = T} {E = E} (Ok x) worn engine engine site site s after 0
-count_nothing {E = E} {worn = worn} x engine site s after fits going quiet few =
-    counts (Ok x) engine engine site site s after 0 0 (skips_nothing {E = E} {worn = worn} (Ok x) (sizes_of engine.store) engine.store.log site 0 (next_there engine site s fits going) quiet (ok_no_error x worn)) (omega (arith, few))
+pub count_nothing : {T E : Type 0} (x : T) (engine : Engine) (site : Site) (s after : State) → Matches engine site s → Invariant engine site → IsQuiet site → s.made ≤ after.made → CountsOn {T = T} {E = E} (Ok x) engine engine site site s after 0
+count_nothing {E = E} x engine site s after fits going quiet few =
+    counts (Ok x) engine engine site site s after 0 0 (skips_nothing {E = E} (Ok x) (sizes_of engine.store) engine.store.log site 0 (next_there engine site s fits going) quiet) (omega (arith, few))
 
 -- A checkpoint comes first.
 
@@ -111,45 +109,36 @@ opened_next opened site newest blocks table commits h same empty =
 
 -- it stops
 pub restart_failed : {T A : Type 0} (e : Stop) (f : T → LogStore) (g : Geometry) (records : List Entry) (old new : LogStore) (before now : Site) (n m : ℕ) → blocks_to old ≡ hi_of (log_shape g) before.image.log → n ≤ owed records → m ≤ 1
-    → SkipsNone {T = A} {E = Stop} (Err e) (Worn Log) g old new before now n m → RestartsWithin {T = T} (Err e) f g records before now
-restart_failed {T} {A} e f g records old new before now n m is few one first =
+    → SkipsNone {T = A} {E = Stop} (Err e) g old new before now n m → RestartsWithin {T = T} (Err e) f g records before now
+restart_failed e f g records old new before now n m is few one first =
     let blocks : blocks_to old + n ≤ hi_of (log_shape g) before.image.log + owed records = omega (arith, is, few) in
     record {
       log = tt;
       any_moment = leaves_more g before now _ (hi_of (log_shape g) before.image.log + owed records) (hi_of master_shape before.image.log + m) (hi_of master_shape before.image.log + 1) blocks (omega (arith, one)) first.any_moment;
-      saved = tt;
       past = tt;
-      worn = λ past. passes_more _ (hi_of (log_shape g) before.image.log + owed records) (hi_of master_shape before.image.log + m) (hi_of master_shape before.image.log + 1) blocks (omega (arith, one)) (first.worn (again {A = T} {B = A} e (Worn Log) past));
     }
 
 -- it is done
 pub restart_done : {T A : Type 0} (x : A) (y : T) (f : T → LogStore) (g : Geometry) (records : List Entry) (old new : LogStore) (before now : Site) (n : ℕ) → blocks_to old ≡ hi_of (log_shape g) before.image.log → n ≤ owed records → f y ≡ new
-    → SkipsNone {T = A} {E = Stop} (Ok x) (Worn Log) g old new before now n 1 → RestartsWithin {T = T} (Ok y) f g records before now
+    → SkipsNone {T = A} {E = Stop} (Ok x) g old new before now n 1 → RestartsWithin {T = T} (Ok y) f g records before now
 restart_done x y f g records old new before now n is few last first = record {
   log = let more = first.log in let same = ap blocks_to last in omega (arith, more, is, few, same);
   any_moment = leaves_more g before now _ (hi_of (log_shape g) before.image.log + owed records) _ _ (omega (arith, is, few)) (omega arith) first.any_moment;
-  saved = first.saved;
   past = first.past;
-  worn = λ past. absurd (ok_no_error y (Worn Log) past);
 }
 
 -- a restart within a call
 pub restart_again : {T A : Type 0} (e : Stop) (f : A → LogStore) (h : T → LogStore) (g : Geometry) (records : List Entry) (before now : Site) → RestartsWithin {T = A} (Err e) f g records before now → RestartsWithin {T = T} (Err e) h g records before now
-restart_again {T} {A} e f h g records before now first = record { log = tt; any_moment = first.any_moment; saved = tt; past = tt; worn = λ past. first.worn (again {A = T} {B = A} e (Worn Log) past) }
+restart_again e f h g records before now first = record { log = tt; any_moment = first.any_moment; past = tt }
 
-pub restart_stopped : {T A : Type 0} (x : A) (e : Stop) (f : A → LogStore) (h : T → LogStore) (g : Geometry) (records : List Entry) (before now : Site) → e ≡ Memory → RestartsWithin {T = A} (Ok x) f g records before now → RestartsWithin {T = T} (Err e) h g records before now
-restart_stopped {T} x e f h g records before now memory first = record { log = tt; any_moment = first.any_moment; saved = tt; past = tt; worn = λ past. absurd (never (sym memory ∙ error_is {T = T} e (Worn Log) past)) }
-  where
-    never : Memory ≡ Worn Log → ⊥
-    never is = cc
+pub restart_stopped : {T A : Type 0} (x : A) (e : Stop) (f : A → LogStore) (h : T → LogStore) (g : Geometry) (records : List Entry) (before now : Site) → RestartsWithin {T = A} (Ok x) f g records before now → RestartsWithin {T = T} (Err e) h g records before now
+restart_stopped x e f h g records before now first = record { log = tt; any_moment = first.any_moment; past = tt }
 
 pub restart_answered : {T A : Type 0} (x : A) (y : T) (f : A → LogStore) (h : T → LogStore) (g : Geometry) (records : List Entry) (before now : Site) → h y ≡ f x → RestartsWithin {T = A} (Ok x) f g records before now → RestartsWithin {T = T} (Ok y) h g records before now
 restart_answered x y f h g records before now same first = record {
   log = let more = first.log in let last = ap blocks_to same in omega (arith, more, last);
   any_moment = first.any_moment;
-  saved = first.saved;
   past = first.past;
-  worn = λ past. absurd (ok_no_error y (Worn Log) past);
 }
 
 -- while only is read
@@ -157,8 +146,8 @@ reads_numbers : (g : Geometry) (records : List Entry) (before now : Site) → Is
 reads_numbers g records before now quiet same = leaves_unchanged before now (λ s. HasNumbers g (hi_of (log_shape g) before.image.log + owed records) (hi_of master_shape before.image.log + 1) s.image) quiet same (record { blocks = omega arith; masters = omega arith })
 
 -- it stops there
-pub restart_unmoved : {T : Type 0} (e : Stop) (f : T → LogStore) (g : Geometry) (records : List Entry) (before now : Site) → IsQuiet before → IsUnchanged before now → (IsErrOf {T = T} (Err e) (Worn Log) → ⊥) → RestartsWithin {T = T} (Err e) f g records before now
-restart_unmoved e f g records before now quiet same never = record { log = tt; any_moment = reads_numbers g records before now quiet same; saved = tt; past = tt; worn = λ past. absurd (never past) }
+pub restart_unmoved : {T : Type 0} (e : Stop) (f : T → LogStore) (g : Geometry) (records : List Entry) (before now : Site) → IsQuiet before → IsUnchanged before now → RestartsWithin {T = T} (Err e) f g records before now
+restart_unmoved e f g records before now quiet same = record { log = tt; any_moment = reads_numbers g records before now quiet same; past = tt }
 
 -- it goes on
 pub restart_behind : {T : Type 0} (r : Result T Stop) (f : T → LogStore) (g g' : Geometry) (records : List Entry) (before middle now : Site) → g ≡ g' → IsQuiet before → IsUnchanged before middle → RestartsWithin r f g records middle now → RestartsWithin r f g' records before now
@@ -170,7 +159,5 @@ restart_behind r f g g' records before middle now sizes quiet same first =
       log = if_ok_one r _ _ (λ x more. omega (arith, more, blocks)) all.log;
       any_moment = in_sequence before middle now (Leaves (λ s. HasNumbers g' (hi_of (log_shape g') before.image.log + owed records) (hi_of master_shape before.image.log + 1) s.image)) (reads_numbers g' records before middle quiet same)
           (leaves_more g' middle now _ (hi_of (log_shape g') before.image.log + owed records) _ (hi_of master_shape before.image.log + 1) (omega (arith, blocks)) (omega (arith, masters)) all.any_moment);
-      saved = ok_as r _ _ (λ more. let is : hi_of master_shape now.image.log ≡ hi_of master_shape before.image.log + 1 = omega (arith, more, masters) in is) all.saved;
       past = ok_as r _ _ (λ more. calls_then g' before middle now (calls_unchanged g' before middle same) more) all.past;
-      worn = λ past. passes_more _ (hi_of (log_shape g') before.image.log + owed records) _ (hi_of master_shape before.image.log + 1) (omega (arith, blocks)) (omega (arith, masters)) (all.worn past);
     }

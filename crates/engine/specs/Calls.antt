@@ -1,8 +1,6 @@
 -- What the calls of a run say, each as one record with the call's result as its index.
-use Rattle.std.specs.Prelude.{◌≡◌, List, IsTrue, Result, IfOk, OnOk, IfErr, IsErrOf, ℕ}
-use Rattle.site.specs.declared.outside.Dev.TheVariants.{Log}
+use Rattle.std.specs.Prelude.{◌≡◌, List, IsTrue, Result, IfOk, OnOk, IfErr, ℕ}
 use Rattle.site.specs.declared.outside.Stop.{Stop}
-use Rattle.site.specs.declared.outside.Stop.TheVariants.{Worn}
 use Rattle.site.specs.State.{State as Site, Snapshot, IsQuiet}
 use Rattle.record_model.specs.State.{State}
 use Rattle.record_model.specs.Step.{Outcome}
@@ -16,7 +14,7 @@ pub use Rattle.redo_undo.specs.Calls.{Ends}
 use Rattle.engine.specs.declared.engine.Engine.{Engine}
 use Rattle.engine.specs.Invariant.{Invariant, sizes_of}
 use Rattle.engine.specs.Representation.{Matches}
-use Rattle.engine.specs.Numbers.{AppendsToLog, CountsOn}
+use Rattle.engine.specs.Numbers.{CountsOn}
 
 -- A call of the database, on every site.
 pub record KeepsEngine {T : Type 0} (result : Result T Stop) (old new : Engine) (before now : Site) : Type 0 where
@@ -39,13 +37,11 @@ pub record Does {T : Type 0} (result : Result T Stop) (old new : Engine) (before
   pub after_fits : OnOk result (Matches new now after)
   pub ends : Ends result (sizes_of old.store) before now P
   pub open ends use *
-  pub numbers : IsQuiet before → CountsOn result (Worn Log) old new before now s after checkpoints
+  pub numbers : IsQuiet before → CountsOn result old new before now s after checkpoints
 
--- A command: it answers what the model answers, and does and asks what the model does and asks. That the log is worn is
--- answered only where it has something to append there.
+-- A command: it answers what the model answers, and does and asks what the model does and asks.
 pub record Answers (result : Result Reply Stop) (old new : Engine) (before now : Site) (s : State) (o : Outcome)
     (works : List CacheWork) (P : Snapshot → Type 0) (checkpoints : ℕ) : Type 0 where
   pub reply : IfOk result (λ reply. reply ≡ o.reply)
   pub asks : StepsMachine result works old.store.pages new.store.pages before now
   pub does : Does result old new before now s o.after P checkpoints
-  pub appends : IsErrOf result (Worn Log) → AppendsToLog s o.after checkpoints works old.store.pages

@@ -1,9 +1,6 @@
--- No number is skipped by the rings on the log's device, and it is worn only where, by counts, more is appended than
--- they have numbers for.
-use Rattle.std.specs.Prelude.{◌≡◌, ◌⊎◌, ℕ, ◌+◌, ◌≤◌, ◌<◌, true, if◌then◌else◌, List, Result, Ok, OnOk, IfOk, IsErrOf}
-use Rattle.site.specs.declared.outside.Dev.TheVariants.{Log}
+-- No number is skipped by the rings on the log's device.
+use Rattle.std.specs.Prelude.{ℕ, ◌+◌, ◌≤◌, true, if◌then◌else◌, List, Result, Ok, OnOk, IfOk}
 use Rattle.site.specs.declared.outside.Stop.{Stop}
-use Rattle.site.specs.declared.outside.Stop.TheVariants.{Worn}
 use Rattle.site.specs.declared.geometry.Geometry.{Geometry}
 use Rattle.site.specs.State.{State as Site, IsQuiet}
 use Rattle.site.specs.Moments.{LeavesOnly}
@@ -14,15 +11,11 @@ use Rattle.record_model.specs.State.{State}
 use Rattle.record_model.specs.declared.words.Command.{Command}
 use Rattle.record_model.specs.declared.words.Reply.{Reply}
 use Rattle.record_model.specs.Step.{makes_checkpoint}
-use Rattle.record_model.specs.Touches.{CacheWork}
-use Rattle.page_store.specs.declared.store.PageStore.{PageStore}
-use Rattle.page_store.specs.Caching.{cache_of, rules}
-use Rattle.redo_undo.specs.MachineSteps.{PushesGroups}
 use Rattle.log_records.specs.Log.{Entry}
 use Rattle.log_records.specs.Unfinished as unfinished
 use Rattle.log_store.specs.declared.store.LogStore.{LogStore}
 use Rattle.redo_undo.specs.Holding.{blocks_to}
-use Rattle.redo_undo.specs.Numbers.{HasNumbers, PassesEnd, SkipsNone}
+use Rattle.redo_undo.specs.Numbers.{HasNumbers, SkipsNone}
 use Rattle.engine.specs.declared.engine.Engine.{Engine}
 use Rattle.engine.specs.Invariant.{Invariant, sizes_of}
 use Rattle.engine.specs.Representation.{Matches}
@@ -33,36 +26,26 @@ checkpoints_by s command = if makes_checkpoint true s command then 1 else 0
 
 -- A call takes the model from one state to another, with so many checkpoints: it makes no more records than the model
 -- counts.
-pub record CountsOn {T E : Type 0} (result : Result T E) (at_end : E) (old new : Engine) (before now : Site)
-    (s after : State) (checkpoints : ℕ) : Type 0 where
+pub record CountsOn {T E : Type 0} (result : Result T E) (old new : Engine) (before now : Site) (s after : State)
+    (checkpoints : ℕ) : Type 0 where
   pub records : ℕ
   pub made : s.made + records ≤ after.made
-  pub skips : SkipsNone result at_end (sizes_of old.store) old.store.log new.store.log before now records checkpoints
+  pub skips : SkipsNone result (sizes_of old.store) old.store.log new.store.log before now records checkpoints
   pub open skips use *
-
--- A command has something to append on the log's device: it makes records, or a checkpoint, or its work pushes a group,
--- before which the log may have to be sealed.
-abbrev pub AppendsToLog : State → State → ℕ → List CacheWork → PageStore → Type 0
-AppendsToLog s after checkpoints works pages =
-    (s.made < after.made) ⊎ ((1 ≤ checkpoints) ⊎ PushesGroups (rules pages) works (cache_of pages))
 
 -- A restart on these records. However it ends, and wherever a crash ends it, the ring of the log's blocks has at most
 -- one number more for each record that undo owes, and the ring of the master units one for its checkpoint. At Ok the
--- blocks are no more than that with the tail, too, the master unit is there, and no more calls of the site were made
--- than the units need that were appended. It answers that the log is worn only where that many are past the end of a
--- ring.
+-- blocks are no more than that with the tail, too, and no more calls of the site were made than the units need that
+-- were appended.
 pub record RestartsWithin {T : Type 0} (result : Result T Stop) (log_of : T
     → LogStore) (g : Geometry) (records : List Entry) (before now : Site) : Type 0 where
   pub log : IfOk result (λ x. blocks_to (log_of x) ≤ hi_of (log_shape g) before.image.log + unfinished.owed records)
   pub any_moment : LeavesOnly before now (λ s. HasNumbers g (hi_of (log_shape g) before.image.log
       + unfinished.owed records) (hi_of master_shape before.image.log + 1) s.image)
-  pub saved : OnOk result (hi_of master_shape now.image.log ≡ hi_of master_shape before.image.log + 1)
   pub past : OnOk result (CallsForUnits g before now)
-  pub worn : IsErrOf result (Worn Log) → PassesEnd (hi_of (log_shape g) before.image.log + unfinished.owed records)
-      (hi_of master_shape before.image.log + 1)
 
 -- where nothing is called, nothing is counted
 abbrev pub RestCountsNothing : Type 0
 RestCountsNothing = (reply : Reply) (engine : Engine) (site : Site) (s : State) → Matches engine site s
     → Invariant engine site → IsQuiet site
-    → CountsOn {T = Reply} {E = Stop} (Ok reply) (Worn Log) engine engine site site s s 0
+    → CountsOn {T = Reply} {E = Stop} (Ok reply) engine engine site site s s 0

@@ -1,8 +1,6 @@
 -- What a restart and the commands ask of the page cache.
-use Rattle.std.specs.Prelude.{◌≡◌, ℕ, ◌+◌, ◌-◌, ◌*◌, ◌≤◌, List, [], ◌++◌, length, map, Result, IfOk, IsErrOf}
-use Rattle.site.specs.declared.outside.Dev.TheVariants.{Flash}
+use Rattle.std.specs.Prelude.{◌≡◌, ℕ, ◌+◌, ◌-◌, ◌*◌, ◌≤◌, List, [], ◌++◌, length, map, Result, IfOk}
 use Rattle.site.specs.declared.outside.Stop.{Stop}
-use Rattle.site.specs.declared.outside.Stop.TheVariants.{Worn}
 use Rattle.site.specs.declared.geometry.Geometry.{Geometry}
 use Rattle.site.specs.State.{State, Image}
 use Rattle.image_changes.specs.Rings.{group_shape, units_on}
@@ -18,8 +16,7 @@ use Rattle.page_store.specs.declared.store.PageStore.{PageStore}
 use Rattle.page_store.specs.Caching.{cache_of, rules}
 use Rattle.page_store.specs.Staging.{WritesOnly}
 use Rattle.site.specs.Moments.{LeavesOnly}
-use Rattle.redo_undo.specs.MachineSteps.{redo_works, undo_works, checkpoint_works, next_group, Overflows, finds_in}
-use Rattle.redo_undo.specs.MachineSteps.{misses_in}
+use Rattle.redo_undo.specs.MachineSteps.{redo_works, undo_works, checkpoint_works, next_group, finds_in, misses_in}
 
 -- the queue on flash: the live groups, none of their frames referenced
 abbrev pub queue_on : Geometry → Image → Queue
@@ -46,13 +43,11 @@ WritesFrom g r works start before now =
 abbrev pub HasLastFrom : Geometry → Rules → List CacheWork → Cache → State → State → Type 0
 HasLastFrom g r works start before now = HasLastStaged g (staged_by_works r works start) before now
 
--- A call that opens pages asks for this work, beginning with a cache. At Ok the machine has done it. It answers that
--- flash is worn only where the work overflows. Beside so many reads of flash that find the queue it reads no more pages
--- than the work needs.
+-- A call that opens pages asks for this work, beginning with a cache. At Ok the machine has done it. Beside so many
+-- reads of flash that find the queue it reads no more pages than the work needs.
 pub record AsksFrom {T : Type 0} (result : Result T Stop) (pages : T
     → PageStore) (r : Rules) (works : List CacheWork) (start : Cache) (scanned : ℕ) (before now : State) : Type 0 where
   pub machine : IfOk result (λ x. (cache_of (pages x) ≡ after_works r works start) × (rules (pages x) ≡ r))
-  pub worn : IsErrOf result (Worn Flash) → Overflows r works start
   pub flash : now.flash_reads + 12 * next_group start
       ≤ before.flash_reads + scanned + 12 * next_group (after_works r works start) + finds_in r works start
   pub disk : now.disk_reads ≤ before.disk_reads + misses_in r works start

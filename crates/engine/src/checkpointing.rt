@@ -1,6 +1,5 @@
 // Checkpoints, and when a command makes one first.
-ghost use Rattle.std.specs.Prelude.{◌≡◌, ◌≢◌, ◌<◌, if◌then◌else◌, [], true, false, None, IfErr, OnErr, IsErrOf};
-ghost use Rattle.site.specs.declared.outside.Dev.{Dev};
+ghost use Rattle.std.specs.Prelude.{◌≡◌, ◌≢◌, ◌<◌, if◌then◌else◌, [], true, false, None, IfErr, OnErr};
 ghost use Rattle.site.specs.declared.outside.Stop.{Stop};
 ghost use Rattle.site.specs.State.{State as Site};
 ghost use Rattle.record_model.specs.declared.words.Command.{Command};
@@ -13,8 +12,7 @@ ghost use Rattle.engine.specs.Invariant.{Invariant, sizes_of};
 ghost use Rattle.engine.specs.Representation.{Matches, run, checkpointed_if};
 ghost use Rattle.engine.specs.Leaves.{LeavesTable};
 ghost use Rattle.record_model.specs.Touches.{command_touches};
-ghost use Rattle.redo_undo.specs.MachineSteps.{StepsMachine, Overflows, checkpoint_works};
-ghost use Rattle.page_store.specs.Caching.{cache_of, rules};
+ghost use Rattle.redo_undo.specs.MachineSteps.{StepsMachine, checkpoint_works};
 ghost use Rattle.engine.specs.Calls.{KeepsUnread, Does, Answers};
 ghost use Rattle.engine.specs.Numbers.{checkpoints_by};
 
@@ -103,7 +101,6 @@ impl Engine {
 
         // Of every site.
         ensures serves { KeepsUnread result self.old self.new (S.state site.old) (S.state site.new) }
-        ensures rest { wanted ≡ false → self.new ≡ self.old }
         ensures ended { OnErr result (self.new.ended ≡ true) }
         ensures asks { StepsMachine result (if wanted then checkpoint_works else []) self.old.store.pages
             self.new.store.pages (S.state site.old) (S.state site.new) }
@@ -140,8 +137,6 @@ impl Engine {
         // Of every site.
         ensures serves { KeepsUnread result self.old self.new (S.state site.old) (S.state site.new) }
         ensures ended { OnErr result (self.new.ended ≡ true) }
-        ensures worn_flash { IsErrOf result (Stop.Worn Dev.Flash)
-            → Overflows (rules self.old.store.pages) checkpoint_works (cache_of self.old.store.pages) }
     {
         match self.checkpoint_if(site, true) {
             Ok(()) => Ok(Reply::Checked),

@@ -1,10 +1,9 @@
 // Records are read, in a session and outside of one.
 ghost use Rattle.std.specs.Prelude.{Option, map, ◌≡◌, ◌+◌, ◌/◌, ◌<◌, true, false, Some, None, IfSome, IfNone, IfOk};
-ghost use Rattle.std.specs.Prelude.{OnOk, OnErr, IsErrOf, flat_map};
+ghost use Rattle.std.specs.Prelude.{OnOk, OnErr, flat_map};
 ghost use Rattle.ring_machine.specs.Commands.{reads, command_work};
 ghost use Rattle.redo_undo.specs.Mirroring.{PerformsStore};
 ghost use Rattle.std.specs.List.{range_with_len};
-ghost use Rattle.site.specs.declared.outside.Dev.{Dev};
 ghost use Rattle.site.specs.declared.outside.Stop.{Stop};
 ghost use Rattle.site.specs.State.{State as Site};
 ghost use Rattle.record_model.specs.declared.words.Command.{Command};
@@ -13,14 +12,12 @@ ghost use Rattle.record_model.specs.declared.words.Reply.{Reply};
 ghost use Rattle.record_model.specs.State.{State, seen, content_at};
 ghost use Rattle.record_model.specs.Step.{found};
 ghost use Rattle.lock_table.specs.Locks.{AddsLock};
-ghost use Rattle.redo_undo.specs.Filling.{FindsRoom, LogsForGroups};
 ghost use Rattle.engine.specs.Invariant.{Invariant, sizes_of};
 ghost use Rattle.engine.specs.Permits.{MayShow, MayRead, MayScan};
 ghost use Rattle.engine.specs.Representation.{Matches, run, with_read, with_reads, Refuses, Accepts};
 ghost use Rattle.engine.specs.Leaves.{LeavesTable};
 ghost use Rattle.record_model.specs.Touches.{command_touches, read_touch};
-ghost use Rattle.redo_undo.specs.MachineSteps.{StepsMachine, Overflows, one_touch};
-ghost use Rattle.page_store.specs.Caching.{cache_of, rules};
+ghost use Rattle.redo_undo.specs.MachineSteps.{StepsMachine, one_touch};
 ghost use Rattle.engine.specs.Scans.{first_busy, items_seen};
 ghost use Rattle.engine.specs.Calls.{KeepsUnread, Does, Answers};
 ghost use Rattle.engine.specs.Numbers.{checkpoints_by};
@@ -65,15 +62,10 @@ impl Engine {
         ensures performs { (s : State) → Matches self.old (S.state site.old) s
             → PerformsStore result (command_work true s (Command.Read session number))
             self.old.store self.new.store (S.state site.old) (S.state site.new) }
-        ensures fills { (s : State) → Matches self.old (S.state site.old) s
-            → OnOk result (FindsRoom 0 self.old.store.log self.new.store.log self.old.store.pages
-            self.new.store.pages) }
 
         // Of every site.
         ensures serves { KeepsUnread result self.old self.new (S.state site.old) (S.state site.new) }
         ensures ended { OnErr result (self.new.ended ≡ true) }
-        ensures worn_flash { IsErrOf result (Stop.Worn Dev.Flash)
-            → Overflows (rules self.old.store.pages) (one_touch (number / 32)) (cache_of self.old.store.pages) }
     {
         hold_together();
         if let Some(refused) = self.read_refusal(session, number) {
@@ -104,9 +96,6 @@ impl Engine {
         ensures does { (s : State) → Matches self.old (S.state site.old) s
             → Does result self.old self.new (S.state site.old) (S.state site.new) s (with_read s session number)
             (LeavesTable (sizes_of self.old.store) s.table s.commits (S.state site.old).told) 0 }
-        ensures fills { (s : State) → Matches self.old (S.state site.old) s
-            → LogsForGroups result (one_touch (number / 32)) self.old.store.log self.new.store.log
-            self.old.store.pages self.new.store.pages }
         ensures performs { (s : State) → Matches self.old (S.state site.old) s
             → PerformsStore result (reads number) self.old.store self.new.store (S.state site.old) (S.state site.new) }
 
@@ -169,16 +158,10 @@ impl Engine {
         ensures performs { (s : State) → Matches self.old (S.state site.old) s
             → PerformsStore result (command_work true s (Command.Scan session number count))
             self.old.store self.new.store (S.state site.old) (S.state site.new) }
-        ensures fills { (s : State) → Matches self.old (S.state site.old) s
-            → OnOk result (FindsRoom 0 self.old.store.log self.new.store.log self.old.store.pages
-            self.new.store.pages) }
 
         // Of every site.
         ensures serves { KeepsUnread result self.old self.new (S.state site.old) (S.state site.new) }
         ensures ended { OnErr result (self.new.ended ≡ true) }
-        ensures worn_flash { IsErrOf result (Stop.Worn Dev.Flash)
-            → Overflows (rules self.old.store.pages) (map read_touch (range_with_len number count))
-            (cache_of self.old.store.pages) }
     {
         hold_together();
         if let Some(refused) = self.scan_refusal(session, number, count) {
@@ -211,9 +194,6 @@ impl Engine {
             → Does result self.old self.new (S.state site.old) (S.state site.new) s
             (with_reads s session (range_with_len number count))
             (LeavesTable (sizes_of self.old.store) s.table s.commits (S.state site.old).told) 0 }
-        ensures fills { (s : State) → Matches self.old (S.state site.old) s
-            → LogsForGroups result (map read_touch (range_with_len number count)) self.old.store.log self.new.store.log
-            self.old.store.pages self.new.store.pages }
         ensures performs { (s : State) → Matches self.old (S.state site.old) s
             → PerformsStore result (flat_map reads (range_with_len number count))
             self.old.store self.new.store (S.state site.old) (S.state site.new) }
@@ -268,15 +248,10 @@ impl Engine {
         ensures performs { (s : State) → Matches self.old (S.state site.old) s
             → PerformsStore result (command_work true s (Command.Get number))
             self.old.store self.new.store (S.state site.old) (S.state site.new) }
-        ensures fills { (s : State) → Matches self.old (S.state site.old) s
-            → OnOk result (FindsRoom 0 self.old.store.log self.new.store.log self.old.store.pages
-            self.new.store.pages) }
 
         // Of every site.
         ensures serves { KeepsUnread result self.old self.new (S.state site.old) (S.state site.new) }
         ensures ended { OnErr result (self.new.ended ≡ true) }
-        ensures worn_flash { IsErrOf result (Stop.Worn Dev.Flash)
-            → Overflows (rules self.old.store.pages) (one_touch (number / 32)) (cache_of self.old.store.pages) }
     {
         hold_together();
         if let Some(refused) = self.get_refusal(number) {
@@ -302,9 +277,6 @@ impl Engine {
         ensures does { (s : State) → Matches self.old (S.state site.old) s
             → Does result self.old self.new (S.state site.old) (S.state site.new) s s
             (LeavesTable (sizes_of self.old.store) s.table s.commits (S.state site.old).told) 0 }
-        ensures fills { (s : State) → Matches self.old (S.state site.old) s
-            → LogsForGroups result (one_touch (number / 32)) self.old.store.log self.new.store.log
-            self.old.store.pages self.new.store.pages }
         ensures performs { (s : State) → Matches self.old (S.state site.old) s
             → PerformsStore result (reads number) self.old.store self.new.store (S.state site.old) (S.state site.new) }
 

@@ -1,7 +1,6 @@
 // A transaction of one write, outside sessions.
-ghost use Rattle.std.specs.Prelude.{Option, ◌≡◌, ◌⊎◌, ◌+◌, ◌/◌, ◌<◌, ◌≤◌, [], ◌∷◌, ◌++◌, length, true, false, Some};
-ghost use Rattle.std.specs.Prelude.{None, IfSome, IfNone, IfOk, OnErr, IsErrOf};
-ghost use Rattle.site.specs.declared.outside.Dev.{Dev};
+ghost use Rattle.std.specs.Prelude.{Option, ◌≡◌, ◌+◌, ◌/◌, ◌<◌, ◌≤◌, [], ◌∷◌, ◌++◌, length, true, false, Some};
+ghost use Rattle.std.specs.Prelude.{None, IfSome, IfNone, IfOk, OnErr};
 ghost use Rattle.site.specs.declared.outside.Stop.{Stop};
 ghost use Rattle.site.specs.State.{State as Site};
 ghost use Rattle.record_model.specs.declared.words.Command.{Command};
@@ -20,8 +19,7 @@ ghost use Rattle.engine.specs.OneWrite.{HasOneWrite};
 ghost use Rattle.engine.specs.Representation.{Matches, run, run_now, Refuses, Accepts};
 ghost use Rattle.engine.specs.Leaves.{LeavesTable, LeavesEither};
 ghost use Rattle.record_model.specs.Touches.{command_touches};
-ghost use Rattle.redo_undo.specs.MachineSteps.{StepsMachine, Overflows, one_change, checkpoint_works};
-ghost use Rattle.page_store.specs.Caching.{cache_of, rules};
+ghost use Rattle.redo_undo.specs.MachineSteps.{StepsMachine, one_change};
 ghost use Rattle.engine.specs.Calls.{KeepsUnread, Does, Answers};
 ghost use Rattle.engine.specs.Numbers.{checkpoints_by};
 ghost use Rattle.redo_undo.specs.StoreCalls.{KeepsInvariant, Keeps};
@@ -30,7 +28,7 @@ use crate::engine::Engine;
 use crate::values::{is_long, value_of};
 use page_store::touch_then_change;
 use record_model::{Octets, Reply, Why};
-use redo_undo::{hold_together, works_add_up};
+use redo_undo::hold_together;
 use site::{Site, Stop};
 
 impl Engine {
@@ -158,8 +156,6 @@ impl Engine {
         // Of every site.
         ensures serves { KeepsUnread result self.old self.new (S.state site.old) (S.state site.new) }
         ensures ended { OnErr result (self.new.ended ≡ true) }
-        ensures worn_flash { IsErrOf result (Stop.Worn Dev.Flash)
-            → Overflows (rules self.old.store.pages) (one_change (number / 32)) (cache_of self.old.store.pages) }
     {
         hold_together();
         if let Some(refused) = self.set_refusal(number, value) {
@@ -193,12 +189,7 @@ impl Engine {
         // Of every site.
         ensures serves { KeepsUnread result self.old self.new (S.state site.old) (S.state site.new) }
         ensures ended { OnErr result (self.new.ended ≡ true) }
-        ensures worn_flash { IsErrOf result (Stop.Worn Dev.Flash)
-            → Overflows (rules self.old.store.pages) (one_change (number / 32)) (cache_of self.old.store.pages)
-            ⊎ Overflows (rules self.old.store.pages) (checkpoint_works ++ one_change (number / 32))
-            (cache_of self.old.store.pages) }
     {
-        works_add_up();
         let wanted = self.wants_checkpoint_to_set(number, value);
         match self.checkpoint_if(site, wanted) {
             Ok(()) => self.set_now(site, number, value),

@@ -1,6 +1,6 @@
 // Sessions' transactions begin, are committed and are undone.
 ghost use Rattle.std.specs.Prelude.{Option, map, reverse, ◌≡◌, ◌≢◌, ◌⊎◌, ◌+◌, ◌<◌, ◌≤◌, ℕ, List, [], ◌∷◌, ◌++◌, true};
-ghost use Rattle.std.specs.Prelude.{false, Some, None, IfSome, IfNone, IfOk, IfErr, OnOk, OnErr, IsErrOf};
+ghost use Rattle.std.specs.Prelude.{false, Some, None, IfSome, IfNone, IfOk, IfErr, OnOk, OnErr};
 ghost use Rattle.site.specs.declared.outside.Dev.{Dev};
 ghost use Rattle.site.specs.declared.outside.Stop.{Stop};
 ghost use Rattle.site.specs.State.{State as Site};
@@ -8,7 +8,7 @@ ghost use Rattle.record_model.specs.declared.words.Command.{Command};
 ghost use Rattle.record_model.specs.declared.words.Why.{Why};
 ghost use Rattle.record_model.specs.declared.words.Reply.{Reply};
 ghost use Rattle.record_model.specs.State.{State, Content, table_with, writes_of, session_at};
-ghost use Rattle.record_model.specs.Step.{effect, makes_checkpoint};
+ghost use Rattle.record_model.specs.Step.{effect};
 ghost use Rattle.log_records.specs.declared.log_record.LogRecord.{LogRecord};
 ghost use Rattle.log_records.specs.Log.{Entry};
 ghost use Rattle.log_laws.specs.Follow.{writes_in};
@@ -16,7 +16,6 @@ ghost use Rattle.txn_table.specs.Entries.{entry_of, owed};
 ghost use Rattle.log_store.specs.Representation.{end_of};
 ghost use Rattle.image_meaning.specs.Moments as moments;
 ghost use Rattle.redo_undo.specs.Committing.{MayCommit};
-ghost use Rattle.redo_undo.specs.Filling.{Fills};
 ghost use Rattle.redo_undo.specs.Mirroring.{PerformsStore};
 ghost use Rattle.ring_machine.specs.Commands.{begins, command_work, undoes};
 ghost use Rattle.ring_machine.specs.Commands.{commits as commits_work};
@@ -27,8 +26,7 @@ ghost use Rattle.redo_undo.specs.Stores.{Represents};
 ghost use Rattle.engine.specs.Representation.{Matches, run, run_now, Refuses, Accepts};
 ghost use Rattle.engine.specs.Leaves.{LeavesTable, LeavesEither};
 ghost use Rattle.record_model.specs.Touches.{command_touches, write_touch};
-ghost use Rattle.redo_undo.specs.MachineSteps.{StepsMachine, Overflows, checkpoint_works};
-ghost use Rattle.page_store.specs.Caching.{cache_of, rules};
+ghost use Rattle.redo_undo.specs.MachineSteps.{StepsMachine};
 ghost use Rattle.checkpoint.specs.declared.master.Master.{Master};
 ghost use Rattle.engine.specs.Calls.{KeepsEngine, KeepsUnread, Does, Answers};
 ghost use Rattle.engine.specs.Numbers.{checkpoints_by};
@@ -78,8 +76,6 @@ impl Engine {
         // Of every site.
         ensures serves { KeepsUnread result self.old self.new (S.state site.old) (S.state site.new) }
         ensures ended { OnErr result (self.new.ended ≡ true) }
-        ensures fills { OnOk result (Fills 1 self.old.store.log self.new.store.log self.old.store.pages
-            self.new.store.pages) }
         ensures stops { IfErr result (λ stop. (stop ≡ Stop.Device Dev.Log) ⊎ (stop ≡ Stop.Worn Dev.Log)) }
     {
         hold_together();
@@ -108,16 +104,10 @@ impl Engine {
         ensures performs { (s : State) → Matches self.old (S.state site.old) s
             → PerformsStore result (command_work true s (Command.Begin session))
             self.old.store self.new.store (S.state site.old) (S.state site.new) }
-        ensures fills { (s : State) → Matches self.old (S.state site.old) s
-            → makes_checkpoint true s (Command.Begin session) ≡ false
-            → OnOk result (Fills 1 self.old.store.log self.new.store.log self.old.store.pages
-            self.new.store.pages) }
 
         // Of every site.
         ensures serves { KeepsUnread result self.old self.new (S.state site.old) (S.state site.new) }
         ensures ended { OnErr result (self.new.ended ≡ true) }
-        ensures worn_flash { IsErrOf result (Stop.Worn Dev.Flash)
-            → Overflows (rules self.old.store.pages) checkpoint_works (cache_of self.old.store.pages) }
     {
         let wanted = self.wants_checkpoint_to_begin(session);
         match self.checkpoint_if(site, wanted) {
@@ -143,8 +133,6 @@ impl Engine {
         ensures serves { KeepsUnread result self.old self.new (S.state site.old) (S.state site.new) }
         ensures asks { StepsMachine result ([]) self.old.store.pages self.new.store.pages
             (S.state site.old) (S.state site.new) }
-        ensures fills { OnOk result (Fills 1 self.old.store.log self.new.store.log self.old.store.pages
-            self.new.store.pages) }
         ensures stops { IfErr result (λ stop. (stop ≡ Stop.Device Dev.Log) ⊎ (stop ≡ Stop.Worn Dev.Log)) }
     {
         let born = self.store.made;

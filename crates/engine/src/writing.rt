@@ -1,7 +1,6 @@
 // A session's writes.
 ghost use Rattle.std.specs.Prelude.{Option, ◌≡◌, ◌/◌, ◌<◌, ◌≤◌, length, true, Some, None, IsSome, IfSome, IfNone, IfOk};
-ghost use Rattle.std.specs.Prelude.{◌+◌, OnOk, OnErr, IsErrOf};
-ghost use Rattle.site.specs.declared.outside.Dev.{Dev};
+ghost use Rattle.std.specs.Prelude.{OnErr};
 ghost use Rattle.site.specs.declared.outside.Stop.{Stop};
 ghost use Rattle.site.specs.State.{State as Site};
 ghost use Rattle.record_model.specs.declared.words.Command.{Command};
@@ -10,8 +9,7 @@ ghost use Rattle.record_model.specs.declared.words.Reply.{Reply};
 ghost use Rattle.record_model.specs.State.{State, seen};
 ghost use Rattle.ring_machine.specs.Commands.{writes, command_work};
 ghost use Rattle.byte_fields.specs.declared.TheConstants.{VALUE_MAX};
-ghost use Rattle.log_records.specs.Spelling.{IsShort, content_spelling};
-ghost use Rattle.redo_undo.specs.Filling.{Fills};
+ghost use Rattle.log_records.specs.Spelling.{IsShort};
 ghost use Rattle.redo_undo.specs.Mirroring.{PerformsStore};
 ghost use Rattle.txn_table.specs.Entries.{entry_of};
 ghost use Rattle.engine.specs.Invariant.{Invariant, sizes_of};
@@ -19,8 +17,7 @@ ghost use Rattle.engine.specs.Permits.{MayWrite};
 ghost use Rattle.engine.specs.Representation.{Matches, run, with_write, Refuses, Accepts};
 ghost use Rattle.engine.specs.Leaves.{LeavesTable};
 ghost use Rattle.record_model.specs.Touches.{command_touches};
-ghost use Rattle.redo_undo.specs.MachineSteps.{StepsMachine, Overflows, one_change};
-ghost use Rattle.page_store.specs.Caching.{cache_of, rules};
+ghost use Rattle.redo_undo.specs.MachineSteps.{StepsMachine, one_change};
 ghost use Rattle.engine.specs.Calls.{KeepsUnread, Does, Answers};
 ghost use Rattle.engine.specs.Numbers.{checkpoints_by};
 
@@ -56,9 +53,6 @@ impl Engine {
         ensures performs { (s : State) → Matches self.old (S.state site.old) s
             → PerformsStore result (writes number (seen s entry.session number) after.now)
             self.old.store self.new.store (S.state site.old) (S.state site.new) }
-        ensures fills { (s : State) → Matches self.old (S.state site.old) s
-            → OnOk result (Fills (143 + length (content_spelling after.now)) self.old.store.log
-            self.new.store.log self.old.store.pages self.new.store.pages) }
 
         // Of every site.
         ensures serves { KeepsUnread result self.old self.new (S.state site.old) (S.state site.new) }
@@ -144,15 +138,10 @@ impl Engine {
         ensures performs { (s : State) → Matches self.old (S.state site.old) s
             → PerformsStore result (command_work true s (Command.Write session number value.now))
             self.old.store self.new.store (S.state site.old) (S.state site.new) }
-        ensures fills { (s : State) → Matches self.old (S.state site.old) s
-            → OnOk result (Fills (144 + length value.now) self.old.store.log self.new.store.log self.old.store.pages
-            self.new.store.pages) }
 
         // Of every site.
         ensures serves { KeepsUnread result self.old self.new (S.state site.old) (S.state site.new) }
         ensures ended { OnErr result (self.new.ended ≡ true) }
-        ensures worn_flash { IsErrOf result (Stop.Worn Dev.Flash)
-            → Overflows (rules self.old.store.pages) (one_change (number / 32)) (cache_of self.old.store.pages) }
     {
         hold_together();
         if let Some(refused) = self.write_refusal(session, number, value) {
@@ -205,15 +194,10 @@ impl Engine {
         ensures performs { (s : State) → Matches self.old (S.state site.old) s
             → PerformsStore result (command_work true s (Command.Erase session number))
             self.old.store self.new.store (S.state site.old) (S.state site.new) }
-        ensures fills { (s : State) → Matches self.old (S.state site.old) s
-            → OnOk result (Fills 144 self.old.store.log self.new.store.log self.old.store.pages
-            self.new.store.pages) }
 
         // Of every site.
         ensures serves { KeepsUnread result self.old self.new (S.state site.old) (S.state site.new) }
         ensures ended { OnErr result (self.new.ended ≡ true) }
-        ensures worn_flash { IsErrOf result (Stop.Worn Dev.Flash)
-            → Overflows (rules self.old.store.pages) (one_change (number / 32)) (cache_of self.old.store.pages) }
     {
         hold_together();
         if let Some(refused) = self.erase_refusal(session, number) {

@@ -1,16 +1,11 @@
 -- Calls are counted by the units that are appended and the octets that are told.
 use Rattle.std.proofs.Common.{◌≡◌, List, ◌++◌, ℕ, length, length-append, ◌∙◌, ap, arith}
 use Rattle.site.specs.declared.geometry.Geometry.{Geometry}
-use Rattle.site.specs.State.{State as Site, Image}
+use Rattle.site.specs.State.{State as Site}
 use Rattle.site.specs.Moments.{works_in}
 use Rattle.site.specs.Telling.{TellsOnly}
 use Rattle.image_changes.specs.Costs.{CallsForUnits, cost_of}
-use Rattle.sealed_ring.specs.Ring.{hi_of}
-use Rattle.image_changes.specs.Rings.{master_shape}
-use Rattle.image_changes.proofs.Counting.{calls_then}
 use Rattle.face.specs.Lines.{HearsOnly}
-use Rattle.face.specs.Range.{CountsUnits}
-use Rattle.face.specs.Run.{Run}
 
 -- while only is heard
 pub calls_heard : (g : Geometry) (mid now : Site) → HearsOnly mid now → CallsForUnits g mid now
@@ -29,10 +24,3 @@ calls_told g piece mid now same told tells =
     let works = tells.works in
     let calls = tells.calls in
     record { works = omega (arith, works, cost); calls = omega (arith, octets, cost, calls) }
-
--- of a run, while only is heard
-pub units_heard : (run : Run) (old mid now : Site) → HearsOnly mid now → CountsUnits run old mid → CountsUnits run old now
-units_heard run old mid now same units = record {
-  masters = ap (λ (i : Image). hi_of master_shape i.log) same.image ∙ units.masters;
-  past = calls_then run.geometry old mid now units.past (calls_heard run.geometry mid now same);
-}

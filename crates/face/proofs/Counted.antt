@@ -1,15 +1,9 @@
 -- How many numbers a run gives to the rings on the log's device, line by line.
-use Rattle.face.specs.Filled.{FillsBy, line_octets}
-use Rattle.face.proofs.Fillings.{filled_blocks, octets_next, first_fill}
-use Rattle.engine.specs.Paging.{cache_on}
-use Rattle.page_store.specs.Caching.{cache_of, next_group}
 use Rattle.std.proofs.Common.{◌≡◌, ℕ, suc, ◌+◌, ◌≤◌, Bool, true, false, List, [], ◌∷◌, ◌++◌, take, drop, refl, sym, ◌∙◌, ap, subst, arith}
-use Rattle.std.specs.Prelude.{Result, Ok, Err, IsErrOf, OnOk, Some, None, if◌then◌else◌}
+use Rattle.std.specs.Prelude.{Result, Ok, Err, OnOk, Some, None, if◌then◌else◌}
 use Rattle.std_lemmas.proofs.Results.{on_ok}
 use Rattle.site.specs.declared.geometry.Geometry.{Geometry}
-use Rattle.site.specs.declared.outside.Dev.TheVariants.{Log}
 use Rattle.site.specs.declared.outside.Stop.{Stop}
-use Rattle.site.specs.declared.outside.Stop.TheVariants.{Worn}
 use Rattle.site.specs.State.{State as Site, Image, IsQuiet}
 use Rattle.site.specs.Laws.{holds_now, in_sequence, unchanged}
 use Rattle.site.proofs.Working.{ok_as}
@@ -28,8 +22,8 @@ use Rattle.log_records.specs.Log.{Entry}
 use Rattle.log_records.specs.Unfinished.{owed}
 use Rattle.log_store.specs.declared.store.LogStore.{LogStore}
 use Rattle.redo_undo.specs.Holding.{blocks_to}
-use Rattle.redo_undo.specs.Numbers.{HasNumbers, PassesEnd}
-use Rattle.redo_undo.proofs.RingNumbers.{error_is, leaves_more, leaves_unchanged, passes_more}
+use Rattle.redo_undo.specs.Numbers.{HasNumbers}
+use Rattle.redo_undo.proofs.RingNumbers.{leaves_more, leaves_unchanged}
 use Rattle.engine.specs.declared.engine.Engine.{Engine}
 use Rattle.engine.specs.Representation.{Matches}
 use Rattle.engine.specs.Invariant.{Invariant, sizes_of}
@@ -52,52 +46,50 @@ use Rattle.face.proofs.Turns.{left_are}
 -- Calls.
 
 -- a call that was Ok, and another answer of its caller
-pub counts_as : {A B E F : Type 0} {worn : F} {other : E} (x : A) (r : Result B F) (old new : Engine) (before now : Site) (s after : State) (n : ℕ) → (IsErrOf r worn → ⊥) → CountsOn {T = A} {E = E} (Ok x) other old new before now s after n → CountsOn r worn old new before now s after n
-counts_as x r old new before now s after n never c = record {
+pub counts_as : {A B E F : Type 0} (x : A) (r : Result B F) (old new : Engine) (before now : Site) (s after : State) (n : ℕ) → CountsOn {T = A} {E = E} (Ok x) old new before now s after n → CountsOn r old new before now s after n
+counts_as x r old new before now s after n c = record {
   records = c.records;
   made = c.made;
-  skips = record { log = on_ok r _ c.log; any_moment = c.any_moment; saved = on_ok r _ c.saved; worn = λ is. absurd (never is); past = on_ok r _ c.past };
+  skips = record { log = on_ok r _ c.log; any_moment = c.any_moment; past = on_ok r _ c.past };
 }
 
 -- behind which something is told
-pub counts_told : {A B E F : Type 0} {worn : F} {other : E} (x : A) (r : Result B F) (old new : Engine) (piece : List ℕ) (before mid now : Site) (s after : State) (n : ℕ) → EachMoment mid now (TellsPart piece mid) → now.image ≡ mid.image → OnOk r (CallsForUnits (sizes_of old.store) mid now) → (IsErrOf r worn → ⊥) → CountsOn {T = A} {E = E} (Ok x) other old new before mid s after n →
-    CountsOn r worn old new before now s after n
-counts_told x r old new piece before mid now s after n tells same calls never c = record {
+pub counts_told : {A B E F : Type 0} (x : A) (r : Result B F) (old new : Engine) (piece : List ℕ) (before mid now : Site) (s after : State) (n : ℕ) → EachMoment mid now (TellsPart piece mid) → OnOk r (CallsForUnits (sizes_of old.store) mid now) → CountsOn {T = A} {E = E} (Ok x) old new before mid s after n →
+    CountsOn r old new before now s after n
+counts_told x r old new piece before mid now s after n tells calls c = record {
   records = c.records;
   made = c.made;
   skips = record {
     log = on_ok r _ c.log;
     any_moment = images_told (λ (i : Image). HasNumbers (sizes_of old.store) (blocks_to old.store.log + c.records) (hi_of master_shape before.image.log + n) i) piece before mid now c.any_moment tells;
-    saved = on_ok r _ (ap (λ (i : Image). hi_of master_shape i.log) same ∙ c.saved);
-    worn = λ is. absurd (never is);
     past = ok_as r _ _ (calls_then (sizes_of old.store) before mid now c.past) calls;
   };
 }
 
 -- the error of a call is one of its caller
-pub counts_err : {A B E F : Type 0} {other : E} {worn : F} (e : E) (f : F) (old new : Engine) (before now : Site) (s after : State) (n : ℕ) → (f ≡ worn → e ≡ other) → CountsOn {T = A} {E = E} (Err e) other old new before now s after n → CountsOn {T = B} {E = F} (Err f) worn old new before now s after n
-counts_err {B = B} {worn = worn} e f old new before now s after n back c = record {
+pub counts_err : {A B E F : Type 0} (e : E) (f : F) (old new : Engine) (before now : Site) (s after : State) (n : ℕ) → CountsOn {T = A} {E = E} (Err e) old new before now s after n → CountsOn {T = B} {E = F} (Err f) old new before now s after n
+counts_err e f old new before now s after n c = record {
   records = c.records;
   made = c.made;
-  skips = record { log = tt; any_moment = c.any_moment; saved = tt; worn = λ is. c.worn (ap Err (back (error_is {T = B} f worn is))); past = tt };
+  skips = record { log = tt; any_moment = c.any_moment; past = tt };
 }
 
 -- no call
-pub counts_none : {T F : Type 0} {worn : F} (r : Result T F) (engine : Engine) (site : Site) (s : State) → RestCountsNothing → Matches engine site s → Invariant engine site → IsQuiet site → (IsErrOf r worn → ⊥) → CountsOn r worn engine engine site site s s 0
-counts_none r engine site s rest fits going quiet never = counts_as reply.Done r engine engine site site s s 0 never (rest reply.Done engine site s fits going quiet)
+pub counts_none : {T F : Type 0} (r : Result T F) (engine : Engine) (site : Site) (s : State) → RestCountsNothing → Matches engine site s → Invariant engine site → IsQuiet site → CountsOn r engine engine site site s s 0
+counts_none r engine site s rest fits going quiet = counts_as reply.Done r engine engine site site s s 0 (rest reply.Done engine site s fits going quiet)
 
 -- a line that asks for no call
-pub counts_idle : (r : Result Reply Stop) (line : Line) (engine : Engine) (site : Site) (s : State) → RestCountsNothing → Matches engine site s → Invariant engine site → IsQuiet site → (IsErrOf r (Worn Log) → ⊥) → (step s line []).after ≡ s → line_checkpoints s line ≡ 0 →
-    CountsOn r (Worn Log) engine engine site site s (step s line []).after (line_checkpoints s line)
-counts_idle r line engine site s rest fits going quiet never stays none =
-    subst (λ (n : ℕ). CountsOn r (Worn Log) engine engine site site s (step s line []).after n) (sym none)
-    (subst (λ (a : State). CountsOn r (Worn Log) engine engine site site s a 0) (sym stays) (counts_none r engine site s rest fits going quiet never))
+pub counts_idle : (r : Result Reply Stop) (line : Line) (engine : Engine) (site : Site) (s : State) → RestCountsNothing → Matches engine site s → Invariant engine site → IsQuiet site → (step s line []).after ≡ s → line_checkpoints s line ≡ 0 →
+    CountsOn r engine engine site site s (step s line []).after (line_checkpoints s line)
+counts_idle r line engine site s rest fits going quiet stays none =
+    subst (λ (n : ℕ). CountsOn r engine engine site site s (step s line []).after n) (sym none)
+    (subst (λ (a : State). CountsOn r engine engine site site s a 0) (sym stays) (counts_none r engine site s rest fits going quiet))
 
 -- a call, for the line that it carries out
-pub counts_line : {T E : Type 0} {worn : E} (r : Result T E) (line : Line) (a b : Engine) (before now : Site) (s : State) → CountsOn r worn a b before now s (step s line []).after (line_checkpoints s line) → CountsOn r worn a b before now s (after_lines s (line ∷ []) []) (checkpoints_of s (line ∷ []))
-counts_line {worn = worn} r line a b before now s c =
+pub counts_line : {T E : Type 0} (r : Result T E) (line : Line) (a b : Engine) (before now : Site) (s : State) → CountsOn r a b before now s (step s line []).after (line_checkpoints s line) → CountsOn r a b before now s (after_lines s (line ∷ []) []) (checkpoints_of s (line ∷ []))
+counts_line r line a b before now s c =
     let one : line_checkpoints s line ≡ checkpoints_of s (line ∷ []) = omega arith in
-    subst (λ (n : ℕ). CountsOn r worn a b before now s (step s line []).after n) one c
+    subst (λ (n : ℕ). CountsOn r a b before now s (step s line []).after n) one c
 
 -- The checkpoints of lines.
 
@@ -169,23 +161,15 @@ module _ (run : Run) (records : List Entry) (entry : Site) where
   pub restart_numbers : {T : Type 0} (result : Result T Stop) (log_of : T → LogStore) (mid : Site) → RestartsWithin result log_of run.geometry records entry mid → LeavesOnly entry mid (λ s. Given 0 s.image)
   restart_numbers result log_of mid within = leaves_more run.geometry entry mid _ (blocks_at 0) _ (masters_at 0) (omega arith) (omega arith) within.any_moment
 
-  pub restart_wears : {T : Type 0} (result : Result T Stop) (log_of : T → LogStore) (mid : Site) → RestartsWithin result log_of run.geometry records entry mid → IsErrOf result (Worn Log) → PassesEnd (blocks_at 0) (masters_at 0)
-  restart_wears result log_of mid within is = passes_more _ (blocks_at 0) _ (masters_at 0) (omega arith) (omega arith) (within.worn is)
-
   -- behind which something is told
   pub restart_told : {T : Type 0} (result : Result T Stop) (log_of : T → LogStore) (piece : List ℕ) (mid now : Site) → EachMoment mid now (TellsPart piece mid) → RestartsWithin result log_of run.geometry records entry mid → LeavesOnly entry now (λ s. Given 0 s.image)
   restart_told result log_of piece mid now tells within = images_told (Given 0) piece entry mid now (restart_numbers result log_of mid within) tells
 
-  pub first_counted : (engine : Engine) (piece : List ℕ) (mid now : Site) → EachMoment mid now (TellsPart piece mid) → CallsForUnits run.geometry mid now → RestartsWithin {T = Engine} (Ok engine) (λ e. e.store.log) run.geometry records entry mid → Invariant engine now →
-      next_group (cache_on run.geometry entry.image) ≤ next_group (cache_of engine.store.pages) → IsCounted run records entry now engine 0
-  first_counted engine piece mid now tells calls within may rise = record {
+  pub first_counted : (engine : Engine) (piece : List ℕ) (mid now : Site) → EachMoment mid now (TellsPart piece mid) → CallsForUnits run.geometry mid now → RestartsWithin {T = Engine} (Ok engine) (λ e. e.store.log) run.geometry records entry mid → IsCounted run records entry now engine 0
+  first_counted engine piece mid now tells calls within = record {
     log = let few = within.log in omega (arith, few);
-    fills = let few = within.log in let filled = filled_blocks engine.store.log may.store.both.log_going.high in omega (arith, few, filled, rise);
     numbers = restart_told (Ok engine) (λ e. e.store.log) piece mid now tells within;
-    units = record {
-      masters = let saved = within.saved in let same = ap (λ (i : Image). hi_of master_shape i.log) tells.now.image in omega (arith, saved, same);
-      past = calls_then run.geometry entry mid now within.past calls;
-    };
+    calls = calls_then run.geometry entry mid now within.past calls;
   }
 
   -- while only is heard
@@ -195,7 +179,7 @@ module _ (run : Run) (records : List Entry) (entry : Site) where
   module _ (mid next new : Site) (engine engine' : Engine) (i : ℕ) (line : Line) (rest : List Line) (is : drop i (answered run) ≡ line ∷ rest) (same : HearsOnly mid next) (sizes : sizes_of engine.store ≡ run.geometry)
       (counted : IsCounted run records entry mid engine i) where
     -- a line was heard, however its answer ends
-    module _ {T E : Type 0} {worn : E} (result : Result T E) (c : CountsOn result worn engine engine' next new (state_at run i) (step (state_at run i) line []).after (line_checkpoints (state_at run i) line)) where
+    module _ {T E : Type 0} (result : Result T E) (c : CountsOn result engine engine' next new (state_at run i) (step (state_at run i) line []).after (line_checkpoints (state_at run i) line)) where
       before : LeavesOnly entry next (λ s. Given i s.image)
       before = counts_still mid next i same counted.numbers
 
@@ -217,12 +201,9 @@ module _ (run : Run) (records : List Entry) (entry : Site) where
           (leaves_more run.geometry entry next (blocks_at i) (blocks_at (suc i)) (masters_at i) (masters_at (suc i)) (omega (arith, was, made, some)) (omega (arith, checkpoints)) before)
           (leaves_more run.geometry next new _ (blocks_at (suc i)) _ (masters_at (suc i)) more_blocks more_masters own)
 
-      pub wears_next : IsErrOf result worn → PassesEnd (blocks_at (suc i)) (masters_at (suc i))
-      wears_next past = passes_more _ (blocks_at (suc i)) _ (masters_at (suc i)) more_blocks more_masters (c.worn past)
-
     -- it was answered
-    pub next_counted : {T E : Type 0} {worn : E} (x : T) → CountsOn {T = T} {E = E} (Ok x) worn engine engine' next new (state_at run i) (step (state_at run i) line []).after (line_checkpoints (state_at run i) line) → FillsBy (line_octets (state_at run i) line) engine engine' → IsCounted run records entry new engine' (suc i)
-    next_counted x c fills =
+    pub next_counted : {T E : Type 0} (x : T) → CountsOn {T = T} {E = E} (Ok x) engine engine' next new (state_at run i) (step (state_at run i) line []).after (line_checkpoints (state_at run i) line) → IsCounted run records entry new engine' (suc i)
+    next_counted x c =
         let was = made_are run i in
         let made = made_next run i line rest is in
         let log = counted.log in
@@ -230,12 +211,8 @@ module _ (run : Run) (records : List Entry) (entry : Site) where
         record {
           log = let few = c.log in omega (arith, few, log, was, made, some);
           numbers = counts_next (Ok x) c;
-          fills = let so_far = counted.fills in let octets = octets_next run i line rest is in omega (arith, so_far, fills, octets);
-          units = record {
-            masters = (let so_far = counted.units.masters in let heard = ap (λ (i : Image). hi_of master_shape i.log) same.image in let saved = c.saved in let checkpoints = checkpoints_next run i line rest is in omega (arith, so_far, heard, saved, checkpoints));
-            past = calls_then run.geometry entry mid new counted.units.past
-                (calls_then run.geometry mid next new (calls_heard run.geometry mid next same) (subst (λ (g : Geometry). CallsForUnits g next new) sizes c.past));
-          };
+          calls = calls_then run.geometry entry mid new counted.calls
+              (calls_then run.geometry mid next new (calls_heard run.geometry mid next same) (subst (λ (g : Geometry). CallsForUnits g next new) sizes c.past));
         }
 
 -- it doesn't depend on what the cache lists
@@ -246,9 +223,8 @@ counted_on run listings records old now engine i counted =
     let checkpoints = checkpoints_are own i ∙ sym (checkpoints_are run i) in
     record {
       log = let log = counted.log in omega (arith, log, made);
-      fills = let fills = counted.fills in let there = first_fill i run.opening run.lines listings in let here = first_fill i run.opening run.lines run.listings in omega (arith, fills, there, here);
       numbers = leaves_more run.geometry old now _ _ _ _ (omega (arith, made)) (omega (arith, checkpoints)) counted.numbers;
-      units = record { masters = (let masters = counted.units.masters in omega (arith, masters, checkpoints)); past = counted.units.past };
+      calls = counted.calls;
     }
 
 -- what nothing was done to
@@ -260,9 +236,9 @@ pub skips_still : (run : Run) (piece : List ℕ) (old mid now : Site) → EachMo
 skips_still run piece old mid now tells skips newest blocks sound = images_told (λ (i : Image). GivesNumbers run (log_under newest blocks) old.image i) piece old mid now (skips newest blocks sound) tells
 
 -- a run that opens, and then carries its first lines out or stops within them
-module _ {T E : Type 0} {worn : E} (result : Result T E) (run : Run) (lines : ℕ) (records : List Entry) (a b : Engine) (old mid now : Site) (sizes : sizes_of a.store ≡ run.geometry) (log : blocks_to a.store.log ≤ hi_of (log_shape run.geometry) old.image.log + owed records + run.opening.made)
+module _ {T E : Type 0} (result : Result T E) (run : Run) (lines : ℕ) (records : List Entry) (a b : Engine) (old mid now : Site) (sizes : sizes_of a.store ≡ run.geometry) (log : blocks_to a.store.log ≤ hi_of (log_shape run.geometry) old.image.log + owed records + run.opening.made)
     (first : LeavesOnly old mid (λ s. HasNumbers run.geometry (hi_of (log_shape run.geometry) old.image.log + owed records + run.opening.made) (hi_of master_shape old.image.log + 1) s.image))
-    (c : CountsOn result worn a b mid now run.opening (state_at run lines) (checkpoints_of run.opening (take lines (answered run)))) where
+    (c : CountsOn result a b mid now run.opening (state_at run lines) (checkpoints_of run.opening (take lines (answered run)))) where
   abbrev blocks_all : ℕ
   blocks_all = blocks_by (first_lines run lines) records old.image
 
@@ -287,6 +263,3 @@ module _ {T E : Type 0} {worn : E} (result : Result T E) (run : Run) (lines : �
       in_sequence old mid now (Leaves (λ s. GivesNumbers (first_lines run lines) records old.image s.image))
       (leaves_more run.geometry old mid _ blocks_all _ masters_all (omega (arith, made, some)) (omega arith) first)
       (leaves_more run.geometry mid now _ blocks_all _ masters_all course_blocks course_masters own)
-
-  pub wears_course : IsErrOf result worn → PassesEnd blocks_all masters_all
-  wears_course past = passes_more _ blocks_all _ masters_all course_blocks course_masters (c.worn past)

@@ -1,5 +1,4 @@
 -- How a run comes to its end.
-use Rattle.face.specs.Filled.{SealsNoMore}
 use Rattle.std.proofs.Common.{◌≡◌, ◌≢◌, ◌⊎◌, inl, inr, ⊎_elim, IsTrue, ℕ, ◌≤◌, List, [], ◌∷◌, ◌++◌, length, suc, refl, sym, ◌∙◌, ap, subst, arith}
 use Rattle.std.specs.Prelude.{Ok, Err, true, false, Bool}
 use Rattle.std.proofs.lemmas.List.{append-nil}
@@ -26,13 +25,17 @@ use Rattle.engine.specs.declared.engine.Engine.{Engine}
 use Rattle.face.specs.Causes.{HasCause, AnswerFailsBy}
 use Rattle.face.specs.Lines.{HasEnded, to_hear, total, IsSource, HearsLine, Hears, IsCutOff}
 use Rattle.site.specs.declared.outside.Dev.TheVariants.{Log, Flash, Disk}
-use Rattle.face.specs.Range.{AppendsLast, AsksNoMore, CountsUnits, HasBegun, IsLeft, LeavesItsQueue, LeavesStaged, LeavesVersions, ListsTheMachine, NeverWears, SkipsNoNumber, WearsLog, WearsOut, WritesAsTold}
+use Rattle.face.specs.Range.{AsksNoMore, HasBegun, IsLeft, LeavesItsQueue, LeavesStaged, LeavesVersions, ListsTheMachine, SkipsNoNumber, WritesAsTold}
+use Rattle.face.specs.Worn.{LeavesItsRings, WearsFirst, WearsNone, WearsNoneBefore}
+use Rattle.image_changes.specs.Costs.{CallsForUnits}
 use Rattle.face.specs.Run.{Run, first_lines}
-use Rattle.face.specs.Working.{AnswersFirst, HasHeard, Stops, StopsTaking, RunOutcome}
+use Rattle.face.specs.Working.{AnswersFirst, HasHeard, Stops, StopsTaking, TakingFails, RunOutcome}
 use Rattle.face.specs.Going.{Going}
 use Rattle.face.proofs.Cuts.{Cut, has_heard_all, input_failed, over_limit, taken_by, heard_line, quit_is_last}
 use Rattle.face.proofs.RunsSoFar.{begun_before, stopped, ended}
-use Rattle.face.proofs.Demanded.{demands_err, demands_ok, same_halt}
+use Rattle.face.proofs.Demanded.{demands_err, demands_ok}
+use Rattle.face.proofs.WornFronts.{none_first}
+use Rattle.site.specs.declared.outside.Dev.{Dev}
 use Rattle.face.proofs.Lefts.{left_first}
 use Rattle.face.proofs.Listed.{no_turn}
 use Rattle.face.proofs.Waits.{answers_none}
@@ -45,14 +48,20 @@ not_taking halt.Input run i octets old new ne = absurd (ne.0 refl)
 not_taking halt.Output run i octets old new ne = tt
 not_taking halt.Limit run i octets old new ne = absurd (ne.1 refl)
 
+no_taking : (T : Type 0) (h : Halt) → (h ≢ halt.Input) × (h ≢ halt.Limit) → TakingFails {T = T} (Err h) → ⊥
+no_taking T (halt.Stop stop) ne fails = fails
+no_taking T halt.Input ne fails = ne.0 refl
+no_taking T halt.Output ne fails = fails
+no_taking T halt.Limit ne fails = ne.1 refl
+
 -- no line asks for a listing where there is none
 pub lists_nothing : (pool : ℕ) (run : Run) (image : Image) → ListsTheMachine pool (first_lines run 0) image
 lists_nothing pool run image newest blocks sound before later t is = absurd (no_turn before later t is)
 
 -- before the first line
-pub never_opened : {T : Type 0} (pool : ℕ) (run : Run) (old new : Site) (h : Halt) → Stops run 0 old new h → (h ≢ halt.Input) × (h ≢ halt.Limit) → new.input ≡ old.input → (h ≡ halt.Stop (Worn Flash) → WearsOut pool (first_lines run 0) old.image) → (h ≡ halt.Stop (Worn Log) → WearsLog (first_lines run 0) old.image) → SkipsNoNumber (first_lines run 0) old new → AsksNoMore pool (first_lines run 0) old new →
+pub never_opened : {T : Type 0} (pool : ℕ) (run : Run) (old new : Site) (h : Halt) → Stops run 0 old new h → (h ≢ halt.Input) × (h ≢ halt.Limit) → new.input ≡ old.input → ((dev : Dev) → h ≡ halt.Stop (Worn dev) → WearsFirst pool (first_lines run 0) dev old.image) → SkipsNoNumber (first_lines run 0) old new → AsksNoMore pool (first_lines run 0) old new →
     RunOutcome {T = T} pool run old new (Err h)
-never_opened pool run old new h stops ne left worn log numbers reads = record {
+never_opened {T} pool run old new h stops ne left worn numbers reads = record {
   heard = 0;
   octets = [];
   ended = false;
@@ -69,14 +78,19 @@ never_opened pool run old new h stops ne left worn log numbers reads = record {
         told = a.told_is ∙ ap (λ (l : List ℕ). old.told ++ l) (sym (append-nil a.told));
       };
   done = tt;
-  demands = demands_err pool (first_lines run 0) old new h worn log numbers reads;
-  appends = λ is. inl refl;
+  demands = demands_err pool (first_lines run 0) old new h worn numbers reads;
+  earlier = λ lines less. absurd (omega (arith, less));
+  taking = λ fails. absurd (no_taking T h ne fails);
   listed = lists_nothing pool run old.image;
   written = written_opened pool run old new stops.any_moment reads;
   answers = answers_none run old new left;
 }
 
-module _ (pool : ℕ) (run : Run) (old mid new : Site) (engine : Engine) (source : Source) (i : ℕ) (cut : Cut old.input.left source mid i) (is_source : IsSource source) (going : Going run old new engine i) (listed : ListsTheMachine pool (first_lines run i) old.image) (reads : AsksNoMore pool (first_lines run i) old new) (answers : AnswersFirst run i old new) (written : WritesAsTold pool run i old new) where
+module _ (pool : ℕ) (run : Run) (old mid new : Site) (engine : Engine) (source : Source) (i : ℕ) (cut : Cut old.input.left source mid i) (is_source : IsSource source) (going : Going run old new engine i) (listed : ListsTheMachine pool (first_lines run i) old.image) (reads : AsksNoMore pool (first_lines run i) old new) (answers : AnswersFirst run i old new) (written : WritesAsTold pool run i old new) (room : WearsNone pool (first_lines run i) old.image) where
+  -- none in front of them did either
+  earlier : WearsNoneBefore pool run i old.image
+  earlier lines less = none_first pool run lines i old.image (omega (arith, less)) room
+
   -- taking failed within a line
   pub taking_failed : {T : Type 0} (h : Halt) → (h ≡ halt.Input) ⊎ (h ≡ halt.Limit) → IsCutOff h source.ended (total source mid) (to_hear source mid) new.input.left → SkipsNoNumber (first_lines run i) old new → RunOutcome {T = T} pool run old new (Err h)
   taking_failed (halt.Stop stop) which off numbers = ⊎_elim (λ e. absurd cc) (λ e. absurd cc) which
@@ -91,8 +105,9 @@ module _ (pool : ℕ) (run : Run) (old mid new : Site) (engine : Engine) (source
         stops = (stopped run old new engine i going halt.Input, record { count = f.1.0; no_quit = f.1.1; told = going.told });
         begun = begun_before run old new engine i going;
         done = tt;
-        demands = demands_err pool (first_lines run i) old new halt.Input (λ e. cc) (λ e. cc) numbers reads;
-        appends = λ is. cc;
+        demands = demands_err pool (first_lines run i) old new halt.Input (λ dev e. cc) numbers reads;
+        earlier = earlier;
+        taking = λ fails. room;
         listed = listed;
         written = written;
         answers = answers;
@@ -107,17 +122,18 @@ module _ (pool : ℕ) (run : Run) (old mid new : Site) (engine : Engine) (source
         stops = (stopped run old new engine i going halt.Limit, (record { count = f.1.0; no_quit = f.1.1; told = going.told }, f.2));
         begun = begun_before run old new engine i going;
         done = tt;
-        demands = demands_err pool (first_lines run i) old new halt.Limit (λ e. cc) (λ e. cc) numbers reads;
-        appends = λ is. cc;
+        demands = demands_err pool (first_lines run i) old new halt.Limit (λ dev e. cc) numbers reads;
+        earlier = earlier;
+        taking = λ fails. room;
         listed = listed;
         written = written;
         answers = answers;
       }
 
   -- there are no more lines
-  pub finished : {T : Type 0} (x : T) → to_hear source mid ≡ [] → new.input.left ≡ [] → NeverWears pool (first_lines run i) old.image → LeavesItsQueue pool (first_lines run i) old.image new.image → LeavesVersions pool (first_lines run i) old.image new.image → LeavesStaged pool (first_lines run i) old new → SealsNoMore pool (first_lines run i) old.image new.image → CountsUnits (first_lines run i) old new → SkipsNoNumber (first_lines run i) old new →
+  pub finished : {T : Type 0} (x : T) → to_hear source mid ≡ [] → new.input.left ≡ [] → LeavesItsQueue pool (first_lines run i) old.image new.image → LeavesVersions pool (first_lines run i) old.image new.image → LeavesStaged pool (first_lines run i) old new → LeavesItsRings pool (first_lines run i) old.image new.image → CallsForUnits run.geometry old new → SkipsNoNumber (first_lines run i) old new →
       RunOutcome pool run old new (Ok x)
-  finished x none left room queue versions staged seals calls numbers =
+  finished x none left queue versions staged rings calls numbers =
       let f = has_heard_all old.input.left source mid i cut is_source old new refl none left in
       record {
         heard = i;
@@ -127,21 +143,25 @@ module _ (pool : ℕ) (run : Run) (old mid new : Site) (engine : Engine) (source
         stops = tt;
         begun = begun_before run old new engine i going;
         done = (inl refl, f.1, going.moments, ended run old new engine i going, going.quiet);
-        demands = demands_ok pool (first_lines run i) old new x room queue versions staged seals calls numbers reads;
-        appends = λ is. cc;
+        demands = demands_ok pool (first_lines run i) old new x room queue versions staged rings calls numbers reads;
+        earlier = earlier;
+        taking = λ fails. absurd fails;
         listed = listed;
         written = written;
         answers = answers;
       }
 
 module _ (pool : ℕ) (run : Run) (old mid next new : Site) (source source' : Source) (i : ℕ) (cut : Cut old.input.left source mid i) (is_source : IsSource source) (line : Line) (h : HearsLine line source.ended source'.ended (to_hear source mid) (to_hear source' next))
-    (last : HasEnded source' next) (is' : IsSource source') (left : new.input ≡ next.input) (listed : ListsTheMachine pool (first_lines run (suc i)) old.image) (reads : AsksNoMore pool (first_lines run (suc i)) old new) (answers : AnswersFirst run (suc i) old new) (written : WritesAsTold pool run (suc i) old new) where
+    (last : HasEnded source' next) (is' : IsSource source') (left : new.input ≡ next.input) (listed : ListsTheMachine pool (first_lines run (suc i)) old.image) (reads : AsksNoMore pool (first_lines run (suc i)) old new) (answers : AnswersFirst run (suc i) old new) (written : WritesAsTold pool run (suc i) old new) (room : WearsNone pool (first_lines run i) old.image) where
+  none_before : WearsNoneBefore pool run (suc i) old.image
+  none_before lines less = none_first pool run lines i old.image (omega (arith, less)) room
+
   has_heard_it : HasHeard (suc i) (taken_by old.input.left source mid i cut is_source source' next line h last is') source'.ended old new
   has_heard_it = heard_line old.input.left source mid i cut is_source source' next line h last is' old new refl left
 
   -- a line's answer failed
-  pub answer_failed : {T : Type 0} (fault : Halt) → Stops run (suc i) old new fault → HasBegun run (suc i) [] old new → (fault ≢ halt.Input) × (fault ≢ halt.Limit) → (fault ≡ halt.Stop (Worn Flash) → WearsOut pool (first_lines run (suc i)) old.image) → (fault ≡ halt.Stop (Worn Log) → WearsLog (first_lines run (suc i)) old.image) → (fault ≡ halt.Stop (Worn Log) → AppendsLast pool run (suc i) old.image) → SkipsNoNumber (first_lines run (suc i)) old new → RunOutcome {T = T} pool run old new (Err fault)
-  answer_failed {T} fault stops begun ne worn log appends numbers = record {
+  pub answer_failed : {T : Type 0} (fault : Halt) → Stops run (suc i) old new fault → HasBegun run (suc i) [] old new → (fault ≢ halt.Input) × (fault ≢ halt.Limit) → ((dev : Dev) → fault ≡ halt.Stop (Worn dev) → WearsFirst pool (first_lines run (suc i)) dev old.image) → SkipsNoNumber (first_lines run (suc i)) old new → RunOutcome {T = T} pool run old new (Err fault)
+  answer_failed {T} fault stops begun ne worn numbers = record {
     heard = suc i;
     octets = taken_by old.input.left source mid i cut is_source source' next line h last is';
     ended = source'.ended;
@@ -149,17 +169,18 @@ module _ (pool : ℕ) (run : Run) (old mid next new : Site) (source source' : So
     stops = (stops, not_taking fault run (suc i) _ old new ne);
     begun = begun;
     done = tt;
-    demands = demands_err pool (first_lines run (suc i)) old new fault worn log numbers reads;
-    appends = λ is. appends (same_halt {T = T} fault (halt.Stop (Worn Log)) is);
+    demands = demands_err pool (first_lines run (suc i)) old new fault worn numbers reads;
+    earlier = none_before;
+    taking = λ fails. absurd (no_taking T fault ne fails);
     listed = listed;
     written = written;
     answers = answers;
   }
 
   -- a quit was answered
-  pub quitted : {T : Type 0} (x : T) (engine : Engine) → is_quit line ≡ true → Going run old new engine (suc i) → NeverWears pool (first_lines run (suc i)) old.image → LeavesItsQueue pool (first_lines run (suc i)) old.image new.image → LeavesVersions pool (first_lines run (suc i)) old.image new.image → LeavesStaged pool (first_lines run (suc i)) old new → SealsNoMore pool (first_lines run (suc i)) old.image new.image → CountsUnits (first_lines run (suc i)) old new → SkipsNoNumber (first_lines run (suc i)) old new →
+  pub quitted : {T : Type 0} (x : T) (engine : Engine) → is_quit line ≡ true → Going run old new engine (suc i) → WearsNone pool (first_lines run (suc i)) old.image → LeavesItsQueue pool (first_lines run (suc i)) old.image new.image → LeavesVersions pool (first_lines run (suc i)) old.image new.image → LeavesStaged pool (first_lines run (suc i)) old new → LeavesItsRings pool (first_lines run (suc i)) old.image new.image → CallsForUnits run.geometry old new → SkipsNoNumber (first_lines run (suc i)) old new →
       RunOutcome pool run old new (Ok x)
-  quitted x engine quits going room queue versions staged seals calls numbers =
+  quitted x engine quits going whole queue versions staged rings calls numbers =
       let all = quit_is_last old.input.left source mid i cut is_source source' next line h last is' quits in
       record {
         heard = suc i;
@@ -169,8 +190,9 @@ module _ (pool : ℕ) (run : Run) (old mid next new : Site) (source source' : So
         stops = tt;
         begun = begun_before run old new engine (suc i) going;
         done = (inr all.1, all.0, going.moments, ended run old new engine (suc i) going, going.quiet);
-        demands = demands_ok pool (first_lines run (suc i)) old new x room queue versions staged seals calls numbers reads;
-        appends = λ is. cc;
+        demands = demands_ok pool (first_lines run (suc i)) old new x whole queue versions staged rings calls numbers reads;
+        earlier = none_before;
+        taking = λ fails. absurd fails;
         listed = listed;
         written = written;
         answers = answers;

@@ -2,7 +2,7 @@
 use Rattle.std.proofs.Common.{◌≡◌, ◌≢◌, ◌⊎◌, inl, inr, ⊎_elim, ℕ, suc, ◌+◌, ◌≤◌, Bool, true, false, List, [], ◌∷◌, ◌++◌, length, take, drop, refl, sym, ◌∙◌, ap, subst, arith, append_assoc, length-append, take-append-drop}
 use Rattle.std.specs.Prelude.{Err, Ok, Result, IsTrue, count_by, flat_map, map}
 use Rattle.std.proofs.lemmas.List.{append-nil, length-take, take_all, take_at, take-take}
-use Rattle.site.specs.State.{Image, Input, State as Site, Snapshot}
+use Rattle.site.specs.State.{Input, State as Site, Snapshot}
 use Rattle.site.specs.Calls.{Preserves}
 use Rattle.site.specs.Moments.{Leaves, LeavesOnly, EachMoment}
 use Rattle.site.specs.Laws.{in_sequence, leaves_weaker, stays_honest, told_is, tell_leaves}
@@ -20,24 +20,20 @@ use Rattle.face.specs.declared.halt.Halt.TheVariants as halt
 use Rattle.face.specs.Texts.{fault_line, status_of}
 use Rattle.shell_text.specs.Texts.{open_text, reply_text}
 use Rattle.engine.specs.Image.{Stands}
-use Rattle.site.specs.declared.outside.Dev.TheVariants.{Log, Flash, Disk}
-use Rattle.redo_undo.specs.Holding.{IsLogWorn}
-use Rattle.redo_undo.specs.MachineSteps.{OverflowsWithMore}
 use Rattle.face.specs.Causes.{HasCause, HasCauses, NoFaultRose, EndsInTime}
-use Rattle.face.proofs.LogRoom.{never_worn}
+use Rattle.face.proofs.WornFronts.{earlier_same, never_worn}
 use Rattle.face.specs.Lines.{commands_of, up_to_quit, answered_of, limit}
 use Rattle.face.specs.Run.{Run, answered, first_lines, Begins}
-use Rattle.face.specs.Working.{Demands, HasHeard, HasTakenAll, IsBetween, StandsNear, StopsTaking, RunOutcome}
+use Rattle.face.specs.Working.{Demands, HasHeard, HasTakenAll, IsBetween, StandsNear, StopsTaking, TakingFails, RunOutcome}
 use Rattle.face.proofs.Waits.{answers_still}
-use Rattle.face.specs.Range.{HasLogRoom, IsLeft, IsWhole, ListsTheMachine, NeverWears, WearsLog, WearsOut}
+use Rattle.face.specs.Range.{IsLeft, IsWhole, ListsTheMachine}
+use Rattle.face.specs.Worn.{WearsFirst, WearsNone}
 use Rattle.face.specs.Range.{first_texts, run_of, run_text, texts}
 use Rattle.face.specs.Tells.{EndsBehind, Tells}
 use Rattle.face.proofs.Endings.{ends_whole, ends_with}
-use Rattle.face.proofs.Appending.{appends_same}
 use Rattle.face.proofs.Demanded.{asked_done, asked_halted, demands_failed}
-use Rattle.face.proofs.Pagings.{wears_out_all}
 use Rattle.face.specs.TopCall.{RunContract}
-use Rattle.face.specs.Headline.{Durability, IsGood, IsToldWhole, Headline, TellsFault, WearsAt}
+use Rattle.face.specs.Headline.{Durability, IsGood, IsToldWhole, Headline, TellsFault}
 use Rattle.site.specs.declared.outside.Dev.{Dev}
 use Rattle.face.proofs.Fronts.{begun_same, first_commands, first_same, lines_first, no_quits, told_first, told_same, up_append, waits_same, whole_turns}
 use Rattle.face.proofs.Lefts.{left_whole}
@@ -150,23 +146,25 @@ not_zero halt.Input e = omega (arith, e)
 not_zero halt.Output e = omega (arith, e)
 not_zero halt.Limit e = omega (arith, e)
 
--- with 8 it is flash that is worn, or the log
-pub worn_by : (g : Geometry) (opening : State) (h : Halt) (old new : Site) → IsGood g opening old → HasCause h old new → status_of h ≡ 8 → (h ≡ halt.Stop (Worn Flash)) ⊎ ((h ≡ halt.Stop (Worn Log)) × IsLogWorn g new.image)
-worn_by g opening (halt.Stop (Device dev)) old new good cause e = absurd (omega (arith, e))
-worn_by g opening (halt.Stop Memory) old new good cause e = absurd (omega (arith, e))
-worn_by g opening (halt.Stop (Worn Flash)) old new good cause e = inl refl
-worn_by g opening (halt.Stop (Worn Log)) old new good cause e = inr (refl, (let stands = stands_by g old.image opening good.opens in (cause good.honest g good.opens.sound.octets.limits good.opens.sound.octets.lengths).1 opening.table opening.commits stands))
-worn_by g opening (halt.Stop (Worn Disk)) old new good cause e = absurd cause
-worn_by g opening (halt.Stop Foreign) old new good cause e = absurd (omega (arith, e))
-worn_by g opening halt.Input old new good cause e = absurd (omega (arith, e))
-worn_by g opening halt.Output old new good cause e = absurd (omega (arith, e))
-worn_by g opening halt.Limit old new good cause e = absurd (omega (arith, e))
+-- with 8 a device is worn
+pub worn_by : (h : Halt) → status_of h ≡ 8 → (dev : Dev) × (h ≡ halt.Stop (Worn dev))
+worn_by (halt.Stop (Device dev)) e = absurd (omega (arith, e))
+worn_by (halt.Stop Memory) e = absurd (omega (arith, e))
+worn_by (halt.Stop (Worn dev)) e = (dev, refl)
+worn_by (halt.Stop Foreign) e = absurd (omega (arith, e))
+worn_by halt.Input e = absurd (omega (arith, e))
+worn_by halt.Output e = absurd (omega (arith, e))
+worn_by halt.Limit e = absurd (omega (arith, e))
 
--- the device that it names is none where no ring is appended to past its end
-pub worn_nowhere : (pool : ℕ) (run : Run) (begun : ℕ) (old now : Image) (dev : Dev) → WearsAt dev pool run begun old now → (WearsOut pool (first_lines run begun) old → ⊥) → (WearsLog (first_lines run begun) old → ⊥) → ⊥
-worn_nowhere pool run begun old now Flash wears flash log = flash wears
-worn_nowhere pool run begun old now Log wears flash log = log wears.1
-worn_nowhere pool run begun old now Disk wears flash log = wears
+-- with 5 and 7 taking was what failed
+taking_by : (T : Type 0) (h : Halt) → (status_of h ≡ 5) ⊎ (status_of h ≡ 7) → TakingFails {T = T} (Err h)
+taking_by T (halt.Stop (Device dev)) which = ⊎_elim (λ e. absurd (omega (arith, e))) (λ e. absurd (omega (arith, e))) which
+taking_by T (halt.Stop Memory) which = ⊎_elim (λ e. absurd (omega (arith, e))) (λ e. absurd (omega (arith, e))) which
+taking_by T (halt.Stop (Worn dev)) which = ⊎_elim (λ e. absurd (omega (arith, e))) (λ e. absurd (omega (arith, e))) which
+taking_by T (halt.Stop Foreign) which = ⊎_elim (λ e. absurd (omega (arith, e))) (λ e. absurd (omega (arith, e))) which
+taking_by T halt.Input which = tt
+taking_by T halt.Output which = ⊎_elim (λ e. absurd (omega (arith, e))) (λ e. absurd (omega (arith, e))) which
+taking_by T halt.Limit which = tt
 
 module _ (pool : ℕ) (g : Geometry) (opening : State) (listings : List (List CacheLine)) (old : Site) where
   abbrev run : Run
@@ -241,8 +239,9 @@ module _ (pool : ℕ) (g : Geometry) (opening : State) (listings : List (List Ca
         resources = record {
           begun = works.heard;
           has_begun = begun_same run lines works.heard heard.same old mid new (fault_line h) now.0 (sym (append-nil new.told) ∙ now.1) heard.enough works.begun;
-          asked = asked_halted pool own works.heard old new {T = T} h status (λ zero. not_zero h (sym is ∙ zero)) (λ eight. worn_by g opening h old new good cause (sym is ∙ eight)) (λ e. appends_same pool run lines works.heard heard.same old.image (works.appends (ap Err e)))
+          asked = asked_halted pool own works.heard old new {T = T} h status (λ zero. not_zero h (sym is ∙ zero)) (λ eight. worn_by h (sym is ∙ eight)) (earlier_same pool run lines works.heard heard.same old.image works.earlier)
               (demands_failed pool (first_lines own works.heard) old mid new same_devices.image told.reads tells h (subst (λ (r : Run). Demands {T = T} pool r old mid (Err h)) (sym front) works.demands));
+          taking = λ which. subst (λ (r : Run). WearsNone pool r old.image) (sym front) (works.taking (taking_by T h (⊎_elim (λ e. inl (sym is ∙ e)) (λ e. inr (sym is ∙ e)) which)));
           listed = subst (λ (r : Run). ListsTheMachine pool r old.image) (sym front) works.listed;
           written = written_same pool run lines works.heard heard.same old new (written_told pool run works.heard (fault_line h) old mid new tells works.written);
         };
@@ -284,7 +283,8 @@ module _ (pool : ℕ) (g : Geometry) (opening : State) (listings : List (List Ca
         resources = record {
           begun = works.heard;
           has_begun = begun_same run lines works.heard same old new new [] 0 (sym (append-nil new.told)) heard.enough works.begun;
-          asked = asked_done pool own works.heard old new x whole (subst (λ (r : Run). Demands pool r old new (Ok x)) (sym front) works.demands);
+          asked = asked_done pool own works.heard old new x whole (earlier_same pool run lines works.heard same old.image works.earlier) (subst (λ (r : Run). Demands pool r old new (Ok x)) (sym front) works.demands);
+          taking = λ which. ⊎_elim (λ e. absurd (omega (arith, e))) (λ e. absurd (omega (arith, e))) which;
           listed = subst (λ (r : Run). ListsTheMachine pool r old.image) (sym front) works.listed;
           written = written_same pool run lines works.heard same old new works.written;
         };
@@ -309,12 +309,12 @@ not_over n left octets rest is (inr quit) many none = true_not_false (sym quit �
     same = ap (take n) is ∙ front
 
 -- where nothing fails, no ring stands at its end that is appended to, and the input ends in time
-pub complete : OverflowsWithMore → (pool : ℕ) (g : Geometry) (opening : State) (old new : Site) (status : ℕ) → IsGood g opening old → NoFaultRose old new → NeverWears pool (run_of g opening true old.input.left []) old.image → HasLogRoom (run_of g opening true old.input.left []) old.image → EndsInTime old → HasCauses status old new →
+pub complete : (pool : ℕ) (g : Geometry) (opening : State) (old new : Site) (status : ℕ) → IsGood g opening old → NoFaultRose old new → WearsNone pool (run_of g opening true old.input.left []) old.image → EndsInTime old → HasCauses status old new →
     Headline pool g opening old new status → (status ≡ 0) ⊎ (status ≡ 4)
-complete more pool g opening old new status good none room log_room ends causes h =
+complete pool g opening old new status good none room ends causes h =
     ⊎_elim (λ e. inl e) (⊎_elim (λ e. let c = causes.device e in absurd (none.devices c.0 c.1)) (⊎_elim (λ e. inr e) (⊎_elim (λ e. absurd (none.input (causes.input e)))
     (⊎_elim (λ e. absurd (none.output (causes.output e))) (⊎_elim (λ e. absurd (in_time (d.over e)))
-    (⊎_elim (λ e. absurd (let worn = h.resources.asked.worn e in worn_nowhere pool (run_of g opening d.ended d.octets d.listings) h.resources.begun old.image new.image worn.0 worn.2 never never_log)) (λ e. absurd (causes.foreign e good.honest g opening.table opening.commits stands)))))))) causes.others
+    (⊎_elim (λ e. absurd (let worn = h.resources.asked.worn e in never worn.0 worn.2)) (λ e. absurd (causes.foreign e good.honest g opening.table opening.commits stands)))))))) causes.others
   where
     d : Durability g opening old new status
     d = h.durability
@@ -325,24 +325,15 @@ complete more pool g opening old new status good none room log_room ends causes 
     in_time : (length d.octets ≡ limit + 1) × (list_any is_quit (commands_of false (take limit d.octets)) ≡ false) → ⊥
     in_time over = not_over limit old.input.left d.octets new.input.left d.taken ends over.0 over.1
 
-    never_log : WearsLog (first_lines (run_of g opening d.ended d.octets d.listings) h.resources.begun) old.image → ⊥
-    never_log wears = never_worn g opening d.listings d.ended old.input.left d.octets new.input.left d.taken d.end h.resources.begun old.image good.opens.newest good.opens.blocks good.opens.sound wears log_room
-
-    never : WearsOut pool (first_lines (run_of g opening d.ended d.octets d.listings) h.resources.begun) old.image → ⊥
-    never over =
-        let newest = good.opens.newest in
-        let blocks = good.opens.blocks in
-        let sound = good.opens.sound in
-        let all = wears_out_all more pool g opening d.listings old.image d.ended d.octets old.input.left new.input.left d.taken d.end h.resources.begun over newest blocks sound in
-        let few = room newest blocks sound in
-        omega (arith, all, few)
+    never : (dev : Dev) → WearsFirst pool (first_lines (run_of g opening d.ended d.octets d.listings) h.resources.begun) dev old.image → ⊥
+    never dev wears = never_worn pool g opening d.listings d.ended old.input.left d.octets new.input.left d.taken d.end h.resources.begun old.image good.opens.newest good.opens.blocks good.opens.sound dev wears room
 
 -- the contract of a run, where its line says the status
-pub run_contract : OverflowsWithMore → (pool : ℕ) (old new : Site) (status : ℕ) → ((g : Geometry) (opening : State) → IsGood g opening old → Headline pool g opening old new status) → HasCauses status old new → (IsTrue old.honest → TellsFault status old new)
+pub run_contract : (pool : ℕ) (old new : Site) (status : ℕ) → ((g : Geometry) (opening : State) → IsGood g opening old → Headline pool g opening old new status) → HasCauses status old new → (IsTrue old.honest → TellsFault status old new)
     → RunContract pool old new status
-run_contract more pool old new status headline causes line = record {
+run_contract pool old new status headline causes line = record {
   headline = headline;
-  complete = λ g opening good none room log_room ends. complete more pool g opening old new status good none room log_room ends causes (headline g opening good);
+  complete = λ g opening good none room ends. complete pool g opening old new status good none room ends causes (headline g opening good);
   causes = causes;
   line = line;
 }

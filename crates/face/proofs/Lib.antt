@@ -1,4 +1,3 @@
-mod Appending
 mod CallCounts
 mod CauseLaws
 mod CheckLaws
@@ -9,7 +8,6 @@ mod Demanded
 mod Endings
 mod Ends
 mod Faults
-mod Fillings
 mod Firsts
 mod Fronts
 mod Heard
@@ -22,7 +20,6 @@ mod Livings
 mod LoadCounts
 mod LoadFaults
 mod Loadings
-mod LogRoom
 mod Logs
 mod Longer
 mod Meanings
@@ -34,6 +31,7 @@ mod Quiet
 mod Ranges
 mod Replies
 mod RestartGroups
+mod RingCounts
 mod RingLives
 mod Runs
 mod RunsSoFar
@@ -42,6 +40,9 @@ mod Trials
 mod Turns
 mod UntoldLines
 mod Waits
+mod WornFronts
+mod WornLines
+mod WornRuns
 mod Writings
 mod Written
 mod Zeros

@@ -1,5 +1,5 @@
 -- Lines that are carried out one after the other, none of which quits: their turns, states and work.
-use Rattle.std.proofs.Common.{◌≡◌, ⊎_elim, ℕ, zero, suc, ◌+◌, ◌≤◌, Bool, true, false, List, [], ◌∷◌, ◌++◌, map, drop, refl, sym, ◌∙◌, ap, arith, append_assoc, cond}
+use Rattle.std.proofs.Common.{◌≡◌, ⊎_elim, ℕ, zero, suc, ◌+◌, ◌≤◌, Bool, true, false, List, [], ◌∷◌, ◌++◌, map, drop, refl, sym, ◌∙◌, ap, arith, append_assoc, cond, take, length}
 use Rattle.std.specs.Prelude.{count_by, if◌then◌else◌}
 use Rattle.std.specs.List.{AllByRecursion}
 use Rattle.std.proofs.lemmas.List.{append-nil, map-append}
@@ -42,6 +42,13 @@ pub after_join : (s : State) (first later : List Line) → after_lines s (first 
 after_join s [] later = refl
 after_join s (line ∷ first) later =
     after_cons s line (first ++ later) ∙ after_join (step s line []).after first later ∙ ap (λ (x : State). after_lines x later []) (sym (after_cons s line first))
+
+-- the first lines of some and others, where they are all of the former
+pub take_over : (first later : List Line) (n : ℕ) → take (length first + n) (first ++ later) ≡ first ++ take n later
+take_over [] later n = let same : 0 + n ≡ n = omega arith in ap (λ (m : ℕ). take m later) same
+take_over (line ∷ first) later n =
+    let same : length (line ∷ first) + n ≡ suc (length first + n) = omega arith in
+    ap (λ (m : ℕ). take m (line ∷ (first ++ later))) same ∙ ap (λ (l : List Line). line ∷ l) (take_over first later n)
 
 pub works_join : (s : State) (first later : List Line) → works_of s (first ++ later) ≡ works_of s first ++ works_of (after_lines s first []) later
 works_join s [] later = refl

@@ -1,9 +1,9 @@
 -- A load that halts with its fault line, and one that is summed up.
-use Rattle.std.proofs.Common.{◌≡◌, ◌≢◌, ◌⊎◌, inl, inr, ⊎_elim, ℕ, ◌+◌, ◌-◌, ◌≤◌, List, [], ◌++◌, length, take, refl, sym, ◌∙◌, ap, subst, arith, append_assoc}
+use Rattle.std.proofs.Common.{◌≡◌, ◌≢◌, ◌⊎◌, inl, inr, ⊎_elim, ℕ, ◌-◌, ◌≤◌, List, [], ◌++◌, length, take, refl, sym, ◌∙◌, ap, subst, arith, append_assoc}
 use Rattle.std.specs.Prelude.{Ok, Err, Result, IsTrue}
 use Rattle.std.proofs.lemmas.List.{append-nil, take_all}
 use Rattle.site.specs.declared.geometry.Geometry.{Geometry}
-use Rattle.site.specs.declared.outside.Dev.TheVariants.{Log}
+use Rattle.site.specs.declared.outside.Dev.{Dev}
 use Rattle.site.specs.declared.outside.Stop.TheVariants.{Device, Memory, Worn, Foreign}
 use Rattle.site.specs.State.{State as Site, Snapshot, now_of}
 use Rattle.site.specs.Calls.{Preserves, SameReads}
@@ -13,25 +13,24 @@ use Rattle.site.specs.Telling.{SameDevices, TellsOnly, TellsPart}
 use Rattle.site.specs.declared.outside.Failed.{Failed}
 use Rattle.record_model.specs.State.{State}
 use Rattle.record_model.specs.Run.{commit_marks, commits_among}
-use Rattle.redo_undo.specs.MachineSteps.{OverflowsWithMore}
 use Rattle.face.specs.declared.halt.Halt.{Halt}
 use Rattle.face.specs.declared.halt.Halt.TheVariants as halt
 use Rattle.command_line.specs.declared.request.Load.{Load}
 use Rattle.face.specs.Causes.{HasCause, HasCauses, NoFaultRose}
-use Rattle.face.proofs.LogRoom.{never_worn_within}
+use Rattle.face.proofs.WornFronts.{never_worn_within}
 use Rattle.face.specs.TopCall.{LoadContract}
 use Rattle.face.specs.Headline.{IsGood, TellsFault}
 use Rattle.face.specs.Loads.{Allows, HasBegunLoad, IsLeftOf, IsOpened, IsUntold, LoadHeadline, LoadStops, LoadWorks}
-use Rattle.face.specs.Range.{HasLogRoom, NeverWears, StandsAfter, WearsLog, WearsOut, all_commits}
+use Rattle.face.specs.Range.{StandsAfter, all_commits}
+use Rattle.face.specs.Worn.{WearsFirst, WearsNone}
 use Rattle.face.specs.Run.{IsFront, Run, first_lines, turns_of}
 use Rattle.face.specs.Texts.{fault_line, status_of}
 use Rattle.face.specs.Tells.{EndsBehind, Tells}
 use Rattle.face.specs.Workload.{load_run, load_texts, opening_text, summary_text}
 use Rattle.face.proofs.CallCounts.{calls_told}
 use Rattle.face.proofs.Endings.{ends_whole, ends_with}
-use Rattle.face.proofs.Demanded.{asked_done, asked_halted, demands_done, demands_err, demands_failed, demands_lost, same_halt}
-use Rattle.face.proofs.Faults.{not_zero, worn_by, worn_nowhere}
-use Rattle.face.proofs.Pagings.{wears_out_later}
+use Rattle.face.proofs.Demanded.{asked_done, asked_halted, demands_done, demands_err, demands_failed, demands_lost}
+use Rattle.face.proofs.Faults.{not_zero, worn_by}
 use Rattle.face.proofs.Meanings.{stands_by}
 
 no_text : (rest text : List ℕ) → IsFront rest [] → IsFront rest text
@@ -82,8 +81,8 @@ module _ (pool : ℕ) (run : Run) (summary : List ℕ) (old : Site) where
     begun = works.begun;
     has_begun = works.has_begun;
     all = tt;
-    demands = demands_err pool (first_lines run works.begun) old new h (λ e. works.demands.worn (ap Err e)) (λ e. works.demands.worn_log (ap Err e)) works.demands.numbers works.demands.reads;
-    appends = λ is. works.appends (ap Err (same_halt {T = U} h (halt.Stop (Worn Log)) is));
+    demands = demands_err pool (first_lines run works.begun) old new h (λ dev e. works.demands.worn dev (ap Err e)) works.demands.numbers works.demands.reads;
+    earlier = works.earlier;
     left = works.left;
   }
 
@@ -118,7 +117,7 @@ module _ (pool : ℕ) (run : Run) (summary : List ℕ) (old : Site) where
       has_begun = still_begun run works.begun summary old mid new tells works.has_begun;
       all = works.all;
       demands = demands_done pool (first_lines run works.begun) old mid new same.image read tells x y (calls_told run.geometry summary mid new same.image told few) works.demands;
-      appends = λ is. cc;
+      earlier = works.earlier;
       left = same.left ∙ works.left;
     }
 
@@ -131,7 +130,7 @@ module _ (pool : ℕ) (run : Run) (summary : List ℕ) (old : Site) where
       has_begun = still_begun run works.begun summary old mid new tells works.has_begun;
       all = tt;
       demands = demands_lost pool (first_lines run works.begun) old mid new same.image read tells x works.demands;
-      appends = λ is. cc;
+      earlier = works.earlier;
       left = same.left ∙ works.left;
     }
 
@@ -215,7 +214,7 @@ module _ (load : Load) (g : Geometry) (opening : State) (old : Site) (good : IsG
         resources = record {
           begun = works.begun;
           has_begun = still_begun run' works.begun (fault_line h) old mid new tells works.has_begun;
-          asked = asked_halted load.pool run' works.begun old new {T = T} h status (λ zero. not_zero h (sym is ∙ zero)) (λ eight. worn_by g opening h old new good cause (sym is ∙ eight)) (λ e. works.appends (ap Err e))
+          asked = asked_halted load.pool run' works.begun old new {T = T} h status (λ zero. not_zero h (sym is ∙ zero)) (λ eight. worn_by h (sym is ∙ eight)) works.earlier
               (demands_failed load.pool (first_lines run' works.begun) old mid new same.image read tells h works.demands);
         };
       }
@@ -236,25 +235,19 @@ module _ (load : Load) (g : Geometry) (opening : State) (old : Site) (good : IsG
     resources = record {
       begun = works.begun;
       has_begun = works.has_begun;
-      asked = asked_done load.pool run' works.begun old new x works.all works.demands;
+      asked = asked_done load.pool run' works.begun old new x works.all works.earlier works.demands;
     };
   }
 
   -- where nothing fails, and no ring is too short, it is done, or memory was wanted
-  pub load_complete : OverflowsWithMore → (new : Site) (status : ℕ) → NoFaultRose old new → NeverWears load.pool run' old.image → HasLogRoom run' old.image → (status ≢ 5) × (status ≢ 7) → HasCauses status old new → LoadHeadline load g opening old new status → (status ≡ 0) ⊎ (status ≡ 4)
-  load_complete more new status none room log_room untaken causes h =
+  pub load_complete : (new : Site) (status : ℕ) → NoFaultRose old new → WearsNone load.pool run' old.image → (status ≢ 5) × (status ≢ 7) → HasCauses status old new → LoadHeadline load g opening old new status → (status ≡ 0) ⊎ (status ≡ 4)
+  load_complete new status none room untaken causes h =
       ⊎_elim (λ e. inl e) (⊎_elim (λ e. let c = causes.device e in absurd (none.devices c.0 c.1)) (⊎_elim (λ e. inr e) (⊎_elim (λ e. absurd (untaken.0 e))
       (⊎_elim (λ e. absurd (none.output (causes.output e))) (⊎_elim (λ e. absurd (untaken.1 e))
-      (⊎_elim (λ e. absurd (let worn = h.resources.asked.worn e in worn_nowhere load.pool run' h.resources.begun old.image new.image worn.0 worn.2 never never_log)) (λ e. absurd (causes.foreign e good.honest g opening.table opening.commits (stands_by g old.image opening good.opens))))))))) causes.others
+      (⊎_elim (λ e. absurd (let worn = h.resources.asked.worn e in never worn.0 worn.2)) (λ e. absurd (causes.foreign e good.honest g opening.table opening.commits (stands_by g old.image opening good.opens))))))))) causes.others
     where
-      never_log : WearsLog (first_lines run' h.resources.begun) old.image → ⊥
-      never_log wears = never_worn_within run' h.resources.begun old.image good.opens.newest good.opens.blocks good.opens.sound wears log_room
-
-      never : WearsOut load.pool (first_lines run' h.resources.begun) old.image → ⊥
-      never over =
-          let many = wears_out_later more load.pool run' h.resources.begun old.image over good.opens.newest good.opens.blocks good.opens.sound in
-          let few = room good.opens.newest good.opens.blocks good.opens.sound in
-          omega (arith, many, few)
+      never : (dev : Dev) → WearsFirst load.pool (first_lines run' h.resources.begun) dev old.image → ⊥
+      never dev wears = never_worn_within load.pool run' h.resources.begun old.image good.opens.newest good.opens.blocks good.opens.sound dev wears room
 
 -- a status of none that speaks of input
 pub not_taken : (h : Halt) (status : ℕ) → status ≡ status_of h → (h ≢ halt.Input) × (h ≢ halt.Limit) → (status ≢ 5) × (status ≢ 7)
@@ -267,11 +260,11 @@ not_taken halt.Output status is ne = (λ e. omega (arith, is, e), λ e. omega (a
 not_taken halt.Limit status is ne = absurd (ne.1 refl)
 
 -- the contract of a load
-pub load_contract : OverflowsWithMore → (load : Load) (old new : Site) (status : ℕ) → ((g : Geometry) (opening : State) → IsGood g opening old → LoadHeadline load g opening old new status) → HasCauses status old new → (status ≢ 5) × (status ≢ 7) → (IsTrue old.honest → TellsFault status old new)
+pub load_contract : (load : Load) (old new : Site) (status : ℕ) → ((g : Geometry) (opening : State) → IsGood g opening old → LoadHeadline load g opening old new status) → HasCauses status old new → (status ≢ 5) × (status ≢ 7) → (IsTrue old.honest → TellsFault status old new)
     → LoadContract load old new status
-load_contract more load old new status headline causes untaken line = record {
+load_contract load old new status headline causes untaken line = record {
   headline = headline;
-  complete = λ g opening good none room log_room. load_complete load g opening old good more new status none room log_room untaken causes (headline g opening good);
+  complete = λ g opening good none room. load_complete load g opening old good new status none room untaken causes (headline g opening good);
   causes = causes;
   untaken = untaken;
   line = line;

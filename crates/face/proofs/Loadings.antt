@@ -3,15 +3,13 @@ use Rattle.image_changes.specs.Costs.{CallsForUnits}
 use Rattle.image_changes.specs.Rings.{log_shape}
 use Rattle.image_changes.proofs.Counting.{calls_then}
 use Rattle.sealed_ring.specs.Ring.{hi_of}
-use Rattle.face.specs.Filled.{octets_of}
-use Rattle.face.proofs.Fillings.{first_fill, next_there}
 use Rattle.flash_cache.specs.Representation.{start_reads}
-use Rattle.std.proofs.Common.{◌≡◌, ◌⊎◌, inl, inr, ⊎_elim, ℕ, zero, suc, ◌+◌, ◌-◌, ◌*◌, ◌<◌, ◌≤◌, ◌^◌, Bool, true, List, [], ◌∷◌, ◌++◌, length, take, drop, refl, sym, ◌∙◌, ap, subst, arith, take-append-drop}
+use Rattle.std.proofs.Common.{◌≡◌, ◌⊎◌, inl, inr, ⊎_elim, ℕ, zero, suc, ◌+◌, ◌-◌, ◌*◌, ◌≤◌, Bool, true, List, [], ◌++◌, length, take, drop, refl, sym, ◌∙◌, ap, subst, arith, take-append-drop}
 use Rattle.std.specs.Prelude.{Option, Result, Ok, Err, IsErrOf, OnOk, count_by}
 use Rattle.std.proofs.lemmas.Bool.{cases_lt}
-use Rattle.std.proofs.lemmas.List.{append-nil, length-append, length-take, length-take-le, take_all, take-append-le, take-take}
+use Rattle.std.proofs.lemmas.List.{append-nil, length-take-le, take_all, take-take}
 use Rattle.site.specs.declared.geometry.Geometry.{Geometry}
-use Rattle.site.specs.declared.outside.Dev.TheVariants.{Flash, Log}
+use Rattle.site.specs.declared.outside.Dev.{Dev}
 use Rattle.site.specs.declared.outside.Stop.TheVariants.{Worn}
 use Rattle.site.specs.State.{State as Site, Image, Snapshot, MayLeave, now_of}
 use Rattle.site.specs.Moments.{Leaves, LeavesOnly}
@@ -32,7 +30,7 @@ use Rattle.second_chance.specs.Machine.{Cache, Rules, after_works, opened, rules
 use Rattle.page_store.specs.Caching.{cache_of, rules}
 use Rattle.engine.specs.Paging.{HasLastFrom, WritesFrom}
 use Rattle.face.proofs.Writings.{engine_queue, last_works, writes_then}
-use Rattle.redo_undo.specs.MachineSteps.{next_group, ReadsAddUp, ReadsFor, WorksAddUp}
+use Rattle.redo_undo.specs.MachineSteps.{ReadsAddUp, ReadsFor, WorksAddUp}
 use Rattle.engine.specs.declared.engine.Engine.{Engine}
 use Rattle.engine.specs.Invariant.{Invariant, sizes_of}
 use Rattle.engine.specs.Image.{IsSound, log_under}
@@ -47,17 +45,23 @@ use Rattle.face.specs.Going.{Going, IsCounted, IsPaged}
 use Rattle.face.specs.Loads.{CarriesFirst, CarriesOut, HasBegunLoad, IsLeftOf, IsOpened, IsUntold, LeavesSome, LoadStops, LoadWorks}
 use Rattle.flash_cache.specs.OnDisk.{HasLastStaged}
 use Rattle.site.proofs.Working.{ok_as}
-use Rattle.face.specs.Range.{AppendsLast, AppendsSince, AsksNoMore, CountsUnits, IsLeft, LeavesStaged, SkipsNoNumber, StandsAfter, WearsLog, WearsOut, all_commits, cache_by, first_texts, run_of, staged_by_run, texts}
+use Rattle.face.specs.Worn.{HasRings, IsMirrored, WearsFirst, WearsNoneBefore, machine_by, rings_by, rings_of, worn_by}
+use Rattle.engine.specs.RingWork.{machine_on}
+use Rattle.ring_machine.specs.Machine.{Machine, Work, after_all, first_worn}
+use Rattle.ring_machine.specs.Restart.{restart_work}
+use Rattle.ring_machine.proofs.Works.{first_then, work_adds_up}
+use Rattle.face.proofs.WornRuns.{rings_are, rings_of_store}
+use Rattle.face.specs.Range.{AsksNoMore, IsLeft, LeavesStaged, SkipsNoNumber, StandsAfter, all_commits, cache_by, first_texts, run_of, staged_by_run, texts}
 use Rattle.face.specs.Run.{AsksFew, Run, StandsFor, after_lines, answered, checkpoints_of, first_lines, works_of, turns_of, log_reads_of}
 use Rattle.face.specs.Working.{StandsNear, Stops, asked_after, log_reads_after}
 use Rattle.face.specs.Texts.{status_of}
 use Rattle.face.specs.Workload.{get_line, load_run, numbers_of, opening_text, set_line, set_lines, get_lines}
-use Rattle.face.proofs.Counted.{checkpoints_are, made_are, skips_course, wears_course}
+use Rattle.face.proofs.Counted.{skips_course}
 use Rattle.face.proofs.Logs.{fits_stands}
 use Rattle.face.proofs.UntoldLines.{carries_all, leaves_first}
 use Rattle.face.proofs.Fronts.{state_by_turns}
 use Rattle.face.proofs.Lefts.{left_first, left_none, none_among}
-use Rattle.face.proofs.Demanded.{demands_err, demands_ok, same_halt}
+use Rattle.face.proofs.Demanded.{demands_err, demands_ok}
 use Rattle.face.proofs.Pagings.{first_ask, first_log_reads}
 use Rattle.face.proofs.Ranges.{all_among, stands_after}
 use Rattle.face.proofs.LinesBeforeQuit.{NoneQuits, all_answered, count_join, none_quits_join, none_quits_map}
@@ -150,6 +154,34 @@ module _ (g : Geometry) (opening : State) (load : Load) where
         let lines = first_log_reads n opening run.lines [] ∙ ap (λ (l : List Line). log_reads_of opening (take n l)) all_lines in
         omega (arith, lines)
 
+    -- what its first lines ask of the machine of the rings, and where that stands once the restart has asked
+    first_rings : (n : ℕ) (newest : Option Master) (image : Image) (blocks : List (List LogRecord)) → rings_by run (turns_of (first_lines run n)) newest image blocks ≡ rings_by opening_run (turns_of (first_lines opening_run 0)) newest image blocks ++ rings_of opening (take n run.lines)
+    first_rings n newest image blocks =
+        let restart = restart_work (picture_under newest g image blocks) in
+        rings_are run newest image blocks n ∙ ap (λ (l : List Line). restart ++ rings_of opening (take n l)) all_lines
+        ∙ ap (λ (w : List Work). w ++ rings_of opening (take n run.lines)) (sym (append-nil restart))
+
+    abbrev opened_machine : Option Master → Image → List (List LogRecord) → Machine
+    opened_machine newest image blocks = after_all (rules_of load.pool g.groups) (rings_by opening_run (turns_of (first_lines opening_run 0)) newest image blocks) (machine_on g image)
+
+    found_behind : (newest : Option Master) (image : Image) (blocks : List (List LogRecord)) (before : Engine) (mid : Site) → rules before.store.pages ≡ rules_of load.pool g.groups → IsMirrored load.pool opening_run newest image blocks before mid 0 → (n : ℕ) →
+        worn_by load.pool run (turns_of (first_lines run n)) newest image blocks ≡ first_worn (rules before.store.pages) (rings_of opening (take n run.lines)) (opened_machine newest image blocks)
+    found_behind newest image blocks before mid rules_are at n =
+        let r = rules_of load.pool g.groups in
+        let start = machine_on g image in
+        ap (λ (w : List Work). first_worn r w start) (first_rings n newest image blocks)
+        ∙ first_then r (rings_by opening_run (turns_of (first_lines opening_run 0)) newest image blocks) (rings_of opening (take n run.lines)) start (at.done start refl).0
+        ∙ ap (λ (x : Rules). first_worn x (rings_of opening (take n run.lines)) (opened_machine newest image blocks)) (sym rules_are)
+
+    machine_behind : (newest : Option Master) (image : Image) (blocks : List (List LogRecord)) (before : Engine) → rules before.store.pages ≡ rules_of load.pool g.groups → (n : ℕ) →
+        machine_by load.pool run (turns_of (first_lines run n)) newest image blocks ≡ after_all (rules before.store.pages) (rings_of opening (take n run.lines)) (opened_machine newest image blocks)
+    machine_behind newest image blocks before rules_are n =
+        let r = rules_of load.pool g.groups in
+        let start = machine_on g image in
+        ap (λ (w : List Work). after_all r w start) (first_rings n newest image blocks)
+        ∙ work_adds_up r (rings_by opening_run (turns_of (first_lines opening_run 0)) newest image blocks) (rings_of opening (take n run.lines)) start
+        ∙ ap (λ (x : Rules). after_all x (rings_of opening (take n run.lines)) (opened_machine newest image blocks)) (sym rules_are)
+
     -- where it never opened no line was begun
     none_begun : (new : Site) (h : Halt) → Stops opening_run 0 old new h → HasBegunLoad run 0 old new
     none_begun new h stops = record {
@@ -158,22 +190,23 @@ module _ (g : Geometry) (opening : State) (load : Load) where
       stands = λ s left. let l = stops.any_moment.now s left in (0, omega arith, stands_none l.k s.image (left_none opening_run old.told [] s l) l.stands);
     }
 
-    pub load_never_opened : {T : Type 0} (new : Site) (h : Halt) → Stops opening_run 0 old new h → (h ≡ halt.Stop (Worn Flash) → WearsOut load.pool (first_lines opening_run 0) old.image) → (h ≡ halt.Stop (Worn Log) → WearsLog (first_lines opening_run 0) old.image) → SkipsNoNumber (first_lines opening_run 0) old new → AsksNoMore load.pool (first_lines opening_run 0) old new → new.input ≡ old.input →
+    pub load_never_opened : {T : Type 0} (new : Site) (h : Halt) → Stops opening_run 0 old new h → ((dev : Dev) → h ≡ halt.Stop (Worn dev) → WearsFirst load.pool (first_lines opening_run 0) dev old.image) → SkipsNoNumber (first_lines opening_run 0) old new → AsksNoMore load.pool (first_lines opening_run 0) old new → new.input ≡ old.input →
         LoadWorks {T = T} load.pool run [] old new (Err h)
-    load_never_opened {T} new h stops worn log numbers reads left = record {
+    load_never_opened new h stops worn numbers reads left = record {
       stops = never_opened new h stops;
       done = tt;
       begun = 0;
       has_begun = none_begun new h stops;
       all = tt;
-      demands = demands_err load.pool (first_lines run 0) old new h worn log numbers reads;
-      appends = λ is. inl refl;
+      demands = demands_err load.pool (first_lines run 0) old new h worn numbers reads;
+      earlier = λ lines less. absurd (omega (arith, less));
       left = left;
     }
 
     -- Once it is told.
     module _ (add : WorksAddUp) (reads_add : ReadsAddUp) (mid new : Site) (before after : Engine) (going : Going opening_run old mid before 0)
         (paged : (newest : Option Master) (blocks : List (List LogRecord)) → IsSound newest g old.image blocks → IsPaged load.pool opening_run newest old.image blocks before 0)
+        (mirrored : (newest : Option Master) (blocks : List (List LogRecord)) → IsSound newest g old.image blocks → IsMirrored load.pool opening_run newest old.image blocks before mid 0)
         (counted : (newest : Option Master) (blocks : List (List LogRecord)) → IsSound newest g old.image blocks → IsCounted opening_run (log_under newest blocks) old mid before 0)
         (read : AsksNoMore load.pool (first_lines opening_run 0) old mid) (goes_on : Invariant before mid)
         (left : mid.input ≡ old.input) where
@@ -244,31 +277,24 @@ module _ (g : Geometry) (opening : State) (load : Load) where
             after_works (rules before.store.pages) (works_of opening first) (cache_of before.store.pages) ≡ cache_by load.pool run (turns_of (first_lines run some.begun)) newest old.image blocks
         next_is = next_at some.begun
 
-        appends_begun : IsErrOf result (halt.Stop (Worn Log)) → AppendsLast load.pool run some.begun old.image
-        appends_begun is =
-            let w = some.course.appends opening going.fits is in
-            let k = length w.front in
-            let few = some.few in
-            let size = length-take some.begun run.lines in
-            let are = ap length w.are in
-            let parts = length-append w.front (w.last ∷ []) in
-            let one : length (w.last ∷ []) ≡ 1 = refl in
-            let long : k ≡ some.begun - 1 = omega (arith, few, size, are, parts, one) in
-            let front : take k run.lines ≡ w.front =
-            sym (take-take k some.begun run.lines (omega (arith, few, size, are, parts, one))) ∙ ap (take k) w.are ∙ take-append-le k w.front (w.last ∷ []) (omega arith) ∙ take_all k w.front (omega arith) in
-            let made = λ (n : ℕ). made_are run n ∙ ap (λ (l : List Line). (after_lines opening (take n l) []).made) all_lines in
-            let checks = λ (n : ℕ). checkpoints_are run n ∙ ap (λ (l : List Line). checkpoints_of opening (take n l)) all_lines in
-            inr (subst (λ (n : ℕ). AppendsSince load.pool run n some.begun old.image) long (λ newest blocks sound. ⊎_elim
-            (λ more. inl (let was = made k ∙ ap (λ (l : List Line). (after_lines opening l []).made) front in let now = made some.begun in omega (arith, more, was, now)))
-            (⊎_elim
-            (λ more. inr (inl (let was = checks k ∙ ap (checkpoints_of opening) front in let now = checks some.begun in omega (arith, more, was, now))))
-            (λ more. inr (inr (let was = ap next_group (ap (λ (l : List Line). after_works (rules before.store.pages) (works_of opening l) (cache_of before.store.pages)) (sym front) ∙ next_at k newest blocks sound) in let now = ap next_group (next_is newest blocks sound) in omega (arith, more, was, now))))) w.appends))
+        worn_first : (dev : Dev) → IsErrOf result (halt.Stop (Worn dev)) → WearsFirst load.pool (first_lines run some.begun) dev old.image
+        worn_first dev says newest blocks sound =
+            let at = mirrored newest blocks sound in
+            let d = at.done (machine_on g old.image) refl in
+            found_behind newest old.image blocks before mid (paged newest blocks sound).rules_are at some.begun
+            ∙ (some.course.performs opening going.fits).worn (opened_machine newest old.image blocks) d.1 dev says
 
-        worn_out : IsErrOf result (halt.Stop (Worn Flash)) → WearsOut load.pool (first_lines run some.begun) old.image
-        worn_out is newest blocks sound = subst (λ (c : Cache). 2 ^ 40 < next_group c) (next_is newest blocks sound) ((some.course.serves opening going.fits).worn is)
+        earlier : WearsNoneBefore load.pool run some.begun old.image
+        earlier lines less newest blocks sound =
+            let at = mirrored newest blocks sound in
+            let d = at.done (machine_on g old.image) refl in
+            let long = length-take-le some.begun run.lines some.few in
+            found_behind newest old.image blocks before mid (paged newest blocks sound).rules_are at lines
+            ∙ ap (λ (l : List Line). first_worn (rules before.store.pages) (rings_of opening l) (opened_machine newest old.image blocks)) (sym (take-take lines some.begun run.lines (omega (arith, less))))
+            ∙ (some.course.performs opening going.fits).earlier (opened_machine newest old.image blocks) d.1 lines (omega (arith, less, long))
 
-        own_counts : CountsOn result (halt.Stop (Worn Log)) before after mid new opening (after_lines opening (take some.begun (answered run)) []) (checkpoints_of opening (take some.begun (answered run)))
-        own_counts = subst (λ (l : List Line). CountsOn result (halt.Stop (Worn Log)) before after mid new opening (after_lines opening (take some.begun l) []) (checkpoints_of opening (take some.begun l))) (sym all_lines) (some.course.numbers opening going.fits going.quiet)
+        own_counts : CountsOn result before after mid new opening (after_lines opening (take some.begun (answered run)) []) (checkpoints_of opening (take some.begun (answered run)))
+        own_counts = subst (λ (l : List Line). CountsOn result before after mid new opening (after_lines opening (take some.begun l) []) (checkpoints_of opening (take some.begun l))) (sym all_lines) (some.course.numbers opening going.fits going.quiet)
 
         opened_with : (records : List Entry) → IsCounted opening_run records old mid before 0 → LeavesOnly old mid (λ s. HasNumbers g (hi_of (log_shape g) old.image.log + owed records + opening.made) (hi_of master_shape old.image.log + 1) s.image)
         opened_with records so_far = leaves_more g old mid _ _ _ _ (omega arith) (omega arith) so_far.numbers
@@ -277,11 +303,6 @@ module _ (g : Geometry) (opening : State) (load : Load) where
         numbers_are newest blocks sound =
             let so_far = counted newest blocks sound in
             skips_course result run some.begun (log_under newest blocks) before after old mid new going.geometry so_far.log (opened_with (log_under newest blocks) so_far) own_counts
-
-        worn_log : IsErrOf result (halt.Stop (Worn Log)) → WearsLog (first_lines run some.begun) old.image
-        worn_log is newest blocks sound =
-            let so_far = counted newest blocks sound in
-            wears_course result run some.begun (log_under newest blocks) before after old mid new going.geometry so_far.log (opened_with (log_under newest blocks) so_far) own_counts is
 
         reads_are : AsksNoMore load.pool (first_lines run some.begun) old new
         reads_are newest blocks sound =
@@ -337,12 +358,12 @@ module _ (g : Geometry) (opening : State) (load : Load) where
         begun = some.begun;
         has_begun = has_begun (Err h) some;
         all = tt;
-        demands = demands_err load.pool (first_lines run some.begun) old new h (λ e. worn_out (Err h) some (ap Err e)) (λ e. worn_log (Err h) some (ap Err e)) (numbers_are (Err h) some) (reads_are (Err h) some);
-        appends = λ is. appends_begun (Err h) some (ap Err (same_halt {T = T} h (halt.Stop (Worn Log)) is));
+        demands = demands_err load.pool (first_lines run some.begun) old new h (λ dev e. worn_first (Err h) some dev (ap Err e)) (numbers_are (Err h) some) (reads_are (Err h) some);
+        earlier = earlier (Err h) some;
         left = left_new (Err h) some;
       }
 
-      pub load_finished : {T : Type 0} → QueueIsOnFlash → WhereItFits → LeavesStaged load.pool (first_lines opening_run 0) old mid → CountsUnits (first_lines opening_run 0) old mid → (x : T) → CarriesOut (Ok x) run.lines before after mid new → LoadWorks {T = T} load.pool run [] old new (Ok x)
+      pub load_finished : {T : Type 0} → QueueIsOnFlash → WhereItFits → LeavesStaged load.pool (first_lines opening_run 0) old mid → CallsForUnits g old mid → (x : T) → CarriesOut (Ok x) run.lines before after mid new → LoadWorks {T = T} load.pool run [] old new (Ok x)
       load_finished {T} law seen staged calls x course =
           let some = carries_all x run.lines before after mid new course in
           record {
@@ -358,12 +379,13 @@ module _ (g : Geometry) (opening : State) (load : Load) where
             begun = some.begun;
             has_begun = has_begun (Ok x) some;
             all = let same = ap length all_lines in omega (arith, same);
-            appends = λ is. cc;
+            earlier = earlier (Ok x) some;
             demands = demands_ok load.pool (first_lines run some.begun) old new x
                 (λ newest blocks sound.
-                let next = course.going.store.both.pages_going.flash.next in
-                let bounded = course.going.store.both.pages_going.flash.rings.groups_usable.bounded in
-                subst (λ (c : Cache). next_group c ≤ 2 ^ 40) ((some.course.serves opening going.fits).machine ∙ next_is (Ok x) some newest blocks sound) (omega (arith, next, bounded)))
+                let at = mirrored newest blocks sound in
+                let d = at.done (machine_on g old.image) refl in
+                found_behind newest old.image blocks before mid (paged newest blocks sound).rules_are at some.begun
+                ∙ ((some.course.performs opening going.fits).done.done (opened_machine newest old.image blocks) d.1).0)
                 (λ newest blocks sound.
                 ap (λ (y : Geometry). cache_on y new.image) (sym (course.sizes ∙ going.geometry)) ∙ law after new (after_lines opening run.lines []) (course.fits opening going.fits)
                 ∙ ap (λ (c : Cache). opened c.queue) ((some.course.serves opening going.fits).machine ∙ next_is (Ok x) some newest blocks sound))
@@ -377,23 +399,12 @@ module _ (g : Geometry) (opening : State) (load : Load) where
                 (seen after new (after_lines opening run.lines []) (course.fits opening going.fits)))))
                 (staged_are (Ok x) some staged)
                 (λ newest blocks sound.
-                let there : after.store.log.ring.hi ≡ hi_of (log_shape run.geometry) new.image.log =
-                next_there after new (after_lines opening run.lines []) (course.fits opening going.fits) course.going ∙ ap (λ (y : Geometry). hi_of (log_shape y) new.image.log) (course.sizes ∙ going.geometry) in
-                let next = ap (λ (c : Cache). next_group c) ((some.course.serves opening going.fits).machine ∙ next_is (Ok x) some newest blocks sound) in
-                let opened = (counted newest blocks sound).fills in
-                let later = course.fills opening going.fits going.quiet in
-                let all : take some.begun (answered run) ≡ run.lines = take_all some.begun (answered run) (let same = ap length all_lines in omega (arith, same)) ∙ all_lines in
-                let lines = first_fill some.begun opening run.lines [] ∙ ap (λ (l : List Line). octets_of opening l) all in
-                let low = course.going.store.both.log_going.low in
-                omega (arith, there, next, opened, later, lines, low))
-                (record {
-                  masters = (let before = calls.masters in
-                      let saved = (course.numbers opening going.fits going.quiet).saved in
-                      let all : take some.begun (answered run) ≡ run.lines = take_all some.begun (answered run) (let same = ap length all_lines in omega (arith, same)) ∙ all_lines in
-                      let checkpoints = checkpoints_are run some.begun ∙ ap (checkpoints_of opening) all in
-                      omega (arith, before, saved, checkpoints));
-                  past = calls_then g old mid new calls.past (subst (λ (y : Geometry). CallsForUnits y mid new) going.geometry (course.numbers opening going.fits going.quiet).past);
-                })
+                let at = mirrored newest blocks sound in
+                let d = at.done (machine_on g old.image) refl in
+                subst (λ (m : Machine). HasRings g m new.image) (sym (machine_behind newest old.image blocks before (paged newest blocks sound).rules_are some.begun))
+                (rings_of_store g after new (after_lines opening run.lines []) (after_all (rules before.store.pages) (rings_of opening (take some.begun run.lines)) (opened_machine newest old.image blocks))
+                ((some.course.performs opening going.fits).done.done (opened_machine newest old.image blocks) d.1).1 (course.fits opening going.fits) course.going (course.sizes ∙ going.geometry)))
+                (calls_then g old mid new calls (subst (λ (y : Geometry). CallsForUnits y mid new) going.geometry (course.numbers opening going.fits going.quiet).past))
                 (numbers_are (Ok x) some) (reads_are (Ok x) some);
             left = left_new (Ok x) some;
           }

@@ -16,7 +16,7 @@ use Rattle.face.specs.Tells.{Tells}
 use Rattle.face.specs.Run.{Run, first_lines}
 use Rattle.face.specs.Working.{RunOutcome}
 use Rattle.face.proofs.Pagings.{none_read}
-use Rattle.redo_undo.specs.MachineSteps.{NumbersRise, OverflowsWithMore}
+use Rattle.redo_undo.specs.MachineSteps.{NumbersRise}
 use Rattle.face.specs.New.{New, NewCauses}
 use Rattle.face.specs.Refusals.{LacksMemory, memory_fault}
 use Rattle.face.specs.Range.{AsksNoMore, run_of}
@@ -56,7 +56,7 @@ pub lacked_headline : Serial → NumbersRise → (pool : ℕ) (g : Geometry) (op
 lacked_headline law rise pool g opening old new result good tells =
     let run = run_of g opening true old.input.left [] in
     let stops = not_opened run old old (still g opening old good) lacks (λ ne. good.quiet) in
-    let works : RunOutcome {T = ℕ} pool run old old (Err lacks) = never_opened pool run old old lacks stops (λ e. cc, λ e. cc) refl (λ e. cc) (λ e. cc) (counts_nothing run old good.quiet) (reads_nothing rise pool run old good.quiet) in
+    let works : RunOutcome {T = ℕ} pool run old old (Err lacks) = never_opened pool run old old lacks stops (λ e. cc, λ e. cc) refl (λ dev e. cc) (counts_nothing run old good.quiet) (reads_nothing rise pool run old good.quiet) in
     halted pool g opening [] old law old new lacks good works (goes_nowhere old) result tells tt 4 refl
 
 -- the same of a load
@@ -65,17 +65,17 @@ lacked_load rise load g opening old new result good tells =
     let run = load_run g opening load in
     let stops = not_opened (run_of g opening true old.input.left []) old old (still g opening old good) lacks (λ ne. good.quiet) in
     let works : LoadWorks {T = ℕ} load.pool run (summary_text run load) old old (Err lacks) =
-    stopped_before load.pool run (summary_text run load) old {T = ℕ} old lacks (load_never_opened g opening load old old lacks stops (λ e. cc) (λ e. cc) (counts_nothing (run_of g opening true old.input.left []) old good.quiet) (reads_nothing rise load.pool (run_of g opening true old.input.left []) old good.quiet) refl) in
+    stopped_before load.pool run (summary_text run load) old {T = ℕ} old lacks (load_never_opened g opening load old old lacks stops (λ dev e. cc) (counts_nothing (run_of g opening true old.input.left []) old good.quiet) (reads_nothing rise load.pool (run_of g opening true old.input.left []) old good.quiet) refl) in
     load_halted load g opening old good old new lacks works (goes_nowhere old) result tells tt 4 refl
 
 -- the contracts of a run and of a load
-pub lacked_run : Serial → NumbersRise → OverflowsWithMore → (pool : ℕ) (old new : Site) → {T : Type 0} (result : Result T Failed) → Tells memory_fault old new result → RunContract pool old new 4
-lacked_run law rise more pool old new result tells = run_contract more pool old new 4
+pub lacked_run : Serial → NumbersRise → (pool : ℕ) (old new : Site) → {T : Type 0} (result : Result T Failed) → Tells memory_fault old new result → RunContract pool old new 4
+lacked_run law rise pool old new result tells = run_contract pool old new 4
     (λ g opening good. lacked_headline law rise pool g opening old new result good tells)
     (status_causes lacks 4 old new refl tt) (λ honest. tells_fault lacks 4 old old new result refl tt (goes_nowhere old) honest tells)
 
-pub lacked_load_run : NumbersRise → OverflowsWithMore → (load : Load) (old new : Site) → {T : Type 0} (result : Result T Failed) → Tells memory_fault old new result → LoadContract load old new 4
-lacked_load_run rise more load old new result tells = load_contract more load old new 4
+pub lacked_load_run : NumbersRise → (load : Load) (old new : Site) → {T : Type 0} (result : Result T Failed) → Tells memory_fault old new result → LoadContract load old new 4
+lacked_load_run rise load old new result tells = load_contract load old new 4
     (λ g opening good. lacked_load rise load g opening old new result good tells)
     (status_causes lacks 4 old new refl tt) (λ e. omega (arith, e), λ e. omega (arith, e)) (λ honest. tells_fault lacks 4 old old new result refl tt (goes_nowhere old) honest tells)
 

@@ -1,13 +1,13 @@
 -- What a run asks of the page cache, line by line.
 use Rattle.engine.specs.LogReads.{restart_log_reads}
 use Rattle.flash_cache.specs.Representation.{start_reads}
-use Rattle.std.proofs.Common.{◌≡◌, ℕ, suc, ◌+◌, ◌^◌, ◌<◌, ◌≤◌, Bool, true, false, List, [], ◌∷◌, ◌++◌, length, take, drop, arith, refl, sym, ap, subst, ◌∙◌, append_assoc, take-append-drop, ◌-◌, IsTrue}
-use Rattle.std.specs.Prelude.{Result, Ok, Err, Option, Some, None, IfErr, IsErrOf, if◌then◌else◌}
+use Rattle.std.proofs.Common.{◌≡◌, ℕ, suc, ◌+◌, ◌≤◌, Bool, true, false, List, [], ◌∷◌, ◌++◌, length, take, drop, arith, refl, sym, ap, subst, ◌∙◌, append_assoc, ◌-◌, IsTrue}
+use Rattle.std.specs.Prelude.{Result, Ok, Err, Option, Some, None, IfErr, if◌then◌else◌}
 use Rattle.std.proofs.lemmas.List.{append-nil}
 use Rattle.site.specs.Calls.{SameReads}
 use Rattle.site.specs.declared.outside.Dev.TheVariants.{Flash, Disk, Log}
 use Rattle.site.specs.declared.outside.Stop.{Stop}
-use Rattle.site.specs.declared.outside.Stop.TheVariants.{Worn, Memory}
+use Rattle.site.specs.declared.outside.Stop.TheVariants.{Memory}
 use Rattle.site.specs.State.{State as Site, Image}
 use Rattle.record_model.specs.State.{State}
 use Rattle.record_model.specs.Run.{Line, Turn, is_quit, left_by, turns, next_listing, later_listings}
@@ -30,24 +30,22 @@ use Rattle.page_store.proofs.StagingLaws.{stages_none}
 use Rattle.engine.proofs.Asking.{still_writes}
 use Rattle.face.specs.Lines.{HearsOnly}
 use Rattle.face.proofs.Writings.{last_heard, last_told, last_works, writes_told, writes_heard, writes_then}
-use Rattle.redo_undo.specs.MachineSteps.{next_group, Overflows, StepsMachine, NumbersRise, ReadsAddUp, ReadsFor, WorksAddUp, OverflowsWithMore}
+use Rattle.redo_undo.specs.MachineSteps.{StepsMachine, NumbersRise, ReadsAddUp, ReadsFor, WorksAddUp}
 use Rattle.engine.specs.declared.engine.Engine.{Engine}
 use Rattle.engine.specs.Representation.{Matches}
-use Rattle.engine.specs.Invariant.{Invariant, sizes_of}
+use Rattle.engine.specs.Invariant.{sizes_of}
 use Rattle.engine.specs.Listings.{QueueIsOnFlash}
 use Rattle.engine.specs.SeenVersions.{VersionsAreSeen, WhereItFits}
-use Rattle.engine.specs.Image.{IsSound}
 use Rattle.engine.specs.Paging.{HasLastFrom, WritesFrom, AsksFrom, restart_works, cache_on}
 use Rattle.face.specs.declared.halt.Halt.TheVariants as halt
 use Rattle.face.specs.Lines.{commands_of, up_to_quit}
-use Rattle.face.proofs.Fronts.{first_commands, state_by_turns, turns_first, whole_turns}
+use Rattle.face.proofs.Fronts.{first_commands, state_by_turns, whole_turns}
 use Rattle.face.proofs.Runs.{turn_at, turns_next}
-use Rattle.face.proofs.LinesBeforeQuit.{works_join}
 use Rattle.face.proofs.Turns.{first_answered}
 use Rattle.site.specs.declared.geometry.Geometry.{Geometry}
 use Rattle.face.specs.Going.{IsPaged, LineStepsMachine}
 use Rattle.flash_cache.specs.OnDisk.{HasLastStaged}
-use Rattle.face.specs.Range.{run_of, works_by, cache_by, staged_by_run, LeavesItsQueue, LeavesStaged, LeavesVersions, WearsOut, NeverWears, log_reads_in}
+use Rattle.face.specs.Range.{cache_by, staged_by_run, LeavesItsQueue, LeavesStaged, LeavesVersions, log_reads_in}
 use Rattle.face.specs.Run.{Run, answered, first_lines, step, after_lines, state_at, works_of, AsksFew, turns_of, line_log_reads, log_reads_of}
 use Rattle.face.specs.Working.{asked_after, log_reads_after}
 
@@ -223,9 +221,6 @@ module _ (pool : ℕ) (run : Run) (newest : Option Master) (image : Image) (bloc
       subst (λ (w : List CacheWork). AsksFew pool run.geometry w (log_reads_after run newest blocks 0) old new) (sym (append-nil restart))
       (record { log_reads = omega (arith, read, none); reads = reads_still r restart (cache_on run.geometry old.image) (record old { flash_reads = old.flash_reads + start_reads run.geometry }) mid new same (record { flash = asks.flash; disk = asks.disk }); writes = writes })
 
-  pub never_paged : Overflows r (restart_works (picture_under newest run.geometry image blocks)) (cache_on run.geometry image) → Overflows r (asked_after run newest image blocks 0) (cache_on run.geometry image)
-  never_paged over = subst (λ (w : List CacheWork). Overflows r w (cache_on run.geometry image)) (sym (append-nil (restart_works (picture_under newest run.geometry image blocks)))) over
-
   module _ (add : WorksAddUp) (i : ℕ) (line : Line) (rest : List Line) (is : drop i (answered run) ≡ line ∷ rest) (engine : Engine) (paged : IsPaged pool run newest image blocks engine i) where
     -- what the pages come to by the line's work
     pub next_is : after_works (rules engine.store.pages) (line_touches true (state_at run i) line) (cache_of engine.store.pages) ≡ after_works r (asked_after run newest image blocks (suc i)) (cache_on run.geometry image)
@@ -281,17 +276,6 @@ module _ (pool : ℕ) (run : Run) (newest : Option Master) (image : Image) (bloc
         (subst (λ (x : Rules). HasLastFrom run.geometry x line_works (cache_of engine.store.pages) next new) paged.rules_are
         (subst (λ (g : Geometry). HasLastFrom g (rules engine.store.pages) line_works (cache_of engine.store.pages) next new) sizes own))))
 
-    -- it isn't, since flash is worn
-    pub next_worn : Overflows (rules engine.store.pages) (line_touches true (state_at run i) line) (cache_of engine.store.pages) → Overflows r (asked_after run newest image blocks (suc i)) (cache_on run.geometry image)
-    next_worn over = subst (λ (c : Cache). 2 ^ 40 < next_group c) next_is over
-
-  -- the ring has what was asked for
-  pub paged_room : (engine : Engine) (site : Site) (i : ℕ) → IsPaged pool run newest image blocks engine i → Invariant engine site → next_group (after_works r (asked_after run newest image blocks i) (cache_on run.geometry image)) ≤ 2 ^ 40
-  paged_room engine site i paged may =
-      let next = may.store.both.pages_going.flash.next in
-      let bounded = may.store.both.pages_going.flash.rings.groups_usable.bounded in
-      subst (λ (c : Cache). next_group c ≤ 2 ^ 40) paged.machine (omega (arith, next, bounded))
-
   -- its queue is on flash
   pub paged_queue : QueueIsOnFlash → (engine : Engine) (site : Site) (s : State) (i : ℕ) → Matches engine site s → sizes_of engine.store ≡ run.geometry → IsPaged pool run newest image blocks engine i →
       cache_on run.geometry site.image ≡ opened (after_works r (asked_after run newest image blocks i) (cache_on run.geometry image)).queue
@@ -308,22 +292,13 @@ module _ (pool : ℕ) (run : Run) (newest : Option Master) (image : Image) (bloc
 
 -- a line that asks for nothing
 pub idle_asks : {T : Type 0} (x : T) (pages : PageStore) (now : Site) → StepsMachine {T = T} (Ok x) [] pages pages now now
-idle_asks {T} x pages now = record { machine = refl; worn = λ is. absurd (no_error is); reads = record { flash = omega arith; disk = omega arith }; rules_are = refl; stages = stages_none refl (omega arith) refl }
-  where
-    no_error : IsErrOf {T = T} {E = Stop} (Ok x) (Worn Flash) → ⊥
-    no_error is = cc
+idle_asks {T} x pages now = record { machine = refl; reads = record { flash = omega arith; disk = omega arith }; rules_are = refl; stages = stages_none refl (omega arith) refl }
 
 pub idle_line : {T : Type 0} (x : T) (works : List CacheWork) (pages : PageStore) (now : Site) → works ≡ [] → StepsMachine {T = T} (Ok x) works pages pages now now
 idle_line {T} x works pages now none = subst (λ (w : List CacheWork). StepsMachine {T = T} (Ok x) w pages pages now now) (sym none) (idle_asks x pages now)
 
 pub idle_stops : {T : Type 0} (stop : Stop) (pages : PageStore) (now : Site) → stop ≡ Memory → StepsMachine {T = T} (Err stop) [] pages pages now now
-idle_stops {T} stop pages now memory = record { machine = tt; worn = λ is. absurd (other (same is)); reads = record { flash = omega arith; disk = omega arith }; rules_are = refl; stages = stages_none tt (omega arith) refl }
-  where
-    same : IsErrOf {T = T} (Err stop) (Worn Flash) → stop ≡ Worn Flash
-    same is = cc
-
-    other : stop ≡ Worn Flash → ⊥
-    other is = cc
+idle_stops {T} stop pages now memory = record { machine = tt; reads = record { flash = omega arith; disk = omega arith }; rules_are = refl; stages = stages_none tt (omega arith) refl }
 
 pub listing_asks : {T : Type 0} (result : Result T Stop) (pages : PageStore) (now : Site) → IfErr result (λ stop. stop ≡ Memory) → StepsMachine result [] pages pages now now
 listing_asks (Ok x) pages now stops = idle_asks x pages now
@@ -331,22 +306,13 @@ listing_asks (Err stop) pages now stops = idle_stops stop pages now stops
 
 -- a call of the engine, as a line is served
 pub serves_ok : {A B : Type 0} (a : A) (b : B) (works : List CacheWork) (n : ℕ) (old new : PageStore) (before mid now : Site) → SameReads mid now → mid.log_reads ≤ before.log_reads + n → {piece : List ℕ} → (IsTrue before.honest → EachMoment mid now (TellsPart piece mid)) → StepsMachine {T = A} (Ok a) works old new before mid → LineStepsMachine {T = B} (Ok b) works n old new before now
-serves_ok {A} {B} a b works n old new before mid now same read {piece} tells asks = record { log_reads = let none : now.log_reads ≡ mid.log_reads = same Log in omega (arith, read, none); machine = asks.machine; worn = λ is. absurd (no_error is); reads = reads_still (rules old) works (cache_of old) before mid now same asks.reads; rules_are = asks.rules_are; writes = λ has quiet. writes_told old.flash.geometry (rules old) works (cache_of old) piece before mid now (asks.stages.writes has quiet) (tells has.fits.honest); last = λ has quiet. last_told old.flash.geometry (rules old) works (cache_of old) piece before mid now (asks.stages.writes has quiet).grown (tells has.fits.honest) (asks.stages.last has quiet); geometry = asks.stages.sizes }
-  where
-    no_error : IsErrOf {T = B} (Ok b) (halt.Stop (Worn Flash)) → ⊥
-    no_error is = cc
+serves_ok {A} {B} a b works n old new before mid now same read {piece} tells asks = record { log_reads = let none : now.log_reads ≡ mid.log_reads = same Log in omega (arith, read, none); machine = asks.machine; reads = reads_still (rules old) works (cache_of old) before mid now same asks.reads; rules_are = asks.rules_are; writes = λ has quiet. writes_told old.flash.geometry (rules old) works (cache_of old) piece before mid now (asks.stages.writes has quiet) (tells has.fits.honest); last = λ has quiet. last_told old.flash.geometry (rules old) works (cache_of old) piece before mid now (asks.stages.writes has quiet).grown (tells has.fits.honest) (asks.stages.last has quiet); geometry = asks.stages.sizes }
 
 pub serves_err : {A B : Type 0} (stop : Stop) (works : List CacheWork) (n : ℕ) (old new : PageStore) (before now : Site) → now.log_reads ≤ before.log_reads + n → StepsMachine {T = A} (Err stop) works old new before now → LineStepsMachine {T = B} (Err (halt.Stop stop)) works n old new before now
-serves_err {A} {B} stop works n old new before now read asks = record { log_reads = read; machine = tt; worn = λ is. asks.worn (ap Err (same is)); reads = asks.reads; rules_are = asks.rules_are; writes = asks.stages.writes; last = λ has quiet. tt; geometry = asks.stages.sizes }
-  where
-    same : IsErrOf {T = B} (Err (halt.Stop stop)) (halt.Stop (Worn Flash)) → stop ≡ Worn Flash
-    same is = cc
+serves_err {A} {B} stop works n old new before now read asks = record { log_reads = read; machine = tt; reads = asks.reads; rules_are = asks.rules_are; writes = asks.stages.writes; last = λ has quiet. tt; geometry = asks.stages.sizes }
 
 pub serves_lost : {A B : Type 0} (a : A) (works : List CacheWork) (n : ℕ) (old new : PageStore) (before mid now : Site) → SameReads mid now → mid.log_reads ≤ before.log_reads + n → {piece : List ℕ} → (IsTrue before.honest → EachMoment mid now (TellsPart piece mid)) → StepsMachine {T = A} (Ok a) works old new before mid → LineStepsMachine {T = B} (Err halt.Output) works n old new before now
-serves_lost {A} {B} a works n old new before mid now same read {piece} tells asks = record { log_reads = let none : now.log_reads ≡ mid.log_reads = same Log in omega (arith, read, none); machine = tt; worn = λ is. absurd (no_error is); reads = reads_still (rules old) works (cache_of old) before mid now same asks.reads; rules_are = asks.rules_are; writes = λ has quiet. writes_told old.flash.geometry (rules old) works (cache_of old) piece before mid now (asks.stages.writes has quiet) (tells has.fits.honest); last = λ has quiet. tt; geometry = asks.stages.sizes }
-  where
-    no_error : IsErrOf {T = B} (Err halt.Output) (halt.Stop (Worn Flash)) → ⊥
-    no_error is = cc
+serves_lost {A} {B} a works n old new before mid now same read {piece} tells asks = record { log_reads = let none : now.log_reads ≡ mid.log_reads = same Log in omega (arith, read, none); machine = tt; reads = reads_still (rules old) works (cache_of old) before mid now same asks.reads; rules_are = asks.rules_are; writes = λ has quiet. writes_told old.flash.geometry (rules old) works (cache_of old) piece before mid now (asks.stages.writes has quiet) (tells has.fits.honest); last = λ has quiet. tt; geometry = asks.stages.sizes }
 
 -- Whole runs.
 
@@ -382,39 +348,3 @@ module _ (pool : ℕ) (run : Run) (n : ℕ) (few : length (answered run) ≤ n) 
   pub leaves_versions : (now : Image) → LeavesVersions pool (first_lines run n) image now → LeavesVersions pool run image now
   leaves_versions now seen newest blocks sound =
       subst (λ (l : List Turn). VersionsAreSeen run.geometry (cache_by pool run l newest image blocks).pool now (left_by run.opening l)) (whole_turns run n few) (seen newest blocks sound)
-
-  pub never_wears : NeverWears pool (first_lines run n) image → NeverWears pool run image
-  never_wears room newest blocks sound = subst (λ (l : List Turn). next_group (cache_by pool run l newest image blocks) ≤ 2 ^ 40) (whole_turns run n few) (room newest blocks sound)
-
-has_one : (pool : ℕ) (g : Geometry) (newest : Option Master) (image : Image) (blocks : List (List LogRecord)) → IsSound newest g image blocks → 1 ≤ (rules_of pool g.groups).groups
-has_one pool g newest image blocks sound = let least = sound.octets.limits.groups in omega (arith, least)
-
--- where the first lines of a run wear out, so does all of it
-pub wears_out_later : OverflowsWithMore → (pool : ℕ) (run : Run) (n : ℕ) (image : Image) → WearsOut pool (first_lines run n) image → WearsOut pool run image
-wears_out_later more pool run n image over newest blocks sound =
-    let front = turns_of (first_lines run n) in
-    let later = drop n (turns_of run) in
-    let all : works_by run front newest image blocks ++ run_touches true later ≡ works_by run (turns_of run) newest image blocks =
-    append_assoc (restart_works (picture_under newest run.geometry image blocks)) (run_touches true front) (run_touches true later)
-    ∙ ap (λ (w : List CacheWork). restart_works (picture_under newest run.geometry image blocks) ++ w)
-    (sym (touches_join front later) ∙ ap (run_touches true) (ap (λ (l : List Turn). l ++ later) (turns_first run n) ∙ take-append-drop n (turns_of run))) in
-    subst (λ (w : List CacheWork). Overflows (rules_of pool run.geometry.groups) w (cache_on run.geometry image)) all
-    (more (rules_of pool run.geometry.groups) (works_by run front newest image blocks) (run_touches true later) (cache_on run.geometry image) (has_one pool run.geometry newest image blocks sound) (over newest blocks sound))
-
--- where the first lines of what was taken wear out, so does all that is left, whatever the cache lists
-pub wears_out_all : OverflowsWithMore → (pool : ℕ) (g : Geometry) (opening : State) (listings : List (List CacheLine)) (image : Image) (ended : Bool) (octets left rest : List ℕ) → left ≡ octets ++ rest → (ended ≡ true → rest ≡ []) → (heard : ℕ) →
-    WearsOut pool (first_lines (run_of g opening ended octets listings) heard) image → WearsOut pool (run_of g opening true left []) image
-wears_out_all more pool g opening listings image ended octets left rest is none heard over newest blocks sound =
-    let taken = run_of g opening ended octets listings in
-    let whole = run_of g opening true left [] in
-    let restart = restart_works (picture_under newest g image blocks) in
-    let first = taken_first ended left octets rest is none in
-    let front = take heard (answered taken) in
-    let later = drop heard (answered taken) ++ first.0 in
-    let lines : up_to_quit (commands_of true left) ≡ front ++ later = first.1 ∙ ap (λ (l : List Line). l ++ first.0) (sym (take-append-drop heard (answered taken))) ∙ append_assoc front (drop heard (answered taken)) first.0 in
-    let all : works_by whole (turns_of whole) newest image blocks ≡ asked_after taken newest image blocks heard ++ works_of (after_lines opening front []) later =
-    ap (λ (w : List CacheWork). restart ++ w) (turns_ask opening (commands_of true left) [] ∙ ap (works_of opening) lines ∙ works_join opening front later)
-    ∙ sym (append_assoc restart (works_of opening front) (works_of (after_lines opening front []) later))
-    ∙ ap (λ (w : List CacheWork). w ++ works_of (after_lines opening front []) later) (sym (asked_is taken newest image blocks heard)) in
-    subst (λ (w : List CacheWork). Overflows (rules_of pool g.groups) w (cache_on g image)) (sym all)
-    (more (rules_of pool g.groups) (asked_after taken newest image blocks heard) (works_of (after_lines opening front []) later) (cache_on g image) (has_one pool g newest image blocks sound) (over newest blocks sound))

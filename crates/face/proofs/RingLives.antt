@@ -1,5 +1,5 @@
 -- The numbers of the rings, life after life.
-use Rattle.std.proofs.Common.{◌≡◌, ◌⊎◌, inl, inr, ℕ, zero, suc, ◌+◌, ◌*◌, ◌^◌, ◌≤◌, List, [], ◌++◌, map, true, refl, sym, ap, subst, arith}
+use Rattle.std.proofs.Common.{◌≡◌, ◌⊎◌, inl, inr, ℕ, zero, suc, ◌+◌, ◌*◌, ◌≤◌, List, [], ◌++◌, map, true, refl, sym, ap, subst, arith}
 use Rattle.std.specs.Prelude.{Contains, Option}
 use Rattle.std.proofs.Math.Nat.{suc-mul}
 use Rattle.std.proofs.lemmas.List.{length-map}
@@ -31,11 +31,13 @@ use Rattle.redo_undo.specs.MachineSteps.{next_group}
 use Rattle.redo_undo.specs.Numbers.{HasNumbers}
 use Rattle.page_store.specs.Staging.{WritesOnly}
 use Rattle.face.specs.Headline.{IsGood}
-use Rattle.face.specs.Range.{AsksNoMore, GivesNumbers, HasLogRoom, NeverWears, SkipsNoNumber, cache_by, made_by, run_of, staged_by_run}
-use Rattle.face.specs.RingNumbers.{Call, of_load, of_run, HasGiven, HaveLives, IsLifeOf, LivesHaveRoom, LoadsAreComplete, MayBeLeft, NumbersOfLives, RunsAreComplete, Work, begun_by, both, most_blocks, most_groups, most_masters, no_work, work_of}
+use Rattle.face.specs.Range.{AsksNoMore, GivesNumbers, SkipsNoNumber, cache_by, made_by, run_of, staged_by_run}
+use Rattle.face.specs.RingNumbers.{Call, of_load, of_run, HasGiven, HaveLives, IsLifeOf, LivesHaveRoom, LoadsAreComplete, MayBeLeft, NumbersOfLives, RingsSuffice, RunsAreComplete, Work, begun_by, both, no_work, work_of}
 use Rattle.face.specs.Run.{Run, turns_of}
 use Rattle.face.specs.Workload.{load_run}
+use Rattle.face.specs.Worn.{WearsNone}
 use Rattle.face.proofs.RestartGroups.{restart_few}
+use Rattle.face.proofs.RingCounts.{never_by_counts}
 
 -- what holds of all that a crash may leave
 left_has : (old new : Site) (P : Snapshot → Type 0) → LeavesOnly old new P → (s : Snapshot) → MayBeLeft old new s → P s
@@ -150,35 +152,24 @@ module _ (ring_of_zeros : BlankIsRing) (work_pushes : WorkPushesFew) (lines_push
       subst (λ (w : Work). HasGiven g (suc lives) w image) (sym h.5)
       (given_more lives done more before image (numbers lives done before h.3) (life_rises more before image h.4))
 
-  room : (lives : ℕ) (work : Work) (image : Image) → HaveLives g lives work image → (run : Run) → run.geometry ≡ g →
-      (most_blocks g (lives + 1) (both work (work_of run)) ≤ 2 ^ 40 → most_masters (lives + 1) (both work (work_of run)) ≤ 2 ^ 40 → HasLogRoom run image)
-      × (most_groups g (lives + 1) (both work (work_of run)) ≤ 2 ^ 40 → (pool : ℕ) → NeverWears pool run image)
-  room lives work image h run same = (log_room, group_room)
-    where
-      has : HasGiven g lives work image
-      has = numbers lives work image h
-
-      size : run.geometry.blocks ≡ g.blocks
-      size = ap (λ (k : Geometry). k.blocks) same
-
-      log_room : most_blocks g (lives + 1) (both work (work_of run)) ≤ 2 ^ 40 → most_masters (lives + 1) (both work (work_of run)) ≤ 2 ^ 40 → HasLogRoom run image
-      log_room few less newest blocks sound =
-          let room = sound.records.room_for_undo in
-          let there : hi_of (log_shape run.geometry) image.log ≡ hi_of (log_shape g) image.log = ap (λ (k : Geometry). hi_of (log_shape k) image.log) same in
-          let size' = size in
-          let made = has.on_log.blocks in
-          let saved = has.on_log.masters in
-          let product = suc-mul lives g.blocks in
-          record { blocks = omega (arith, made, room, there, size', few, product); masters = omega (arith, saved, less) }
-
-      group_room : most_groups g (lives + 1) (both work (work_of run)) ≤ 2 ^ 40 → (pool : ℕ) → NeverWears pool run image
-      group_room few pool newest blocks sound =
-          let there : hi_of (group_shape run.geometry) image.flash ≡ hi_of (group_shape g) image.flash = ap (λ (k : Geometry). hi_of (group_shape k) image.flash) same in
-          let size' : 42 * run.geometry.blocks ≡ 42 * g.blocks = ap (λ (n : ℕ). 42 * n) size in
-          let given = has.groups in
-          let pushes = run_pushes work_pushes lines_push pool run (subst HasLimits (sym same) limits) newest image blocks sound in
-          let product = suc-mul lives (42 * g.blocks) in
-          omega (arith, given, pushes, there, size', few, product)
+  room : (lives : ℕ) (work : Work) (image : Image) → HaveLives g lives work image → (run : Run) → run.geometry ≡ g → RingsSuffice g (lives + 1) (both work (work_of run)) → (pool : ℕ) → WearsNone pool run image
+  room lives work image h run same enough pool newest blocks sound =
+      let has = numbers lives work image h in
+      let size : run.geometry.blocks ≡ g.blocks = ap (λ (k : Geometry). k.blocks) same in
+      let size' : 42 * run.geometry.blocks ≡ 42 * g.blocks = ap (λ (n : ℕ). 42 * n) size in
+      let log : hi_of (log_shape run.geometry) image.log ≡ hi_of (log_shape g) image.log = ap (λ (k : Geometry). hi_of (log_shape k) image.log) same in
+      let flash : hi_of (group_shape run.geometry) image.flash ≡ hi_of (group_shape g) image.flash = ap (λ (k : Geometry). hi_of (group_shape k) image.flash) same in
+      let owes = sound.records.room_for_undo in
+      let made = has.on_log.blocks in
+      let saved = has.on_log.masters in
+      let given = has.groups in
+      let blocks_few = enough.blocks in
+      let masters_few = enough.masters in
+      let groups_few = enough.groups in
+      let pushes = run_pushes work_pushes lines_push pool run (subst HasLimits (sym same) limits) newest image blocks sound in
+      let product = suc-mul lives g.blocks in
+      let product' = suc-mul lives (42 * g.blocks) in
+      never_by_counts pool run newest image blocks sound (omega (arith, owes, made, log, size, blocks_few, product)) (omega (arith, saved, masters_few)) (omega (arith, given, pushes, flash, size', groups_few, product'))
 
 pub numbers_of_lives : BlankIsRing → WorkPushesFew → LinesPushFew → NumbersOfLives
 numbers_of_lives ring_of_zeros work_pushes lines_push g limits = numbers ring_of_zeros work_pushes lines_push g limits
@@ -188,10 +179,8 @@ lives_have_room ring_of_zeros work_pushes lines_push g limits = room ring_of_zer
 
 pub runs_are_complete : BlankIsRing → WorkPushesFew → LinesPushFew → RunsAreComplete
 runs_are_complete ring_of_zeros work_pushes lines_push g limits lives work old h opening good enough pool new status contract quiet in_time =
-    let rooms = room ring_of_zeros work_pushes lines_push g limits lives work old.image h (run_of g opening true old.input.left []) refl in
-    contract.complete g opening good quiet (rooms.1 enough.groups pool) (rooms.0 enough.blocks enough.masters) in_time
+    contract.complete g opening good quiet (room ring_of_zeros work_pushes lines_push g limits lives work old.image h (run_of g opening true old.input.left []) refl enough pool) in_time
 
 pub loads_are_complete : BlankIsRing → WorkPushesFew → LinesPushFew → LoadsAreComplete
 loads_are_complete ring_of_zeros work_pushes lines_push g limits lives work old h opening good load enough new status contract quiet =
-    let rooms = room ring_of_zeros work_pushes lines_push g limits lives work old.image h (load_run g opening load) refl in
-    contract.complete g opening good quiet (rooms.1 enough.groups load.pool) (rooms.0 enough.blocks enough.masters)
+    contract.complete g opening good quiet (room ring_of_zeros work_pushes lines_push g limits lives work old.image h (load_run g opening load) refl enough load.pool)

@@ -1,8 +1,6 @@
 -- Lines that are carried out while nothing is told: none, some and some more, and some of all.
-use Rattle.face.proofs.Fillings.{fills_same, ok_then, octets_of_both}
-use Rattle.face.specs.Filled.{octets_of}
-use Rattle.std.proofs.Common.{◌≡◌, ⊎_elim, true, suc, ℕ, ◌+◌, ◌<◌, ◌≤◌, ◌^◌, List, [], ◌∷◌, ◌++◌, length, take, refl, sym, ◌∙◌, ap, subst, arith, length-append}
-use Rattle.std.specs.Prelude.{Result, Ok, Err, IfErr, OnOk, IsErrOf, IsTrue}
+use Rattle.std.proofs.Common.{◌≡◌, ⊎_elim, true, ℕ, ◌+◌, ◌≤◌, List, [], ◌∷◌, ◌++◌, length, take, refl, sym, ◌∙◌, ap, subst, arith, length-append}
+use Rattle.std.specs.Prelude.{Result, Ok, Err, IfErr, OnOk, IsTrue}
 use Rattle.std.proofs.lemmas.List.{append-nil, take-append-le, take_all}
 use Rattle.site.specs.declared.geometry.Geometry.{Geometry}
 use Rattle.site.specs.declared.outside.Dev.TheVariants.{Log, Flash, Disk}
@@ -24,7 +22,7 @@ use Rattle.engine.specs.Paging.{HasLastFrom, WritesFrom}
 use Rattle.site.proofs.Working.{ok_as}
 use Rattle.page_store.proofs.StagingLaws.{last_none}
 use Rattle.face.proofs.Writings.{engine_queue, last_works, writes_then, writes_nothing}
-use Rattle.redo_undo.specs.MachineSteps.{next_group, ReadsAddUp, ReadsFor, WorksAddUp}
+use Rattle.redo_undo.specs.MachineSteps.{ReadsAddUp, ReadsFor, WorksAddUp}
 use Rattle.engine.specs.declared.engine.Engine.{Engine}
 use Rattle.engine.specs.Representation.{Matches}
 use Rattle.engine.specs.Invariant.{Invariant, sizes_of}
@@ -38,11 +36,10 @@ use Rattle.face.specs.Loads.{CarriesFirst, CarriesOut, LeavesSome}
 use Rattle.face.specs.Run.{StandsFor, after_lines, checkpoints_of, step, works_of, log_reads_of, line_log_reads}
 use Rattle.engine.specs.Numbers.{RestCountsNothing}
 use Rattle.engine.proofs.RingCounts.{count_then}
-use Rattle.redo_undo.proofs.RingNumbers.{ok_no_error}
-use Rattle.face.proofs.Appending.{within_join}
+use Rattle.face.proofs.WornLines.{lines_err, lines_none, lines_then, lines_with}
 use Rattle.face.proofs.Counted.{checkpoints_join, counts_as, counts_err, counts_none}
 use Rattle.face.proofs.Logs.{fits_stands}
-use Rattle.face.proofs.LinesBeforeQuit.{after_cons, after_join, works_join}
+use Rattle.face.proofs.LinesBeforeQuit.{after_cons, after_join, take_over, works_join}
 
 -- what is left of some lines is left of more
 pub leaves_first : (g : Geometry) (s : State) (first later : List Line) (told : List ℕ) (snapshot : Snapshot) → LeavesSome g s first told snapshot → LeavesSome g s (first ++ later) told snapshot
@@ -52,12 +49,6 @@ leaves_first g s first later told snapshot l = record {
   stands = subst (λ (x : List Line). StandsFor g snapshot.image (after_lines s x [])) (sym (take-append-le l.done first later l.few)) l.stands;
   told = l.told;
 }
-
-take_over : (first later : List Line) (n : ℕ) → take (length first + n) (first ++ later) ≡ first ++ take n later
-take_over [] later n = let same : 0 + n ≡ n = omega arith in ap (λ (m : ℕ). take m later) same
-take_over (line ∷ first) later n =
-    let same : length (line ∷ first) + n ≡ suc (length first + n) = omega arith in
-    ap (λ (m : ℕ). take m (line ∷ (first ++ later))) same ∙ ap (λ (l : List Line). line ∷ l) (take_over first later n)
 
 -- what is left of later lines is left of all
 leaves_later : (g : Geometry) (s : State) (first later : List Line) (told : List ℕ) (snapshot : Snapshot) → LeavesSome g (after_lines s first []) later told snapshot → LeavesSome g s (first ++ later) told snapshot
@@ -101,10 +92,9 @@ carries_none {T} x engine site rest going = record {
   });
   last = λ s fits quiet snapshot left. (0, omega arith, subst (λ (i : Image). StandsFor (sizes_of engine.store) i s) (sym (image_is (now_of site) snapshot quiet left)) (fits_stands engine site s going.store.both.sizes fits));
   fits = λ s fits. fits;
-  serves = λ s fits. record { log_reads = omega arith; machine = refl; worn = λ is. absurd (no_error is); reads = record { flash = omega arith; disk = omega arith }; rules_are = refl; writes = λ has calm. writes_nothing engine.store.pages site has calm; last = λ has calm. last_none engine.store.pages.flash.geometry [] site site refl; geometry = refl };
-  numbers = λ s fits quiet. counts_none (Ok x) engine site s rest fits going quiet (ok_no_error x (halt.Stop (Worn Log)));
-  fills = λ s fits quiet. fills_same 0 engine;
-  appends = λ s fits is. cc;
+  serves = λ s fits. record { log_reads = omega arith; machine = refl; reads = record { flash = omega arith; disk = omega arith }; rules_are = refl; writes = λ has calm. writes_nothing engine.store.pages site has calm; last = λ has calm. last_none engine.store.pages.flash.geometry [] site site refl; geometry = refl };
+  numbers = λ s fits quiet. counts_none (Ok x) engine site s rest fits going quiet;
+  performs = λ s fits. lines_none x s engine.store site;
   left = λ honest. refl;
   stays_quiet = λ honest quiet. quiet;
   quiet = λ s fits quiet. tt;
@@ -114,9 +104,6 @@ carries_none {T} x engine site rest going = record {
   goes = goes_nowhere site;
   sizes = refl;
 }
-  where
-    no_error : IsErrOf {T = T} (Ok x) (halt.Stop (Worn Flash)) → ⊥
-    no_error is = cc
 
 -- another value
 pub carries_with : {T U : Type 0} (x : T) (y : U) (lines : List Line) (a b : Engine) (old new : Site) → CarriesOut (Ok x) lines a b old new → CarriesOut (Ok y) lines a b old new
@@ -124,10 +111,9 @@ carries_with {T} {U} x y lines a b old new one = record {
   any_moment = one.any_moment;
   last = one.last;
   fits = one.fits;
-  serves = λ s fits. let serves = one.serves s fits in record { log_reads = serves.log_reads; machine = serves.machine; worn = λ is. absurd (no_error is); reads = serves.reads; rules_are = serves.rules_are; writes = serves.writes; last = serves.last; geometry = serves.geometry };
-  numbers = λ s fits quiet. counts_as x (Ok y) a b old new s _ _ (ok_no_error y (halt.Stop (Worn Log))) (one.numbers s fits quiet);
-  fills = one.fills;
-  appends = λ s fits is. cc;
+  serves = λ s fits. let serves = one.serves s fits in record { log_reads = serves.log_reads; machine = serves.machine; reads = serves.reads; rules_are = serves.rules_are; writes = serves.writes; last = serves.last; geometry = serves.geometry };
+  numbers = λ s fits quiet. counts_as x (Ok y) a b old new s _ _ (one.numbers s fits quiet);
+  performs = λ s fits. lines_with x y (one.performs s fits);
   left = one.left;
   stays_quiet = one.stays_quiet;
   quiet = λ s fits quiet. tt;
@@ -137,9 +123,6 @@ carries_with {T} {U} x y lines a b old new one = record {
   goes = one.goes;
   sizes = one.sizes;
 }
-  where
-    no_error : IsErrOf {T = U} (Ok y) (halt.Stop (Worn Flash)) → ⊥
-    no_error is = cc
 
 -- how often some lines read the log, and those behind them
 pub log_reads_of_both : (s : State) (first later : List Line) → log_reads_of s (first ++ later) ≡ log_reads_of s first + log_reads_of (after_lines s first []) later
@@ -184,7 +167,6 @@ module _ {T U : Type 0} (add : WorksAddUp) (reads_add : ReadsAddUp) (x : T) (res
       record {
         log_reads = (let one_read = front.log_reads in let two_read = back.log_reads in let all = log_reads_of_both s first later in omega (arith, one_read, two_read, all));
         machine = subst (λ (z : Cache). OnOk result (cache_of c.store.pages ≡ z)) same back.machine;
-        worn = λ is. subst (λ (z : Cache). 2 ^ 40 < next_group z) same (back.worn is);
         reads = subst (λ (w : List CacheWork). ReadsFor (rules a.store.pages) w (cache_of a.store.pages) old new) (sym (works_join s first later))
             (reads_add (rules a.store.pages) (works_of s first) (works_of (after_lines s first []) later) (cache_of a.store.pages) old mid new front.reads
             (subst (λ (z : Cache). ReadsFor (rules a.store.pages) (works_of (after_lines s first []) later) z mid new) front.machine
@@ -216,11 +198,11 @@ module _ {T U : Type 0} (add : WorksAddUp) (reads_add : ReadsAddUp) (x : T) (res
         geometry = back.geometry ∙ front.geometry;
       }
 
-  numbers_join : (s : State) → Matches a old s → IsQuiet old → CountsOn result (halt.Stop (Worn Log)) a c old new s (after_lines s (first ++ later) []) (checkpoints_of s (first ++ later))
+  numbers_join : (s : State) → Matches a old s → IsQuiet old → CountsOn result a c old new s (after_lines s (first ++ later) []) (checkpoints_of s (first ++ later))
   numbers_join s fits quiet =
       let then = after_lines s first [] in
-      subst (λ (n : ℕ). CountsOn result (halt.Stop (Worn Log)) a c old new s (after_lines s (first ++ later) []) n) (sym (checkpoints_join s first later))
-      (subst (λ (x : State). CountsOn result (halt.Stop (Worn Log)) a c old new s x (checkpoints_of s first + checkpoints_of then later)) (sym (after_join s first later))
+      subst (λ (n : ℕ). CountsOn result a c old new s (after_lines s (first ++ later) []) n) (sym (checkpoints_join s first later))
+      (subst (λ (x : State). CountsOn result a c old new s x (checkpoints_of s first + checkpoints_of then later)) (sym (after_join s first later))
       (count_then result x a b c old mid new s then (after_lines then later []) (checkpoints_of s first) (checkpoints_of then later) (checkpoints_of s first + checkpoints_of then later) one.sizes (one.numbers s fits quiet) (two.numbers then (one.fits s fits) (one.stays_quiet fits.honest quiet)) refl))
 
   pub carries_more : CarriesOut result (first ++ later) a c old new
@@ -230,8 +212,7 @@ module _ {T U : Type 0} (add : WorksAddUp) (reads_add : ReadsAddUp) (x : T) (res
     fits = λ s fits. subst (λ (x : State). OnOk result (Matches c new x)) (sym (after_join s first later)) (two.fits (after_lines s first []) (one.fits s fits));
     serves = serves_join;
     numbers = numbers_join;
-    fills = λ s fits quiet. ok_then result (octets_of s first) (octets_of (after_lines s first []) later) (octets_of s (first ++ later)) a b c (octets_of_both s first later) (one.fills s fits quiet) (two.fills (after_lines s first []) (one.fits s fits) (one.stays_quiet fits.honest quiet));
-    appends = λ s fits is. (let front = one.serves s fits in within_join add s first later a.store.pages b.store.pages front.machine front.rules_are (two.appends (after_lines s first []) (one.fits s fits) is));
+    performs = λ s fits. lines_then x result s first later a.store b.store c.store old mid new (one.serves s fits).rules_are (one.performs s fits) (two.performs (after_lines s first []) (one.fits s fits));
     left = λ honest. two.left (stays_honest old mid one.goes honest) ∙ one.left honest;
     stays_quiet = λ honest quiet. two.stays_quiet (stays_honest old mid one.goes honest) (one.stays_quiet honest quiet);
     quiet = λ s fits quiet. two.quiet (after_lines s first []) (one.fits s fits) (one.stays_quiet fits.honest quiet);
@@ -248,10 +229,9 @@ carries_err {T} {U} h lines a b old new one = record {
   any_moment = one.any_moment;
   last = one.last;
   fits = λ s fits. tt;
-  serves = λ s fits. let serves = one.serves s fits in record { log_reads = serves.log_reads; machine = tt; worn = λ is. serves.worn (ap Err (same_halt is)); reads = serves.reads; rules_are = serves.rules_are; writes = serves.writes; last = λ has calm. tt; geometry = serves.geometry };
-  numbers = λ s fits quiet. counts_err h h a b old new s _ _ (λ is. is) (one.numbers s fits quiet);
-  fills = λ s fits quiet. tt;
-  appends = λ s fits is. one.appends s fits (ap Err (log_halt is));
+  serves = λ s fits. let serves = one.serves s fits in record { log_reads = serves.log_reads; machine = tt; reads = serves.reads; rules_are = serves.rules_are; writes = serves.writes; last = λ has calm. tt; geometry = serves.geometry };
+  numbers = λ s fits quiet. counts_err h h a b old new s _ _ (one.numbers s fits quiet);
+  performs = λ s fits. lines_err (one.performs s fits);
   left = one.left;
   stays_quiet = λ honest quiet. tt;
   quiet = one.quiet;
@@ -261,12 +241,6 @@ carries_err {T} {U} h lines a b old new one = record {
   goes = one.goes;
   sizes = one.sizes;
 }
-  where
-    same_halt : IsErrOf {T = U} (Err h) (halt.Stop (Worn Flash)) → h ≡ halt.Stop (Worn Flash)
-    same_halt is = cc
-
-    log_halt : IsErrOf {T = U} (Err h) (halt.Stop (Worn Log)) → h ≡ halt.Stop (Worn Log)
-    log_halt is = cc
 
 -- All lines, or the first ones.
 

@@ -1,32 +1,26 @@
 -- A run under way.
-use Rattle.std.specs.Prelude.{◌≡◌, ℕ, ◌+◌, ◌*◌, ◌≤◌, [], ◌++◌, List, length, Option, Result, OnOk, IsErrOf}
+use Rattle.std.specs.Prelude.{◌≡◌, ℕ, ◌+◌, ◌≤◌, [], ◌++◌, List, length, Option, Result, OnOk}
 use Rattle.site.specs.State.{State as Site, Image, IsQuiet, no_loose}
 use Rattle.site.specs.Moments.{LeavesOnly}
 use Rattle.record_model.specs.declared.words.CacheLine.{CacheLine}
 use Rattle.engine.specs.declared.engine.Engine.{Engine}
 use Rattle.engine.specs.Representation.{Matches}
 use Rattle.engine.specs.Invariant.{sizes_of}
-use Rattle.site.specs.declared.outside.Dev.TheVariants.{Flash}
-use Rattle.site.specs.declared.outside.Stop.TheVariants.{Worn}
 use Rattle.record_model.specs.Touches.{CacheWork}
 use Rattle.log_records.specs.declared.log_record.LogRecord.{LogRecord}
 use Rattle.checkpoint.specs.declared.master.Master.{Master}
 use Rattle.second_chance.specs.Machine.{rules_of, after_works}
 use Rattle.page_store.specs.declared.store.PageStore.{PageStore}
-use Rattle.page_store.specs.Caching.{cache_of, next_group, rules}
-use Rattle.redo_undo.specs.MachineSteps.{Overflows, ReadsFor}
+use Rattle.page_store.specs.Caching.{cache_of, rules}
+use Rattle.redo_undo.specs.MachineSteps.{ReadsFor}
 use Rattle.engine.specs.Paging.{HasLastFrom, WritesFrom, cache_on}
 use Rattle.page_store.specs.Staging.{HasQueueOn}
 use Rattle.face.specs.declared.halt.Halt.{Halt}
-use Rattle.face.specs.declared.halt.Halt.TheVariants.{Stop}
 use Rattle.log_records.specs.Log.{Entry}
 use Rattle.redo_undo.specs.Holding.{blocks_to}
-use Rattle.sealed_ring.specs.Ring.{hi_of}
-use Rattle.image_changes.specs.Rings.{log_shape}
-use Rattle.log_records.specs.Unfinished.{owed}
-use Rattle.face.specs.Filled.{filled, octets_in}
-use Rattle.face.specs.Range.{CountsUnits, GivesNumbers, IsLeft, ListsTheMachine, WritesAsTold, blocks_by, first_texts}
-use Rattle.face.specs.Run.{Run, Begins, answered, first_lines, state_at, listings_left, turns_of}
+use Rattle.image_changes.specs.Costs.{CallsForUnits}
+use Rattle.face.specs.Range.{GivesNumbers, IsLeft, ListsTheMachine, WritesAsTold, blocks_by, first_texts}
+use Rattle.face.specs.Run.{Run, Begins, answered, first_lines, state_at, listings_left}
 use Rattle.face.specs.Working.{AnswersFirst, asked_after}
 
 -- so many lines of the run were answered
@@ -64,21 +58,17 @@ pub record IsPaged (pool : ℕ) (run : Run) (newest : Option Master) (image : Im
   pub rules_are : rules engine.store.pages ≡ rules_of pool run.geometry.groups
 
 -- The rings on the log's device have had no more numbers than the run has records and checkpoints so far, over an image
--- whose log has these records, and no more of its blocks is filled. Its master units are those of its checkpoints,
--- and no more calls were made than the units that were appended and the texts that were told need.
+-- whose log has these records, and no more calls were made than the units that were appended and the texts that were
+-- told need.
 pub record IsCounted (run : Run) (records : List Entry) (old now : Site) (engine : Engine) (lines : ℕ) : Type 0 where
   pub log : blocks_to engine.store.log ≤ blocks_by (first_lines run lines) records old.image
   pub numbers : LeavesOnly old now (λ s. GivesNumbers (first_lines run lines) records old.image s.image)
-  pub fills : filled engine.store.log + 238 * next_group (cache_on run.geometry old.image)
-      ≤ 238 * (hi_of (log_shape run.geometry) old.image.log + owed records) + 503
-      + octets_in (turns_of (first_lines run lines)) + 238 * next_group (cache_of engine.store.pages)
-  pub units : CountsUnits (first_lines run lines) old now
+  pub calls : CallsForUnits run.geometry old now
 
 -- A line asks for this work, no more is read and written than it needs, and the log is read no more often than so.
 pub record LineStepsMachine {T : Type 0} (result : Result T Halt) (works : List CacheWork) (times : ℕ)
     (old new : PageStore) (before now : Site) : Type 0 where
   pub machine : OnOk result (cache_of new ≡ after_works (rules old) works (cache_of old))
-  pub worn : IsErrOf result (Stop (Worn Flash)) → Overflows (rules old) works (cache_of old)
   pub reads : ReadsFor (rules old) works (cache_of old) before now
   pub log_reads : now.log_reads ≤ before.log_reads + times
   pub writes : HasQueueOn old before → IsQuiet before →

@@ -1,8 +1,7 @@
 -- The headline: what is durable of a run, what it asks of the devices, and the serial order of its transactions.
 use Rattle.std.specs.Prelude.{◌≡◌, ◌≢◌, ◌⊎◌, ℕ, ◌+◌, Bool, true, false, List, [], ◌∷◌, ◌++◌, length, take, IsTrue}
-use Rattle.site.specs.State.{State as Site, Image, no_loose}
+use Rattle.site.specs.State.{State as Site, no_loose}
 use Rattle.site.specs.declared.outside.Dev.{Dev}
-use Rattle.site.specs.declared.outside.Dev.TheVariants.{Log, Flash, Disk}
 use Rattle.site.specs.declared.outside.Stop.TheVariants.{Worn}
 use Rattle.site.specs.Moments.{LeavesOnly}
 use Rattle.site.specs.declared.geometry.Geometry.{Geometry}
@@ -11,7 +10,7 @@ use Rattle.record_model.specs.State.{State}
 use Rattle.face.specs.declared.halt.Halt.{Halt}
 use Rattle.face.specs.declared.halt.Halt.TheVariants.{Stop}
 use Rattle.face.specs.Texts.{IsLineOf, fault_line, status_of}
-use Rattle.redo_undo.specs.Holding.{IsLogWorn}
+use Rattle.image_changes.specs.Costs.{CallsForUnits}
 use Rattle.engine.specs.Image.{Opens}
 use Rattle.face.specs.Causes.{HasCause}
 use Rattle.face.specs.Tells.{EndsWith, EndsBehind}
@@ -19,14 +18,13 @@ use Rattle.std.specs.List.{list_any}
 use Rattle.record_model.specs.Run.{Turn, is_quit}
 use Rattle.record_model.specs.Serial.{IsSerial}
 use Rattle.shell_text.specs.Serial.{IsToldSerial}
-use Rattle.face.specs.Filled.{SealsNoMore}
 use Rattle.face.specs.Lines.{HeardAll, limit, commands_of}
 use Rattle.face.specs.Run.{Run, IsFront, first_lines, turns_of}
-use Rattle.face.specs.Range.{run_of, texts, run_text, IsLeft, IsWhole, WearsOut, NeverWears}
+use Rattle.face.specs.Range.{run_of, texts, run_text, IsLeft, IsWhole}
 use Rattle.face.specs.Waiting.{NobodyWaits}
 use Rattle.face.specs.Range.{LeavesItsQueue, LeavesVersions, SkipsNoNumber, AsksNoMore, ListsTheMachine, HasBegun}
-use Rattle.face.specs.Range.{AppendsLast, CountsUnits, WearsLog}
 use Rattle.face.specs.Range.{LeavesStaged, WritesAsTold}
+use Rattle.face.specs.Worn.{LeavesItsRings, WearsFirst, WearsNone, WearsNoneBefore}
 
 -- an honest and quiet site, whose image is sound, and over which a run opens with this state
 pub record IsGood (g : Geometry) (opening : State) (site : Site) : Type 0 where
@@ -98,32 +96,26 @@ pub record Durability (g : Geometry) (opening : State) (old new : Site) (status 
 abbrev pub ran : {g : Geometry} {s : State} {old new : Site} {status : ℕ} → Durability g s old new status → Run
 ran {g} {s} d = run_of g s d.ended d.octets d.listings
 
--- So many lines of a run append more groups than the ring of groups has numbers for. Or the last of them has something
--- to append on the log's device, what they append there at most, by counts, passes the end of a ring, and a ring there
--- stands at its end now.
-abbrev pub WearsAt : Dev → ℕ → Run → ℕ → Image → Image → Type 0
-WearsAt Flash pool run begun old now = WearsOut pool (first_lines run begun) old
-WearsAt Log pool run begun old now = AppendsLast pool run begun old × WearsLog (first_lines run begun) old
-    × IsLogWorn run.geometry now
-WearsAt Disk pool run begun old now = ⊥
-
 -- What a run with a pool of so many pages asks of the devices, of which so many lines were begun, and this fault line
 -- is told.
 pub record Resources (pool : ℕ) (run : Run) (begun : ℕ) (fault : List ℕ) (old new : Site) (status : ℕ) : Type 0 where
-  -- with 8 a ring on the device that is told is at its end for these; with 0 no group is appended past its ring's end
+  -- with 8 the first ring that they are to append to at its end lies on the device that is told; with 0 there is none
   pub worn : status ≡ 8 → (dev : Dev) × (fault ≡ fault_line (Stop (Worn dev)))
-      × WearsAt dev pool run begun old.image new.image
-  pub room : status ≡ 0 → NeverWears pool run old.image
+      × WearsFirst pool (first_lines run begun) dev old.image
+  pub room : status ≡ 0 → WearsNone pool run old.image
+  -- and whatever the status, there is none for those in front of the last of them: no line is begun behind one that
+  -- finds such a ring
+  pub earlier : WearsNoneBefore pool run begun old.image
   -- with 0 the frames on flash are those that the cache machine has in its queue
   pub frames : status ≡ 0 → LeavesItsQueue pool run old.image new.image
   -- and the versions of pages that its pool doesn't hold as changed show what is seen of each record
   pub versions : status ≡ 0 → LeavesVersions pool run old.image new.image
-  -- and no more blocks of the log are sealed than what is logged fills
-  pub seals : status ≡ 0 → SealsNoMore pool run old.image new.image
+  -- and the log has as many blocks and master units as the machine of the rings appends
+  pub rings : status ≡ 0 → LeavesItsRings pool run old.image new.image
   -- and each page that it has staged is on the disk as the frame that was staged last
   pub staged : status ≡ 0 → LeavesStaged pool run old new
-  -- and its master units are those of its checkpoints, and no more calls were made than its units and its texts need
-  pub units : status ≡ 0 → CountsUnits run old new
+  -- and no more calls were made than its units and its texts need
+  pub calls : status ≡ 0 → CallsForUnits run.geometry old new
   -- whatever the status, with these lines no ring number is skipped on the log's device
   pub numbers : SkipsNoNumber (first_lines run begun) old new
   -- no more is read and written than they ask for
@@ -135,6 +127,8 @@ pub record RunResources (pool : ℕ) (run : Run) (fault : List ℕ) (old new : S
   pub begun : ℕ
   pub has_begun : HasBegun run begun fault old new
   pub asked : Resources pool run begun fault old new status
+  -- with 5 and 7 the last of them appends to no ring that stands at its end either
+  pub taking : (status ≡ 5) ⊎ (status ≡ 7) → WearsNone pool (first_lines run begun) old.image
   -- what they are told of the cache is what the machine lists
   pub listed : ListsTheMachine pool (first_lines run begun) old.image
   -- and no snapshot is written by lines that weren't begun by what it has told

@@ -1,6 +1,5 @@
 pub mod Causes
 pub mod Check
-pub mod Filled
 pub mod Going
 pub mod Headline
 pub mod Hearing
@@ -20,4 +19,5 @@ pub mod TopCall
 pub mod Trial
 pub mod Waiting
 pub mod Working
+pub mod Worn
 pub mod Workload

@@ -1,36 +1,32 @@
 -- What a load does, and what a crash at any moment leaves of it.
-use Rattle.std.specs.Prelude.{◌≡◌, ◌≢◌, ◌⊎◌, ℕ, ◌+◌, ◌-◌, ◌<◌, ◌≤◌, List, [], ◌∷◌, ◌++◌, length, take, IsTrue}
-use Rattle.std.specs.Prelude.{Result, IfErr, OnOk, IsErrOf}
+use Rattle.std.specs.Prelude.{◌≡◌, ◌≢◌, ◌⊎◌, ℕ, ◌+◌, ◌-◌, ◌≤◌, List, [], ◌++◌, length, take, IsTrue}
+use Rattle.std.specs.Prelude.{Result, IfErr, OnOk}
 use Rattle.site.specs.State.{State as Site, Snapshot, MayLeave, now_of, IsQuiet, no_loose}
 use Rattle.site.specs.Calls.{Preserves}
 use Rattle.site.specs.Moments.{LeavesOnly}
 use Rattle.site.specs.declared.geometry.Geometry.{Geometry}
 use Rattle.site.specs.declared.outside.Dev.{Dev}
-use Rattle.site.specs.declared.outside.Dev.TheVariants.{Log}
-use Rattle.site.specs.declared.outside.Stop.TheVariants.{Device, Worn}
+use Rattle.site.specs.declared.outside.Stop.TheVariants.{Device}
 use Rattle.record_model.specs.State.{State}
 use Rattle.record_model.specs.Run.{Line, Turn, commit_marks, commits_among}
 use Rattle.redo_undo.specs.StoreCalls.{AreNext}
 use Rattle.engine.specs.declared.engine.Engine.{Engine}
 use Rattle.engine.specs.Representation.{Matches}
 use Rattle.engine.specs.Invariant.{Invariant, sizes_of}
-use Rattle.second_chance.specs.Machine.{after_works}
-use Rattle.page_store.specs.declared.store.PageStore.{PageStore}
-use Rattle.page_store.specs.Caching.{cache_of, next_group, rules}
 use Rattle.face.specs.declared.halt.Halt.{Halt}
 use Rattle.face.specs.declared.halt.Halt.TheVariants.{Stop, Output}
 use Rattle.command_line.specs.declared.request.Load.{Load}
 use Rattle.face.specs.Causes.{AnswerFailsBy}
-use Rattle.face.specs.Filled.{FillsBy, octets_of}
 use Rattle.face.specs.Going.{LineStepsMachine}
 use Rattle.face.specs.Headline.{IsFaultOf, Resources}
 use Rattle.face.specs.Tells.{EndsBehind}
-use Rattle.face.specs.Range.{AppendsLast, all_commits, StandsAfter}
+use Rattle.face.specs.Range.{all_commits, StandsAfter}
 use Rattle.face.specs.Run.{Run, IsFront, StandsFor, after_lines, answered, first_lines, works_of, checkpoints_of}
 use Rattle.face.specs.Run.{log_reads_of, turns_of}
 use Rattle.engine.specs.Numbers.{CountsOn}
 use Rattle.face.specs.Texts.{IsLineOf, status_of}
 use Rattle.face.specs.Working.{Demands}
+use Rattle.face.specs.Worn.{LinesPerform, WearsNoneBefore}
 use Rattle.face.specs.Workload.{committed_in, checkpoints_in, found_in, load_run, load_texts, opening_text}
 use Rattle.face.specs.Workload.{summary_text}
 
@@ -124,7 +120,7 @@ pub record LoadWorks {T : Type 0} (pool : ℕ) (run : Run) (summary : List ℕ) 
   -- where it is Ok all lines were begun
   pub all : OnOk result (length (answered run) ≤ begun)
   pub demands : Demands pool (first_lines run begun) old new result
-  pub appends : IsErrOf result (Stop (Worn Log)) → AppendsLast pool run begun old.image
+  pub earlier : WearsNoneBefore pool run begun old.image
   pub left : new.input ≡ old.input
 
 -- what was counted is what the turns of the record model say
@@ -148,16 +144,6 @@ pub record LeavesSome (g : Geometry) (s : State) (lines : List Line) (so_far : L
   pub stands : StandsFor g snapshot.image (after_lines s (take done lines) [])
   pub told : snapshot.told ≡ so_far
 
--- the last of some lines has something to append on the log's device
-pub record AppendsWithin (s : State) (lines : List Line) (pages : PageStore) : Type 0 where
-  pub front : List Line
-  pub last : Line
-  pub are : lines ≡ front ++ last ∷ []
-  pub appends : ((after_lines s front []).made < (after_lines s lines []).made)
-      ⊎ ((checkpoints_of s front < checkpoints_of s lines)
-      ⊎ (next_group (after_works (rules pages) (works_of s front) (cache_of pages))
-      < next_group (after_works (rules pages) (works_of s lines) (cache_of pages))))
-
 -- The lines are carried out, or where it fails all but the last of them, and perhaps that one.
 pub record CarriesOut {T : Type 0} (result : Result T Halt) (lines : List Line) (before after : Engine) (old new : Site)
     : Type 0 where
@@ -171,10 +157,8 @@ pub record CarriesOut {T : Type 0} (result : Result T Halt) (lines : List Line) 
   pub serves : (s : State) → Matches before old s →
       LineStepsMachine result (works_of s lines) (log_reads_of s lines) before.store.pages after.store.pages old new
   pub numbers : (s : State) → Matches before old s → IsQuiet old →
-      CountsOn result (Stop (Worn Log)) before after old new s (after_lines s lines []) (checkpoints_of s lines)
-  pub fills : (s : State) → Matches before old s → IsQuiet old → OnOk result (FillsBy (octets_of s lines) before after)
-  pub appends : (s : State) → Matches before old s → IsErrOf result (Stop (Worn Log)) →
-      AppendsWithin s lines before.store.pages
+      CountsOn result before after old new s (after_lines s lines []) (checkpoints_of s lines)
+  pub performs : (s : State) → Matches before old s → LinesPerform result s lines before.store after.store old new
   pub left : IsTrue old.honest → new.input ≡ old.input
   pub stays_quiet : IsTrue old.honest → IsQuiet old → OnOk result (IsQuiet new)
   pub quiet : (s : State) → Matches before old s → IsQuiet old →

@@ -1,5 +1,5 @@
 -- What a run may tell and leave: its commits, the numbers that it gives, and its work on the page cache.
-use Rattle.std.specs.Prelude.{◌≡◌, ◌⊎◌, ℕ, ◌+◌, ◌-◌, ◌<◌, ◌≤◌, Bool, true, List, [], ◌∷◌, ◌++◌, ◌^◌, length, take}
+use Rattle.std.specs.Prelude.{◌≡◌, ◌⊎◌, ℕ, ◌+◌, ◌≤◌, Bool, true, List, [], ◌∷◌, ◌++◌, length, take}
 use Rattle.std.specs.Prelude.{slice_index_or}
 use Rattle.std.specs.Prelude.{flat_map, count_by, Option}
 use Rattle.site.specs.State.{State as Site, Snapshot, Image}
@@ -17,7 +17,7 @@ use Rattle.second_chance.specs.Machine.{Cache, Staged, rules_of, after_works, st
 use Rattle.flash_cache.specs.OnDisk.{HasLastStaged}
 use Rattle.page_store.specs.Staging.{WritesOnly}
 use Rattle.redo_undo.specs.MachineSteps.{next_group}
-use Rattle.redo_undo.specs.Numbers.{HasNumbers, PassesEnd}
+use Rattle.redo_undo.specs.Numbers.{HasNumbers}
 use Rattle.site.specs.Moments.{LeavesOnly}
 use Rattle.engine.specs.Paging.{restart_works, cache_on}
 use Rattle.engine.specs.Image.{IsSound, Stands, log_under}
@@ -25,7 +25,6 @@ use Rattle.engine.specs.LogReads.{restart_log_reads}
 use Rattle.engine.specs.SeenVersions.{VersionsAreSeen}
 use Rattle.sealed_ring.specs.Ring.{hi_of}
 use Rattle.image_changes.specs.Rings.{log_shape, master_shape}
-use Rattle.image_changes.specs.Costs.{CallsForUnits}
 use Rattle.log_records.specs.Log.{Entry}
 use Rattle.log_records.specs.Unfinished.{owed}
 use Rattle.face.specs.Workload.{checkpoints_in}
@@ -102,29 +101,6 @@ SkipsNoNumber run old now = (newest : Option Master) (blocks : List (List LogRec
     IsSound newest run.geometry old.image blocks →
     LeavesOnly old now (λ s. GivesNumbers run (log_under newest blocks) old.image s.image)
 
--- what the restart and the run append at most, by these counts, passes the end of a ring on the log's device
-abbrev pub WearsLog : Run → Image → Type 0
-WearsLog run image = (newest : Option Master) (blocks : List (List LogRecord)) →
-    IsSound newest run.geometry image blocks →
-    PassesEnd (blocks_by run (log_under newest blocks) image) (masters_by run image)
-
--- A run has appended one master unit for its restart and one for each checkpoint, and made no more calls than its units
--- and its texts need.
-pub record CountsUnits (run : Run) (old now : Site) : Type 0 where
-  pub masters : hi_of master_shape now.image.log ≡ masters_by run old.image
-  pub past : CallsForUnits run.geometry old now
-
--- The rings on the log's device have numbers for all that the restart and the run append, over an image whose log has
--- these records.
-pub record HasNumbersFor (run : Run) (records : List Entry) (image : Image) : Type 0 where
-  pub blocks : blocks_by run records image ≤ 2 ^ 40
-  pub masters : masters_by run image ≤ 2 ^ 40
-
--- so neither is to be appended to at its end
-abbrev pub HasLogRoom : Run → Image → Type 0
-HasLogRoom run image = (newest : Option Master) (blocks : List (List LogRecord)) →
-    IsSound newest run.geometry image blocks → HasNumbersFor run (log_under newest blocks) image
-
 -- what the run asks of the page cache over this image: the restart's work, then that of these turns
 abbrev pub works_by : Run → List Turn → Option Master → Image → List (List LogRecord) → List CacheWork
 works_by run done newest image blocks =
@@ -136,38 +112,11 @@ cache_by pool run done newest image blocks =
     after_works (rules_of pool run.geometry.groups) (works_by run done newest image blocks)
     (cache_on run.geometry image)
 
--- The lines up to the later number make a record or a checkpoint more than those up to the earlier one, or a group is
--- appended for them.
-abbrev pub AppendsSince : ℕ → Run → ℕ → ℕ → Image → Type 0
-AppendsSince pool run earlier later image = (newest : Option Master) (blocks : List (List LogRecord)) →
-    IsSound newest run.geometry image blocks →
-    (made_by (first_lines run earlier) < made_by (first_lines run later))
-    ⊎ ((checkpoints_in (turns_of (first_lines run earlier)) < checkpoints_in (turns_of (first_lines run later)))
-    ⊎ (next_group (cache_by pool run (turns_of (first_lines run earlier)) newest image blocks)
-    < next_group (cache_by pool run (turns_of (first_lines run later)) newest image blocks)))
-
--- So the last of so many lines that were begun has something to append on the log's device, as the restart has, which
--- makes a checkpoint.
-abbrev pub AppendsLast : ℕ → Run → ℕ → Image → Type 0
-AppendsLast pool run begun image = (begun ≡ 0) ⊎ AppendsSince pool run (begun - 1) begun image
-
 -- and it stages these frames meanwhile
 abbrev pub staged_by_run : ℕ → Run → List Turn → Option Master → Image → List (List LogRecord) → List Staged
 staged_by_run pool run done newest image blocks =
     staged_by_works (rules_of pool run.geometry.groups) (works_by run done newest image blocks)
     (cache_on run.geometry image)
-
--- the run appends to a ring of groups that stands at its end
-abbrev pub WearsOut : ℕ → Run → Image → Type 0
-WearsOut pool run image = (newest : Option Master) (blocks : List (List LogRecord)) →
-    IsSound newest run.geometry image blocks →
-    2 ^ 40 < next_group (cache_by pool run (turns_of run) newest image blocks)
-
--- no ring that it appends to stands there
-abbrev pub NeverWears : ℕ → Run → Image → Type 0
-NeverWears pool run image = (newest : Option Master) (blocks : List (List LogRecord)) →
-    IsSound newest run.geometry image blocks →
-    next_group (cache_by pool run (turns_of run) newest image blocks) ≤ 2 ^ 40
 
 -- when it is over the frames on flash are those of the machine's queue, in its groups and with its dirty marks, as a
 -- restart would find it

@@ -13,10 +13,11 @@ use Rattle.redo_undo.specs.Numbers.{HasNumbers}
 use Rattle.face.specs.Causes.{EndsInTime, NoFaultRose}
 use Rattle.face.specs.Headline.{Headline, IsGood, ran}
 use Rattle.face.specs.Loads.{LoadHeadline}
-use Rattle.face.specs.Range.{HasLogRoom, NeverWears, made_by, run_of}
+use Rattle.face.specs.Range.{made_by, run_of}
 use Rattle.face.specs.Run.{Run, first_lines, turns_of}
 use Rattle.face.specs.TopCall.{LoadContract, RunContract}
 use Rattle.face.specs.Workload.{checkpoints_in, load_run}
+use Rattle.face.specs.Worn.{WearsNone}
 
 -- a crash at some moment from old to new may leave this
 pub record MayBeLeft (old new : Site) (snapshot : Snapshot) : Type 0 where
@@ -118,14 +119,12 @@ pub record RingsSuffice (g : Geometry) (lives : ℕ) (work : Work) : Type 0 wher
   pub masters : most_masters lives work ≤ 2 ^ 40
   pub groups : most_groups g lives work ≤ 2 ^ 40
 
--- So a run on them comes to the end of no ring on the log's device as long as these have numbers for one life more and
--- the work of its lines too; and of none of groups, whatever its pool, as long as that one has.
+-- So as long as the rings have numbers for one life more and the work of a run's lines too, that run on them appends to
+-- none that stands at its end, whatever its pool.
 abbrev pub LivesHaveRoom : Type 0
 LivesHaveRoom = (g : Geometry) → HasLimits g → (lives : ℕ) (work : Work) (image : Image) →
     HaveLives g lives work image → (run : Run) → run.geometry ≡ g →
-    (most_blocks g (lives + 1) (both work (work_of run)) ≤ 2 ^ 40 →
-    most_masters (lives + 1) (both work (work_of run)) ≤ 2 ^ 40 → HasLogRoom run image)
-    × (most_groups g (lives + 1) (both work (work_of run)) ≤ 2 ^ 40 → (pool : ℕ) → NeverWears pool run image)
+    RingsSuffice g (lives + 1) (both work (work_of run)) → (pool : ℕ) → WearsNone pool run image
 
 -- And where nothing fails then, and the input ends in time, the status of the run is 0, or memory was wanted.
 abbrev pub RunsAreComplete : Type 0

@@ -8,18 +8,19 @@ use Rattle.face.specs.Causes.{EndsInTime, HasCauses, NoFaultRose}
 use Rattle.face.specs.Headline.{Headline, IsGood, TellsFault}
 use Rattle.face.specs.Loads.{LoadHeadline}
 use Rattle.face.specs.New.{New, NewCauses}
-use Rattle.face.specs.Range.{HasLogRoom, NeverWears, run_of}
+use Rattle.face.specs.Range.{run_of}
 use Rattle.face.specs.Workload.{load_run}
+use Rattle.face.specs.Worn.{WearsNone}
 
 -- What `run` does with a pool of so many pages.
 pub record RunContract (pool : ℕ) (old new : Site) (status : ℕ) : Type 0 where
   -- what is told, and what a crash at any moment leaves
   pub headline : (g : Geometry) (opening : State) → IsGood g opening old → Headline pool g opening old new status
-  -- Where nothing fails, no group is to be appended to a ring that stands at its end, the rings on the log's device
-  -- have numbers for all that is to be appended, and the input ends in time, the status is 0, or memory was wanted.
+  -- Where nothing fails, the lines that are left append to no ring that stands at its end, and the input ends in time,
+  -- the status is 0, or memory was wanted.
   pub complete : (g : Geometry) (opening : State) → IsGood g opening old → NoFaultRose old new →
-      NeverWears pool (run_of g opening true old.input.left []) old.image →
-      HasLogRoom (run_of g opening true old.input.left []) old.image → EndsInTime old → (status ≡ 0) ⊎ (status ≡ 4)
+      WearsNone pool (run_of g opening true old.input.left []) old.image → EndsInTime old →
+      (status ≡ 0) ⊎ (status ≡ 4)
   -- of every site: when each status comes, and the line that is told with it
   pub causes : HasCauses status old new
   pub line : IsTrue old.honest → TellsFault status old new
@@ -27,11 +28,9 @@ pub record RunContract (pool : ℕ) (old new : Site) (status : ℕ) : Type 0 whe
 -- What `load` does.
 pub record LoadContract (load : Load) (old new : Site) (status : ℕ) : Type 0 where
   pub headline : (g : Geometry) (opening : State) → IsGood g opening old → LoadHeadline load g opening old new status
-  -- Where nothing fails, no group is to be appended to a ring that stands at its end, and the rings on the log's device
-  -- have numbers for all that is to be appended to them, the status is 0, or memory was wanted.
+  -- Where nothing fails, and its lines append to no ring that stands at its end, the status is 0, or memory was wanted.
   pub complete : (g : Geometry) (opening : State) → IsGood g opening old → NoFaultRose old new →
-      NeverWears load.pool (load_run g opening load) old.image → HasLogRoom (load_run g opening load) old.image →
-      (status ≡ 0) ⊎ (status ≡ 4)
+      WearsNone load.pool (load_run g opening load) old.image → (status ≡ 0) ⊎ (status ≡ 4)
   -- of every site: when each status comes, none that speaks of input, and the line that is told with it
   pub causes : HasCauses status old new
   pub untaken : (status ≢ 5) × (status ≢ 7)

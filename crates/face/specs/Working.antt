@@ -1,27 +1,27 @@
 -- What comes of a run before its fault line, by the number of lines that were heard.
 use Rattle.std.specs.Prelude.{◌≡◌, ◌≢◌, ℕ, ◌+◌, ◌-◌, ◌≤◌, ◌++◌, Bool, true, false, List, [], length, take, Option}
-use Rattle.std.specs.Prelude.{Result, IfErr, IsErrOf, OnOk, ⊤}
+use Rattle.std.specs.Prelude.{Result, Err, IfErr, IsErrOf, OnOk, ⊤}
 use Rattle.site.specs.State.{State as Site, Snapshot, Image, MayLeave, now_of, no_loose}
 use Rattle.site.specs.Moments.{LeavesOnly}
 use Rattle.std.specs.List.{AllByRecursion, list_any}
 use Rattle.site.specs.declared.outside.Take.{Take}
-use Rattle.site.specs.declared.outside.Dev.TheVariants.{Log, Flash}
+use Rattle.site.specs.declared.outside.Dev.{Dev}
 use Rattle.site.specs.declared.outside.Stop.TheVariants.{Worn}
+use Rattle.image_changes.specs.Costs.{CallsForUnits}
 use Rattle.record_model.specs.Run.{commit_marks, commits_among, is_quit}
 use Rattle.record_model.specs.Touches.{CacheWork}
 use Rattle.log_records.specs.declared.log_record.LogRecord.{LogRecord}
 use Rattle.checkpoint.specs.declared.master.Master.{Master}
 use Rattle.face.specs.declared.halt.Halt.{Halt}
 use Rattle.face.specs.declared.halt.Halt.TheVariants.{Stop, Output, Input, Limit}
-use Rattle.face.specs.Filled.{SealsNoMore}
 use Rattle.face.specs.Lines.{HeardAll, answered_of, commands_of, limit}
 use Rattle.face.specs.Range.{AsksNoMore, HasBegun, IsLeft, IsWhole, LeavesItsQueue, LeavesStaged, LeavesVersions}
-use Rattle.face.specs.Range.{NeverWears, SkipsNoNumber, StandsAfter, WearsOut, WritesAsTold, first_texts}
-use Rattle.face.specs.Range.{AppendsLast, CountsUnits, WearsLog, log_reads_by_turns, texts}
-use Rattle.face.specs.Range.{ListsTheMachine, works_by}
+use Rattle.face.specs.Range.{ListsTheMachine, SkipsNoNumber, StandsAfter, WritesAsTold, first_texts}
+use Rattle.face.specs.Range.{log_reads_by_turns, texts, works_by}
 use Rattle.face.specs.Run.{Run, first_lines, turns_of}
 use Rattle.face.specs.Texts.{status_of}
 use Rattle.face.specs.Waiting.{NobodyWaits}
+use Rattle.face.specs.Worn.{LeavesItsRings, WearsFirst, WearsNone, WearsNoneBefore}
 
 -- what a run over this image has asked once it has answered so many lines
 abbrev pub asked_after : Run → Option Master → Image → List (List LogRecord) → ℕ → List CacheWork
@@ -63,6 +63,12 @@ StopsTaking Input run heard octets old now = HasTakenAll run heard octets old no
 StopsTaking Limit run heard octets old now = HasTakenAll run heard octets old now × (length octets ≡ limit + 1)
 StopsTaking _ run heard octets old now = ⊤
 
+-- taking was what failed
+abbrev pub TakingFails : {T : Type 0} → Result T Halt → Type 0
+TakingFails (Err Input) = ⊤
+TakingFails (Err Limit) = ⊤
+TakingFails _ = ⊥
+
 -- a run that stops, of which so many lines were heard, before its fault line
 pub record Stops (run : Run) (heard : ℕ) (old new : Site) (halt : Halt) : Type 0 where
   pub any_moment : LeavesOnly old new (IsLeft (first_lines run heard) old.told [])
@@ -80,18 +86,17 @@ pub record AnswersFirst (run : Run) (lines : ℕ) (old now : Site) : Type 0 wher
   pub early : AllByRecursion (IsEarly lines old) waits.takes
   pub count : now.input.heard + length now.input.left ≡ old.input.heard + length old.input.left
 
--- What a run that ends so asks of the devices. Flash is worn only where it asks for more groups than the ring can have,
--- and the log's device only where what it appends at most passes the end of a ring; no ring number is skipped there. At
--- Ok its master units are those of its checkpoints, and no more calls were made than its units and its texts need.
+-- What a run that ends so asks of the devices. A device is worn only where the first ring that is appended to at its
+-- end lies there, and at Ok there is none; then the rings have the numbers of the machine, and no more calls were made
+-- than its units and its texts need. No ring number is skipped on the log's device.
 pub record Demands {T : Type 0} (pool : ℕ) (run : Run) (old new : Site) (result : Result T Halt) : Type 0 where
-  pub worn : IsErrOf result (Stop (Worn Flash)) → WearsOut pool run old.image
-  pub worn_log : IsErrOf result (Stop (Worn Log)) → WearsLog run old.image
-  pub room : OnOk result (NeverWears pool run old.image)
+  pub worn : (dev : Dev) → IsErrOf result (Stop (Worn dev)) → WearsFirst pool run dev old.image
+  pub room : OnOk result (WearsNone pool run old.image)
   pub queue : OnOk result (LeavesItsQueue pool run old.image new.image)
   pub versions : OnOk result (LeavesVersions pool run old.image new.image)
-  pub seals : OnOk result (SealsNoMore pool run old.image new.image)
+  pub rings : OnOk result (LeavesItsRings pool run old.image new.image)
   pub staged : OnOk result (LeavesStaged pool run old new)
-  pub units : OnOk result (CountsUnits run old new)
+  pub calls : OnOk result (CallsForUnits run.geometry old new)
   pub numbers : SkipsNoNumber run old new
   pub reads : AsksNoMore pool run old new
 
@@ -107,7 +112,8 @@ pub record RunOutcome {T : Type 0} (pool : ℕ) (run : Run) (old new : Site) (re
       × LeavesOnly old new (IsLeft (first_lines run heard) old.told []) × IsWhole (first_lines run heard) old new
       × (new.loose ≡ no_loose))
   pub demands : Demands pool (first_lines run heard) old new result
-  pub appends : IsErrOf result (Stop (Worn Log)) → AppendsLast pool run heard old.image
+  pub earlier : WearsNoneBefore pool run heard old.image
+  pub taking : TakingFails result → WearsNone pool (first_lines run heard) old.image
   pub listed : ListsTheMachine pool (first_lines run heard) old.image
   pub written : WritesAsTold pool run heard old new
   pub answers : AnswersFirst run heard old new

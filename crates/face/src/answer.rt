@@ -12,13 +12,14 @@ ghost use Rattle.redo_undo.specs.StoreCalls.{AreNext};
 ghost use Rattle.engine.specs.Invariant.{Invariant, sizes_of};
 ghost use Rattle.engine.specs.Representation.{Matches};
 ghost use Rattle.engine.specs.Listings.{listing_of};
-ghost use Rattle.engine.specs.Numbers.{AppendsToLog, CountsOn};
+ghost use Rattle.engine.specs.Numbers.{CountsOn};
 ghost use Rattle.face.specs.Causes.{AnswerFailsBy};
 ghost use Rattle.shell_text.specs.Texts.{reply_text};
-ghost use Rattle.face.specs.Filled.{FillsBy, line_octets};
 ghost use Rattle.face.specs.Run.{step, IsAsked, LeavesAnswer, line_checkpoints, line_log_reads};
 ghost use Rattle.record_model.specs.Touches.{line_touches};
 ghost use Rattle.face.specs.Going.{LineStepsMachine};
+ghost use Rattle.face.specs.Worn.{LinePerforms};
+ghost use Rattle.ring_machine.specs.Commands.{line_work};
 
 use crate::commands::carry_out;
 use crate::halt::Halt;
@@ -52,16 +53,13 @@ pub fn answer<S: Site>(engine: &mut Engine, site: &mut S, line: Option<Command>)
     ensures asks { (s : State) → Matches engine.old (S.state site.old) s
         → LineStepsMachine result (line_touches true s line) (line_log_reads s line) engine.old.store.pages
         engine.new.store.pages (S.state site.old) (S.state site.new) }
+    ensures performs { (s : State) → Matches engine.old (S.state site.old) s
+        → LinePerforms result (line_work true s line) engine.old.store engine.new.store (S.state site.old)
+        (S.state site.new) }
     ensures numbers { (s : State) → Matches engine.old (S.state site.old) s
         → IsQuiet (S.state site.old)
-        → CountsOn result (Halt.Stop (Stop.Worn Dev.Log)) engine.old engine.new (S.state site.old) (S.state site.new)
+        → CountsOn result engine.old engine.new (S.state site.old) (S.state site.new)
         s (step s line []).after (line_checkpoints s line) }
-    ensures fills { (s : State) → Matches engine.old (S.state site.old) s
-        → IsQuiet (S.state site.old)
-        → OnOk result (FillsBy (line_octets s line) engine.old engine.new) }
-    ensures appends { (s : State) → Matches engine.old (S.state site.old) s
-        → IsErrOf result (Halt.Stop (Stop.Worn Dev.Log)) → AppendsToLog s (step s line []).after
-        (line_checkpoints s line) (line_touches true s line) engine.old.store.pages }
     ensures left { IsTrue (S.state site.old).honest → (S.state site.new).input ≡ (S.state site.old).input }
     ensures stays_quiet { IsTrue (S.state site.old).honest → IsQuiet (S.state site.old)
         → OnOk result (IsQuiet (S.state site.new)) }

@@ -13,12 +13,13 @@ ghost use Rattle.engine.specs.Invariant.{Invariant, sizes_of};
 ghost use Rattle.engine.specs.Representation.{Matches};
 ghost use Rattle.engine.specs.Leaves.{LeavesEither};
 ghost use Rattle.engine.specs.Listings.{listing_of};
-ghost use Rattle.engine.specs.Numbers.{AppendsToLog, CountsOn};
+ghost use Rattle.engine.specs.Numbers.{CountsOn};
 ghost use Rattle.face.specs.Causes.{FailsBy};
-ghost use Rattle.face.specs.Filled.{FillsBy, line_octets};
 ghost use Rattle.face.specs.Run.{step, IsAsked, line_checkpoints, line_log_reads};
 ghost use Rattle.record_model.specs.Touches.{line_touches};
 ghost use Rattle.redo_undo.specs.MachineSteps.{StepsMachine};
+ghost use Rattle.redo_undo.specs.Mirroring.{PerformsStore};
+ghost use Rattle.ring_machine.specs.Commands.{line_work};
 ghost use Rattle.redo_undo.specs.StoreCalls.{AreNext};
 
 use engine::{Engine, rest_counts_nothing};
@@ -46,18 +47,15 @@ fn carry_out_plain<S: Site>(
     ensures asks { (s : State) → Matches engine.old (S.state site.old) s
         → StepsMachine result (line_touches true s line) engine.old.store.pages engine.new.store.pages
         (S.state site.old) (S.state site.new) }
+    ensures performs { (s : State) → Matches engine.old (S.state site.old) s
+        → PerformsStore result (line_work true s line) engine.old.store engine.new.store (S.state site.old)
+        (S.state site.new) }
     ensures log_reads { (s : State) → Matches engine.old (S.state site.old) s
         → (S.state site.new).log_reads ≤ (S.state site.old).log_reads + line_log_reads s line }
     ensures numbers { (s : State) → Matches engine.old (S.state site.old) s
         → IsQuiet (S.state site.old)
-        → CountsOn result (Stop.Worn Dev.Log) engine.old engine.new (S.state site.old) (S.state site.new)
+        → CountsOn result engine.old engine.new (S.state site.old) (S.state site.new)
         s (step s line []).after (line_checkpoints s line) }
-    ensures fills { (s : State) → Matches engine.old (S.state site.old) s
-        → IsQuiet (S.state site.old)
-        → OnOk result (FillsBy (line_octets s line) engine.old engine.new) }
-    ensures appends { (s : State) → Matches engine.old (S.state site.old) s
-        → IsErrOf result (Stop.Worn Dev.Log) → AppendsToLog s (step s line []).after (line_checkpoints s line)
-        (line_touches true s line) engine.old.store.pages }
     ensures left { IsTrue (S.state site.old).honest
         → (S.state site.new).input ≡ (S.state site.old).input }
     ensures stays_quiet { IsTrue (S.state site.old).honest → IsQuiet (S.state site.old)
@@ -135,18 +133,15 @@ pub fn carry_out<S: Site>(
     ensures asks { (s : State) → Matches engine.old (S.state site.old) s
         → StepsMachine result (line_touches true s line) engine.old.store.pages engine.new.store.pages
         (S.state site.old) (S.state site.new) }
+    ensures performs { (s : State) → Matches engine.old (S.state site.old) s
+        → PerformsStore result (line_work true s line) engine.old.store engine.new.store (S.state site.old)
+        (S.state site.new) }
     ensures log_reads { (s : State) → Matches engine.old (S.state site.old) s
         → (S.state site.new).log_reads ≤ (S.state site.old).log_reads + line_log_reads s line }
     ensures numbers { (s : State) → Matches engine.old (S.state site.old) s
         → IsQuiet (S.state site.old)
-        → CountsOn result (Stop.Worn Dev.Log) engine.old engine.new (S.state site.old) (S.state site.new)
+        → CountsOn result engine.old engine.new (S.state site.old) (S.state site.new)
         s (step s line []).after (line_checkpoints s line) }
-    ensures fills { (s : State) → Matches engine.old (S.state site.old) s
-        → IsQuiet (S.state site.old)
-        → OnOk result (FillsBy (line_octets s line) engine.old engine.new) }
-    ensures appends { (s : State) → Matches engine.old (S.state site.old) s
-        → IsErrOf result (Stop.Worn Dev.Log) → AppendsToLog s (step s line []).after (line_checkpoints s line)
-        (line_touches true s line) engine.old.store.pages }
     ensures left { IsTrue (S.state site.old).honest
         → (S.state site.new).input ≡ (S.state site.old).input }
     ensures stays_quiet { IsTrue (S.state site.old).honest → IsQuiet (S.state site.old)

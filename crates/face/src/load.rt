@@ -261,7 +261,6 @@ pub fn serve_load<S: Site>(alloc: Global, load: &Load, site: &mut S) -> u8
     ensures faults { result ≡ 0 → SameFaults (S.state site.old) (S.state site.new) }
     ensures first { FirstDecides result (S.state site.old) (S.state site.new) }
 {
-    works_add_up();
     match load_and_tell(alloc, load, site) {
         Ok(()) => 0,
         Err(halt) => {

@@ -16,10 +16,11 @@ ghost use Rattle.redo_undo.specs.StoreCalls.{AreNext};
 ghost use Rattle.engine.specs.Invariant.{Invariant, sizes_of};
 ghost use Rattle.engine.specs.Leaves.{HasNoSizes};
 ghost use Rattle.face.specs.Causes.{HasCause, RefusesAsForeign};
-ghost use Rattle.face.specs.Range.{AsksNoMore, LeavesStaged, SkipsNoNumber, WearsLog, WearsOut};
+ghost use Rattle.face.specs.Range.{AsksNoMore, LeavesStaged, SkipsNoNumber};
 ghost use Rattle.face.specs.Run.{Run, Begins, first_lines};
 ghost use Rattle.face.specs.Working.{Stops};
 ghost use Rattle.face.specs.Going.{Going, IsPaged, IsCounted};
+ghost use Rattle.face.specs.Worn.{IsMirrored, WearsFirst};
 
 use crate::halt::Halt;
 use engine::Engine;
@@ -47,8 +48,15 @@ pub fn open<S: Site>(alloc: Global, pool: u32, site: &mut S) -> Result<Engine, H
         → (newest : Option Master) (blocks : List (List LogRecord))
         → IsSound newest run.geometry (S.state site.old).image blocks
         → IfOk result (λ engine. IsPaged pool run newest (S.state site.old).image blocks engine 0) }
-    ensures worn { (run : Run) → Begins run (S.state site.old) → IsErrOf result (Halt.Stop (Stop.Worn Dev.Flash))
-        → WearsOut pool (first_lines run 0) (S.state site.old).image }
+    // The machine of the rings has done it, and mirrors the store.
+    ensures mirrored { (run : Run) → Begins run (S.state site.old)
+        → (newest : Option Master) (blocks : List (List LogRecord))
+        → IsSound newest run.geometry (S.state site.old).image blocks
+        → IfOk result (λ engine. IsMirrored pool run newest (S.state site.old).image blocks engine
+        (S.state site.new) 0) }
+    ensures wears { (run : Run) → Begins run (S.state site.old)
+        → (dev : Dev) → IsErrOf result (Halt.Stop (Stop.Worn dev))
+        → WearsFirst pool (first_lines run 0) dev (S.state site.old).image }
     ensures reads { (run : Run) → Begins run (S.state site.old)
         → AsksNoMore pool (first_lines run 0) (S.state site.old) (S.state site.new) }
     // The disk has the frames that were staged last.
@@ -62,8 +70,6 @@ pub fn open<S: Site>(alloc: Global, pool: u32, site: &mut S) -> Result<Engine, H
         (S.state site.new) engine 0) }
     ensures numbers { (run : Run) → Begins run (S.state site.old)
         → SkipsNoNumber (first_lines run 0) (S.state site.old) (S.state site.new) }
-    ensures worn_log { (run : Run) → Begins run (S.state site.old) → IsErrOf result (Halt.Stop (Stop.Worn Dev.Log))
-        → WearsLog (first_lines run 0) (S.state site.old).image }
     ensures left { IsTrue (S.state site.old).honest → (S.state site.new).input ≡ (S.state site.old).input }
     ensures goes_on { IfOk result (λ engine. Invariant engine (S.state site.new)) }
     ensures halts { IfErr result (λ halt. (halt ≢ Halt.Input) × (halt ≢ Halt.Limit)) }

@@ -110,7 +110,6 @@ pub fn serve<S: Site>(alloc: Global, pool: u32, site: &mut S) -> u8
     ensures faults { result ≡ 0 → SameFaults (S.state site.old) (S.state site.new) }
     ensures first { FirstDecides result (S.state site.old) (S.state site.new) }
 {
-    works_add_up();
     serial_order();
     match work(alloc, pool, site) {
         Ok(()) => 0,

@@ -1,9 +1,8 @@
 -- Calls that ask the cache for work, one after the other.
-use Rattle.std.proofs.Common.{◌≡◌, ◌+◌, ◌*◌, ◌^◌, ◌<◌, ◌≤◌, Bool, true, false, List, [], ◌++◌, arith, refl, sym, ap, subst, ◌∙◌, ℕ}
+use Rattle.std.proofs.Common.{◌≡◌, ◌+◌, ◌*◌, ◌≤◌, Bool, true, false, List, [], ◌++◌, arith, refl, sym, ap, subst, ◌∙◌, ℕ}
 use Rattle.std.specs.Prelude.{Result, Ok, Err, IsErrOf, if◌then◌else◌}
 use Rattle.site.specs.declared.outside.Dev.TheVariants.{Flash, Disk}
 use Rattle.site.specs.declared.outside.Stop.{Stop}
-use Rattle.site.specs.declared.outside.Stop.TheVariants.{Worn}
 use Rattle.site.specs.State.{State, IsQuiet}
 use Rattle.site.specs.Calls.{SameReads, IsUnchanged, Preserves}
 use Rattle.site.specs.Laws.{stays_honest}
@@ -18,9 +17,9 @@ use Rattle.record_model.specs.Touches.{CacheWork}
 use Rattle.second_chance.specs.Machine.{Rules, Cache, Staged, touched, finds, misses, after_works, staged_by_works}
 use Rattle.page_store.specs.declared.store.PageStore.{PageStore}
 use Rattle.page_store.specs.Caching.{cache_of, rules, pushes}
-use Rattle.redo_undo.specs.MachineSteps.{next_group, one_touch, one_change, Overflows, ReadsFor, StepsMachine, StagesFor}
-use Rattle.redo_undo.proofs.Costs.{works_add_up, staged_add_up, reads_add_up, reads_for_more, overflows_with_more, touched_next, more_next}
-use Rattle.site.proofs.Working.{err_again, no_error, ok_as, ok_always}
+use Rattle.redo_undo.specs.MachineSteps.{next_group, one_touch, one_change, ReadsFor, StepsMachine, StagesFor}
+use Rattle.redo_undo.proofs.Costs.{works_add_up, staged_add_up, reads_add_up, reads_for_more, touched_next, more_next}
+use Rattle.site.proofs.Working.{ok_as, ok_always}
 use Rattle.std.specs.Prelude.{IsTrue, OnOk}
 use Rattle.site.specs.declared.outside.Dev.TheVariants.{Log}
 
@@ -41,12 +40,6 @@ touch_reads r page cache before now some flash disk = record {
   disk = omega (arith, disk);
 }
 
--- where it pushes to a ring that stands at its end it overflows
-pub touch_overflows : (r : Rules) (page : ℕ) (cache : Cache) → 1 ≤ r.groups → pushes r page cache ≡ true → next_group cache ≡ 2 ^ 40 → Overflows r (one_touch page) cache
-touch_overflows r page cache some pushed full =
-    let one : ◌≡◌ {A = ℕ} (if pushes r page cache then 1 else 0) 1 = ap (λ (b : Bool). if b then 1 else 0) pushed in
-    omega (arith, full, one, touched_next r page false cache some)
-
 -- A change costs what the touch costs.
 
 change_next : (r : Rules) (page : ℕ) (cache : Cache) → 1 ≤ r.groups → next_group (touched r page true cache) ≡ next_group (touched r page false cache)
@@ -57,9 +50,6 @@ change_reads r page cache before now some reads = record {
   flash = omega (arith, reads.flash, change_next r page cache some);
   disk = reads.disk;
 }
-
-pub change_overflows : (r : Rules) (page : ℕ) (cache : Cache) → 1 ≤ r.groups → Overflows r (one_touch page) cache → Overflows r (one_change page) cache
-change_overflows r page cache some over = omega (arith, over, change_next r page cache some)
 
 pub change_stages : {T : Type 0} (result : Result T Stop) (page : ℕ) (old new : PageStore) (before now : State) → 1 ≤ (rules old).groups → StagesFor result (one_touch page) old new before now → StagesFor result (one_change page) old new before now
 change_stages result page old new before now some stages = stages_as refl (sym (change_next (rules old) page (cache_of old) some)) stages
@@ -86,12 +76,10 @@ stages_read {A} {result = result} {pages = pages} {before = before} {now = now} 
 pub no_reads : (r : Rules) (cache : Cache) (before now : State) → SameReads before now → ReadsFor r [] cache before now
 no_reads r cache before now same = record { flash = omega (arith, same Flash); disk = omega (arith, same Disk) }
 
--- a call that does no work and can't find flash worn
-pub asks_nothing : {T : Type 0} (result : Result T Stop) (pages : PageStore) (before now : State) → SameReads before now → (IsErrOf result (Worn Flash) → ⊥) →
-    Stages result [] (next_group (cache_of pages)) pages pages before now → StepsMachine result [] pages pages before now
-asks_nothing result pages before now same never stages = record {
+-- a call that does no work
+pub asks_nothing : {T : Type 0} (result : Result T Stop) (pages : PageStore) (before now : State) → SameReads before now → Stages result [] (next_group (cache_of pages)) pages pages before now → StepsMachine result [] pages pages before now
+asks_nothing result pages before now same stages = record {
   machine = ok_always result _ refl;
-  worn = λ is. absurd (never is);
   reads = no_reads (rules pages) (cache_of pages) before now same;
   rules_are = refl;
   stages = stages;
@@ -107,7 +95,6 @@ asks_then a result first later old mid new before between now one two =
     ap (λ r. after_works r later (cache_of mid)) one.rules_are ∙ ap (after_works (rules old) later) start ∙ sym all in
     record {
       machine = ok_as result _ _ (λ is. is ∙ there) two.machine;
-      worn = λ is. subst (λ (c : Cache). 2 ^ 40 < next_group c) there (two.worn is);
       reads = reads_add_up (rules old) first later (cache_of old) before between now one.reads
           (subst (λ (c : Cache). ReadsFor (rules old) later c between now) start (subst (λ (r : Rules). ReadsFor r later (cache_of mid) between now) one.rules_are two.reads));
       rules_are = two.rules_are ∙ one.rules_are;
@@ -120,9 +107,8 @@ asks_then a result first later old mid new before between now one two =
 -- a call that stops before all of some work is done
 pub asks_stopped : {A B : Type 0} (stop : Stop) (first later : List CacheWork) (old new : PageStore) (before now : State) → 1 ≤ (rules old).groups →
     StepsMachine {T = A} (Err stop) first old new before now → StepsMachine {T = B} (Err stop) (first ++ later) old new before now
-asks_stopped {A} {B} stop first later old new before now some asks = record {
+asks_stopped stop first later old new before now some asks = record {
   machine = tt;
-  worn = λ is. overflows_with_more (rules old) first later (cache_of old) some (asks.worn (err_again stop (Worn Flash) is));
   reads = reads_for_more (rules old) first later (cache_of old) before now some asks.reads;
   rules_are = asks.rules_are;
   stages = stages_err (stages_weaker (λ page is. subst (λ (l : List Staged). Contains (pages_staged l) page) (sym (staged_add_up (rules old) first later (cache_of old))) (among_first (staged_by_works (rules old) first (cache_of old)) _ page is))
@@ -137,20 +123,19 @@ asks_same result works other old new before now same asks = subst (λ (w : List 
 
 -- before any call
 pub no_asks : (pages : PageStore) (now : State) → StepsMachine {T = Unit {0}} (Ok tt) [] pages pages now now
-no_asks pages now = record { machine = refl; worn = λ is. absurd (no_error {T = Unit {0}} {x = tt} {e = Worn Flash} is); reads = record { flash = omega arith; disk = omega arith }; rules_are = refl; stages = stages_none refl (omega arith) refl }
+no_asks pages now = record { machine = refl; reads = record { flash = omega arith; disk = omega arith }; rules_are = refl; stages = stages_none refl (omega arith) refl }
 
 -- another answer of the same call
 pub asks_ok : {A B : Type 0} (a : A) (b : B) (works : List CacheWork) (old new : PageStore) (before now : State) → StepsMachine {T = A} (Ok a) works old new before now → StepsMachine {T = B} (Ok b) works old new before now
-asks_ok {A} {B} a b works old new before now asks = record { machine = asks.machine; worn = λ is. absurd (no_error {T = B} {x = b} {e = Worn Flash} is); reads = asks.reads; rules_are = asks.rules_are; stages = stages_ok asks.stages }
+asks_ok a b works old new before now asks = record { machine = asks.machine; reads = asks.reads; rules_are = asks.rules_are; stages = stages_ok asks.stages }
 
 pub asks_err : {A B : Type 0} (stop : Stop) (works : List CacheWork) (old new : PageStore) (before now : State) → StepsMachine {T = A} (Err stop) works old new before now → StepsMachine {T = B} (Err stop) works old new before now
-asks_err stop works old new before now asks = record { machine = tt; worn = λ is. asks.worn (err_again stop (Worn Flash) is); reads = asks.reads; rules_are = asks.rules_are; stages = stages_err asks.stages }
+asks_err stop works old new before now asks = record { machine = tt; reads = asks.reads; rules_are = asks.rules_are; stages = stages_err asks.stages }
 
 -- a call that fails behind it for another reason
-pub asks_fails : {A B : Type 0} (a : A) (stop : Stop) (works : List CacheWork) (old new : PageStore) (before now : State) → (stop ≡ Worn Flash → ⊥) → StepsMachine {T = A} (Ok a) works old new before now → StepsMachine {T = B} (Err stop) works old new before now
-asks_fails {A} {B} a stop works old new before now never asks = record {
+pub asks_fails : {A B : Type 0} (a : A) (stop : Stop) (works : List CacheWork) (old new : PageStore) (before now : State) → StepsMachine {T = A} (Ok a) works old new before now → StepsMachine {T = B} (Err stop) works old new before now
+asks_fails a stop works old new before now asks = record {
   machine = tt;
-  worn = λ is. absurd (never (stop_is {U = B} stop (Worn Flash) is));
   reads = asks.reads;
   rules_are = asks.rules_are;
   stages = stages_err asks.stages;

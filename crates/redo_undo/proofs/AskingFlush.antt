@@ -22,12 +22,11 @@ never_worn_flash (Err stop) stops is = let equal : stop ≡ Worn Flash = cc in n
 
 -- between calls that read no page
 pub asks_around : {A B : Type 0} (r : Result A Stop) (s : Result B Stop) (works : List CacheWork) (pages pages' : PageStore) (old mid flushed new : State) → SameReads old mid → SameReads flushed new →
-    OnOk s (cache_of pages' ≡ after_works (rules pages) works (cache_of pages)) → (IsErrOf s (Worn Flash) → IsErrOf r (Worn Flash)) → Stages {T = ⊤} (Ok tt) [] (next_group (cache_of pages)) pages pages old mid → Stages s (staged_by_works (rules pages) works (cache_of pages)) (next_group (after_works (rules pages) works (cache_of pages))) pages pages' mid new →
+    OnOk s (cache_of pages' ≡ after_works (rules pages) works (cache_of pages)) → Stages {T = ⊤} (Ok tt) [] (next_group (cache_of pages)) pages pages old mid → Stages s (staged_by_works (rules pages) works (cache_of pages)) (next_group (after_works (rules pages) works (cache_of pages))) pages pages' mid new →
     StepsMachine r works pages pages' mid flushed → StepsMachine s works pages pages' old new
-asks_around r s works pages pages' old mid flushed new first last machine stops still later asks =
+asks_around r s works pages pages' old mid flushed new first last machine still later asks =
     record {
       machine = machine;
-      worn = λ is. asks.worn (stops is);
       reads = record { flash = omega (arith, first Flash, last Flash, asks.reads.flash); disk = omega (arith, first Disk, last Disk, asks.reads.disk) };
       rules_are = asks.rules_are;
       stages = stages_then (λ has. more_next (rules pages) [] works (cache_of pages) has.room) still later;

@@ -1,6 +1,6 @@
 -- What undo asks of the cache: calls on the log alone, and one Update after the other.
 use Rattle.std.proofs.Common.{◌≡◌, ◌≢◌, ◌⊎◌, inl, inr, ◌+◌, ◌*◌, ◌<◌, ◌≤◌, true, List, [], ◌∷◌, ◌++◌, append_assoc, append-nil, Option, Some, arith, refl, sym, ap, subst, ◌∙◌, ℕ}
-use Rattle.std.specs.Prelude.{Result, Ok, Err, OnOk, IfErr, IsErrOf, option_map, ⊤}
+use Rattle.std.specs.Prelude.{Result, Ok, Err, OnOk, option_map, ⊤}
 use Rattle.std.specs.List.{cons_option}
 use Rattle.std.proofs.lemmas.List.Elements.{filter_map-append}
 use Rattle.site.specs.declared.outside.Dev.{Dev}
@@ -17,12 +17,12 @@ use Rattle.page_store.specs.declared.store.PageStore.{PageStore}
 use Rattle.page_store.specs.Caching.{cache_of, rules, with_change}
 use Rattle.page_store.specs.Laws.{TouchThenChange}
 use Rattle.page_store.specs.Staging.{Stages}
-use Rattle.page_store.proofs.StagingLaws.{stages_ok, stages_err, stages_as, stages_then}
+use Rattle.page_store.proofs.StagingLaws.{stages_err, stages_as, stages_then}
 use Rattle.redo_undo.specs.MachineSteps.{next_group, one_touch, one_change, ReadsFor, StepsMachine}
 use Rattle.redo_undo.specs.UndoWorks.{works_of}
 use Rattle.redo_undo.proofs.Costs.{reads_add_up, more_next}
-use Rattle.redo_undo.proofs.Asking.{change_reads, change_overflows, change_stages, asks_then, asks_stopped, stop_is}
-use Rattle.site.proofs.Working.{err_again, ok_as, ok_always}
+use Rattle.redo_undo.proofs.Asking.{change_reads, change_stages, asks_ok, asks_then, asks_stopped}
+use Rattle.site.proofs.Working.{ok_as, ok_always}
 
 -- Calls on the log alone.
 
@@ -41,10 +41,6 @@ no_reads_else : (r : Rules) (cache : Cache) (before now : State) → SameElse be
 no_reads_else r cache before now same = record { flash = omega (arith, same.flash); disk = omega (arith, same.disk) }
 
 -- why a call on the log stops
-pub not_worn : (stop : Stop) → (stop ≡ Device Log) ⊎ (stop ≡ Foreign) → stop ≢ Worn Flash
-not_worn stop (inl device) = λ worn. cc
-not_worn stop (inr foreign) = λ worn. cc
-
 pub not_worn_flash : (stop : Stop) → (stop ≡ Device Log) ⊎ (stop ≡ Worn Log) → stop ≢ Worn Flash
 not_worn_flash stop (inl device) = λ worn. cc
 not_worn_flash stop (inr log) = λ worn. cc
@@ -54,23 +50,18 @@ not_worn_either stop (inl device) = λ worn. cc
 not_worn_either stop (inr (inl log)) = λ worn. cc
 not_worn_either stop (inr (inr foreign)) = λ worn. cc
 
-pub never_worn : {T : Type 0} (result : Result T Stop) → IfErr result (λ stop. (stop ≡ Device Log) ⊎ ((stop ≡ Worn Log) ⊎ (stop ≡ Foreign))) → IsErrOf result (Worn Flash) → ⊥
-never_worn (Ok x) stops is = cc
-never_worn (Err stop) stops is = let equal : stop ≡ Worn Flash = cc in not_worn_either stop stops equal
-
 -- a call that stops before it asks for anything
-pub asks_refused : {T : Type 0} (stop : Stop) (works : List CacheWork) (pages : PageStore) (before now : State) → 1 ≤ (rules pages).groups → stop ≢ Worn Flash → SameElse before now →
+pub asks_refused : {T : Type 0} (stop : Stop) (works : List CacheWork) (pages : PageStore) (before now : State) → 1 ≤ (rules pages).groups → SameElse before now →
     Stages {T = T} (Err stop) [] (next_group (cache_of pages)) pages pages before now → StepsMachine {T = T} (Err stop) works pages pages before now
-asks_refused {T} stop works pages before now some other same stages =
+asks_refused {T} stop works pages before now some same stages =
     asks_stopped {A = T} stop [] works pages pages before now some
-    (record { machine = tt; worn = λ is. absurd (other (stop_is {U = T} stop (Worn Flash) is)); reads = no_reads_else (rules pages) (cache_of pages) before now same; rules_are = refl; stages = stages })
+    (record { machine = tt; reads = no_reads_else (rules pages) (cache_of pages) before now same; rules_are = refl; stages = stages })
 
 -- a call that reads the log before it asks
 pub asks_later : {T : Type 0} (result : Result T Stop) (works : List CacheWork) (old new : PageStore) (before between now : State) → SameElse before between → Stages {T = ⊤} (Ok tt) [] (next_group (cache_of old)) old old before between →
     StepsMachine result works old new between now → StepsMachine result works old new before now
 asks_later result works old new before between now same still asks = record {
   machine = asks.machine;
-  worn = asks.worn;
   reads = reads_add_up (rules old) [] works (cache_of old) before between now (no_reads_else (rules old) (cache_of old) before between same) asks.reads;
   rules_are = asks.rules_are;
   stages = stages_then (λ has. more_next (rules old) [] works (cache_of old) has.room) still asks.stages;
@@ -78,10 +69,9 @@ asks_later result works old new before between now same still asks = record {
 
 -- a call that goes on with the log once all that it asked for is done
 pub asks_before : {A B : Type 0} (a : A) (result : Result B Stop) (works : List CacheWork) (old new : PageStore) (before between now : State) → 1 ≤ (rules old).groups → SameElse between now →
-    (IsErrOf result (Worn Flash) → ⊥) → Stages result [] (next_group (cache_of new)) new new between now → StepsMachine {T = A} (Ok a) works old new before between → StepsMachine result works old new before now
-asks_before a result works old new before between now some same never still asks = record {
+    Stages result [] (next_group (cache_of new)) new new between now → StepsMachine {T = A} (Ok a) works old new before between → StepsMachine result works old new before now
+asks_before a result works old new before between now some same still asks = record {
   machine = ok_always result _ asks.machine;
-  worn = λ is. absurd (never is);
   reads = record {
     flash = (let read = asks.reads.flash in omega (arith, read, same.flash));
     disk = (let read = asks.reads.disk in omega (arith, read, same.disk));
@@ -95,9 +85,8 @@ asks_before a result works old new before between now some same never still asks
 -- its page is touched, which stops
 pub change_stopped : {A B : Type 0} (stop : Stop) (page : ℕ) (old new : PageStore) (before now : State) → 1 ≤ (rules old).groups →
     StepsMachine {T = A} (Err stop) (one_touch page) old new before now → StepsMachine {T = B} (Err stop) (one_change page) old new before now
-change_stopped {A} {B} stop page old new before now some asks = record {
+change_stopped stop page old new before now some asks = record {
   machine = tt;
-  worn = λ is. change_overflows (rules old) page (cache_of old) some (asks.worn (err_again stop (Worn Flash) is));
   reads = change_reads (rules old) page (cache_of old) before now some asks.reads;
   rules_are = asks.rules_are;
   stages = change_stages (Err stop) page old new before now some (stages_err asks.stages);
@@ -106,13 +95,12 @@ change_stopped {A} {B} stop page old new before now some asks = record {
 -- and changed then
 pub change_made : {A B : Type 0} (a : A) (result : Result B Stop) (page : ℕ) (old mid new : PageStore) (before between now : State) → 1 ≤ (rules old).groups → TouchThenChange →
     StepsMachine {T = A} (Ok a) (one_touch page) old mid before between → OnOk result (cache_of new ≡ with_change (cache_of mid)) → rules new ≡ rules mid → SameReads between now →
-    (IsErrOf result (Worn Flash) → ⊥) → Stages result [] (next_group (cache_of mid)) mid new between now → StepsMachine result (one_change page) old new before now
-change_made a result page old mid new before between now some law asks changed same read never still =
+    Stages result [] (next_group (cache_of mid)) mid new between now → StepsMachine result (one_change page) old new before now
+change_made a result page old mid new before between now some law asks changed same read still =
     let there : with_change (cache_of mid) ≡ touched (rules old) page true (cache_of old) = ap with_change asks.machine ∙ sym (law (rules old) page (cache_of old)) in
     let none = none_read between now read in
     record {
       machine = ok_as result _ _ (λ is. is ∙ there) changed;
-      worn = λ is. absurd (never is);
       reads = change_reads (rules old) page (cache_of old) before now some (record {
         flash = (let reads = asks.reads.flash in omega (arith, reads, none.flash));
         disk = (let reads = asks.reads.disk in omega (arith, reads, none.disk));
@@ -144,7 +132,7 @@ pub one_more_work : {A B : Type 0} (a : A) (b : B) (done : List Entry) (u : Entr
 one_more_work a b done u old mid new before between now first second =
     let both = asks_then a (Ok b) (works_of done) (works_of (u ∷ [])) old mid new before between now first second in
     subst (λ (w : List CacheWork). StepsMachine {T = ⊤} (Ok tt) w old new before now) (sym (filter_map-append undo_touch done (u ∷ [])))
-    (record { machine = both.machine; worn = λ is. cc; reads = both.reads; rules_are = both.rules_are; stages = stages_ok both.stages })
+    (asks_ok b tt (works_of done ++ works_of (u ∷ [])) old new before now both)
 
 -- or it stops there
 pub more_work_stopped : {A B C : Type 0} (a : A) (stop : Stop) (all done rest : List Entry) (u : Entry) (old mid new : PageStore) (before between now : State) → 1 ≤ (rules old).groups → all ≡ done ++ u ∷ rest →
@@ -159,7 +147,7 @@ pub all_work : {A B : Type 0} (a : A) (b : B) (all done : List Entry) (old new :
     StepsMachine {T = B} (Ok b) (works_of all) old new before now
 all_work {A} {B} a b all done old new before now is asks =
     subst (λ (l : List Entry). StepsMachine {T = B} (Ok b) (works_of l) old new before now) (sym is)
-    (record { machine = asks.machine; worn = λ is. cc; reads = asks.reads; rules_are = asks.rules_are; stages = stages_ok asks.stages })
+    (asks_ok a b (works_of done) old new before now asks)
 
 -- an Update is undone behind a read of the log
 pub asks_of_update : {T : Type 0} (result : Result T Stop) (u : Entry) (page slot : ℕ) (old new : PageStore) (before between now : State) → slot < 32 → number_of u.rec ≡ Some (32 * page + slot) → SameElse before between →

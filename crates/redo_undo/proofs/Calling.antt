@@ -242,7 +242,7 @@ keeps_still {r = r} {g = g} {log = log} {before = before} {now = now} moments hi
     worn = λ is. absurd (worn Flash is);
     readable = readable;
   };
-  numbers = λ quiet. skips_still r g log before now 0 hi quiet same (worn Log);
+  numbers = λ quiet. skips_still r g log before now 0 hi quiet same;
   masters = λ none. ok_always r _ (subst (KeepsUnits master_shape before.image) (sym same.image) (record { units = refl; form = λ form. form }));
 }
 

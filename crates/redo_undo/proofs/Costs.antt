@@ -6,7 +6,7 @@ use Rattle.record_model.specs.Touches.{CacheWork, touch, flush}
 use Rattle.second_chance.specs.Queue.{with_read}
 use Rattle.second_chance.specs.Machine.{Rules, Cache, holds, evict_coldest, lacks_room, with_room, in_front, touched, worked, after_works, Staged, staged_by, staged_by_works}
 use Rattle.page_store.specs.Caching.{is_pushed, pushes}
-use Rattle.redo_undo.specs.MachineSteps.{next_group, finds_in, misses_in, WorksAddUp, ReadsAddUp, ReadsForMore, NumbersRise, OverflowsWithMore}
+use Rattle.redo_undo.specs.MachineSteps.{next_group, finds_in, misses_in, WorksAddUp, ReadsAddUp, ReadsForMore, NumbersRise}
 use Rattle.page_store.proofs.Numbers.{first_next, flushed_next}
 
 -- Work after work.
@@ -72,9 +72,6 @@ pub more_next : (rules : Rules) (first later : List CacheWork) (cache : Cache) â
 more_next rules first later cache some =
     let all : next_group (after_works rules (first ++ later) cache) â‰¡ next_group (after_works rules later (after_works rules first cache)) = ap next_group (works_add_up rules first later cache) in
     omega (arith, all, numbers_rise rules later (after_works rules first cache) some)
-
-pub overflows_with_more : OverflowsWithMore
-overflows_with_more rules first later cache some over = omega (arith, over, more_next rules first later cache some)
 
 pub reads_for_more : ReadsForMore
 reads_for_more rules first later cache old new some reads = record {

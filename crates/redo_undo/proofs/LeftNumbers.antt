@@ -1,16 +1,15 @@
 -- The numbers of the rings in what a call has left.
 use Rattle.std.proofs.Common.{◌≡◌, inl, inr, ◌+◌, ◌*◌, ◌≤◌, Bool, true, false, List, [], ◌∷◌, ◌++◌, length, refl, ap, subst, arith, ℕ}
-use Rattle.std.specs.Prelude.{Result, Ok, Err, OnOk, IsErrOf, Some, ◌≢◌, ◌^◌, if◌then◌else◌}
+use Rattle.std.specs.Prelude.{Result, Ok, Err, OnOk, Some, ◌≢◌, if◌then◌else◌}
 use Rattle.std.specs.List.{AllByRecursion}
 use Rattle.std.proofs.lemmas.List.{length-append}
 use Rattle.std_lemmas.proofs.AllOf.{all_left}
 use Rattle.site.specs.declared.geometry.Geometry.{Geometry}
-use Rattle.site.specs.State.{State, Image, Snapshot, snapshot_of}
+use Rattle.site.specs.State.{State, Image, Snapshot}
 use Rattle.site.specs.declared.outside.Dev.TheVariants.{Log}
 use Rattle.site.specs.declared.outside.Stop.{Stop}
-use Rattle.site.specs.declared.outside.Stop.TheVariants.{Worn}
 use Rattle.site.specs.Moments.{Leaves, LeavesOnly, ChangesOnly}
-use Rattle.site.specs.Laws.{each_both, each_weaker, holds_now, leaves_weaker}
+use Rattle.site.specs.Laws.{each_both, each_weaker, leaves_weaker}
 use Rattle.sealed_ring.specs.Ring.{hi_of, Units}
 use Rattle.image_changes.specs.Rings.{Masters, Blocks, log_shape, master_shape, KeepsUnits}
 use Rattle.image_changes.specs.Changes.{Change, AppendsMaster, Reaches, ring_of}
@@ -25,11 +24,11 @@ use Rattle.page_store.specs.declared.store.PageStore.{PageStore}
 use Rattle.page_store.specs.Leaves.{AreReady, LeavesPages}
 use Rattle.page_store.specs.Ahead.{end_forced}
 use Rattle.redo_undo.specs.Holding.{blocks_to}
-use Rattle.redo_undo.specs.Numbers.{HasNumbers, PassesEnd, SkipsNone}
+use Rattle.redo_undo.specs.Numbers.{HasNumbers, SkipsNone}
 use Rattle.redo_undo.proofs.Touched.{tail_blocks}
 use Rattle.redo_undo.proofs.Forced.{seals_only, same_blocks}
-use Rattle.redo_undo.proofs.RingNumbers.{leaves_more, passes_more}
-use Rattle.site.proofs.Working.{ok_as, ok_always}
+use Rattle.redo_undo.proofs.RingNumbers.{leaves_more}
+use Rattle.site.proofs.Working.{ok_as}
 
 -- the ring's next block is the one behind the blocks that are held
 pub ready_next : (pages : PageStore) (log : LogStore) (list : LogList) (site : State) → AreReady pages log list site → log.ring.hi ≡ list.first + length list.blocks
@@ -56,13 +55,6 @@ numbers_left : (g : Geometry) (log : LogStore) (list : LogList) (sealing : Bool)
 numbers_left g log list sealing told old n s hi some leaves keeps =
     record { blocks = omega (arith, blocks_left g log list sealing told s hi some leaves); masters = omega (arith, masters_same old s.image keeps) }
 
--- a tail that is to be sealed behind the last number there is
-past_end : (log : LogStore) (sealing : Bool) (n masters : ℕ) → (sealing ≡ true → has_tail log ≡ true) → (sealing ≡ true) × (log.ring.hi ≡ 2 ^ 40) → PassesEnd (blocks_to log + n) masters
-past_end log sealing n masters some is = let hi = is.1 in let one = ap tail_blocks (some is.0) in inl (omega (arith, hi, one))
-
-same_saved : {T : Type 0} (r : Result T Stop) (old new : Image) → KeepsUnits master_shape old new → OnOk r (hi_of master_shape new.log ≡ hi_of master_shape old.log + 0)
-same_saved r old new keeps = let same = masters_same old new keeps in ok_always r _ (let all : hi_of master_shape new.log ≡ hi_of master_shape old.log + 0 = omega (arith, same) in all)
-
 -- what the blocks cost that a call on the log seals
 paid_if : (sealing : Bool) (list : LogList) (hi hi' : ℕ) → hi' ≡ (if sealing then hi + 1 else hi) → paid (changes_if sealing list) + 5 * hi ≡ 5 * hi'
 paid_if true list hi hi' next = let five : paid (changes_if true list) ≡ 5 = refl in omega (arith, five, next)
@@ -86,28 +78,24 @@ save_calls g unit site new changes reaches calls =
 
 -- a call on pages
 pub pages_skip : {T : Type 0} (r : Result T Stop) (g : Geometry) (given : ℕ → List ℕ) (log log' : LogStore) (list : LogList) (sealing : Bool) (site new : State) → log.ring.hi ≡ list.first + length list.blocks → (sealing ≡ true → has_tail log ≡ true)
-    → LeavesOnly site new (LeavesPages g given sealing list site) → OnOk r (end_forced log' ≡ end_forced log) → OnOk r (CallsForUnits g site new) → (IsErrOf r (Worn Log) → (sealing ≡ true) × (log.ring.hi ≡ 2 ^ 40)) → SkipsNone r (Worn Log) g log log' site new 0 0
-pages_skip r g given log log' list sealing site new hi some leaves end calls worn = record {
+    → LeavesOnly site new (LeavesPages g given sealing list site) → OnOk r (end_forced log' ≡ end_forced log) → OnOk r (CallsForUnits g site new) → SkipsNone r g log log' site new 0 0
+pages_skip r g given log log' list sealing site new hi some leaves end calls = record {
   log = ok_as r _ _ (λ is. omega (arith, is)) end;
   any_moment = leaves_weaker site new (LeavesPages g given sealing list site) (λ s. HasNumbers g (blocks_to log + 0) (hi_of master_shape site.image.log + 0) s.image)
       (λ s left. numbers_left g log list sealing site.told site.image 0 s hi some left.log left.masters) leaves;
-  saved = same_saved r site.image new.image (holds_now site new (LeavesPages g given sealing list site) leaves).masters;
   past = calls;
-  worn = λ is. past_end log sealing 0 (hi_of master_shape site.image.log + 0) some (worn is);
 }
 
 -- a call on the log
 pub log_skips : RingKept → {T : Type 0} (r : Result T Stop) (g : Geometry) (log log' : LogStore) (list : LogList) (sealing : Bool) (site new : State) (n : ℕ) → log.ring.hi ≡ list.first + length list.blocks → (sealing ≡ true → has_tail log ≡ true)
-    → LeavesOnly site new (LeavesLog g sealing list site.told) → LeavesFront g (changes_if sealing list) site new → OnOk r (blocks_to log' ≤ blocks_to log + n) → OnOk r (CallsForUnits g site new) → (IsErrOf r (Worn Log) → (sealing ≡ true) × (log.ring.hi ≡ 2 ^ 40)) → SkipsNone r (Worn Log) g log log' site new n 0
-log_skips kept r g log log' list sealing site new n hi some leaves front count calls worn = record {
+    → LeavesOnly site new (LeavesLog g sealing list site.told) → LeavesFront g (changes_if sealing list) site new → OnOk r (blocks_to log' ≤ blocks_to log + n) → OnOk r (CallsForUnits g site new) → SkipsNone r g log log' site new n 0
+log_skips kept r g log log' list sealing site new n hi some leaves front count calls = record {
   log = count;
   any_moment = each_weaker site new (λ m. Leaves (LeavesLog g sealing list site.told) m × Leaves (IsReached g (IsFrontOf (changes_if sealing list)) site) m)
       (Leaves (λ s. HasNumbers g (blocks_to log + n) (hi_of master_shape site.image.log + 0) s.image))
       (λ m both s left. numbers_left g log list sealing site.told site.image n s hi some (both.0 s left) (masters_kept s (both.1 s left)))
       (each_both site new (Leaves (LeavesLog g sealing list site.told)) (Leaves (IsReached g (IsFrontOf (changes_if sealing list)) site)) leaves front);
-  saved = same_saved r site.image new.image (masters_kept (snapshot_of new) (holds_now site new (IsReached g (IsFrontOf (changes_if sealing list)) site) front));
   past = calls;
-  worn = λ is. past_end log sealing n (hi_of master_shape site.image.log + 0) some (worn is);
 }
   where
     masters_kept : (s : Snapshot) → IsReached g (IsFrontOf (changes_if sealing list)) site s → KeepsUnits master_shape site.image s.image
@@ -139,22 +127,18 @@ masters_left g unit (other ∷ []) left old new is made = absurd cc
 
 -- a call that appends a master unit
 pub save_skips : {T : Type 0} (r : Result T Stop) (g : Geometry) (log log' : LogStore) (unit : List ℕ) (site new : State) → log.ring.hi ≡ hi_of (log_shape g) site.image.log → LeavesFront g (AppendsMaster unit ∷ []) site new
-    → OnOk r (blocks_to log' ≡ blocks_to log) → OnOk r (hi_of master_shape new.image.log ≡ hi_of master_shape site.image.log + 1) → OnOk r (CallsForUnits g site new) → (IsErrOf r (Worn Log) → hi_of master_shape site.image.log ≡ 2 ^ 40) → SkipsNone r (Worn Log) g log log' site new 0 1
-save_skips r g log log' unit site new hi front count saved calls worn = record {
+    → OnOk r (blocks_to log' ≡ blocks_to log) → OnOk r (CallsForUnits g site new) → SkipsNone r g log log' site new 0 1
+save_skips r g log log' unit site new hi front count calls = record {
   log = ok_as r _ _ (λ same. omega (arith, same)) count;
   any_moment = leaves_weaker site new (IsReached g (IsFrontOf (AppendsMaster unit ∷ [])) site) (λ s. HasNumbers g (blocks_to log + 0) (hi_of master_shape site.image.log + 1) s.image)
       (λ s is. let has = masters_left g unit is.changes is.made.0 site.image s.image is.made.1 is.reaches in record { blocks = omega (arith, has.blocks, hi); masters = has.masters }) front;
-  saved = saved;
   past = calls;
-  worn = λ is. inr (let end = worn is in omega (arith, end));
 }
 
 -- a call that stops may have made more checkpoints
-pub skips_not_saved : {T E : Type 0} {worn : E} (e : E) (g : Geometry) (old new : LogStore) (before now : State) (n m j : ℕ) → m ≤ j → SkipsNone {T = T} {E = E} (Err e) worn g old new before now n m → SkipsNone {T = T} {E = E} (Err e) worn g old new before now n j
+pub skips_not_saved : {T E : Type 0} (e : E) (g : Geometry) (old new : LogStore) (before now : State) (n m j : ℕ) → m ≤ j → SkipsNone {T = T} {E = E} (Err e) g old new before now n m → SkipsNone {T = T} {E = E} (Err e) g old new before now n j
 skips_not_saved e g old new before now n m j few first = record {
   log = tt;
   any_moment = leaves_more g before now _ _ (hi_of master_shape before.image.log + m) (hi_of master_shape before.image.log + j) (omega arith) (omega (arith, few)) first.any_moment;
-  saved = tt;
   past = tt;
-  worn = λ past. passes_more _ _ (hi_of master_shape before.image.log + m) (hi_of master_shape before.image.log + j) (omega arith) (omega (arith, few)) (first.worn past);
 }

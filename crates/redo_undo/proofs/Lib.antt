@@ -9,7 +9,7 @@ pub mod CallsInSequence
 pub mod Rollbacks
 pub mod Empties
 pub mod Committed
-pub mod Fillings
+pub mod Resting
 pub mod PushedPages
 pub mod Mirroring
 pub mod MirroringStores

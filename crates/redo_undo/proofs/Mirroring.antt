@@ -1,5 +1,5 @@
 -- What single calls on log and pages make of the machine that mirrors them.
-use Rattle.std.proofs.Common.{◌≡◌, ◌≢◌, ◌⊎◌, inl, inr, ◌==◌, ℕ, ◌+◌, ◌*◌, ◌^◌, ◌<◌, ◌≤◌, Bool, true, false, cond, ◌||◌, nat_lt, nat_le, List, [], ◌∷◌, ◌++◌, map, filter, Some, refl, sym, ap, subst, ◌∙◌, arith, lt-ltb, le-leb, eqb-true, eq-eqb, ltb-false, true≢false}
+use Rattle.std.proofs.Common.{◌≡◌, ◌≢◌, ◌⊎◌, inl, inr, ◌==◌, ℕ, ◌+◌, ◌*◌, ◌^◌, ◌<◌, ◌≤◌, Bool, true, false, cond, ◌||◌, ◌&&◌, nat_lt, nat_le, List, [], ◌∷◌, ◌++◌, map, filter, Some, refl, sym, ap, subst, ◌∙◌, arith, lt-ltb, le-leb, eqb-true, eq-eqb, ltb-false, true≢false}
 use Rattle.std.specs.Prelude.{Result, Ok, Err, OnOk, IfOk, IfErr, IsErrOf, if◌then◌else◌}
 use Rattle.std.specs.List.{list_any}
 use Rattle.std.proofs.lemmas.Bool.{and_from}
@@ -11,15 +11,17 @@ use Rattle.site.specs.State.{State, Image}
 use Rattle.site.proofs.Working.{err_again, no_error, of_error}
 use Rattle.slotted_page.specs.Layout.{lsn_of}
 use Rattle.buffer_pool.specs.declared.frame.Frame.{Frame}
-use Rattle.log_records.specs.Spelling.{block_len}
+use Rattle.log_records.specs.Spelling.{block_len, used_by}
 use Rattle.record_model.specs.Touches.{touch, flush}
 use Rattle.second_chance.specs.Machine.{Rules, PoolPage, Cache, touched, flushed}
-use Rattle.ring_machine.specs.Tail.{Tail, sealed_if, waits}
+use Rattle.ring_machine.specs.Tail.{Tail, is_full_for, sealed_if, waits}
 use Rattle.ring_machine.specs.Machine.{Machine, cached, logged, changed, force, worked, past_end, front_changed, pushed_by}
 use Rattle.ring_machine.specs.Performing.{Performs}
 use Rattle.ring_machine.proofs.Works.{first_of_one}
 use Rattle.ring_machine.proofs.Ends.{never_past, log_past, flash_past, sealed_next, sealed_used}
 use Rattle.log_store.specs.declared.store.LogStore.{LogStore}
+use Rattle.log_store.specs.LogList as log_list
+use Rattle.log_store.specs.LogList.{LogList}
 use Rattle.log_store.specs.Representation as log_store
 use Rattle.log_store.specs.Representation.{has_tail, end_of}
 use Rattle.page_store.specs.declared.store.PageStore.{PageStore}
@@ -41,6 +43,11 @@ waits_then true t log log' content content' page is same less hi =
     sym (ap (is_unsealed (512 * log'.ring.hi)) same ∙ sealed_off (512 * log'.ring.hi) content (λ some. omega (arith, less, hi)))
 waits_then false t log log' content content' page is same less hi =
     is ∙ ap (λ (n : ℕ). is_unsealed (512 * n) content) (sym hi) ∙ ap (is_unsealed (512 * log'.ring.hi)) (sym same)
+
+-- what the tail has then
+pub used_where : (sealing : Bool) (list : LogList) → used_by (log_list.sealed_if sealing list).tail ≡ (if sealing then 2 else used_by list.tail)
+used_where true list = refl
+used_where false list = refl
 
 -- no page has an LSN behind the tail
 pub record IsBelow (log : LogStore) (pages : PageStore) (image : Image) : Type 0 where
@@ -215,13 +222,25 @@ module _ (log log' : LogStore) (pages : PageStore) (before now : State) (below :
   abbrev logged_then : ℕ → Machine → Machine
   logged_then octets m = record m { tail = record (sealed_if (overflows octets) m.tail) { used = (sealed_if (overflows octets) m.tail).used + octets; waiting = [] ++ (sealed_if (overflows octets) m.tail).waiting } }
 
-  pub logged_performs : (result : Result ℕ Stop) (octets : ℕ) → LogStops result log (nat_lt block_len (log.used + octets)) → OnOk result (log'.ring.hi ≡ (if nat_lt block_len (log.used + octets) then log.ring.hi + 1 else log.ring.hi)) →
+  pub logged_performs : (result : Result ℕ Stop) (octets : ℕ) → (nat_lt block_len (log.used + octets) ≡ true → 2 < log.used) → LogStops result log (nat_lt block_len (log.used + octets)) → OnOk result (log'.ring.hi ≡ (if nat_lt block_len (log.used + octets) then log.ring.hi + 1 else log.ring.hi)) →
       OnOk result (log'.used ≡ (if nat_lt block_len (log.used + octets) then 2 else log.used) + octets) → ((number : ℕ) → current pages now.image number ≡ current pages before.image number) → HasNumbersLeft log' pages →
       Performs result (rules pages) (logged octets ∷ []) (Mirrors log pages before.image) (Mirrors log' pages now.image)
-  logged_performs result octets stops next used kept numbers = by result stops next used
+  logged_performs result octets some stops next used kept numbers = by result stops next used
     where
+      none : (b : Bool) → (b && false) ≡ false
+      none true = refl
+      none false = refl
+
+      -- no record is so long that an empty tail has no room for it
+      full_is : (m : Machine) → Mirrors log pages before.image m → is_full_for octets m.tail ≡ overflows octets
+      full_is m is = ap (λ (n : ℕ). nat_lt 2 n && nat_lt block_len (n + octets)) is.used ∙ over (overflows octets) refl
+        where
+          over : (b : Bool) → overflows octets ≡ b → (nat_lt 2 log.used && overflows octets) ≡ overflows octets
+          over true is = ap (λ (b : Bool). b && overflows octets) (lt-ltb 2 log.used (some is))
+          over false is = ap (λ (b : Bool). nat_lt 2 log.used && b) is ∙ none (nat_lt 2 log.used) ∙ sym is
+
       step : (m : Machine) → Mirrors log pages before.image m → worked (rules pages) (logged octets) m ≡ (logged_then octets) m
-      step m is = ap (λ (n : ℕ). record m { tail = record (sealed_if (nat_lt block_len (n + octets)) m.tail) { used = (sealed_if (nat_lt block_len (n + octets)) m.tail).used + octets; waiting = [] ++ (sealed_if (nat_lt block_len (n + octets)) m.tail).waiting } }) is.used
+      step m is = ap (λ (b : Bool). record m { tail = record (sealed_if b m.tail) { used = (sealed_if b m.tail).used + octets; waiting = [] ++ (sealed_if b m.tail).waiting } }) (full_is m is)
 
       next_is : (m : Machine) → Mirrors log pages before.image m → (sealed_if (overflows octets) m.tail).next ≡ (if (overflows octets) then log.ring.hi + 1 else log.ring.hi)
       next_is m is = sealed_next (overflows octets) m.tail ∙ ap (λ (n : ℕ). if (overflows octets) then n + 1 else n) is.next

@@ -17,8 +17,7 @@ use Rattle.page_store.specs.declared.store.PageStore.{PageStore}
 use Rattle.redo_undo.specs.declared.redo_pass.Redone.{Redone}
 use Rattle.redo_undo.specs.Laws.{PageLaws}
 use Rattle.redo_undo.specs.RedoLaws.{RedoLaws}
-use Rattle.redo_undo.specs.Redoing.{IsOpened, Opening, HasTaken, asked_of, opened, heard_of}
-use Rattle.redo_undo.specs.MachineSteps.{StepsMachine}
+use Rattle.redo_undo.specs.Redoing.{AsksAtRest, IsOpened, Opening, HasTaken, asked_of, opened, heard_of}
 use Rattle.log_laws.proofs.BlockRecords.{IsPast, past_none}
 use Rattle.log_laws.proofs.LogBlocks.{block_of, log_split, log_take, take_whole}
 use Rattle.redo_undo.proofs.Redoings.{redoing_still, begins}
@@ -35,7 +34,7 @@ pub record IsPartWay (o : Opening) (log : LogStore) (entry pages : PageStore) (o
   pub done : List Entry
   pub past : IsPast block octets used at records done
   pub taken : HasTaken o log pages site so_far (front ++ done)
-  pub asked : StepsMachine {T = ⊤} (Ok tt) (asked_of o done) entry pages old site
+  pub asked : AsksAtRest {T = ⊤} (Ok tt) (asked_of o done) entry pages old site
 
 pub part_begins : PageLaws → RedoLaws → (o : Opening) (log : LogStore) (pages : PageStore) (site : State) (so_far : Redone) (front : List Entry) (block : ℕ) (octets : List ℕ) (used : ℕ) (records : List LogRecord) →
     log.geometry ≡ pages.flash.geometry → HasTaken o log pages site so_far front → IsBlock octets records → used ≡ used_by records → IsPartWay o log pages pages site site so_far front block octets used 2 records
@@ -64,9 +63,9 @@ none_read o block is =
     let zero_is : block - kept_by o.newest ≡ 0 = omega (arith, is) in
     ap (λ (n : ℕ). log_from (kept_by o.newest) (take n o.blocks)) zero_is ∙ ap (log_from (kept_by o.newest)) (take_nothing o.blocks)
 
-pub asks_first : (o : Opening) (pages : PageStore) (site : State) (block : ℕ) → block ≡ kept_by o.newest → StepsMachine {T = ⊤} (Ok tt) (asked_of o (log_from (kept_by o.newest) (take (block - kept_by o.newest) o.blocks))) pages pages site site
+pub asks_first : (o : Opening) (pages : PageStore) (site : State) (block : ℕ) → block ≡ kept_by o.newest → AsksAtRest {T = ⊤} (Ok tt) (asked_of o (log_from (kept_by o.newest) (take (block - kept_by o.newest) o.blocks))) pages pages site site
 asks_first o pages site block is =
-    subst (λ (done : List Entry). StepsMachine {T = ⊤} (Ok tt) (asked_of o done) pages pages site site) (sym (none_read o block is)) (nothing_asked pages site)
+    subst (λ (done : List Entry). AsksAtRest {T = ⊤} (Ok tt) (asked_of o done) pages pages site site) (sym (none_read o block is)) (nothing_asked pages site)
 
 -- before the first block
 pub up_to_none : PageLaws → RedoLaws → (log : LogStore) (pages : PageStore) (site : State) (newest : Option Master) (blocks : List (List LogRecord)) (table : List Content) (commits : ℕ) (found : Analysis) (block : ℕ) →

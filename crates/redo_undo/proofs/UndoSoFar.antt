@@ -1,7 +1,6 @@
 -- What the cache has done for some CLRs of a transaction.
 use Rattle.std.proofs.Common.{◌≡◌, ℕ, ◌+◌, true, ◌≤◌, List, [], ◌∷◌, ◌++◌, drop, append_assoc, append-nil, refl, sym, ap, ◌∙◌, arith, length}
-use Rattle.std.specs.Prelude.{Ok, IsErrOf, ⊤, Option}
-use Rattle.site.specs.declared.outside.Dev.TheVariants.{Flash}
+use Rattle.std.specs.Prelude.{Ok, ⊤, Option}
 use Rattle.site.specs.declared.outside.Stop.TheVariants.{Worn}
 use Rattle.site.specs.State.{State}
 use Rattle.record_model.specs.State.{Content}
@@ -37,7 +36,7 @@ asks_none records txn log pages site = record {
   performs = performs_nothing (λ m is. is) (λ dev says. absurd (no_error {T = ⊤} {x = tt} {e = Worn dev} says));
   done = [];
   are = sym (ap (λ (l : List Entry). left_open l txn) (append-nil records));
-  asks = asks_nothing {T = ⊤} (Ok tt) pages site site (λ d. refl) (λ (is : IsErrOf {T = ⊤} (Ok tt) (Worn Flash)). cc) (stages_none refl (omega arith) refl);
+  asks = asks_nothing {T = ⊤} (Ok tt) pages site site (λ d. refl) (stages_none refl (omega arith) refl);
 }
 
 -- one CLR more

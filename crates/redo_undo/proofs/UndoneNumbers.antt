@@ -1,13 +1,11 @@
 -- The numbers of the rings while records of an opened log are redone.
-use Rattle.std.proofs.Common.{◌≡◌, ◌∙◌, ◌+◌, Bool, true, false, true≢false, List, [], length, refl, sym, subst, arith}
-use Rattle.std.specs.Prelude.{Result, OnOk, IsErrOf, ◌^◌}
-use Rattle.site.specs.declared.outside.Dev.TheVariants.{Log}
+use Rattle.std.proofs.Common.{◌≡◌, ◌+◌, Bool, false, List, [], length, refl, sym, subst, arith}
+use Rattle.std.specs.Prelude.{Result, OnOk}
 use Rattle.site.specs.declared.outside.Stop.{Stop}
-use Rattle.site.specs.declared.outside.Stop.TheVariants.{Worn}
 use Rattle.site.specs.declared.geometry.Geometry.{Geometry}
 use Rattle.site.specs.State.{State}
 use Rattle.site.specs.Moments.{LeavesOnly}
-use Rattle.site.specs.Laws.{holds_now, leaves_weaker}
+use Rattle.site.specs.Laws.{leaves_weaker}
 use Rattle.sealed_ring.specs.Ring.{hi_of}
 use Rattle.image_changes.specs.Rings.{master_shape}
 use Rattle.image_changes.specs.Costs.{CallsForUnits}
@@ -26,7 +24,7 @@ use Rattle.redo_undo.specs.Laws.{PageLaws}
 use Rattle.redo_undo.specs.RedoLaws.{RedoLaws}
 use Rattle.redo_undo.proofs.Redoings.{leaves_so, blocks_left}
 use Rattle.redo_undo.proofs.RingNumbers.{skips_on}
-use Rattle.site.proofs.Working.{ok_as, ok_always}
+use Rattle.site.proofs.Working.{ok_as}
 use Rattle.redo_undo.proofs.LeftNumbers.{masters_same}
 
 -- While records are redone the log ends with the blocks that it was opened with.
@@ -37,12 +35,11 @@ module _ (o : Opening) (log : LogStore) (pages : PageStore) (site : State) (fron
 -- A touch while records are redone makes none, wherever it stops: no tail is sealed for it.
 module _ (laws : PageLaws) (redo : RedoLaws) (o : Opening) (log : LogStore) (pages : PageStore) (site : State) (front : List Entry) (h : IsRedoing o log pages site front) (sealing : Bool) (never : sealing ≡ false) (new : State) where
   pub skips_touch : {T : Type 0} (r : Result T Stop) (log' : LogStore) (pages' : PageStore) → LeavesOnly site new (LeavesPages pages.flash.geometry (current pages site.image) sealing (record { first = kept_by o.newest; blocks = o.blocks; tail = [] }) site) →
-      OnOk r (IsRedoing o log' pages' new front) → OnOk r (CallsForUnits pages.flash.geometry site new) → (IsErrOf r (Worn Log) → (sealing ≡ true) × (log.ring.hi ≡ 2 ^ 40)) → SkipsNone r (Worn Log) pages.flash.geometry log log' site new 0 0
-  skips_touch r log' pages' leaves redone calls worn =
+      OnOk r (IsRedoing o log' pages' new front) → OnOk r (CallsForUnits pages.flash.geometry site new) → SkipsNone r pages.flash.geometry log log' site new 0 0
+  skips_touch r log' pages' leaves redone calls =
       let list : LogList = record { first = kept_by o.newest; blocks = o.blocks; tail = [] } in
       let all = leaves_so laws redo o log pages site front h sealing never new leaves in
       let first = opened_end o log pages site front h in
-      let same = masters_same site.image new.image (holds_now site new (LeavesPages o.sizes (current pages site.image) false list site) all).masters in
       skips_on r o.sizes pages.flash.geometry log log' site new 0 0 (sym h.geometry) (record {
         log = ok_as r _ _ (λ after. let last = opened_end o log' pages' new front after in omega (arith, first, last)) redone;
         any_moment = leaves_weaker site new (LeavesPages o.sizes (current pages site.image) false list site) (λ s. HasNumbers o.sizes (blocks_to log + 0) (hi_of master_shape site.image.log + 0) s.image)
@@ -50,7 +47,5 @@ module _ (laws : PageLaws) (redo : RedoLaws) (o : Opening) (log : LogStore) (pag
               blocks = omega (arith, first, (blocks_left laws redo o log pages site front h s now).next);
               masters = omega (arith, masters_same site.image s.image now.masters);
             }) all;
-        saved = ok_always r _ (let is : hi_of master_shape new.image.log ≡ hi_of master_shape site.image.log + 0 = omega (arith, same) in is);
         past = subst (λ (g : Geometry). OnOk r (CallsForUnits g site new)) h.geometry calls;
-        worn = λ is. absurd (true≢false (sym (worn is).0 ∙ never));
       })

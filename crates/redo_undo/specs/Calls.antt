@@ -82,7 +82,7 @@ pub record Keeps {T : Type 0} (result : Result T Stop) (g : Geometry) (old new :
     (P : Snapshot → Type 0) (records checkpoints : ℕ) : Type 0 where
   pub ends : Ends result g before now P
   pub open ends use *
-  pub numbers : IsQuiet before → SkipsNone result (Worn Log) g old new before now records checkpoints
+  pub numbers : IsQuiet before → SkipsNone result g old new before now records checkpoints
   pub masters : checkpoints ≡ 0 → OnOk result (KeepsUnits master_shape before.image now.image)
 
 -- The same of a call of the log alone, beside pages with which it holds together.
@@ -90,7 +90,7 @@ pub record KeepsBeside {T : Type 0} (result : Result T Stop) (old new : LogStore
     (before now : State) (P : Snapshot → Type 0) (records : ℕ) : Type 0 where
   pub any_moment : Invariant old pages before → IsQuiet before → LeavesOnly before now P
   pub numbers : Invariant old pages before → IsQuiet before →
-      SkipsNone result (Worn Log) old.geometry old new before now records 0
+      SkipsNone result old.geometry old new before now records 0
   pub quiet : IsQuiet before → IfErr result (λ stop. ((d : Dev) → stop ≢ Device d) → IsQuiet now)
   pub worn_log : IsErrOf result (Worn Log) → IsLogWorn old.geometry now.image
   pub masters : OnOk result (KeepsUnits master_shape before.image now.image)

@@ -1,6 +1,5 @@
 pub mod Calls
 pub mod Running
-pub mod Filling
 pub mod Mirroring
 pub mod Holding
 pub mod Laws

@@ -1,10 +1,8 @@
 -- What calls on pages ask of the cache: work for the machine, the groups that it appends, and the pages that it reads
 -- at most.
-use Rattle.std.specs.Prelude.{◌≡◌, ℕ, ◌+◌, ◌*◌, ◌^◌, ◌≤◌, ◌<◌, true, false, List, [], ◌∷◌, ◌++◌, map, filter_map}
-use Rattle.std.specs.Prelude.{reverse, if◌then◌else◌, Result, OnOk, IsErrOf, Option}
-use Rattle.site.specs.declared.outside.Dev.TheVariants.{Flash}
+use Rattle.std.specs.Prelude.{◌≡◌, ℕ, ◌+◌, ◌*◌, ◌≤◌, true, false, List, [], ◌∷◌, ◌++◌, map, filter_map, reverse}
+use Rattle.std.specs.Prelude.{if◌then◌else◌, Result, OnOk, Option}
 use Rattle.site.specs.declared.outside.Stop.{Stop}
-use Rattle.site.specs.declared.outside.Stop.TheVariants.{Worn}
 use Rattle.site.specs.State.{State}
 use Rattle.record_model.specs.State.{Write}
 use Rattle.record_model.specs.Touches.{CacheWork, touch, flush, write_touch}
@@ -46,16 +44,6 @@ undo_one_works log txn = filter_map undo_touch (left_open log txn)
 abbrev pub checkpoint_works : List CacheWork
 checkpoint_works = flush ∷ []
 
--- The groups that it appends.
-
--- this work appends to a ring that stands at its end
-abbrev pub Overflows : Rules → List CacheWork → Cache → Type 0
-Overflows rules works cache = 2 ^ 40 < next_group (after_works rules works cache)
-
--- this work pushes a group
-abbrev pub PushesGroups : Rules → List CacheWork → Cache → Type 0
-PushesGroups rules works cache = next_group cache < next_group (after_works rules works cache)
-
 -- The pages that it reads.
 
 -- how many touches find their page on flash, and how many miss it there; a touch of a page in the pool does neither
@@ -90,13 +78,11 @@ StagesFor result works old new before now =
     Stages result (staged_by_works (rules old) works (cache_of old))
     (next_group (after_works (rules old) works (cache_of old))) old new before now
 
--- A call asks for this work, and answers. At Ok the machine has done it. The call answers that flash is worn only where
--- the work overflows.
--- It reads and writes no more than the work needs, however it ends.
+-- A call asks for this work, and answers. At Ok the machine has done it. It reads and writes no more than the work
+-- needs, however it ends.
 pub record StepsMachine {T : Type 0} (result : Result T Stop) (works : List CacheWork) (old new : PageStore)
     (before now : State) : Type 0 where
   pub machine : OnOk result (cache_of new ≡ after_works (rules old) works (cache_of old))
-  pub worn : IsErrOf result (Worn Flash) → Overflows (rules old) works (cache_of old)
   pub reads : ReadsFor (rules old) works (cache_of old) before now
   pub rules_are : rules new ≡ rules old
   pub stages : StagesFor result works old new before now
@@ -124,10 +110,6 @@ ReadsForMore =
 abbrev pub NumbersRise : Type 0
 NumbersRise = (rules : Rules) (works : List CacheWork) (cache : Cache) → 1 ≤ rules.groups
     → next_group cache ≤ next_group (after_works rules works cache)
-
-abbrev pub OverflowsWithMore : Type 0
-OverflowsWithMore = (rules : Rules) (first later : List CacheWork) (cache : Cache) → 1 ≤ rules.groups
-    → Overflows rules first cache → Overflows rules (first ++ later) cache
 
 -- undoing an active transaction touches the pages of its writes, the last one first
 abbrev pub ActiveIsUndoneBy : Type 0

@@ -1,14 +1,15 @@
 -- Where log and pages stand, as the machine of the rings, and what calls on them ask of it.
 use Rattle.std.specs.Prelude.{◌≡◌, ℕ, ◌^◌, ◌≤◌, ◌<◌, nat_eq, Bool, false, List, [], ◌∷◌, ◌++◌}
-use Rattle.std.specs.Prelude.{flat_map, filter, replicate, length, Result}
+use Rattle.std.specs.Prelude.{map, flat_map, filter, replicate, length, Result}
 use Rattle.site.specs.declared.outside.Stop.{Stop}
 use Rattle.site.specs.State.{State, Image}
 use Rattle.record_model.specs.State.{Content}
-use Rattle.record_model.specs.Touches.{touch, flush, page_of}
+use Rattle.record_model.specs.Touches.{CacheWork, touch, flush, page_of}
 use Rattle.log_records.specs.declared.log_record.LogRecord.{LogRecord}
 use Rattle.log_records.specs.Log.{Entry}
 use Rattle.log_records.specs.Unfinished.{left_open}
-use Rattle.ring_machine.specs.Tail.{waits}
+use Rattle.second_chance.specs.Machine.{Cache}
+use Rattle.ring_machine.specs.Tail.{waits, empty_at}
 use Rattle.ring_machine.specs.Machine.{Machine, Work, cached, logged, changed, force}
 use Rattle.ring_machine.specs.Octets.{octets_of, update_octets}
 use Rattle.ring_machine.specs.Commands.{ends}
@@ -46,6 +47,17 @@ PerformsOn result works old new pages pages' before now =
 abbrev pub PerformsStore : {T : Type 0} → Result T Stop → List Work → Store → Store → State → State → Type 0
 PerformsStore result works old new before now =
     Performs result (rules old.pages) works (MirrorsStore old before.image) (MirrorsStore new now.image)
+
+-- While a log is redone its tail has no records, and the machine rests on it: so does a call on pages alone this work,
+-- from the rest at whatever block and master unit.
+abbrev pub resting : ℕ → ℕ → Cache → Machine
+resting next masters cache = record { cache = cache; tail = empty_at next; masters = masters }
+
+pub record PerformsAtRest {T : Type 0} (result : Result T Stop) (works : List CacheWork)
+    (old new : PageStore) : Type 0 where
+  pub from : (next masters : ℕ) → next ≤ 2 ^ 40 → masters ≤ 2 ^ 40
+      → Performs result (rules old) (map cached works) (λ m. m ≡ resting next masters (cache_of old))
+      (λ m. m ≡ resting next masters (cache_of new))
 
 -- a page comes to the front; what is unsealed is sealed; all changed pages are pushed
 abbrev pub touch_work : ℕ → List Work

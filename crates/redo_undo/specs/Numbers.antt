@@ -1,6 +1,5 @@
--- No number is skipped by the rings on the log's device, and it is worn only where, by counts, more is appended than
--- they have numbers for.
-use Rattle.std.specs.Prelude.{◌≡◌, ◌⊎◌, ℕ, ◌+◌, ◌^◌, ◌≤◌, ◌<◌, Result, OnOk, IsErrOf}
+-- No number is skipped by the rings on the log's device.
+use Rattle.std.specs.Prelude.{ℕ, ◌+◌, ◌≤◌, Result, OnOk}
 use Rattle.site.specs.declared.geometry.Geometry.{Geometry}
 use Rattle.site.specs.State.{State, Image}
 use Rattle.site.specs.Moments.{LeavesOnly}
@@ -15,22 +14,13 @@ pub record HasNumbers (g : Geometry) (most_blocks most_masters : ℕ) (image : I
   pub blocks : hi_of (log_shape g) image.log ≤ most_blocks
   pub masters : hi_of master_shape image.log ≤ most_masters
 
--- with so many a ring would be past its end
-abbrev pub PassesEnd : ℕ → ℕ → Type 0
-PassesEnd blocks masters = (2 ^ 40 < blocks) ⊎ (2 ^ 40 < masters)
-
 -- A call makes at most so many records, and so many checkpoints. However it ends, and wherever a crash ends it, the
 -- ring of the log's blocks has at most one number more for each record, beside the one for the tail that the call
 -- found, and the ring of the master units at most one for each checkpoint. At Ok the blocks are no more than that with
--- the tail that it leaves, too, each checkpoint has its master unit, and no more calls of the site were made than the
--- units need that were appended. It answers that the log is worn (`at_end`) only where that many are past the end of a
--- ring.
-pub record SkipsNone {T E : Type 0} (result : Result T E) (at_end : E) (g : Geometry) (old new : LogStore)
-    (before now : State) (records checkpoints : ℕ) : Type 0 where
+-- the tail that it leaves, too, and no more calls of the site were made than the units need that were appended.
+pub record SkipsNone {T E : Type 0} (result : Result T E) (g : Geometry) (old new : LogStore) (before now : State)
+    (records checkpoints : ℕ) : Type 0 where
   pub log : OnOk result (blocks_to new ≤ blocks_to old + records)
   pub any_moment : LeavesOnly before now (λ s. HasNumbers g (blocks_to old + records)
       (hi_of master_shape before.image.log + checkpoints) s.image)
-  pub saved : OnOk result (hi_of master_shape now.image.log ≡ hi_of master_shape before.image.log + checkpoints)
   pub past : OnOk result (CallsForUnits g before now)
-  pub worn : IsErrOf result at_end → PassesEnd (blocks_to old + records)
-      (hi_of master_shape before.image.log + checkpoints)

@@ -3,6 +3,7 @@ use Rattle.std.specs.Prelude.{Result, OnOk, ◌++◌, ◌≡◌, ◌⊎◌, ℕ,
 use Rattle.site.specs.declared.geometry.Geometry.{Geometry}
 use Rattle.site.specs.declared.outside.Stop.{Stop}
 use Rattle.redo_undo.specs.MachineSteps.{StepsMachine}
+use Rattle.redo_undo.specs.Mirroring.{PerformsAtRest}
 use Rattle.redo_undo.specs.Calls.{Keeps}
 use Rattle.site.specs.State.{State, Image, Snapshot}
 use Rattle.record_model.specs.State.{Content}
@@ -97,10 +98,16 @@ pub record HasTaken (o : Opening) (log : LogStore) (pages : PageStore) (site : S
   pub analysis : IsAnalysis (opened o).master (heard_of (opened o).master front) so_far.found
   pub count : so_far.records ≡ length front
 
+-- a call that redoes asks for this work, and does it on a log whose tail has no records
+pub record AsksAtRest {T : Type 0} (result : Result T Stop) (works : List CacheWork) (old new : PageStore)
+    (before now : State) : Type 0 where
+  pub asks : StepsMachine result works old new before now
+  pub performs : PerformsAtRest result works old new
+
 -- A call takes the next records of the log: then they are read, each crash meanwhile leaves what the log was opened
 -- with, and it asks the cache for their pages.
 pub record Takes {T : Type 0} (result : Result T Stop) (o : Opening) (old new : LogStore) (pages pages' : PageStore)
     (before now : State) (so_far : Redone) (front next : List Entry) : Type 0 where
   pub taken : OnOk result (HasTaken o new pages' now so_far (front ++ next))
   pub keeps : Keeps result pages.flash.geometry old new before now (LeavesOpened o before.told) 0 0
-  pub asks : StepsMachine result (asked_of o next) pages pages' before now
+  pub asks : AsksAtRest result (asked_of o next) pages pages' before now

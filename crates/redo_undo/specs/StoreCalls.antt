@@ -1,7 +1,6 @@
 -- What the calls of a store say, each as one record with the call's result as its index.
 use Rattle.std.specs.Prelude.{◌≡◌, ℕ, ◌+◌, ◌≤◌, IsTrue, Result, OnOk, IfErr, IsErrOf}
 use Rattle.site.specs.declared.outside.Dev.{Dev}
-use Rattle.site.specs.declared.outside.Dev.TheVariants.{Log}
 use Rattle.site.specs.declared.outside.Stop.{Stop}
 use Rattle.site.specs.declared.outside.Stop.TheVariants.{Worn}
 use Rattle.site.specs.State.{State as Site, Snapshot, IsQuiet}
@@ -48,5 +47,4 @@ pub record Keeps {T : Type 0} (result : Result T Stop) (old new : Store) (before
     (records checkpoints : ℕ) : Type 0 where
   pub ends : Ends result (sizes_of old) before now P
   pub open ends use *
-  pub numbers : IsQuiet before →
-      SkipsNone result (Worn Log) (sizes_of old) old.log new.log before now records checkpoints
+  pub numbers : IsQuiet before → SkipsNone result (sizes_of old) old.log new.log before now records checkpoints

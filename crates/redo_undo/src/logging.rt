@@ -8,7 +8,7 @@ ghost use Rattle.record_model.specs.State.{Content};
 ghost use Rattle.log_records.specs.declared.log_record.LogRecord.{LogRecord};
 ghost use Rattle.log_records.specs.Log.{Entry, number_of};
 ghost use Rattle.log_records.specs.Sound.{AreOrderly};
-ghost use Rattle.log_records.specs.Spelling.{HasForm, spelling};
+ghost use Rattle.log_records.specs.Spelling.{HasForm};
 ghost use Rattle.log_store.specs.Representation as log_store;
 ghost use Rattle.log_store.specs.Representation.{end_of, has_tail};
 ghost use Rattle.page_store.specs.declared.store.PageStore.{PageStore};
@@ -19,10 +19,9 @@ ghost use Rattle.page_store.specs.Ahead.{end_forced};
 ghost use Rattle.checkpoint.specs.declared.master.Master.{Master};
 ghost use Rattle.image_meaning.specs.Moments.{LeavesTableUnder};
 ghost use Rattle.redo_undo.specs.Holding.{Invariant, RepresentsLog, Represents, MayGrow, KeepsPages, IsOnPage};
-ghost use Rattle.redo_undo.specs.Filling.{Fills, LogsForGroups};
 ghost use Rattle.redo_undo.specs.Holding.{blocks_to};
 ghost use Rattle.redo_undo.specs.Committing.{EndsWith};
-ghost use Rattle.redo_undo.specs.Mirroring.{PerformsOn, touch_work, record_work, change_work};
+ghost use Rattle.redo_undo.specs.Mirroring.{PerformsOn, PerformsAtRest, touch_work, record_work, change_work};
 ghost use Rattle.redo_undo.specs.MachineSteps.{StepsMachine, one_touch};
 ghost use Rattle.redo_undo.specs.Redoing.{Opening, IsRedoing, LeavesOpened};
 ghost use Rattle.redo_undo.specs.Calls.{KeepsInvariant, LogsNothing, KeepsInvariantBeside, Keeps, KeepsBeside};
@@ -67,13 +66,12 @@ pub fn touch<S: Site>(
         → IsRedoing o log.old pages.old (S.state site.old) front
         → Keeps result pages.old.flash.geometry log.old log.new (S.state site.old) (S.state site.new)
         (LeavesOpened o (S.state site.old).told) 0 0 }
+    ensures at_rest { (o : Opening) (front : List Entry) → IsRedoing o log.old pages.old (S.state site.old) front
+        → PerformsAtRest result (one_touch page) pages.old pages.new }
 
     // Of every site.
     ensures asks { StepsMachine result (one_touch page) pages.old pages.new (S.state site.old) (S.state site.new) }
     ensures front { OnOk result ((front_of pages.new.pool.frames).page ≡ page) }
-    ensures fills { (newest : Option Master) (records : List Entry) (table : List Content) (commits : ℕ)
-        → Represents log.old pages.old (S.state site.old) newest records table commits
-        → LogsForGroups result (one_touch page) log.old log.new pages.old pages.new }
     ensures performs { (newest : Option Master) (records : List Entry) (table : List Content) (commits : ℕ)
         → Represents log.old pages.old (S.state site.old) newest records table commits
         → PerformsOn result (touch_work page) log.old log.new pages.old pages.new (S.state site.old)
@@ -147,8 +145,6 @@ pub fn log_record<S: Site>(site: &mut S, log: &mut LogStore, rec: &LogRecord) ->
     ensures works { KeepsInvariantBeside result log.old log.new (S.state site.old) (S.state site.new) }
     ensures last_block { IfOk result (λ lsn. 512 * log.new.ring.hi ≤ lsn) }
     ensures some { OnOk result (has_tail log.new ≡ true) }
-    ensures fills { (pages : PageStore)
-        → OnOk result (Fills (length (spelling rec.now)) log.old log.new pages pages) }
     ensures blocks { OnOk result (blocks_to log.new ≤ blocks_to log.old + 1) }
 
     // When each answer comes.
@@ -200,7 +196,6 @@ pub fn log_change<S: Site>(
 
     // Of every site.
     ensures machine { OnOk result (cache_of pages.new ≡ with_change (cache_of pages.old)) }
-    ensures fills { OnOk result (Fills (length (spelling rec.now)) log.old log.new pages.old pages.new) }
     ensures rises { IfOk result (λ lsn. (end_of log.old ≤ lsn) × (lsn < end_of log.new)) }
     ensures works { KeepsInvariant result log.old log.new pages.old pages.new (S.state site.old) (S.state site.new) }
     ensures blocks { OnOk result (blocks_to log.new ≤ blocks_to log.old + 1) }

@@ -17,10 +17,10 @@ ghost use Rattle.analysis.specs.Read.{IsAnalysis, IsTable};
 ghost use Rattle.analysis.specs.Taken.{is_named, is_taken, Steps, taken};
 ghost use Rattle.redo_undo.specs.Holding.{Invariant, Represents, IsOnPage, blocks_to};
 ghost use Rattle.redo_undo.specs.Redoing.{IsOpened, Opening, Takes, LeavesOpened, IsRedoing, HasTaken, touches_of};
-ghost use Rattle.redo_undo.specs.Redoing.{heard_of};
+ghost use Rattle.redo_undo.specs.Redoing.{AsksAtRest, heard_of};
 ghost use Rattle.redo_undo.specs.RedoLaws.{RedoLaws};
 ghost use Rattle.checkpoint.specs.declared.master.Master.{Master};
-ghost use Rattle.redo_undo.specs.MachineSteps.{StepsMachine, redo_works};
+ghost use Rattle.redo_undo.specs.MachineSteps.{redo_works};
 ghost use Rattle.redo_undo.specs.Calls.{KeepsInvariant, LogsNothing, Keeps};
 
 use crate::changing::change_front;
@@ -157,7 +157,7 @@ fn redo_record<S: Site>(
         (LeavesOpened o (S.state site.old).told) 0 0 }
     ensures asks { (o : Opening) (front rest : List Entry) → IsRedoing o log.old pages.old (S.state site.old) front
         → log_from (kept_by o.newest) o.blocks ≡ front ++ record { lsn = lsn; rec = rec.now } ∷ rest
-        → StepsMachine result (touches_of o (record { lsn = lsn; rec = rec.now } ∷ [])) pages.old pages.new
+        → AsksAtRest result (touches_of o (record { lsn = lsn; rec = rec.now } ∷ [])) pages.old pages.new
         (S.state site.old) (S.state site.new) }
 
     // Of every site.
@@ -328,7 +328,7 @@ pub fn redo<S: Site>(
     ensures asks { (newest : Option Master) (blocks : List (List LogRecord)) (table : List Content) (commits : ℕ)
         → master.now ≡ saved_by newest
         → IsOpened pages.old.flash.geometry log.old pages.old (S.state site.old) newest blocks table commits
-        → StepsMachine result
+        → AsksAtRest result
         (redo_works (picture_under newest pages.old.flash.geometry (S.state site.old).image blocks))
         pages.old pages.new (S.state site.old) (S.state site.new) }
 

@@ -7,7 +7,7 @@ ghost use Rattle.site.specs.State.{State};
 ghost use Rattle.record_model.specs.State.{Content, Write};
 ghost use Rattle.log_records.specs.declared.log_record.LogRecord.{LogRecord};
 ghost use Rattle.log_records.specs.Log.{Entry};
-ghost use Rattle.log_records.specs.Spelling.{IsShort, content_spelling};
+ghost use Rattle.log_records.specs.Spelling.{IsShort};
 ghost use Rattle.log_records.specs.Unfinished as unfinished;
 ghost use Rattle.log_laws.specs.Follow.{IsActive};
 ghost use Rattle.log_store.specs.Representation.{end_of};
@@ -15,7 +15,6 @@ ghost use Rattle.page_store.specs.Representation.{IsStore};
 ghost use Rattle.checkpoint.specs.declared.master.Master.{Master};
 ghost use Rattle.image_meaning.specs.Meaning.{master_of};
 ghost use Rattle.image_meaning.specs.Moments.{LeavesFor};
-ghost use Rattle.redo_undo.specs.Filling.{Fills, LogsForGroups};
 ghost use Rattle.redo_undo.specs.Holding.{blocks_to};
 ghost use Rattle.redo_undo.specs.Holding as both;
 ghost use Rattle.redo_undo.specs.Stores.{sizes_of, MayWork, MayLog, Represents, MayGrow, IsInFront, shown_in};
@@ -112,7 +111,6 @@ impl Store {
         ensures asks { StepsMachine result ([]) self.old.pages self.new.pages
             (S.state site.old) (S.state site.new) }
         ensures pages { self.new.pages ≡ self.old.pages }
-        ensures fills { OnOk result (Fills 1 self.old.log self.new.log self.old.pages self.new.pages) }
         ensures performs { (newest : Option Master) (records : List Entry) (table : List Content) (commits : ℕ)
             → Represents self.old (S.state site.old) newest records table commits
             → PerformsStore result begins self.old self.new (S.state site.old) (S.state site.new) }
@@ -147,9 +145,6 @@ impl Store {
         ensures made { self.new.made ≡ self.old.made }
         ensures blocks { OnOk result (blocks_to self.new.log ≡ blocks_to self.old.log) }
         ensures log_reads { (S.state site.new).log_reads ≡ (S.state site.old).log_reads }
-        ensures fills { (newest : Option Master) (records : List Entry) (table : List Content) (commits : ℕ)
-            → Represents self.old (S.state site.old) newest records table commits
-            → LogsForGroups result (one_touch (number / 32)) self.old.log self.new.log self.old.pages self.new.pages }
         ensures performs { (newest : Option Master) (records : List Entry) (table : List Content) (commits : ℕ)
             → Represents self.old (S.state site.old) newest records table commits
             → PerformsStore result (reads number) self.old self.new (S.state site.old) (S.state site.new) }
@@ -217,8 +212,6 @@ impl Store {
         ensures rises { IfOk result (λ lsn. (end_of self.old.log ≤ lsn) × (lsn < end_of self.new.log)) }
         ensures machine { OnOk result (cache_of self.new.pages ≡ with_change (cache_of self.old.pages)) }
         ensures rules_stay { rules self.new.pages ≡ rules self.old.pages }
-        ensures fills { OnOk result (Fills (143 + length (content_spelling after.now)) self.old.log self.new.log
-            self.old.pages self.new.pages) }
         ensures performs { (newest : Option Master) (records : List Entry) (table : List Content) (commits : ℕ)
             → Represents self.old (S.state site.old) newest records table commits
             → PerformsStore result (updates number (shown_in self.old (S.state site.old) records number) after.now)

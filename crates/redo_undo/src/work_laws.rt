@@ -1,12 +1,11 @@
 // Laws on what calls on pages ask of the cache. The functions do nothing.
-ghost use Rattle.redo_undo.specs.MachineSteps.{WorksAddUp, ReadsAddUp, ReadsForMore, NumbersRise, OverflowsWithMore};
+ghost use Rattle.redo_undo.specs.MachineSteps.{WorksAddUp, ReadsAddUp, ReadsForMore, NumbersRise};
 
 /// Law: work adds up, and so do the pages that it reads; the numbers of the groups that it appends never fall. So what
-/// overflows, and what was read, stays so with more work behind it.
+/// was read for some work was read for it with more behind it.
 pub fn works_add_up()
     ensures works { WorksAddUp }
     ensures reads { ReadsAddUp }
     ensures more { ReadsForMore }
     ensures rise { NumbersRise }
-    ensures overflow { OverflowsWithMore }
 {}

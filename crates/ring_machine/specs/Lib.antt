@@ -5,4 +5,5 @@ pub mod Commands
 pub mod Restart
 pub mod Laws
 pub mod Performing
+pub mod Counts
 pub mod Rows

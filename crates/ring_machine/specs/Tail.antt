@@ -1,5 +1,5 @@
 -- The tail of the log, and when it is sealed.
-use Rattle.std.specs.Prelude.{ℕ, ◌+◌, ◌==◌, Bool, true, false, nat_lt, List, [], ◌++◌}
+use Rattle.std.specs.Prelude.{ℕ, ◌+◌, ◌==◌, Bool, true, false, ◌&&◌, nat_lt, List, [], ◌++◌}
 use Rattle.std.specs.List.{list_any}
 use Rattle.log_records.specs.Spelling.{block_len}
 
@@ -23,13 +23,17 @@ sealed_if false tail = tail
 abbrev pub waits : Tail → ℕ → Bool
 waits tail page = list_any (λ other. other == page) tail.waiting
 
+-- whether a record of so many octets finds no room behind the others
+abbrev pub is_full_for : ℕ → Tail → Bool
+is_full_for octets tail = nat_lt 2 tail.used && nat_lt block_len (tail.used + octets)
+
 -- A record of so many octets that changes these pages is put behind the others. Where it doesn't fit, the tail is
 -- sealed first.
 abbrev pub put_behind : ℕ → List ℕ → Tail → Tail
 put_behind octets pages tail = record tail { used = tail.used + octets; waiting = pages ++ tail.waiting }
 
 abbrev pub with_record : ℕ → List ℕ → Tail → Tail
-with_record octets pages tail = put_behind octets pages (sealed_if (nat_lt block_len (tail.used + octets)) tail)
+with_record octets pages tail = put_behind octets pages (sealed_if (is_full_for octets tail) tail)
 
 -- the log is forced: the tail is sealed where it has records
 abbrev pub forced : Tail → Tail

@@ -5,5 +5,5 @@
 mod laws;
 mod rows;
 
-pub use laws::{machines_agree, octets_are_spelled, work_adds_up};
+pub use laws::{machines_agree, numbers_are_few, octets_are_spelled, work_adds_up};
 pub use rows::rows_of_blocks;

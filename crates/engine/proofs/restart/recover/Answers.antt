@@ -1,8 +1,7 @@
 use Rattle.redo_undo.proofs.StoreCalling.{where_two}
 use Rattle.std.proofs.Common.{◌≡◌, ◌∙◌, ◌++◌, Err, List, [], false, ap, sym, subst, arith, ◌≤◌, refl, ℕ, ◌+◌, length}
 use Rattle.site.specs.declared.geometry.Geometry.{Geometry}
-use Rattle.site.specs.declared.outside.Dev.TheVariants.{Log}
-use Rattle.site.specs.declared.outside.Stop.TheVariants.{Foreign, Worn}
+use Rattle.site.specs.declared.outside.Stop.TheVariants.{Foreign}
 use Rattle.site.specs.State.{IsQuiet, State}
 use Rattle.site.specs.declared.outside.Stop.{Stop}
 use Rattle.checkpoint.specs.declared.master.Master.{Master}
@@ -53,7 +52,7 @@ use Rattle.ring_machine.specs.Performing.{Performs}
 use Rattle.ring_machine.proofs.Performing.{performs_answered, performs_by, performs_failed, performs_refused, performs_stopped, performs_then}
 use Rattle.redo_undo.specs.Mirroring.{Mirrors}
 use Rattle.engine.specs.RingWork.{found_machine}
-use Rattle.engine.proofs.RestartedRings.{masters_on, performs_of, redo_performs, restart_saves_none, store_from}
+use Rattle.engine.proofs.RestartedRings.{performs_of, redo_performs, restart_saves_none, store_from}
 use Rattle.engine.proofs.restart.recover.Given.{Over}
 use Rattle.engine.proofs.restart.recover.Goals.{After-checkpoint, After-undo_all}
 use Rattle.engine.proofs.restart.recover.Goals as goal
@@ -64,7 +63,7 @@ returns-in-Err-clause-recovers g c newest blocks table commits h =
     let p = picture_under newest c.args.opened.pages.flash.geometry old.image blocks in
     let next = opened_next c.args.opened old newest blocks table commits h c.requires.may.going.sizes c.requires.empty in
     let some : 1 ≤ (rules c.args.opened.pages).groups = (let least = c.requires.may.going.pages_going.flash.limits.groups in omega (arith, least)) in
-    let two : StepsMachine {T = Unit {0}} (Err c.in-Err.stop) (redo_works p ++ undo_works p.log) c.args.opened.pages c.redo.new.pages old (g.S.Site.state c.redo.new.site) = asks_stopped c.in-Err.stop (redo_works p) (undo_works p.log) _ _ old _ some (c.in-Err.ensures.asks newest blocks table commits h.master h.opened_is) in
+    let two : StepsMachine {T = Unit {0}} (Err c.in-Err.stop) (redo_works p ++ undo_works p.log) c.args.opened.pages c.redo.new.pages old (g.S.Site.state c.redo.new.site) = asks_stopped c.in-Err.stop (redo_works p) (undo_works p.log) _ _ old _ some (c.in-Err.ensures.asks newest blocks table commits h.master h.opened_is).asks in
     let keeps = c.in-Err.ensures.keeps newest blocks table commits h.master h.opened_is in
     record {
       restarted = tt;
@@ -103,7 +102,7 @@ returns-in-Err-undo_all-clause-recovers g c newest blocks table commits h =
     let calm = c.in-Ok.ensures.works.calls.stays_quiet h.opened_is.ready.blocks.honest in
     let first = c.in-Ok.ensures.keeps newest blocks table commits h.master h.opened_is in
     let second = c.in-Err-undo_all.ensures.keeps newest records table commits none holds read in
-    let asks = asks_then c.in-Ok.redone _ (redo_works p) (undo_works p.log) _ _ _ _ _ _ (c.in-Ok.ensures.asks newest blocks table commits h.master h.opened_is) (c.in-Err-undo_all.ensures.asks newest records table commits none holds read) in
+    let asks = asks_then c.in-Ok.redone _ (redo_works p) (undo_works p.log) _ _ _ _ _ _ (c.in-Ok.ensures.asks newest blocks table commits h.master h.opened_is).asks (c.in-Err-undo_all.ensures.asks newest records table commits none holds read) in
     record {
       restarted = tt;
       ends = ends_failed (ends_then calm c.redo.ensures.works.geometry (ends_leaving (under_leaves_for newest _ _ _ table commits _) first.ends) (ends_leaving (under_leaves_for newest _ _ _ table commits _) second.ends));
@@ -146,7 +145,7 @@ module _ (g : Over) (c : After-checkpoint g) (newest : Option Master) (blocks : 
 
   abbrev Behind : Result (Unit {0}) Stop → Type 0
   Behind r = Ends r k old new (LeavesTable k table commits old.told)
-      × (IsQuiet old → SkipsNone r (Worn Log) k c.args.opened.log c.checkpoint.new.self.log old new (owed (log_under newest blocks)) 1)
+      × (IsQuiet old → SkipsNone r k c.args.opened.log c.checkpoint.new.self.log old new (owed (log_under newest blocks)) 1)
       × StepsMachine r ((redo_works p ++ undo_works p.log) ++ checkpoint_works) c.args.opened.pages c.checkpoint.new.self.pages old new
       × ((x : Restarted) → x.store ≡ c.checkpoint.new.self → x.commits ≡ c.commits-commits.result → OnOk r (RestartedAs x new table commits))
 
@@ -176,13 +175,13 @@ module _ (g : Over) (c : After-checkpoint g) (newest : Option Master) (blocks : 
       let keeps = c.checkpoint.ensures.keeps newest all table held may in
       let k' = c.undo_all.new.pages.flash.geometry in
       let third = subst (λ (i : ℕ). Ends c.checkpoint.result k' und new (LeavesTable k' table i und.told)) counted keeps.ends in
-      let skips : IsQuiet old → SkipsNone c.checkpoint.result (Worn Log) k c.args.opened.log c.checkpoint.new.self.log old new (owed records) 1 = λ quiet.
+      let skips : IsQuiet old → SkipsNone c.checkpoint.result k c.args.opened.log c.checkpoint.new.self.log old new (owed records) 1 = λ quiet.
       let mine = skips_on (Ok c.in-Ok-undo_all.field-0) c.redo.new.pages.flash.geometry k c.redo.new.log c.undo_all.new.log mid und n 0 c.redo.ensures.works.geometry (second.numbers (calm quiet)) in
       let two = then_skips (Ok c.in-Ok-undo_all.field-0) c.in-Ok.redone k c.args.opened.log c.redo.new.log c.undo_all.new.log old mid und 0 0 n 0 n 0 (first.numbers quiet) mine (omega arith) (omega arith) in
       let last = skips_on c.checkpoint.result k' k c.undo_all.new.log c.checkpoint.new.self.log und new 0 1 same (keeps.numbers (calm_und quiet)) in
       then_skips c.checkpoint.result c.in-Ok-undo_all.field-0 k c.args.opened.log c.undo_all.new.log c.checkpoint.new.self.log old und new n 0 0 1
       (owed records) 1 two last (omega (arith, owes)) (omega arith) in
-      let two = asks_then c.in-Ok.redone _ (redo_works p) (undo_works p.log) _ _ _ old mid und (c.in-Ok.ensures.asks newest blocks table commits h.master h.opened_is) (c.in-Ok-undo_all.ensures.asks newest records table commits none holds read) in
+      let two = asks_then c.in-Ok.redone _ (redo_works p) (undo_works p.log) _ _ _ old mid und (c.in-Ok.ensures.asks newest blocks table commits h.master h.opened_is).asks (c.in-Ok-undo_all.ensures.asks newest records table commits none holds read) in
       let asks = asks_then c.in-Ok-undo_all.field-0 c.checkpoint.result
       (redo_works p ++ undo_works p.log) checkpoint_works _ _ _ old und new two c.checkpoint.ensures.asks in
       let named = subst (λ (n : ℕ). OnOk c.checkpoint.result (HasCheckpoint c.checkpoint.new.self new all table n c.new.result)) counted
@@ -353,8 +352,7 @@ returns-in-Err-clause-performs g c quiet newest blocks table commits h =
     let old = g.S.Site.state c.args.site.now in
     performs_stopped {A = Redone} {Q = Mirrors c.redo.new.log c.redo.new.pages (g.S.Site.state c.redo.new.site).image} saves (performs_stopped (undo_work (log_under newest blocks))
     (redo_performs (Err c.in-Err.stop) c.args.opened c.redo.new.log c.redo.new.pages old (g.S.Site.state c.redo.new.site) newest (log_under newest blocks) table commits (redo_works (picture_under newest c.args.opened.pages.flash.geometry old.image blocks))
-    c.requires.may.going c.requires.empty c.requires.may.masters.bounded (masters_on c.args.opened old c.requires.may.shape h.masters) (c.in-Err.ensures.asks newest blocks table commits h.master h.opened_is) ((c.in-Err.ensures.keeps newest blocks table commits h.master h.opened_is).numbers quiet)
-    c.in-Err.ensures.works.stops tt tt tt tt))
+    c.requires.may.going c.requires.empty c.requires.may.masters.bounded (c.in-Err.ensures.asks newest blocks table commits h.master h.opened_is) tt tt tt tt))
 
 pub returns-then-sealed_end-owed-clause-performs : goal.returns-then-sealed_end-owed-clause-performs
 returns-then-sealed_end-owed-clause-performs g c quiet newest blocks table commits h = performs_refused (λ dev same. cc)
@@ -376,8 +374,8 @@ module _ (g : Over) (c : After-undo_all g) (quiet : IsQuiet (g.S.Site.state c.ar
   redone : Performs {T = Redone} (Ok c.in-Ok.redone) (rules c.args.opened.pages) (redo_work (picture_under newest c.args.opened.pages.flash.geometry start.image blocks)) (λ m. m ≡ found_machine c.args.opened) (Mirrors c.redo.new.log c.redo.new.pages middle.image)
   redone =
       redo_performs (Ok c.in-Ok.redone) c.args.opened c.redo.new.log c.redo.new.pages start middle newest records table commits (redo_works (picture_under newest c.args.opened.pages.flash.geometry start.image blocks))
-      c.requires.may.going c.requires.empty c.requires.may.masters.bounded (masters_on c.args.opened start c.requires.may.shape h.masters) (c.in-Ok.ensures.asks newest blocks table commits h.master h.opened_is) ((c.in-Ok.ensures.keeps newest blocks table commits h.master h.opened_is).numbers quiet)
-      tt (c.in-Ok.ensures.holds newest blocks table commits h.master h.opened_is) c.in-Ok.ensures.blocks c.in-Ok.ensures.rises c.in-Ok.ensures.works.going
+      c.requires.may.going c.requires.empty c.requires.may.masters.bounded (c.in-Ok.ensures.asks newest blocks table commits h.master h.opened_is)
+      (c.in-Ok.ensures.holds newest blocks table commits h.master h.opened_is) c.in-Ok.ensures.blocks c.in-Ok.ensures.rises c.in-Ok.ensures.works.going
 
   -- the rules stay
   pub rules_after : rules c.undo_all.new.pages ≡ rules c.redo.new.pages
@@ -389,7 +387,7 @@ module _ (g : Over) (c : After-undo_all g) (quiet : IsQuiet (g.S.Site.state c.ar
       (Mirrors c.undo_all.new.log c.undo_all.new.pages (g.S.Site.state c.undo_all.new.site).image)
   both_done =
       let none : has_tail c.redo.new.log ≡ false = no_tail_still c.args.opened.log c.redo.new.log c.requires.empty c.in-Ok.ensures.blocks c.in-Ok.ensures.rises in
-      performs_then redone (performs_by (sym (c.in-Ok.ensures.asks newest blocks table commits h.master h.opened_is).rules_are)
+      performs_then redone (performs_by (sym (c.in-Ok.ensures.asks newest blocks table commits h.master h.opened_is).asks.rules_are)
       (c.undo_all.ensures.performs newest records table commits none (c.in-Ok.ensures.holds newest blocks table commits h.master h.opened_is) (c.in-Ok.ensures.unfinished newest blocks table commits h.master h.opened_is)))
 
 pub returns-in-Err-undo_all-clause-performs : goal.returns-in-Err-undo_all-clause-performs
@@ -417,7 +415,7 @@ returns-in-Ok-checkpoint-clause-performs g c quiet newest blocks table commits h
     let held = at_checkpoint g at.After-checkpoint newest blocks table commits h in
     let p = picture_under newest c.args.opened.pages.flash.geometry (g.S.Site.state c.args.site.now).image blocks in
     let first = store_from (after_undo g at.After-checkpoint newest blocks table commits h) refl refl (restart_saves_none (redo_works p) (log_under newest blocks)) refl (performs_of c.in-Ok-undo_all.is (both_done g at.After-undo_all quiet newest blocks table commits h)) in
-    performs_then first (performs_by (sym (rules_after g at.After-undo_all quiet newest blocks table commits h ∙ (c.in-Ok.ensures.asks newest blocks table commits h.master h.opened_is).rules_are)) (performs_answered (c.in-Ok-checkpoint.ensures.performs newest (log_under newest blocks ++ held.0) table held.1)))
+    performs_then first (performs_by (sym (rules_after g at.After-undo_all quiet newest blocks table commits h ∙ (c.in-Ok.ensures.asks newest blocks table commits h.master h.opened_is).asks.rules_are)) (performs_answered (c.in-Ok-checkpoint.ensures.performs newest (log_under newest blocks ++ held.0) table held.1)))
 
 pub returns-clause-performs : goal.returns-clause-performs
 returns-clause-performs g c quiet newest blocks table commits h =
@@ -425,4 +423,4 @@ returns-clause-performs g c quiet newest blocks table commits h =
     let held = at_checkpoint g at.After-checkpoint newest blocks table commits h in
     let p = picture_under newest c.args.opened.pages.flash.geometry (g.S.Site.state c.args.site.now).image blocks in
     let first = store_from (after_undo g at.After-checkpoint newest blocks table commits h) refl refl (restart_saves_none (redo_works p) (log_under newest blocks)) refl (performs_of c.in-Ok-undo_all.is (both_done g at.After-undo_all quiet newest blocks table commits h)) in
-    performs_then first (performs_by (sym (rules_after g at.After-undo_all quiet newest blocks table commits h ∙ (c.in-Ok.ensures.asks newest blocks table commits h.master h.opened_is).rules_are)) (performs_failed (c.in-Err-checkpoint.ensures.performs newest (log_under newest blocks ++ held.0) table held.1)))
+    performs_then first (performs_by (sym (rules_after g at.After-undo_all quiet newest blocks table commits h ∙ (c.in-Ok.ensures.asks newest blocks table commits h.master h.opened_is).asks.rules_are)) (performs_failed (c.in-Err-checkpoint.ensures.performs newest (log_under newest blocks ++ held.0) table held.1)))

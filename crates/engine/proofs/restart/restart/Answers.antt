@@ -152,11 +152,11 @@ returns-in-Err-open g c =
             readable = λ is. c.in-Err-open.ensures.readable honest stands.newest stands.stands.blocks (subst (λ (x : Geometry). IsSound stands.newest x old.image stands.stands.blocks) (sym same) stands.stands.sound) (err_again _ Foreign is);
           };
       numbers = λ honest quiet k newest blocks sound.
-          restart_unmoved c.in-Err-open.stop _ k _ (g.S.Site.state c.args.site.now) (g.S.Site.state c.open.new.site) quiet (c.open.ensures.same honest) (λ is. c.in-Err-open.ensures.unworn Log (err_again c.in-Err-open.stop (Worn Log) is));
+          restart_unmoved c.in-Err-open.stop _ k _ (g.S.Site.state c.args.site.now) (g.S.Site.state c.open.new.site) quiet (c.open.ensures.same honest);
       asks = λ honest k newest blocks sound.
           let same : c.in-Ok.geometry ≡ k = (c.in-Ok.ensures.found k sound.octets.limits sound.octets.lengths).1 in
           let groups = ap (λ (x : Geometry). x.groups) same in
-          not_found c.works_add_up.ensures.rise c.in-Err-open.stop _ (rules_of c.args.pool k.groups) _ _ (start_reads k) _ _ (omega (arith, sound.octets.limits.groups)) (λ is. c.in-Err-open.ensures.unworn Flash (err_again c.in-Err-open.stop (Worn Flash) is)) (omega (arith, c.open.ensures.flash_reads, groups)) c.open.ensures.disk_reads;
+          not_found c.works_add_up.ensures.rise c.in-Err-open.stop _ (rules_of c.args.pool k.groups) _ _ (start_reads k) _ _ (omega (arith, sound.octets.limits.groups)) (omega (arith, c.open.ensures.flash_reads, groups)) c.open.ensures.disk_reads;
       log_reads = λ honest k newest blocks sound.
           let same : c.in-Ok.geometry ≡ k = (c.in-Ok.ensures.found k sound.octets.limits sound.octets.lengths).1 in
           omega (arith, c.open.ensures.log_reads, ap (λ (x : Geometry). x.blocks) same);

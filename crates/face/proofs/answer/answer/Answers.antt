@@ -1,4 +1,3 @@
-use Rattle.face.proofs.Appending.{stop_again}
 use Rattle.face.proofs.CallCounts.{calls_told}
 use Rattle.face.proofs.Counted.{counts_err, counts_told}
 use Rattle.face.proofs.Pagings.{serves_ok, serves_err, serves_lost}
@@ -15,6 +14,7 @@ use Rattle.face.specs.declared.halt.Halt.TheVariants as halt
 use Rattle.face.specs.Run.{step, StandsFor}
 use Rattle.face.proofs.Quiet.{not_told, is_told}
 use Rattle.face.proofs.Logs.{still_fits, fits_stands, goes_on}
+use Rattle.face.proofs.WornRuns.{line_answered, line_stopped, line_untold}
 use Rattle.face.proofs.answer.answer.Goals as goal
 
 pub returns-in-Err-clause-any_moment : goal.returns-in-Err-clause-any_moment
@@ -84,33 +84,33 @@ pub returns-clause-asks : goal.returns-clause-asks
 returns-clause-asks g c s fits = serves_lost c.in-Ok.reply _ _ _ _ _ _ _ c.tell_reply.ensures.reads (c.carry_out.ensures.log_reads s fits) (λ honest. c.tell_reply.ensures.any_moment (stays_honest (g.S.Site.state c.args.site.now) (g.S.Site.state c.carry_out.new.site) c.carry_out.ensures.goes honest)) (c.in-Ok.ensures.asks s fits)
 
 pub returns-in-Err-clause-numbers : goal.returns-in-Err-clause-numbers
-returns-in-Err-clause-numbers g c s fits quiet = counts_err c.in-Err.stop (halt.Stop c.in-Err.stop) _ _ _ _ s _ _ (λ is. cc) (c.in-Err.ensures.numbers s fits quiet)
+returns-in-Err-clause-numbers g c s fits quiet = counts_err c.in-Err.stop (halt.Stop c.in-Err.stop) _ _ _ _ s _ _ (c.in-Err.ensures.numbers s fits quiet)
 
 pub returns-in-Ok-tell_reply-clause-numbers : goal.returns-in-Ok-tell_reply-clause-numbers
 returns-in-Ok-tell_reply-clause-numbers g c s fits quiet =
     let honest = (c.in-Ok.ensures.after s (listing_of c.args.engine.now) (λ asks. refl) fits).honest in
-    counts_told c.in-Ok.reply _ _ _ _ _ _ _ s _ _ (c.tell_reply.ensures.any_moment honest) (c.tell_reply.ensures.same honest).image
-    (calls_told (sizes_of c.args.engine.now.store) (reply_text c.in-Ok.reply) (g.S.Site.state c.carry_out.new.site) (g.S.Site.state c.tell_reply.new.site) (c.tell_reply.ensures.same honest).image (c.in-Ok-tell_reply.ensures.told honest) (c.in-Ok-tell_reply.ensures.past honest)) (λ is. cc) (c.in-Ok.ensures.numbers s fits quiet)
+    counts_told c.in-Ok.reply _ _ _ _ _ _ _ s _ _ (c.tell_reply.ensures.any_moment honest)
+    (calls_told (sizes_of c.args.engine.now.store) (reply_text c.in-Ok.reply) (g.S.Site.state c.carry_out.new.site) (g.S.Site.state c.tell_reply.new.site) (c.tell_reply.ensures.same honest).image (c.in-Ok-tell_reply.ensures.told honest) (c.in-Ok-tell_reply.ensures.past honest)) (c.in-Ok.ensures.numbers s fits quiet)
 
 pub returns-clause-numbers : goal.returns-clause-numbers
 returns-clause-numbers g c s fits quiet =
     let honest = (c.in-Ok.ensures.after s (listing_of c.args.engine.now) (λ asks. refl) fits).honest in
-    counts_told c.in-Ok.reply _ _ _ _ _ _ _ s _ _ (c.tell_reply.ensures.any_moment honest) (c.tell_reply.ensures.same honest).image tt (λ is. cc) (c.in-Ok.ensures.numbers s fits quiet)
-
-pub returns-in-Ok-tell_reply-clause-fills : goal.returns-in-Ok-tell_reply-clause-fills
-returns-in-Ok-tell_reply-clause-fills g c s fits quiet = c.in-Ok.ensures.fills s fits quiet
-
-pub returns-in-Err-clause-appends : goal.returns-in-Err-clause-appends
-returns-in-Err-clause-appends g c s fits is = c.in-Err.ensures.appends s fits (stop_again c.in-Err.stop is)
-
-pub returns-in-Ok-tell_reply-clause-appends : goal.returns-in-Ok-tell_reply-clause-appends
-returns-in-Ok-tell_reply-clause-appends g c s fits is = cc
-
-pub returns-clause-appends : goal.returns-clause-appends
-returns-clause-appends g c s fits is = cc
+    counts_told c.in-Ok.reply _ _ _ _ _ _ _ s _ _ (c.tell_reply.ensures.any_moment honest) tt (c.in-Ok.ensures.numbers s fits quiet)
 
 pub returns-in-Ok-tell_reply-clause-next : goal.returns-in-Ok-tell_reply-clause-next
 returns-in-Ok-tell_reply-clause-next g c honest is =
     let mid = g.S.Site.state c.carry_out.new.site in
     let same = c.tell_reply.ensures.same (stays_honest (g.S.Site.state c.args.site.now) mid c.carry_out.ensures.goes honest) in
     next_later c.carry_out.new.engine.store mid (g.S.Site.state c.tell_reply.new.site) same.image (c.in-Ok.ensures.next honest is)
+
+-- What it makes of the machine.
+
+pub returns-in-Err-clause-performs : goal.returns-in-Err-clause-performs
+returns-in-Err-clause-performs g c s fits = line_stopped (g.S.Site.state c.args.site.now) (g.S.Site.state c.carry_out.new.site) (c.in-Err.ensures.performs s fits)
+
+pub returns-in-Ok-tell_reply-clause-performs : goal.returns-in-Ok-tell_reply-clause-performs
+returns-in-Ok-tell_reply-clause-performs g c s fits =
+    line_answered (g.S.Site.state c.args.site.now) (g.S.Site.state c.tell_reply.new.site) (c.tell_reply.ensures.same (c.in-Ok.ensures.after s (listing_of c.args.engine.now) (λ asks. refl) fits).honest).image (c.in-Ok.ensures.performs s fits)
+
+pub returns-clause-performs : goal.returns-clause-performs
+returns-clause-performs g c s fits = line_untold

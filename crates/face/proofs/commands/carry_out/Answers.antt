@@ -1,12 +1,8 @@
-use Rattle.face.specs.Filled.{line_octets}
-use Rattle.face.proofs.Fillings.{ok_same}
 use Rattle.face.proofs.Pagings.{listing_asks}
 use Rattle.redo_undo.specs.MachineSteps.{StepsMachine}
 use Rattle.record_model.specs.Touches.{line_touches}
 use Rattle.std.proofs.Common.{◌≡◌, ◌∙◌, List, IfOk, OnOk, sym, ap, subst, true, [], arith}
-use Rattle.site.specs.declared.outside.Dev.TheVariants.{Log}
-use Rattle.site.specs.declared.outside.Stop.TheVariants.{Memory, Worn}
-use Rattle.site.proofs.Working.{of_error, ok_always}
+use Rattle.site.proofs.Working.{ok_always}
 use Rattle.site.specs.Moments.{LeavesOnly}
 use Rattle.record_model.specs.declared.words.CacheLine.{CacheLine}
 use Rattle.record_model.specs.declared.words.Reply.TheVariants as reply
@@ -20,6 +16,8 @@ use Rattle.face.proofs.Counted.{counts_idle}
 use Rattle.face.proofs.Logs.{fits_stands}
 use Rattle.face.proofs.Quiet.{no_change}
 use Rattle.face.proofs.Listed.{cache_line, same_step, memory_fails, on_ok}
+use Rattle.ring_machine.specs.Commands.{line_work}
+use Rattle.face.proofs.WornRuns.{cache_work, listing_performs}
 use Rattle.face.proofs.commands.carry_out.Goals as goal
 
 pub carry_out_plain-requires-clause-plain : goal.carry_out_plain-requires-clause-plain
@@ -71,16 +69,15 @@ returns-then-asks_for_listing-clause-asks g c s fits =
 pub returns-then-asks_for_listing-clause-numbers : goal.returns-then-asks_for_listing-clause-numbers
 returns-then-asks_for_listing-clause-numbers g c s fits quiet =
     let line = cache_line c.args.line (sym c.asks_for_listing.ensures ∙ c.if-asks_for_listing.true) in
-    counts_idle c.cache.result c.args.line c.args.engine.now (g.S.Site.state c.args.site.now) s c.rest_counts_nothing.ensures fits c.requires.going quiet (λ is. let same = of_error c.cache.result (λ stop. stop ≡ Memory) (Worn Log) c.cache.ensures.stops is in cc) (ap (λ (l : Line). (step s l []).after) line) (ap (line_checkpoints s) line)
+    counts_idle c.cache.result c.args.line c.args.engine.now (g.S.Site.state c.args.site.now) s c.rest_counts_nothing.ensures fits c.requires.going quiet (ap (λ (l : Line). (step s l []).after) line) (ap (line_checkpoints s) line)
 
 pub returns-then-asks_for_listing-clause-log_reads : goal.returns-then-asks_for_listing-clause-log_reads
 returns-then-asks_for_listing-clause-log_reads g c s fits = omega arith
 
-pub returns-then-asks_for_listing-clause-fills : goal.returns-then-asks_for_listing-clause-fills
-returns-then-asks_for_listing-clause-fills g c s fits quiet = ok_same c.cache.result (line_octets s c.args.line) c.args.engine.now
-
-pub returns-then-asks_for_listing-clause-appends : goal.returns-then-asks_for_listing-clause-appends
-returns-then-asks_for_listing-clause-appends g c s fits is = let same = of_error c.cache.result (λ stop. stop ≡ Memory) (Worn Log) c.cache.ensures.stops is in absurd cc
-
 pub returns-then-asks_for_listing-clause-next : goal.returns-then-asks_for_listing-clause-next
 returns-then-asks_for_listing-clause-next g c honest is = ok_always c.cache.result _ is
+
+pub returns-then-asks_for_listing-clause-performs : goal.returns-then-asks_for_listing-clause-performs
+returns-then-asks_for_listing-clause-performs g c s fits =
+    let asks = sym c.asks_for_listing.ensures ∙ c.if-asks_for_listing.true in
+    listing_performs c.cache.result c.cache.ensures.stops (ap (line_work true s) (cache_line c.args.line asks) ∙ cache_work s)

@@ -1,6 +1,3 @@
-use Rattle.record_model.specs.declared.words.Command.TheVariants as command
-use Rattle.face.proofs.Fillings.{ok_room, ok_line, ok_fills, ok_forced, ok_begun, fills_same}
-use Rattle.face.proofs.Appending.{appends_line}
 use Rattle.face.proofs.Pagings.{idle_line}
 use Rattle.redo_undo.specs.MachineSteps.{StepsMachine}
 use Rattle.record_model.specs.Touches.{line_touches}
@@ -18,8 +15,9 @@ use Rattle.face.proofs.Logs.{fits_stands}
 use Rattle.face.proofs.Quiet.{no_change, table_stays}
 use Rattle.face.proofs.CommandLaws.{fails_by, log_fails}
 use Rattle.face.proofs.Listed.{never_cache}
-use Rattle.site.specs.declared.outside.Dev.TheVariants.{Log}
-use Rattle.site.specs.declared.outside.Stop.TheVariants.{Worn}
+use Rattle.ring_machine.specs.Commands.{line_work}
+use Rattle.redo_undo.specs.Mirroring.{PerformsStore}
+use Rattle.face.proofs.WornRuns.{idle_performs, quit_work, stat_work}
 use Rattle.face.proofs.commands.carry_out_plain.Goals as goal
 
 pub returns-in-Begin-clause-reply : goal.returns-in-Begin-clause-reply
@@ -212,57 +210,57 @@ returns-in_default-clause-asks g c s fits = idle_line _ _ c.args.engine.now.stor
 
 pub returns-in-Begin-clause-numbers : goal.returns-in-Begin-clause-numbers
 returns-in-Begin-clause-numbers g c s fits quiet =
-    subst (λ (l : Line). CountsOn c.begin.result (Worn Log) c.args.engine.now c.begin.new.self (g.S.Site.state c.args.site.now) (g.S.Site.state c.begin.new.site) s (step s l []).after (line_checkpoints s l)) (sym (c.in-Some.is ∙ ap Some c.in-Begin.is)) ((c.begin.ensures.answers s fits).does.numbers quiet)
+    subst (λ (l : Line). CountsOn c.begin.result c.args.engine.now c.begin.new.self (g.S.Site.state c.args.site.now) (g.S.Site.state c.begin.new.site) s (step s l []).after (line_checkpoints s l)) (sym (c.in-Some.is ∙ ap Some c.in-Begin.is)) ((c.begin.ensures.answers s fits).does.numbers quiet)
 
 pub returns-in-Read-clause-numbers : goal.returns-in-Read-clause-numbers
 returns-in-Read-clause-numbers g c s fits quiet =
-    subst (λ (l : Line). CountsOn c.read.result (Worn Log) c.args.engine.now c.read.new.self (g.S.Site.state c.args.site.now) (g.S.Site.state c.read.new.site) s (step s l []).after (line_checkpoints s l)) (sym (c.in-Some.is ∙ ap Some c.in-Read.is)) ((c.read.ensures.answers s fits).does.numbers quiet)
+    subst (λ (l : Line). CountsOn c.read.result c.args.engine.now c.read.new.self (g.S.Site.state c.args.site.now) (g.S.Site.state c.read.new.site) s (step s l []).after (line_checkpoints s l)) (sym (c.in-Some.is ∙ ap Some c.in-Read.is)) ((c.read.ensures.answers s fits).does.numbers quiet)
 
 pub returns-in-Write-clause-numbers : goal.returns-in-Write-clause-numbers
 returns-in-Write-clause-numbers g c s fits quiet =
-    subst (λ (l : Line). CountsOn c.write.result (Worn Log) c.args.engine.now c.write.new.self (g.S.Site.state c.args.site.now) (g.S.Site.state c.write.new.site) s (step s l []).after (line_checkpoints s l)) (sym (c.in-Some.is ∙ ap Some c.in-Write.is)) ((c.write.ensures.answers s fits).does.numbers quiet)
+    subst (λ (l : Line). CountsOn c.write.result c.args.engine.now c.write.new.self (g.S.Site.state c.args.site.now) (g.S.Site.state c.write.new.site) s (step s l []).after (line_checkpoints s l)) (sym (c.in-Some.is ∙ ap Some c.in-Write.is)) ((c.write.ensures.answers s fits).does.numbers quiet)
 
 pub returns-in-Erase-clause-numbers : goal.returns-in-Erase-clause-numbers
 returns-in-Erase-clause-numbers g c s fits quiet =
-    subst (λ (l : Line). CountsOn c.erase.result (Worn Log) c.args.engine.now c.erase.new.self (g.S.Site.state c.args.site.now) (g.S.Site.state c.erase.new.site) s (step s l []).after (line_checkpoints s l)) (sym (c.in-Some.is ∙ ap Some c.in-Erase.is)) ((c.erase.ensures.answers s fits).does.numbers quiet)
+    subst (λ (l : Line). CountsOn c.erase.result c.args.engine.now c.erase.new.self (g.S.Site.state c.args.site.now) (g.S.Site.state c.erase.new.site) s (step s l []).after (line_checkpoints s l)) (sym (c.in-Some.is ∙ ap Some c.in-Erase.is)) ((c.erase.ensures.answers s fits).does.numbers quiet)
 
 pub returns-in-Scan-clause-numbers : goal.returns-in-Scan-clause-numbers
 returns-in-Scan-clause-numbers g c s fits quiet =
-    subst (λ (l : Line). CountsOn c.scan.result (Worn Log) c.args.engine.now c.scan.new.self (g.S.Site.state c.args.site.now) (g.S.Site.state c.scan.new.site) s (step s l []).after (line_checkpoints s l)) (sym (c.in-Some.is ∙ ap Some c.in-Scan.is)) ((c.scan.ensures.answers s fits).does.numbers quiet)
+    subst (λ (l : Line). CountsOn c.scan.result c.args.engine.now c.scan.new.self (g.S.Site.state c.args.site.now) (g.S.Site.state c.scan.new.site) s (step s l []).after (line_checkpoints s l)) (sym (c.in-Some.is ∙ ap Some c.in-Scan.is)) ((c.scan.ensures.answers s fits).does.numbers quiet)
 
 pub returns-in-Commit-clause-numbers : goal.returns-in-Commit-clause-numbers
 returns-in-Commit-clause-numbers g c s fits quiet =
-    subst (λ (l : Line). CountsOn c.commit.result (Worn Log) c.args.engine.now c.commit.new.self (g.S.Site.state c.args.site.now) (g.S.Site.state c.commit.new.site) s (step s l []).after (line_checkpoints s l)) (sym (c.in-Some.is ∙ ap Some c.in-Commit.is)) ((c.commit.ensures.answers s fits).does.numbers quiet)
+    subst (λ (l : Line). CountsOn c.commit.result c.args.engine.now c.commit.new.self (g.S.Site.state c.args.site.now) (g.S.Site.state c.commit.new.site) s (step s l []).after (line_checkpoints s l)) (sym (c.in-Some.is ∙ ap Some c.in-Commit.is)) ((c.commit.ensures.answers s fits).does.numbers quiet)
 
 pub returns-in-Abort-clause-numbers : goal.returns-in-Abort-clause-numbers
 returns-in-Abort-clause-numbers g c s fits quiet =
-    subst (λ (l : Line). CountsOn c.abort.result (Worn Log) c.args.engine.now c.abort.new.self (g.S.Site.state c.args.site.now) (g.S.Site.state c.abort.new.site) s (step s l []).after (line_checkpoints s l)) (sym (c.in-Some.is ∙ ap Some c.in-Abort.is)) ((c.abort.ensures.answers s fits).does.numbers quiet)
+    subst (λ (l : Line). CountsOn c.abort.result c.args.engine.now c.abort.new.self (g.S.Site.state c.args.site.now) (g.S.Site.state c.abort.new.site) s (step s l []).after (line_checkpoints s l)) (sym (c.in-Some.is ∙ ap Some c.in-Abort.is)) ((c.abort.ensures.answers s fits).does.numbers quiet)
 
 pub returns-in-Get-clause-numbers : goal.returns-in-Get-clause-numbers
 returns-in-Get-clause-numbers g c s fits quiet =
-    subst (λ (l : Line). CountsOn c.get.result (Worn Log) c.args.engine.now c.get.new.self (g.S.Site.state c.args.site.now) (g.S.Site.state c.get.new.site) s (step s l []).after (line_checkpoints s l)) (sym (c.in-Some.is ∙ ap Some c.in-Get.is)) ((c.get.ensures.answers s fits).does.numbers quiet)
+    subst (λ (l : Line). CountsOn c.get.result c.args.engine.now c.get.new.self (g.S.Site.state c.args.site.now) (g.S.Site.state c.get.new.site) s (step s l []).after (line_checkpoints s l)) (sym (c.in-Some.is ∙ ap Some c.in-Get.is)) ((c.get.ensures.answers s fits).does.numbers quiet)
 
 pub returns-in-Set-clause-numbers : goal.returns-in-Set-clause-numbers
 returns-in-Set-clause-numbers g c s fits quiet =
-    subst (λ (l : Line). CountsOn c.set.result (Worn Log) c.args.engine.now c.set.new.self (g.S.Site.state c.args.site.now) (g.S.Site.state c.set.new.site) s (step s l []).after (line_checkpoints s l)) (sym (c.in-Some.is ∙ ap Some c.in-Set.is)) ((c.set.ensures.answers s fits).does.numbers quiet)
+    subst (λ (l : Line). CountsOn c.set.result c.args.engine.now c.set.new.self (g.S.Site.state c.args.site.now) (g.S.Site.state c.set.new.site) s (step s l []).after (line_checkpoints s l)) (sym (c.in-Some.is ∙ ap Some c.in-Set.is)) ((c.set.ensures.answers s fits).does.numbers quiet)
 
 pub returns-in-Checkpoint-clause-numbers : goal.returns-in-Checkpoint-clause-numbers
 returns-in-Checkpoint-clause-numbers g c s fits quiet =
-    subst (λ (l : Line). CountsOn c.checkpoint.result (Worn Log) c.args.engine.now c.checkpoint.new.self (g.S.Site.state c.args.site.now) (g.S.Site.state c.checkpoint.new.site) s (step s l []).after (line_checkpoints s l)) (sym (c.in-Some.is ∙ ap Some c.in-Checkpoint.is)) ((c.checkpoint.ensures.answers s fits).does.numbers quiet)
+    subst (λ (l : Line). CountsOn c.checkpoint.result c.args.engine.now c.checkpoint.new.self (g.S.Site.state c.args.site.now) (g.S.Site.state c.checkpoint.new.site) s (step s l []).after (line_checkpoints s l)) (sym (c.in-Some.is ∙ ap Some c.in-Checkpoint.is)) ((c.checkpoint.ensures.answers s fits).does.numbers quiet)
 
 pub returns-in-Stat-clause-numbers : goal.returns-in-Stat-clause-numbers
 returns-in-Stat-clause-numbers g c s fits quiet =
     let line = c.in-Some.is ∙ ap Some c.in-Stat.is in
-    counts_idle _ c.args.line c.args.engine.now (g.S.Site.state c.args.site.now) s c.rest_counts_nothing.ensures fits c.requires.going quiet (λ is. cc) (ap (λ (l : Line). (step s l []).after) line) (ap (line_checkpoints s) line)
+    counts_idle _ c.args.line c.args.engine.now (g.S.Site.state c.args.site.now) s c.rest_counts_nothing.ensures fits c.requires.going quiet (ap (λ (l : Line). (step s l []).after) line) (ap (line_checkpoints s) line)
 
 pub returns-in-Quit-clause-numbers : goal.returns-in-Quit-clause-numbers
 returns-in-Quit-clause-numbers g c s fits quiet =
     let line = c.in-Some.is ∙ ap Some c.in-Quit.is in
-    counts_idle _ c.args.line c.args.engine.now (g.S.Site.state c.args.site.now) s c.rest_counts_nothing.ensures fits c.requires.going quiet (λ is. cc) (ap (λ (l : Line). (step s l []).after) line) (ap (line_checkpoints s) line)
+    counts_idle _ c.args.line c.args.engine.now (g.S.Site.state c.args.site.now) s c.rest_counts_nothing.ensures fits c.requires.going quiet (ap (λ (l : Line). (step s l []).after) line) (ap (line_checkpoints s) line)
 
 pub returns-in_default-clause-numbers : goal.returns-in_default-clause-numbers
 returns-in_default-clause-numbers g c s fits quiet =
-    counts_idle _ c.args.line c.args.engine.now (g.S.Site.state c.args.site.now) s c.rest_counts_nothing.ensures fits c.requires.going quiet (λ is. cc) (ap (λ (l : Line). (step s l []).after) c.in_default.is) (ap (line_checkpoints s) c.in_default.is)
+    counts_idle _ c.args.line c.args.engine.now (g.S.Site.state c.args.site.now) s c.rest_counts_nothing.ensures fits c.requires.going quiet (ap (λ (l : Line). (step s l []).after) c.in_default.is) (ap (line_checkpoints s) c.in_default.is)
 
 pub returns-in-Begin-clause-quiet : goal.returns-in-Begin-clause-quiet
 returns-in-Begin-clause-quiet g c s fits = (c.begin.ensures.answers s fits).does.quiet
@@ -334,97 +332,6 @@ pub returns-in-Abort-clause-log_reads : goal.returns-in-Abort-clause-log_reads
 returns-in-Abort-clause-log_reads g c s fits =
     subst (λ (l : Line). (g.S.Site.state c.abort.new.site).log_reads ≤ (g.S.Site.state c.args.site.now).log_reads + line_log_reads s l) (sym (c.in-Some.is ∙ ap Some c.in-Abort.is)) (c.abort.ensures.log_reads s fits)
 
-pub returns-in-Read-clause-fills : goal.returns-in-Read-clause-fills
-returns-in-Read-clause-fills g c s fits quiet = ok_room c.read.result _ c.args.engine.now c.read.new.self (c.read.ensures.fills s fits)
-
-pub returns-in-Scan-clause-fills : goal.returns-in-Scan-clause-fills
-returns-in-Scan-clause-fills g c s fits quiet = ok_room c.scan.result _ c.args.engine.now c.scan.new.self (c.scan.ensures.fills s fits)
-
-pub returns-in-Get-clause-fills : goal.returns-in-Get-clause-fills
-returns-in-Get-clause-fills g c s fits quiet = ok_room c.get.result _ c.args.engine.now c.get.new.self (c.get.ensures.fills s fits)
-
-pub returns-in-Write-clause-fills : goal.returns-in-Write-clause-fills
-returns-in-Write-clause-fills g c s fits quiet =
-    ok_line c.write.result c.args.engine.now c.write.new.self s c.args.line _ (c.in-Some.is ∙ ap Some c.in-Write.is) (ok_fills c.write.result _ c.args.engine.now c.write.new.self (c.write.ensures.fills s fits))
-
-pub returns-in-Erase-clause-fills : goal.returns-in-Erase-clause-fills
-returns-in-Erase-clause-fills g c s fits quiet =
-    ok_line c.erase.result c.args.engine.now c.erase.new.self s c.args.line _ (c.in-Some.is ∙ ap Some c.in-Erase.is) (ok_fills c.erase.result _ c.args.engine.now c.erase.new.self (c.erase.ensures.fills s fits))
-
-pub returns-in-Commit-clause-fills : goal.returns-in-Commit-clause-fills
-returns-in-Commit-clause-fills g c s fits quiet =
-    let all = c.commit.ensures.answers s fits in
-    ok_line c.commit.result c.args.engine.now c.commit.new.self s c.args.line _ (c.in-Some.is ∙ ap Some c.in-Commit.is) (ok_forced c.commit.result c.args.engine.now c.commit.new.self _ _ s (command.Commit c.in-Commit.session) _ _ c.requires.going c.commit.ensures.serves.going (all.does.numbers quiet) all.asks)
-
-pub returns-in-Abort-clause-fills : goal.returns-in-Abort-clause-fills
-returns-in-Abort-clause-fills g c s fits quiet =
-    let all = c.abort.ensures.answers s fits in
-    ok_line c.abort.result c.args.engine.now c.abort.new.self s c.args.line _ (c.in-Some.is ∙ ap Some c.in-Abort.is) (ok_forced c.abort.result c.args.engine.now c.abort.new.self _ _ s (command.Abort c.in-Abort.session) _ _ c.requires.going c.abort.ensures.serves.going (all.does.numbers quiet) all.asks)
-
-pub returns-in-Set-clause-fills : goal.returns-in-Set-clause-fills
-returns-in-Set-clause-fills g c s fits quiet =
-    let all = c.set.ensures.answers s fits in
-    ok_line c.set.result c.args.engine.now c.set.new.self s c.args.line _ (c.in-Some.is ∙ ap Some c.in-Set.is) (ok_forced c.set.result c.args.engine.now c.set.new.self _ _ s (command.Set c.in-Set.number c.in-Set.value) _ _ c.requires.going c.set.ensures.serves.going (all.does.numbers quiet) all.asks)
-
-pub returns-in-Checkpoint-clause-fills : goal.returns-in-Checkpoint-clause-fills
-returns-in-Checkpoint-clause-fills g c s fits quiet =
-    let all = c.checkpoint.ensures.answers s fits in
-    ok_line c.checkpoint.result c.args.engine.now c.checkpoint.new.self s c.args.line _ (c.in-Some.is ∙ ap Some c.in-Checkpoint.is) (ok_forced c.checkpoint.result c.args.engine.now c.checkpoint.new.self _ _ s command.Checkpoint _ _ c.requires.going c.checkpoint.ensures.serves.going (all.does.numbers quiet) all.asks)
-
-pub returns-in-Begin-clause-fills : goal.returns-in-Begin-clause-fills
-returns-in-Begin-clause-fills g c s fits quiet =
-    let all = c.begin.ensures.answers s fits in
-    ok_line c.begin.result c.args.engine.now c.begin.new.self s c.args.line _ (c.in-Some.is ∙ ap Some c.in-Begin.is)
-    (ok_begun c.begin.result c.args.engine.now c.begin.new.self s c.in-Begin.session (ok_forced c.begin.result c.args.engine.now c.begin.new.self _ _ s (command.Begin c.in-Begin.session) _ _ c.requires.going c.begin.ensures.serves.going (all.does.numbers quiet) all.asks) (c.begin.ensures.fills s fits))
-
-pub returns-in-Stat-clause-fills : goal.returns-in-Stat-clause-fills
-returns-in-Stat-clause-fills g c s fits quiet = fills_same _ c.args.engine.now
-
-pub returns-in-Quit-clause-fills : goal.returns-in-Quit-clause-fills
-returns-in-Quit-clause-fills g c s fits quiet = fills_same _ c.args.engine.now
-
-pub returns-in_default-clause-fills : goal.returns-in_default-clause-fills
-returns-in_default-clause-fills g c s fits quiet = fills_same _ c.args.engine.now
-
-pub returns-in-Begin-clause-appends : goal.returns-in-Begin-clause-appends
-returns-in-Begin-clause-appends g c s fits = appends_line c.begin.result s c.args.line _ c.args.engine.now.store.pages (c.in-Some.is ∙ ap Some c.in-Begin.is) (c.begin.ensures.answers s fits).appends
-
-pub returns-in-Read-clause-appends : goal.returns-in-Read-clause-appends
-returns-in-Read-clause-appends g c s fits = appends_line c.read.result s c.args.line _ c.args.engine.now.store.pages (c.in-Some.is ∙ ap Some c.in-Read.is) (c.read.ensures.answers s fits).appends
-
-pub returns-in-Write-clause-appends : goal.returns-in-Write-clause-appends
-returns-in-Write-clause-appends g c s fits = appends_line c.write.result s c.args.line _ c.args.engine.now.store.pages (c.in-Some.is ∙ ap Some c.in-Write.is) (c.write.ensures.answers s fits).appends
-
-pub returns-in-Erase-clause-appends : goal.returns-in-Erase-clause-appends
-returns-in-Erase-clause-appends g c s fits = appends_line c.erase.result s c.args.line _ c.args.engine.now.store.pages (c.in-Some.is ∙ ap Some c.in-Erase.is) (c.erase.ensures.answers s fits).appends
-
-pub returns-in-Scan-clause-appends : goal.returns-in-Scan-clause-appends
-returns-in-Scan-clause-appends g c s fits = appends_line c.scan.result s c.args.line _ c.args.engine.now.store.pages (c.in-Some.is ∙ ap Some c.in-Scan.is) (c.scan.ensures.answers s fits).appends
-
-pub returns-in-Commit-clause-appends : goal.returns-in-Commit-clause-appends
-returns-in-Commit-clause-appends g c s fits = appends_line c.commit.result s c.args.line _ c.args.engine.now.store.pages (c.in-Some.is ∙ ap Some c.in-Commit.is) (c.commit.ensures.answers s fits).appends
-
-pub returns-in-Abort-clause-appends : goal.returns-in-Abort-clause-appends
-returns-in-Abort-clause-appends g c s fits = appends_line c.abort.result s c.args.line _ c.args.engine.now.store.pages (c.in-Some.is ∙ ap Some c.in-Abort.is) (c.abort.ensures.answers s fits).appends
-
-pub returns-in-Get-clause-appends : goal.returns-in-Get-clause-appends
-returns-in-Get-clause-appends g c s fits = appends_line c.get.result s c.args.line _ c.args.engine.now.store.pages (c.in-Some.is ∙ ap Some c.in-Get.is) (c.get.ensures.answers s fits).appends
-
-pub returns-in-Set-clause-appends : goal.returns-in-Set-clause-appends
-returns-in-Set-clause-appends g c s fits = appends_line c.set.result s c.args.line _ c.args.engine.now.store.pages (c.in-Some.is ∙ ap Some c.in-Set.is) (c.set.ensures.answers s fits).appends
-
-pub returns-in-Checkpoint-clause-appends : goal.returns-in-Checkpoint-clause-appends
-returns-in-Checkpoint-clause-appends g c s fits = appends_line c.checkpoint.result s c.args.line _ c.args.engine.now.store.pages (c.in-Some.is ∙ ap Some c.in-Checkpoint.is) (c.checkpoint.ensures.answers s fits).appends
-
-pub returns-in-Stat-clause-appends : goal.returns-in-Stat-clause-appends
-returns-in-Stat-clause-appends g c s fits is = cc
-
-pub returns-in-Quit-clause-appends : goal.returns-in-Quit-clause-appends
-returns-in-Quit-clause-appends g c s fits is = cc
-
-pub returns-in_default-clause-appends : goal.returns-in_default-clause-appends
-returns-in_default-clause-appends g c s fits is = cc
-
 pub returns-in-Begin-clause-next : goal.returns-in-Begin-clause-next
 returns-in-Begin-clause-next g c honest is = (c.begin.ensures.serves.next honest).next is
 
@@ -454,3 +361,54 @@ returns-in-Get-clause-next g c honest is = (c.get.ensures.serves.next honest).ne
 
 pub returns-in-Set-clause-next : goal.returns-in-Set-clause-next
 returns-in-Set-clause-next g c honest is = (c.set.ensures.serves.next honest).next is
+
+-- What it makes of the machine.
+
+pub returns-in-Begin-clause-performs : goal.returns-in-Begin-clause-performs
+returns-in-Begin-clause-performs g c s fits =
+    subst (λ (l : Line). PerformsStore c.begin.result (line_work true s l) c.args.engine.now.store c.begin.new.self.store (g.S.Site.state c.args.site.now) (g.S.Site.state c.begin.new.site)) (sym (c.in-Some.is ∙ ap Some c.in-Begin.is)) (c.begin.ensures.performs s fits)
+
+pub returns-in-Read-clause-performs : goal.returns-in-Read-clause-performs
+returns-in-Read-clause-performs g c s fits =
+    subst (λ (l : Line). PerformsStore c.read.result (line_work true s l) c.args.engine.now.store c.read.new.self.store (g.S.Site.state c.args.site.now) (g.S.Site.state c.read.new.site)) (sym (c.in-Some.is ∙ ap Some c.in-Read.is)) (c.read.ensures.performs s fits)
+
+pub returns-in-Write-clause-performs : goal.returns-in-Write-clause-performs
+returns-in-Write-clause-performs g c s fits =
+    subst (λ (l : Line). PerformsStore c.write.result (line_work true s l) c.args.engine.now.store c.write.new.self.store (g.S.Site.state c.args.site.now) (g.S.Site.state c.write.new.site)) (sym (c.in-Some.is ∙ ap Some c.in-Write.is)) (c.write.ensures.performs s fits)
+
+pub returns-in-Erase-clause-performs : goal.returns-in-Erase-clause-performs
+returns-in-Erase-clause-performs g c s fits =
+    subst (λ (l : Line). PerformsStore c.erase.result (line_work true s l) c.args.engine.now.store c.erase.new.self.store (g.S.Site.state c.args.site.now) (g.S.Site.state c.erase.new.site)) (sym (c.in-Some.is ∙ ap Some c.in-Erase.is)) (c.erase.ensures.performs s fits)
+
+pub returns-in-Scan-clause-performs : goal.returns-in-Scan-clause-performs
+returns-in-Scan-clause-performs g c s fits =
+    subst (λ (l : Line). PerformsStore c.scan.result (line_work true s l) c.args.engine.now.store c.scan.new.self.store (g.S.Site.state c.args.site.now) (g.S.Site.state c.scan.new.site)) (sym (c.in-Some.is ∙ ap Some c.in-Scan.is)) (c.scan.ensures.performs s fits)
+
+pub returns-in-Commit-clause-performs : goal.returns-in-Commit-clause-performs
+returns-in-Commit-clause-performs g c s fits =
+    subst (λ (l : Line). PerformsStore c.commit.result (line_work true s l) c.args.engine.now.store c.commit.new.self.store (g.S.Site.state c.args.site.now) (g.S.Site.state c.commit.new.site)) (sym (c.in-Some.is ∙ ap Some c.in-Commit.is)) (c.commit.ensures.performs s fits)
+
+pub returns-in-Abort-clause-performs : goal.returns-in-Abort-clause-performs
+returns-in-Abort-clause-performs g c s fits =
+    subst (λ (l : Line). PerformsStore c.abort.result (line_work true s l) c.args.engine.now.store c.abort.new.self.store (g.S.Site.state c.args.site.now) (g.S.Site.state c.abort.new.site)) (sym (c.in-Some.is ∙ ap Some c.in-Abort.is)) (c.abort.ensures.performs s fits)
+
+pub returns-in-Get-clause-performs : goal.returns-in-Get-clause-performs
+returns-in-Get-clause-performs g c s fits =
+    subst (λ (l : Line). PerformsStore c.get.result (line_work true s l) c.args.engine.now.store c.get.new.self.store (g.S.Site.state c.args.site.now) (g.S.Site.state c.get.new.site)) (sym (c.in-Some.is ∙ ap Some c.in-Get.is)) (c.get.ensures.performs s fits)
+
+pub returns-in-Set-clause-performs : goal.returns-in-Set-clause-performs
+returns-in-Set-clause-performs g c s fits =
+    subst (λ (l : Line). PerformsStore c.set.result (line_work true s l) c.args.engine.now.store c.set.new.self.store (g.S.Site.state c.args.site.now) (g.S.Site.state c.set.new.site)) (sym (c.in-Some.is ∙ ap Some c.in-Set.is)) (c.set.ensures.performs s fits)
+
+pub returns-in-Checkpoint-clause-performs : goal.returns-in-Checkpoint-clause-performs
+returns-in-Checkpoint-clause-performs g c s fits =
+    subst (λ (l : Line). PerformsStore c.checkpoint.result (line_work true s l) c.args.engine.now.store c.checkpoint.new.self.store (g.S.Site.state c.args.site.now) (g.S.Site.state c.checkpoint.new.site)) (sym (c.in-Some.is ∙ ap Some c.in-Checkpoint.is)) (c.checkpoint.ensures.performs s fits)
+
+pub returns-in-Stat-clause-performs : goal.returns-in-Stat-clause-performs
+returns-in-Stat-clause-performs g c s fits = idle_performs (ap (line_work true s) (c.in-Some.is ∙ ap Some c.in-Stat.is) ∙ stat_work s)
+
+pub returns-in-Quit-clause-performs : goal.returns-in-Quit-clause-performs
+returns-in-Quit-clause-performs g c s fits = idle_performs (ap (line_work true s) (c.in-Some.is ∙ ap Some c.in-Quit.is) ∙ quit_work s)
+
+pub returns-in_default-clause-performs : goal.returns-in_default-clause-performs
+returns-in_default-clause-performs g c s fits = idle_performs (ap (line_work true s) c.in_default.is)

@@ -20,7 +20,7 @@ returns-in-Err-clause-works g c geometry opening good =
     let old = g.S.Site.state c.args.site.now in
     let run = run_of geometry opening true old.input.left [] in
     let start = begins geometry opening [] old good in
-    load_never_opened geometry opening c.args.load.now old (g.S.Site.state c.open.new.site) c.in-Err.halt (c.in-Err.ensures.stops run start) (λ is. c.in-Err.ensures.worn run start (ap Err is)) (λ is. c.in-Err.ensures.worn_log run start (ap Err is)) (c.in-Err.ensures.numbers run start) (c.in-Err.ensures.reads run start) (c.open.ensures.left good.honest)
+    load_never_opened geometry opening c.args.load.now old (g.S.Site.state c.open.new.site) c.in-Err.halt (c.in-Err.ensures.stops run start) (λ dev is. c.in-Err.ensures.wears run start dev (ap Err is)) (c.in-Err.ensures.numbers run start) (c.in-Err.ensures.reads run start) (c.open.ensures.left good.honest)
 
 pub returns-in-Err-make_sets-clause-works : goal.returns-in-Err-make_sets-clause-works
 returns-in-Err-make_sets-clause-works g c geometry opening good =
@@ -32,7 +32,7 @@ returns-in-Err-make_sets-clause-works g c geometry opening good =
     let start = begins geometry opening [] old good in
     let going = c.in-Ok.ensures.going run start in
     let pages : c.pages_of-pages.result ≡ geometry.pages = c.pages_of-pages.ensures.pages ∙ ap (λ (x : Geometry). x.pages) going.geometry in
-    load_stopped geometry opening load old c.works_add_up.ensures.works c.works_add_up.ensures.reads mid new c.in-Ok.engine c.make_sets.new.engine going (c.in-Ok.ensures.paged run start) (c.in-Ok.ensures.counted run start) (c.open.ensures.reads run start) c.in-Ok.ensures.goes_on (c.open.ensures.left good.honest) c.in-Err-make_sets.halt
+    load_stopped geometry opening load old c.works_add_up.ensures.works c.works_add_up.ensures.reads mid new c.in-Ok.engine c.make_sets.new.engine going (c.in-Ok.ensures.paged run start) (c.in-Ok.ensures.mirrored run start) (c.in-Ok.ensures.counted run start) (c.open.ensures.reads run start) c.in-Ok.ensures.goes_on (c.open.ensures.left good.honest) c.in-Err-make_sets.halt
     (subst (λ (n : ℕ). CarriesFirst {T = Counts} (Err c.in-Err-make_sets.halt) (set_lines (32 * n) load.seed load.count ++ get_lines (32 * n) load.seed load.count) c.in-Ok.engine c.make_sets.new.engine mid new) pages
     (some_carried c.in-Err-make_sets.halt (set_lines (32 * c.pages_of-pages.result) load.seed load.count) (get_lines (32 * c.pages_of-pages.result) load.seed load.count) c.in-Ok.engine c.make_sets.new.engine mid new c.in-Err-make_sets.ensures.course))
 
@@ -47,7 +47,7 @@ returns-clause-works g c geometry opening good =
     let start = begins geometry opening [] old good in
     let going = c.in-Ok.ensures.going run start in
     let pages : c.pages_of-pages.result ≡ geometry.pages = c.pages_of-pages.ensures.pages ∙ ap (λ (x : Geometry). x.pages) going.geometry in
-    load_stopped geometry opening load old c.works_add_up.ensures.works c.works_add_up.ensures.reads mid new c.in-Ok.engine c.make_gets.new.engine going (c.in-Ok.ensures.paged run start) (c.in-Ok.ensures.counted run start) (c.open.ensures.reads run start) c.in-Ok.ensures.goes_on (c.open.ensures.left good.honest) c.in-Err-make_gets.halt
+    load_stopped geometry opening load old c.works_add_up.ensures.works c.works_add_up.ensures.reads mid new c.in-Ok.engine c.make_gets.new.engine going (c.in-Ok.ensures.paged run start) (c.in-Ok.ensures.mirrored run start) (c.in-Ok.ensures.counted run start) (c.open.ensures.reads run start) c.in-Ok.ensures.goes_on (c.open.ensures.left good.honest) c.in-Err-make_gets.halt
     (subst (λ (n : ℕ). CarriesFirst {T = ℕ} (Err c.in-Err-make_gets.halt) (set_lines (32 * n) load.seed load.count ++ get_lines (32 * n) load.seed load.count) c.in-Ok.engine c.make_gets.new.engine mid new) pages
     (carries_on c.works_add_up.ensures.works c.works_add_up.ensures.reads c.in-Ok-make_sets.made (Err c.in-Err-make_gets.halt) (set_lines (32 * c.pages_of-pages.result) load.seed load.count) (get_lines (32 * c.pages_of-pages.result) load.seed load.count) c.in-Ok.engine c.make_sets.new.engine c.make_gets.new.engine mid then new (all_carried c.in-Ok-make_sets.made (set_lines (32 * c.pages_of-pages.result) load.seed load.count) c.in-Ok.engine c.make_sets.new.engine (g.S.Site.state c.open.new.site) (g.S.Site.state c.make_sets.new.site) c.in-Ok-make_sets.ensures.course) c.in-Err-make_gets.ensures.course))
 
@@ -63,7 +63,7 @@ returns-in-Ok-make_gets-clause-works g c geometry opening good =
     let start = begins geometry opening [] old good in
     let going = c.in-Ok.ensures.going run start in
     let pages : c.pages_of-pages.result ≡ geometry.pages = c.pages_of-pages.ensures.pages ∙ ap (λ (x : Geometry). x.pages) going.geometry in
-    load_finished geometry opening load old c.works_add_up.ensures.works c.works_add_up.ensures.reads mid new c.in-Ok.engine c.make_gets.new.engine going (c.in-Ok.ensures.paged run start) (c.in-Ok.ensures.counted run start) (c.open.ensures.reads run start) c.in-Ok.ensures.goes_on (c.open.ensures.left good.honest) c.queue_is_on_flash.ensures c.versions_are_seen.ensures (c.in-Ok.ensures.staged run start) (c.in-Ok.ensures.counted run start good.opens.newest good.opens.blocks good.opens.sound).units counts
+    load_finished geometry opening load old c.works_add_up.ensures.works c.works_add_up.ensures.reads mid new c.in-Ok.engine c.make_gets.new.engine going (c.in-Ok.ensures.paged run start) (c.in-Ok.ensures.mirrored run start) (c.in-Ok.ensures.counted run start) (c.open.ensures.reads run start) c.in-Ok.ensures.goes_on (c.open.ensures.left good.honest) c.queue_is_on_flash.ensures c.versions_are_seen.ensures (c.in-Ok.ensures.staged run start) (c.in-Ok.ensures.counted run start good.opens.newest good.opens.blocks good.opens.sound).calls counts
     (subst (λ (n : ℕ). CarriesOut {T = Counts} (Ok counts) (set_lines (32 * n) load.seed load.count ++ get_lines (32 * n) load.seed load.count) c.in-Ok.engine c.make_gets.new.engine mid new) pages
     (carries_with c.in-Ok-make_gets.found counts (set_lines (32 * c.pages_of-pages.result) load.seed load.count ++ get_lines (32 * c.pages_of-pages.result) load.seed load.count) c.in-Ok.engine c.make_gets.new.engine mid new
     (carries_more c.works_add_up.ensures.works c.works_add_up.ensures.reads c.in-Ok-make_sets.made (Ok c.in-Ok-make_gets.found) (set_lines (32 * c.pages_of-pages.result) load.seed load.count) (get_lines (32 * c.pages_of-pages.result) load.seed load.count) c.in-Ok.engine c.make_sets.new.engine c.make_gets.new.engine mid then new (all_carried c.in-Ok-make_sets.made (set_lines (32 * c.pages_of-pages.result) load.seed load.count) c.in-Ok.engine c.make_sets.new.engine (g.S.Site.state c.open.new.site) (g.S.Site.state c.make_sets.new.site) c.in-Ok-make_sets.ensures.course) (all_carried c.in-Ok-make_gets.found (get_lines (32 * c.pages_of-pages.result) load.seed load.count) c.make_sets.new.engine c.make_gets.new.engine (g.S.Site.state c.make_sets.new.site) (g.S.Site.state c.make_gets.new.site) c.in-Ok-make_gets.ensures.course))))

@@ -1,18 +1,16 @@
-use Rattle.face.proofs.Fillings.{restart_rises}
-use Rattle.site.specs.declared.outside.Dev.TheVariants.{Flash, Log}
 use Rattle.site.specs.declared.outside.Stop.TheVariants.{Worn}
 use Rattle.engine.specs.Image.{log_under}
 use Rattle.face.proofs.CallCounts.{calls_told}
-use Rattle.face.proofs.Counted.{first_counted, restart_numbers, restart_told, restart_wears}
+use Rattle.face.proofs.Counted.{first_counted, restart_numbers, restart_told}
 use Rattle.engine.specs.Paging.{HasLastFrom, restart_works, cache_on}
 use Rattle.second_chance.specs.Machine.{rules_of}
 use Rattle.image_meaning.specs.Meaning.{picture_under}
 use Rattle.face.proofs.Writings.{last_told, writes_told}
 use Rattle.record_model.specs.Touches.{CacheWork}
 use Rattle.std.proofs.lemmas.List.{append-nil}
-use Rattle.face.proofs.Pagings.{first_paged, first_reads, never_paged}
+use Rattle.face.proofs.Pagings.{first_paged, first_reads}
 use Rattle.std.specs.Prelude.{Err}
-use Rattle.std.proofs.Common.{◌∙◌, ap, ◌≡◌, List, refl, ◌≤◌, arith, subst, sym}
+use Rattle.std.proofs.Common.{◌∙◌, ap, ◌≡◌, List, refl, subst, sym}
 use Rattle.site.specs.Laws.{stays_honest, goes_in_sequence}
 use Rattle.face.proofs.NextUnits.{next_later}
 use Rattle.shell_text.specs.Texts.{open_text}
@@ -22,6 +20,10 @@ use Rattle.face.proofs.Meanings.{stands_by, opens_where_it_stands}
 use Rattle.face.proofs.RunsSoFar.{not_opened, opening_lost, opened}
 use Rattle.face.proofs.Logs.{goes_on, still_fits}
 use Rattle.face.proofs.CommandLaws.{start_cause}
+use Rattle.ring_machine.specs.Machine.{Work, first_worn}
+use Rattle.ring_machine.specs.Restart.{restart_work}
+use Rattle.engine.specs.RingWork.{machine_on}
+use Rattle.face.proofs.WornRuns.{opened_performs}
 use Rattle.face.proofs.opening.open.Goals as goal
 
 pub returns-in-Err-clause-stops : goal.returns-in-Err-clause-stops
@@ -76,23 +78,13 @@ pub returns-in-Ok-tell_all-clause-paged : goal.returns-in-Ok-tell_all-clause-pag
 returns-in-Ok-tell_all-clause-paged g c run begins newest blocks sound =
     first_paged c.args.pool run newest (g.S.Site.state c.args.site.now).image blocks c.in-Ok.engine _ _ _ (c.in-Ok.ensures.asks begins.honest run.geometry newest blocks sound)
 
-pub returns-in-Err-clause-worn : goal.returns-in-Err-clause-worn
-returns-in-Err-clause-worn g c run begins is newest blocks sound =
-    let same : c.in-Err.stop ≡ Worn Flash = cc in
-    never_paged c.args.pool run newest (g.S.Site.state c.args.site.now).image blocks ((c.in-Err.ensures.asks begins.honest run.geometry newest blocks sound).worn (ap Err same))
-
-pub returns-in-Err-tell_all-clause-worn : goal.returns-in-Err-tell_all-clause-worn
-returns-in-Err-tell_all-clause-worn g c run begins is newest blocks sound = absurd cc
-
 pub returns-in-Ok-tell_all-clause-counted : goal.returns-in-Ok-tell_all-clause-counted
 returns-in-Ok-tell_all-clause-counted g c run begins newest blocks sound =
     let entry = g.S.Site.state c.args.site.now in
     let mid = g.S.Site.state c.start.new.site in
     let honest = stays_honest entry mid c.start.ensures.calls.goes begins.honest in
-    let some : 1 ≤ (rules_of c.args.pool run.geometry.groups).groups = (let least = sound.octets.limits.groups in omega (arith, least)) in
     first_counted run (log_under newest blocks) entry c.in-Ok.engine _ mid (g.S.Site.state c.tell_all.new.site) (c.tell_all.ensures.any_moment honest)
-    (calls_told run.geometry c.as_slice.result.now mid (g.S.Site.state c.tell_all.new.site) (c.tell_all.ensures.same honest).image (c.in-Ok-tell_all.ensures.told honest) (c.in-Ok-tell_all.ensures.past honest)) (c.in-Ok.ensures.numbers begins.honest begins.quiet run.geometry newest blocks sound) (goes_on c.in-Ok.engine mid (g.S.Site.state c.tell_all.new.site) c.in-Ok.ensures.going c.tell_all.ensures.goes)
-    (restart_rises c.in-Ok.engine (rules_of c.args.pool run.geometry.groups) _ (cache_on run.geometry entry.image) _ _ _ some (c.in-Ok.ensures.asks begins.honest run.geometry newest blocks sound))
+    (calls_told run.geometry c.as_slice.result.now mid (g.S.Site.state c.tell_all.new.site) (c.tell_all.ensures.same honest).image (c.in-Ok-tell_all.ensures.told honest) (c.in-Ok-tell_all.ensures.past honest)) (c.in-Ok.ensures.numbers begins.honest begins.quiet run.geometry newest blocks sound)
 
 pub returns-in-Ok-tell_all-clause-numbers : goal.returns-in-Ok-tell_all-clause-numbers
 returns-in-Ok-tell_all-clause-numbers g c run begins newest blocks sound = (returns-in-Ok-tell_all-clause-counted g c run begins newest blocks sound).numbers
@@ -108,14 +100,6 @@ returns-in-Err-clause-numbers g c run begins newest blocks sound =
     let entry = g.S.Site.state c.args.site.now in
     let mid = g.S.Site.state c.start.new.site in
     restart_numbers run (log_under newest blocks) entry c.start.result _ mid (c.start.ensures.numbers begins.honest begins.quiet run.geometry newest blocks sound)
-
-pub returns-in-Err-clause-worn_log : goal.returns-in-Err-clause-worn_log
-returns-in-Err-clause-worn_log g c run begins is newest blocks sound =
-    let same : c.in-Err.stop ≡ Worn Log = cc in
-    restart_wears run (log_under newest blocks) (g.S.Site.state c.args.site.now) _ _ (g.S.Site.state c.start.new.site) (c.in-Err.ensures.numbers begins.honest begins.quiet run.geometry newest blocks sound) (ap Err same)
-
-pub returns-in-Err-tell_all-clause-worn_log : goal.returns-in-Err-tell_all-clause-worn_log
-returns-in-Err-tell_all-clause-worn_log g c run begins is newest blocks sound = absurd cc
 
 pub returns-in-Err-clause-reads : goal.returns-in-Err-clause-reads
 returns-in-Err-clause-reads g c run begins newest blocks sound =
@@ -156,3 +140,20 @@ returns-in-Ok-tell_all-clause-next g c honest geometry limits lengths =
     let next = (c.in-Ok.ensures.next honest geometry limits lengths).next in
     let same = c.tell_all.ensures.same (stays_honest (g.S.Site.state c.args.site.now) mid c.start.ensures.calls.goes honest) in
     (next_later c.in-Ok.engine.store mid (g.S.Site.state c.tell_all.new.site) same.image next.0, next.1)
+
+-- What it makes of the machine.
+
+pub returns-in-Ok-tell_all-clause-mirrored : goal.returns-in-Ok-tell_all-clause-mirrored
+returns-in-Ok-tell_all-clause-mirrored g c run begins newest blocks sound =
+    let old = g.S.Site.state c.args.site.now in
+    let mid = g.S.Site.state c.start.new.site in
+    opened_performs run newest old.image blocks c.in-Ok.engine (c.tell_all.ensures.same (stays_honest old mid c.start.ensures.calls.goes begins.honest)).image (c.in-Ok.ensures.performs begins.honest begins.quiet run.geometry newest blocks sound)
+
+pub returns-in-Err-clause-wears : goal.returns-in-Err-clause-wears
+returns-in-Err-clause-wears g c run begins dev says newest blocks sound =
+    let same : c.in-Err.stop ≡ Worn dev = cc in
+    ap (λ (w : List Work). first_worn (rules_of c.args.pool run.geometry.groups) w (machine_on run.geometry (g.S.Site.state c.args.site.now).image)) (append-nil (restart_work (picture_under newest run.geometry (g.S.Site.state c.args.site.now).image blocks)))
+    ∙ (c.in-Err.ensures.performs begins.honest begins.quiet run.geometry newest blocks sound).worn (machine_on run.geometry (g.S.Site.state c.args.site.now).image) refl dev (ap Err same)
+
+pub returns-in-Err-tell_all-clause-wears : goal.returns-in-Err-tell_all-clause-wears
+returns-in-Err-tell_all-clause-wears g c run begins dev says newest blocks sound = absurd cc

@@ -12,7 +12,7 @@ returns-in-Ok-clause-run g c =
     let old = g.S.Site.state c.args.site.now in
     let new = g.S.Site.state c.work.new.site in
     let works = c.in-Ok.ensures.works in
-    run_contract c.works_add_up.ensures.overflow c.args.pool old new 0
+    run_contract c.args.pool old new 0
     (λ geometry opening good. finished c.args.pool geometry opening works.0 old c.serial_order.ensures new _ good (works.1 _ (begins geometry opening works.0 old good) refl))
     (no_causes old new) (λ honest. tells_none old new)
 
@@ -23,7 +23,7 @@ returns-in-Err-clause-run g c =
     let new = g.S.Site.state c.tell_halt.new.site in
     let works = c.in-Err.ensures.works in
     let cause = cause_then c.in-Err.halt old mid new c.in-Err.ensures.cause c.tell_halt.ensures.goes (λ h. c.tell_halt.ensures.devices (stays_honest old mid c.work.ensures.goes h)) in
-    run_contract c.works_add_up.ensures.overflow c.args.pool old new c.status.result
+    run_contract c.args.pool old new c.status.result
     (λ geometry opening good. halted c.args.pool geometry opening works.0 old c.serial_order.ensures mid new c.in-Err.halt good (works.1 _ (begins geometry opening works.0 old good) refl)
     c.work.ensures.goes c.tell_halt.result c.tell_halt.ensures cause c.status.result c.status.ensures)
     (status_causes c.in-Err.halt c.status.result old new c.status.ensures cause)

@@ -1,20 +1,21 @@
-use Rattle.face.proofs.Fillings.{seals_no_more}
-use Rattle.std.proofs.Common.{ℕ, suc, List, [], drop, refl, sym, ◌∙◌, ap, subst, arith, add-one}
+use Rattle.std.proofs.Common.{ℕ, suc, List, [], drop, refl, sym, ◌∙◌, ap, subst, arith, add-one, Option}
 use Rattle.std.proofs.lemmas.List.{append-nil}
 use Rattle.std.specs.Prelude.{Err}
 use Rattle.site.specs.State.{Input}
 use Rattle.site.specs.Laws.{stays_honest, goes_in_sequence}
 use Rattle.record_model.specs.Run.{Line}
 use Rattle.face.specs.Going.{Going, IsCounted, IsPaged}
-use Rattle.engine.specs.Image.{log_under}
+use Rattle.checkpoint.specs.declared.master.Master.{Master}
+use Rattle.log_records.specs.declared.log_record.LogRecord.{LogRecord}
+use Rattle.engine.specs.Image.{IsSound, log_under}
 use Rattle.record_model.specs.Touches.{CacheWork}
 use Rattle.second_chance.specs.Machine.{after_works, rules_of}
 use Rattle.engine.specs.Paging.{HasLastFrom, cache_on}
-use Rattle.face.proofs.Appending.{appends_next}
-use Rattle.face.proofs.CallCounts.{units_heard}
-use Rattle.face.proofs.Counted.{counted_on, counts_next, counts_still, next_counted, wears_next}
+use Rattle.face.proofs.CallCounts.{calls_heard}
+use Rattle.image_changes.proofs.Counting.{calls_then}
+use Rattle.face.proofs.Counted.{counted_on, counts_next, counts_still, next_counted}
 use Rattle.face.proofs.Writings.{engine_queue, last_heard}
-use Rattle.face.proofs.Pagings.{asked_with, log_reads_with, next_last, next_paged, next_reads, next_worn, paged_queue, paged_room, paged_versions, few_heard}
+use Rattle.face.proofs.Pagings.{asked_with, log_reads_with, next_last, next_paged, next_reads, paged_queue, paged_versions, few_heard}
 use Rattle.engine.specs.Listings.{listing_of}
 use Rattle.face.specs.Lines.{up_to_quit}
 use Rattle.face.specs.Range.{AsksNoMore, ListsTheMachine, WritesAsTold}
@@ -30,10 +31,13 @@ use Rattle.face.proofs.Written.{written_answered, written_heard, written_opened}
 use Rattle.face.proofs.RunsSoFar.{begun_after, moved, cut_short, goes_on}
 use Rattle.face.proofs.Logs.{still_fits, goes_on as engine_goes_on}
 use Rattle.face.proofs.NextUnits.{next_later}
+use Rattle.ring_machine.proofs.Performing.{performs_as}
+use Rattle.face.specs.Worn.{IsMirrored}
+use Rattle.face.proofs.WornRuns.{next_mirrored, none_mirrored, rings_left, rings_with, wears_next}
 use Rattle.face.proofs.top.work.Goals as goal
 
 pub returns-in-Err-clause-works : goal.returns-in-Err-clause-works
-returns-in-Err-clause-works g c = ([], λ run begins same. never_opened c.args.pool run (g.S.Site.state c.args.site.now) (g.S.Site.state c.open.new.site) c.in-Err.halt (c.in-Err.ensures.stops run begins) c.in-Err.ensures.halts (c.open.ensures.left begins.honest) (λ is. c.in-Err.ensures.worn run begins (ap Err is)) (λ is. c.in-Err.ensures.worn_log run begins (ap Err is)) (c.in-Err.ensures.numbers run begins) (c.in-Err.ensures.reads run begins))
+returns-in-Err-clause-works g c = ([], λ run begins same. never_opened c.args.pool run (g.S.Site.state c.args.site.now) (g.S.Site.state c.open.new.site) c.in-Err.halt (c.in-Err.ensures.stops run begins) c.in-Err.ensures.halts (c.open.ensures.left begins.honest) (λ dev is. c.in-Err.ensures.wears run begins dev (ap Err is)) (c.in-Err.ensures.numbers run begins) (c.in-Err.ensures.reads run begins))
 
 pub answer-requires : goal.answer-requires
 answer-requires g c = record { going = engine_goes_on c.loop-line.engine (g.S.Site.state c.loop-line.site) (g.S.Site.state c.next.new.site) c.loop-line.invariant.engine c.next.ensures.goes }
@@ -49,6 +53,7 @@ loop-line-init g c = record {
   next = c.in-Ok.ensures.next;
   under_way = record { listings = []; left = λ run later begins is. is; going = λ run later begins is. c.in-Ok.ensures.going run begins; listed = λ run later begins is. lists_nothing c.args.pool run (g.S.Site.state c.args.site.now).image; written = λ run later begins is. written_opened c.args.pool run _ _ (c.in-Ok.ensures.going run begins).moments (c.open.ensures.reads run begins); answers = λ run later begins is. answers_none run _ _ (c.open.ensures.left begins.honest) };
   paged = c.in-Ok.ensures.paged;
+  mirrored = c.in-Ok.ensures.mirrored;
   reads = c.open.ensures.reads;
   staged = c.in-Ok.ensures.staged;
   counted = c.in-Ok.ensures.counted;
@@ -68,7 +73,8 @@ returns-in-Err-next-clause-works g c =
           taking_failed c.args.pool run entry mid next c.loop-line.engine c.loop-line.source c.loop-line._line cut c.loop-line.invariant.source going (under_way.listed run [] begins (same ∙ sym (append-nil under_way.listings)))
           (λ newest blocks sound. few_heard _ _ _ _ entry mid next (c.next.ensures.same so_far.fits.honest) (c.loop-line.invariant.reads run begins newest blocks sound))
           (answers_next run entry mid next c.loop-line.source c.loop-line._line c.loop-line._line cut c.loop-line.invariant.source so_far.told (omega arith) (under_way.answers run [] begins (same ∙ sym (append-nil under_way.listings))) (c.next.ensures.takes so_far.fits.honest cut.ended))
-          (written_heard c.args.pool run c.loop-line._line entry mid next (c.next.ensures.same so_far.fits.honest) (under_way.written run [] begins (same ∙ sym (append-nil under_way.listings)))) c.in-Err-next.halt c.in-Err-next.ensures.halts (c.in-Err-next.ensures.cut_off so_far.fits.honest cut.ended)
+          (written_heard c.args.pool run c.loop-line._line entry mid next (c.next.ensures.same so_far.fits.honest) (under_way.written run [] begins (same ∙ sym (append-nil under_way.listings))))
+          (λ newest blocks sound. none_mirrored c.args.pool run newest entry.image blocks c.loop-line.engine mid c.loop-line._line (c.loop-line.invariant.mirrored run begins newest blocks sound)) c.in-Err-next.halt c.in-Err-next.ensures.halts (c.in-Err-next.ensures.cut_off so_far.fits.honest cut.ended)
           (λ newest blocks sound. counts_still run (log_under newest blocks) entry mid next c.loop-line._line (c.next.ensures.same so_far.fits.honest) (c.loop-line.invariant.counted run begins newest blocks sound).numbers),
     )
 
@@ -96,14 +102,13 @@ returns-in-End-clause-works g c =
           finished c.args.pool run entry mid next c.loop-line.engine c.loop-line.source c.loop-line._line cut c.loop-line.invariant.source going (under_way.listed run [] begins (same ∙ sym (append-nil under_way.listings)))
           (λ newest blocks sound. few_heard _ _ _ _ entry mid next (c.next.ensures.same so_far.fits.honest) (c.loop-line.invariant.reads run begins newest blocks sound))
           (answers_next run entry mid next c.loop-line.source c.loop-line._line c.loop-line._line cut c.loop-line.invariant.source so_far.told (omega arith) (under_way.answers run [] begins (same ∙ sym (append-nil under_way.listings))) (c.next.ensures.takes honest cut.ended))
-          (written_heard c.args.pool run c.loop-line._line entry mid next (c.next.ensures.same so_far.fits.honest) (under_way.written run [] begins (same ∙ sym (append-nil under_way.listings)))) _ end.0 (c.in-Ok-next.ensures.ended honest cut.ended end.1)
-          (λ newest blocks sound. paged_room c.args.pool run newest entry.image blocks c.loop-line.engine mid c.loop-line._line (c.loop-line.invariant.paged run begins newest blocks sound) c.loop-line.invariant.engine)
+          (written_heard c.args.pool run c.loop-line._line entry mid next (c.next.ensures.same so_far.fits.honest) (under_way.written run [] begins (same ∙ sym (append-nil under_way.listings))))
+          (λ newest blocks sound. none_mirrored c.args.pool run newest entry.image blocks c.loop-line.engine mid c.loop-line._line (c.loop-line.invariant.mirrored run begins newest blocks sound)) _ end.0 (c.in-Ok-next.ensures.ended honest cut.ended end.1)
           (λ newest blocks sound. paged_queue c.args.pool run newest entry.image blocks c.queue_is_on_flash.ensures c.loop-line.engine next (state_at run c.loop-line._line) c.loop-line._line going.fits going.geometry (c.loop-line.invariant.paged run begins newest blocks sound))
           (λ newest blocks sound. paged_versions c.args.pool run newest entry.image blocks c.versions_are_seen.ensures c.loop-line.engine next c.loop-line._line going.fits going.geometry (c.loop-line.invariant.paged run begins newest blocks sound))
           (λ newest blocks sound. last_heard run.geometry (rules_of c.args.pool run.geometry.groups) (asked_after run newest entry.image blocks c.loop-line._line) (cache_on run.geometry entry.image) entry mid next (c.next.ensures.same honest) (c.loop-line.invariant.staged run begins newest blocks sound))
-          (λ newest blocks sound. seals_no_more c.args.pool run c.loop-line._line newest blocks entry mid next.image c.loop-line.engine next refl going.geometry going.fits (engine_goes_on c.loop-line.engine mid next c.loop-line.invariant.engine c.next.ensures.goes) (c.loop-line.invariant.paged run begins newest blocks sound)
-          (c.loop-line.invariant.counted run begins newest blocks sound))
-          (units_heard (first_lines run c.loop-line._line) entry mid next (c.next.ensures.same honest) (c.loop-line.invariant.counted run begins begins.opens.newest begins.opens.blocks begins.opens.sound).units)
+          (λ newest blocks sound. rings_left c.args.pool run newest entry.image blocks c.loop-line._line c.loop-line.engine mid next.image (state_at run c.loop-line._line) (c.loop-line.invariant.mirrored run begins newest blocks sound) so_far.fits c.loop-line.invariant.engine so_far.geometry (c.next.ensures.same honest).image)
+          (calls_then run.geometry entry mid next (c.loop-line.invariant.counted run begins begins.opens.newest begins.opens.blocks begins.opens.sound).calls (calls_heard run.geometry mid next (c.next.ensures.same honest)))
           (λ newest blocks sound. counts_still run (log_under newest blocks) entry mid next c.loop-line._line (c.next.ensures.same honest) (c.loop-line.invariant.counted run begins newest blocks sound).numbers),
     )
 
@@ -135,11 +140,11 @@ returns-in-Err-answer-clause-works g c =
           (listed_next c.args.pool entry mid c.loop-line.engine i under_way c.in-Line.line run [] begins listed _ is (c.loop-line.invariant.paged run begins))
           asks
           (answers_still run (suc i) entry next new (c.answer.ensures.left going.fits.honest) (answers_next run entry mid next c.loop-line.source i (suc i) cut c.loop-line.invariant.source so_far.told (omega arith) (answers_before c.args.pool entry mid c.loop-line.engine i under_way c.in-Line.line run [] begins listed) (c.next.ensures.takes honest cut.ended)))
-          (written_answered c.args.pool run i entry next new going.told (c.answer.ensures.any_moment (state_at run i) (listing_at run i) asked going.fits going.quiet) asks (written_heard c.args.pool run i entry mid next (c.next.ensures.same honest) (written_before c.args.pool entry mid c.loop-line.engine i under_way c.in-Line.line run [] begins listed))) c.in-Err-answer.halt stops
+          (written_answered c.args.pool run i entry next new going.told (c.answer.ensures.any_moment (state_at run i) (listing_at run i) asked going.fits going.quiet) asks (written_heard c.args.pool run i entry mid next (c.next.ensures.same honest) (written_before c.args.pool entry mid c.loop-line.engine i under_way c.in-Line.line run [] begins listed)))
+          (λ newest blocks sound. none_mirrored c.args.pool run newest entry.image blocks c.loop-line.engine mid i (c.loop-line.invariant.mirrored run begins newest blocks sound)) c.in-Err-answer.halt stops
           (begun_after run entry next c.loop-line.engine i going new c.in-Line.line _ is (c.answer.ensures.any_moment (state_at run i) (listing_at run i) asked going.fits going.quiet)) (answer_takes_nothing c.in-Err-answer.halt c.loop-line.engine next new c.in-Err-answer.ensures.cause)
-          (λ worn newest blocks sound. next_worn c.args.pool run newest entry.image blocks c.works_add_up.ensures.works i c.in-Line.line _ is c.loop-line.engine (c.loop-line.invariant.paged run begins newest blocks sound) ((c.in-Err-answer.ensures.asks (state_at run i) going.fits).worn (ap Err worn)))
-          (λ worn newest blocks sound. wears_next run (log_under newest blocks) entry mid next new c.loop-line.engine c.answer.new.engine i c.in-Line.line _ is (c.next.ensures.same honest) going.geometry (c.loop-line.invariant.counted run begins newest blocks sound) _ (c.in-Err-answer.ensures.numbers (state_at run i) going.fits going.quiet) (ap Err worn))
-          (λ worn. appends_next c.args.pool run entry.image c.works_add_up.ensures.works i c.in-Line.line _ is c.loop-line.engine (c.loop-line.invariant.paged run begins) (c.in-Err-answer.ensures.appends (state_at run i) going.fits (ap Err worn)))
+          (λ dev worn newest blocks sound. wears_next c.args.pool run newest entry.image blocks i c.in-Line.line _ is c.loop-line.engine c.answer.new.engine mid next new (c.loop-line.invariant.paged run begins newest blocks sound).rules_are (c.loop-line.invariant.mirrored run begins newest blocks sound) (c.next.ensures.same honest).image
+          (c.in-Err-answer.ensures.performs (state_at run i) going.fits) dev (ap Err worn))
           (λ newest blocks sound. counts_next run (log_under newest blocks) entry mid next new c.loop-line.engine c.answer.new.engine i c.in-Line.line _ is (c.next.ensures.same honest) going.geometry (c.loop-line.invariant.counted run begins newest blocks sound) _ (c.in-Err-answer.ensures.numbers (state_at run i) going.fits going.quiet)),
     )
 
@@ -239,6 +244,20 @@ loop-line-preserved g c =
             machine = paged.machine ∙ ap (λ (w : List CacheWork). after_works (rules_of c.args.pool run.geometry.groups) w (cache_on run.geometry entry.image)) (asked_with run with newest entry.image blocks (suc i));
             rules_are = paged.rules_are;
           });
+      mirrored = λ run begins newest blocks sound.
+          let under_way = c.loop-line.invariant.under_way in
+          let with = with_line c.args.pool entry mid c.loop-line.engine i under_way c.in-Line.line in
+          let own : Run = record run { listings = with } in
+          let starts : Begins own entry = record { honest = begins.honest; quiet = begins.quiet; opens = begins.opens; lines = begins.lines } in
+          let cut = c.loop-line.invariant.cut begins.honest in
+          let so_far = going_before c.args.pool entry mid c.loop-line.engine i under_way c.in-Line.line own [] starts (sym (append-nil with)) in
+          let honest = so_far.fits.honest in
+          let going = moved own entry mid next c.loop-line.engine i so_far c.next.ensures.goes (c.next.ensures.same honest) in
+          let hears = line_heard c.in-Ok-next.heard c.in-Line.line _ _ _ _ (c.in-Ok-next.ensures.heard honest cut.ended) c.in-Line.is in
+          let ended = c.in-Ok-next.ensures.ended honest cut.ended in
+          let is = ap (λ (l : List Line). drop i (up_to_quit l)) begins.lines ∙ line_is entry.input.left c.loop-line.source mid i cut c.loop-line.invariant.source c.next.new.self next c.in-Line.line hears ended c.next.ensures.source in
+          let mirrored = next_mirrored c.args.pool own newest entry.image blocks i c.in-Line.line _ is c.loop-line.engine c.answer.new.engine mid next new (c.loop-line.invariant.paged own starts newest blocks sound).rules_are (c.loop-line.invariant.mirrored own starts newest blocks sound) (c.next.ensures.same honest).image (c.in_default.ensures.performs (state_at own i) going.fits).done in
+          subst (IsMirrored c.args.pool run newest entry.image blocks c.answer.new.engine new) (sym (add-one i)) (performs_as (sym (rings_with run with newest entry.image blocks (suc i))) mirrored);
       reads = λ run begins newest blocks sound.
           let under_way = c.loop-line.invariant.under_way in
           let with = with_line c.args.pool entry mid c.loop-line.engine i under_way c.in-Line.line in
@@ -285,7 +304,7 @@ loop-line-preserved g c =
           let hears = line_heard c.in-Ok-next.heard c.in-Line.line _ _ _ _ (c.in-Ok-next.ensures.heard honest cut.ended) c.in-Line.is in
           let ended = c.in-Ok-next.ensures.ended honest cut.ended in
           let is = ap (λ (l : List Line). drop i (up_to_quit l)) begins.lines ∙ line_is entry.input.left c.loop-line.source mid i cut c.loop-line.invariant.source c.next.new.self next c.in-Line.line hears ended c.next.ensures.source in
-          let counted = next_counted own (log_under newest blocks) entry mid next new c.loop-line.engine c.answer.new.engine i c.in-Line.line _ is (c.next.ensures.same honest) going.geometry (c.loop-line.invariant.counted own starts newest blocks sound) c.in_default.field-0 (c.in_default.ensures.numbers (state_at own i) going.fits going.quiet) (c.in_default.ensures.fills (state_at own i) going.fits going.quiet) in
+          let counted = next_counted own (log_under newest blocks) entry mid next new c.loop-line.engine c.answer.new.engine i c.in-Line.line _ is (c.next.ensures.same honest) going.geometry (c.loop-line.invariant.counted own starts newest blocks sound) c.in_default.field-0 (c.in_default.ensures.numbers (state_at own i) going.fits going.quiet) in
           subst (IsCounted run (log_under newest blocks) entry new c.answer.new.engine) (sym (add-one i)) (counted_on run with (log_under newest blocks) entry new c.answer.new.engine (suc i) counted);
     }
 
@@ -311,15 +330,17 @@ returns-then-last-clause-works g c =
           let is = ap (λ (l : List Line). drop i (up_to_quit l)) begins.lines ∙ line_is entry.input.left c.loop-line.source mid i cut c.loop-line.invariant.source c.next.new.self next c.in-Line.line hears ended c.next.ensures.source in
           let gone = goes_on run entry next c.loop-line.engine i going new c.in-Line.line _ is (c.answer.ensures.any_moment (state_at run i) (listing_at run i) asked going.fits going.quiet)
           c.answer.new.engine c.answer.ensures.sizes c.in_default.ensures.going.store.both.sizes (c.in_default.ensures.fits (state_at run i) (listing_at run i) asked going.fits) (c.in_default.ensures.stays_quiet going.fits.honest going.quiet) (c.in_default.ensures.told (state_at run i) (listing_at run i) asked going.fits going.quiet) in
+          let after : (newest : Option Master) (blocks : List (List LogRecord)) → IsSound newest run.geometry entry.image blocks → IsMirrored c.args.pool run newest entry.image blocks c.answer.new.engine new (suc i) =
+          λ newest blocks sound. next_mirrored c.args.pool run newest entry.image blocks i c.in-Line.line _ is c.loop-line.engine c.answer.new.engine mid next new (c.loop-line.invariant.paged run begins newest blocks sound).rules_are (c.loop-line.invariant.mirrored run begins newest blocks sound) (c.next.ensures.same honest).image (c.in_default.ensures.performs (state_at run i) going.fits).done in
           let asks : AsksNoMore c.args.pool (first_lines run (suc i)) entry new = λ newest blocks sound. next_reads c.args.pool run newest entry.image blocks c.works_add_up.ensures.works i c.in-Line.line _ is c.loop-line.engine (c.loop-line.invariant.paged run begins newest blocks sound) c.works_add_up.ensures.reads entry mid next new refl (c.next.ensures.same honest) (c.loop-line.invariant.reads run begins newest blocks sound) going.geometry (let least = sound.octets.limits.groups in omega (arith, least)) (c.answer.ensures.asks (state_at run i) going.fits).reads
           ((c.answer.ensures.asks (state_at run i) going.fits).writes (engine_queue c.loop-line.engine next (state_at run i) (engine_goes_on c.loop-line.engine mid next c.loop-line.invariant.engine c.next.ensures.goes) going.fits) going.quiet) (c.answer.ensures.asks (state_at run i) going.fits).log_reads in
           quitted c.args.pool run entry mid next new c.loop-line.source c.next.new.self i cut c.loop-line.invariant.source c.in-Line.line hears ended c.next.ensures.source (c.answer.ensures.left going.fits.honest)
           (listed_next c.args.pool entry mid c.loop-line.engine i under_way c.in-Line.line run [] begins listed _ is (c.loop-line.invariant.paged run begins))
           asks
           (answers_still run (suc i) entry next new (c.answer.ensures.left going.fits.honest) (answers_next run entry mid next c.loop-line.source i (suc i) cut c.loop-line.invariant.source so_far.told (omega arith) (answers_before c.args.pool entry mid c.loop-line.engine i under_way c.in-Line.line run [] begins listed) (c.next.ensures.takes honest cut.ended)))
-          (written_answered c.args.pool run i entry next new going.told (c.answer.ensures.any_moment (state_at run i) (listing_at run i) asked going.fits going.quiet) asks (written_heard c.args.pool run i entry mid next (c.next.ensures.same honest) (written_before c.args.pool entry mid c.loop-line.engine i under_way c.in-Line.line run [] begins listed))) _ c.answer.new.engine (sym c.quits-last.ensures ∙ c.if-last.true) gone
-          (λ newest blocks sound. paged_room c.args.pool run newest entry.image blocks c.answer.new.engine new (suc i)
-          (next_paged c.args.pool run newest entry.image blocks c.works_add_up.ensures.works i c.in-Line.line _ is c.loop-line.engine (c.loop-line.invariant.paged run begins newest blocks sound) c.in_default.field-0 c.answer.new.engine next new (c.in_default.ensures.asks (state_at run i) going.fits)) c.in_default.ensures.going)
+          (written_answered c.args.pool run i entry next new going.told (c.answer.ensures.any_moment (state_at run i) (listing_at run i) asked going.fits going.quiet) asks (written_heard c.args.pool run i entry mid next (c.next.ensures.same honest) (written_before c.args.pool entry mid c.loop-line.engine i under_way c.in-Line.line run [] begins listed)))
+          (λ newest blocks sound. none_mirrored c.args.pool run newest entry.image blocks c.loop-line.engine mid i (c.loop-line.invariant.mirrored run begins newest blocks sound)) _ c.answer.new.engine (sym c.quits-last.ensures ∙ c.if-last.true) gone
+          (λ newest blocks sound. none_mirrored c.args.pool run newest entry.image blocks c.answer.new.engine new (suc i) (after newest blocks sound))
           (λ newest blocks sound. paged_queue c.args.pool run newest entry.image blocks c.queue_is_on_flash.ensures c.answer.new.engine new (state_at run (suc i)) (suc i) gone.fits gone.geometry
           (next_paged c.args.pool run newest entry.image blocks c.works_add_up.ensures.works i c.in-Line.line _ is c.loop-line.engine (c.loop-line.invariant.paged run begins newest blocks sound) c.in_default.field-0 c.answer.new.engine next new (c.in_default.ensures.asks (state_at run i) going.fits)))
           (λ newest blocks sound. paged_versions c.args.pool run newest entry.image blocks c.versions_are_seen.ensures c.answer.new.engine new (suc i) gone.fits gone.geometry
@@ -327,9 +348,9 @@ returns-then-last-clause-works g c =
           (λ newest blocks sound. next_last c.args.pool run newest entry.image blocks c.works_add_up.ensures.works i c.in-Line.line _ is c.loop-line.engine (c.loop-line.invariant.paged run begins newest blocks sound) entry mid next new refl (c.next.ensures.same honest) (c.loop-line.invariant.reads run begins newest blocks sound) going.geometry
           ((c.answer.ensures.asks (state_at run i) going.fits).writes (engine_queue c.loop-line.engine next (state_at run i) (engine_goes_on c.loop-line.engine mid next c.loop-line.invariant.engine c.next.ensures.goes) going.fits) going.quiet) (c.loop-line.invariant.staged run begins newest blocks sound)
           ((c.in_default.ensures.asks (state_at run i) going.fits).last (engine_queue c.loop-line.engine next (state_at run i) (engine_goes_on c.loop-line.engine mid next c.loop-line.invariant.engine c.next.ensures.goes) going.fits) going.quiet))
-          (λ newest blocks sound. seals_no_more c.args.pool run (suc i) newest blocks entry new new.image c.answer.new.engine new refl gone.geometry gone.fits c.in_default.ensures.going (next_paged c.args.pool run newest entry.image blocks c.works_add_up.ensures.works i c.in-Line.line _ is c.loop-line.engine (c.loop-line.invariant.paged run begins newest blocks sound) c.in_default.field-0 c.answer.new.engine next new (c.in_default.ensures.asks (state_at run i) going.fits)) (next_counted run (log_under newest blocks) entry mid next new c.loop-line.engine c.answer.new.engine i c.in-Line.line _ is (c.next.ensures.same honest) going.geometry (c.loop-line.invariant.counted run begins newest blocks sound) c.in_default.field-0 (c.in_default.ensures.numbers (state_at run i) going.fits going.quiet) (c.in_default.ensures.fills (state_at run i) going.fits going.quiet)))
-          (next_counted run (log_under begins.opens.newest begins.opens.blocks) entry mid next new c.loop-line.engine c.answer.new.engine i c.in-Line.line _ is (c.next.ensures.same honest) going.geometry (c.loop-line.invariant.counted run begins begins.opens.newest begins.opens.blocks begins.opens.sound) c.in_default.field-0 (c.in_default.ensures.numbers (state_at run i) going.fits going.quiet) (c.in_default.ensures.fills (state_at run i) going.fits going.quiet)).units
-          (λ newest blocks sound. (next_counted run (log_under newest blocks) entry mid next new c.loop-line.engine c.answer.new.engine i c.in-Line.line _ is (c.next.ensures.same honest) going.geometry (c.loop-line.invariant.counted run begins newest blocks sound) c.in_default.field-0 (c.in_default.ensures.numbers (state_at run i) going.fits going.quiet) (c.in_default.ensures.fills (state_at run i) going.fits going.quiet)).numbers),
+          (λ newest blocks sound. rings_left c.args.pool run newest entry.image blocks (suc i) c.answer.new.engine new new.image (state_at run (suc i)) (after newest blocks sound) gone.fits c.in_default.ensures.going gone.geometry refl)
+          (next_counted run (log_under begins.opens.newest begins.opens.blocks) entry mid next new c.loop-line.engine c.answer.new.engine i c.in-Line.line _ is (c.next.ensures.same honest) going.geometry (c.loop-line.invariant.counted run begins begins.opens.newest begins.opens.blocks begins.opens.sound) c.in_default.field-0 (c.in_default.ensures.numbers (state_at run i) going.fits going.quiet)).calls
+          (λ newest blocks sound. (next_counted run (log_under newest blocks) entry mid next new c.loop-line.engine c.answer.new.engine i c.in-Line.line _ is (c.next.ensures.same honest) going.geometry (c.loop-line.invariant.counted run begins newest blocks sound) c.in_default.field-0 (c.in_default.ensures.numbers (state_at run i) going.fits going.quiet)).numbers),
     )
 
 pub returns-clause-works : goal.returns-clause-works

@@ -8,6 +8,7 @@ use Rattle.redo_undo.specs.StoreCalls.{AreNext}
 use Rattle.engine.specs.Representation.{Matches}
 use Rattle.site.specs.Calls.{Preserves}
 use Rattle.face.specs.Going.{IsUnderWay, IsPaged, IsCounted}
+use Rattle.face.specs.Worn.{IsMirrored}
 use Rattle.face.specs.Run.{Run, Begins, first_lines}
 use Rattle.face.specs.Range.{AsksNoMore, LeavesStaged}
 use Rattle.log_records.specs.declared.log_record.LogRecord.{LogRecord}
@@ -31,6 +32,7 @@ invariant-loop-line g l =
       next : IsTrue old.honest → (g : Geometry) → HasLimits g → HasLengths g old.image → AreNext l.engine.store now × (sizes_of l.engine.store ≡ g);
       under_way : IsUnderWay l.pool old now l.engine l._line;
       paged : (run : Run) → Begins run old → (newest : Option Master) (blocks : List (List LogRecord)) → IsSound newest run.geometry old.image blocks → IsPaged l.pool run newest old.image blocks l.engine l._line;
+      mirrored : (run : Run) → Begins run old → (newest : Option Master) (blocks : List (List LogRecord)) → IsSound newest run.geometry old.image blocks → IsMirrored l.pool run newest old.image blocks l.engine now l._line;
       reads : (run : Run) → Begins run old → AsksNoMore l.pool (first_lines run l._line) old now;
       staged : (run : Run) → Begins run old → LeavesStaged l.pool (first_lines run l._line) old now;
       counted : (run : Run) → Begins run old → (newest : Option Master) (blocks : List (List LogRecord)) → IsSound newest run.geometry old.image blocks → IsCounted run (log_under newest blocks) old now l.engine l._line;

@@ -12,9 +12,8 @@ use Rattle.page_store.specs.Flushing.{flushed_contents}
 use Rattle.image_meaning.specs.Meaning.{kept_by}
 use Rattle.redo_undo.specs.Holding.{RepresentsIn, Represents}
 use Rattle.redo_undo.proofs.Endings.{ends_by_pages}
-use Rattle.redo_undo.proofs.Mirroring.{numbers_left, logged_now, flush_performs}
+use Rattle.redo_undo.proofs.Mirroring.{numbers_left, logged_now, flush_performs, used_where}
 use Rattle.redo_undo.proofs.Redoings.{never_forced}
-use Rattle.redo_undo.proofs.Fillings.{used_where}
 use Rattle.log_records.specs.Spelling.{used_by}
 use Rattle.std.proofs.Common.{◌≡◌, ap, true≢false, false, ◌+◌}
 use Rattle.std.specs.Prelude.{if◌then◌else◌}
@@ -48,13 +47,12 @@ returns g c =
           record {
             ends = ends_by_pages (c.flush_all.ensures.keeps list ready) (λ quiet. leaves_table c.log_laws.ensures c.page_laws.ensures log pages site newest records table commits h c.requires.going.pages_going.own sealing tail new
                 ((c.flush_all.ensures.keeps list ready).any_moment quiet) ((c.flush_all.ensures.keeps list ready).ahead_moment quiet h.log_holds.ahead) ((c.flush_all.ensures.keeps list ready).rings_moment newest quiet h.log_holds.rings));
-            numbers = λ quiet. pages_skip c.flush_all.result pages.flash.geometry (current pages site.image) log c.flush_all.new.log list sealing site new (ready_next pages log list site ready) tail ((c.flush_all.ensures.keeps list ready).any_moment quiet) c.flush_all.ensures.works.forces.end (ok_as c.flush_all.result _ _ (λ stands. stands.past) (c.flush_all.ensures.stands list ready)) c.flush_all.ensures.flushes.worn_log;
+            numbers = λ quiet. pages_skip c.flush_all.result pages.flash.geometry (current pages site.image) log c.flush_all.new.log list sealing site new (ready_next pages log list site ready) tail ((c.flush_all.ensures.keeps list ready).any_moment quiet) c.flush_all.ensures.works.forces.end (ok_as c.flush_all.result _ _ (λ stands. stands.past) (c.flush_all.ensures.stands list ready));
             masters = λ none. ok_as c.flush_all.result _ (KeepsUnits master_shape site.image new.image) (λ stands. stands.leaves.masters) (c.flush_all.ensures.stands list ready);
           };
       asks =
           record {
             machine = c.flush_all.ensures.flushes.machine;
-            worn = c.flush_all.ensures.flushes.overflows;
             reads = record { flash = omega (arith, c.flush_all.ensures.flushes.asked); disk = omega (arith, c.flush_all.ensures.others Disk (λ same. cc)) };
             stages = stages_as (sym (append-nil (staged_by (rules c.args.pages.now) flush (cache_of c.args.pages.now)))) refl c.flush_all.ensures.stages;
             rules_are = (λ i. rules_of (c.flush_all.ensures.works.size i) (c.flush_all.ensures.works.geometry i).groups);

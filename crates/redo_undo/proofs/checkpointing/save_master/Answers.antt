@@ -13,7 +13,7 @@ use Rattle.redo_undo.proofs.Endings.{ends_ok}
 use Rattle.redo_undo.proofs.Saved.{needed_there, save_leaves, is_saved, log_still}
 use Rattle.site.specs.declared.outside.Stop.TheVariants.{Worn}
 use Rattle.redo_undo.proofs.WornLogs.{masters_at_end}
-use Rattle.sealed_ring.specs.Ring.{Units, hi_of}
+use Rattle.sealed_ring.specs.Ring.{hi_of}
 use Rattle.site.proofs.Working.{no_error}
 use Rattle.log_store.proofs.NextBlocks.{blocks_beside}
 use Rattle.redo_undo.specs.Holding.{blocks_to, Represents}
@@ -116,8 +116,7 @@ returns-in-Err-clause-keeps g c pages newest records table sizes h empty clean m
       };
       numbers = λ quiet. save_skips _ pages.flash.geometry log log (unit (m g s pages newest records table sizes h empty clean may)) site _
           (hi_on log.geometry pages.flash.geometry log site.image sizes h.log_holds.ready.blocks.hi)
-          (front g s pages newest records table sizes h empty clean may quiet) tt tt tt
-          (λ is. let same : c.in-Err.stop ≡ Worn Log = cc in masters_at_end c.args.masters.now site site c.requires.shape may.ring.hi refl (c.in-Err.ensures.worn.0 (ap Err same)));
+          (front g s pages newest records table sizes h empty clean may quiet) tt tt;
       masters = λ none. tt;
     }
 
@@ -132,9 +131,9 @@ returns-clause-keeps g c pages newest records table sizes h empty clean may =
           (g.S.Site.state c.save.new.site)
           (hi_on log.geometry pages.flash.geometry log site.image sizes h.log_holds.ready.blocks.hi)
           (front g s pages newest records table sizes h empty clean may quiet)
-          (ap blocks_to c.keep.ensures.kept) (ap (λ (u : Units). u.hi) (c.in-Ok.ensures.stands h.log_holds.ready.blocks.honest may.ring))
+          (ap blocks_to c.keep.ensures.kept)
           (save_calls pages.flash.geometry (unit (m g s pages newest records table sizes h empty clean may)) site (g.S.Site.state c.save.new.site) (c.save.ensures.changes h.log_holds.ready.blocks.honest)
-          (c.in-Ok.ensures.reaches pages.flash.geometry h.log_holds.rings.limits h.log_holds.rings.lengths h.log_holds.ready.blocks.honest may.ring) (c.in-Ok.ensures.past h.log_holds.ready.blocks.honest)) (λ is. cc);
+          (c.in-Ok.ensures.reaches pages.flash.geometry h.log_holds.rings.limits h.log_holds.rings.lengths h.log_holds.ready.blocks.honest may.ring) (c.in-Ok.ensures.past h.log_holds.ready.blocks.honest));
       masters = λ none. absurd (omega (arith, none));
     }
 

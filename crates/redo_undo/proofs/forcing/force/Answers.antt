@@ -39,7 +39,7 @@ returns-clause-holds g c pages newest records table commits sizes h =
 pub returns-then-tail_empty-clause-keeps : goal.returns-then-tail_empty-clause-keeps
 returns-then-tail_empty-clause-keeps g c pages newest records table commits h = record {
   any_moment = λ going quiet. nothing_happens c.args.log.now pages (g.S.Site.state c.args.site.now) newest records table commits going.sizes h quiet;
-  numbers = λ going quiet. skips_nothing _ c.args.log.now.geometry c.args.log.now (g.S.Site.state c.args.site.now) 0 h.log_holds.ready.blocks.hi quiet (λ is. cc);
+  numbers = λ going quiet. skips_nothing _ c.args.log.now.geometry c.args.log.now (g.S.Site.state c.args.site.now) 0 h.log_holds.ready.blocks.hi quiet;
   quiet = λ quiet. tt;
   worn_log = λ is. cc;
   masters = record { units = refl; form = λ form. form };
@@ -60,7 +60,7 @@ returns-clause-keeps g c pages newest records table commits h =
       numbers = λ going quiet. log_skips c.ring_kept.ensures c.force.result log.geometry log c.force.new.self list (has_tail log) site new 0 (ready_next pages log list site ready) (λ tail. tail)
           (c.force.ensures.any_moment list (log_fits log site quiet ready.blocks) ready.records) (c.force.ensures.front list (log_fits log site quiet ready.blocks) ready.records quiet)
           (ok_both c.force.result _ _ _ (λ next empty. same_at_most log c.force.new.self some next empty) c.force.ensures.next c.force.ensures.empty)
-          (log_calls c.force.result log.geometry log.ring.hi c.force.new.self.ring.hi list (has_tail log) site new (c.force.ensures.changes ready.blocks.honest) (c.force.ensures.reaches list ready.blocks ready.records) c.force.ensures.next (c.force.ensures.past ready.blocks.honest)) c.force.ensures.worn.0;
+          (log_calls c.force.result log.geometry log.ring.hi c.force.new.self.ring.hi list (has_tail log) site new (c.force.ensures.changes ready.blocks.honest) (c.force.ensures.reaches list ready.blocks ready.records) c.force.ensures.next (c.force.ensures.past ready.blocks.honest));
       quiet = λ quiet. quiet_stops c.force.result new site quiet (λ is. ap g.S.Site.state (c.force.ensures.unchanged (inr (c.force.ensures.worn.0 is).1))) c.force.ensures.stops;
       worn_log = λ is. (let worn = (c.force.ensures.worn.0 is).1 in log_at_end log site new ready.blocks (ap g.S.Site.state (c.force.ensures.unchanged (inr worn))) worn);
       masters = ok_as c.force.result _ (KeepsUnits master_shape site.image new.image)

@@ -1,5 +1,4 @@
-use Rattle.redo_undo.proofs.Fillings.{fills_beside}
-use Rattle.std.proofs.Common.{refl, ◌≡◌, ◌+◌, ◌∷◌, [], ◌++◌, length, sym, ap, subst, arith}
+use Rattle.std.proofs.Common.{refl, ◌≡◌, ◌∷◌, [], ◌++◌, sym, ap, subst, arith}
 use Rattle.slotted_page.specs.Layout.{lsn_of}
 use Rattle.site.specs.declared.geometry.Geometry.{Geometry}
 use Rattle.page_store.specs.Representation.{current}
@@ -60,9 +59,6 @@ returns-then-front_lsn-lsn-clause-stages g c = stages_err (stages_log c.in-Ok.en
 
 pub returns-clause-stages : goal.returns-clause-stages
 returns-clause-stages g c = stages_between {mid = c.args.pages.now} {new = c.args.pages.now} refl c.change_front.ensures.flash (stages_ok (stages_log c.in-Ok.ensures.works))
-
-pub returns-clause-fills : goal.returns-clause-fills
-returns-clause-fills g c = fills_beside (ap (λ (f : FlashCache). f.directory.first + length f.directory.groups) c.change_front.ensures.flash) (c.in-Ok.ensures.fills c.args.pages.now)
 
 -- What it makes of the machine.
 

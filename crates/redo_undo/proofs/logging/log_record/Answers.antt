@@ -1,7 +1,6 @@
-use Rattle.log_store.proofs.TailLaws.{spelling_short}
-use Rattle.redo_undo.proofs.Fillings.{append_fills}
+use Rattle.log_store.proofs.TailLaws.{full_tail, spelling_short}
 use Rattle.page_store.proofs.PushLaws.{log_fits}
-use Rattle.std.proofs.Common.{List, ◌≡◌, ◌≤◌, ◌<◌, Bool, true, ◌∷◌, [], ◌++◌, ap, inr, ℕ, refl}
+use Rattle.std.proofs.Common.{List, ◌≡◌, ◌≤◌, ◌<◌, Bool, true, ◌∷◌, [], ◌++◌, ap, inr, ℕ}
 use Rattle.std.specs.Prelude.{IfOk, Option}
 use Rattle.log_records.specs.Sound.{AreOrderly}
 use Rattle.image_meaning.specs.Meaning.{versions_on}
@@ -159,15 +158,12 @@ returns-clause-keeps g c pages newest records table commits h =
       numbers = λ going quiet. log_skips c.ring_kept.ensures c.append.result log.geometry log c.append.new.self list sealing site new 1 (ready_next pages log list site ready) full
           (c.append.ensures.any_moment list (log_fits log site quiet ready.blocks) ready.records) (c.append.ensures.front list (log_fits log site quiet ready.blocks) ready.records quiet)
           (ok_by c.append.result _ _ (λ lsn is. most_blocks log c.append.new.self lsn sealing full is) (numbered g c))
-          (log_calls c.append.result log.geometry log.ring.hi c.append.new.self.ring.hi list sealing site new (c.append.ensures.changes ready.blocks.honest) (c.append.ensures.reaches list ready.blocks ready.records) c.append.ensures.next (c.append.ensures.past ready.blocks.honest)) c.append.ensures.worn.0;
+          (log_calls c.append.result log.geometry log.ring.hi c.append.new.self.ring.hi list sealing site new (c.append.ensures.changes ready.blocks.honest) (c.append.ensures.reaches list ready.blocks ready.records) c.append.ensures.next (c.append.ensures.past ready.blocks.honest));
       quiet = λ quiet. quiet_stops c.append.result new site quiet (λ is. ap g.S.Site.state (c.append.ensures.unchanged (inr (c.append.ensures.worn.0 is).1))) c.append.ensures.stops;
       worn_log = λ is. (let worn = (c.append.ensures.worn.0 is).1 in log_at_end log site new ready.blocks (ap g.S.Site.state (c.append.ensures.unchanged (inr worn))) worn);
       masters = ok_as c.append.result _ (KeepsUnits master_shape site.image new.image)
           (λ reaches. c.ring_kept.ensures log.geometry Masters (changes_if sealing list) site.image new.image (seals_only sealing list) reaches) (c.append.ensures.reaches list ready.blocks ready.records);
     }
-
-pub returns-clause-fills : goal.returns-clause-fills
-returns-clause-fills g c pages = append_fills c.append.result (overflows c.args.log.now c.args.rec.now) _ c.args.log.now c.append.new.self pages (spelling_short c.args.rec.now c.requires.form) refl c.append.ensures.next c.append.ensures.lsn c.append.ensures.end
 
 pub returns-clause-performs : goal.returns-clause-performs
 returns-clause-performs g c pages newest records table commits going h =
@@ -176,6 +172,6 @@ returns-clause-performs g c pages newest records table commits going h =
     let site = g.S.Site.state c.args.site.now in
     let new = g.S.Site.state c.append.new.site in
     subst (λ (n : ℕ). Performs c.append.result (rules_of_pages pages) (logged n ∷ []) (Mirrors log pages site.image) (Mirrors c.append.new.self pages new.image)) (octets_spelled rec)
-    (logged_performs log c.append.new.self pages site new (record { high = c.requires.going.high; each = h.below }) c.append.result (length (spelling rec)) (record { worn_log = c.append.ensures.worn.0; stops = c.append.ensures.stops }) c.append.ensures.next
+    (logged_performs log c.append.new.self pages site new (record { high = c.requires.going.high; each = h.below }) c.append.result (length (spelling rec)) (λ over. full_tail log.used (length (spelling rec)) (spelling_short rec c.requires.form) over) (record { worn_log = c.append.ensures.worn.0; stops = c.append.ensures.stops }) c.append.ensures.next
     (logged_used c.append.result (overflows log rec) (length (spelling rec)) log c.append.new.self c.append.ensures.next c.append.ensures.lsn c.append.ensures.end)
     (returns-clause-pages g c pages newest records table commits h).current (numbers_left c.append.ensures.going going.pages_going))

@@ -10,15 +10,15 @@ use Rattle.record_model.specs.Touches.{touch}
 use Rattle.page_store.proofs.StagingLaws.{stages_as}
 use Rattle.redo_undo.proofs.Costs.{touched_next}
 use Rattle.second_chance.specs.Machine.{rules_of, staged_by}
-use Rattle.page_store.specs.Caching.{cache_of, rules, pushes, next_group}
-use Rattle.redo_undo.proofs.Fillings.{forced_pushes, forced_touch, touch_finds_room, used_where}
-use Rattle.redo_undo.proofs.Asking.{touch_overflows, touch_reads}
-use Rattle.redo_undo.proofs.Mirroring.{numbers_left, touch_performs}
+use Rattle.page_store.specs.Caching.{cache_of, rules}
+use Rattle.redo_undo.proofs.Asking.{touch_reads}
+use Rattle.redo_undo.proofs.Mirroring.{numbers_left, touch_performs, used_where}
+use Rattle.redo_undo.proofs.Resting.{rests_touched}
 use Rattle.image_meaning.specs.Meaning.{kept_by}
 use Rattle.redo_undo.proofs.UndoneNumbers.{skips_touch}
 use Rattle.image_changes.specs.Rings.{KeepsUnits, master_shape}
 use Rattle.site.proofs.Working.{ok_as}
-use Rattle.std.proofs.Common.{sym, subst, append-nil}
+use Rattle.std.proofs.Common.{sym, subst, append-nil, true≢false}
 use Rattle.site.specs.declared.geometry.Geometry.{Geometry}
 use Rattle.redo_undo.specs.Holding.{RepresentsIn, Represents}
 use Rattle.redo_undo.proofs.Touched.{forced_tail, leaves_table, touched_holds}
@@ -69,7 +69,7 @@ returns g c =
           record {
             ends = ends_by_pages (c.touch.ensures.keeps list ready) (λ quiet. leaves_table c.log_laws.ensures c.page_laws.ensures log pages site newest records table commits h c.requires.going.pages_going.own sealing tail new
                 ((c.touch.ensures.keeps list ready).any_moment quiet) ((c.touch.ensures.keeps list ready).ahead_moment quiet h.log_holds.ahead) ((c.touch.ensures.keeps list ready).rings_moment newest quiet h.log_holds.rings));
-            numbers = λ quiet. pages_skip c.touch.result pages.flash.geometry (current pages site.image) log c.touch.new.log list sealing site new (ready_next pages log list site ready) tail ((c.touch.ensures.keeps list ready).any_moment quiet) c.touch.ensures.works.forces.end (ok_as c.touch.result _ _ (λ stands. stands.past) (c.touch.ensures.stands list ready)) c.touch.ensures.worn.worn_log;
+            numbers = λ quiet. pages_skip c.touch.result pages.flash.geometry (current pages site.image) log c.touch.new.log list sealing site new (ready_next pages log list site ready) tail ((c.touch.ensures.keeps list ready).any_moment quiet) c.touch.ensures.works.forces.end (ok_as c.touch.result _ _ (λ stands. stands.past) (c.touch.ensures.stands list ready));
             masters = λ none. ok_as c.touch.result _ (KeepsUnits master_shape site.image new.image) (λ stands. stands.leaves.masters) (c.touch.ensures.stands list ready);
           };
       redoing = redoing_now g c;
@@ -79,27 +79,20 @@ returns g c =
           record {
             ends = ends_by_pages (c.touch.ensures.keeps list h.ready) (λ quiet. touch_leaves c.page_laws.ensures c.redo_laws.ensures o log pages site front h sealing never new ((c.touch.ensures.keeps list h.ready).any_moment quiet)
                 (rings_of o log pages site front h new ((c.touch.ensures.keeps list h.ready).rings_moment o.newest quiet (rings_given o log pages site front h))) c.requires.going.pages_going.own);
-            numbers = λ quiet. skips_touch c.page_laws.ensures c.redo_laws.ensures o log pages site front h sealing never new c.touch.result c.touch.new.log c.touch.new.self ((c.touch.ensures.keeps list h.ready).any_moment quiet) (redoing_now g c o front h) (ok_as c.touch.result _ _ (λ stands. stands.past) (c.touch.ensures.stands list h.ready)) c.touch.ensures.worn.worn_log;
+            numbers = λ quiet. skips_touch c.page_laws.ensures c.redo_laws.ensures o log pages site front h sealing never new c.touch.result c.touch.new.log c.touch.new.self ((c.touch.ensures.keeps list h.ready).any_moment quiet) (redoing_now g c o front h) (ok_as c.touch.result _ _ (λ stands. stands.past) (c.touch.ensures.stands list h.ready));
             masters = λ none. ok_as c.touch.result _ (KeepsUnits master_shape site.image new.image) (λ stands. stands.leaves.masters) (c.touch.ensures.stands list h.ready);
           };
+      at_rest = λ o front h.
+          let never : sealing ≡ false = never_forced log (pushed_by_touch pages c.args.page) h.ready.records.tail.end in
+          rests_touched c.touch.result c.args.page pages c.touch.new.self (some_group c.requires.going) c.requires.going.pages_going.flash.next (λ says. true≢false (sym (c.touch.ensures.worn.worn_log says).0 ∙ never)) c.touch.ensures.worn.worn_flash
+          c.touch.ensures.works.stops c.touch.ensures.machine (numbers_left c.touch.ensures.works.log_going c.touch.ensures.works.going).groups;
       asks =
           let new = c.touch.new.self in
           record {
             machine = c.touch.ensures.machine;
-            worn = λ is. (let full = c.touch.ensures.worn.worn_flash is in touch_overflows (rules pages) c.args.page (cache_of pages) (some_group c.requires.going) full.0 (c.requires.going.pages_going.flash.next ∙ full.1));
             reads = touch_reads (rules pages) c.args.page (cache_of pages) (g.S.Site.state c.args.site.now) (g.S.Site.state c.touch.new.site) (some_group c.requires.going) c.touch.ensures.flash_reads c.touch.ensures.disk_reads;
             stages = stages_as (sym (append-nil (staged_by (rules pages) (touch c.args.page false) (cache_of pages)))) (sym (touched_next (rules pages) c.args.page false (cache_of pages) (some_group c.requires.going))) c.touch.ensures.stages;
             rules_are = (λ i. rules_of (c.touch.ensures.works.size i) (c.touch.ensures.works.geometry i).groups);
-          };
-      fills = λ newest records table commits h.
-          let ready = h.log_holds.ready in
-          let list : LogList = record { first = kept_by newest; blocks = h.log_holds.blocks; tail = h.log_holds.tail } in
-          let old = ready.records.tail.end in
-          record {
-            room = touch_finds_room c.touch.result sealing (pushes (rules pages) c.args.page (cache_of pages)) (forced_pushes log pages c.args.page) log c.touch.new.log pages c.touch.new.self c.requires.going.log_going.low c.touch.ensures.works.forces.next
-                (ok_as c.touch.result _ _ (λ stands. stands.ready.records.tail.end ∙ used_where sealing list ∙ ap (λ (n : ℕ). if sealing then 2 else n) (sym old)) (c.touch.ensures.stands list ready))
-                (ok_as c.touch.result _ _ (λ machine. ap next_group machine ∙ touched_next (rules pages) c.args.page false (cache_of pages) (some_group c.requires.going)) c.touch.ensures.machine);
-            worn = λ is. forced_touch log pages c.args.page (some_group c.requires.going) (c.touch.ensures.worn.worn_log is).0;
           };
       performs = λ newest records table commits h.
           let list : LogList = record { first = kept_by newest; blocks = h.log_holds.blocks; tail = h.log_holds.tail } in

@@ -5,7 +5,7 @@ use Rattle.checkpoint.specs.declared.master.Master.{Master}
 use Rattle.checkpoint.specs.Newest.{seen}
 use Rattle.image_meaning.specs.Meaning.{kept_by, saved_by, picture_under}
 use Rattle.analysis.specs.Read.{IsAnalysis}
-use Rattle.redo_undo.specs.Redoing.{Opening, IsOpened, asked_of, HasTaken}
+use Rattle.redo_undo.specs.Redoing.{AsksAtRest, Opening, IsOpened, asked_of, HasTaken}
 use Rattle.log_laws.proofs.LogBlocks.{block_of, log_split}
 use Rattle.redo_undo.proofs.CallsInSequence.{going_still, opened_holds, some_group}
 use Rattle.redo_undo.proofs.Redoings.{begins, holds_all}
@@ -15,7 +15,6 @@ use Rattle.site.specs.declared.outside.Dev.TheVariants.{Log}
 use Rattle.redo_undo.proofs.Asking.{stages_read}
 use Rattle.redo_undo.proofs.RedoWorks.{stops_first, stops_reading, asks_with_read, asks_more, asks_all, stops_within}
 use Rattle.redo_undo.specs.Calls.{Keeps, ReadsOne}
-use Rattle.redo_undo.specs.MachineSteps.{StepsMachine}
 use Rattle.image_meaning.specs.Moments.{LeavesTableUnder}
 use Rattle.log_records.specs.declared.log_record.LogRecord.{LogRecord}
 use Rattle.record_model.specs.State.{Content}
@@ -25,7 +24,7 @@ use Rattle.redo_undo.proofs.Calling.{calls_read, keeps_answered, keeps_failed, k
 use Rattle.site.proofs.Working.{calls_then, no_error, of_error}
 use Rattle.redo_undo.proofs.redo_pass.redo.Given.{Over}
 use Rattle.redo_undo.proofs.redo_pass.redo.Goals.{In-Ok-read_block, After-loop-block}
-use Rattle.redo_undo.proofs.AskingUndo.{not_worn}
+use Rattle.redo_undo.proofs.UndoneWork.{read_refuses}
 use Rattle.redo_undo.proofs.redo_pass.redo.Goals as goal
 
 abbrev opening : PageStore → State → Option Master → List (List LogRecord) → List Content → ℕ → Opening
@@ -114,7 +113,7 @@ module _ (g : Over) (c : In-Ok-read_block g) (newest : Option Master) (blocks : 
       (c.in-Ok-read_block.ensures.holds (record { first = kept_by newest; blocks = blocks; tail = [] }) found up.taken.pages_are.ready.records
       (let from = up.from in omega (arith, from)))
 
-  asked_now : StepsMachine {T = ⊤} (Ok tt) (asked_of o (log_from (kept_by newest) (take (c.loop-block.block - kept_by newest) blocks))) c.args.pages.now
+  asked_now : AsksAtRest {T = ⊤} (Ok tt) (asked_of o (log_from (kept_by newest) (take (c.loop-block.block - kept_by newest) blocks))) c.args.pages.now
       c.loop-block.pages old read
   asked_now = asks_with_read o c.args.pages.now c.loop-block.pages old mid read (log_from (kept_by newest) (take (c.loop-block.block - kept_by newest) blocks))
       (c.loop-block.invariant.asked newest blocks table commits own h) c.read_block.ensures.reads.others (stages_read c.read_block.ensures.same c.read_block.ensures.goes)
@@ -227,7 +226,7 @@ returns-in-Err-clause-asks g c newest blocks table commits own h =
     let pages = c.args.pages.now in
     stops_first c.in-Err.stop (asked_of (opening pages site newest blocks table commits) (log_from (kept_by newest) blocks)) pages site
     (some_group c.requires.going)
-    (λ same. let memory = c.in-Err.ensures.stops in cc)
+    (λ dev same. let memory = c.in-Err.ensures.stops in cc)
 
 -- A block isn't read.
 
@@ -246,7 +245,7 @@ returns-in-Err-read_block-clause-asks g c newest blocks table commits own h =
     (c.loop-block.invariant.asked newest blocks table commits own h) {A = ⊤} c.in-Err-read_block.stop [] _ (log_from (kept_by newest) blocks)
     (some_group c.requires.going)
     (log_split (kept_by newest) (c.loop-block.block - kept_by newest) c.loop-block.block blocks (omega (arith, from, c.kept-block.ensures, own_kept)) inside)
-    (stops_reading c.in-Err-read_block.stop pages mid read c.read_block.ensures.reads.others (not_worn c.in-Err-read_block.stop c.in-Err-read_block.ensures.stops) (stages_read c.read_block.ensures.same c.read_block.ensures.goes))
+    (stops_reading c.in-Err-read_block.stop pages mid read c.read_block.ensures.reads.others (read_refuses c.in-Err-read_block.stop c.in-Err-read_block.ensures.stops) (stages_read c.read_block.ensures.same c.read_block.ensures.goes))
 
 pub returns-in-Err-read_block-clause-keeps : goal.returns-in-Err-read_block-clause-keeps
 returns-in-Err-read_block-clause-keeps g c newest blocks table commits own h =

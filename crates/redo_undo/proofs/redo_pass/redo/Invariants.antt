@@ -7,8 +7,7 @@ use Rattle.analysis.specs.Open.{owed_for}
 use Rattle.analysis.specs.Table.{listed}
 use Rattle.analysis.specs.Read as read
 use Rattle.redo_undo.specs.Holding.{blocks_to}
-use Rattle.redo_undo.specs.Redoing.{IsOpened, asked_of}
-use Rattle.redo_undo.specs.MachineSteps.{StepsMachine}
+use Rattle.redo_undo.specs.Redoing.{AsksAtRest, IsOpened, asked_of}
 use Rattle.redo_undo.proofs.TakenRecords.{IsUpTo}
 use Rattle.image_meaning.specs.Meaning.{kept_by, saved_by}
 use Rattle.checkpoint.specs.declared.master.Master.{Master}
@@ -33,7 +32,7 @@ invariant-loop-block g l =
       up_to : (newest : Option Master) (blocks : List (List LogRecord)) (table : List Content) (commits : ℕ) → l.master ≡ saved_by newest → IsOpened l.fn.pages.flash.geometry l.fn.log l.fn.pages old newest blocks table commits →
           IsUpTo (record { sizes = l.fn.pages.flash.geometry; image = old.image; newest = newest; blocks = blocks; table = table; commits = commits }) l.log l.pages old now l.so_far l.block;
       asked : (newest : Option Master) (blocks : List (List LogRecord)) (table : List Content) (commits : ℕ) → l.master ≡ saved_by newest → IsOpened l.fn.pages.flash.geometry l.fn.log l.fn.pages old newest blocks table commits →
-          StepsMachine {T = ⊤} (Ok tt) (asked_of (record { sizes = l.fn.pages.flash.geometry; image = old.image; newest = newest; blocks = blocks; table = table; commits = commits }) (log_from (kept_by newest) (take (l.block - kept_by newest) blocks))) l.fn.pages l.pages old now;
+          AsksAtRest {T = ⊤} (Ok tt) (asked_of (record { sizes = l.fn.pages.flash.geometry; image = old.image; newest = newest; blocks = blocks; table = table; commits = commits }) (log_from (kept_by newest) (take (l.block - kept_by newest) blocks))) l.fn.pages l.pages old now;
       keeps : (newest : Option Master) (blocks : List (List LogRecord)) (table : List Content) (commits : ℕ) → l.master ≡ saved_by newest → IsOpened l.fn.pages.flash.geometry l.fn.log l.fn.pages old newest blocks table commits →
           Keeps {T = Unit {0}} (Ok tt) l.fn.pages.flash.geometry l.fn.log l.log old now (LeavesTableUnder newest l.fn.pages.flash.geometry table commits old.told) 0 0;
     }

@@ -45,7 +45,7 @@ returns-then-front_lsn-lsn g c =
       keeps = λ o front rest h is. c.in-Ok.ensures.keeps_opened o front h;
       asks = λ o front rest h is.
           asks_known c.page_laws.ensures c.redo_laws.ensures o c.touch.new.log pages site front (c.in-Ok.ensures.redoing o front h) (record { lsn = c.args.lsn; rec = c.args.rec.now }) rest is
-          c.in-Some.page on.0 on.1 on.2 c.args.pages.now (g.S.Site.state c.args.site.now) _ c.in-Ok.ensures.asks
+          c.in-Some.page on.0 on.1 on.2 c.args.pages.now (g.S.Site.state c.args.site.now) _ (record { asks = c.in-Ok.ensures.asks; performs = c.in-Ok.ensures.at_rest o front h })
           (front_knows pages site.image c.args.rec.now c.args.lsn c.in-Some.page c.in-Ok.ensures.there c.in-Ok.ensures.front on
           (omega (arith, c.front_lsn.ensures, c.if-front_lsn-lsn.true)) c.in-Some.page on.0 on.1 on.2);
       logs_nothing = logs_answered c.in-Ok.ensures.logs_nothing;
@@ -74,7 +74,7 @@ returns g c =
           ap (λ page. lsn_of (current pages site.image page)) (sym c.in-Ok.ensures.front) ∙ ap lsn_of
           (front_is_current pages site.image c.in-Ok.ensures.there) in
           asks_redone c.page_laws.ensures c.redo_laws.ensures o c.touch.new.log pages site front (c.in-Ok.ensures.redoing o front h) (record { lsn = c.args.lsn; rec = c.args.rec.now }) rest is
-          c.in-Some.page on.0 on.1 on.2 c.args.pages.now (g.S.Site.state c.args.site.now) _ c.in-Ok.ensures.asks
+          c.in-Some.page on.0 on.1 on.2 c.args.pages.now (g.S.Site.state c.args.site.now) _ (record { asks = c.in-Ok.ensures.asks; performs = c.in-Ok.ensures.at_rest o front h })
           (omega (arith, content, c.front_lsn.ensures, c.if-front_lsn-lsn.false)) c.change_front.new.pages
           (some_group c.requires.going) c.change_front.ensures.machine
           (λ i. rules_of (c.change_front.ensures.size i) (c.change_front.ensures.flash i).geometry.groups) c.change_front.ensures.flash;
@@ -83,13 +83,13 @@ returns g c =
 
 pub returns-then-page-geometry-clause-asks : goal.returns-then-page-geometry-clause-asks
 returns-then-page-geometry-clause-asks g c o front rest h is =
-    stops_first Foreign (touches_of o (record { lsn = c.args.lsn; rec = c.args.rec.now } ∷ [])) c.args.pages.now (g.S.Site.state c.args.site.now) (some_group c.requires.going) (λ same. cc)
+    stops_first Foreign (touches_of o (record { lsn = c.args.lsn; rec = c.args.rec.now } ∷ [])) c.args.pages.now (g.S.Site.state c.args.site.now) (some_group c.requires.going) (λ dev same. cc)
 
 pub returns-in-Err-clause-asks : goal.returns-in-Err-clause-asks
 returns-in-Err-clause-asks g c o front rest h is =
     let on = c.in-Some.ensures.on in
     stops_in_touch c.in-Err.stop o (record { lsn = c.args.lsn; rec = c.args.rec.now }) c.in-Some.page on.0 c.args.pages.now c.touch.new.pages (g.S.Site.state c.args.site.now) (g.S.Site.state c.touch.new.site)
-    on.1 on.2 (some_group c.requires.going) c.in-Err.ensures.asks
+    on.1 on.2 (some_group c.requires.going) (record { asks = c.in-Err.ensures.asks; performs = c.in-Err.ensures.at_rest o front h })
 
 -- the page exists
 pub returns-then-page-geometry-clause-keeps : goal.returns-then-page-geometry-clause-keeps

@@ -8,7 +8,7 @@ use Rattle.redo_undo.proofs.CallsInSequence.{some_group}
 use Rattle.redo_undo.proofs.Compensations.{may_moved}
 use Rattle.redo_undo.proofs.Appended.{if_ok_one}
 use Rattle.second_chance.specs.Machine.{rules_of}
-use Rattle.redo_undo.proofs.AskingUndo.{change_made, change_stopped, never_worn}
+use Rattle.redo_undo.proofs.AskingUndo.{change_made, change_stopped}
 use Rattle.redo_undo.proofs.Calling.{keeps_failed, keeps_few, keeps_then, works_then}
 use Rattle.std.proofs.lemmas.Grind.{common_steps}
 use Rattle.redo_undo.proofs.undo.compensate.Goals as goal
@@ -49,7 +49,7 @@ returns-in-Ok g c =
       asks =
           change_made tt c.log_change.result c.args.wanted.page _ _ _ (g.S.Site.state c.args.site.now) (g.S.Site.state c.touch.new.site) (g.S.Site.state c.log_change.new.site) (some_group c.requires.going) c.touch_then_change.ensures
           c.in-Ok.ensures.asks c.log_change.ensures.machine (λ i. rules_of (c.log_change.ensures.works.size i) (c.log_change.ensures.works.geometry i).groups) c.log_change.ensures.reads
-          (never_worn c.log_change.result c.log_change.ensures.stops) c.log_change.ensures.stages;
+          c.log_change.ensures.stages;
       performs = λ newest records table commits h.
           performs_as (sym (back_is w.page w.slot (front_of c.touch.new.pages.pool.frames).page w.before c.requires.form.0 c.in-Ok.ensures.front))
           (performs_then (c.in-Ok.ensures.performs newest records table commits h) (performs_by (sym c.in-Ok.ensures.asks.rules_are) (c.log_change.ensures.performs newest records table commits (c.in-Ok.ensures.holds newest records table commits h))));

@@ -1,8 +1,8 @@
-use Rattle.std.specs.Prelude.{IsErrOf, ⊤, Option, Result}
-use Rattle.std.proofs.Common.{List, Ok, Err, inr, ◌≤◌, ◌≡◌, ◌+◌, ◌++◌, ◌∷◌, [], length, refl, sym, ap, subst, ◌∙◌, arith, ℕ, true≢false}
+use Rattle.std.specs.Prelude.{⊤, Option, Result}
+use Rattle.std.proofs.Common.{List, Ok, Err, ◌≤◌, ◌≡◌, ◌+◌, ◌++◌, ◌∷◌, [], length, refl, sym, ap, subst, ◌∙◌, arith, ℕ, true≢false}
 use Rattle.site.specs.declared.geometry.Geometry.{Geometry}
-use Rattle.site.specs.declared.outside.Dev.TheVariants.{Log, Flash}
-use Rattle.site.specs.declared.outside.Stop.TheVariants.{Worn, Foreign}
+use Rattle.site.specs.declared.outside.Dev.TheVariants.{Log}
+use Rattle.site.specs.declared.outside.Stop.TheVariants.{Foreign}
 use Rattle.log_records.specs.declared.log_record.LogRecord.TheVariants.{End}
 use Rattle.log_records.specs.Unfinished.{left_open, owed}
 use Rattle.redo_undo.specs.Holding.{Represents, MayGrow, blocks_to}
@@ -22,11 +22,11 @@ use Rattle.redo_undo.proofs.CallsInSequence.{going_still, some_group}
 use Rattle.redo_undo.proofs.Rollbacks.{none_remains, room_for_end, may_end, owes_all, rolls_back}
 use Rattle.page_store.specs.Caching.{rules}
 use Rattle.redo_undo.specs.MachineSteps.{StepsMachine, undo_one_works}
-use Rattle.redo_undo.proofs.AskingUndo.{SameElse, log_alone, none_read, not_worn, not_worn_flash, asks_refused, asks_later, asks_before}
+use Rattle.redo_undo.proofs.AskingUndo.{SameElse, log_alone, none_read, asks_refused, asks_later, asks_before}
 use Rattle.redo_undo.proofs.Calling.{calls_read, held_read, keeps_answered, keeps_appended, keeps_failed, keeps_few, keeps_read, keeps_then, works_answered, works_appended, works_foreign, works_read, works_stopped, works_then}
 use Rattle.site.proofs.Working.{calls_then}
 use Rattle.page_store.proofs.StagingLaws.{stages_ok, stages_err, stages_none}
-use Rattle.redo_undo.proofs.Asking.{stop_is, asks_err, stages_read, stages_log}
+use Rattle.redo_undo.proofs.Asking.{asks_err, stages_read, stages_log}
 use Rattle.redo_undo.proofs.undo.undo_one.Given.{Over}
 use Rattle.redo_undo.proofs.undo.undo_one.Goals.{After-undo_updates, In-Ok-undo_updates}
 use Rattle.redo_undo.proofs.undo.undo_one.Goals as goal
@@ -101,14 +101,14 @@ module _ (g : Over) (c : In-Ok-undo_updates g) (newest : Option Master) (records
   performs_all r log new end = subst (λ (t : ℕ). PerformsOn r (undo_one_work records t) c.args.log.now log c.args.pages.now c.undo_updates.new.pages old new) own (performs_then performed (performs_by (sym same_rules) end))
 
   -- a call behind it asks no more
-  asks_all : (r : Result ⊤ Stop) (new : State) → SameElse site new → (IsErrOf r (Worn Flash) → ⊥) →
+  asks_all : (r : Result ⊤ Stop) (new : State) → SameElse site new →
       Stages r [] (next_group (cache_of c.undo_updates.new.pages)) c.undo_updates.new.pages c.undo_updates.new.pages site new →
       StepsMachine r (undo_one_works records c.args.txn) c.args.pages.now c.undo_updates.new.pages old new
-  asks_all r new same other stages =
+  asks_all r new same stages =
       let pages = c.args.pages.now in
       let pages' = c.undo_updates.new.pages in
       subst (λ (t : ℕ). StepsMachine r (undo_one_works records t) pages pages' old new) own
-      (asks_before c.in-Ok-undo_updates.at r (undo_one_works records x.txn) pages pages' old site new (some_group c.requires.going) same other stages
+      (asks_before c.in-Ok-undo_updates.at r (undo_one_works records x.txn) pages pages' old site new (some_group c.requires.going) same stages
       (asks_later (Ok c.in-Ok-undo_updates.at) (undo_one_works records x.txn) pages pages' old mid site (log_alone old mid c.read_last.ensures.reads.others)
       (stages_read c.read_last.ensures.reads.same c.read_last.ensures.reads.goes)
       (c.in-Ok-undo_updates.ensures.asks newest records table commits x still unfinished at)))
@@ -154,7 +154,7 @@ returns-in-Ok-log_record g c =
           let s = (goal.at.returns-in-Ok-log_record g c).In-Ok-undo_updates in
           asks_all g s newest records table commits x h unfinished own last (Ok tt) new
           (none_read (g.S.Site.state c.undo_updates.new.site) new c.log_record.ensures.works.reads)
-          (λ (is : IsErrOf {T = ⊤} (Ok tt) (Worn Flash)). cc) (stages_ok (stages_log c.in-Ok-log_record.ensures.works));
+          (stages_ok (stages_log c.in-Ok-log_record.ensures.works));
       performs = λ newest records table commits x h unfinished own last.
           let s = (goal.at.returns-in-Ok-log_record g c).In-Ok-undo_updates in
           let done = done g s newest records table commits x h unfinished own last in
@@ -184,7 +184,7 @@ returns-then-not-has_room g c =
       asks = λ newest records table commits x h unfinished own last.
           asks_all g (goal.at.returns-then-not-has_room g c).In-Ok-undo_updates newest records table commits x h unfinished own last (Err Foreign) _
           (record { flash = refl; disk = refl })
-          (λ is. not_worn Foreign (inr refl) (stop_is Foreign (Worn Flash) is)) (stages_none tt (omega arith) refl);
+          (stages_none tt (omega arith) refl);
       performs = λ newest records table commits x h unfinished own last. performs_refused (λ dev same. cc);
       works = works_foreign (works_then (works_read c.requires.going c.in-Ok.ensures.reads) c.in-Ok-undo_updates.ensures.works);
     }
@@ -211,7 +211,6 @@ returns-in-Err-log_record g c =
       asks = λ newest records table commits x h unfinished own last.
           asks_all g s newest records table commits x h unfinished own last (Err stop) new
           (none_read (g.S.Site.state c.undo_updates.new.site) new c.log_record.ensures.works.reads)
-          (λ is. not_worn_flash stop c.in-Err-log_record.ensures.stops (stop_is stop (Worn Flash) is))
           (stages_err (stages_log c.in-Err-log_record.ensures.works));
       performs = λ newest records table commits x h unfinished own last.
           let s = (goal.at.returns-in-Err-log_record g c).In-Ok-undo_updates in
@@ -223,7 +222,7 @@ returns-in-Err-log_record g c =
 
 pub returns-in-Err-clause-asks : goal.returns-in-Err-clause-asks
 returns-in-Err-clause-asks g c newest records table commits x h unfinished own last =
-    asks_refused c.in-Err.stop (undo_one_works records c.args.txn) c.args.pages.now _ _ (some_group c.requires.going) (not_worn c.in-Err.stop c.in-Err.ensures.reads.stops) (log_alone _ _ c.read_last.ensures.reads.others)
+    asks_refused c.in-Err.stop (undo_one_works records c.args.txn) c.args.pages.now _ _ (some_group c.requires.going) (log_alone _ _ c.read_last.ensures.reads.others)
     (stages_read c.in-Err.ensures.reads.same c.in-Err.ensures.reads.goes)
 
 pub returns-in-Err-undo_updates-clause-asks : goal.returns-in-Err-undo_updates-clause-asks

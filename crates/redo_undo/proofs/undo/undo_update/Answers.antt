@@ -1,4 +1,4 @@
-use Rattle.std.proofs.Common.{◌*◌, ◌+◌, true≢false, Ok, Err, inr, ◌∷◌, [], refl, sym, ap, subst, ◌∙◌, arith}
+use Rattle.std.proofs.Common.{◌*◌, ◌+◌, true≢false, Ok, Err, ◌∷◌, [], refl, sym, ap, subst, ◌∙◌, arith}
 use Rattle.site.specs.declared.geometry.Geometry.{Geometry}
 use Rattle.site.specs.State.{Image}
 use Rattle.log_records.specs.declared.log_record.LogRecord.TheVariants.{Clr}
@@ -8,7 +8,7 @@ use Rattle.redo_undo.proofs.Compensations.{may_compensate, room_for_clr, owes_le
 use Rattle.site.specs.declared.outside.Stop.TheVariants.{Foreign}
 use Rattle.page_store.specs.Caching.{rules}
 use Rattle.redo_undo.specs.UndoWorks.{works_of}
-use Rattle.redo_undo.proofs.AskingUndo.{log_alone, not_worn, asks_refused, asks_of_update}
+use Rattle.redo_undo.proofs.AskingUndo.{log_alone, asks_refused, asks_of_update}
 use Rattle.redo_undo.proofs.Calling.{calls_read, held_read, keeps_answered, keeps_failed, keeps_few, keeps_read, keeps_then, works_answered, works_read, works_then}
 use Rattle.redo_undo.proofs.Asking.{asks_err, asks_ok, stages_read}
 use Rattle.std.proofs.lemmas.Grind.{common_steps}
@@ -57,13 +57,13 @@ returns g c =
 
 pub returns-in-Err-clause-asks : goal.returns-in-Err-clause-asks
 returns-in-Err-clause-asks g c newest records table commits x u rest h unfinished at left =
-    asks_refused c.in-Err.stop (works_of (u ∷ [])) _ (g.S.Site.state c.args.site.now) (g.S.Site.state c.read_update.new.site) (some_group c.requires.going) (not_worn c.in-Err.stop c.in-Err.ensures.reads.stops)
+    asks_refused c.in-Err.stop (works_of (u ∷ [])) _ (g.S.Site.state c.args.site.now) (g.S.Site.state c.read_update.new.site) (some_group c.requires.going)
     (log_alone (g.S.Site.state c.args.site.now) (g.S.Site.state c.read_update.new.site) c.read_update.ensures.reads.others) (stages_read c.read_update.ensures.reads.same c.read_update.ensures.reads.goes)
 
 pub returns-then-not-has_room-clause-asks : goal.returns-then-not-has_room-clause-asks
 returns-then-not-has_room-clause-asks g c newest records table commits x u rest h unfinished at left =
     asks_refused Foreign (works_of (u ∷ [])) _ (g.S.Site.state c.args.site.now) (g.S.Site.state c.read_update.new.site)
-    (some_group c.requires.going) (not_worn Foreign (inr refl))
+    (some_group c.requires.going)
     (log_alone (g.S.Site.state c.args.site.now) (g.S.Site.state c.read_update.new.site) c.read_update.ensures.reads.others) (stages_read c.read_update.ensures.reads.same c.read_update.ensures.reads.goes)
 
 pub returns-in-Err-compensate-clause-asks : goal.returns-in-Err-compensate-clause-asks

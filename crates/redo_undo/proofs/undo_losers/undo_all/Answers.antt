@@ -1,5 +1,5 @@
 use Rattle.std.proofs.Common.{true, false, ℕ, List, ◌≡◌, ◌++◌, ◌+◌, [], ◌∙◌, arith, Ok, ◌*◌}
-use Rattle.std.specs.Prelude.{⊤, IsErrOf, Option, option_map}
+use Rattle.std.specs.Prelude.{⊤, Option, option_map}
 use Rattle.site.proofs.Working.{no_error}
 use Rattle.std.specs.List.{AllByRecursion}
 use Rattle.analysis.specs.Table.{listed}
@@ -7,12 +7,11 @@ use Rattle.redo_undo.proofs.CallsInSequence.{some_group}
 use Rattle.redo_undo.proofs.Opens.{none_listed, if_none, some_owed}
 use Rattle.image_meaning.specs.Meaning.{kept_by}
 use Rattle.redo_undo.proofs.Found.{order, all_undone, sealed_up_to, own_known}
-use Rattle.site.specs.declared.outside.Stop.TheVariants.{Worn}
-use Rattle.site.specs.declared.outside.Dev.TheVariants.{Flash, Log}
+use Rattle.site.specs.declared.outside.Dev.TheVariants.{Log}
 use Rattle.redo_undo.specs.MachineSteps.{undo_works}
 use Rattle.page_store.proofs.StagingLaws.{stages_ok, stages_err}
 use Rattle.redo_undo.proofs.Asking.{asks_nothing, stages_log}
-use Rattle.redo_undo.proofs.AskingUndo.{none_read, not_worn_either, asks_refused}
+use Rattle.redo_undo.proofs.AskingUndo.{none_read, asks_refused}
 use Rattle.checkpoint.specs.declared.master.Master.{Master}
 use Rattle.record_model.specs.State.{Content}
 use Rattle.log_records.specs.Log.{Entry, txn_of, last_where}
@@ -83,7 +82,7 @@ loop-next-init g c =
         done = [];
         updates = c.in-Ok.ensures.updates c.args.pages.now newest records table commits c.requires.going
             (undoing g (goal.at.loop-next-init g c).After-end_undone newest records table commits none h is);
-        asks = asks_nothing {T = ⊤} (Ok tt) c.args.pages.now _ (g.S.Site.state c.end_undone.new.site) c.end_undone.ensures.works.reads (λ (worn : IsErrOf {T = ⊤} (Ok tt) (Worn Flash)). cc) (stages_ok (stages_log c.in-Ok.ensures.works));
+        asks = asks_nothing {T = ⊤} (Ok tt) c.args.pages.now _ (g.S.Site.state c.end_undone.new.site) c.end_undone.ensures.works.reads (stages_ok (stages_log c.in-Ok.ensures.works));
         read = omega (arith, c.end_undone.ensures.works.reads Log);
         worked = ends_for (listed c.args.found.now.table);
         left_is =
@@ -148,7 +147,7 @@ returns-in-Err-undo_next-clause-log_reads g c =
 
 pub returns-in-Err-clause-asks : goal.returns-in-Err-clause-asks
 returns-in-Err-clause-asks g c newest records table commits none h is =
-    asks_refused c.in-Err.stop (undo_works records) _ _ _ (some_group c.requires.going) (not_worn_either c.in-Err.stop c.in-Err.ensures.stops) (none_read _ _ c.end_undone.ensures.works.reads) (stages_err (stages_log c.in-Err.ensures.works))
+    asks_refused c.in-Err.stop (undo_works records) _ _ _ (some_group c.requires.going) (none_read _ _ c.end_undone.ensures.works.reads) (stages_err (stages_log c.in-Err.ensures.works))
 
 pub returns-in-Err-undo_next-clause-asks : goal.returns-in-Err-undo_next-clause-asks
 returns-in-Err-undo_next-clause-asks g c newest records table commits none h is =

@@ -1,4 +1,4 @@
-use Rattle.std.proofs.Common.{◌≢◌, ◌++◌, [], ◌∷◌, inr, refl, drop, sym, subst, arith, ℕ}
+use Rattle.std.proofs.Common.{◌≢◌, ◌++◌, [], ◌∷◌, refl, drop, sym, subst, arith, ℕ}
 use Rattle.analysis.specs.Open.{Open, Replaces, TakesOut}
 use Rattle.analysis.specs.Table.{listed}
 use Rattle.redo_undo.specs.UndoingAll.{Remain, HasNone}
@@ -11,7 +11,7 @@ use Rattle.site.specs.declared.outside.Stop.TheVariants.{Foreign, Worn}
 use Rattle.redo_undo.specs.UndoWorks.{works_of, IsLastAt, UndoesUpdates}
 use Rattle.page_store.proofs.StagingLaws.{stages_none}
 use Rattle.redo_undo.proofs.Asking.{stages_log}
-use Rattle.redo_undo.proofs.AskingUndo.{none_read, not_worn, not_worn_either, never_worn, asks_refused, asks_before}
+use Rattle.redo_undo.proofs.AskingUndo.{none_read, not_worn_either, asks_refused, asks_before}
 use Rattle.redo_undo.proofs.UndoneUpdates.{more_updates}
 use Rattle.redo_undo.proofs.Opens.{some_owed}
 use Rattle.redo_undo.proofs.Calling.{keeps_few, keeps_then, ends_stop, works_beside, works_then}
@@ -72,7 +72,7 @@ returns-clause-updates g c newest records table commits u h last =
 
 pub returns-then-loser-known-clause-asks : goal.returns-then-loser-known-clause-asks
 returns-then-loser-known-clause-asks g c newest records table commits u h last =
-    asks_refused Foreign (works_of (u ∷ [])) _ (g.S.Site.state c.args.site.now) (g.S.Site.state c.args.site.now) (some_group c.requires.going) (not_worn Foreign (inr refl)) (record { flash = refl; disk = refl }) (stages_none tt (omega arith) refl)
+    asks_refused Foreign (works_of (u ∷ [])) _ (g.S.Site.state c.args.site.now) (g.S.Site.state c.args.site.now) (some_group c.requires.going) (record { flash = refl; disk = refl }) (stages_none tt (omega arith) refl)
 
 pub returns-in-Err-clause-asks : goal.returns-in-Err-clause-asks
 returns-in-Err-clause-asks g c newest records table commits u h last =
@@ -85,7 +85,7 @@ returns-then-loser-gt1-clause-asks g c newest records table commits u h last =
 pub returns-clause-asks : goal.returns-clause-asks
 returns-clause-asks g c newest records table commits u h last =
     asks_before c.in-Ok.last c.end_one.result (works_of (u ∷ [])) _ c.undo_greatest.new.pages (g.S.Site.state c.args.site.now) _ _ (some_group c.requires.going) (none_read _ _ c.end_one.ensures.works.reads)
-    (never_worn c.end_one.result c.end_one.ensures.stops) (stages_log c.end_one.ensures.works)
+    (stages_log c.end_one.ensures.works)
     (c.in-Ok.ensures.asks newest records table commits c.args.known u h (subst (λ (t : ℕ). IsLastAt records t c.args.next.1 u) (sym c.in-Some.ensures.named) last))
 
 pub returns-then-loser-known-clause-keeps : goal.returns-then-loser-known-clause-keeps

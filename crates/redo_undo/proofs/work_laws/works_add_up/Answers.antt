@@ -1,4 +1,4 @@
-use Rattle.redo_undo.proofs.Costs.{works_add_up, reads_add_up, reads_for_more, numbers_rise, overflows_with_more}
+use Rattle.redo_undo.proofs.Costs.{works_add_up, reads_add_up, reads_for_more, numbers_rise}
 use Rattle.redo_undo.proofs.work_laws.works_add_up.Goals as goal
 
 pub returns-clause-works : goal.returns-clause-works
@@ -12,6 +12,3 @@ returns-clause-more c = reads_for_more
 
 pub returns-clause-rise : goal.returns-clause-rise
 returns-clause-rise c = numbers_rise
-
-pub returns-clause-overflow : goal.returns-clause-overflow
-returns-clause-overflow c = overflows_with_more

@@ -1,5 +1,5 @@
 use Rattle.engine.specs.LogReads.{undo_reads}
-use Rattle.std.proofs.Common.{◌≡◌, ℕ, true, Some, refl, sym, ap, subst, ◌∙◌, arith, ◌≤◌, ◌+◌, inl}
+use Rattle.std.proofs.Common.{◌≡◌, ℕ, true, Some, refl, sym, ap, subst, ◌∙◌, arith, ◌≤◌, ◌+◌}
 use Rattle.std.specs.Prelude.{Result}
 use Rattle.site.specs.declared.outside.Stop.{Stop}
 use Rattle.site.specs.State.{State as Site, Snapshot}
@@ -16,7 +16,7 @@ use Rattle.engine.specs.Calls.{Does}
 use Rattle.engine.proofs.Actives.{some_active}
 use Rattle.txn_table.proofs.Owing.{entry_is}
 use Rattle.engine.proofs.Replies.{carried_out, wants_active_is, refused_session}
-use Rattle.engine.proofs.Calling.{answered, does_nothing, does_failed, asks_rest, still, no_stop}
+use Rattle.engine.proofs.Calling.{answered, does_nothing, does_failed, asks_rest, still}
 use Rattle.ring_machine.specs.Commands.{command_work, record_work, undoes}
 use Rattle.ring_machine.proofs.Performing.{performs_as}
 use Rattle.engine.proofs.Performing.{performs_rest}
@@ -38,15 +38,15 @@ carry_out_abort-requires-clause-active g c =
 pub returns-in_default-clause-answers : goal.returns-in_default-clause-answers
 returns-in_default-clause-answers g c s fits =
     answered (refused_session c.args.self.now _ s (Abort c.args.session) c.args.session fits (sym c.find.ensures.entry ∙ c.in_default.is) refl)
-    (does_nothing fits c.requires.going (still c.hold_together.ensures.moment fits c.requires.going)) refl asks_rest no_stop
+    (does_nothing fits c.requires.going (still c.hold_together.ensures.moment fits c.requires.going)) refl asks_rest
 
 pub returns-in-Ok-clause-answers : goal.returns-in-Ok-clause-answers
 returns-in-Ok-clause-answers g c s fits =
-    answered ((runs c.args.self.now _ s c.args.session c.in-Some.entry fits (sym c.find.ensures.entry ∙ c.in-Some.is)).0, ((runs c.args.self.now _ s c.args.session c.in-Some.entry fits (sym c.find.ensures.entry ∙ c.in-Some.is)).1.0 ∙ ap (λ (n : ℕ). record_touches s (Abort n)) (sym (entry_is c.args.self.now.active c.args.session c.in-Some.entry c.requires.going.table (sym c.find.ensures.entry ∙ c.in-Some.is)).session), tt {0})) (of_session _ _ (entry_is c.args.self.now.active c.args.session c.in-Some.entry c.requires.going.table (sym c.find.ensures.entry ∙ c.in-Some.is)).session (c.in-Ok.ensures.does s fits)) c.in-Ok.ensures.done (c.in-Ok.ensures.asks s fits) no_stop
+    answered ((runs c.args.self.now _ s c.args.session c.in-Some.entry fits (sym c.find.ensures.entry ∙ c.in-Some.is)).0, ((runs c.args.self.now _ s c.args.session c.in-Some.entry fits (sym c.find.ensures.entry ∙ c.in-Some.is)).1.0 ∙ ap (λ (n : ℕ). record_touches s (Abort n)) (sym (entry_is c.args.self.now.active c.args.session c.in-Some.entry c.requires.going.table (sym c.find.ensures.entry ∙ c.in-Some.is)).session), tt {0})) (of_session _ _ (entry_is c.args.self.now.active c.args.session c.in-Some.entry c.requires.going.table (sym c.find.ensures.entry ∙ c.in-Some.is)).session (c.in-Ok.ensures.does s fits)) c.in-Ok.ensures.done (c.in-Ok.ensures.asks s fits)
 
 pub returns-in-Err-clause-answers : goal.returns-in-Err-clause-answers
 returns-in-Err-clause-answers g c s fits =
-    answered ((runs c.args.self.now _ s c.args.session c.in-Some.entry fits (sym c.find.ensures.entry ∙ c.in-Some.is)).0, ((runs c.args.self.now _ s c.args.session c.in-Some.entry fits (sym c.find.ensures.entry ∙ c.in-Some.is)).1.0 ∙ ap (λ (n : ℕ). record_touches s (Abort n)) (sym (entry_is c.args.self.now.active c.args.session c.in-Some.entry c.requires.going.table (sym c.find.ensures.entry ∙ c.in-Some.is)).session), tt {0})) (does_failed (omega arith) (of_session _ _ (entry_is c.args.self.now.active c.args.session c.in-Some.entry c.requires.going.table (sym c.find.ensures.entry ∙ c.in-Some.is)).session (c.in-Err.ensures.does s fits))) tt (c.in-Err.ensures.asks s fits) (λ is. inl (omega arith))
+    answered ((runs c.args.self.now _ s c.args.session c.in-Some.entry fits (sym c.find.ensures.entry ∙ c.in-Some.is)).0, ((runs c.args.self.now _ s c.args.session c.in-Some.entry fits (sym c.find.ensures.entry ∙ c.in-Some.is)).1.0 ∙ ap (λ (n : ℕ). record_touches s (Abort n)) (sym (entry_is c.args.self.now.active c.args.session c.in-Some.entry c.requires.going.table (sym c.find.ensures.entry ∙ c.in-Some.is)).session), tt {0})) (does_failed (omega arith) (of_session _ _ (entry_is c.args.self.now.active c.args.session c.in-Some.entry c.requires.going.table (sym c.find.ensures.entry ∙ c.in-Some.is)).session (c.in-Err.ensures.does s fits))) tt (c.in-Err.ensures.asks s fits)
 
 reads_of_session : (old new : Site) (s : State) (n k : ℕ) → n ≡ k → new.log_reads ≤ old.log_reads + undo_reads (session_at s n) → new.log_reads ≤ old.log_reads + undo_reads (session_at s k)
 reads_of_session old new s n k same read = subst (λ (j : ℕ). new.log_reads ≤ old.log_reads + undo_reads (session_at s j)) same read

@@ -1,12 +1,8 @@
-use Rattle.engine.specs.declared.engine.Engine.{Engine}
-use Rattle.redo_undo.specs.Filling.{Fills}
-use Rattle.std.specs.Prelude.{OnOk}
-use Rattle.std.proofs.Common.{◌∙◌, subst}
 use Rattle.record_model.specs.declared.words.Command.TheVariants.{Begin}
 use Rattle.engine.specs.Invariant.{sizes_of}
 use Rattle.engine.specs.Representation.{checkpointed_if}
 use Rattle.engine.specs.Leaves.{LeavesTable}
-use Rattle.engine.proofs.Calling.{serves_then, first_then, first_failed, late_table, wanted_to_fail}
+use Rattle.engine.proofs.Calling.{serves_then, first_then, first_failed, late_table}
 use Rattle.engine.proofs.engine.Engine.begin.Goals as goal
 use Rattle.engine.proofs.Performing.{performs_first, performs_unmade}
 
@@ -19,16 +15,11 @@ returns-in-Ok-clause-answers g c s fits =
 pub returns-in-Err-clause-answers : goal.returns-in-Err-clause-answers
 returns-in-Err-clause-answers g c s fits =
     let old = g.S.Site.state c.args.site.now in
-    first_failed (Begin c.args.session) (c.wants_checkpoint_to_begin-wanted.ensures s old fits) (λ o. LeavesTable (sizes_of c.args.self.now.store) s.table s.commits old.told) (wanted_to_fail _ c.in-Err.ensures.rest c.in-Err.ensures.ended c.requires.going.going) c.requires.going
+    first_failed (Begin c.args.session) (c.wants_checkpoint_to_begin-wanted.ensures s old fits) (λ o. LeavesTable (sizes_of c.args.self.now.store) s.table s.commits old.told) c.requires.going
     (λ x p. p) (c.in-Err.ensures.does s fits) c.in-Err.ensures.asks
 
 pub returns-in-Ok-clause-serves : goal.returns-in-Ok-clause-serves
 returns-in-Ok-clause-serves g c = serves_then c.in-Ok.ensures.serves c.begin_now.ensures.serves
-
-pub returns-in-Ok-clause-fills : goal.returns-in-Ok-clause-fills
-returns-in-Ok-clause-fills g c s fits none =
-    let same = c.in-Ok.ensures.rest (c.wants_checkpoint_to_begin-wanted.ensures s (g.S.Site.state c.args.site.now) fits ∙ none) in
-    subst (λ (e : Engine). OnOk c.begin_now.result (Fills 1 e.store.log c.begin_now.new.self.store.log e.store.pages c.begin_now.new.self.store.pages)) same c.begin_now.ensures.fills
 
 pub returns-in-Ok-clause-performs : goal.returns-in-Ok-clause-performs
 returns-in-Ok-clause-performs g c s fits =

@@ -1,27 +1,20 @@
-use Rattle.redo_undo.proofs.Fillings.{fills_none}
-use Rattle.std.proofs.Common.{refl, arith, inl}
-use Rattle.engine.proofs.Calling.{answered, does_nothing, does_failed, asks_rest, still, no_stop}
+use Rattle.std.proofs.Common.{refl, arith}
+use Rattle.engine.proofs.Calling.{answered, does_nothing, does_failed, asks_rest, still}
 use Rattle.engine.proofs.engine.Engine.begin_now.Goals as goal
 use Rattle.ring_machine.proofs.Performing.{performs_as}
 use Rattle.engine.proofs.Performing.{performs_rest}
 
 pub returns-in-Some-clause-answers : goal.returns-in-Some-clause-answers
 returns-in-Some-clause-answers g c s fits =
-    answered (c.in-Some.ensures.refused s (g.S.Site.state c.args.site.now) fits) (does_nothing fits c.requires.going (still c.hold_together.ensures.moment fits c.requires.going)) refl asks_rest no_stop
+    answered (c.in-Some.ensures.refused s (g.S.Site.state c.args.site.now) fits) (does_nothing fits c.requires.going (still c.hold_together.ensures.moment fits c.requires.going)) refl asks_rest
 
 pub returns-in-Ok-clause-answers : goal.returns-in-Ok-clause-answers
 returns-in-Ok-clause-answers g c s fits =
-    answered (c.in_default.ensures.accepted s (g.S.Site.state c.args.site.now) fits) (c.in-Ok.ensures.does s fits) c.in-Ok.ensures.done c.in-Ok.ensures.asks no_stop
+    answered (c.in_default.ensures.accepted s (g.S.Site.state c.args.site.now) fits) (c.in-Ok.ensures.does s fits) c.in-Ok.ensures.done c.in-Ok.ensures.asks
 
 pub returns-in-Err-clause-answers : goal.returns-in-Err-clause-answers
 returns-in-Err-clause-answers g c s fits =
-    answered (c.in_default.ensures.accepted s (g.S.Site.state c.args.site.now) fits) (does_failed (omega arith) (c.in-Err.ensures.does s fits)) tt c.in-Err.ensures.asks (λ is. inl (omega arith))
-
-pub returns-in-Some-clause-fills : goal.returns-in-Some-clause-fills
-returns-in-Some-clause-fills g c = fills_none
-
-pub returns-in-Ok-clause-fills : goal.returns-in-Ok-clause-fills
-returns-in-Ok-clause-fills g c = c.in-Ok.ensures.fills
+    answered (c.in_default.ensures.accepted s (g.S.Site.state c.args.site.now) fits) (does_failed (omega arith) (c.in-Err.ensures.does s fits)) tt c.in-Err.ensures.asks
 
 pub returns-in-Some-clause-performs : goal.returns-in-Some-clause-performs
 returns-in-Some-clause-performs g c s fits = performs_rest (c.in-Some.ensures.refused s (g.S.Site.state c.args.site.now) fits).1.1

@@ -42,9 +42,6 @@ returns-in-Err-clause-serves g c = serves_stopped c.in-Err.ensures.works (c.begi
 pub returns-clause-serves : goal.returns-clause-serves
 returns-clause-serves g c = record { keeps = serves_of (works_answered c.in-Ok.ensures.works) (grind (arith, common_steps)); log_reads = c.begin.ensures.reads Log }
 
-pub returns-clause-fills : goal.returns-clause-fills
-returns-clause-fills g c = c.in-Ok.ensures.fills
-
 pub returns-in-Err-clause-performs : goal.returns-in-Err-clause-performs
 returns-in-Err-clause-performs g c s fits = performs_failed (c.in-Err.ensures.performs fits.newest fits.records s.table s.commits fits.holds)
 

@@ -1,4 +1,3 @@
-use Rattle.redo_undo.proofs.Fillings.{groups_ok, groups_err}
 use Rattle.redo_undo.specs.MachineSteps.{one_touch}
 use Rattle.redo_undo.proofs.Asking.{asks_ok}
 use Rattle.std.proofs.Common.{◌≡◌, ◌*◌, ◌<◌, None, refl, sym, ap, ◌∙◌, arith, ◌/◌}
@@ -36,16 +35,12 @@ returns-in-Ok g c =
         keeps = serves_still c.requires.going (works_answered c.in-Ok.ensures.works) refl refl refl (omega (arith, c.requires.going.budget)) (omega (arith, c.requires.going.commits, c.in-Ok.ensures.works.rises));
         log_reads = c.touch.ensures.log_reads;
       };
-      fills = λ s fits. groups_ok (c.in-Ok.ensures.fills fits.newest fits.records s.table s.commits fits.holds).room;
       asks = asks_ok c.in-Ok.field-0 _ (one_touch (c.args.number / 32)) _ _ _ _ c.in-Ok.ensures.asks;
       performs = λ s fits. performs_answered (c.in-Ok.ensures.performs fits.newest fits.records s.table s.commits fits.holds);
     }
 
 pub returns-in-Err-clause-does : goal.returns-in-Err-clause-does
 returns-in-Err-clause-does g c s fits = does_of (omega arith) tt (keeps_failed (c.in-Err.ensures.keeps fits.newest fits.records s.table s.commits fits.holds))
-
-pub returns-in-Err-clause-fills : goal.returns-in-Err-clause-fills
-returns-in-Err-clause-fills g c s fits = groups_err (c.in-Err.ensures.fills fits.newest fits.records s.table s.commits fits.holds)
 
 pub returns-in-Err-clause-performs : goal.returns-in-Err-clause-performs
 returns-in-Err-clause-performs g c s fits = performs_failed (c.in-Err.ensures.performs fits.newest fits.records s.table s.commits fits.holds)

@@ -1,4 +1,3 @@
-use Rattle.redo_undo.proofs.Fillings.{groups_ok, groups_err}
 use Rattle.redo_undo.specs.MachineSteps.{one_touch}
 use Rattle.redo_undo.proofs.Asking.{asks_ok}
 use Rattle.std.proofs.Common.{◌≡◌, ◌*◌, ◌<◌, None, Some, refl, sym, ap, ◌∙◌, arith, ◌/◌, rules}
@@ -41,7 +40,6 @@ returns-in-Ok-add g c =
         log_reads = c.touch.ensures.log_reads;
       };
       asks = asks_ok c.in-Ok.field-0 _ (one_touch (c.args.number / 32)) _ _ _ _ c.in-Ok.ensures.asks;
-      fills = λ s fits. groups_ok (c.in-Ok.ensures.fills fits.newest fits.records s.table s.commits fits.holds).room;
       performs = λ s fits. performs_answered (c.in-Ok.ensures.performs fits.newest fits.records s.table s.commits fits.holds);
       locks = search rules;
       active = search rules;
@@ -53,12 +51,6 @@ returns-in-Err-clause-does g c s fits = does_of (omega arith) tt (keeps_failed (
 
 pub returns-in-Err-add-clause-does : goal.returns-in-Err-add-clause-does
 returns-in-Err-add-clause-does g c s fits = does_of (omega arith) tt (keeps_no_memory fits.honest c.in-Ok.ensures.works (c.in-Ok.ensures.keeps fits.newest fits.records s.table s.commits fits.holds))
-
-pub returns-in-Err-clause-fills : goal.returns-in-Err-clause-fills
-returns-in-Err-clause-fills g c s fits = groups_err (c.in-Err.ensures.fills fits.newest fits.records s.table s.commits fits.holds)
-
-pub returns-in-Err-add-clause-fills : goal.returns-in-Err-add-clause-fills
-returns-in-Err-add-clause-fills g c s fits = record { room = tt; worn = λ is. cc }
 
 pub returns-in-Err-clause-performs : goal.returns-in-Err-clause-performs
 returns-in-Err-clause-performs g c s fits = performs_failed (c.in-Err.ensures.performs fits.newest fits.records s.table s.commits fits.holds)

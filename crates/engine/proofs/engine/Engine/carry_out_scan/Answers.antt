@@ -1,5 +1,3 @@
-use Rattle.redo_undo.proofs.Fillings.{groups_ok, room_still, room_both}
-use Rattle.site.proofs.Working.{err_again}
 use Rattle.std.proofs.Common.{map, List, ◌*◌, ◌≡◌, ℕ, ◌+◌, refl, sym, ap, subst, ◌∙◌, arith, rules}
 use Rattle.std.specs.Prelude.{Ok, IsSome, ◌<◌}
 use Rattle.site.specs.declared.geometry.Geometry.{Geometry}
@@ -13,7 +11,7 @@ use Rattle.engine.specs.Representation.{with_reads}
 use Rattle.engine.specs.Leaves.{LeavesTable}
 use Rattle.engine.specs.Scans.{items_seen}
 use Rattle.engine.specs.Calls.{Does}
-use Rattle.engine.proofs.Asking.{scan_more, scan_pushes, scan_stops, memory_only, never_log, has_group}
+use Rattle.engine.proofs.Asking.{scan_more, scan_stops, has_group}
 use Rattle.engine.proofs.Scans.{free_at, still_busy, reads_none, reads_more, range_more, items_next}
 use Rattle.engine.proofs.Calling.{does_nothing, does_answered, does_failed, does_then, does_no_memory, late_table, serves_nothing, serves_answered, serves_then, serves_failed, serves_no_memory, still}
 use Rattle.redo_undo.proofs.Asking.{asks_same, asks_ok, asks_fails, no_asks}
@@ -28,7 +26,6 @@ loop-offset-init g c =
     let old = g.S.Site.state c.args.site.now in
     record {
       serves = serves_nothing c.requires.going;
-      fills = λ s fits. room_still;
       active = refl;
       busy = λ r. refl;
       kept = refl;
@@ -61,7 +58,6 @@ loop-offset-preserved g c =
     let eight = c.requires.may.session in
     record {
       serves = serves_answered (serves_then inv.serves c.in-Ok.ensures.serves);
-      fills = λ s fits. room_both (inv.fills s fits) (c.in-Ok.ensures.fills (with_reads s c.args.session (range_with_len c.args.number c.loop-offset.offset)) (inv.does s fits).after_fits).room;
       active = c.carry_out_read.ensures.active ∙ inv.active;
       busy = λ r. still_busy c.loop-offset.self.locks c.carry_out_read.new.self.locks c.args.session (number + offset) c.in-Ok.ensures.locks c.args.session r ∙ inv.busy r;
       kept = c.carry_out_read.ensures.kept ∙ inv.kept;
@@ -85,11 +81,6 @@ returns-in-Err g c =
       does = λ s fits.
           does_failed (omega arith) (does_then fits.honest refl (λ x p. p) (late_table inv.serves.sizes) inv.serves (inv.does s fits) (c.in-Err.ensures.does (with_reads s c.args.session (range_with_len c.args.number c.loop-offset.offset)) (inv.does s fits).after_fits));
       serves = serves_failed (serves_then c.loop-offset.invariant.serves c.in-Err.ensures.serves);
-      fills = λ s fits. record {
-        room = tt;
-        worn = λ is. scan_pushes c.args.number c.loop-offset.offset c.args.count _ _ _ _ (has_group c.requires.going) c.loop-offset-test.true inv.asks
-            ((c.in-Err.ensures.fills (with_reads s c.args.session (range_with_len c.args.number c.loop-offset.offset)) (inv.does s fits).after_fits).worn (err_again c.in-Err.stop _ is));
-      };
       asks =
           scan_stops c.in-Err.stop c.args.number c.loop-offset.offset c.args.count _ _ _ _ (has_group c.requires.going) c.loop-offset-test.true
           (scan_more tt _ c.args.number c.loop-offset.offset _ _ _ _ _ _ c.loop-offset.invariant.asks c.in-Err.ensures.asks);
@@ -107,11 +98,10 @@ returns-in-Err-add_item g c =
           does_no_memory c.in-Err-add_item.ensures.stops fits.honest (omega arith) (serves_then inv.serves c.in-Ok.ensures.serves)
           (does_then fits.honest refl (λ x p. p) (late_table inv.serves.sizes) inv.serves (inv.does s fits) (c.in-Ok.ensures.does (with_reads s c.args.session (range_with_len c.args.number c.loop-offset.offset)) (inv.does s fits).after_fits));
       serves = serves_no_memory c.in-Err-add_item.ensures.stops (serves_then c.loop-offset.invariant.serves c.in-Ok.ensures.serves);
-      fills = λ s fits. record { room = tt; worn = λ is. absurd (never_log c.in-Err-add_item.ensures.stops is) };
       asks =
           scan_stops c.in-Err-add_item.stop c.args.number c.loop-offset.offset c.args.count _ _ _ _ (has_group c.requires.going) c.loop-offset-test.true
           (scan_more tt _ c.args.number c.loop-offset.offset _ _ _ _ _ _ c.loop-offset.invariant.asks
-          (asks_fails {B = Unit {0}} c.in-Ok.content c.in-Err-add_item.stop _ _ _ _ _ (memory_only c.in-Err-add_item.stop c.in-Err-add_item.ensures.stops) c.in-Ok.ensures.asks));
+          (asks_fails {B = Unit {0}} c.in-Ok.content c.in-Err-add_item.stop _ _ _ _ _ c.in-Ok.ensures.asks));
       performs = λ s fits. performs_refused (memory_refuses c.in-Err-add_item.stop c.in-Err-add_item.ensures.stops);
     }
 
@@ -124,7 +114,6 @@ returns g c =
       does = λ s fits.
           does_answered (subst (λ (k : ℕ). Does {T = Unit {0}} (Ok tt) c.args.self.now c.loop-offset.self old (g.S.Site.state c.loop-offset.site) s (with_reads s c.args.session (range_with_len c.args.number k)) (LeavesTable (sizes_of c.args.self.now.store) s.table s.commits old.told) 0) same (c.loop-offset.invariant.does s fits));
       serves = serves_answered c.loop-offset.invariant.serves;
-      fills = λ s fits. groups_ok (c.loop-offset.invariant.fills s fits);
       asks =
           asks_same _ _ _ _ _ _ _ (ap (λ (k : ℕ). map read_touch (range_with_len c.args.number k)) (sym same))
           (asks_ok tt _ _ _ _ _ _ c.loop-offset.invariant.asks);

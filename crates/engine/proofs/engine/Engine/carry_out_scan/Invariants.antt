@@ -1,4 +1,3 @@
-use Rattle.redo_undo.specs.Filling.{FindsRoom}
 use Rattle.std.specs.Prelude.{Ok}
 use Rattle.std.proofs.Common.{map, ◌≡◌, ℕ, Some}
 use Rattle.std.specs.List.{range_with_len}
@@ -23,7 +22,6 @@ invariant-loop-offset g l =
     record {
       serves : KeepsUnread {T = Unit {0}} (Ok tt) l.fn.self l.self old now;
       does : (s : State) → Matches l.fn.self old s → Does {T = Unit {0}} (Ok tt) l.fn.self l.self old now s (with_reads s l.session (range_with_len l.number l.offset)) (LeavesTable (sizes_of l.fn.self.store) s.table s.commits old.told) 0;
-      fills : (s : State) → Matches l.fn.self old s → FindsRoom 0 l.fn.self.store.log l.self.store.log l.fn.self.store.pages l.self.store.pages;
       active : l.self.active ≡ l.fn.self.active;
       busy : (r : ℕ) → busy_read l.self.locks (Some l.session) r ≡ busy_read l.fn.self.locks (Some l.session) r;
       kept : l.self.store.log.kept ≡ l.fn.self.store.log.kept;

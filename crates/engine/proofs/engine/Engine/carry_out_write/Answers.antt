@@ -1,4 +1,3 @@
-use Rattle.redo_undo.proofs.Fillings.{room_then}
 use Rattle.site.specs.declared.outside.Dev.TheVariants.{Log}
 use Rattle.engine.proofs.Asking.{has_group, change_ok}
 use Rattle.std.proofs.Common.{◌≡◌, ◌+◌, ◌*◌, ◌<◌, ◌≤◌, ⊎_elim, refl, sym, ap, subst, ◌∙◌, arith, ◌/◌, rules}
@@ -20,7 +19,7 @@ use Rattle.txn_table.proofs.DistinctBegins.{below_wrote, apart_wrote}
 use Rattle.engine.proofs.Calling.{does_of, serves_of, serves_stopped}
 use Rattle.redo_undo.proofs.StoreCalling.{works_then, works_answered, keeps_failed, keeps_answered, keeps_both, keeps_no_memory}
 use Rattle.std.specs.Prelude.{Err}
-use Rattle.redo_undo.proofs.AskingUndo.{change_made, never_worn}
+use Rattle.redo_undo.proofs.AskingUndo.{change_made}
 use Rattle.page_store.proofs.StagingLaws.{stages_err, stages_ok}
 use Rattle.engine.proofs.engine.Engine.carry_out_write.Goals as goal
 use Rattle.std.proofs.Common.{ap}
@@ -73,7 +72,6 @@ returns-in-Ok-update g c =
     let owed_is = c.wrote.ensures.owed in
     record {
       done = search rules;
-      fills = λ s fits. room_then (c.in-Ok.ensures.fills fits.newest fits.records s.table s.commits fits.holds).room c.in-Ok-update.ensures.fills;
       does = λ s fits.
           let holds = c.in-Ok.ensures.holds fits.newest fits.records s.table s.commits fits.holds in
           let fits_mid : Matches mid new s = touched_fits engine c.touch.new.self old new s fits (stays_honest old new c.touch.ensures.works.calls.goes fits.honest) holds c.touch.ensures.made in
@@ -121,7 +119,7 @@ returns-in-Ok-update g c =
 
 pub returns-in-Err-update-clause-asks : goal.returns-in-Err-update-clause-asks
 returns-in-Err-update-clause-asks g c =
-    change_made c.in-Ok.field-0 (Err c.in-Err-update.stop) (c.args.number / 32) _ _ _ _ _ _ (has_group c.requires.going) c.touch_then_change.ensures c.in-Ok.ensures.asks tt c.update.ensures.rules_stay c.update.ensures.reads (never_worn (Err c.in-Err-update.stop) c.in-Err-update.ensures.stops) (stages_err c.in-Err-update.ensures.stages)
+    change_made c.in-Ok.field-0 (Err c.in-Err-update.stop) (c.args.number / 32) _ _ _ _ _ _ (has_group c.requires.going) c.touch_then_change.ensures c.in-Ok.ensures.asks tt c.update.ensures.rules_stay c.update.ensures.reads (stages_err c.in-Err-update.ensures.stages)
 
 pub returns-in-Err-update-clause-serves : goal.returns-in-Err-update-clause-serves
 returns-in-Err-update-clause-serves g c = serves_stopped (works_then c.in-Ok.ensures.works c.in-Err-update.ensures.works) (c.update.ensures.reads Log ∙ c.touch.ensures.log_reads)

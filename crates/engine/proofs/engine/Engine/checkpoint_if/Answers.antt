@@ -1,4 +1,4 @@
-use Rattle.std.proofs.Common.{◌≡◌, Bool, true, false, sym, subst, rules, arith, refl, true≢false, ◌∙◌}
+use Rattle.std.proofs.Common.{◌≡◌, Bool, true, false, sym, subst, rules, arith}
 use Rattle.std.specs.Prelude.{Ok, Err, [], if◌then◌else◌}
 use Rattle.engine.specs.Invariant.{sizes_of}
 use Rattle.engine.specs.Representation.{checkpointed_if}
@@ -22,7 +22,6 @@ returns-then-not-wanted g c =
           subst (λ (b : Bool). Does {T = Unit {0}} (Ok tt) c.args.self.now c.args.self.now old old s (checkpointed_if b s) (LeavesTable (sizes_of c.args.self.now.store) s.table s.commits old.told) (if b then 1 else 0)) (sym is)
           (does_nothing fits c.requires.going (still c.hold_together.ensures.moment fits c.requires.going));
       serves = serves_nothing c.requires.going;
-      rest = λ unwanted. refl;
       ended = search rules;
       asks = subst (λ (b : Bool). StepsMachine {T = Unit {0}} (Ok tt) (if b then checkpoint_works else []) pages pages old old) (sym is) asks_rest;
       performs = λ s fits. performs_rest (ap (λ (b : Bool). if b then saves else []) is);
@@ -41,12 +40,6 @@ returns-in-Err-clause-does g c s fits =
     let old = g.S.Site.state c.args.site.now in
     subst (λ (b : Bool). Does {T = Unit {0}} (Err c.in-Err.stop) c.args.self.now (record c.carry_out_checkpoint.new.self { ended = true }) old (g.S.Site.state c.carry_out_checkpoint.new.site) s (checkpointed_if b s) (LeavesTable (sizes_of c.args.self.now.store) s.table s.commits old.told) (if b then 1 else 0)) (sym is)
     (does_failed (omega arith) (c.in-Err.ensures.does s fits))
-
-pub returns-in-Ok-clause-rest : goal.returns-in-Ok-clause-rest
-returns-in-Ok-clause-rest g c unwanted = let is : c.args.wanted ≡ true = search rules in absurd (true≢false (sym is ∙ unwanted))
-
-pub returns-in-Err-clause-rest : goal.returns-in-Err-clause-rest
-returns-in-Err-clause-rest g c unwanted = let is : c.args.wanted ≡ true = search rules in absurd (true≢false (sym is ∙ unwanted))
 
 pub returns-in-Ok-clause-performs : goal.returns-in-Ok-clause-performs
 returns-in-Ok-clause-performs g c s fits =

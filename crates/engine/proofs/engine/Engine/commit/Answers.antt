@@ -1,4 +1,4 @@
-use Rattle.std.proofs.Common.{◌≡◌, ℕ, Some, refl, sym, ap, subst, ◌∙◌, arith, inl}
+use Rattle.std.proofs.Common.{◌≡◌, ℕ, Some, refl, sym, ap, subst, ◌∙◌, arith}
 use Rattle.std.specs.Prelude.{Result}
 use Rattle.site.specs.declared.outside.Stop.{Stop}
 use Rattle.site.specs.State.{State as Site}
@@ -16,7 +16,7 @@ use Rattle.engine.specs.Calls.{Does}
 use Rattle.engine.proofs.Actives.{some_active}
 use Rattle.txn_table.proofs.Owing.{entry_is}
 use Rattle.engine.proofs.Replies.{carried_out, wants_active_is, refused_session}
-use Rattle.engine.proofs.Calling.{answered_as, does_nothing, does_weaker, does_failed, asks_rest, early, still, no_stop}
+use Rattle.engine.proofs.Calling.{answered_as, does_nothing, does_weaker, does_failed, asks_rest, early, still}
 use Rattle.engine.proofs.engine.Engine.commit.Goals as goal
 use Rattle.ring_machine.proofs.Performing.{performs_as}
 use Rattle.engine.proofs.Performing.{performs_rest}
@@ -39,17 +39,17 @@ pub returns-in_default-clause-answers : goal.returns-in_default-clause-answers
 returns-in_default-clause-answers g c s fits =
     let old = g.S.Site.state c.args.site.now in
     answered_as (λ o. LeavesEither (sizes_of c.args.self.now.store) s o.after old.told) (refused_session c.args.self.now old s (Commit c.args.session) c.args.session fits (sym c.find.ensures.entry ∙ c.in_default.is) refl)
-    (does_weaker (early (sizes_of c.args.self.now.store) s s old.told) (does_nothing fits c.requires.going (still c.hold_together.ensures.moment fits c.requires.going))) refl asks_rest no_stop
+    (does_weaker (early (sizes_of c.args.self.now.store) s s old.told) (does_nothing fits c.requires.going (still c.hold_together.ensures.moment fits c.requires.going))) refl asks_rest
 
 pub returns-in-Ok-clause-answers : goal.returns-in-Ok-clause-answers
 returns-in-Ok-clause-answers g c s fits =
     let old = g.S.Site.state c.args.site.now in
-    answered_as (λ o. LeavesEither (sizes_of c.args.self.now.store) s o.after old.told) (runs c.args.self.now old s c.args.session c.in-Some.entry fits (sym c.find.ensures.entry ∙ c.in-Some.is)) (of_session _ _ (entry_is c.args.self.now.active c.args.session c.in-Some.entry c.requires.going.table (sym c.find.ensures.entry ∙ c.in-Some.is)).session (c.in-Ok.ensures.does s fits)) (c.in-Ok.ensures.done s fits) c.in-Ok.ensures.asks no_stop
+    answered_as (λ o. LeavesEither (sizes_of c.args.self.now.store) s o.after old.told) (runs c.args.self.now old s c.args.session c.in-Some.entry fits (sym c.find.ensures.entry ∙ c.in-Some.is)) (of_session _ _ (entry_is c.args.self.now.active c.args.session c.in-Some.entry c.requires.going.table (sym c.find.ensures.entry ∙ c.in-Some.is)).session (c.in-Ok.ensures.does s fits)) (c.in-Ok.ensures.done s fits) c.in-Ok.ensures.asks
 
 pub returns-in-Err-clause-answers : goal.returns-in-Err-clause-answers
 returns-in-Err-clause-answers g c s fits =
     let old = g.S.Site.state c.args.site.now in
-    answered_as (λ o. LeavesEither (sizes_of c.args.self.now.store) s o.after old.told) (runs c.args.self.now old s c.args.session c.in-Some.entry fits (sym c.find.ensures.entry ∙ c.in-Some.is)) (of_session _ _ (entry_is c.args.self.now.active c.args.session c.in-Some.entry c.requires.going.table (sym c.find.ensures.entry ∙ c.in-Some.is)).session (does_failed (omega arith) (c.in-Err.ensures.does s fits))) tt c.in-Err.ensures.asks (λ is. inl (omega arith))
+    answered_as (λ o. LeavesEither (sizes_of c.args.self.now.store) s o.after old.told) (runs c.args.self.now old s c.args.session c.in-Some.entry fits (sym c.find.ensures.entry ∙ c.in-Some.is)) (of_session _ _ (entry_is c.args.self.now.active c.args.session c.in-Some.entry c.requires.going.table (sym c.find.ensures.entry ∙ c.in-Some.is)).session (does_failed (omega arith) (c.in-Err.ensures.does s fits))) tt c.in-Err.ensures.asks
 
 pub returns-in_default-clause-performs : goal.returns-in_default-clause-performs
 returns-in_default-clause-performs g c s fits = performs_rest (refused_session c.args.self.now (g.S.Site.state c.args.site.now) s (Commit c.args.session) c.args.session fits (sym c.find.ensures.entry ∙ c.in_default.is) refl).1.1

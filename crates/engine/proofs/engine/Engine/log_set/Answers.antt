@@ -8,7 +8,7 @@ use Rattle.redo_undo.proofs.StoreCalling.{works_then, works_answered, keeps_both
 use Rattle.engine.proofs.Settings.{begin_at, may_begin, may_update, one_write}
 use Rattle.redo_undo.proofs.Asking.{asks_then, asks_stopped}
 use Rattle.std.specs.Prelude.{Err}
-use Rattle.redo_undo.proofs.AskingUndo.{change_stopped, change_made, never_worn}
+use Rattle.redo_undo.proofs.AskingUndo.{change_stopped, change_made}
 use Rattle.page_store.proofs.StagingLaws.{stages_err, stages_ok}
 use Rattle.engine.proofs.engine.Engine.log_set.Goals as goal
 use Rattle.std.proofs.Common.{ap}
@@ -93,7 +93,7 @@ returns-in-Err-touch-clause-asks g c =
 pub returns-in-Err-update-clause-asks : goal.returns-in-Err-update-clause-asks
 returns-in-Err-update-clause-asks g c =
     asks_then c.in-Ok.txn _ [] (one_change (c.args.number / 32)) _ _ _ _ _ _ c.in-Ok.ensures.asks
-    (change_made c.in-Ok-touch.field-0 (Err c.in-Err-update.stop) (c.args.number / 32) _ _ _ _ _ _ (store_has_group c.in-Ok.ensures.works.going) c.touch_then_change.ensures c.in-Ok-touch.ensures.asks tt c.update.ensures.rules_stay c.update.ensures.reads (never_worn (Err c.in-Err-update.stop) c.in-Err-update.ensures.stops) (stages_err c.in-Err-update.ensures.stages))
+    (change_made c.in-Ok-touch.field-0 (Err c.in-Err-update.stop) (c.args.number / 32) _ _ _ _ _ _ (store_has_group c.in-Ok.ensures.works.going) c.touch_then_change.ensures c.in-Ok-touch.ensures.asks tt c.update.ensures.rules_stay c.update.ensures.reads (stages_err c.in-Err-update.ensures.stages))
 
 pub returns-in-Err-clause-log_reads : goal.returns-in-Err-clause-log_reads
 returns-in-Err-clause-log_reads g c = c.begin.ensures.reads Log

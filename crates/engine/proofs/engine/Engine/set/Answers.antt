@@ -1,14 +1,9 @@
-use Rattle.std.proofs.Common.{◌/◌, inr, refl}
+use Rattle.std.proofs.Common.{refl}
 use Rattle.record_model.specs.declared.words.Command.TheVariants.{Set}
-use Rattle.redo_undo.specs.MachineSteps.{one_change}
-use Rattle.page_store.specs.Caching.{cache_of, rules}
 use Rattle.engine.specs.Invariant.{sizes_of}
 use Rattle.engine.specs.Representation.{checkpointed_if}
 use Rattle.engine.specs.Leaves.{LeavesEither}
-use Rattle.site.proofs.Working.{err_again}
-use Rattle.engine.proofs.Asking.{has_group}
-use Rattle.engine.proofs.Firsts.{overflows_before}
-use Rattle.engine.proofs.Calling.{serves_then, first_then, first_failed, early, late_either, wanted_to_fail}
+use Rattle.engine.proofs.Calling.{serves_then, first_then, first_failed, early, late_either}
 use Rattle.engine.proofs.engine.Engine.set.Goals as goal
 use Rattle.engine.proofs.Performing.{performs_first, performs_unmade}
 
@@ -22,12 +17,8 @@ returns-in-Ok-clause-answers g c s fits =
 pub returns-in-Err-clause-answers : goal.returns-in-Err-clause-answers
 returns-in-Err-clause-answers g c s fits =
     let old = g.S.Site.state c.args.site.now in
-    first_failed (Set c.args.number c.args.value.now) (c.wants_checkpoint_to_set-wanted.ensures s old fits) (λ o. LeavesEither (sizes_of c.args.self.now.store) s o.after old.told) (wanted_to_fail _ c.in-Err.ensures.rest c.in-Err.ensures.ended c.requires.going.going) c.requires.going
+    first_failed (Set c.args.number c.args.value.now) (c.wants_checkpoint_to_set-wanted.ensures s old fits) (λ o. LeavesEither (sizes_of c.args.self.now.store) s o.after old.told) c.requires.going
     (early (sizes_of c.args.self.now.store) s _ old.told) (c.in-Err.ensures.does s fits) c.in-Err.ensures.asks
-
-pub returns-in-Err-clause-worn_flash : goal.returns-in-Err-clause-worn_flash
-returns-in-Err-clause-worn_flash g c is =
-    inr (overflows_before c.works_add_up.ensures.overflow c.wants_checkpoint_to_set-wanted.result (rules c.args.self.now.store.pages) (one_change (c.args.number / 32)) (cache_of c.args.self.now.store.pages) (has_group c.requires.going) (c.in-Err.ensures.asks.worn (err_again _ _ is)))
 
 pub returns-in-Ok-clause-serves : goal.returns-in-Ok-clause-serves
 returns-in-Ok-clause-serves g c = serves_then c.in-Ok.ensures.serves c.set_now.ensures.serves

@@ -1,4 +1,4 @@
-use Rattle.engine.proofs.Asking.{from_other, from_other_fails, memory_only}
+use Rattle.engine.proofs.Asking.{from_other, from_other_fails}
 use Rattle.std.proofs.Common.{◌∙◌, refl, ap, rules}
 use Rattle.site.specs.Laws.{stays_honest}
 use Rattle.site.specs.declared.geometry.Geometry.{Geometry}
@@ -27,7 +27,7 @@ pub returns-clause-ends : goal.returns-clause-ends
 returns-clause-ends g c honest k table commits stands = ends_answered (c.in-Ok.ensures.ends honest k table commits stands)
 
 pub returns-in-Err-new-clause-asks : goal.returns-in-Err-new-clause-asks
-returns-in-Err-new-clause-asks g c honest k newest blocks sound = from_other_fails c.in-Ok.restarted c.in-Err-new.stop _ _ _ _ _ _ _ _ (memory_only c.in-Err-new.stop c.in-Err-new.ensures.memory) (c.in-Ok.ensures.asks honest k newest blocks sound)
+returns-in-Err-new-clause-asks g c honest k newest blocks sound = from_other_fails c.in-Ok.restarted c.in-Err-new.stop _ _ _ _ _ _ _ _ (c.in-Ok.ensures.asks honest k newest blocks sound)
 
 pub returns-clause-asks : goal.returns-clause-asks
 returns-clause-asks g c honest k newest blocks sound = from_other c.in-Ok.restarted _ _ _ _ _ _ _ _ _ refl (c.in-Ok.ensures.asks honest k newest blocks sound)
@@ -36,7 +36,7 @@ pub returns-in-Err-clause-numbers : goal.returns-in-Err-clause-numbers
 returns-in-Err-clause-numbers g c honest quiet k newest blocks sound = restart_again c.in-Err.stop _ _ k _ _ _ (c.in-Err.ensures.numbers honest quiet k newest blocks sound)
 
 pub returns-in-Err-new-clause-numbers : goal.returns-in-Err-new-clause-numbers
-returns-in-Err-new-clause-numbers g c honest quiet k newest blocks sound = restart_stopped c.in-Ok.restarted c.in-Err-new.stop _ _ k _ _ _ c.in-Err-new.ensures.memory (c.in-Ok.ensures.numbers honest quiet k newest blocks sound)
+returns-in-Err-new-clause-numbers g c honest quiet k newest blocks sound = restart_stopped c.in-Ok.restarted c.in-Err-new.stop _ _ k _ _ _ (c.in-Ok.ensures.numbers honest quiet k newest blocks sound)
 
 pub returns-clause-numbers : goal.returns-clause-numbers
 returns-clause-numbers g c honest quiet k newest blocks sound = restart_answered c.in-Ok.restarted _ _ _ k _ _ _ refl (c.in-Ok.ensures.numbers honest quiet k newest blocks sound)

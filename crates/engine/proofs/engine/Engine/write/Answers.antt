@@ -1,11 +1,9 @@
-use Rattle.log_records.specs.Spelling.{content_spelling}
 use Rattle.record_model.specs.State.{Content}
-use Rattle.redo_undo.proofs.Fillings.{fills_none, fills_more}
-use Rattle.std.proofs.Common.{subst, sym, Some, ap, ◌∙◌, refl, arith, ℕ, length, inl}
+use Rattle.std.proofs.Common.{subst, sym, Some, ap, ◌∙◌, refl, arith, ℕ}
 use Rattle.engine.specs.Permits.{MayWrite}
 use Rattle.txn_table.specs.Entries.{entry_of}
 use Rattle.txn_table.proofs.Owing.{entry_is}
-use Rattle.engine.proofs.Calling.{answered, written, does_nothing, does_failed, asks_rest, still, no_stop}
+use Rattle.engine.proofs.Calling.{answered, written, does_nothing, does_failed, asks_rest, still}
 use Rattle.engine.proofs.engine.Engine.write.Goals as goal
 use Rattle.record_model.specs.State.{seen}
 use Rattle.ring_machine.specs.Commands.{writes}
@@ -24,23 +22,17 @@ carry_out_write-requires-clause-may g c =
 
 pub returns-in-Some-clause-answers : goal.returns-in-Some-clause-answers
 returns-in-Some-clause-answers g c s fits =
-    answered (c.in-Some.ensures.refused s (g.S.Site.state c.args.site.now) fits) (does_nothing fits c.requires.going (still c.hold_together.ensures.moment fits c.requires.going)) refl asks_rest no_stop
+    answered (c.in-Some.ensures.refused s (g.S.Site.state c.args.site.now) fits) (does_nothing fits c.requires.going (still c.hold_together.ensures.moment fits c.requires.going)) refl asks_rest
 
 pub returns-in-Ok-clause-answers : goal.returns-in-Ok-clause-answers
 returns-in-Ok-clause-answers g c s fits =
     answered (c.in_default.ensures.accepted s (g.S.Site.state c.args.site.now) fits)
-    (written c.args.number (entry_is c.args.self.now.active c.args.session c.entry-entry.result c.requires.going.table c.entry-entry.ensures).session c.value_of-after.ensures (c.in-Ok.ensures.does s fits)) c.in-Ok.ensures.done c.in-Ok.ensures.asks no_stop
+    (written c.args.number (entry_is c.args.self.now.active c.args.session c.entry-entry.result c.requires.going.table c.entry-entry.ensures).session c.value_of-after.ensures (c.in-Ok.ensures.does s fits)) c.in-Ok.ensures.done c.in-Ok.ensures.asks
 
 pub returns-in-Err-clause-answers : goal.returns-in-Err-clause-answers
 returns-in-Err-clause-answers g c s fits =
     answered (c.in_default.ensures.accepted s (g.S.Site.state c.args.site.now) fits)
-    (does_failed (omega arith) (written c.args.number (entry_is c.args.self.now.active c.args.session c.entry-entry.result c.requires.going.table c.entry-entry.ensures).session c.value_of-after.ensures (c.in-Err.ensures.does s fits))) tt c.in-Err.ensures.asks (λ is. inl (omega arith))
-
-pub returns-in-Some-clause-fills : goal.returns-in-Some-clause-fills
-returns-in-Some-clause-fills g c s fits = fills_none
-
-pub returns-in-Ok-clause-fills : goal.returns-in-Ok-clause-fills
-returns-in-Ok-clause-fills g c s fits = fills_more (omega (arith, ap (λ (x : Content). length (content_spelling x)) c.value_of-after.ensures)) (c.in-Ok.ensures.fills s fits)
+    (does_failed (omega arith) (written c.args.number (entry_is c.args.self.now.active c.args.session c.entry-entry.result c.requires.going.table c.entry-entry.ensures).session c.value_of-after.ensures (c.in-Err.ensures.does s fits))) tt c.in-Err.ensures.asks
 
 pub returns-in-Some-clause-performs : goal.returns-in-Some-clause-performs
 returns-in-Some-clause-performs g c s fits = performs_rest (c.in-Some.ensures.refused s (g.S.Site.state c.args.site.now) fits).1.1

@@ -1,5 +1,4 @@
-use Rattle.redo_undo.proofs.Fillings.{fills_more, begin_octets}
-use Rattle.std.proofs.Common.{refl, arith, ℕ, ◌+◌, rules}
+use Rattle.std.proofs.Common.{refl, ℕ, ◌+◌, rules}
 use Rattle.image_meaning.proofs.Leaving.{under_leaves_for}
 use Rattle.page_store.proofs.StagingLaws.{stages_ok, stages_err}
 use Rattle.redo_undo.proofs.Asking.{asks_nothing, stages_log}
@@ -25,10 +24,10 @@ returns-in-Ok-clause-holds g c newest records table commits h = λ may.
     }
 
 pub returns-in-Ok-clause-asks : goal.returns-in-Ok-clause-asks
-returns-in-Ok-clause-asks g c = asks_nothing _ c.args.self.now.pages _ _ c.log_record.ensures.works.reads (λ is. cc) (stages_ok (stages_log c.in-Ok.ensures.works))
+returns-in-Ok-clause-asks g c = asks_nothing _ c.args.self.now.pages _ _ c.log_record.ensures.works.reads (stages_ok (stages_log c.in-Ok.ensures.works))
 
 pub returns-in-Err-clause-asks : goal.returns-in-Err-clause-asks
-returns-in-Err-clause-asks g c = asks_nothing _ c.args.self.now.pages _ _ c.log_record.ensures.works.reads (never_worn_flash (Err c.in-Err.stop) c.in-Err.ensures.stops) (stages_err (stages_log c.in-Err.ensures.works))
+returns-in-Err-clause-asks g c = asks_nothing _ c.args.self.now.pages _ _ c.log_record.ensures.works.reads (stages_err (stages_log c.in-Err.ensures.works))
 
 pub returns-in-Ok-clause-keeps : goal.returns-in-Ok-clause-keeps
 returns-in-Ok-clause-keeps g c newest records table commits h =
@@ -37,9 +36,6 @@ returns-in-Ok-clause-keeps g c newest records table commits h =
 pub returns-in-Err-clause-keeps : goal.returns-in-Err-clause-keeps
 returns-in-Err-clause-keeps g c newest records table commits h =
     keeps_of (under_leaves_for newest _ _ _ table commits _) (keeps_appended c.requires.may.going.both c.in-Err.ensures.stops (c.in-Err.ensures.keeps c.args.self.now.pages newest records table commits h.both))
-
-pub returns-in-Ok-clause-fills : goal.returns-in-Ok-clause-fills
-returns-in-Ok-clause-fills g c = fills_more (omega (arith, begin_octets)) (c.in-Ok.ensures.fills c.args.self.now.pages)
 
 pub returns-in-Ok-clause-works : goal.returns-in-Ok-clause-works
 returns-in-Ok-clause-works g c =

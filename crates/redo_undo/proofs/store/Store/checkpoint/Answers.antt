@@ -1,8 +1,8 @@
 use Rattle.std.proofs.Common.{◌≡◌, ◌-◌, Err, refl, ap, arith, ◌≤◌, ◌∙◌}
-use Rattle.site.specs.declared.outside.Dev.TheVariants.{Log, Flash}
+use Rattle.site.specs.declared.outside.Dev.TheVariants.{Log}
 use Rattle.page_store.specs.Caching.{rules}
 use Rattle.redo_undo.specs.MachineSteps.{checkpoint_works}
-use Rattle.redo_undo.proofs.AskingUndo.{asks_refused, log_alone, not_worn_flash}
+use Rattle.redo_undo.proofs.AskingUndo.{asks_refused, log_alone}
 use Rattle.page_store.proofs.StagingLaws.{stages_ok, stages_err, stages_beside}
 use Rattle.redo_undo.proofs.Asking.{stages_log}
 use Rattle.redo_undo.proofs.AskingFlush.{never_worn_flash, asks_around, flush_then}
@@ -112,23 +112,23 @@ pub returns-in-Err-clause-asks : goal.returns-in-Err-clause-asks
 returns-in-Err-clause-asks g c =
     let pages = c.args.self.now.pages in
     let some : 1 ≤ (rules pages).groups = omega (arith, c.requires.going.both.pages_going.flash.limits.groups) in
-    asks_refused c.in-Err.stop checkpoint_works pages (g.S.Site.state c.args.site.now) (g.S.Site.state c.force.new.site) some (not_worn_flash c.in-Err.stop c.in-Err.ensures.stops) (log_alone (g.S.Site.state c.args.site.now) (g.S.Site.state c.force.new.site) (λ dev other. c.force.ensures.works.reads dev)) (stages_err (stages_log c.in-Err.ensures.works))
+    asks_refused c.in-Err.stop checkpoint_works pages (g.S.Site.state c.args.site.now) (g.S.Site.state c.force.new.site) some (log_alone (g.S.Site.state c.args.site.now) (g.S.Site.state c.force.new.site) (λ dev other. c.force.ensures.works.reads dev)) (stages_err (stages_log c.in-Err.ensures.works))
 
 pub returns-in-Err-flush-clause-asks : goal.returns-in-Err-flush-clause-asks
 returns-in-Err-flush-clause-asks g c =
     asks_around (Err c.in-Err-flush.stop) (Err c.in-Err-flush.stop) checkpoint_works c.args.self.now.pages c.flush.new.pages (g.S.Site.state c.args.site.now) (g.S.Site.state c.force.new.site) (g.S.Site.state c.flush.new.site) (g.S.Site.state c.flush.new.site)
-    c.force.ensures.works.reads (λ dev. refl) tt (λ is. let same : c.in-Err-flush.stop ≡ Worn Flash = cc in ap Err same) (stages_ok (stages_log c.in-Ok.ensures.works)) c.in-Err-flush.ensures.asks.stages c.in-Err-flush.ensures.asks
+    c.force.ensures.works.reads (λ dev. refl) tt (stages_ok (stages_log c.in-Ok.ensures.works)) c.in-Err-flush.ensures.asks.stages c.in-Err-flush.ensures.asks
 
 pub returns-in-Err-save_master-clause-asks : goal.returns-in-Err-save_master-clause-asks
 returns-in-Err-save_master-clause-asks g c =
     asks_around c.flush.result (Err c.in-Err-save_master.stop) checkpoint_works c.args.self.now.pages c.flush.new.pages (g.S.Site.state c.args.site.now) (g.S.Site.state c.force.new.site) (g.S.Site.state c.flush.new.site) (g.S.Site.state c.save_master.new.site)
-    c.force.ensures.works.reads c.save_master.ensures.reads tt (λ is. absurd (never_worn_flash (Err c.in-Err-save_master.stop) c.in-Err-save_master.ensures.stops is)) (stages_ok (stages_log c.in-Ok.ensures.works))
+    c.force.ensures.works.reads c.save_master.ensures.reads tt (stages_ok (stages_log c.in-Ok.ensures.works))
     (flush_then checkpoint_works c.in-Ok-flush.ensures.asks.machine c.in-Ok-flush.ensures.asks.stages (stages_err (stages_beside tt (omega arith) c.in-Err-save_master.ensures.changes c.in-Err-save_master.ensures.calls refl))) c.flush.ensures.asks
 
 pub returns-in-Ok-save_master-clause-asks : goal.returns-in-Ok-save_master-clause-asks
 returns-in-Ok-save_master-clause-asks g c =
     asks_around c.flush.result (Ok tt) checkpoint_works c.args.self.now.pages c.flush.new.pages (g.S.Site.state c.args.site.now) (g.S.Site.state c.force.new.site) (g.S.Site.state c.flush.new.site) (g.S.Site.state c.save_master.new.site)
-    c.force.ensures.works.reads c.save_master.ensures.reads c.in-Ok-flush.ensures.asks.machine (λ is. absurd (no_error is)) (stages_ok (stages_log c.in-Ok.ensures.works))
+    c.force.ensures.works.reads c.save_master.ensures.reads c.in-Ok-flush.ensures.asks.machine (stages_ok (stages_log c.in-Ok.ensures.works))
     (flush_then checkpoint_works c.in-Ok-flush.ensures.asks.machine c.in-Ok-flush.ensures.asks.stages (stages_ok (stages_beside refl (omega arith) c.in-Ok-save_master.ensures.changes c.in-Ok-save_master.ensures.calls refl))) c.flush.ensures.asks
 
 pub returns-in-Err-clause-log_reads : goal.returns-in-Err-clause-log_reads

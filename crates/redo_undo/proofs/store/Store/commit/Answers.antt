@@ -1,6 +1,6 @@
 use Rattle.page_store.proofs.PushLaws.{log_fits}
 use Rattle.std.proofs.Common.{rules, ◌≡◌, ◌∙◌, ◌∷◌, [], ◌++◌, ◌+◌, Bool, true, nat_lt, inl, inr, Err, sym, ap, subst, arith, refl, ◌≤◌, ℕ, List}
-use Rattle.std.specs.Prelude.{if◌then◌else◌, ◌^◌, IsTrue, IsErrOf, Ok, OnOk, Option, Result}
+use Rattle.std.specs.Prelude.{if◌then◌else◌, IsTrue, Ok, OnOk, Option, Result}
 use Rattle.site.specs.State.{IsQuiet, State}
 use Rattle.site.specs.declared.outside.Dev.TheVariants.{Log}
 use Rattle.site.specs.declared.outside.Stop.TheVariants.{Worn}
@@ -96,14 +96,14 @@ module _ (g : Over) (c : After-force g) (newest : Option Master) (records : List
       (c.force.ensures.any_moment list (fits quiet) last.ready.records)
       (c.force.ensures.front list (fits quiet) last.ready.records (calm quiet)) c.requires.may.going.both.pages_going.own))
 
-  skips : (r : Result ℕ Stop) → OnOk r (blocks_to c.force.new.self ≤ blocks_to log + 0) → OnOk r (CallsForUnits log.geometry mid new) → (IsErrOf r (Worn Log) → (has_tail log ≡ true) × (log.ring.hi ≡ 2 ^ 40)) → IsQuiet old →
-      SkipsNone r (Worn Log) pages.flash.geometry c.args.self.now.log c.force.new.self old new 1 0
-  skips r few calls worn quiet = then_skips r c.in-Ok.lsn pages.flash.geometry c.args.self.now.log log c.force.new.self old mid new 1 0 0 0 1 0
+  skips : (r : Result ℕ Stop) → OnOk r (blocks_to c.force.new.self ≤ blocks_to log + 0) → OnOk r (CallsForUnits log.geometry mid new) → IsQuiet old →
+      SkipsNone r pages.flash.geometry c.args.self.now.log c.force.new.self old new 1 0
+  skips r few calls quiet = then_skips r c.in-Ok.lsn pages.flash.geometry c.args.self.now.log log c.force.new.self old mid new 1 0 0 0 1 0
       (skips_on _ c.args.self.now.log.geometry pages.flash.geometry c.args.self.now.log log old mid 1 0 c.requires.may.going.both.sizes
       ((c.in-Ok.ensures.keeps pages newest records table commits held.both).numbers c.requires.may.going.both quiet))
       (skips_on r log.geometry pages.flash.geometry log c.force.new.self mid new 0 0 sizes
       (log_skips c.ring_kept.ensures r log.geometry log c.force.new.self list (has_tail log) mid new 0 (ready_next pages log list mid last.ready) (λ tail. tail)
-      (c.force.ensures.any_moment list (fits quiet) last.ready.records) (c.force.ensures.front list (fits quiet) last.ready.records (calm quiet)) few calls worn)) (omega arith) refl
+      (c.force.ensures.any_moment list (fits quiet) last.ready.records) (c.force.ensures.front list (fits quiet) last.ready.records (calm quiet)) few calls)) (omega arith) refl
 
 pub returns-in-Ok-force-clause-holds : goal.returns-in-Ok-force-clause-holds
 returns-in-Ok-force-clause-holds g c newest records table commits held may =
@@ -168,7 +168,7 @@ returns-in-Err-force-clause-keeps g c newest records table commits held may =
         worn = λ is. absurd (never_worn_flash (Err c.in-Err-force.stop) c.in-Err-force.ensures.stops is);
         readable = appends_foreign (Err c.in-Err-force.stop) c.in-Err-force.ensures.stops;
       };
-      numbers = skips g s newest records table commits held may (Err c.in-Err-force.stop) tt tt (λ is. let same : c.in-Err-force.stop ≡ Worn Log = cc in c.in-Err-force.ensures.worn.0 (ap Err same));
+      numbers = skips g s newest records table commits held may (Err c.in-Err-force.stop) tt tt;
     }
 
 pub returns-in-Ok-force-clause-keeps : goal.returns-in-Ok-force-clause-keeps
@@ -180,16 +180,16 @@ returns-in-Ok-force-clause-keeps g c newest records table commits held may =
     (skips g s newest records table commits held may (Ok c.in-Ok.lsn)
     (same_at_most c.log_record.new.log c.force.new.self c.in-Ok.ensures.some c.in-Ok-force.ensures.next c.in-Ok-force.ensures.empty)
     (log_calls (Ok c.in-Ok.lsn) log.geometry log.ring.hi c.force.new.self.ring.hi (list g s newest records table commits held may) (has_tail log) (g.S.Site.state c.log_record.new.site) (g.S.Site.state c.force.new.site)
-    (c.force.ensures.changes m.ready.blocks.honest) (c.in-Ok-force.ensures.reaches _ m.ready.blocks m.ready.records) c.in-Ok-force.ensures.next (c.in-Ok-force.ensures.past m.ready.blocks.honest)) (λ is. cc))
+    (c.force.ensures.changes m.ready.blocks.honest) (c.in-Ok-force.ensures.reaches _ m.ready.blocks m.ready.records) c.in-Ok-force.ensures.next (c.in-Ok-force.ensures.past m.ready.blocks.honest)))
 
 pub returns-in-Err-clause-asks : goal.returns-in-Err-clause-asks
-returns-in-Err-clause-asks g c = asks_nothing _ c.args.self.now.pages _ _ c.log_record.ensures.works.reads (never_worn_flash (Err c.in-Err.stop) c.in-Err.ensures.stops) (stages_err (stages_log c.in-Err.ensures.works))
+returns-in-Err-clause-asks g c = asks_nothing _ c.args.self.now.pages _ _ c.log_record.ensures.works.reads (stages_err (stages_log c.in-Err.ensures.works))
 
 pub returns-in-Err-force-clause-asks : goal.returns-in-Err-force-clause-asks
-returns-in-Err-force-clause-asks g c = asks_nothing _ c.args.self.now.pages _ _ (λ d. c.force.ensures.reads d ∙ c.log_record.ensures.works.reads d) (never_worn_flash (Err c.in-Err-force.stop) c.in-Err-force.ensures.stops) (stages_then (λ has. omega arith) (stages_log c.in-Ok.ensures.works) (stages_alone c.in-Err-force.ensures.changes c.in-Err-force.ensures.goes (λ honest quiet. tt)))
+returns-in-Err-force-clause-asks g c = asks_nothing _ c.args.self.now.pages _ _ (λ d. c.force.ensures.reads d ∙ c.log_record.ensures.works.reads d) (stages_then (λ has. omega arith) (stages_log c.in-Ok.ensures.works) (stages_alone c.in-Err-force.ensures.changes c.in-Err-force.ensures.goes (λ honest quiet. tt)))
 
 pub returns-in-Ok-force-clause-asks : goal.returns-in-Ok-force-clause-asks
-returns-in-Ok-force-clause-asks g c = asks_nothing _ c.args.self.now.pages _ _ (λ d. c.force.ensures.reads d ∙ c.log_record.ensures.works.reads d) (λ is. cc) (stages_then (λ has. omega arith) (stages_log c.in-Ok.ensures.works) (stages_alone c.in-Ok-force.ensures.changes c.in-Ok-force.ensures.goes c.in-Ok-force.ensures.quiet))
+returns-in-Ok-force-clause-asks g c = asks_nothing _ c.args.self.now.pages _ _ (λ d. c.force.ensures.reads d ∙ c.log_record.ensures.works.reads d) (stages_then (λ has. omega arith) (stages_log c.in-Ok.ensures.works) (stages_alone c.in-Ok-force.ensures.changes c.in-Ok-force.ensures.goes c.in-Ok-force.ensures.quiet))
 
 pub returns-in-Err-force-clause-reads : goal.returns-in-Err-force-clause-reads
 returns-in-Err-force-clause-reads g c = λ d. c.force.ensures.reads d ∙ c.log_record.ensures.works.reads d

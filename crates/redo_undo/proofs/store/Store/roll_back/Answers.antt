@@ -64,12 +64,12 @@ returns-in-Err-clause-asks g c newest records table commits h writes active =
 pub returns-then-blocks-before-clause-asks : goal.returns-then-blocks-before-clause-asks
 returns-then-blocks-before-clause-asks g c newest records table commits h writes active =
     asks_same _ _ _ _ _ _ _ (sym (c.sessions_are_undone.ensures newest records c.args.entry.begin c.args.entry.last writes active))
-    (asks_fails c.in-Ok.field-0 Foreign _ _ _ _ _ (λ is. cc) (c.in-Ok.ensures.asks newest records table commits _ h.both (active_left c.args.self.now _ newest records table commits c.args.entry.begin c.args.entry.last writes h active) refl refl))
+    (asks_fails c.in-Ok.field-0 Foreign _ _ _ _ _ (c.in-Ok.ensures.asks newest records table commits _ h.both (active_left c.args.self.now _ newest records table commits c.args.entry.begin c.args.entry.last writes h active) refl refl))
 
 pub returns-then-blocks-owed-clause-asks : goal.returns-then-blocks-owed-clause-asks
 returns-then-blocks-owed-clause-asks g c newest records table commits h writes active =
     asks_same _ _ _ _ _ _ _ (sym (c.sessions_are_undone.ensures newest records c.args.entry.begin c.args.entry.last writes active))
-    (asks_fails c.in-Ok.field-0 Foreign _ _ _ _ _ (λ is. cc) (c.in-Ok.ensures.asks newest records table commits _ h.both (active_left c.args.self.now _ newest records table commits c.args.entry.begin c.args.entry.last writes h active) refl refl))
+    (asks_fails c.in-Ok.field-0 Foreign _ _ _ _ _ (c.in-Ok.ensures.asks newest records table commits _ h.both (active_left c.args.self.now _ newest records table commits c.args.entry.begin c.args.entry.last writes h active) refl refl))
 
 pub returns-clause-asks : goal.returns-clause-asks
 returns-clause-asks g c newest records table commits h writes active =

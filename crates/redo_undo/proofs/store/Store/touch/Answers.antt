@@ -17,9 +17,6 @@ returns-clause-holds g c newest records table commits h =
 pub returns-clause-keeps : goal.returns-clause-keeps
 returns-clause-keeps g c newest records table commits h = keeps_of (under_leaves_for newest _ _ _ table commits _) (c.touch.ensures.keeps newest records table commits h.both)
 
-pub returns-clause-fills : goal.returns-clause-fills
-returns-clause-fills g c newest records table commits h = c.touch.ensures.fills newest records table commits h.both
-
 pub returns-clause-works : goal.returns-clause-works
 returns-clause-works g c =
     let works = c.touch.ensures.logs_nothing.works in

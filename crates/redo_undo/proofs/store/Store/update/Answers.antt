@@ -1,8 +1,5 @@
-use Rattle.redo_undo.proofs.Fillings.{fills_more, update_octets}
-use Rattle.record_model.specs.State.{Content}
-use Rattle.log_records.specs.Spelling.{content_spelling}
 use Rattle.image_meaning.proofs.Leaving.{under_leaves_for}
-use Rattle.std.proofs.Common.{refl, ℕ, List, rules, ◌≡◌, ◌+◌, ◌/◌, ◌%◌, ◌++◌, ◌∷◌, [], length, ap, sym, subst, arith}
+use Rattle.std.proofs.Common.{refl, ℕ, List, rules, ◌≡◌, ◌+◌, ◌++◌, ◌∷◌, [], sym, subst}
 use Rattle.log_records.specs.declared.log_record.LogRecord.{LogRecord}
 use Rattle.redo_undo.proofs.Saved.{finds_kept}
 use Rattle.std.specs.Prelude.{Ok, Err, IsTrue}
@@ -39,11 +36,6 @@ returns-in-Ok-clause-keeps g c newest records table commits h = keeps_of (under_
 
 pub returns-in-Err-clause-keeps : goal.returns-in-Err-clause-keeps
 returns-in-Err-clause-keeps g c newest records table commits h = keeps_of (under_leaves_for newest _ _ _ table commits _) (c.in-Err.ensures.keeps newest records table commits h.both)
-
-pub returns-in-Ok-clause-fills : goal.returns-in-Ok-clause-fills
-returns-in-Ok-clause-fills g c =
-    let same = ap (λ (x : Content). length (content_spelling x)) c.copy_of.ensures in
-    fills_more (omega (arith, same, update_octets c.args.txn c.args.prev (c.args.number / 32) (c.args.number % 32) c.shown.result c.copy_of.result c.shown.ensures.short)) c.in-Ok.ensures.fills
 
 pub returns-in-Ok-clause-works : goal.returns-in-Ok-clause-works
 returns-in-Ok-clause-works g c =

@@ -1,0 +1,89 @@
+-- Where the first lines of a run append to a ring that stands at its end, so does all of it.
+use Rattle.std.proofs.Common.{◌≡◌, ℕ, ◌≤◌, Bool, true, List, [], ◌++◌, take, drop, Option, Some, None, sym, ap, subst, ◌∙◌, arith, append_assoc, take-append-drop}
+use Rattle.std.proofs.lemmas.List.{take-take}
+use Rattle.site.specs.State.{Image}
+use Rattle.site.specs.declared.geometry.Geometry.{Geometry}
+use Rattle.site.specs.declared.outside.Dev.{Dev}
+use Rattle.record_model.specs.declared.words.CacheLine.{CacheLine}
+use Rattle.record_model.specs.State.{State}
+use Rattle.record_model.specs.Run.{Line}
+use Rattle.checkpoint.specs.declared.master.Master.{Master}
+use Rattle.log_records.specs.declared.log_record.LogRecord.{LogRecord}
+use Rattle.image_meaning.specs.Meaning.{picture_under}
+use Rattle.second_chance.specs.Machine.{rules_of}
+use Rattle.ring_machine.specs.Machine.{Work, first_worn}
+use Rattle.ring_machine.specs.Restart.{restart_work}
+use Rattle.ring_machine.proofs.Works.{first_stopped}
+use Rattle.engine.specs.Image.{IsSound}
+use Rattle.engine.specs.RingWork.{machine_on}
+use Rattle.face.specs.Range.{run_of}
+use Rattle.face.specs.Run.{Run, after_lines, answered, first_lines, turns_of}
+use Rattle.face.specs.Worn.{WearsFirst, WearsNone, WearsNoneBefore, rings_of, worn_by}
+use Rattle.face.proofs.Fronts.{first_same}
+use Rattle.face.proofs.Pagings.{taken_first}
+use Rattle.face.proofs.WornRuns.{none_prefix, rings_are, rings_join, turns_work}
+
+module _ (pool : ℕ) (g : Geometry) (opening : State) (newest : Option Master) (image : Image) (blocks : List (List LogRecord)) where
+  abbrev restart : List Work
+  restart = restart_work (picture_under newest g image blocks)
+
+  abbrev worn_after : List Work → Option Dev
+  worn_after works = first_worn (rules_of pool g.groups) (restart ++ works) (machine_on g image)
+
+  both : (first later : List Line) → worn_after (rings_of opening (first ++ later)) ≡ first_worn (rules_of pool g.groups) ((restart ++ rings_of opening first) ++ rings_of (after_lines opening first []) later) (machine_on g image)
+  both first later =
+      ap (λ (w : List Work). first_worn (rules_of pool g.groups) w (machine_on g image))
+      (ap (λ (w : List Work). restart ++ w) (rings_join opening first later) ∙ sym (append_assoc restart (rings_of opening first) (rings_of (after_lines opening first []) later)))
+
+  pub front_worn : (first later : List Line) (dev : Dev) → worn_after (rings_of opening first) ≡ Some dev → worn_after (rings_of opening (first ++ later)) ≡ Some dev
+  front_worn first later dev is = both first later ∙ first_stopped (rules_of pool g.groups) (restart ++ rings_of opening first) (rings_of (after_lines opening first []) later) (machine_on g image) dev is
+
+  pub front_none : (first later : List Line) → worn_after (rings_of opening (first ++ later)) ≡ None → worn_after (rings_of opening first) ≡ None
+  front_none first later none =
+      none_prefix (rules_of pool g.groups) (restart ++ rings_of opening first) (rings_of (after_lines opening first []) later) (machine_on g image) (sym (both first later) ∙ none)
+
+-- by lines
+worn_first : (pool : ℕ) (run : Run) (newest : Option Master) (image : Image) (blocks : List (List LogRecord)) (n : ℕ) → worn_by pool run (turns_of (first_lines run n)) newest image blocks ≡ worn_after pool run.geometry run.opening newest image blocks (rings_of run.opening (take n (answered run)))
+worn_first pool run newest image blocks n = ap (λ (w : List Work). first_worn (rules_of pool run.geometry.groups) w (machine_on run.geometry image)) (rings_are run newest image blocks n)
+
+pub worn_all : (pool : ℕ) (run : Run) (newest : Option Master) (image : Image) (blocks : List (List LogRecord)) → worn_by pool run (turns_of run) newest image blocks ≡ worn_after pool run.geometry run.opening newest image blocks (rings_of run.opening (answered run))
+worn_all pool run newest image blocks = ap (worn_after pool run.geometry run.opening newest image blocks) (turns_work run.opening run.lines run.listings)
+
+-- fewer lines append to none where more do not
+pub none_first : (pool : ℕ) (run : Run) (n k : ℕ) (image : Image) → n ≤ k → WearsNone pool (first_lines run k) image → WearsNone pool (first_lines run n) image
+none_first pool run n k image few none newest blocks sound =
+    let long = take k (answered run) in
+    let split : take n (answered run) ++ drop n long ≡ long = ap (λ (l : List Line). l ++ drop n long) (sym (take-take n k (answered run) few)) ∙ take-append-drop n long in
+    worn_first pool run newest image blocks n
+    ∙ front_none pool run.geometry run.opening newest image blocks (take n (answered run)) (drop n long)
+    (ap (λ (l : List Line). worn_after pool run.geometry run.opening newest image blocks (rings_of run.opening l)) split ∙ sym (worn_first pool run newest image blocks k) ∙ none newest blocks sound)
+
+-- and so with the first lines of another run
+pub earlier_same : (pool : ℕ) (run : Run) (lines : List Line) (n : ℕ) → take n lines ≡ take n run.lines → (image : Image) → WearsNoneBefore pool run n image → WearsNoneBefore pool (record run { lines = lines }) n image
+earlier_same pool run lines n same image none k less =
+    let front : take k lines ≡ take k run.lines = sym (take-take k n lines (omega (arith, less))) ∙ ap (take k) same ∙ take-take k n run.lines (omega (arith, less)) in
+    subst (λ (r : Run). WearsNone pool r image) (sym (first_same run lines k front)) (none k less)
+
+-- the lines of the octets that were taken are the first ones of all that are left
+pub never_worn : (pool : ℕ) (g : Geometry) (opening : State) (listings : List (List CacheLine)) (ended : Bool) (left octets rest : List ℕ) → left ≡ octets ++ rest → (ended ≡ true → rest ≡ []) → (begun : ℕ) (image : Image) (newest : Option Master) (blocks : List (List LogRecord)) → IsSound newest g image blocks → (dev : Dev)
+    → WearsFirst pool (first_lines (run_of g opening ended octets listings) begun) dev image → WearsNone pool (run_of g opening true left []) image → ⊥
+never_worn pool g opening listings ended left octets rest is none begun image newest blocks sound dev wears room =
+    let part = run_of g opening ended octets listings in
+    let all = run_of g opening true left [] in
+    let first = taken_first ended left octets rest is none in
+    let own = answered part in
+    let split : answered all ≡ take begun own ++ (drop begun own ++ first.0) =
+    first.1 ∙ ap (λ (l : List Line). l ++ first.0) (sym (take-append-drop begun own)) ∙ append_assoc (take begun own) (drop begun own) first.0 in
+    let there = front_worn pool g opening newest image blocks (take begun own) (drop begun own ++ first.0) dev (sym (worn_first pool part newest image blocks begun) ∙ wears newest blocks sound) in
+    let whole = worn_all pool all newest image blocks ∙ ap (λ (l : List Line). worn_after pool g opening newest image blocks (rings_of opening l)) split ∙ there in
+    let never = room newest blocks sound in
+    absurd cc
+
+-- the same of the first lines of a run
+pub never_worn_within : (pool : ℕ) (run : Run) (begun : ℕ) (image : Image) (newest : Option Master) (blocks : List (List LogRecord)) → IsSound newest run.geometry image blocks → (dev : Dev) → WearsFirst pool (first_lines run begun) dev image → WearsNone pool run image → ⊥
+never_worn_within pool run begun image newest blocks sound dev wears room =
+    let own = answered run in
+    let there = front_worn pool run.geometry run.opening newest image blocks (take begun own) (drop begun own) dev (sym (worn_first pool run newest image blocks begun) ∙ wears newest blocks sound) in
+    let whole = worn_all pool run newest image blocks ∙ ap (λ (l : List Line). worn_after pool run.geometry run.opening newest image blocks (rings_of run.opening l)) (sym (take-append-drop begun own)) ∙ there in
+    let never = room newest blocks sound in
+    absurd cc
