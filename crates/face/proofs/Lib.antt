@@ -5,10 +5,10 @@ mod CommandLaws
 mod Counted
 mod Cuts
 mod Demanded
-mod Endings
+pub mod Endings
 mod Ends
 mod Faults
-mod Firsts
+pub mod Firsts
 mod Fronts
 mod Heard
 mod Hearings

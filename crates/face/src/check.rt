@@ -45,7 +45,7 @@ fn judge<S: Site>(alloc: Global, site: &mut S) -> Result<Verdict, Stop>
 /// The work of `check`: tells whether the devices are sound, or the first rule that fails, and changes nothing. The
 /// answer is the status: 0 where they are sound, 3 where a device failed, 4 for want of memory, 6 where telling failed,
 /// 11 where they aren't sound. Devices without sizes fail the first rule.
-pub fn check<S: Site>(alloc: Global, site: &mut S) -> u8
+pub fn serve_check<S: Site>(alloc: Global, site: &mut S) -> u8
     ensures check { CheckContract (S.state site.old) (S.state site.new) result }
     ensures goes { Preserves (S.state site.old) (S.state site.new) }
     ensures faults { result ≡ 0 → SameFaults (S.state site.old) (S.state site.new) }

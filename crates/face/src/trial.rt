@@ -21,7 +21,7 @@ ghost use Rattle.face.specs.Living.{Ends, HasLivedOne, IsGivenUp, IsHaltOfTrial,
 use crate::fault_lines::tell_halt;
 use crate::halt::Halt;
 use crate::laws::{blank_stands, what_is_left_opens};
-use crate::top::serve;
+use crate::running::serve;
 use shell_text::Line;
 use site::{Failed, MemSite, Site, Stop, tell_all};
 use std::alloc::Global;

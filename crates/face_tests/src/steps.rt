@@ -1,5 +1,5 @@
 // Steps over a site in memory: a test is a table of them, which one function plays.
-use face::face;
+use top_call::face;
 use site::{Call, Dev, Geometry, MemSite, Site};
 use std::alloc::{AllocError, Global};
 use std::test::Fail;

@@ -5,7 +5,8 @@ ghost use Rattle.face.specs.declared.halt.Halt.{Halt};
 ghost use Rattle.face.specs.Texts.{status_of};
 
 use command_line::{Request, Unread, read_words, sizes};
-use face::{Halt, face};
+use face::Halt;
+use top_call::face;
 use file_site::{FileSite, LockFile, tell_line};
 use image_check::{Place, Verdict, check_image};
 use notices::{say, see};

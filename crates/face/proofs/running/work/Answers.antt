@@ -34,7 +34,7 @@ use Rattle.face.proofs.NextUnits.{next_later}
 use Rattle.ring_machine.proofs.Performing.{performs_as}
 use Rattle.face.specs.Worn.{IsMirrored}
 use Rattle.face.proofs.WornRuns.{next_mirrored, none_mirrored, rings_left, rings_with, wears_next}
-use Rattle.face.proofs.top.work.Goals as goal
+use Rattle.face.proofs.running.work.Goals as goal
 
 pub returns-in-Err-clause-works : goal.returns-in-Err-clause-works
 returns-in-Err-clause-works g c = ([], λ run begins same. never_opened c.args.pool run (g.S.Site.state c.args.site.now) (g.S.Site.state c.open.new.site) c.in-Err.halt (c.in-Err.ensures.stops run begins) c.in-Err.ensures.halts (c.open.ensures.left begins.honest) (λ dev is. c.in-Err.ensures.wears run begins dev (ap Err is)) (c.in-Err.ensures.numbers run begins) (c.in-Err.ensures.reads run begins))

@@ -5,7 +5,7 @@ use Rattle.face.proofs.Endings.{refuses_devices, tells_fault, tells_none}
 use Rattle.face.proofs.Faults.{begins, halted, finished, run_contract}
 use Rattle.face.proofs.Firsts.{first_halted, first_none}
 use Rattle.face.proofs.Hearings.{heard_done, heard_halted}
-use Rattle.face.proofs.top.serve.Goals as goal
+use Rattle.face.proofs.running.serve.Goals as goal
 
 pub returns-in-Ok-clause-run : goal.returns-in-Ok-clause-run
 returns-in-Ok-clause-run g c =

@@ -16,7 +16,7 @@ use Rattle.engine.specs.Invariant.{Invariant, sizes_of}
 use Rattle.face.specs.Lines.{IsSource}
 use Rattle.face.proofs.Cuts.{Cut}
 use Rattle.face.specs.Causes.{SameFaults}
-use Rattle.face.proofs.top.work.Given as goal
+use Rattle.face.proofs.running.work.Given as goal
 
 abbrev pub invariant-loop-line : goal.invariant-loop-line
 invariant-loop-line g l =

@@ -10,7 +10,7 @@ use Rattle.command_line.specs.Words.{IsLoad, IsNew, IsRight, IsSimulate, IsTrial
 use Rattle.face.proofs.Endings.{only_tells}
 use Rattle.command_line.proofs.WordLaws.{one_geometry, one_load, one_pool, one_simulation, one_trial}
 use Rattle.face.proofs.Firsts.{first_line, first_simulated}
-use Rattle.face.proofs.top.face.Goals as goal
+use Rattle.top_call.proofs.top.face.Goals as goal
 
 pub returns-in-Ok-Run-clause-run : goal.returns-in-Ok-Run-clause-run
 returns-in-Ok-Run-clause-run g c pool is_run =
@@ -39,7 +39,7 @@ returns-in-Ok-Trial-clause-trial g c t is_trial =
     subst (λ (x : TrialSizes). (numbers : List ℕ) × TrialContract x.geometry (g.S.Site.state c.args.site.now) (g.S.Site.state c.serve_trial.new.site) c.serve_trial.result numbers) (one_trial (words_of c.args.words.now) _ t found is_trial) c.serve_trial.ensures.trial
 
 pub returns-in-Ok-Check-clause-check : goal.returns-in-Ok-Check-clause-check
-returns-in-Ok-Check-clause-check g c is_check = c.check.ensures.check
+returns-in-Ok-Check-clause-check g c is_check = c.serve_check.ensures.check
 
 pub returns-in-Err-Words-clause-refused : goal.returns-in-Err-Words-clause-refused
 returns-in-Err-Words-clause-refused g c two = only_tells _ (g.S.Site.state c.args.site.now) (g.S.Site.state c.tell_words.new.site) c.tell_words.result c.tell_words.ensures

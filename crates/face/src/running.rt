@@ -1,5 +1,5 @@
-// The top call, and the work of `run`.
-ghost use Rattle.std.specs.Prelude.{◌≡◌, ◌⊎◌, ◌≤◌, ◌∷◌, [], ℕ, List, Option, IfErr, OnOk, IsTrue};
+// The work of `run`, that of `trial` on a site of its own, and what comes of want of memory.
+ghost use Rattle.std.specs.Prelude.{◌≡◌, ◌≤◌, ◌∷◌, [], ℕ, List, Option, IfErr, IsTrue};
 ghost use Rattle.face.specs.Causes.{FirstDecides, RunFaults, SameFaults};
 ghost use Rattle.site.specs.Calls.{Preserves};
 ghost use Rattle.face.specs.declared.halt.Halt.{Halt};
@@ -15,29 +15,24 @@ ghost use Rattle.face.specs.Working.{RunOutcome};
 ghost use Rattle.command_line.specs.declared.request.Load.{Load};
 ghost use Rattle.command_line.specs.declared.request.Simulation.{Simulation};
 ghost use Rattle.command_line.specs.declared.request.TrialSizes.{TrialSizes};
-ghost use Rattle.command_line.specs.Words.{IsCheck, IsRun, IsNew, IsLoad, IsSimulate, HasTrialLimits, IsTrial, IsRight};
-ghost use Rattle.command_line.specs.Words.{HasDash, words_of};
+ghost use Rattle.command_line.specs.Words.{HasTrialLimits};
 ghost use Rattle.face.specs.Check.{CheckContract};
 ghost use Rattle.trace_report.specs.Contract.{SimulateContract};
 ghost use Rattle.face.specs.Trial.{TrialContract};
-ghost use Rattle.face.specs.Refusals.{RefusesWords, RefusesDevices, LacksMemory};
+ghost use Rattle.face.specs.Refusals.{RefusesDevices, LacksMemory};
 
 use crate::answer::answer;
-use crate::check::check;
-use crate::fault_lines::{tell_halt, tell_memory, tell_words};
+use crate::fault_lines::{tell_halt, tell_memory};
 use crate::halt::Halt;
-use crate::load::serve_load;
-use crate::new_database::make_new;
 use crate::opening::open;
 use crate::source::{Heard, Source};
 use crate::trial::trial;
-use command_line::{Request, TrialSizes, Unread, read_words};
+use command_line::TrialSizes;
 use engine::{queue_is_on_flash, versions_are_seen};
 use record_model::{Command, serial_order};
 use redo_undo::works_add_up;
 use site::{MemSite, Site};
 use std::alloc::Global;
-use trace_report::simulate;
 
 // A run has at most one line more than it takes octets.
 const LINES: u64 = (1 << 40) + 1;
@@ -120,8 +115,8 @@ pub fn serve<S: Site>(alloc: Global, pool: u32, site: &mut S) -> u8
     }
 }
 
-// Memory was wanted before anything was done: the line is told, and the status is 4.
-fn lack_memory<S: Site>(site: &mut S) -> u8
+/// Memory was wanted before anything was done: the line is told, and the answer is the status, 4.
+pub fn lack_memory<S: Site>(site: &mut S) -> u8
     ensures run { (pool : ℕ) → RunContract pool (S.state site.old) (S.state site.new) result }
     ensures load { (load : Load) → LoadContract load (S.state site.old) (S.state site.new) result }
     ensures new { (g : Geometry) → NewContract g (S.state site.old) (S.state site.new) result }
@@ -140,8 +135,9 @@ fn lack_memory<S: Site>(site: &mut S) -> u8
     4
 }
 
-// The work of `trial` on a site in memory that is made for it.
-fn serve_trial<S: Site>(alloc: Global, sizes: &TrialSizes, site: &mut S) -> u8
+/// The work of `trial` on a site in memory that is made for it. The answer is the status: 0, 4, 5, 6 or 7, those of a
+/// run whose devices never fail.
+pub fn serve_trial<S: Site>(alloc: Global, sizes: &TrialSizes, site: &mut S) -> u8
     requires limits { HasTrialLimits sizes.now }
     ensures trial { (numbers : List ℕ)
         × TrialContract sizes.now.geometry (S.state site.old) (S.state site.new) result numbers }
@@ -155,64 +151,5 @@ fn serve_trial<S: Site>(alloc: Global, sizes: &TrialSizes, site: &mut S) -> u8
             status
         }
         Err(_) => lack_memory(site),
-    }
-}
-
-/// The top call: the program's words, without its own name, and the site that it works on. The answer is the status
-/// with which the program ends. The words `run POOL`, with POOL from 1 to 4,096, are the work of `serve`. The words
-/// `new PAGES GROUPS BLOCKS` test that the devices have these sizes and are blank. The words `load COUNT SEED POOL`,
-/// with COUNT from 1 to 100,000 and SEED below 2^64, are the work of `serve_load`. The words `simulate GROUPS POOL`,
-/// with GROUPS a multiple of 4 from 8 to 16,384, tell what three page caches do with the trace on the input, and touch
-/// no device. The words `trial PAGES GROUPS BLOCKS POOL`, with at most 1,024 pages, 256 groups and 4,096 blocks, are
-/// the work of `trial`, on a site in memory of these sizes, and touch no device either. The word `check` tells whether
-/// the devices are sound, and changes nothing. All other words have status 2.
-/// Reading the words may want memory, which has status 4; then nothing is read or changed.
-pub fn face<S: Site>(alloc: Global, words: &[String], site: &mut S) -> u8
-    // What each command does, and when each of its statuses comes.
-    ensures run { (pool : ℕ) → IsRun (words_of words.now) pool
-        → RunContract pool (S.state site.old) (S.state site.new) result }
-    ensures load { (load : Load) → IsLoad (words_of words.now) load
-        → LoadContract load (S.state site.old) (S.state site.new) result }
-    ensures new { (g : Geometry) → IsNew (words_of words.now) g
-        → NewContract g (S.state site.old) (S.state site.new) result }
-    ensures simulate { (s : Simulation) → IsSimulate (words_of words.now) s
-        → SimulateContract s.groups s.pool (S.state site.old) (S.state site.new) result }
-    ensures trial { (t : TrialSizes) → IsTrial (words_of words.now) t → (numbers : List ℕ)
-        × TrialContract t.geometry (S.state site.old) (S.state site.new) result numbers }
-    ensures check { IsCheck (words_of words.now) → CheckContract (S.state site.old) (S.state site.new) result }
-    // Which octets a run takes of an honest site, and with which status, whatever stands on its devices.
-    ensures hears { ((pool : ℕ) × IsRun (words_of words.now) pool) → IsTrue (S.state site.old).honest
-        → HearsInTime result (S.state site.old) (S.state site.new) }
-    // Devices without sizes have status 9, or memory was wanted before anything was done.
-    ensures sizes { ((pool : ℕ) × IsRun (words_of words.now) pool) → HasNoSizes (S.state site.old)
-        → RefusesDevices result (S.state site.old) (S.state site.new)
-        ⊎ LacksMemory result (S.state site.old) (S.state site.new) }
-    ensures load_sizes { ((load : Load) × IsLoad (words_of words.now) load) → HasNoSizes (S.state site.old)
-        → RefusesDevices result (S.state site.old) (S.state site.new)
-        ⊎ LacksMemory result (S.state site.old) (S.state site.new) }
-    // All other words are refused, or memory was wanted before anything was done.
-    ensures words { (result ≡ 2)
-        ⊎ (IsRight (words_of words.now) ⊎ LacksMemory result (S.state site.old) (S.state site.new)) }
-    ensures wrong { result ≡ 2 → IsRight (words_of words.now) → ⊥ }
-    ensures refused { result ≡ 2 → RefusesWords (S.state site.old) (S.state site.new) }
-    // Words of which one begins with a dash want no memory.
-    ensures dashed { HasDash (words_of words.now) → result ≡ 2 }
-    // The first failed call decides the status.
-    ensures first { FirstDecides result (S.state site.old) (S.state site.new) }
-    ensures goes { Preserves (S.state site.old) (S.state site.new) }
-    ensures faults { result ≡ 0 → SameFaults (S.state site.old) (S.state site.new) }
-{
-    match read_words(alloc, words) {
-        Ok(Request::Run(pool)) => serve(alloc, pool, site),
-        Ok(Request::New(geometry)) => make_new(&geometry, site),
-        Ok(Request::Load(load)) => serve_load(alloc, &load, site),
-        Ok(Request::Simulate(caches)) => simulate(alloc, caches.groups, caches.pool, site),
-        Ok(Request::Trial(sizes)) => serve_trial(alloc, &sizes, site),
-        Ok(Request::Check) => check(alloc, site),
-        Err(Unread::Words) => {
-            let _ = tell_words(site);
-            2
-        }
-        Err(Unread::Memory) => lack_memory(site),
     }
 }

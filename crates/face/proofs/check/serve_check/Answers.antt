@@ -9,7 +9,7 @@ use Rattle.face.specs.Texts.{fault_line}
 use Rattle.face.specs.declared.halt.Halt.TheVariants as halt
 use Rattle.face.proofs.CheckLaws.{answer_stopped, answer_told, answer_untold, checked, contract, fails_unread, first_verdict, never_stopped, no_verdict, six_is_neither, stopped_others, told_others}
 use Rattle.face.proofs.Firsts.{first_halted, first_untold, work_halts}
-use Rattle.face.proofs.check.check.Goals as goal
+use Rattle.face.proofs.check.serve_check.Goals as goal
 
 pub returns-in-Ok-tell_verdict-clause-check : goal.returns-in-Ok-tell_verdict-clause-check
 returns-in-Ok-tell_verdict-clause-check g c =

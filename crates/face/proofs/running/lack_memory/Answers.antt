@@ -9,7 +9,7 @@ use Rattle.face.proofs.CheckLaws.{lacked_check}
 use Rattle.face.proofs.Firsts.{first_line}
 use Rattle.face.proofs.MemoryLaws.{lacked_contract, lacked_load_run, lacked_run}
 use Rattle.face.proofs.Trials.{lacked_trial}
-use Rattle.face.proofs.top.lack_memory.Goals as goal
+use Rattle.face.proofs.running.lack_memory.Goals as goal
 
 pub returns : goal.returns
 returns g c =
