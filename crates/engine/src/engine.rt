@@ -101,7 +101,7 @@ impl Engine {
             → OnOk result (HasLastFrom g (rules_of pool g.groups)
             (restart_works (picture_under newest g (S.state site.old).image blocks))
             (cache_on g (S.state site.old).image) (S.state site.old) (S.state site.new)) }
-        ensures performs { IsTrue (S.state site.old).honest → IsQuiet (S.state site.old)
+        ensures performs { IsTrue (S.state site.old).honest
             → (g : Geometry) (newest : Option Master) (blocks : List (List LogRecord))
             → IsSound newest g (S.state site.old).image blocks
             → PerformsFrom result (λ engine. engine.store) (rules_of pool g.groups)

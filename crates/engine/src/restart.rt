@@ -197,8 +197,7 @@ fn recover<S: Site>(alloc: Global, site: &mut S, opened: Opened) -> Result<Resta
     ensures recovers { (newest : Option Master) (blocks : List (List LogRecord)) (table : List Content) (commits : ℕ)
         → IsReady opened (S.state site.old) newest blocks table commits
         → Recovers result opened (S.state site.old) (S.state site.new) newest blocks table commits }
-    ensures performs { IsQuiet (S.state site.old)
-        → (newest : Option Master) (blocks : List (List LogRecord)) (table : List Content) (commits : ℕ)
+    ensures performs { (newest : Option Master) (blocks : List (List LogRecord)) (table : List Content) (commits : ℕ)
         → IsReady opened (S.state site.old) newest blocks table commits
         → PerformsFrom result (λ restarted. restarted.store) (rules opened.pages)
         (restart_work (picture_under newest opened.pages.flash.geometry (S.state site.old).image blocks))
@@ -297,7 +296,7 @@ pub fn restart<S: Site>(alloc: Global, site: &mut S, pool: u32) -> Result<Restar
         (restart_works (picture_under newest g (S.state site.old).image blocks))
         (cache_on g (S.state site.old).image) (S.state site.old) (S.state site.new)) }
 
-    ensures performs { IsTrue (S.state site.old).honest → IsQuiet (S.state site.old)
+    ensures performs { IsTrue (S.state site.old).honest
         → (g : Geometry) (newest : Option Master) (blocks : List (List LogRecord))
         → IsSound newest g (S.state site.old).image blocks
         → PerformsFrom result (λ restarted. restarted.store) (rules_of pool g.groups)

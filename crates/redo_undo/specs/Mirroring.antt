@@ -48,11 +48,12 @@ abbrev pub PerformsStore : {T : Type 0} → Result T Stop → List Work → Stor
 PerformsStore result works old new before now =
     Performs result (rules old.pages) works (MirrorsStore old before.image) (MirrorsStore new now.image)
 
--- While a log is redone its tail has no records, and the machine rests on it: so does a call on pages alone this work,
--- from the rest at whatever block and master unit.
+-- While a log is redone its tail has no records, and no page waits for one: the machine at rest, with its next block
+-- and its next master unit.
 abbrev pub resting : ℕ → ℕ → Cache → Machine
 resting next masters cache = record { cache = cache; tail = empty_at next; masters = masters }
 
+-- a call that redoes does this work of the cache, from rest to rest, wherever log and masters stand
 pub record PerformsAtRest {T : Type 0} (result : Result T Stop) (works : List CacheWork)
     (old new : PageStore) : Type 0 where
   pub from : (next masters : ℕ) → next ≤ 2 ^ 40 → masters ≤ 2 ^ 40

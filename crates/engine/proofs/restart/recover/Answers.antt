@@ -348,19 +348,19 @@ returns-clause-next g c honest is =
 -- What it makes of the machine.
 
 pub returns-in-Err-clause-performs : goal.returns-in-Err-clause-performs
-returns-in-Err-clause-performs g c quiet newest blocks table commits h =
+returns-in-Err-clause-performs g c newest blocks table commits h =
     let old = g.S.Site.state c.args.site.now in
     performs_stopped {A = Redone} {Q = Mirrors c.redo.new.log c.redo.new.pages (g.S.Site.state c.redo.new.site).image} saves (performs_stopped (undo_work (log_under newest blocks))
     (redo_performs (Err c.in-Err.stop) c.args.opened c.redo.new.log c.redo.new.pages old (g.S.Site.state c.redo.new.site) newest (log_under newest blocks) table commits (redo_works (picture_under newest c.args.opened.pages.flash.geometry old.image blocks))
     c.requires.may.going c.requires.empty c.requires.may.masters.bounded (c.in-Err.ensures.asks newest blocks table commits h.master h.opened_is) tt tt tt tt))
 
 pub returns-then-sealed_end-owed-clause-performs : goal.returns-then-sealed_end-owed-clause-performs
-returns-then-sealed_end-owed-clause-performs g c quiet newest blocks table commits h = performs_refused (λ dev same. cc)
+returns-then-sealed_end-owed-clause-performs g c newest blocks table commits h = performs_refused (λ dev same. cc)
 
 pub returns-then-commits-sealed_end-clause-performs : goal.returns-then-commits-sealed_end-clause-performs
-returns-then-commits-sealed_end-clause-performs g c quiet newest blocks table commits h = performs_refused (λ dev same. cc)
+returns-then-commits-sealed_end-clause-performs g c newest blocks table commits h = performs_refused (λ dev same. cc)
 
-module _ (g : Over) (c : After-undo_all g) (quiet : IsQuiet (g.S.Site.state c.args.site.now)) (newest : Option Master) (blocks : List (List LogRecord)) (table : List Content) (commits : ℕ)
+module _ (g : Over) (c : After-undo_all g) (newest : Option Master) (blocks : List (List LogRecord)) (table : List Content) (commits : ℕ)
     (h : IsReady c.args.opened (g.S.Site.state c.args.site.now) newest blocks table commits) where
   abbrev start : State
   start = g.S.Site.state c.args.site.now
@@ -391,9 +391,9 @@ module _ (g : Over) (c : After-undo_all g) (quiet : IsQuiet (g.S.Site.state c.ar
       (c.undo_all.ensures.performs newest records table commits none (c.in-Ok.ensures.holds newest blocks table commits h.master h.opened_is) (c.in-Ok.ensures.unfinished newest blocks table commits h.master h.opened_is)))
 
 pub returns-in-Err-undo_all-clause-performs : goal.returns-in-Err-undo_all-clause-performs
-returns-in-Err-undo_all-clause-performs g c quiet newest blocks table commits h =
+returns-in-Err-undo_all-clause-performs g c newest blocks table commits h =
     let s = (goal.at.returns-in-Err-undo_all-clause-performs g c).After-undo_all in
-    performs_stopped saves (performs_of c.in-Err-undo_all.is (both_done g s quiet newest blocks table commits h))
+    performs_stopped saves (performs_of c.in-Err-undo_all.is (both_done g s newest blocks table commits h))
 
 -- behind undo the store is as it mirrors it, and stands for the table
 module _ (g : Over) (c : After-checkpoint g) (newest : Option Master) (blocks : List (List LogRecord)) (table : List Content) (commits : ℕ)
@@ -410,17 +410,17 @@ module _ (g : Over) (c : After-checkpoint g) (newest : Option Master) (blocks : 
       (undone.more, subst (both.Represents c.undo_all.new.log c.undo_all.new.pages (g.S.Site.state c.undo_all.new.site) newest (log_under newest blocks ++ undone.more) table) (sym counted) undone.holds)
 
 pub returns-in-Ok-checkpoint-clause-performs : goal.returns-in-Ok-checkpoint-clause-performs
-returns-in-Ok-checkpoint-clause-performs g c quiet newest blocks table commits h =
+returns-in-Ok-checkpoint-clause-performs g c newest blocks table commits h =
     let at = goal.at.returns-in-Ok-checkpoint-clause-performs g c in
     let held = at_checkpoint g at.After-checkpoint newest blocks table commits h in
     let p = picture_under newest c.args.opened.pages.flash.geometry (g.S.Site.state c.args.site.now).image blocks in
-    let first = store_from (after_undo g at.After-checkpoint newest blocks table commits h) refl refl (restart_saves_none (redo_works p) (log_under newest blocks)) refl (performs_of c.in-Ok-undo_all.is (both_done g at.After-undo_all quiet newest blocks table commits h)) in
-    performs_then first (performs_by (sym (rules_after g at.After-undo_all quiet newest blocks table commits h ∙ (c.in-Ok.ensures.asks newest blocks table commits h.master h.opened_is).asks.rules_are)) (performs_answered (c.in-Ok-checkpoint.ensures.performs newest (log_under newest blocks ++ held.0) table held.1)))
+    let first = store_from (after_undo g at.After-checkpoint newest blocks table commits h) refl refl (restart_saves_none (redo_works p) (log_under newest blocks)) refl (performs_of c.in-Ok-undo_all.is (both_done g at.After-undo_all newest blocks table commits h)) in
+    performs_then first (performs_by (sym (rules_after g at.After-undo_all newest blocks table commits h ∙ (c.in-Ok.ensures.asks newest blocks table commits h.master h.opened_is).asks.rules_are)) (performs_answered (c.in-Ok-checkpoint.ensures.performs newest (log_under newest blocks ++ held.0) table held.1)))
 
 pub returns-clause-performs : goal.returns-clause-performs
-returns-clause-performs g c quiet newest blocks table commits h =
+returns-clause-performs g c newest blocks table commits h =
     let at = goal.at.returns-clause-performs g c in
     let held = at_checkpoint g at.After-checkpoint newest blocks table commits h in
     let p = picture_under newest c.args.opened.pages.flash.geometry (g.S.Site.state c.args.site.now).image blocks in
-    let first = store_from (after_undo g at.After-checkpoint newest blocks table commits h) refl refl (restart_saves_none (redo_works p) (log_under newest blocks)) refl (performs_of c.in-Ok-undo_all.is (both_done g at.After-undo_all quiet newest blocks table commits h)) in
-    performs_then first (performs_by (sym (rules_after g at.After-undo_all quiet newest blocks table commits h ∙ (c.in-Ok.ensures.asks newest blocks table commits h.master h.opened_is).asks.rules_are)) (performs_failed (c.in-Err-checkpoint.ensures.performs newest (log_under newest blocks ++ held.0) table held.1)))
+    let first = store_from (after_undo g at.After-checkpoint newest blocks table commits h) refl refl (restart_saves_none (redo_works p) (log_under newest blocks)) refl (performs_of c.in-Ok-undo_all.is (both_done g at.After-undo_all newest blocks table commits h)) in
+    performs_then first (performs_by (sym (rules_after g at.After-undo_all newest blocks table commits h ∙ (c.in-Ok.ensures.asks newest blocks table commits h.master h.opened_is).asks.rules_are)) (performs_failed (c.in-Err-checkpoint.ensures.performs newest (log_under newest blocks ++ held.0) table held.1)))

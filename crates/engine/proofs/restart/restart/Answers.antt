@@ -105,7 +105,7 @@ returns g c =
           ok_as c.recover.result _ _ (last_found k (rules_of c.args.pool k.groups) (restart_works p) c.in-Ok-open.opened.pages.flash.geometry (rules c.in-Ok-open.opened.pages) (restart_works (picture_under newest c.in-Ok-open.opened.pages.flash.geometry mid.image blocks)) (cache_of c.in-Ok-open.opened.pages) old mid _ unchanged sizes
           (λ i. rules_of (c.in-Ok-open.ensures.pool i) (sizes i).groups) (λ i. restart_works (picture_under newest (sizes i) (unchanged.image i) blocks)) (c.in-Ok-open.ensures.cache honest newest blocks there ∙ ap (λ (x : Geometry). cache_on x old.image) same))
           ((c.recover.ensures.recovers newest blocks (table_of p.log p.pages) (commit_count p) ready).last (unchanged.loose ∙ quiet));
-      performs = λ honest quiet k newest blocks sound.
+      performs = λ honest k newest blocks sound.
           let same : c.in-Ok.geometry ≡ k = (c.in-Ok.ensures.found k sound.octets.limits sound.octets.lengths).1 in
           let there = subst (λ (x : Geometry). IsSound newest x old.image blocks) (sym same) sound in
           let p = picture_under newest k old.image blocks in
@@ -117,7 +117,7 @@ returns g c =
           performs_found (λ i. rules_of (c.in-Ok-open.ensures.pool i) (sizes i).groups) (λ i. restart_work (picture_under newest (sizes i) (unchanged.image i) blocks))
           (found_on c.in-Ok-open.opened k old.image (c.in-Ok-open.ensures.cache honest newest blocks there ∙ ap (λ (x : Geometry). cache_on x old.image) same)
           (next.block ∙ (λ i. hi_of (log_shape ((c.in-Ok-open.ensures.going.going.sizes ∙ sizes) i)) (unchanged.image i).log)) (next.master ∙ (λ i. hi_of master_shape (unchanged.image i).log)))
-          (c.recover.ensures.performs (unchanged.loose ∙ quiet) newest blocks (table_of p.log p.pages) (commit_count p) ready);
+          (c.recover.ensures.performs newest blocks (table_of p.log p.pages) (commit_count p) ready);
       next = λ honest k limits lengths.
           let same : c.in-Ok.geometry ≡ k = (c.in-Ok.ensures.found k limits lengths).1 in
           subst (λ (x : Geometry). LeavesNext c.recover.result (λ restarted. restarted.store) x (g.S.Site.state c.recover.new.site)) (c.in-Ok-open.ensures.sizes ∙ same)
@@ -163,7 +163,7 @@ returns-in-Err-open g c =
       writes = λ honest quiet k newest blocks sound.
           still_writes c.works_add_up.ensures.rise k (rules_of c.args.pool k.groups) (restart_works (picture_under newest k (g.S.Site.state c.args.site.now).image blocks)) (g.S.Site.state c.args.site.now) (g.S.Site.state c.open.new.site) (omega (arith, sound.octets.limits.groups)) quiet (c.open.ensures.same honest);
       last = λ honest quiet k newest blocks sound. tt;
-      performs = λ honest quiet k newest blocks sound. performs_refused (λ d is. c.in-Err-open.ensures.unworn d (ap Err is));
+      performs = λ honest k newest blocks sound. performs_refused (λ d is. c.in-Err-open.ensures.unworn d (ap Err is));
       next = λ honest k limits lengths. next_not_worn (λ d is. c.in-Err-open.ensures.unworn d (ap Err is));
       restarts =
           record {

@@ -147,13 +147,13 @@ pub returns-in-Ok-tell_all-clause-mirrored : goal.returns-in-Ok-tell_all-clause-
 returns-in-Ok-tell_all-clause-mirrored g c run begins newest blocks sound =
     let old = g.S.Site.state c.args.site.now in
     let mid = g.S.Site.state c.start.new.site in
-    opened_performs run newest old.image blocks c.in-Ok.engine (c.tell_all.ensures.same (stays_honest old mid c.start.ensures.calls.goes begins.honest)).image (c.in-Ok.ensures.performs begins.honest begins.quiet run.geometry newest blocks sound)
+    opened_performs run newest old.image blocks c.in-Ok.engine (c.tell_all.ensures.same (stays_honest old mid c.start.ensures.calls.goes begins.honest)).image (c.in-Ok.ensures.performs begins.honest run.geometry newest blocks sound)
 
 pub returns-in-Err-clause-wears : goal.returns-in-Err-clause-wears
 returns-in-Err-clause-wears g c run begins dev says newest blocks sound =
     let same : c.in-Err.stop ≡ Worn dev = cc in
     ap (λ (w : List Work). first_worn (rules_of c.args.pool run.geometry.groups) w (machine_on run.geometry (g.S.Site.state c.args.site.now).image)) (append-nil (restart_work (picture_under newest run.geometry (g.S.Site.state c.args.site.now).image blocks)))
-    ∙ (c.in-Err.ensures.performs begins.honest begins.quiet run.geometry newest blocks sound).worn (machine_on run.geometry (g.S.Site.state c.args.site.now).image) refl dev (ap Err same)
+    ∙ (c.in-Err.ensures.performs begins.honest run.geometry newest blocks sound).worn (machine_on run.geometry (g.S.Site.state c.args.site.now).image) refl dev (ap Err same)
 
 pub returns-in-Err-tell_all-clause-wears : goal.returns-in-Err-tell_all-clause-wears
 returns-in-Err-tell_all-clause-wears g c run begins dev says newest blocks sound = absurd cc

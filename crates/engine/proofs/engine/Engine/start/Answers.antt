@@ -51,10 +51,10 @@ pub returns-clause-next : goal.returns-clause-next
 returns-clause-next g c honest k limits lengths = (let next = (c.in-Ok.ensures.next honest k limits lengths).next in next_at_end next.0 next.1)
 
 pub returns-in-Err-clause-performs : goal.returns-in-Err-clause-performs
-returns-in-Err-clause-performs g c honest quiet k newest blocks sound = performs_failed (c.in-Err.ensures.performs honest quiet k newest blocks sound)
+returns-in-Err-clause-performs g c honest k newest blocks sound = performs_failed (c.in-Err.ensures.performs honest k newest blocks sound)
 
 pub returns-in-Err-new-clause-performs : goal.returns-in-Err-new-clause-performs
-returns-in-Err-new-clause-performs g c honest quiet k newest blocks sound = performs_refused (memory_refuses c.in-Err-new.stop c.in-Err-new.ensures.memory)
+returns-in-Err-new-clause-performs g c honest k newest blocks sound = performs_refused (memory_refuses c.in-Err-new.stop c.in-Err-new.ensures.memory)
 
 pub returns-clause-performs : goal.returns-clause-performs
-returns-clause-performs g c honest quiet k newest blocks sound = performs_answered (c.in-Ok.ensures.performs honest quiet k newest blocks sound)
+returns-clause-performs g c honest k newest blocks sound = performs_answered (c.in-Ok.ensures.performs honest k newest blocks sound)
