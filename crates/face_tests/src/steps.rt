@@ -1,8 +1,8 @@
 // Steps over a site in memory: a test is a table of them, which one function plays.
-use top_call::face;
 use site::{Call, Dev, Geometry, MemSite, Site};
 use std::alloc::{AllocError, Global};
 use std::test::Fail;
+use top_call::face;
 
 pub const STANDARD: Geometry = Geometry {
     pages: 16,

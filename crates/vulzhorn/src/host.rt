@@ -6,7 +6,6 @@ ghost use Rattle.face.specs.Texts.{status_of};
 
 use command_line::{Request, Unread, read_words, sizes};
 use face::Halt;
-use top_call::face;
 use file_site::{FileSite, LockFile, tell_line};
 use image_check::{Place, Verdict, check_image};
 use notices::{say, see};
@@ -16,6 +15,7 @@ use std::env;
 use std::io::{Eprint, ErrorKind};
 use std::os::unix::fs::FileExt;
 use std::rt::{Clock, Env, Files};
+use top_call::face;
 
 // The words without the program's own name; none where one of them is no text.
 fn words<R: Env + AllocGlobal>(rt: &R) -> Result<Vec<String>, AllocError> {
