@@ -12,10 +12,10 @@ use Rattle.site.specs.Laws.{stays_honest, unchanged_devices, devices_in_sequence
 use Rattle.site.specs.Work.{IsOutside}
 use Rattle.log_records.specs.Log.{table_of}
 use Rattle.image_check.specs.declared.verdict.Verdict.{Verdict}
-use Rattle.image_check.specs.declared.place.Place.TheVariants.{Lengths}
+use Rattle.image_form.specs.declared.place.Place.TheVariants.{Lengths}
 use Rattle.image_check.specs.declared.verdict.Verdict.TheVariants.{Sound, Unsound}
 use Rattle.image_check.specs.Judgement.{IsVerdictOn}
-use Rattle.image_check.specs.Verdict.{FailsFirst, picture_of}
+use Rattle.image_form.specs.Verdict.{FailsFirst, picture_of}
 use Rattle.image_check.specs.Laws.{SoundFailsNone, SoundStands, StandingIsSound}
 use Rattle.engine.specs.Leaves.{HasNoSizes}
 use Rattle.face.specs.declared.halt.Halt.TheVariants as halt

@@ -10,7 +10,7 @@ use Rattle.site.specs.Telling.{TellsPart, SameDevices}
 use Rattle.record_model.specs.State as model
 use Rattle.image_check.specs.declared.verdict.Verdict.{Verdict}
 use Rattle.image_check.specs.declared.verdict.Verdict.TheVariants.{Sound, Unsound}
-use Rattle.image_check.specs.Verdict.{IsSoundWith, FailsFirst}
+use Rattle.image_form.specs.Verdict.{IsSoundWith, FailsFirst}
 use Rattle.engine.specs.Image.{Opens}
 use Rattle.engine.specs.Leaves.{HasNoSizes}
 use Rattle.face.specs.declared.halt.Halt.TheVariants as halt

@@ -3,7 +3,7 @@ ghost use Rattle.std.specs.Prelude.{◌≡◌, IsTrue, IfOk, Ok};
 ghost use Rattle.site.specs.Calls.{Preserves};
 ghost use Rattle.site.specs.Work.{OnlyReads};
 ghost use Rattle.image_check.specs.Judgement.{IsVerdictOn};
-ghost use Rattle.image_check.specs.declared.place.Place.{Place};
+ghost use Rattle.image_form.specs.declared.place.Place.{Place};
 ghost use Rattle.image_check.specs.declared.verdict.Verdict.{Verdict};
 ghost use Rattle.engine.specs.Leaves.{HasNoSizes};
 ghost use Rattle.face.specs.Causes.{FirstDecides, SameFaults};
@@ -11,7 +11,8 @@ ghost use Rattle.face.specs.Check.{CheckContract, verdict_status};
 
 use crate::fault_lines::{tell_halt, tell_verdict};
 use crate::halt::Halt;
-use image_check::{Place, Verdict, check_image, one_reading, rule_lengths};
+use image_check::{Verdict, check_image, one_reading};
+use image_form::{Place, rule_lengths};
 use site::{Site, Stop};
 use std::alloc::Global;
 

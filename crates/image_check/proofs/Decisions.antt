@@ -1,47 +1,24 @@
 -- The rules one after the other.
 use Rattle.std.proofs.Common.{◌≡◌, ◌↔◌, inl, inr, ℕ, zero, suc, ◌+◌, ◌≤◌, true, false, true≢false, Bool, IsTrue, List, refl, sym, ap, ◌∙◌, subst, arith}
-use Rattle.std.specs.Prelude.{Option, Some, None, is_none, Result, Ok, Err, is_ok, IfOk, ⊤}
+use Rattle.std.specs.Prelude.{Some, Result, Ok, Err, is_ok, ⊤}
 use Rattle.std.proofs.lemmas.Bool.{cases_eq}
-use Rattle.site.specs.declared.geometry.Geometry.{Geometry}
-use Rattle.site.specs.declared.outside.Stop.{Stop}
 use Rattle.site.specs.State.{State, Image}
 use Rattle.site.specs.Calls.{Preserves}
 use Rattle.site.specs.Work.{OnlyReads}
 use Rattle.log_records.specs.declared.log_record.LogRecord.{LogRecord}
 use Rattle.log_records.specs.Sound.{commit_count}
-use Rattle.checkpoint.specs.declared.master.Master.{Master}
-use Rattle.checkpoint.specs.Newest.{HasMaster}
-use Rattle.checkpoint.specs.Laws.{OneNewest}
-use Rattle.image_check.specs.declared.formed.Found.{Found}
-use Rattle.image_check.specs.declared.place.Place.{Place}
-use Rattle.image_check.specs.Octets.{HasSizes, AreRings}
-use Rattle.image_check.specs.Deciding.{MayBeRead, MayBeJudged, IsThere, MeetsBefore, HoldOr, reading_of}
-use Rattle.image_check.specs.Verdict.{Reading, Reads, Rule, Rule1, Rule2, Rule3, Rule4, Rule5, Rule6, Rule7, Rule8, Rule9, Rule10, Rule11, HoldBefore, FailsFirst, IsSoundWith, picture_of, values_of}
-use Rattle.image_check.proofs.Lasting.{may_read_later, found_later}
-use Rattle.image_check.proofs.BlocksJudged.{finds_later, going_later}
-use Rattle.image_check.proofs.Readings.{one_size, a_reading}
+use Rattle.image_form.specs.declared.formed.Found.{Found}
+use Rattle.image_form.specs.declared.place.Place.{Place}
+use Rattle.image_form.specs.Formed.{IsThere}
+use Rattle.image_check.specs.Deciding.{MayBeJudged, MeetsBefore, HoldOr, reading_of}
+use Rattle.image_form.specs.Verdict.{Reading, Reads, Rule, Rule1, Rule2, Rule3, Rule4, Rule5, Rule6, Rule7, Rule8, Rule9, Rule10, Rule11, HoldBefore, FailsFirst, IsSoundWith, picture_of, values_of}
+use Rattle.image_check.proofs.Readings.{a_reading}
+use Rattle.image_form.proofs.FirstRule.{may_be_read_later, there_later}
 
 -- What was found is there after calls that only read.
 
-pub may_be_read_later : (found : Found) (a b : State) → Preserves a b → MayBeRead found a → MayBeRead found b
-may_be_read_later found a b goes may = record {
-  going = going_later found.log a b goes may.going;
-  may_read = may_read_later found.log.geometry found.rings a b goes may.may_read;
-}
-
 pub may_be_judged_later : (found : Found) (a b : State) → Preserves a b → MayBeJudged found a → MayBeJudged found b
 may_be_judged_later found a b goes may = record { read = may_be_read_later found a b goes may.read; live = may.live; redo = may.redo }
-
-pub some_blocks : (found : Found) (site : State) → MayBeRead found site → 1 ≤ found.log.geometry.blocks
-some_blocks found site may = let some = may.going.limits.blocks in omega (arith, some)
-
-pub there_later : (found : Found) (a b : State) → Preserves a b → b.image ≡ a.image → IsThere found a → IsThere found b
-there_later found a b goes same there = record {
-  log = finds_later found.log a b goes same there.log;
-  rings = found_later found.rings a b same there.rings;
-  are_rings = subst (AreRings found.log.geometry) (sym same) there.are_rings;
-  master = subst (λ (image : Image). HasMaster image found.master) (sym same) there.master;
-}
 
 pub meets_later : (i : ℕ) (found : Found) (blocks : List (List LogRecord)) (a b : State) → Preserves a b → b.image ≡ a.image → MeetsBefore i found blocks a → MeetsBefore i found blocks b
 meets_later i found blocks a b goes same meets = record {
@@ -49,23 +26,6 @@ meets_later i found blocks a b goes same meets = record {
   reads = subst (Reads (reading_of found blocks)) (sym same) meets.reads;
   rules = subst (HoldBefore i (reading_of found blocks)) (sym same) meets.rules;
 }
-
--- and it is the same as at first
-pub record StillThere (found : Found) (old now : State) : Type 0 where
-  pub there : IsThere found now
-  pub same : now.image ≡ old.image
-
-pub still_there : {T : Type 0} (x : T) (found : Found) (old a b : State) → OnlyReads {T = T} (Ok x) a b → StillThere found old a → StillThere found old b
-still_there x found old a b reads still =
-    let same : b.image ≡ a.image = (reads.same still.there.log.honest).image in
-    record { there = there_later found a b reads.goes same still.there; same = same ∙ still.same }
-
--- what was answered of a part of a rule holds of the image at first
-pub part_holds : (P : Image → Type 0) (stand : Bool) (a b : Image) → b ≡ a → (IsTrue stand ↔ P b) → stand ≡ true → P a
-part_holds P stand a b same says is = subst P same (says.0 is)
-
-pub part_fails : (P : Image → Type 0) (stand : Bool) (a b : Image) → b ≡ a → (IsTrue stand ↔ P b) → stand ≡ false → P a → ⊥
-part_fails P stand a b same says other p = true≢false (sym (says.1 (subst P (sym same) p)) ∙ other)
 
 -- The rule of a number.
 
@@ -174,24 +134,12 @@ pub fails_so : (i : ℕ) (place : Place) (found : Found) (blocks : List (List Lo
     (IsTrue stand ↔ Numbered i (reading_of found blocks) a.image) → stand ≡ false → HoldOr end (Some (i, place)) (reading_of found blocks) old.image
 fails_so i place found blocks old a stand end third past says other = fails_by i place found blocks old a end third past (λ holds. true≢false (sym (says.1 holds) ∙ other))
 
--- where a place fails a rule it doesn't hold, and where none does it holds
-pub placed : (failing : Option Place) (place : Place) → failing ≡ Some place → is_none failing ≡ false
-placed failing place is = ap is_none is
-
-pub unplaced : (failing : Option Place) → failing ≡ None → is_none failing ≡ true
-unplaced failing is = ap is_none is
-
 -- and of an answer in place of which a place may be told
 pub told_place : {T : Type 0} (found : Result T Place) (place : Place) → found ≡ Err place → is_ok found ≡ false
 told_place found place is = ap is_ok is
 
 pub told_none : {T : Type 0} (found : Result T Place) (x : T) → found ≡ Ok x → is_ok found ≡ true
 told_none found x is = ap is_ok is
-
--- what is answered, said otherwise
-pub answers_as : {T : Type 0} (r : Result T Stop) (P Q : T → Type 0) → ((x : T) → P x → Q x) → IfOk r P → IfOk r Q
-answers_as (Ok x) P Q to p = to x p
-answers_as (Err e) P Q to p = tt
 
 -- all of them hold
 pub hold_all : (i : ℕ) (found : Found) (blocks : List (List LogRecord)) (old a : State) → Past i found blocks old a → HoldBefore i (reading_of found blocks) old.image
@@ -214,14 +162,6 @@ pub sound_by : (found : Found) (blocks : List (List LogRecord)) (old a : State) 
     commits ≡ commit_count (picture_of (reading_of found blocks) a.image) → IsSoundWith old.image records commits
 sound_by found blocks old a records commits past values count =
     subst (λ (image : Image). IsSoundWith image records commits) past.same (record { reading = reading_of found blocks; reads = past.meets.reads; rules = past.meets.rules; values = values; count = count })
-
--- the first rule of what was found is that of all sizes and masters
-pub fails_formed : OneNewest → (found : Found) (site : State) (stand : Bool) → IsThere found site → HasSizes found.log.geometry site.image → (IsTrue stand ↔ Rule1 found.log.geometry found.master site.image) → stand ≡ false →
-    FailsFirst 1 site.image
-fails_formed newest found site stand there sizes says other g m formed =
-    let geometry : g ≡ found.log.geometry = one_size g found.log.geometry site.image formed.sizes sizes in
-    let master : m ≡ found.master = newest site.image m found.master formed.master there.master in
-    true≢false (sym (says.1 (subst (λ (x : Master). Rule1 found.log.geometry x site.image) master (subst (λ (x : Geometry). Rule1 x m site.image) geometry formed))) ∙ other)
 
 -- before the third rule
 pub meets_both : (found : Found) (site : State) → IsThere found site → Rule1 found.log.geometry found.master site.image → Rule2 found.log.geometry found.master site.image → (blocks : List (List LogRecord)) × MeetsBefore 3 found blocks site

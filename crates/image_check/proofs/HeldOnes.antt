@@ -22,7 +22,7 @@ use Rattle.log_laws.proofs.Values.{last_same, last_new}
 use Rattle.image_check.specs.declared.unfinished.Left.{Left}
 use Rattle.image_check.specs.Unended.{AreLeft, left_of}
 use Rattle.image_check.specs.Holding.{AreHeld, IsListed, holds, is_others, clashes_by}
-use Rattle.image_check.specs.Verdict.{Rule4}
+use Rattle.image_form.specs.Verdict.{Rule4}
 use Rattle.log_records.proofs.Lists.{one, all_last}
 
 -- Who is on the list.

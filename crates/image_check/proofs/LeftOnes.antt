@@ -24,7 +24,7 @@ use Rattle.log_laws.proofs.Values.{closed_push}
 use Rattle.log_laws.proofs.Analysing.{unfinished_begin, unfinished_more, unfinished_closed, unfinished_there, unfinished_owed}
 use Rattle.checkpoint.specs.declared.pairs.Pair.{Pair}
 use Rattle.image_check.specs.declared.unfinished.Left.{Left}
-use Rattle.image_check.proofs.BlockLists.{log_in_order}
+use Rattle.image_form.proofs.BlockLists.{log_in_order}
 use Rattle.image_check.specs.Unended.{AreLeft, left_of, owed_for}
 use Rattle.log_records.proofs.Entries.{in_order_from}
 

@@ -19,7 +19,7 @@ use Rattle.log_laws.proofs.Orders.{InTurn-weaker, InTurn-all}
 use Rattle.log_laws.proofs.Parts.{InTurn-right}
 use Rattle.checkpoint.specs.declared.pairs.Pair.{Pair}
 use Rattle.image_check.specs.Opening.{AreOpen, MayStand}
-use Rattle.image_check.specs.Verdict.{Rule3}
+use Rattle.image_form.specs.Verdict.{Rule3}
 
 -- Records one after the other.
 

@@ -16,20 +16,13 @@ use Rattle.log_records.specs.Spelling.{block, AreBlock, IsBlock}
 use Rattle.checkpoint.specs.declared.master.Master.{Master}
 use Rattle.checkpoint.specs.Laws.{OneNewest}
 use Rattle.log_store.specs.Representation.{HasBlocks}
-use Rattle.image_check.specs.Octets.{HasSizes}
-use Rattle.image_check.specs.Verdict.{Reading, Rule, Rule2}
+use Rattle.image_form.specs.Verdict.{Reading, Rule, Rule2}
 use Rattle.image_check.specs.Laws.{OneReading, AReading, SoundFailsNone}
-use Rattle.image_check.proofs.LiveUnits.{all_from}
+use Rattle.image_form.proofs.LiveUnits.{all_from}
 use Rattle.log_store.proofs.OneLog.{one_blocks}
+use Rattle.image_form.proofs.FirstRule.{one_size}
 
 -- One reading.
-
-pub one_size : (a b : Geometry) (image : Image) → HasSizes a image → HasSizes b image → a ≡ b
-one_size a b image first second =
-    let log : a.blocks ≡ b.blocks = omega (arith, first.lengths.log, second.lengths.log) in
-    let disk : a.pages ≡ b.pages = omega (arith, first.lengths.disk, second.lengths.disk) in
-    let flash : a.groups ≡ b.groups = omega (arith, first.lengths.flash, second.lengths.flash, first.limits.fours, second.limits.fours) in
-    (λ i. record { pages = disk i; groups = flash i; blocks = log i })
 
 held_once : (g : Geometry) (kept : ℕ) (a b : List (List LogRecord)) (image : Image) → HasBlocks g kept a image → HasBlocks g kept b image → a ≡ b
 held_once g kept a b image first second =

@@ -21,12 +21,12 @@ use Rattle.slotted_page.specs.Layout.{lsn_of}
 use Rattle.second_chance.specs.Queue.{Queue}
 use Rattle.flash_cache.specs.Representation.{version_on}
 use Rattle.image_meaning.specs.Meaning.{version_in, versions_on}
-use Rattle.image_check.specs.declared.rings.Rings.{Rings}
-use Rattle.image_check.specs.Octets.{AreGroups}
-use Rattle.image_check.specs.Newest.{ShowsFrames}
+use Rattle.image_form.specs.declared.rings.Rings.{Rings}
+use Rattle.image_form.specs.Octets.{AreGroups}
+use Rattle.image_form.specs.Newest.{ShowsFrames}
 use Rattle.image_check.specs.Showing.{FindsVersions, AreExpected, IsKnownEarly, IsAs, HasContents, is_logged, written_by}
-use Rattle.image_check.specs.Verdict.{Rule6}
-use Rattle.image_check.proofs.Lasting.{found_later}
+use Rattle.image_form.specs.Verdict.{Rule6}
+use Rattle.image_form.proofs.Lasting.{found_later}
 use Rattle.log_records.proofs.Lists.{last_where-append}
 
 -- What was found stays after calls that only read.

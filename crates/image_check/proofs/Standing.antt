@@ -27,11 +27,11 @@ use Rattle.log_store.proofs.Standing.{stands_there}
 use Rattle.flash_cache.specs.Representation.{PagesExist}
 use Rattle.image_meaning.specs.Meaning.{IsNewest, HasNewest, IsFrameOf, AreOctetsSoundUnder, IsSoundUnder, StandsUnder, StandsFor, picture_under, versions_on, kept_by}
 use Rattle.image_meaning.specs.Meaning as meaning
-use Rattle.image_check.specs.Octets.{IsGroupOn, AreBlocks, SegmentsAreFormed, IsFormed, IsOnPage, IsSegmentOn}
-use Rattle.image_check.specs.Verdict.{Reading, Reads, HoldBefore, picture_of}
+use Rattle.image_form.specs.Octets.{IsGroupOn, AreBlocks, SegmentsAreFormed, IsFormed, IsOnPage, IsSegmentOn}
+use Rattle.image_form.specs.Verdict.{Reading, Reads, HoldBefore, picture_of}
 use Rattle.image_check.specs.Laws.{SoundStands, StandingIsSound, JudgedStands, StandingIsJudged}
-use Rattle.image_check.proofs.LiveUnits.{all_live, each_live}
-use Rattle.image_check.proofs.BlockLists.{one_block, log_in_table, blocks_on_pages, log_in_order}
+use Rattle.image_form.proofs.LiveUnits.{all_live, each_live}
+use Rattle.image_form.proofs.BlockLists.{one_block, log_in_table, blocks_on_pages, log_in_order}
 use Rattle.image_meaning.proofs.Versions.{length-versions}
 
 -- Groups.

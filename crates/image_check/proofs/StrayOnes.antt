@@ -20,7 +20,7 @@ use Rattle.log_laws.proofs.Listing.{listed_is_loser}
 use Rattle.image_check.specs.declared.chain.Chain.{Chain}
 use Rattle.image_check.specs.declared.unfinished.Left.{Left}
 use Rattle.image_check.specs.Chaining.{IsKept, StandsThere, Breaks, AreStrays, begin_at}
-use Rattle.image_check.specs.Verdict.{Rule4}
+use Rattle.image_form.specs.Verdict.{Rule4}
 use Rattle.image_check.proofs.OpenOnes.{all_before, any_without}
 use Rattle.image_check.proofs.HeldOnes.{begins_there, begin_found, listed_there}
 use Rattle.log_laws.proofs.Orderly.{fresh_of}

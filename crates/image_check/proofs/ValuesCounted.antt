@@ -12,7 +12,7 @@ use Rattle.log_records.specs.Sound.{Pairwise, HoldsOff}
 use Rattle.slotted_page.specs.Layout.{slots_of}
 use Rattle.second_chance.specs.Queue.{Queue}
 use Rattle.image_check.specs.declared.values.Logged.{Logged}
-use Rattle.image_check.specs.Newest.{ShowsFrames}
+use Rattle.image_form.specs.Newest.{ShowsFrames}
 use Rattle.image_check.specs.Showing.{AreExpected, IsKnownEarly}
 use Rattle.image_check.specs.Writing.{AreWritten}
 use Rattle.image_meaning.specs.Meaning.{version_in, versions_on}

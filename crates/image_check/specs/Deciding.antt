@@ -1,51 +1,20 @@
 -- What is known of devices on the way to the verdict.
-use Rattle.std.specs.Prelude.{ℕ, ◌+◌, ◌-◌, ◌^◌, ◌≤◌, ◌<◌, Option, Some, None, Result, Ok, Err, List, length}
+use Rattle.std.specs.Prelude.{ℕ, ◌+◌, ◌-◌, ◌^◌, ◌≤◌, ◌<◌, Option, Some, None, List, length}
 use Rattle.site.specs.State.{State, Image}
 use Rattle.log_records.specs.declared.log_record.LogRecord.{LogRecord}
 use Rattle.log_records.specs.Log.{log_from}
-use Rattle.checkpoint.specs.Newest.{HasMaster}
-use Rattle.log_store.specs.declared.store.LogStore.{LogStore}
-use Rattle.log_store.specs.Representation.{Invariant, Finds}
-use Rattle.image_check.specs.declared.formed.Found.{Found}
-use Rattle.image_check.specs.declared.place.Place.{Place}
+use Rattle.image_form.specs.declared.formed.Found.{Found}
+use Rattle.image_form.specs.declared.place.Place.{Place}
 use Rattle.image_check.specs.declared.survey.Survey.{Survey}
-use Rattle.image_check.specs.Octets.{AreRings}
-use Rattle.image_check.specs.Findings.{MayRead, AreFound}
 use Rattle.image_check.specs.Surveying.{Surveys}
-use Rattle.image_check.specs.Verdict.{Reading, Reads, Rule1, Rule, HoldBefore, FailsFirst}
-
--- over every site: the log and the rings lie on its devices
-pub record MayBeRead (found : Found) (site : State) : Type 0 where
-  pub going : Invariant found.log site
-  pub may_read : MayRead found.log.geometry found.rings site
+use Rattle.image_form.specs.Verdict.{Reading, Reads, Rule, HoldBefore}
+use Rattle.image_form.specs.Formed.{MayBeRead, IsThere}
 
 -- over every site: besides, the kept blocks can all be live, and redo begins no later than the next block
 pub record MayBeJudged (found : Found) (site : State) : Type 0 where
   pub read : MayBeRead found site
   pub live : found.log.ring.hi ≤ found.master.kept + (found.log.geometry.blocks - 1)
   pub redo : found.master.redo ≤ found.log.ring.hi
-
--- over an honest site: the log, the rings and the master are those that stand there
-pub record IsThere (found : Found) (site : State) : Type 0 where
-  pub log : Finds found.log site
-  pub rings : AreFound found.rings site
-  pub are_rings : AreRings found.log.geometry site.image
-  pub master : HasMaster site.image found.master
-
--- the log is found; it always is
-abbrev pub LogIs : Option LogStore → State → Type 0
-LogIs (Some log) site = Finds log site
-LogIs None site = ⊥
-
--- this stands there; or the first rule fails
-abbrev pub IsThereOr : Result Found Place → State → Type 0
-IsThereOr (Ok found) site = IsThere found site
-IsThereOr (Err place) site = FailsFirst 1 site.image
-
--- this stands there and meets the first rule; or that rule fails
-abbrev pub IsFormedOr : Result Found Place → State → Type 0
-IsFormedOr (Ok found) site = IsThere found site × Rule1 found.log.geometry found.master site.image
-IsFormedOr (Err place) site = FailsFirst 1 site.image
 
 -- with these records of the blocks from the oldest kept one on
 abbrev pub reading_of : Found → List (List LogRecord) → Reading

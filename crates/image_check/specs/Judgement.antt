@@ -2,7 +2,7 @@
 use Rattle.site.specs.State.{Image}
 use Rattle.image_check.specs.declared.verdict.Verdict.{Verdict}
 use Rattle.image_check.specs.declared.verdict.Verdict.TheVariants.{Sound, Unsound}
-use Rattle.image_check.specs.Verdict.{IsSoundWith, FailsFirst}
+use Rattle.image_form.specs.Verdict.{IsSoundWith, FailsFirst}
 
 -- this is the verdict on three contents
 abbrev pub IsVerdictOn : Image → Verdict → Type 0

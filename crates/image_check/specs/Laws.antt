@@ -7,7 +7,7 @@ use Rattle.log_records.specs.declared.log_record.LogRecord.{LogRecord}
 use Rattle.log_records.specs.Sound.{Means}
 use Rattle.checkpoint.specs.declared.master.Master.{Master}
 use Rattle.image_meaning.specs.Meaning.{StandsFor}
-use Rattle.image_check.specs.Verdict.{Reading, Reads, Rule1, Rule2, HoldBefore, picture_of, IsSoundWith, FailsFirst}
+use Rattle.image_form.specs.Verdict.{Reading, Reads, Rule1, Rule2, HoldBefore, picture_of, IsSoundWith, FailsFirst}
 
 -- Devices for which all rules hold stand for the table and the commits that they are read as.
 abbrev pub SoundStands : Type 0

@@ -1,17 +1,11 @@
 pub mod Chaining
 pub mod Counting
 pub mod Deciding
-pub mod Findings
-pub mod Framing
 pub mod Holding
 pub mod Judgement
 pub mod Laws
-pub mod Newest
-pub mod Octets
 pub mod Opening
 pub mod Showing
 pub mod Surveying
 pub mod Unended
-pub mod Verdict
-pub mod Walking
 pub mod Writing

@@ -9,10 +9,10 @@ use Rattle.log_records.specs.Log.{Entry, after_of, number_of}
 use Rattle.log_records.specs.Sound.{last_known}
 use Rattle.slotted_page.specs.Layout.{slots_of}
 use Rattle.second_chance.specs.Queue.{Queue}
-use Rattle.image_check.specs.declared.rings.Rings.{Rings}
-use Rattle.image_check.specs.Octets.{AreGroups}
-use Rattle.image_check.specs.Findings.{AreFound}
-use Rattle.image_check.specs.Newest.{ShowsFrames}
+use Rattle.image_form.specs.declared.rings.Rings.{Rings}
+use Rattle.image_form.specs.Octets.{AreGroups}
+use Rattle.image_form.specs.Findings.{AreFound}
+use Rattle.image_form.specs.Newest.{ShowsFrames}
 
 -- of an honest site: the rings are those that stand there, the groups are of the form, and the queue shows their frames
 pub record FindsVersions (g : Geometry) (rings : Rings) (frames : Queue) (site : State) : Type 0 where

@@ -5,7 +5,7 @@ ghost use Rattle.log_records.specs.declared.log_record.LogRecord.{LogRecord};
 ghost use Rattle.log_records.specs.Log.{Entry, log_from};
 ghost use Rattle.log_store.specs.Representation.{Finds};
 ghost use Rattle.image_check.specs.Counting.{Heard, NumbersAre, Counts, Fit, CommitsAre};
-ghost use Rattle.image_check.specs.Verdict.{picture_of};
+ghost use Rattle.image_form.specs.Verdict.{picture_of};
 
 use checkpoint::Master;
 use log_records::LogRecord;

@@ -9,13 +9,12 @@ ghost use Rattle.log_records.specs.Log.{Entry, txn_by, number_of, log_from};
 ghost use Rattle.log_store.specs.Representation.{Invariant, Finds, HasBlocks};
 ghost use Rattle.image_check.specs.Unended.{AreLeft};
 ghost use Rattle.image_check.specs.Holding.{AreHeld, IsListed, clashes_by};
-ghost use Rattle.image_check.specs.Verdict.{Rule4, Rule5, picture_of};
+ghost use Rattle.image_form.specs.Verdict.{Rule4, Rule5, picture_of};
 
-use crate::place::Place;
 use crate::txns::txn_of;
 use crate::unfinished::LeftTxns;
-use crate::walk::Walk;
 use checkpoint::Master;
+use image_form::{Place, Walk};
 use indexmap::IndexMap;
 use log_records::LogRecord;
 use log_store::LogStore;

@@ -11,14 +11,13 @@ ghost use Rattle.log_store.specs.Representation.{Invariant, Finds, HasBlocks};
 ghost use Rattle.image_check.specs.Counting.{NumbersAre};
 ghost use Rattle.image_check.specs.Surveying.{Surveys};
 ghost use Rattle.image_check.specs.Unended.{AreLeft};
-ghost use Rattle.image_check.specs.Verdict.{Rule3, picture_of};
+ghost use Rattle.image_form.specs.Verdict.{Rule3, picture_of};
 
 use crate::commits::Numbers;
-use crate::place::Place;
 use crate::txns::OpenTxns;
 use crate::unfinished::LeftTxns;
-use crate::walk::Walk;
 use checkpoint::Master;
+use image_form::{Place, Walk};
 use log_records::LogRecord;
 use log_store::LogStore;
 use site::{Site, Stop};

@@ -11,14 +11,13 @@ ghost use Rattle.log_records.specs.Sound.{HaveBegunBefore, IsLoserChain};
 ghost use Rattle.log_store.specs.Representation.{Invariant, Finds, HasBlocks};
 ghost use Rattle.image_check.specs.Unended.{AreLeft};
 ghost use Rattle.image_check.specs.Chaining.{AreStrays};
-ghost use Rattle.image_check.specs.Verdict.{Rule3, Rule4, picture_of};
+ghost use Rattle.image_form.specs.Verdict.{Rule3, Rule4, picture_of};
 
 use crate::chain::Chain;
-use crate::place::Place;
 use crate::txns::{closes, txn_of};
 use crate::unfinished::LeftTxns;
-use crate::walk::Walk;
 use checkpoint::Master;
+use image_form::{Place, Walk};
 use log_records::LogRecord;
 use log_store::LogStore;
 use site::{Site, Stop};

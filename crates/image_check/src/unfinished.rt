@@ -14,7 +14,7 @@ ghost use Rattle.log_store.specs.Representation.{Finds, HasBlocks};
 ghost use Rattle.checkpoint.specs.Newest.{seen};
 ghost use Rattle.checkpoint.specs.declared.pairs.Pair.{Pair};
 ghost use Rattle.image_check.specs.Unended.{AreLeft, owed_for};
-ghost use Rattle.image_check.specs.Verdict.{Rule9, picture_of};
+ghost use Rattle.image_form.specs.Verdict.{Rule9, picture_of};
 
 use crate::txns::{begins, closes, txn_of};
 use checkpoint::Master;

@@ -5,19 +5,15 @@ ghost use Rattle.site.specs.Work.{OnlyReads};
 ghost use Rattle.log_records.specs.declared.log_record.LogRecord.{LogRecord};
 ghost use Rattle.image_check.specs.Deciding.{MayBeJudged, MeetsBefore, HoldOr, IsSurveyOf, reading_of};
 ghost use Rattle.image_check.specs.Judgement.{IsVerdictOn};
-ghost use Rattle.image_check.specs.Verdict.{picture_of, values_of};
+ghost use Rattle.image_form.specs.Verdict.{picture_of, values_of};
 
-use crate::clean::rule_clean;
 use crate::commits::rule_commits;
-use crate::following::rule_following;
-use crate::formed::{Found, find_formed};
 use crate::holding::rule_apart;
-use crate::kept::rule_kept;
-use crate::place::Place;
 use crate::survey::{Survey, rule_transactions};
 use crate::undoable::rule_undoable;
 use crate::unfinished::{rule_named, rule_room};
 use crate::values::rule_shown;
+use image_form::{Found, Place, find_formed, rule_clean, rule_following, rule_kept};
 use site::{Site, Stop};
 use std::alloc::Global;
 

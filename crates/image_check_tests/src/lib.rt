@@ -1,4 +1,4 @@
-//! Tests of `image_check`.
+//! Tests of `image_check` and `image_form`.
 #![tactic(auto)]
 
 #[cfg(test)]

@@ -2,9 +2,12 @@
 
 use checkpoint::{Master, Pairs};
 use image_check::{
-    Place, Verdict, check_image, rule_apart, rule_blocks, rule_clean, rule_commits, rule_following,
-    rule_groups, rule_kept, rule_lengths, rule_master, rule_named, rule_rings, rule_room,
-    rule_segments, rule_shown, rule_transactions, rule_undoable, rule_versions,
+    Verdict, check_image, rule_apart, rule_commits, rule_named, rule_room, rule_shown,
+    rule_transactions, rule_undoable,
+};
+use image_form::{
+    Place, rule_blocks, rule_clean, rule_following, rule_groups, rule_kept, rule_lengths,
+    rule_master, rule_rings, rule_segments, rule_versions,
 };
 use log_store::LogStore;
 use site::{Dev, Failed, Geometry, MemSite, Site, Stop};

@@ -3,7 +3,7 @@ use crate::seen::Seen;
 use crate::words::say_words;
 use command_line::sizes;
 use file_site::{Absence, Call, Failure, Watch, path};
-use image_check::Place;
+use image_form::Place;
 use site::{Dev, Geometry};
 use std::io::Eprint;
 

@@ -6,7 +6,7 @@ use Rattle.log_records.specs.Log.{Entry, log_from}
 use Rattle.log_records.specs.Sound.{commit_numbers}
 use Rattle.image_check.specs.declared.commits.Numbers.{Numbers}
 use Rattle.image_check.specs.Counting.{Heard, NumbersAre, Fit}
-use Rattle.image_check.specs.Verdict.{picture_of}
+use Rattle.image_form.specs.Verdict.{picture_of}
 use Rattle.image_check.proofs.Numbering.{numbered, fits, counted_all, heard_few}
 use Rattle.image_check.proofs.commits.rule_commits.Goals as goal
 

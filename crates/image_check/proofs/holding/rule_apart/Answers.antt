@@ -4,11 +4,11 @@ use Rattle.indexmap.specs.IndexMap.{get}
 use Rattle.log_records.specs.declared.log_record.LogRecord.{LogRecord}
 use Rattle.log_records.specs.Log.{Entry, txn_of, log_from, number_of}
 use Rattle.log_records.specs.Sound.{Pairwise, HoldsOff}
-use Rattle.image_check.specs.Walking.{Gives}
+use Rattle.image_form.specs.Walking.{Gives}
 use Rattle.image_check.specs.Holding.{clashes_by}
-use Rattle.image_check.specs.Verdict.{picture_of}
-use Rattle.image_check.proofs.BlocksJudged.{finds_later, going_later}
-use Rattle.image_check.proofs.Walks.{walked_none, walked_more, walked_all, gives_at}
+use Rattle.image_form.specs.Verdict.{picture_of}
+use Rattle.image_form.proofs.BlocksJudged.{finds_later, going_later}
+use Rattle.image_form.proofs.Walks.{walked_none, walked_more, walked_all, gives_at}
 use Rattle.image_check.proofs.HeldOnes.{Apart, held_none, listed, apart_none, none_apart, pairwise_push, pairwise_at}
 use Rattle.image_check.proofs.holding.rule_apart.Goals as goal
 

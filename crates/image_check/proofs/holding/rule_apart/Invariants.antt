@@ -5,9 +5,9 @@ use Rattle.log_records.specs.Log.{log_from}
 use Rattle.log_store.specs.Representation.{Invariant, Finds, HasBlocks}
 use Rattle.site.specs.Work.{OnlyReads}
 use Rattle.image_check.specs.Unended.{AreLeft}
-use Rattle.image_check.specs.Walking.{MayWalk, to_go}
-use Rattle.image_check.specs.Verdict.{Rule4, picture_of}
-use Rattle.image_check.proofs.Walks.{Walked}
+use Rattle.image_form.specs.Walking.{MayWalk, to_go}
+use Rattle.image_form.specs.Verdict.{Rule4, picture_of}
+use Rattle.image_form.proofs.Walks.{Walked}
 use Rattle.image_check.proofs.HeldOnes.{Apart}
 use Rattle.image_check.proofs.holding.rule_apart.Given as goal
 

@@ -3,7 +3,7 @@ use Rattle.site.specs.State.{State, Image}
 use Rattle.site.proofs.Working.{looks_then, looks_answered}
 use Rattle.slotted_page.specs.Layout.{lsn_of}
 use Rattle.flash_cache.specs.Representation.{version_on}
-use Rattle.image_check.proofs.Lasting.{may_read_later}
+use Rattle.image_form.proofs.Lasting.{may_read_later}
 use Rattle.image_check.proofs.ShownOnes.{versions_later, first_lsns, lsns_more}
 use Rattle.image_check.proofs.showing.version_lsns.Goals as goal
 

@@ -1,7 +1,7 @@
 use Rattle.std.proofs.Common.{◌≡◌, length}
 use Rattle.std.specs.Prelude.{Ok}
 use Rattle.site.specs.Work.{OnlyReads}
-use Rattle.image_check.specs.Findings.{MayRead}
+use Rattle.image_form.specs.Findings.{MayRead}
 use Rattle.image_check.specs.Showing.{FindsVersions}
 use Rattle.image_check.proofs.ShownOnes.{first_lsns}
 use Rattle.image_check.proofs.showing.version_lsns.Given as goal

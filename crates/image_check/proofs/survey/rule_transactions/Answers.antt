@@ -5,13 +5,13 @@ use Rattle.log_records.specs.declared.log_record.LogRecord.{LogRecord}
 use Rattle.log_records.specs.Log.{Entry, log_from}
 use Rattle.log_records.specs.Sound.{InTurn, IsInOrder}
 use Rattle.checkpoint.specs.Newest.{seen}
-use Rattle.image_check.specs.Walking.{Gives, to_go}
+use Rattle.image_form.specs.Walking.{Gives, to_go}
 use Rattle.image_check.specs.Opening.{MayStand}
 use Rattle.image_check.specs.Surveying.{Surveys}
-use Rattle.image_check.specs.Verdict.{picture_of}
-use Rattle.image_check.proofs.BlocksJudged.{finds_later, going_later}
-use Rattle.image_check.proofs.BlockLists.{log_in_order}
-use Rattle.image_check.proofs.Walks.{walked_none, walked_more, walked_all, gives_at}
+use Rattle.image_form.specs.Verdict.{picture_of}
+use Rattle.image_form.proofs.BlocksJudged.{finds_later, going_later}
+use Rattle.image_form.proofs.BlockLists.{log_in_order}
+use Rattle.image_form.proofs.Walks.{walked_none, walked_more, walked_all, gives_at}
 use Rattle.image_check.proofs.OpenOnes.{third_at, third_of}
 use Rattle.image_check.proofs.Surveyed.{SurveyedSoFar, comes, one_more}
 use Rattle.image_check.proofs.survey.rule_transactions.Goals as goal

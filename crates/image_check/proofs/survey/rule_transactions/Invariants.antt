@@ -5,8 +5,8 @@ use Rattle.log_records.specs.Log.{log_from}
 use Rattle.log_store.specs.Representation.{Invariant, Finds, HasBlocks}
 use Rattle.checkpoint.specs.Newest.{seen}
 use Rattle.site.specs.Work.{OnlyReads}
-use Rattle.image_check.specs.Walking.{MayWalk, to_go}
-use Rattle.image_check.proofs.Walks.{Walked}
+use Rattle.image_form.specs.Walking.{MayWalk, to_go}
+use Rattle.image_form.proofs.Walks.{Walked}
 use Rattle.image_check.proofs.Surveyed.{SurveyedSoFar}
 use Rattle.image_check.proofs.survey.rule_transactions.Given as goal
 

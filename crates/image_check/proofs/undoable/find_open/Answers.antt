@@ -5,7 +5,7 @@ use Rattle.std.proofs.lemmas.List.{take_all}
 use Rattle.site.specs.State.{State}
 use Rattle.log_records.specs.Log.{log_from, is_closed}
 use Rattle.log_store.specs.Representation.{HasBlocks}
-use Rattle.image_check.proofs.BlocksJudged.{finds_later, going_later}
+use Rattle.image_form.proofs.BlocksJudged.{finds_later, going_later}
 use Rattle.image_check.proofs.StrayOnes.{any_index, any_more}
 use Rattle.image_check.proofs.undoable.find_open.Goals as goal
 

@@ -4,10 +4,10 @@ use Rattle.std.specs.List.{list_any}
 use Rattle.site.specs.State.{State}
 use Rattle.log_records.specs.declared.log_record.LogRecord.{LogRecord}
 use Rattle.log_records.specs.Log.{Entry, log_from}
-use Rattle.image_check.specs.Walking.{Gives}
+use Rattle.image_form.specs.Walking.{Gives}
 use Rattle.image_check.specs.Chaining.{AreStrays}
-use Rattle.image_check.proofs.BlocksJudged.{finds_later, going_later}
-use Rattle.image_check.proofs.Walks.{walked_none, walked_more, walked_all, gives_at}
+use Rattle.image_form.proofs.BlocksJudged.{finds_later, going_later}
+use Rattle.image_form.proofs.Walks.{walked_none, walked_more, walked_all, gives_at}
 use Rattle.image_check.proofs.undoable.find_strays.Goals as goal
 
 pub loop-strays-init : goal.loop-strays-init

@@ -4,10 +4,10 @@ use Rattle.log_records.specs.declared.log_record.LogRecord.{LogRecord}
 use Rattle.log_records.specs.Log.{log_from}
 use Rattle.log_store.specs.Representation.{Invariant, Finds, HasBlocks}
 use Rattle.site.specs.Work.{OnlyReads}
-use Rattle.image_check.specs.Walking.{MayWalk, to_go}
+use Rattle.image_form.specs.Walking.{MayWalk, to_go}
 use Rattle.image_check.specs.Unended.{AreLeft}
 use Rattle.image_check.specs.Chaining.{AreStrays}
-use Rattle.image_check.proofs.Walks.{Walked}
+use Rattle.image_form.proofs.Walks.{Walked}
 use Rattle.image_check.proofs.undoable.find_strays.Given as goal
 
 abbrev pub invariant-loop-strays : goal.invariant-loop-strays

@@ -7,7 +7,7 @@ use Rattle.log_records.specs.Log.{log_from, entries_of}
 use Rattle.log_records.specs.Sound.{IsLoserChain}
 use Rattle.log_store.specs.Representation.{HasBlocks}
 use Rattle.image_check.specs.declared.unfinished.Left.{Left}
-use Rattle.image_check.proofs.BlocksJudged.{finds_later, going_later}
+use Rattle.image_form.proofs.BlocksJudged.{finds_later, going_later}
 use Rattle.image_check.proofs.HeldOnes.{has_is}
 use Rattle.image_check.proofs.StrayOnes.{any_left_index, any_left_more}
 use Rattle.image_check.proofs.undoable.find_unchained.Goals as goal

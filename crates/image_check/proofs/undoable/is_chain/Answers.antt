@@ -4,11 +4,11 @@ use Rattle.site.specs.State.{State}
 use Rattle.log_records.specs.declared.log_record.LogRecord.{LogRecord}
 use Rattle.log_records.specs.Log.{Entry, log_from, entries_of}
 use Rattle.log_records.specs.Sound.{IsInOrder}
-use Rattle.image_check.specs.Walking.{Gives}
+use Rattle.image_form.specs.Walking.{Gives}
 use Rattle.image_check.specs.Chaining.{IsKept}
-use Rattle.image_check.proofs.BlocksJudged.{finds_later, going_later}
-use Rattle.image_check.proofs.BlockLists.{log_in_order}
-use Rattle.image_check.proofs.Walks.{walked_none, walked_more, walked_all, gives_at}
+use Rattle.image_form.proofs.BlocksJudged.{finds_later, going_later}
+use Rattle.image_form.proofs.BlockLists.{log_in_order}
+use Rattle.image_form.proofs.Walks.{walked_none, walked_more, walked_all, gives_at}
 use Rattle.image_check.proofs.StrayOnes.{first_is, stands_there, chain_broken, chain_of}
 use Rattle.image_check.proofs.undoable.is_chain.Goals as goal
 

@@ -7,9 +7,9 @@ use Rattle.log_records.specs.Unfinished.{losers}
 use Rattle.log_records.specs.Sound.{HaveBegunBefore}
 use Rattle.log_store.specs.Representation.{Invariant, Finds, HasBlocks}
 use Rattle.site.specs.Work.{OnlyReads}
-use Rattle.image_check.specs.Walking.{MayWalk, to_go}
+use Rattle.image_form.specs.Walking.{MayWalk, to_go}
 use Rattle.image_check.specs.Chaining.{IsKept}
-use Rattle.image_check.proofs.Walks.{Walked}
+use Rattle.image_form.proofs.Walks.{Walked}
 use Rattle.image_check.proofs.undoable.is_chain.Given as goal
 
 abbrev pub invariant-loop-chain : goal.invariant-loop-chain

@@ -4,10 +4,10 @@ use Rattle.site.specs.State.{State}
 use Rattle.log_records.specs.declared.log_record.LogRecord.{LogRecord}
 use Rattle.log_records.specs.Log.{Entry, log_from, is_closed}
 use Rattle.log_records.specs.Sound.{IsInOrder}
-use Rattle.image_check.specs.Walking.{Gives}
-use Rattle.image_check.proofs.BlocksJudged.{finds_later, going_later}
-use Rattle.image_check.proofs.BlockLists.{log_in_order}
-use Rattle.image_check.proofs.Walks.{walked_none, walked_more, walked_all, gives_at}
+use Rattle.image_form.specs.Walking.{Gives}
+use Rattle.image_form.proofs.BlocksJudged.{finds_later, going_later}
+use Rattle.image_form.proofs.BlockLists.{log_in_order}
+use Rattle.image_form.proofs.Walks.{walked_none, walked_more, walked_all, gives_at}
 use Rattle.image_check.proofs.StrayOnes.{not_closed_by, closed_at}
 use Rattle.image_check.proofs.undoable.is_closed_in.Goals as goal
 

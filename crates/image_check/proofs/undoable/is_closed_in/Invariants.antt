@@ -4,8 +4,8 @@ use Rattle.log_records.specs.declared.log_record.LogRecord.{LogRecord}
 use Rattle.log_records.specs.Log.{log_from, is_closed}
 use Rattle.log_store.specs.Representation.{Invariant, Finds, HasBlocks}
 use Rattle.site.specs.Work.{OnlyReads}
-use Rattle.image_check.specs.Walking.{MayWalk, to_go}
-use Rattle.image_check.proofs.Walks.{Walked}
+use Rattle.image_form.specs.Walking.{MayWalk, to_go}
+use Rattle.image_form.proofs.Walks.{Walked}
 use Rattle.image_check.proofs.undoable.is_closed_in.Given as goal
 
 abbrev pub invariant-loop-lsn : goal.invariant-loop-lsn

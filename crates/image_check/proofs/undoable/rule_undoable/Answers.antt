@@ -4,9 +4,9 @@ use Rattle.site.specs.State.{State}
 use Rattle.log_records.specs.Log.{Entry, log_from}
 use Rattle.log_store.specs.Representation.{HasBlocks}
 use Rattle.image_check.specs.Chaining.{AreStrays}
-use Rattle.image_check.specs.Verdict.{picture_of}
-use Rattle.image_check.proofs.BlocksJudged.{finds_later, going_later}
-use Rattle.image_check.proofs.Decisions.{placed, unplaced}
+use Rattle.image_form.specs.Verdict.{picture_of}
+use Rattle.image_form.proofs.BlocksJudged.{finds_later, going_later}
+use Rattle.image_form.proofs.FirstRule.{placed, unplaced}
 use Rattle.image_check.proofs.StrayOnes.{fourth_of, chains_of, closed_of}
 use Rattle.image_check.proofs.undoable.rule_undoable.Goals as goal
 

@@ -5,13 +5,13 @@ use Rattle.site.specs.State.{State, Image}
 use Rattle.site.proofs.Working.{looks_then}
 use Rattle.second_chance.specs.Queue.{Queue}
 use Rattle.log_store.specs.Representation.{HasBlocks}
-use Rattle.image_check.specs.Octets.{AreGroups, AreVersions}
-use Rattle.image_check.specs.Findings.{AreFound}
-use Rattle.image_check.specs.Newest.{ShowsFrames}
+use Rattle.image_form.specs.Octets.{AreGroups, AreVersions}
+use Rattle.image_form.specs.Findings.{AreFound}
+use Rattle.image_form.specs.Newest.{ShowsFrames}
 use Rattle.image_check.specs.Showing.{FindsVersions}
-use Rattle.image_check.specs.Verdict.{Rule6, picture_of, values_of}
-use Rattle.image_check.proofs.BlocksJudged.{finds_later, going_later}
-use Rattle.image_check.proofs.Lasting.{may_read_later}
+use Rattle.image_form.specs.Verdict.{Rule6, picture_of, values_of}
+use Rattle.image_form.proofs.BlocksJudged.{finds_later, going_later}
+use Rattle.image_form.proofs.Lasting.{may_read_later}
 use Rattle.image_check.proofs.ShownOnes.{versions_later}
 use Rattle.image_check.proofs.ValuesCounted.{shows_some, none_found}
 use Rattle.image_check.proofs.values.rule_shown.Given.{Over}

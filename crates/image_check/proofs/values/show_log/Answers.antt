@@ -7,15 +7,15 @@ use Rattle.site.proofs.Working.{looks_then, looks_answered, looks_failed}
 use Rattle.log_records.specs.Log.{Entry, Version, table_of, log_from}
 use Rattle.log_store.specs.Representation.{HasBlocks}
 use Rattle.image_meaning.specs.Meaning.{versions_on}
-use Rattle.image_check.specs.declared.place.Place.{Place}
+use Rattle.image_form.specs.declared.place.Place.{Place}
 use Rattle.image_check.specs.declared.values.Logged.{Logged}
-use Rattle.image_check.specs.Octets.{AreVersions}
-use Rattle.image_check.specs.Findings.{MayRead}
+use Rattle.image_form.specs.Octets.{AreVersions}
+use Rattle.image_form.specs.Findings.{MayRead}
 use Rattle.image_check.specs.Showing.{FindsVersions, AreExpected, IsKnownEarly, is_logged}
-use Rattle.image_check.specs.Verdict.{picture_of}
+use Rattle.image_form.specs.Verdict.{picture_of}
 use Rattle.image_check.specs.Writing.{AreWritten}
-use Rattle.image_check.proofs.BlocksJudged.{finds_later, going_later}
-use Rattle.image_check.proofs.Lasting.{may_read_later}
+use Rattle.image_form.proofs.BlocksJudged.{finds_later, going_later}
+use Rattle.image_form.proofs.Lasting.{may_read_later}
 use Rattle.image_check.proofs.ShownOnes.{versions_later, AllHave, rule_logged, rule_early, rule_contents, rule_of}
 use Rattle.image_check.proofs.values.show_log.Given.{Over}
 use Rattle.image_check.proofs.values.show_log.Goals as goal

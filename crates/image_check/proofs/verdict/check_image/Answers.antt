@@ -2,10 +2,10 @@ use Rattle.std.proofs.Common.{◌≡◌, subst}
 use Rattle.std.specs.Prelude.{Result, Ok, IfOk}
 use Rattle.site.specs.State.{State, Image}
 use Rattle.image_check.specs.Judgement.{IsVerdictOn}
-use Rattle.image_check.specs.declared.formed.Found.{Found}
-use Rattle.image_check.specs.declared.place.Place.{Place}
-use Rattle.image_check.specs.Deciding.{IsFormedOr}
-use Rattle.image_check.specs.Verdict.{FailsFirst}
+use Rattle.image_form.specs.declared.formed.Found.{Found}
+use Rattle.image_form.specs.declared.place.Place.{Place}
+use Rattle.image_form.specs.Formed.{IsFormedOr}
+use Rattle.image_form.specs.Verdict.{FailsFirst}
 use Rattle.image_check.proofs.Decisions.{fails_kept, meets_both}
 use Rattle.image_check.proofs.verdict.check_image.Goals as goal
 

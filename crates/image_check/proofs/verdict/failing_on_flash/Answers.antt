@@ -3,10 +3,11 @@ use Rattle.std.specs.Prelude.{Some, None, Ok, is_none}
 use Rattle.site.specs.declared.geometry.Geometry.{Geometry}
 use Rattle.site.specs.State.{State}
 use Rattle.site.proofs.Working.{looks_then, looks_answered}
-use Rattle.image_check.specs.Octets.{AreGroups}
-use Rattle.image_check.specs.Findings.{MayRead}
-use Rattle.image_check.specs.Verdict.{Rule1, Rule7, Rule8}
-use Rattle.image_check.proofs.Decisions.{Past, may_be_judged_later, at_first, holds_so, fails_so, hold_all, placed, unplaced}
+use Rattle.image_form.specs.Octets.{AreGroups}
+use Rattle.image_form.specs.Findings.{MayRead}
+use Rattle.image_form.specs.Verdict.{Rule1, Rule7, Rule8}
+use Rattle.image_form.proofs.FirstRule.{placed, unplaced}
+use Rattle.image_check.proofs.Decisions.{Past, may_be_judged_later, at_first, holds_so, fails_so, hold_all}
 use Rattle.image_check.proofs.verdict.failing_on_flash.Goals as goal
 
 pub rule_following-requires : goal.rule_following-requires

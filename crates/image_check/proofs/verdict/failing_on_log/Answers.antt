@@ -1,7 +1,8 @@
 use Rattle.std.proofs.Common.{refl, arith}
 use Rattle.std.specs.Prelude.{is_none}
 use Rattle.site.specs.State.{State}
-use Rattle.image_check.proofs.Decisions.{Past, may_be_judged_later, at_first, holds_so, fails_so, hold_all, placed, unplaced}
+use Rattle.image_form.proofs.FirstRule.{placed, unplaced}
+use Rattle.image_check.proofs.Decisions.{Past, may_be_judged_later, at_first, holds_so, fails_so, hold_all}
 use Rattle.image_check.proofs.verdict.failing_on_log.Goals as goal
 
 pub rule_apart-requires-clause-going : goal.rule_apart-requires-clause-going

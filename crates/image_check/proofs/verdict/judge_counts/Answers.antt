@@ -1,10 +1,10 @@
 use Rattle.std.proofs.Common.{◌≡◌, ℕ, true≢false, sym, ◌∙◌, subst, arith}
 use Rattle.std.specs.Prelude.{Option, Some, None}
 use Rattle.log_records.specs.Log.{log_from}
-use Rattle.image_check.specs.declared.place.Place.TheVariants as place
+use Rattle.image_form.specs.declared.place.Place.TheVariants as place
 use Rattle.image_check.specs.Counting.{CommitsAre}
 use Rattle.image_check.specs.Deciding.{reading_of}
-use Rattle.image_check.specs.Verdict.{picture_of}
+use Rattle.image_form.specs.Verdict.{picture_of}
 use Rattle.image_check.proofs.Decisions.{Past, at_first, holds_here, fails_by, verdict_by, sound_by}
 use Rattle.image_check.proofs.verdict.judge_counts.Goals as goal
 

@@ -2,12 +2,12 @@ use Rattle.std.proofs.Common.{◌≡◌, ℕ, subst, arith}
 use Rattle.std.specs.Prelude.{Option, Some, None, Result, Ok, Err, IfOk, is_ok, length, ◌^◌, ◌<◌}
 use Rattle.site.specs.State.{State, Image}
 use Rattle.log_records.specs.Log.{log_from}
-use Rattle.image_check.specs.declared.place.Place.{Place}
+use Rattle.image_form.specs.declared.place.Place.{Place}
 use Rattle.image_check.specs.declared.survey.Survey.{Survey}
 use Rattle.image_check.specs.Judgement.{IsVerdictOn}
 use Rattle.image_check.specs.Deciding.{HoldOr, IsSurveyOf, reading_of}
 use Rattle.image_check.specs.Surveying.{Surveys}
-use Rattle.image_check.specs.Verdict.{HoldBefore}
+use Rattle.image_form.specs.Verdict.{HoldBefore}
 use Rattle.image_check.proofs.Decisions.{Past, may_be_judged_later, at_first, holds_so, reaches, verdict_by, told_none}
 use Rattle.image_check.proofs.verdict.judge_found.Goals as goal
 

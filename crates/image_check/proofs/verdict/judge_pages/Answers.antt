@@ -1,10 +1,10 @@
 use Rattle.std.proofs.Common.{◌≡◌, ℕ, subst, sym, ◌∙◌, refl, arith}
 use Rattle.std.specs.Prelude.{Option, Some, None, Result, Ok, Err, IfOk, is_ok}
 use Rattle.site.specs.State.{State, Image}
-use Rattle.image_check.specs.declared.place.Place.{Place}
+use Rattle.image_form.specs.declared.place.Place.{Place}
 use Rattle.image_check.specs.Judgement.{IsVerdictOn}
 use Rattle.image_check.specs.Deciding.{HoldOr, reading_of}
-use Rattle.image_check.specs.Verdict.{HoldBefore, picture_of, values_of}
+use Rattle.image_form.specs.Verdict.{HoldBefore, picture_of, values_of}
 use Rattle.image_check.proofs.Decisions.{Past, may_be_judged_later, at_first, holds_so, fails_so, reaches, verdict_by, told_place, told_none}
 use Rattle.image_check.proofs.verdict.judge_pages.Goals as goal
 

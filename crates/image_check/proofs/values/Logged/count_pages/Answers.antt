@@ -6,9 +6,9 @@ use Rattle.site.proofs.Working.{looks_then, looks_answered}
 use Rattle.log_records.specs.Log.{value_of}
 use Rattle.flash_cache.specs.Representation.{version_on}
 use Rattle.image_meaning.specs.Meaning.{versions_on}
-use Rattle.image_check.specs.Octets.{AreVersions}
+use Rattle.image_form.specs.Octets.{AreVersions}
 use Rattle.image_check.specs.Showing.{HasContents}
-use Rattle.image_check.proofs.Lasting.{may_read_later}
+use Rattle.image_form.proofs.Lasting.{may_read_later}
 use Rattle.image_check.proofs.ShownOnes.{versions_later}
 use Rattle.image_check.proofs.ValuesCounted.{values_among, page_more, all_pages}
 use Rattle.image_check.proofs.values.Logged.count_pages.Goals as goal

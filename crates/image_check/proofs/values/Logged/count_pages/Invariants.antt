@@ -4,8 +4,8 @@ use Rattle.site.specs.Work.{OnlyReads}
 use Rattle.log_records.specs.Log.{Entry, value_of}
 use Rattle.flash_cache.specs.Representation.{version_on}
 use Rattle.image_meaning.specs.Meaning.{versions_on}
-use Rattle.image_check.specs.Octets.{AreVersions}
-use Rattle.image_check.specs.Findings.{MayRead}
+use Rattle.image_form.specs.Octets.{AreVersions}
+use Rattle.image_form.specs.Findings.{MayRead}
 use Rattle.image_check.specs.Showing.{FindsVersions, HasContents}
 use Rattle.image_check.specs.Writing.{AreWritten}
 use Rattle.image_check.proofs.ValuesCounted.{values_among}

@@ -8,10 +8,10 @@ use Rattle.log_records.specs.declared.log_record.LogRecord.{LogRecord}
 use Rattle.log_records.specs.Log.{Entry, log_from}
 use Rattle.log_records.specs.Sound.{Pairwise, HoldsOff}
 use Rattle.log_store.specs.Representation.{Finds, HasBlocks}
-use Rattle.image_check.specs.Walking.{Gives}
+use Rattle.image_form.specs.Walking.{Gives}
 use Rattle.image_check.specs.Showing.{IsKnownEarly}
-use Rattle.image_check.proofs.BlocksJudged.{finds_later, going_later}
-use Rattle.image_check.proofs.Walks.{walked_none, walked_more, walked_all, gives_at}
+use Rattle.image_form.proofs.BlocksJudged.{finds_later, going_later}
+use Rattle.image_form.proofs.Walks.{walked_none, walked_more, walked_all, gives_at}
 use Rattle.image_check.proofs.ValuesCounted.{Hears, pairs_front}
 use Rattle.image_check.proofs.values.Logged.of_log.Given.{Over}
 use Rattle.image_check.proofs.values.Logged.of_log.Goals as goal

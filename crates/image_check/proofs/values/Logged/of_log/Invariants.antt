@@ -4,8 +4,8 @@ use Rattle.site.specs.Work.{OnlyReads}
 use Rattle.log_records.specs.declared.log_record.LogRecord.{LogRecord}
 use Rattle.log_records.specs.Log.{log_from}
 use Rattle.log_store.specs.Representation.{Invariant, Finds, HasBlocks}
-use Rattle.image_check.specs.Walking.{MayWalk, to_go}
-use Rattle.image_check.proofs.Walks.{Walked}
+use Rattle.image_form.specs.Walking.{MayWalk, to_go}
+use Rattle.image_form.proofs.Walks.{Walked}
 use Rattle.image_check.proofs.ValuesCounted.{Hears}
 use Rattle.image_check.proofs.values.Logged.of_log.Given as goal
 

@@ -1,9 +1,0 @@
-use Rattle.std.proofs.Common.{◌-◌}
-use Rattle.image_check.proofs.PagesRead.{PagesTo}
-use Rattle.image_check.proofs.blocks.are_on_pages.Given as goal
-
-abbrev pub invariant-loop-at : goal.invariant-loop-at
-invariant-loop-at l = PagesTo l.content l.used l.at l.pages
-
-abbrev pub decreases-loop-at : goal.decreases-loop-at
-decreases-loop-at l = l.used - l.at

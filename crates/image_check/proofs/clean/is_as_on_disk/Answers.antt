@@ -1,6 +1,0 @@
-use Rattle.std.proofs.Common.{arith}
-use Rattle.site.specs.declared.outside.Dev.TheVariants.{Disk}
-use Rattle.image_check.proofs.clean.is_as_on_disk.Goals as goal
-
-pub read_page-requires-clause-lies : goal.read_page-requires-clause-lies
-read_page-requires-clause-lies g c = let size = c.in_default.ensures.goes.sizes Disk in let lies = c.requires.page in omega (arith, size, lies)

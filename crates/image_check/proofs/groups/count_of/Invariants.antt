@@ -1,9 +1,0 @@
-use Rattle.std.proofs.Common.{◌≡◌, ◌+◌, drop}
-use Rattle.byte_fields.specs.FrameHeads.{present_in_front}
-use Rattle.image_check.proofs.groups.count_of.Given as goal
-
-abbrev pub invariant-loop-head : goal.invariant-loop-head
-invariant-loop-head l = record {
-  count : l.count ≡ l.head-index;
-  front : present_in_front l.heads ≡ l.head-index + present_in_front (drop l.head-index l.heads);
-}

@@ -1,5 +1,0 @@
-use Rattle.image_check.proofs.GroupsRead.{Put}
-use Rattle.image_check.proofs.groups.is_group_on.Given as goal
-
-abbrev pub invariant-loop-index : goal.invariant-loop-index
-invariant-loop-index l = Put l.content l.again l.pages l.index

@@ -1,0 +1,63 @@
+-- What was found of sizes and rings holds after calls that only read.
+use Rattle.std.proofs.Common.{◌≡◌, sym, ◌∙◌, ap, subst}
+use Rattle.std.specs.Prelude.{Option, Some, IfSome}
+use Rattle.site.specs.declared.outside.Dev.TheVariants.{Log, Flash, Disk}
+use Rattle.site.specs.declared.geometry.Geometry.{Geometry}
+use Rattle.site.specs.State.{State, Image, content_of}
+use Rattle.site.specs.Calls.{Preserves}
+use Rattle.sealed_ring.specs.declared.slots.Shape.{Shape}
+use Rattle.sealed_ring.specs.declared.ring.Ring.{Ring}
+use Rattle.sealed_ring.specs.Ring.{IsRing, hi_of}
+use Rattle.sealed_ring.specs.Ready.{region, IsUsable, Matches}
+use Rattle.sealed_ring.specs.Judged.{IsJudged}
+use Rattle.image_form.specs.declared.rings.Rings.{Rings}
+use Rattle.image_form.specs.Octets.{HasSizes}
+use Rattle.image_form.specs.Findings.{MayRead, AreFound}
+use Rattle.sealed_ring.proofs.Stays.{usable_later}
+
+pub fits_later : (ring : Ring) (a b : State) → b.image ≡ a.image → Matches ring a → Matches ring b
+fits_later ring a b same fits = fits ∙ ap (λ (image : Image). hi_of ring.shape (content_of ring.shape.dev image)) (sym same)
+
+pub sizes_later : (g : Geometry) (a b : State) → Preserves a b → HasSizes g a.image → HasSizes g b.image
+sizes_later g a b goes sizes = record {
+  limits = sizes.limits;
+  lengths = record {
+    log = goes.sizes Log ∙ sizes.lengths.log;
+    flash = goes.sizes Flash ∙ sizes.lengths.flash;
+    disk = goes.sizes Disk ∙ sizes.lengths.disk;
+  };
+}
+
+-- a ring that was found
+
+pub judged_some : (s : Shape) (o : Option Ring) (ring : Ring) (site : State) → o ≡ Some ring → IsJudged s o site → IsRing s (region s site) × Matches ring site
+judged_some s o ring site is judged = subst (λ (x : Option Ring). IsJudged s x site) is judged
+
+pub usable_some : (o : Option Ring) (ring : Ring) (site : State) → o ≡ Some ring → IfSome o (λ found. IsUsable found site) → IsUsable ring site
+usable_some o ring site is usable = subst (λ (x : Option Ring). IfSome x (λ found. IsUsable found site)) is usable
+
+pub shape_some : (s : Shape) (o : Option Ring) (ring : Ring) → o ≡ Some ring → IfSome o (λ found. found.shape ≡ s) → ring.shape ≡ s
+shape_some s o ring is shape = subst (λ (x : Option Ring). IfSome x (λ found. found.shape ≡ s)) is shape
+
+-- the four rings
+
+pub may_read_later : (g : Geometry) (rings : Rings) (a b : State) → Preserves a b → MayRead g rings a → MayRead g rings b
+may_read_later g rings a b goes may = record {
+  sizes = sizes_later g a b goes may.sizes;
+  masters = usable_later rings.masters a b goes may.masters;
+  blocks = usable_later rings.blocks a b goes may.blocks;
+  groups = usable_later rings.groups a b goes may.groups;
+  segments = usable_later rings.segments a b goes may.segments;
+  masters_shape = may.masters_shape;
+  blocks_shape = may.blocks_shape;
+  groups_shape = may.groups_shape;
+  segments_shape = may.segments_shape;
+}
+
+pub found_later : (rings : Rings) (a b : State) → b.image ≡ a.image → AreFound rings a → AreFound rings b
+found_later rings a b same found = record {
+  masters = fits_later rings.masters a b same found.masters;
+  blocks = fits_later rings.blocks a b same found.blocks;
+  groups = fits_later rings.groups a b same found.groups;
+  segments = fits_later rings.segments a b same found.segments;
+}

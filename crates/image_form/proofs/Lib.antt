@@ -1,0 +1,14 @@
+pub mod BlocksJudged
+pub mod Lasting
+pub mod LiveUnits
+pub mod BlockLists
+pub mod BlockReading
+pub mod PagesRead
+pub mod SavedHeads
+pub mod UnitsJudged
+pub mod Walks
+pub mod GroupsRead
+pub mod LastOnes
+pub mod CleanOnes
+pub mod NewestRead
+pub mod FirstRule

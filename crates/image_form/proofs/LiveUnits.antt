@@ -1,0 +1,40 @@
+-- The live units of a ring, one by one and as a list.
+use Rattle.std.proofs.Common.{◌≡◌, ℕ, zero, suc, ◌+◌, ◌-◌, ◌%◌, ◌≤◌, ◌<◌, min, List, [], ◌∷◌, get_or, length, refl, subst, arith}
+use Rattle.std.specs.List.{AllByRecursion}
+use Rattle.site.specs.State.{Image}
+use Rattle.sealed_ring.specs.declared.slots.Shape.{Shape}
+use Rattle.sealed_ring.specs.Ring.{IsLive, hi_of, content_at, units_from, unit_at}
+use Rattle.sealed_ring.proofs.Heads.{unit_is}
+use Rattle.sealed_ring.proofs.Units.{live_count}
+use Rattle.image_changes.specs.Rings.{octets_of, units_on}
+use Rattle.image_form.specs.Octets.{OfLive}
+
+pub all_from : (P : List ℕ → Type 0) (s : Shape) (c : List ℕ) (first k : ℕ) → ((i : ℕ) → i < k → P (content_at s c ((first + i) % s.slots))) → AllByRecursion P (units_from s c first k)
+all_from P s c first zero each = tt
+all_from P s c first (suc k) each =
+    let here : first + 0 ≡ first = omega arith in (
+      subst (λ (n : ℕ). P (content_at s c (n % s.slots))) here (each 0 (omega arith)),
+      all_from P s c (first + 1) k (λ i less.
+          let there : first + suc i ≡ first + 1 + i = omega arith in
+          subst (λ (n : ℕ). P (content_at s c (n % s.slots))) there (each (suc i) (omega (arith, less)))),
+    )
+
+all_at : (P : List ℕ → Type 0) (xs : List (List ℕ)) (i : ℕ) → i < length xs → AllByRecursion P xs → P (get_or xs i [])
+all_at P [] i less all = absurd (omega (arith, less))
+all_at P (x ∷ xs) zero less all = all.0
+all_at P (x ∷ xs) (suc i) less all = all_at P xs i (omega (arith, less)) all.1
+
+pub all_live : (P : List ℕ → Type 0) (s : Shape) (image : Image) → 3 ≤ s.slots → OfLive s image (λ n. P (unit_at s (units_on s image) n)) → AllByRecursion P (units_on s image).live
+all_live P s image slots each =
+    let c : List ℕ = octets_of s image in
+    let hi : ℕ = hi_of s c in
+    all_from P s c (hi - (s.slots - 1)) (min hi (s.slots - 1)) (λ i less.
+    let n : ℕ = hi - (s.slots - 1) + i in
+    let live : IsLive s hi n = record { below = omega (arith, less, slots); near = omega (arith, less, slots) } in
+    subst P (unit_is s hi n c slots refl live) (each n live))
+
+pub each_live : (P : List ℕ → Type 0) (s : Shape) (image : Image) → 3 ≤ s.slots → AllByRecursion P (units_on s image).live → OfLive s image (λ n. P (unit_at s (units_on s image) n))
+each_live P s image slots all n live =
+    let c : List ℕ = octets_of s image in
+    let count = live_count s c in
+    all_at P (units_on s image).live (n - (hi_of s c - (s.slots - 1))) (omega (arith, count, slots, live.below, live.near)) all

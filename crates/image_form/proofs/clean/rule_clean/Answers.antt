@@ -1,0 +1,84 @@
+use Rattle.std.proofs.Common.{rules, ◌≡◌, ◌+◌, ◌-◌, ◌≤◌, inl, inr, ℕ, List, true≢false, refl, sym, ap, ◌∙◌, subst, arith}
+use Rattle.std.proofs.lemmas.Bool.{cases_eq}
+use Rattle.site.specs.State.{State, Image}
+use Rattle.site.specs.Laws.{stays_honest}
+use Rattle.sealed_ring.specs.declared.slots.Shape.{Shape}
+use Rattle.sealed_ring.specs.Ring.{IsLive, hi_of}
+use Rattle.sealed_ring.specs.Ready.{region}
+use Rattle.image_changes.specs.Rings.{group_shape}
+use Rattle.frame_group.specs.Groups.{Frame, frames_in}
+use Rattle.frame_group.proofs.Contents.{frames_are_in}
+use Rattle.tail_rebuild.specs.Standing.{group_on}
+use Rattle.image_form.specs.Octets.{IsGroupOn, AreGroups}
+use Rattle.image_form.specs.Framing.{IsCleanFrame}
+use Rattle.image_form.proofs.Lasting.{found_later, may_read_later}
+use Rattle.image_form.proofs.CleanOnes.{clean_of_each, each_clean}
+use Rattle.image_form.proofs.clean.rule_clean.Goals as goal
+
+pub returns-then-not-clean-clause-clean : goal.returns-then-not-clean-clause-clean
+returns-then-not-clean-clause-clean g c honest found groups =
+    let geometry = c.args.geometry.now in
+    let rings = c.args.rings.now in
+    let ring = rings.groups in
+    let old : State = g.S.Site.state c.args.site.now in
+    let now : State = g.S.Site.state c.loop-group.site in
+    let reads = c.loop-group.invariant.reads in
+    let same : now.image ≡ old.image = (reads.same honest).image in
+    let n : ℕ = c.loop-group.group in
+    let slots : ring.shape.slots ≡ geometry.groups = ap (λ (s : Shape). s.slots) c.requires.groups_shape in
+    let some = c.requires.sizes.limits.groups in
+    let hi : ring.hi ≡ hi_of (group_shape geometry) old.image.flash = found.groups ∙ ap (λ (s : Shape). hi_of s (region s old)) c.requires.groups_shape in
+    let low : ring.hi ≤ n + (geometry.groups - 1) = omega (arith, c.loop-group.auto.group, c.oldest-group.ensures, slots, some) in
+    let live : IsLive (group_shape geometry) (hi_of (group_shape geometry) old.image.flash) n = record {
+      below = omega (arith, c.loop-group-test.true, c.hi-group-end.ensures, hi);
+      near = omega (arith, low, hi, some);
+    } in
+    let frames = groups n live in
+    let mine = frames_are_in (group_on geometry old.image n) frames.0 frames.1.group in
+    let says = c.in-Ok.ensures.clean frames.0 (stays_honest old now reads.goes honest) (found_later rings old now same found) (subst (AreGroups geometry) (sym same) groups)
+    (subst (λ (image : Image). IsGroupOn geometry (group_on geometry image n) frames.0) (sym same) frames.1) in (
+      λ wrong. absurd (true≢false (sym wrong)),
+      λ rule. absurd (true≢false (sym (says.1 (λ i. subst (λ (image : Image). IsCleanFrame geometry image n frames.0 i) (sym same)
+          (subst (λ (l : List Frame). IsCleanFrame geometry old.image n l i) mine (each_clean geometry old.image (omega (arith, some)) rule n live i)))) ∙ c.if-not-clean.true)),
+    )
+
+pub loop-group-preserved : goal.loop-group-preserved
+loop-group-preserved g c =
+    let geometry = c.args.geometry.now in
+    let rings = c.args.rings.now in
+    let ring = rings.groups in
+    let old : State = g.S.Site.state c.args.site.now in
+    let now : State = g.S.Site.state c.loop-group.site in
+    let reads = c.loop-group.invariant.reads in
+    let at : ℕ = c.loop-group.group in
+    record {
+      may_read = may_read_later geometry rings now (g.S.Site.state c.is_clean_group.new.site) c.in-Ok.ensures.reads.goes c.loop-group.invariant.may_read;
+      stand = λ honest found groups n live below. elim (cases_eq n at) [
+        | inl here ↦
+            let same : now.image ≡ old.image = (reads.same honest).image in
+            let hi : ring.hi ≡ hi_of (group_shape geometry) old.image.flash = found.groups ∙ ap (λ (s : Shape). hi_of s (region s old)) c.requires.groups_shape in
+            let lives : IsLive (group_shape geometry) (hi_of (group_shape geometry) old.image.flash) at = subst (λ (h : ℕ). IsLive (group_shape geometry) h at) hi (subst (IsLive (group_shape geometry) ring.hi) here live) in
+            let frames = groups at lives in
+            let mine = frames_are_in (group_on geometry old.image at) frames.0 frames.1.group in
+            let says = c.in-Ok.ensures.clean frames.0 (stays_honest old now reads.goes honest) (found_later rings old now same found) (subst (AreGroups geometry) (sym same) groups)
+            (subst (λ (image : Image). IsGroupOn geometry (group_on geometry image at) frames.0) (sym same) frames.1) in
+            λ i. subst (λ (k : ℕ). IsCleanFrame geometry old.image k (frames_in (group_on geometry old.image k)) i) (sym here)
+            (subst (λ (l : List Frame). IsCleanFrame geometry old.image at l i) (sym mine) (subst (λ (image : Image). IsCleanFrame geometry image at frames.0 i) same (says.0 c.if-not-clean.false i)))
+        | inr other ↦ c.loop-group.invariant.stand honest found groups n live (omega (arith, below, other))
+      ];
+      reads = search rules;
+    }
+
+pub returns-clause-clean : goal.returns-clause-clean
+returns-clause-clean g c honest found groups =
+    let geometry = c.args.geometry.now in
+    let ring = c.args.rings.now.groups in
+    let old : State = g.S.Site.state c.args.site.now in
+    let some = c.requires.sizes.limits.groups in
+    let hi : ring.hi ≡ hi_of (group_shape geometry) old.image.flash = found.groups ∙ ap (λ (s : Shape). hi_of s (region s old)) c.requires.groups_shape in (
+      λ yes. clean_of_each geometry old.image (omega (arith, some)) (λ n live i.
+          let here = subst (λ (h : ℕ). IsLive (group_shape geometry) h n) (sym hi) live in
+          let below = here.below in
+          c.loop-group.invariant.stand honest found groups n here (omega (arith, below, c.loop-group-test.false, c.hi-group-end.ensures)) i),
+      λ rule. refl,
+    )

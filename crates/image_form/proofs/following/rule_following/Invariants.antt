@@ -1,0 +1,17 @@
+use Rattle.std.proofs.Common.{ℕ, ◌<◌, IsTrue}
+use Rattle.std.specs.Prelude.{Ok}
+use Rattle.sealed_ring.specs.Ring.{IsLive}
+use Rattle.image_changes.specs.Rings.{group_shape}
+use Rattle.site.specs.Work.{OnlyReads}
+use Rattle.image_form.specs.Findings.{MayRead, AreFound, AreHeadsSaved}
+use Rattle.image_form.proofs.following.rule_following.Given as goal
+
+abbrev pub invariant-loop-group : goal.invariant-loop-group
+invariant-loop-group g l =
+    let old = g.S.Site.state l.fn.site in
+    let now = g.S.Site.state l.site in
+    record {
+      may_read : MayRead l.geometry l.rings now;
+      saved : IsTrue old.honest → AreFound l.rings old → (n : ℕ) → IsLive (group_shape l.geometry) l.rings.groups.hi n → n < l.group → AreHeadsSaved l.geometry old.image n;
+      reads : OnlyReads {T = Unit {0}} (Ok tt) old now;
+    }

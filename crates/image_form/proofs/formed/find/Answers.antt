@@ -1,0 +1,70 @@
+use Rattle.std.proofs.Common.{rules, ◌≡◌, subst}
+use Rattle.std.specs.Prelude.{Option, Result, Ok, Err}
+use Rattle.site.specs.declared.geometry.Geometry.{Geometry}
+use Rattle.site.specs.State.{State}
+use Rattle.site.proofs.Working.{looks_then, looks_answered}
+use Rattle.image_form.specs.declared.formed.Found.{Found}
+use Rattle.image_form.specs.declared.place.Place.{Place}
+use Rattle.image_form.specs.declared.place.Place.TheVariants as place
+use Rattle.image_form.specs.declared.rings.Rings.{Rings}
+use Rattle.image_form.specs.Octets.{HasSizes, AreRings}
+use Rattle.image_form.specs.Findings.{SizesAre, RingsAre}
+use Rattle.image_form.proofs.Lasting.{sizes_later}
+use Rattle.image_form.proofs.FirstRule.{one_size}
+use Rattle.image_form.proofs.formed.find.Goals as goal
+
+pub find_log-requires : goal.find_log-requires
+find_log-requires g c =
+    let s0 : State = g.S.Site.state c.args.site.now in
+    let s1 : State = g.S.Site.state c.rule_rings.new.site in
+    let s2 : State = g.S.Site.state c.rule_master.new.site in
+    let sizes : HasSizes c.in-Some.geometry s0.image = subst (λ (o : Option Geometry). SizesAre o s0.image) c.in-Some.is c.rule_lengths.ensures in
+    sizes_later c.in-Some.geometry s1 s2 c.in_ok-master.ensures.reads.goes (sizes_later c.in-Some.geometry s0 s1 c.in_ok-rings.ensures.reads.goes sizes)
+
+pub returns-in-Err-clause-found : goal.returns-in-Err-clause-found
+returns-in-Err-clause-found g c honest =
+    let geometry = c.in-Some.geometry in
+    let s0 : State = g.S.Site.state c.args.site.now in
+    let s1 : State = g.S.Site.state c.rule_rings.new.site in
+    let sizes : HasSizes geometry s0.image = subst (λ (o : Option Geometry). SizesAre o s0.image) c.in-Some.is c.rule_lengths.ensures in
+    let sizes1 : HasSizes geometry s1.image = sizes_later geometry s0 s1 c.in_ok-rings.ensures.reads.goes sizes in
+    let none : AreRings geometry s1.image → ⊥ = subst (λ (o : Result Rings Place). RingsAre geometry o s1) c.in-Err.is (c.in_ok-rings.ensures.rings honest) in
+    λ other m formed. none (subst (λ (x : Geometry). AreRings x s1.image) (one_size other geometry s1.image formed.sizes sizes1) formed.rings)
+
+pub returns-in_default-2-clause-reads : goal.returns-in_default-2-clause-reads
+returns-in_default-2-clause-reads g c =
+    let s0 : State = g.S.Site.state c.args.site.now in
+    let s1 : State = g.S.Site.state c.rule_rings.new.site in
+    let s2 : State = g.S.Site.state c.rule_master.new.site in
+    let answer : Result Found Place = Err place.Master in
+    looks_then c.in_ok-rings.field-0 (Ok answer) s0 s1 s2 c.in_ok-rings.ensures.reads (looks_answered c.in_ok-master.field-0 answer s1 s2 c.in_ok-master.ensures.reads)
+
+pub returns-in_err-log-clause-reads : goal.returns-in_err-log-clause-reads
+returns-in_err-log-clause-reads g c =
+    let s0 : State = g.S.Site.state c.args.site.now in
+    let s1 : State = g.S.Site.state c.rule_rings.new.site in
+    let s2 : State = g.S.Site.state c.rule_master.new.site in
+    let s3 : State = g.S.Site.state c.find_log.new.site in
+    looks_then c.in_ok-rings.field-0 c.from_residual-in_err-log.result s0 s1 s3 c.in_ok-rings.ensures.reads
+    (looks_then c.in_ok-master.field-0 c.from_residual-in_err-log.result s1 s2 s3 c.in_ok-master.ensures.reads (search rules))
+
+pub returns-in_default-3-clause-reads : goal.returns-in_default-3-clause-reads
+returns-in_default-3-clause-reads g c =
+    let s0 : State = g.S.Site.state c.args.site.now in
+    let s1 : State = g.S.Site.state c.rule_rings.new.site in
+    let s2 : State = g.S.Site.state c.rule_master.new.site in
+    let s3 : State = g.S.Site.state c.find_log.new.site in
+    let answer : Result Found Place = Err place.Blocks in
+    looks_then c.in_ok-rings.field-0 (Ok answer) s0 s1 s3 c.in_ok-rings.ensures.reads
+    (looks_then c.in_ok-master.field-0 (Ok answer) s1 s2 s3 c.in_ok-master.ensures.reads (looks_answered c.in_ok-log.field-0 answer s2 s3 c.in_ok-log.ensures.reads))
+
+pub returns-clause-reads : goal.returns-clause-reads
+returns-clause-reads g c =
+    let s0 : State = g.S.Site.state c.args.site.now in
+    let s1 : State = g.S.Site.state c.rule_rings.new.site in
+    let s2 : State = g.S.Site.state c.rule_master.new.site in
+    let s3 : State = g.S.Site.state c.find_log.new.site in
+    let found : Found = record { rings = c.in-Ok.rings; master = c.in-Some-2.master; log = c.in-Some-3.log } in
+    let answer : Result Found Place = Ok found in
+    looks_then c.in_ok-rings.field-0 (Ok answer) s0 s1 s3 c.in_ok-rings.ensures.reads
+    (looks_then c.in_ok-master.field-0 (Ok answer) s1 s2 s3 c.in_ok-master.ensures.reads (looks_answered c.in_ok-log.field-0 answer s2 s3 c.in_ok-log.ensures.reads))

@@ -1,0 +1,7 @@
+use Rattle.std.proofs.Common.{ℕ, ◌<◌, IsTrue}
+use Rattle.std.specs.Prelude.{slice_index_or}
+use Rattle.byte_fields.specs.declared.frame_head.FrameHead.{FrameHead}
+use Rattle.image_form.proofs.segments.pages_exist.Given as goal
+
+abbrev pub invariant-loop-head : goal.invariant-loop-head
+invariant-loop-head l = (k : ℕ) (d : FrameHead) → k < l.head-index → IsTrue (slice_index_or l.heads k d).present → (slice_index_or l.heads k d).page < l.pages

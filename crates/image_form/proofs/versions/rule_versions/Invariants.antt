@@ -1,0 +1,18 @@
+use Rattle.std.proofs.Common.{ℕ, ◌<◌, IsTrue}
+use Rattle.std.specs.Prelude.{Ok}
+use Rattle.slotted_page.specs.Layout.{IsSound}
+use Rattle.flash_cache.specs.Representation.{version_on}
+use Rattle.site.specs.Work.{OnlyReads}
+use Rattle.image_form.specs.Octets.{AreGroups}
+use Rattle.image_form.specs.Findings.{MayRead, AreFound}
+use Rattle.image_form.proofs.versions.rule_versions.Given as goal
+
+abbrev pub invariant-loop-page : goal.invariant-loop-page
+invariant-loop-page g l =
+    let old = g.S.Site.state l.fn.site in
+    let now = g.S.Site.state l.site in
+    record {
+      may_read : MayRead l.geometry l.rings now;
+      stand : IsTrue old.honest → AreFound l.rings old → AreGroups l.geometry old.image → (n : ℕ) → n < l.page → IsSound (version_on l.geometry old.image n);
+      reads : OnlyReads {T = Unit {0}} (Ok tt) old now;
+    }

@@ -1,0 +1,7 @@
+pub mod Findings
+pub mod Formed
+pub mod Framing
+pub mod Newest
+pub mod Octets
+pub mod Verdict
+pub mod Walking
