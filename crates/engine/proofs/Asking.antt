@@ -21,15 +21,15 @@ use Rattle.engine.proofs.Scans.{range_more, range_at}
 use Rattle.second_chance.specs.Machine.{Rules, Cache, after_works, staged_by_works}
 use Rattle.page_store.specs.declared.store.PageStore.{PageStore}
 use Rattle.page_store.specs.Caching.{cache_of, rules, with_change, next_group}
-use Rattle.redo_undo.specs.MachineSteps.{one_touch, StepsMachine, NumbersRise, one_change}
+use Rattle.redo_laws.specs.MachineSteps.{one_touch, StepsMachine, NumbersRise, one_change}
 use Rattle.redo_undo.specs.declared.store.Store.{Store}
 use Rattle.engine.specs.declared.engine.Engine.{Engine}
 use Rattle.engine.specs.Invariant.{Invariant}
 use Rattle.engine.specs.Paging.{AsksFrom, HasLastFrom, WritesFrom, cache_on}
 use Rattle.page_store.specs.Staging.{HasQueueOn, Stages, WritesOnly}
 use Rattle.redo_undo.specs.Stores.{MayWork}
-use Rattle.redo_undo.proofs.Asking.{asks_then, asks_stopped, asks_same}
-use Rattle.redo_undo.proofs.AskingUndo.{change_made}
+use Rattle.redo_laws.proofs.Asking.{asks_then, asks_stopped, asks_same}
+use Rattle.redo_laws.proofs.AskingUndo.{change_made}
 use Rattle.page_store.specs.Laws.{TouchThenChange}
 
 -- A page that is touched, and then changed.

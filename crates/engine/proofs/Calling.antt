@@ -18,9 +18,9 @@ use Rattle.record_model.specs.declared.words.Reply.{Reply}
 use Rattle.image_meaning.specs.Moments as moments
 use Rattle.page_store.specs.declared.store.PageStore.{PageStore}
 use Rattle.page_store.specs.Stopping.{MayStop}
-use Rattle.redo_undo.specs.HoldingLaws.{HoldsMoment}
+use Rattle.redo_laws.specs.HoldingLaws.{HoldsMoment}
 use Rattle.image_meaning.proofs.Leaving.{under_leaves_for}
-use Rattle.redo_undo.specs.MachineSteps.{StepsMachine, checkpoint_works}
+use Rattle.redo_laws.specs.MachineSteps.{StepsMachine, checkpoint_works}
 use Rattle.log_store.specs.Representation.{end_of}
 use Rattle.txn_table.specs.declared.active.Active.{Active}
 use Rattle.txn_table.specs.Entries.{IsTable, entry_of, owed}
@@ -39,10 +39,10 @@ use Rattle.engine.proofs.Firsts.{step_where, touches_where}
 use Rattle.site.proofs.Working.{calls_nothing, calls_then, calls_failed, calls_answered, calls_refused}
 use Rattle.site.specs.Work.{Calls}
 use Rattle.redo_undo.specs.StoreCalls.{KeepsInvariant, Keeps}
-use Rattle.redo_undo.proofs.Endings.{ends_behind, ends_failed, ends_leaving, ends_no_memory, ends_ok, leaves_late}
+use Rattle.redo_laws.proofs.Endings.{ends_behind, ends_failed, ends_leaving, ends_no_memory, ends_ok, leaves_late}
 use Rattle.redo_undo.proofs.NextUnits.{next_then, next_failed, next_answered, next_nothing, next_refused}
 use Rattle.page_store.proofs.StagingLaws.{stages_none}
-use Rattle.redo_undo.proofs.Asking.{asks_nothing, asks_same, asks_then, asks_stopped}
+use Rattle.redo_laws.proofs.Asking.{asks_nothing, asks_same, asks_then, asks_stopped}
 
 -- On every site.
 

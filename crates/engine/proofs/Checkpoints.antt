@@ -13,14 +13,14 @@ use Rattle.log_laws.proofs.Losers.{any_of_those}
 use Rattle.checkpoint.specs.declared.master.Master.{Master as Saved}
 use Rattle.checkpoint.specs.declared.pairs.Pair.{Pair}
 use Rattle.image_meaning.specs.Meaning.{master_of}
-use Rattle.redo_undo.specs.Checkpointing.{AreUnfinished, MayBeMade, KeepUnfinished}
-use Rattle.redo_undo.specs.SessionLaws.{ActiveOutlives}
+use Rattle.redo_laws.specs.Checkpointing.{AreUnfinished, MayBeMade, KeepUnfinished}
+use Rattle.redo_laws.specs.SessionLaws.{ActiveOutlives}
 use Rattle.log_store.specs.Representation.{end_of}
 use Rattle.txn_table.specs.declared.active.Active.{Active}
 use Rattle.txn_table.specs.Entries.{IsTable, entry_of, counted_from}
 use Rattle.txn_table.specs.Entries as entries
 use Rattle.txn_table.proofs.BySession.{entry_of-Contains, entry_of-at}
-use Rattle.redo_undo.specs.Holding.{blocks_to}
+use Rattle.redo_laws.specs.Holding.{blocks_to}
 use Rattle.engine.specs.declared.engine.Engine.{Engine}
 use Rattle.engine.specs.Invariant.{Invariant, sizes_of}
 use Rattle.redo_undo.specs.Stores.{MayWork, HasCheckpoint}

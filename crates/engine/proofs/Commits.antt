@@ -13,7 +13,7 @@ use Rattle.txn_table.specs.declared.active.Active.{Active}
 use Rattle.txn_table.specs.Entries.{IsTable, entry_of, ChangesOnly}
 use Rattle.txn_table.specs.Entries as entries
 use Rattle.image_meaning.specs.Moments as moments
-use Rattle.redo_undo.specs.Committing.{MayCommit}
+use Rattle.redo_laws.specs.Committing.{MayCommit}
 use Rattle.redo_undo.specs.declared.store.Store.{Store}
 use Rattle.engine.specs.Invariant.{sizes_of}
 use Rattle.engine.specs.declared.engine.Engine.{Engine}

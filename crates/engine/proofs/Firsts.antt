@@ -10,7 +10,7 @@ use Rattle.record_model.specs.declared.words.Reply.{Reply}
 use Rattle.record_model.specs.State.{State, used, kept_by_checkpoint, is_due}
 use Rattle.record_model.specs.Step.{refusal, outcome, step, carried_out, lacks_room, asks_for_checkpoint, makes_checkpoint, is_accepted}
 use Rattle.record_model.specs.Touches.{CacheWork, flush, command_touches, record_touches}
-use Rattle.redo_undo.specs.MachineSteps.{checkpoint_works}
+use Rattle.redo_laws.specs.MachineSteps.{checkpoint_works}
 use Rattle.site.specs.State.{State as Site}
 use Rattle.engine.specs.declared.engine.Engine.{Engine}
 use Rattle.engine.specs.Representation.{Matches, checkpointed_if}

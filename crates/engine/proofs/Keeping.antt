@@ -9,8 +9,8 @@ use Rattle.record_model.specs.State.{Session, State, session_at, kept_by_checkpo
 use Rattle.log_records.specs.Log.{Entry}
 use Rattle.checkpoint.specs.declared.master.Master.{Master}
 use Rattle.image_meaning.specs.Flushed.{first_block}
-use Rattle.redo_undo.specs.Checkpointing.{begins_of}
-use Rattle.redo_undo.specs.Holding.{blocks_to}
+use Rattle.redo_laws.specs.Checkpointing.{begins_of}
+use Rattle.redo_laws.specs.Holding.{blocks_to}
 use Rattle.txn_table.specs.declared.active.Active.{Active}
 use Rattle.txn_table.specs.Entries.{IsTable, IsLeast, entry_of}
 use Rattle.txn_table.proofs.Counting.{all_from_least}

@@ -33,13 +33,13 @@ use Rattle.page_store.specs.declared.store.PageStore.{PageStore}
 use Rattle.page_store.specs.Representation as page_store
 use Rattle.page_store.specs.Laws.{FitsBeside, GoesOnBeside}
 use Rattle.image_meaning.specs.Meaning.{IsUnused, IsFrameOf, AreGroups, HasNewest, saved_by, kept_by, picture_under}
-use Rattle.redo_undo.specs.Holding as both
+use Rattle.redo_laws.specs.Holding as both
 use Rattle.engine.specs.Image.{IsSound, Stands}
 use Rattle.engine.specs.Leaves.{LeavesTable}
 use Rattle.engine.specs.Restarting.{IsReady}
-use Rattle.redo_undo.proofs.CallsInSequence.{only_read}
+use Rattle.redo_laws.proofs.CallsInSequence.{only_read}
 use Rattle.redo_undo.proofs.Saved.{log_still}
-use Rattle.redo_undo.proofs.Forced.{none_now}
+use Rattle.redo_laws.proofs.Forced.{none_now}
 
 -- The queue on flash.
 

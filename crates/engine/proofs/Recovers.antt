@@ -1,5 +1,5 @@
 -- What redo, undo and a checkpoint make of an opened log.
-use Rattle.redo_undo.proofs.Touched.{tail_blocks}
+use Rattle.redo_laws.proofs.Touched.{tail_blocks}
 use Rattle.checkpoint.specs.declared.master.Master.{Master}
 use Rattle.checkpoint.specs.declared.pairs.Pair.{Pair}
 use Rattle.std.proofs.Common.{Option, Some, ◌≡◌, inr, ℕ, ◌+◌, ◌-◌, ◌*◌, ◌^◌, ◌≤◌, min, Bool, true, false, nat_lt, List, [], length, refl, sym, ap, subst, ◌∙◌, arith, true≢false}
@@ -25,8 +25,8 @@ use Rattle.image_meaning.specs.Meaning.{picture_under, next_block_under, master_
 use Rattle.image_meaning.proofs.UnchangedImages.{next_block_is}
 use Rattle.engine.specs.Image.{IsSound, log_under}
 use Rattle.page_store.specs.declared.store.PageStore.{PageStore}
-use Rattle.redo_undo.specs.Holding.{Represents, blocks_to}
-use Rattle.redo_undo.specs.Checkpointing.{MayBeMade}
+use Rattle.redo_laws.specs.Holding.{Represents, blocks_to}
+use Rattle.redo_laws.specs.Checkpointing.{MayBeMade}
 use Rattle.engine.specs.declared.restart.Opened.{Opened}
 use Rattle.engine.specs.declared.restart.Restarted.{Restarted}
 use Rattle.redo_undo.specs.Stores.{HasCheckpoint}

@@ -25,14 +25,14 @@ use Rattle.ring_machine.proofs.Ends.{saves_one, masters_stay}
 use Rattle.ring_machine.proofs.Performing.{performs_as, performs_by, performs_failed, performs_from, performs_with}
 use Rattle.log_store.specs.declared.store.LogStore.{LogStore}
 use Rattle.log_store.specs.Representation.{has_tail}
+use Rattle.write_ahead.specs.Forcing.{IsLogged, is_unsealed, end_now, end_forced}
 use Rattle.page_store.specs.declared.store.PageStore.{PageStore}
 use Rattle.page_store.specs.Representation.{content_by, current}
 use Rattle.flash_cache.specs.Representation.{version_on}
 use Rattle.page_store.specs.Caching.{cache_of, rules}
-use Rattle.page_store.specs.Ahead.{IsLogged, is_unsealed, end_now, end_forced}
 use Rattle.checkpoint.specs.declared.master.Master.{Master}
-use Rattle.redo_undo.specs.Holding.{Invariant, Represents, blocks_to}
-use Rattle.redo_undo.proofs.Touched.{tail_blocks}
+use Rattle.redo_laws.specs.Holding.{Invariant, Represents, blocks_to}
+use Rattle.redo_laws.proofs.Touched.{tail_blocks}
 use Rattle.redo_undo.specs.Mirroring.{resting, Mirrors, MirrorsStore}
 use Rattle.redo_undo.specs.Redoing.{AsksAtRest}
 use Rattle.redo_undo.specs.declared.store.Store.{Store}

@@ -7,7 +7,7 @@ use Rattle.site.specs.declared.outside.Stop.TheVariants.{Memory, Worn}
 use Rattle.site.specs.declared.geometry.Geometry.{Geometry}
 use Rattle.site.specs.State.{State}
 use Rattle.site.proofs.Working.{no_error, err_again}
-use Rattle.redo_undo.specs.Holding.{IsSpent}
+use Rattle.redo_laws.specs.Holding.{IsSpent}
 use Rattle.redo_undo.specs.Stores.{sizes_of}
 use Rattle.redo_undo.specs.StoreCalls.{AreNext, KeepsNext}
 use Rattle.redo_undo.specs.declared.store.Store.{Store}

@@ -1,7 +1,7 @@
 -- The numbers of the rings' units, over the calls of the database.
 use Rattle.record_model.proofs.StepLaws.{effect_makes}
 use Rattle.engine.proofs.Replies.{way}
-use Rattle.redo_undo.proofs.Touched.{tail_blocks}
+use Rattle.redo_laws.proofs.Touched.{tail_blocks}
 use Rattle.std.proofs.Common.{◌≡◌, ◌+◌, ◌≤◌, Bool, true, false, List, [], Option, None, Some, ap, subst, arith, ℕ}
 use Rattle.std.specs.Prelude.{Result, Ok, Err}
 use Rattle.site.specs.declared.outside.Stop.{Stop}
@@ -23,9 +23,9 @@ use Rattle.log_records.specs.Unfinished.{owed}
 use Rattle.log_store.specs.declared.store.LogStore.{LogStore}
 use Rattle.log_store.specs.Representation.{has_tail}
 use Rattle.checkpoint.specs.declared.master.Master.{Master}
-use Rattle.redo_undo.specs.Holding.{blocks_to}
-use Rattle.redo_undo.specs.Numbers.{HasNumbers, SkipsNone}
-use Rattle.redo_undo.proofs.RingNumbers.{hi_on, leaves_more, leaves_unchanged, skips_answered, skips_nothing, skips_on, then_skips}
+use Rattle.redo_laws.specs.Holding.{blocks_to}
+use Rattle.redo_laws.specs.Numbers.{HasNumbers, SkipsNone}
+use Rattle.redo_laws.proofs.RingNumbers.{hi_on, leaves_more, leaves_unchanged, skips_answered, skips_nothing, skips_on, then_skips}
 use Rattle.engine.specs.declared.engine.Engine.{Engine}
 use Rattle.engine.specs.declared.restart.Opened.{Opened}
 use Rattle.engine.specs.Representation.{Matches, run_now}
@@ -33,8 +33,8 @@ use Rattle.engine.specs.Invariant.{Invariant, sizes_of}
 use Rattle.engine.specs.Restarting.{IsReady}
 use Rattle.engine.specs.Numbers.{CountsOn, RestartsWithin}
 use Rattle.site.proofs.Working.{ok_as}
-use Rattle.redo_undo.proofs.Appended.{if_ok_one}
-use Rattle.redo_undo.proofs.Forced.{none_now}
+use Rattle.redo_laws.proofs.Appended.{if_ok_one}
+use Rattle.redo_laws.proofs.Forced.{none_now}
 
 -- Calls on log and pages, as calls of the database.
 

@@ -28,8 +28,8 @@ use Rattle.txn_table.specs.declared.active.Active.{Active}
 use Rattle.txn_table.specs.Entries.{IsTable, entry_of}
 use Rattle.txn_table.specs.Entries as entries
 use Rattle.image_meaning.specs.Meaning.{master_of, versions_on}
-use Rattle.redo_undo.specs.Holding.{blocks_to}
-use Rattle.redo_undo.specs.Committing.{MayCommit}
+use Rattle.redo_laws.specs.Holding.{blocks_to}
+use Rattle.redo_laws.specs.Committing.{MayCommit}
 use Rattle.redo_undo.specs.declared.store.Store.{Store}
 use Rattle.engine.specs.declared.engine.Engine.{Engine}
 use Rattle.engine.specs.Invariant.{sizes_of}

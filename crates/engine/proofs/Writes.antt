@@ -25,7 +25,7 @@ use Rattle.txn_table.specs.Entries.{IsTable, entry_of, ChangesOnly, after_write}
 use Rattle.txn_table.specs.Entries as entries
 use Rattle.engine.specs.declared.engine.Engine.{Engine}
 use Rattle.image_meaning.specs.Meaning.{master_of, versions_on}
-use Rattle.redo_undo.specs.Holding.{blocks_to}
+use Rattle.redo_laws.specs.Holding.{blocks_to}
 use Rattle.redo_undo.specs.declared.store.Store.{Store}
 use Rattle.engine.specs.Invariant.{sizes_of}
 use Rattle.redo_undo.specs.Stores.{Represents, MayGrow, shown_in, update_by}

@@ -7,10 +7,10 @@ use Rattle.record_model.specs.Step.{Outcome}
 use Rattle.record_model.specs.Touches.{CacheWork}
 use Rattle.record_model.specs.declared.words.Reply.{Reply}
 use Rattle.page_store.specs.Stopping.{MayStop}
-use Rattle.redo_undo.specs.MachineSteps.{StepsMachine}
+use Rattle.redo_laws.specs.MachineSteps.{StepsMachine}
 use Rattle.redo_undo.specs.StoreCalls.{KeepsNext}
 pub use Rattle.site.specs.Work.{Calls}
-pub use Rattle.redo_undo.specs.Calls.{Ends}
+pub use Rattle.redo_laws.specs.Calls.{Ends}
 use Rattle.engine.specs.declared.engine.Engine.{Engine}
 use Rattle.engine.specs.Invariant.{Invariant, sizes_of}
 use Rattle.engine.specs.Representation.{Matches}

@@ -4,7 +4,7 @@ use Rattle.site.specs.State.{State}
 use Rattle.log_store.specs.Representation.{end_of}
 use Rattle.txn_table.specs.declared.active.Active.{Active}
 use Rattle.txn_table.specs.Entries.{IsTable, entry_of, owed}
-use Rattle.redo_undo.specs.Holding.{blocks_to}
+use Rattle.redo_laws.specs.Holding.{blocks_to}
 pub use Rattle.redo_undo.specs.Stores.{MayWork, sizes_of}
 use Rattle.engine.specs.declared.engine.Engine.{Engine}
 

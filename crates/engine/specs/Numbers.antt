@@ -14,8 +14,8 @@ use Rattle.record_model.specs.Step.{makes_checkpoint}
 use Rattle.log_records.specs.Log.{Entry}
 use Rattle.log_records.specs.Unfinished as unfinished
 use Rattle.log_store.specs.declared.store.LogStore.{LogStore}
-use Rattle.redo_undo.specs.Holding.{blocks_to}
-use Rattle.redo_undo.specs.Numbers.{HasNumbers, SkipsNone}
+use Rattle.redo_laws.specs.Holding.{blocks_to}
+use Rattle.redo_laws.specs.Numbers.{HasNumbers, SkipsNone}
 use Rattle.engine.specs.declared.engine.Engine.{Engine}
 use Rattle.engine.specs.Invariant.{Invariant, sizes_of}
 use Rattle.engine.specs.Representation.{Matches}

@@ -16,7 +16,7 @@ use Rattle.page_store.specs.declared.store.PageStore.{PageStore}
 use Rattle.page_store.specs.Caching.{cache_of, rules}
 use Rattle.page_store.specs.Staging.{WritesOnly}
 use Rattle.site.specs.Moments.{LeavesOnly}
-use Rattle.redo_undo.specs.MachineSteps.{redo_works, undo_works, checkpoint_works, next_group, finds_in, misses_in}
+use Rattle.redo_laws.specs.MachineSteps.{redo_works, undo_works, checkpoint_works, next_group, finds_in, misses_in}
 
 -- the queue on flash: the live groups, none of their frames referenced
 abbrev pub queue_on : Geometry → Image → Queue

@@ -17,8 +17,8 @@ use Rattle.image_meaning.specs.Meaning.{saved_by, picture_under}
 use Rattle.log_store.specs.Representation.{end_of}
 use Rattle.page_store.specs.Stopping.{MayStop}
 use Rattle.page_store.specs.Caching.{cache_of, rules}
-use Rattle.redo_undo.specs.Holding as both
-use Rattle.redo_undo.specs.Holding.{blocks_to, IsSpent}
+use Rattle.redo_laws.specs.Holding as both
+use Rattle.redo_laws.specs.Holding.{blocks_to, IsSpent}
 use Rattle.redo_undo.specs.Redoing.{IsOpened}
 use Rattle.engine.specs.declared.restart.Opened.{Opened}
 use Rattle.engine.specs.declared.restart.Restarted.{Restarted}

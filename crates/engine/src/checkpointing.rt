@@ -12,7 +12,7 @@ ghost use Rattle.engine.specs.Invariant.{Invariant, sizes_of};
 ghost use Rattle.engine.specs.Representation.{Matches, run, checkpointed_if};
 ghost use Rattle.engine.specs.Leaves.{LeavesTable};
 ghost use Rattle.record_model.specs.Touches.{command_touches};
-ghost use Rattle.redo_undo.specs.MachineSteps.{StepsMachine, checkpoint_works};
+ghost use Rattle.redo_laws.specs.MachineSteps.{StepsMachine, checkpoint_works};
 ghost use Rattle.engine.specs.Calls.{KeepsUnread, Does, Answers};
 ghost use Rattle.engine.specs.Numbers.{checkpoints_by};
 

@@ -17,7 +17,7 @@ ghost use Rattle.engine.specs.Permits.{MayShow, MayRead, MayScan};
 ghost use Rattle.engine.specs.Representation.{Matches, run, with_read, with_reads, Refuses, Accepts};
 ghost use Rattle.engine.specs.Leaves.{LeavesTable};
 ghost use Rattle.record_model.specs.Touches.{command_touches, read_touch};
-ghost use Rattle.redo_undo.specs.MachineSteps.{StepsMachine, one_touch};
+ghost use Rattle.redo_laws.specs.MachineSteps.{StepsMachine, one_touch};
 ghost use Rattle.engine.specs.Scans.{first_busy, items_seen};
 ghost use Rattle.engine.specs.Calls.{KeepsUnread, Does, Answers};
 ghost use Rattle.engine.specs.Numbers.{checkpoints_by};

@@ -19,7 +19,7 @@ ghost use Rattle.engine.specs.OneWrite.{HasOneWrite};
 ghost use Rattle.engine.specs.Representation.{Matches, run, run_now, Refuses, Accepts};
 ghost use Rattle.engine.specs.Leaves.{LeavesTable, LeavesEither};
 ghost use Rattle.record_model.specs.Touches.{command_touches};
-ghost use Rattle.redo_undo.specs.MachineSteps.{StepsMachine, one_change};
+ghost use Rattle.redo_laws.specs.MachineSteps.{StepsMachine, one_change};
 ghost use Rattle.engine.specs.Calls.{KeepsUnread, Does, Answers};
 ghost use Rattle.engine.specs.Numbers.{checkpoints_by};
 ghost use Rattle.redo_undo.specs.StoreCalls.{KeepsInvariant, Keeps};

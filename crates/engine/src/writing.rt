@@ -17,7 +17,7 @@ ghost use Rattle.engine.specs.Permits.{MayWrite};
 ghost use Rattle.engine.specs.Representation.{Matches, run, with_write, Refuses, Accepts};
 ghost use Rattle.engine.specs.Leaves.{LeavesTable};
 ghost use Rattle.record_model.specs.Touches.{command_touches};
-ghost use Rattle.redo_undo.specs.MachineSteps.{StepsMachine, one_change};
+ghost use Rattle.redo_laws.specs.MachineSteps.{StepsMachine, one_change};
 ghost use Rattle.engine.specs.Calls.{KeepsUnread, Does, Answers};
 ghost use Rattle.engine.specs.Numbers.{checkpoints_by};
 

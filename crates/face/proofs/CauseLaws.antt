@@ -8,7 +8,7 @@ use Rattle.site.specs.Calls.{Preserves}
 use Rattle.site.specs.Laws.{rose_then}
 use Rattle.site.specs.Telling.{SameDevices}
 use Rattle.flash_cache.specs.Representation.{IsWorn}
-use Rattle.redo_undo.specs.Holding.{IsLogWorn, IsSpent}
+use Rattle.redo_laws.specs.Holding.{IsLogWorn, IsSpent}
 use Rattle.face.specs.declared.halt.Halt.{Halt}
 use Rattle.face.specs.declared.halt.Halt.TheVariants as halt
 use Rattle.face.specs.Texts.{status_of}

@@ -14,7 +14,7 @@ use Rattle.engine.specs.declared.engine.Engine.{Engine}
 use Rattle.engine.specs.Invariant.{sizes_of}
 use Rattle.flash_cache.specs.Representation.{IsWorn}
 use Rattle.site.specs.Geometry.{HasLimits, HasLengths}
-use Rattle.redo_undo.specs.Holding.{IsLogWorn}
+use Rattle.redo_laws.specs.Holding.{IsLogWorn}
 use Rattle.redo_undo.specs.StoreCalls.{KeepsNext}
 use Rattle.redo_undo.specs.declared.store.Store.{Store}
 use Rattle.engine.specs.Restarting.{LeavesNext}

@@ -21,9 +21,9 @@ use Rattle.record_model.specs.Run.{Line, Turn, is_quit, later_listings, next_lis
 use Rattle.log_records.specs.Log.{Entry}
 use Rattle.log_records.specs.Unfinished.{owed}
 use Rattle.log_store.specs.declared.store.LogStore.{LogStore}
-use Rattle.redo_undo.specs.Holding.{blocks_to}
-use Rattle.redo_undo.specs.Numbers.{HasNumbers}
-use Rattle.redo_undo.proofs.RingNumbers.{leaves_more, leaves_unchanged}
+use Rattle.redo_laws.specs.Holding.{blocks_to}
+use Rattle.redo_laws.specs.Numbers.{HasNumbers}
+use Rattle.redo_laws.proofs.RingNumbers.{leaves_more, leaves_unchanged}
 use Rattle.engine.specs.declared.engine.Engine.{Engine}
 use Rattle.engine.specs.Representation.{Matches}
 use Rattle.engine.specs.Invariant.{Invariant, sizes_of}

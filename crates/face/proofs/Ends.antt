@@ -13,7 +13,7 @@ use Rattle.engine.specs.Representation.{Matches}
 use Rattle.engine.specs.Invariant.{sizes_of}
 use Rattle.flash_cache.specs.Representation.{IsWorn}
 use Rattle.site.specs.Geometry.{HasLimits, HasLengths}
-use Rattle.redo_undo.specs.Holding.{IsLogWorn, IsSpent}
+use Rattle.redo_laws.specs.Holding.{IsLogWorn, IsSpent}
 use Rattle.redo_undo.specs.StoreCalls.{AreNext}
 use Rattle.record_model.specs.Run.{Line, is_quit}
 use Rattle.face.specs.declared.halt.Halt.{Halt}

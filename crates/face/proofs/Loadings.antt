@@ -23,14 +23,14 @@ use Rattle.log_records.specs.Log.{Entry}
 use Rattle.log_records.specs.Unfinished.{owed}
 use Rattle.sealed_ring.specs.Ring.{hi_of}
 use Rattle.image_changes.specs.Rings.{log_shape, master_shape}
-use Rattle.redo_undo.specs.Numbers.{HasNumbers}
-use Rattle.redo_undo.proofs.RingNumbers.{leaves_more}
+use Rattle.redo_laws.specs.Numbers.{HasNumbers}
+use Rattle.redo_laws.proofs.RingNumbers.{leaves_more}
 use Rattle.image_meaning.specs.Meaning.{picture_under}
 use Rattle.second_chance.specs.Machine.{Cache, Rules, after_works, opened, rules_of}
 use Rattle.page_store.specs.Caching.{cache_of, rules}
 use Rattle.engine.specs.Paging.{HasLastFrom, WritesFrom}
 use Rattle.face.proofs.Writings.{engine_queue, last_works, writes_then}
-use Rattle.redo_undo.specs.MachineSteps.{ReadsAddUp, ReadsFor, WorksAddUp}
+use Rattle.redo_laws.specs.MachineSteps.{ReadsAddUp, ReadsFor, WorksAddUp}
 use Rattle.engine.specs.declared.engine.Engine.{Engine}
 use Rattle.engine.specs.Invariant.{Invariant, sizes_of}
 use Rattle.engine.specs.Image.{IsSound, log_under}

@@ -29,8 +29,8 @@ use Rattle.page_store.proofs.Versions.{pages_later}
 use Rattle.page_store.specs.Ahead.{IsAhead}
 use Rattle.image_meaning.specs.Meaning.{kept_by, picture_under}
 use Rattle.image_meaning.specs.Beside.{AreRingsSoundUnder}
-use Rattle.redo_undo.specs.Running.{RunsOn}
-use Rattle.redo_undo.specs.Holding.{RepresentsLog, RepresentsIn, ShowRecords}
+use Rattle.redo_laws.specs.Running.{RunsOn}
+use Rattle.redo_laws.specs.Holding.{RepresentsLog, RepresentsIn, ShowRecords}
 use Rattle.engine.specs.declared.engine.Engine.{Engine}
 use Rattle.engine.specs.Invariant.{Invariant, sizes_of}
 use Rattle.engine.specs.Representation.{Matches}

@@ -16,7 +16,7 @@ use Rattle.face.specs.Tells.{Tells}
 use Rattle.face.specs.Run.{Run, first_lines}
 use Rattle.face.specs.Working.{RunOutcome}
 use Rattle.face.proofs.Pagings.{none_read}
-use Rattle.redo_undo.specs.MachineSteps.{NumbersRise}
+use Rattle.redo_laws.specs.MachineSteps.{NumbersRise}
 use Rattle.face.specs.New.{New, NewCauses}
 use Rattle.face.specs.Refusals.{LacksMemory, memory_fault}
 use Rattle.face.specs.Range.{AsksNoMore, run_of}

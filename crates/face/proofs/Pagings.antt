@@ -30,7 +30,7 @@ use Rattle.page_store.proofs.StagingLaws.{stages_none}
 use Rattle.engine.proofs.Asking.{still_writes}
 use Rattle.face.specs.Lines.{HearsOnly}
 use Rattle.face.proofs.Writings.{last_heard, last_told, last_works, writes_told, writes_heard, writes_then}
-use Rattle.redo_undo.specs.MachineSteps.{StepsMachine, NumbersRise, ReadsAddUp, ReadsFor, WorksAddUp}
+use Rattle.redo_laws.specs.MachineSteps.{StepsMachine, NumbersRise, ReadsAddUp, ReadsFor, WorksAddUp}
 use Rattle.engine.specs.declared.engine.Engine.{Engine}
 use Rattle.engine.specs.Representation.{Matches}
 use Rattle.engine.specs.Invariant.{sizes_of}

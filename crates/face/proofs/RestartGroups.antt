@@ -19,7 +19,7 @@ use Rattle.checkpoint.specs.declared.master.Master.{Master}
 use Rattle.image_meaning.specs.Meaning.{kept_by, picture_under}
 use Rattle.second_chance.specs.Groups.{groups_for_all}
 use Rattle.second_chance.proofs.GroupCounts.{groups_add_up}
-use Rattle.redo_undo.specs.MachineSteps.{checkpoint_works}
+use Rattle.redo_laws.specs.MachineSteps.{checkpoint_works}
 use Rattle.engine.specs.Image.{IsSound}
 use Rattle.engine.specs.Paging.{restart_works}
 

@@ -19,8 +19,8 @@ use Rattle.ring_machine.proofs.Agreeing.{commands_agree, restarts_agree}
 use Rattle.ring_machine.proofs.Counts.{commands_log_few, few_are_enough, records_join, saves_join}
 use Rattle.ring_machine.proofs.RestartCounts.{restarts_log_few}
 use Rattle.ring_machine.proofs.Works.{work_adds_up}
-use Rattle.redo_undo.specs.MachineSteps.{next_group}
-use Rattle.redo_undo.proofs.Costs.{works_add_up}
+use Rattle.redo_laws.specs.MachineSteps.{next_group}
+use Rattle.redo_laws.proofs.Costs.{works_add_up}
 use Rattle.engine.specs.Image.{IsSound, log_under}
 use Rattle.engine.specs.Paging.{cache_on, restart_works}
 use Rattle.engine.specs.RingWork.{machine_on}

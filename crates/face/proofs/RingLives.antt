@@ -27,8 +27,8 @@ use Rattle.second_chance.specs.Queue.{frame_of as known_of}
 use Rattle.second_chance.proofs.GroupCounts.{groups_add_up}
 use Rattle.engine.specs.Image.{IsSound, log_under}
 use Rattle.engine.specs.Paging.{cache_on, restart_works}
-use Rattle.redo_undo.specs.MachineSteps.{next_group}
-use Rattle.redo_undo.specs.Numbers.{HasNumbers}
+use Rattle.redo_laws.specs.MachineSteps.{next_group}
+use Rattle.redo_laws.specs.Numbers.{HasNumbers}
 use Rattle.page_store.specs.Staging.{WritesOnly}
 use Rattle.face.specs.Headline.{IsGood}
 use Rattle.face.specs.Range.{AsksNoMore, GivesNumbers, SkipsNoNumber, cache_by, made_by, run_of, staged_by_run}

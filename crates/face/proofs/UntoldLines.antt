@@ -16,13 +16,13 @@ use Rattle.second_chance.specs.Machine.{Cache, Rules, after_works}
 use Rattle.page_store.specs.declared.store.PageStore.{PageStore}
 use Rattle.page_store.specs.Caching.{cache_of, rules}
 use Rattle.flash_cache.specs.Representation.{IsWorn}
-use Rattle.redo_undo.specs.Holding.{IsLogWorn, IsSpent}
+use Rattle.redo_laws.specs.Holding.{IsLogWorn, IsSpent}
 use Rattle.redo_undo.specs.StoreCalls.{AreNext}
 use Rattle.engine.specs.Paging.{HasLastFrom, WritesFrom}
 use Rattle.site.proofs.Working.{ok_as}
 use Rattle.page_store.proofs.StagingLaws.{last_none}
 use Rattle.face.proofs.Writings.{engine_queue, last_works, writes_then, writes_nothing}
-use Rattle.redo_undo.specs.MachineSteps.{ReadsAddUp, ReadsFor, WorksAddUp}
+use Rattle.redo_laws.specs.MachineSteps.{ReadsAddUp, ReadsFor, WorksAddUp}
 use Rattle.engine.specs.declared.engine.Engine.{Engine}
 use Rattle.engine.specs.Representation.{Matches}
 use Rattle.engine.specs.Invariant.{Invariant, sizes_of}

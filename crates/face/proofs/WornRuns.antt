@@ -19,7 +19,7 @@ use Rattle.second_chance.specs.Machine.{Rules, rules_of}
 use Rattle.sealed_ring.specs.declared.slots.Shape.{Shape}
 use Rattle.sealed_ring.specs.Ring.{hi_of}
 use Rattle.sealed_ring.specs.Ready.{region}
-use Rattle.redo_undo.proofs.RingNumbers.{hi_on}
+use Rattle.redo_laws.proofs.RingNumbers.{hi_on}
 use Rattle.engine.specs.Representation.{Matches}
 use Rattle.engine.specs.Invariant.{Invariant, sizes_of}
 use Rattle.site.specs.declared.geometry.Geometry.{Geometry}

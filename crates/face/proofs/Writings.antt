@@ -13,7 +13,7 @@ use Rattle.page_store.specs.Caching.{cache_of, rules, next_group}
 use Rattle.page_store.specs.Staging.{WritesOnly, HasQueueOn}
 use Rattle.page_store.proofs.StagingLaws.{last_still, last_then, last_unmoved, among_first, written_weaker, written_then, fits_queue, still_leaves}
 use Rattle.page_store.specs.declared.store.PageStore.{PageStore}
-use Rattle.redo_undo.proofs.Costs.{works_add_up, staged_add_up, more_next}
+use Rattle.redo_laws.proofs.Costs.{works_add_up, staged_add_up, more_next}
 use Rattle.engine.specs.declared.engine.Engine.{Engine}
 use Rattle.engine.specs.Representation.{Matches}
 use Rattle.engine.specs.Invariant.{Invariant}

@@ -19,7 +19,7 @@ use Rattle.engine.specs.Image.{Stands}
 use Rattle.engine.specs.Representation.{Matches}
 use Rattle.engine.specs.Invariant.{sizes_of}
 use Rattle.flash_cache.specs.Representation.{IsWorn}
-use Rattle.redo_undo.specs.Holding.{IsLogWorn, IsSpent}
+use Rattle.redo_laws.specs.Holding.{IsLogWorn, IsSpent}
 use Rattle.redo_undo.specs.StoreCalls.{AreNext}
 use Rattle.std.specs.List.{list_any}
 use Rattle.record_model.specs.Run.{is_quit}

@@ -12,12 +12,12 @@ use Rattle.checkpoint.specs.declared.master.Master.{Master}
 use Rattle.second_chance.specs.Machine.{rules_of, after_works}
 use Rattle.page_store.specs.declared.store.PageStore.{PageStore}
 use Rattle.page_store.specs.Caching.{cache_of, rules}
-use Rattle.redo_undo.specs.MachineSteps.{ReadsFor}
+use Rattle.redo_laws.specs.MachineSteps.{ReadsFor}
 use Rattle.engine.specs.Paging.{HasLastFrom, WritesFrom, cache_on}
 use Rattle.page_store.specs.Staging.{HasQueueOn}
 use Rattle.face.specs.declared.halt.Halt.{Halt}
 use Rattle.log_records.specs.Log.{Entry}
-use Rattle.redo_undo.specs.Holding.{blocks_to}
+use Rattle.redo_laws.specs.Holding.{blocks_to}
 use Rattle.image_changes.specs.Costs.{CallsForUnits}
 use Rattle.face.specs.Range.{GivesNumbers, IsLeft, ListsTheMachine, WritesAsTold, blocks_by, first_texts}
 use Rattle.face.specs.Run.{Run, Begins, answered, first_lines, state_at, listings_left}

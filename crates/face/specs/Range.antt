@@ -16,8 +16,8 @@ use Rattle.image_meaning.specs.Meaning.{picture_under}
 use Rattle.second_chance.specs.Machine.{Cache, Staged, rules_of, after_works, staged_by_works, listing, opened}
 use Rattle.flash_cache.specs.OnDisk.{HasLastStaged}
 use Rattle.page_store.specs.Staging.{WritesOnly}
-use Rattle.redo_undo.specs.MachineSteps.{next_group}
-use Rattle.redo_undo.specs.Numbers.{HasNumbers}
+use Rattle.redo_laws.specs.MachineSteps.{next_group}
+use Rattle.redo_laws.specs.Numbers.{HasNumbers}
 use Rattle.site.specs.Moments.{LeavesOnly}
 use Rattle.engine.specs.Paging.{restart_works, cache_on}
 use Rattle.engine.specs.Image.{IsSound, Stands, log_under}

@@ -9,7 +9,7 @@ use Rattle.image_changes.specs.Rings.{group_shape}
 use Rattle.record_model.specs.State.{State}
 use Rattle.second_chance.specs.Groups.{reads_in}
 use Rattle.command_line.specs.declared.request.Load.{Load}
-use Rattle.redo_undo.specs.Numbers.{HasNumbers}
+use Rattle.redo_laws.specs.Numbers.{HasNumbers}
 use Rattle.face.specs.Causes.{EndsInTime, NoFaultRose}
 use Rattle.face.specs.Headline.{Headline, IsGood, ran}
 use Rattle.face.specs.Loads.{LoadHeadline}

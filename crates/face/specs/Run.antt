@@ -9,7 +9,7 @@ use Rattle.record_model.specs.Run.{Line, Turn, line_step, turns, is_cache, next_
 use Rattle.record_model.specs.Touches.{CacheWork, line_touches}
 use Rattle.second_chance.specs.Machine.{rules_of}
 use Rattle.flash_cache.specs.Representation.{start_reads}
-use Rattle.redo_undo.specs.MachineSteps.{ReadsFor}
+use Rattle.redo_laws.specs.MachineSteps.{ReadsFor}
 use Rattle.engine.specs.Paging.{WritesFrom, cache_on}
 use Rattle.engine.specs.Image.{Stands, Opens}
 use Rattle.engine.specs.Numbers.{checkpoints_by}

@@ -17,7 +17,7 @@ ghost use Rattle.engine.specs.Numbers.{CountsOn};
 ghost use Rattle.face.specs.Causes.{FailsBy};
 ghost use Rattle.face.specs.Run.{step, IsAsked, line_checkpoints, line_log_reads};
 ghost use Rattle.record_model.specs.Touches.{line_touches};
-ghost use Rattle.redo_undo.specs.MachineSteps.{StepsMachine};
+ghost use Rattle.redo_laws.specs.MachineSteps.{StepsMachine};
 ghost use Rattle.redo_undo.specs.Mirroring.{PerformsStore};
 ghost use Rattle.ring_machine.specs.Commands.{line_work};
 ghost use Rattle.redo_undo.specs.StoreCalls.{AreNext};

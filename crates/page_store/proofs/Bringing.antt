@@ -14,9 +14,10 @@ use Rattle.log_store.specs.declared.store.LogStore.{LogStore}
 use Rattle.log_store.specs.LogList.{LogList}
 use Rattle.log_store.specs.Representation as log_store
 use Rattle.log_store.specs.Representation.{has_tail}
+use Rattle.write_ahead.specs.Forcing.{IsLogged, end_forced}
 use Rattle.page_store.specs.declared.store.PageStore.{PageStore}
 use Rattle.page_store.specs.Representation.{Matches}
-use Rattle.page_store.specs.Ahead.{IsLogged, AreSealed, IsAhead, sealed_end, end_forced}
+use Rattle.page_store.specs.Ahead.{AreSealed, IsAhead, sealed_end}
 use Rattle.page_store.specs.Leaves.{AreReady, KeepsCurrent, PutsIn}
 use Rattle.page_store.proofs.PushLaws.{logged_more}
 

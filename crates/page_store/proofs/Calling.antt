@@ -29,12 +29,13 @@ use Rattle.buffer_pool.specs.Frames.{State as Pool}
 use Rattle.log_store.specs.declared.store.LogStore.{LogStore}
 use Rattle.log_store.specs.Representation.{has_tail, HasRoom}
 use Rattle.log_store.specs.LogList.{LogList, sealed_if}
+use Rattle.write_ahead.specs.Forcing.{IsLogged, end_forced, forces, IsLogAtEnd, Forces}
 use Rattle.page_store.specs.declared.store.PageStore.{PageStore}
 use Rattle.page_store.specs.Representation.{Invariant, current}
-use Rattle.page_store.specs.Ahead.{IsLogged, AreSealed, LeavesSealed, AreLogged, end_forced, forces}
+use Rattle.page_store.specs.Ahead.{AreSealed, LeavesSealed, AreLogged}
 use Rattle.page_store.specs.Leaves.{AreReady, LeavesPages, LeavesRings, AreGiven, KeepsCurrent}
-use Rattle.page_store.specs.Stopping.{MayStop, IsLogAtEnd}
-use Rattle.page_store.specs.Calls.{MayWork, Forces, KeepsInvariant, Pushes, StopsAtEnd, Keeps, Stands, KeepsGiven, StandsGiven}
+use Rattle.page_store.specs.Stopping.{MayStop}
+use Rattle.page_store.specs.Calls.{MayWork, KeepsInvariant, Pushes, StopsAtEnd, Keeps, Stands, KeepsGiven, StandsGiven}
 use Rattle.page_store.proofs.Evictions.{same_pages, stays_pages, stays_sealed}
 use Rattle.page_store.proofs.Bringing.{current_again}
 use Rattle.page_store.proofs.Rounds.{sealed_again, more_sealed, one_more_pages, one_more_push}

@@ -3,6 +3,7 @@ use Rattle.std.proofs.Common.{◌≡◌, ℕ, zero, suc, ◌+◌, ◌*◌, ◌<�
 use Rattle.std.specs.List.{AllByRecursion}
 use Rattle.std.proofs.lemmas.Option.{none-some}
 use Rattle.std.proofs.lemmas.Bool.{eqb-true, eqb-false}
+use Rattle.write_ahead.specs.Forcing.{forces}
 use Rattle.page_store.specs.Representation.{content_by}
 use Rattle.page_store.specs.Leaves.{Gives}
 use Rattle.std.proofs.lemmas.List.{length-map}
@@ -21,7 +22,6 @@ use Rattle.log_store.specs.declared.store.LogStore.{LogStore}
 use Rattle.log_store.specs.LogList.{LogList, sealed_if, changes_if}
 use Rattle.page_store.specs.declared.store.PageStore.{PageStore}
 use Rattle.log_store.specs.Representation.{has_tail}
-use Rattle.page_store.specs.Ahead.{forces}
 use Rattle.page_store.specs.Flushing.{saved_next, cleared_all, flushed_first}
 use Rattle.second_chance.specs.Queue.{frame_of as known_of}
 use Rattle.second_chance.specs.declared.frame.Frame.{Frame as Known}

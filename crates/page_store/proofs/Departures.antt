@@ -19,10 +19,11 @@ use Rattle.second_chance.specs.Plans.{Placed, group_size, chances_of, pulled_at_
 use Rattle.second_chance.specs.Machine.{Rules, PoolPage, Cache, chance_frame, leaving, pool_marks, pool_frame, must_be_pushed, evict_first, evict_coldest, after_eviction, push_evicted, without, is_pulled}
 use Rattle.log_store.specs.declared.store.LogStore.{LogStore}
 use Rattle.log_store.specs.LogList.{LogList}
+use Rattle.write_ahead.specs.Forcing.{IsLogged, forces, end_forced}
 use Rattle.page_store.specs.declared.store.PageStore.{PageStore}
 use Rattle.page_store.specs.Representation.{IsPage, IsStore, IsTold, AreTold, Invariant, Matches, content_by, current}
 use Rattle.page_store.specs.Caching.{pool_page, cache_of, rules}
-use Rattle.page_store.specs.Ahead.{IsLogged, forces, evicted}
+use Rattle.page_store.specs.Ahead.{evicted}
 use Rattle.page_store.specs.Calls.{MayWork}
 use Rattle.page_store.specs.Pulling.{LeavesOut, mark_for, without_all, pulled, evicted_of, evicted_frames}
 use Rattle.page_store.specs.Leaves.{AreReady, AreGiven, Gives, AreChanged, KeepsCurrent}
@@ -36,7 +37,7 @@ use Rattle.std.specs.List.{All}
 use Rattle.std.proofs.lemmas.List.{length-map}
 use Rattle.std_lemmas.proofs.AllOf.{all_both, all_reverse, all_map, all_weaker, all_at}
 use Rattle.slotted_page.specs.Layout.{IsSound}
-use Rattle.page_store.specs.Ahead.{AreLogged, end_forced}
+use Rattle.page_store.specs.Ahead.{AreLogged}
 use Rattle.page_store.proofs.Evictions.{all_front, distinct_front, reverse_last, not_forced}
 use Rattle.page_store.proofs.PushLaws.{or_listed}
 use Rattle.page_store.proofs.Saving.{pages_apart}

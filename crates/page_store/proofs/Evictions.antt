@@ -11,8 +11,9 @@ use Rattle.buffer_pool.specs.Frames.{AreDistinct}
 use Rattle.log_store.specs.declared.store.LogStore.{LogStore}
 use Rattle.log_store.specs.LogList.{LogList}
 use Rattle.log_store.specs.Representation.{has_tail, HasBlocks}
+use Rattle.write_ahead.specs.Forcing.{forces}
 use Rattle.page_store.specs.declared.store.PageStore.{PageStore}
-use Rattle.page_store.specs.Ahead.{AreSealed, LeavesSealed, forces}
+use Rattle.page_store.specs.Ahead.{AreSealed, LeavesSealed}
 use Rattle.page_store.specs.Leaves.{AreReady, LeavesPages}
 
 -- a site that stays as it is

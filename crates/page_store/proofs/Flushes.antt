@@ -17,13 +17,13 @@ use Rattle.buffer_pool.specs.Laws.{ClearedKeepsFrames}
 use Rattle.second_chance.specs.declared.plan.PoolMark.{PoolMark}
 use Rattle.second_chance.specs.Queue.{Queue, pushed, frame_of as known_of}
 use Rattle.second_chance.specs.Machine.{Cache, chance_frame, pool_mark, pool_frame, is_pulled, saved, push_changed, is_full}
+use Rattle.write_ahead.specs.Forcing.{IsLogged, end_forced}
 use Rattle.page_store.specs.declared.store.PageStore.{PageStore}
 use Rattle.page_store.specs.Representation.{IsPage, IsStore, Matches, content_by, current}
 use Rattle.page_store.specs.Caching.{pool_page, cache_of, rules}
 use Rattle.page_store.specs.Leaves.{Gives, KeepsCurrent}
 use Rattle.log_store.specs.declared.store.LogStore.{LogStore}
 use Rattle.log_store.specs.LogList.{LogList, sealed_if}
-use Rattle.page_store.specs.Ahead.{IsLogged, end_forced}
 use Rattle.image_changes.specs.Changes.{Change}
 use Rattle.second_chance.specs.Laws.{changed_count}
 use Rattle.page_store.specs.Calls.{Keeps, Stands}

@@ -22,7 +22,6 @@ pub mod Removing
 pub mod Rings
 pub mod Rounds
 pub mod Saving
-pub mod Sealing
 pub mod StagingLaws
 pub mod ToldPages
 pub mod Touching

@@ -13,7 +13,8 @@ use Rattle.site.specs.State.{State, Image, Snapshot, MayStand, content_of, loose
 use Rattle.site.specs.Calls.{Preserves}
 use Rattle.site.specs.Moments.{Leaves, LeavesOnly, ChangesOnly, Untouched}
 use Rattle.site.specs.Laws.{leaves_weaker, leaves_others_too, untouched_leaves, each_both, each_weaker, settled_is, quiet_settled, stays_honest}
-use Rattle.sealed_ring.specs.Ring.{Units, IsRing, hi_of, units_of}
+use Rattle.sealed_ring.specs.Ring.{Units, IsRing, hi_of, units_of, last_of}
+use Rattle.log_records.specs.declared.log_record.LogRecord.{LogRecord}
 use Rattle.sealed_ring.specs.declared.slots.Shape.{Shape}
 use Rattle.image_changes.specs.Rings.{Masters, master_shape, log_shape, group_shape, segment_shape, KeepsUnits}
 use Rattle.image_changes.specs.Changes.{Change, Reaches, ring_of}
@@ -37,11 +38,21 @@ use Rattle.log_store.specs.declared.store.LogStore.{LogStore}
 use Rattle.log_store.specs.LogList.{LogList, sealed_if, changes_if}
 use Rattle.log_store.specs.Representation as log_store
 use Rattle.log_store.specs.Representation.{HasBlocks, LeavesLog}
+use Rattle.write_ahead.specs.Forcing.{IsLogged}
 use Rattle.page_store.specs.declared.store.PageStore.{PageStore}
 use Rattle.page_store.specs.Representation.{Matches}
-use Rattle.page_store.specs.Ahead.{IsLogged, AreSealed, LeavesSealed, sealed_end}
+use Rattle.page_store.specs.Ahead.{AreSealed, LeavesSealed, sealed_end}
 use Rattle.page_store.specs.Leaves.{HasQueue, AreReady, LeavesPages, AreGiven, Gives, AreChanged}
-use Rattle.page_store.proofs.Sealing.{blocks_same}
+
+-- blocks on a log device that is the same
+blocks_same : (g : Geometry) (first : ℕ) (blocks : List (List LogRecord)) (old new : Image) → new.log ≡ old.log → HasBlocks g first blocks old → HasBlocks g first blocks new
+blocks_same g first blocks old new same has = record {
+  form = subst (IsRing (log_shape g)) (sym same) has.form;
+  next = has.next ∙ ap (hi_of (log_shape g)) (sym same);
+  few = has.few;
+  are_blocks = has.are_blocks;
+  units = ap (λ (l : List ℕ). last_of (length blocks) (units_of (log_shape g) l).live) same ∙ has.units;
+}
 
 -- The same flash and disk.
 

@@ -3,6 +3,7 @@ use Rattle.std.proofs.Common.{◌≡◌, ℕ, ◌≤◌, ◌==◌, Bool, true, f
 use Rattle.std.specs.Prelude.{nat_le, ◌+◌, if◌then◌else◌}
 use Rattle.record_model.specs.Touches.{touch}
 use Rattle.second_chance.specs.Machine.{staged_by}
+use Rattle.write_ahead.specs.Forcing.{forces}
 use Rattle.page_store.specs.Staging.{staged_by_eviction}
 use Rattle.std.specs.List.{AllByRecursion}
 use Rattle.std.proofs.lemmas.Option.{none-some}
@@ -18,7 +19,7 @@ use Rattle.log_store.specs.LogList.{LogList}
 use Rattle.page_store.specs.declared.store.PageStore.{PageStore}
 use Rattle.page_store.specs.Representation.{IsPage, AreTold, Invariant, Matches, content_by}
 use Rattle.page_store.specs.Caching.{pool_page, cache_of, rules, is_full, is_pushed, with_way, pushes, next_group}
-use Rattle.page_store.specs.Ahead.{forces, evicted, pushed_for_room, pushed_by_touch}
+use Rattle.page_store.specs.Ahead.{evicted, pushed_for_room, pushed_by_touch}
 use Rattle.flash_cache.specs.Representation.{version_on}
 use Rattle.page_store.specs.Leaves.{KeepsCurrent}
 use Rattle.page_store.specs.Changing.{eviction_changes, room_changes, touch_changes}

@@ -1,34 +1,22 @@
 -- The log is ahead of the pages: no version of a page has an LSN that isn't sealed.
-use Rattle.std.specs.Prelude.{ℕ, ◌+◌, ◌*◌, ◌<◌, nat_le, nat_lt, Bool, ◌&&◌, List, [], map, if◌then◌else◌}
-use Rattle.std.specs.List.{AllByRecursion, list_any}
+use Rattle.std.specs.Prelude.{ℕ, ◌*◌, ◌<◌, List, [], map, if◌then◌else◌}
+use Rattle.std.specs.List.{AllByRecursion}
 use Rattle.site.specs.declared.geometry.Geometry.{Geometry}
 use Rattle.site.specs.State.{Image, Snapshot}
 use Rattle.sealed_ring.specs.Ring.{hi_of}
 use Rattle.image_changes.specs.Rings.{log_shape}
-use Rattle.slotted_page.specs.Layout.{lsn_of}
 use Rattle.flash_cache.specs.Representation.{version_on}
 use Rattle.log_store.specs.declared.store.LogStore.{LogStore}
-use Rattle.log_store.specs.Representation.{has_tail}
 use Rattle.buffer_pool.specs.declared.frame.Frame.{Frame}
 use Rattle.second_chance.specs.Machine.{lacks_room}
+use Rattle.write_ahead.specs.Forcing.{IsLogged, end_forced}
 use Rattle.page_store.specs.declared.store.PageStore.{PageStore}
 use Rattle.page_store.specs.Caching.{cache_of, rules, is_full}
 use Rattle.page_store.specs.Pulling.{evicted_frames}
 
--- a page was never changed, or its LSN lies below the end of the log's blocks
-pub record IsLogged (end : ℕ) (content : List ℕ) : Type 0 where
-  pub below : 0 < lsn_of content → lsn_of content < end
-
 -- where the sealed blocks of an image end
 abbrev pub sealed_end : Geometry → Image → ℕ
 sealed_end g image = 512 * hi_of (log_shape g) image.log
-
--- where a log's sealed blocks end, and where its blocks end once its tail is sealed
-abbrev pub end_now : LogStore → ℕ
-end_now log = 512 * log.ring.hi
-
-abbrev pub end_forced : LogStore → ℕ
-end_forced log = 512 * (log.ring.hi + (if has_tail log then 1 else 0))
 
 -- the LSN of each page's version is sealed
 pub record AreSealed (g : Geometry) (image : Image) : Type 0 where
@@ -45,14 +33,6 @@ AreLogged end frames = AllByRecursion (λ frame. IsLogged end frame.content) fra
 pub record IsAhead (log : LogStore) (store : PageStore) (image : Image) : Type 0 where
   pub pool : AreLogged (end_forced log) store.pool.frames
   pub versions : AreSealed store.flash.geometry image
-
--- an LSN isn't sealed where the sealed blocks end here
-abbrev pub is_unsealed : ℕ → List ℕ → Bool
-is_unsealed end content = nat_lt 0 (lsn_of content) && nat_le end (lsn_of content)
-
--- whether the log is forced before these contents are pushed: one of them has an LSN in the tail
-abbrev pub forces : LogStore → List (List ℕ) → Bool
-forces log contents = has_tail log && list_any (is_unsealed (end_now log)) contents
 
 -- the contents that an eviction pushes
 abbrev pub evicted : PageStore → List (List ℕ)

@@ -27,13 +27,14 @@ use Rattle.log_store.specs.Representation as log_store
 use Rattle.log_store.specs.Representation.{has_tail, end_of, HasRoom}
 use Rattle.checkpoint.specs.declared.master.Master.{Master}
 use Rattle.image_meaning.specs.Beside.{AreRingsSoundUnder}
+use Rattle.write_ahead.specs.Forcing.{IsLogged, end_forced, forces, IsLogAtEnd, Forces}
 use Rattle.page_store.specs.declared.store.PageStore.{PageStore}
 use Rattle.page_store.specs.Representation.{Invariant, Matches, current}
 use Rattle.page_store.specs.Caching.{next_group, cache_of, rules}
-use Rattle.page_store.specs.Ahead.{IsLogged, AreSealed, LeavesSealed, AreLogged, IsAhead, end_forced, forces}
+use Rattle.page_store.specs.Ahead.{AreSealed, LeavesSealed, AreLogged, IsAhead}
 use Rattle.page_store.specs.Leaves.{AreReady, LeavesPages, LeavesRings, AreGiven, Gives, AreChanged, KeepsCurrent}
 use Rattle.page_store.specs.Flushing.{saved_next, cleared_all, flushed_first, flushed_contents}
-use Rattle.page_store.specs.Stopping.{MayStop, IsLogAtEnd}
+use Rattle.page_store.specs.Stopping.{MayStop}
 
 -- A log and the pages beside it may go on together: they have one geometry, and there is room for the block of the
 -- log's tail.
@@ -44,16 +45,6 @@ pub record MayWork (log : LogStore) (pages : PageStore) (site : State) : Type 0 
   pub room : has_tail log ≡ true → HasRoom log
 
 -- Of every site.
-
--- the log: where it is forced it has one block more, else it is as it was
-pub record Forces {T : Type 0} (result : Result T Stop) (old new : LogStore) (sealing : Bool) : Type 0 where
-  pub next : OnOk result (new.ring.hi ≡ (if sealing then old.ring.hi + 1 else old.ring.hi))
-  pub rises : old.ring.hi ≤ new.ring.hi
-  pub end : OnOk result (end_forced new ≡ end_forced old)
-  pub grows : OnOk result (end_of old ≤ end_of new)
-  pub room : OnOk result (has_tail new ≡ true → HasRoom new)
-  pub kept : new.kept ≡ old.kept
-  pub geometry : new.geometry ≡ old.geometry
 
 -- Over an honest site, whatever stands there: the next block of the log and the next segment on flash are those of the
 -- content again, and a ring is worn only at its end.

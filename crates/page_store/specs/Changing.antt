@@ -19,10 +19,10 @@ use Rattle.second_chance.specs.Laws.{changed_count}
 use Rattle.log_store.specs.declared.store.LogStore.{LogStore}
 use Rattle.log_store.specs.LogList.{LogList, sealed_if, changes_if}
 use Rattle.log_store.specs.Representation.{has_tail}
+use Rattle.write_ahead.specs.Forcing.{is_unsealed, forces}
 use Rattle.page_store.specs.declared.store.PageStore.{PageStore}
 use Rattle.page_store.specs.Representation.{content_by}
 use Rattle.page_store.specs.Caching.{pool_page, cache_of, rules, is_full}
-use Rattle.page_store.specs.Ahead.{is_unsealed, forces}
 use Rattle.page_store.specs.Pulling.{evicted_frames}
 use Rattle.page_store.specs.Flushing.{chosen, cleared_all}
 

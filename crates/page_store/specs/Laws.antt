@@ -12,10 +12,11 @@ use Rattle.log_store.specs.declared.store.LogStore.{LogStore}
 use Rattle.log_store.specs.LogList.{LogList, changes_if}
 use Rattle.log_store.specs.Representation as log_store
 use Rattle.log_store.specs.Representation.{HasBlocks, LeavesLog}
+use Rattle.write_ahead.specs.Forcing.{end_forced}
 use Rattle.page_store.specs.declared.store.PageStore.{PageStore}
 use Rattle.page_store.specs.Representation.{Invariant, Matches, current}
 use Rattle.page_store.specs.Caching.{with_change}
-use Rattle.page_store.specs.Ahead.{IsAhead, AreSealed, LeavesSealed, end_forced}
+use Rattle.page_store.specs.Ahead.{IsAhead, AreSealed, LeavesSealed}
 use Rattle.page_store.specs.Leaves.{HasQueue, LeavesPages}
 
 -- a touch and then a change of the page in front are the machine's touch with a change

@@ -3,7 +3,6 @@
 #![tactic(auto)]
 
 mod flushing;
-mod forcing;
 mod laws;
 mod listing;
 mod pushing;

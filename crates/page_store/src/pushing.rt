@@ -9,9 +9,10 @@ ghost use Rattle.second_chance.specs.Machine.{rules_of, leaving, evict_coldest, 
 ghost use Rattle.buffer_pool.specs.Frames.{frame_of};
 ghost use Rattle.log_store.specs.declared.store.LogStore.{LogStore};
 ghost use Rattle.log_store.specs.LogList.{LogList};
+ghost use Rattle.write_ahead.specs.Forcing.{forces};
 ghost use Rattle.page_store.specs.Caching.{cache_of, rules, is_full, is_pushed, with_way};
 ghost use Rattle.page_store.specs.Pulling.{room_for_pages};
-ghost use Rattle.page_store.specs.Ahead.{forces, evicted, pushed_for_room};
+ghost use Rattle.page_store.specs.Ahead.{evicted, pushed_for_room};
 ghost use Rattle.page_store.specs.Leaves.{AreReady};
 ghost use Rattle.page_store.specs.Changing.{given_changes, eviction_changes, room_changes};
 ghost use Rattle.page_store.specs.Calls.{MayWork, Pushes, StopsAtEnd, Keeps, Stands, KeepsGiven, StandsGiven};
@@ -19,7 +20,6 @@ ghost use Rattle.second_chance.specs.Machine.{staged_in_push};
 ghost use Rattle.page_store.specs.Caching.{next_group};
 ghost use Rattle.page_store.specs.Staging.{staged_by_eviction, Stages};
 
-use crate::forcing::force_for;
 use crate::store::PageStore;
 use crate::taking::Taken;
 use buffer_pool::frames_of_pages;
@@ -31,6 +31,7 @@ use log_store::{LogStore, stays_beside};
 use second_chance::{Plan, plan_flush};
 use site::{Site, Stop};
 use slotted_page::Page;
+use write_ahead::force_for;
 
 /// The most frames that a group has.
 pub const GROUP_SIZE: usize = 8;

@@ -16,9 +16,10 @@ ghost use Rattle.second_chance.specs.Machine.{touched, holds, finds, misses, wan
 ghost use Rattle.buffer_pool.specs.Frames.{front_of, ChangesFront};
 ghost use Rattle.log_store.specs.LogList.{LogList};
 ghost use Rattle.log_store.specs.declared.store.LogStore.{LogStore};
+ghost use Rattle.write_ahead.specs.Forcing.{end_forced, forces};
 ghost use Rattle.page_store.specs.Representation.{IsStore, Invariant, Matches, current};
 ghost use Rattle.page_store.specs.Caching.{cache_of, rules, with_change, pushes};
-ghost use Rattle.page_store.specs.Ahead.{IsAhead, end_forced, forces, pushed_by_touch};
+ghost use Rattle.page_store.specs.Ahead.{IsAhead, pushed_by_touch};
 ghost use Rattle.page_store.specs.Leaves.{AreReady};
 ghost use Rattle.page_store.specs.Flushing.{flushed_contents};
 ghost use Rattle.page_store.specs.Changing.{touch_changes, flush_changes};

@@ -1,5 +1,5 @@
 -- Calls one after the other, each known by its record.
-use Rattle.redo_undo.proofs.AskingUndo.{not_worn_flash}
+use Rattle.redo_laws.proofs.AskingUndo.{not_worn_flash}
 use Rattle.std.proofs.Common.{◌≡◌, ◌≢◌, ◌⊎◌, inl, inr, ◌+◌, ◌≤◌, List, refl, sym, subst, ◌∙◌, arith, Option, ℕ}
 use Rattle.std.specs.Prelude.{Result, Ok, Err, OnOk, IfOk, IfErr, IsErrOf, IsTrue, ◌<◌}
 use Rattle.site.specs.declared.geometry.Geometry.{Geometry}
@@ -26,18 +26,18 @@ use Rattle.page_store.specs.Laws.{FitsBeside}
 use Rattle.checkpoint.specs.declared.master.Master.{Master}
 use Rattle.image_meaning.specs.Moments.{LeavesTableUnder, LeavesFor}
 use Rattle.redo_undo.proofs.Saved.{then_for}
-use Rattle.redo_undo.specs.Holding.{Invariant, Represents, IsLogWorn}
-use Rattle.redo_undo.specs.Calls.{KeepsInvariant, LogsNothing, KeepsInvariantBeside, ReadsOne, Keeps, KeepsBeside}
-use Rattle.redo_undo.specs.Laws.{PageLaws}
-use Rattle.redo_undo.specs.RedoLaws.{RedoLaws}
+use Rattle.redo_laws.specs.Holding.{Invariant, Represents, IsLogWorn}
+use Rattle.redo_laws.specs.Calls.{KeepsInvariant, LogsNothing, KeepsInvariantBeside, ReadsOne, Keeps, KeepsBeside}
+use Rattle.redo_laws.specs.Laws.{PageLaws}
+use Rattle.redo_laws.specs.RedoLaws.{RedoLaws}
 use Rattle.redo_undo.specs.Redoing.{Opening, IsRedoing, LeavesOpened}
 use Rattle.redo_undo.proofs.Redoings.{nothing_happens, then_read}
-use Rattle.redo_undo.proofs.RingNumbers.{skips_still, hi_on, unchanged}
+use Rattle.redo_laws.proofs.RingNumbers.{skips_still, hi_on, unchanged}
 use Rattle.site.specs.Work.{Calls}
-use Rattle.redo_undo.proofs.Endings.{ends_answered, ends_behind, ends_failed, ends_leaving}
-use Rattle.redo_undo.proofs.CallsInSequence.{and_then, going_still, holds_still, leaves_still, units_then}
-use Rattle.redo_undo.proofs.RingNumbers.{then_skips, skips_again, skips_answered, skips_weaker, skips_on}
-use Rattle.redo_undo.proofs.LeftNumbers.{skips_not_saved}
+use Rattle.redo_laws.proofs.Endings.{ends_answered, ends_behind, ends_failed, ends_leaving}
+use Rattle.redo_laws.proofs.CallsInSequence.{and_then, going_still, holds_still, leaves_still, units_then}
+use Rattle.redo_laws.proofs.RingNumbers.{then_skips, skips_again, skips_answered, skips_weaker, skips_on}
+use Rattle.redo_laws.proofs.LeftNumbers.{skips_not_saved}
 use Rattle.site.proofs.Working.{ok_as, ok_always, no_error, of_error, err_as, err_always, calls_nothing, calls_then, calls_failed, calls_answered, calls_refused}
 
 -- The errors of calls on the log.

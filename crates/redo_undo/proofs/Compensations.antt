@@ -18,11 +18,11 @@ use Rattle.log_store.specs.LogList.{entries, at_lsn}
 use Rattle.page_store.specs.declared.store.PageStore.{PageStore}
 use Rattle.checkpoint.specs.declared.master.Master.{Master}
 use Rattle.image_meaning.specs.Meaning.{master_of, picture_under, versions_on, kept_by}
-use Rattle.redo_undo.specs.Holding.{Represents, MayGrow, blocks_to}
+use Rattle.redo_laws.specs.Holding.{Represents, MayGrow, blocks_to}
 use Rattle.redo_undo.specs.declared.undo.Undoing.{Undoing}
 use Rattle.redo_undo.specs.declared.undo.Wanted.{Wanted}
 use Rattle.redo_undo.specs.Undoing.{IsAt, IsWanted, Undone}
-use Rattle.redo_undo.specs.Laws.{PageLaws, UndoLaws}
+use Rattle.redo_laws.specs.Laws.{PageLaws, UndoLaws}
 
 -- a record that is found by its LSN
 found_by : (b : Bool) (e u : Entry) (rest : Option Entry) (last : Option LogRecord) → (rest ≡ Some u → last ≡ Some u.rec) →

@@ -29,9 +29,9 @@ use Rattle.analysis.specs.declared.analysis.Loser.{Loser}
 use Rattle.analysis.specs.Open.{Open, found_in, IsTop, Remains}
 use Rattle.analysis.specs.Table.{listed}
 use Rattle.analysis.specs.Read.{IsTable, is_active, open_at}
-use Rattle.redo_undo.specs.Holding.{Represents, MayGrow, blocks_to}
-use Rattle.redo_undo.specs.UndoingAll.{IsOf, Remain, AreUpTo, IsUndoing, IsNextUndo, UndoesSome, UndoesAll}
-use Rattle.redo_undo.specs.Laws.{PageLaws, UndoLaws, FoundLaws}
+use Rattle.redo_laws.specs.Holding.{Represents, MayGrow, blocks_to}
+use Rattle.redo_laws.specs.UndoingAll.{IsOf, Remain, AreUpTo, IsUndoing, IsNextUndo, UndoesSome, UndoesAll}
+use Rattle.redo_laws.specs.Laws.{PageLaws, UndoLaws, FoundLaws}
 use Rattle.redo_undo.proofs.Compensations.{chain}
 
 -- LSNs.

@@ -18,8 +18,8 @@ use Rattle.log_store.specs.LogList.{entries, at_lsn}
 use Rattle.page_store.specs.declared.store.PageStore.{PageStore}
 use Rattle.checkpoint.specs.declared.master.Master.{Master}
 use Rattle.image_meaning.specs.Meaning.{picture_under, kept_by}
-use Rattle.redo_undo.specs.Holding.{Represents}
-use Rattle.redo_undo.specs.Laws.{PageLaws, UndoLaws, FoundLaws}
+use Rattle.redo_laws.specs.Holding.{Represents}
+use Rattle.redo_laws.specs.Laws.{PageLaws, UndoLaws, FoundLaws}
 use Rattle.redo_undo.proofs.Compensations.{chain, found_at, entries_are}
 use Rattle.std.proofs.lemmas.Bool.{eqb-true}
 use Rattle.redo_undo.proofs.Found.{last_after}

@@ -16,11 +16,11 @@ use Rattle.log_store.specs.LogList.{entries, at_lsn}
 use Rattle.checkpoint.specs.declared.master.Master.{Master}
 use Rattle.image_meaning.specs.Meaning.{picture_under, kept_by}
 use Rattle.page_store.specs.declared.store.PageStore.{PageStore}
-use Rattle.redo_undo.specs.Holding.{Represents}
-use Rattle.redo_undo.specs.Laws.{PageLaws, UndoLaws, FoundLaws}
-use Rattle.redo_undo.specs.MachineSteps.{StepsMachine}
+use Rattle.redo_laws.specs.Holding.{Represents}
+use Rattle.redo_laws.specs.Laws.{PageLaws, UndoLaws, FoundLaws}
+use Rattle.redo_laws.specs.MachineSteps.{StepsMachine}
 use Rattle.redo_undo.proofs.Compensations.{chain, found_at, entries_are}
-use Rattle.redo_undo.specs.UndoWorks.{works_of}
+use Rattle.redo_laws.specs.UndoWorks.{works_of}
 use Rattle.redo_undo.specs.Mirroring.{PerformsOn, clrs_for}
 
 -- where some are left there is a last one

@@ -24,14 +24,15 @@ use Rattle.log_store.specs.LogList as log_list
 use Rattle.log_store.specs.LogList.{LogList}
 use Rattle.log_store.specs.Representation as log_store
 use Rattle.log_store.specs.Representation.{has_tail, end_of}
+use Rattle.write_ahead.specs.Forcing.{is_unsealed, end_now, end_forced, forces}
 use Rattle.page_store.specs.declared.store.PageStore.{PageStore}
 use Rattle.page_store.specs.Representation as page_store
 use Rattle.page_store.specs.Representation.{IsStore, current}
 use Rattle.page_store.specs.Caching.{cache_of, rules, pool_page, next_group, changed_front, with_change, pushes}
-use Rattle.page_store.specs.Ahead.{AreLogged, is_unsealed, end_now, end_forced, forces, pushed_by_touch}
+use Rattle.page_store.specs.Ahead.{AreLogged, pushed_by_touch}
 use Rattle.page_store.specs.Stopping.{MayStop}
 use Rattle.redo_undo.specs.Mirroring.{Mirrors, touch_work, force_work, flush_work}
-use Rattle.redo_undo.proofs.Costs.{touched_next}
+use Rattle.redo_laws.proofs.Costs.{touched_next}
 use Rattle.redo_undo.proofs.PushedPages.{sealed_off, pushed_waits, none_waits}
 
 -- A tail that is sealed, or isn't.

@@ -20,9 +20,9 @@ use Rattle.ring_machine.proofs.Works.{first_of_one}
 use Rattle.ring_machine.proofs.Ends.{saves_one, masters_stay, never_past, masters_past}
 use Rattle.ring_machine.proofs.Performing.{performs_with}
 use Rattle.sealed_ring.specs.declared.ring.Ring.{Ring}
+use Rattle.write_ahead.specs.Forcing.{is_unsealed, end_now}
 use Rattle.page_store.specs.declared.store.PageStore.{PageStore}
 use Rattle.page_store.specs.Representation.{current}
-use Rattle.page_store.specs.Ahead.{is_unsealed, end_now}
 use Rattle.page_store.specs.Caching.{cache_of, rules, next_group}
 use Rattle.redo_undo.specs.declared.store.Store.{Store}
 use Rattle.redo_undo.specs.Mirroring.{Mirrors, MirrorsStore, PerformsStore, clrs_for}

@@ -14,16 +14,17 @@ use Rattle.log_records.specs.Sound.{Picture, IsInOrder, IsInTable, last_lsn, las
 use Rattle.slotted_page.specs.Layout.{lsn_of}
 use Rattle.log_store.specs.declared.store.LogStore.{LogStore}
 use Rattle.buffer_pool.specs.Frames.{front_of}
+use Rattle.write_ahead.specs.Forcing.{end_forced}
 use Rattle.page_store.specs.declared.store.PageStore.{PageStore}
 use Rattle.page_store.specs.Representation.{current, Matches}
-use Rattle.page_store.specs.Ahead.{IsAhead, end_forced}
+use Rattle.page_store.specs.Ahead.{IsAhead}
 use Rattle.image_meaning.specs.Meaning.{versions_on, version_in, kept_by, next_block_under}
 use Rattle.image_meaning.specs.Redone.{IsRedone, AreKnown, Redoes}
 use Rattle.analysis.specs.Taken.{Steps, is_taken}
-use Rattle.redo_undo.specs.Holding.{IsOnPage}
-use Rattle.redo_undo.specs.Laws.{PageLaws}
-use Rattle.redo_undo.proofs.Changed.{front_is_current, known_more}
-use Rattle.redo_undo.specs.RedoLaws.{RedoLaws}
+use Rattle.redo_laws.specs.Holding.{IsOnPage}
+use Rattle.redo_laws.specs.Laws.{PageLaws}
+use Rattle.redo_laws.proofs.Changed.{front_is_current, known_more}
+use Rattle.redo_laws.specs.RedoLaws.{RedoLaws}
 use Rattle.std.specs.Prelude.{filter, nat_lt}
 use Rattle.redo_undo.specs.Redoing.{Opening, opened, IsFrom, IsRedoing, heard_of}
 use Rattle.flash_cache.proofs.Given.{all_append}

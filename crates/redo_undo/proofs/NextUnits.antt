@@ -14,10 +14,11 @@ use Rattle.sealed_ring.specs.Ring.{hi_of}
 use Rattle.image_changes.specs.Rings.{master_shape, segment_shape}
 use Rattle.flash_cache.specs.Representation as flash_cache
 use Rattle.log_store.specs.Representation as log_store
+use Rattle.write_ahead.specs.Forcing.{IsLogAtEnd}
 use Rattle.page_store.specs.declared.store.PageStore.{PageStore}
 use Rattle.page_store.specs.Calls as pages
-use Rattle.page_store.specs.Stopping.{MayStop, IsLogAtEnd}
-use Rattle.redo_undo.specs.Holding.{IsSpent}
+use Rattle.page_store.specs.Stopping.{MayStop}
+use Rattle.redo_laws.specs.Holding.{IsSpent}
 use Rattle.redo_undo.specs.declared.store.Store.{Store}
 use Rattle.redo_undo.specs.Stores.{sizes_of}
 use Rattle.redo_undo.specs.StoreCalls.{AreNext, KeepsNext}

@@ -10,7 +10,7 @@ use Rattle.analysis.specs.declared.analysis.Loser.{Loser}
 use Rattle.analysis.specs.Open.{Open, owed_one, owed_for, found_in, AscendFrom, Replaces, TakesOut}
 use Rattle.analysis.specs.Read.{loser_of}
 use Rattle.redo_undo.specs.Mirroring.{none_remains}
-use Rattle.redo_undo.specs.UndoingAll.{IsOf, Remain, HasNone}
+use Rattle.redo_laws.specs.UndoingAll.{IsOf, Remain, HasNone}
 use Rattle.flash_cache.proofs.Given.{all_append}
 
 -- Looked at place by place.

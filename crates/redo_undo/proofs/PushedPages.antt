@@ -19,12 +19,13 @@ use Rattle.ring_machine.specs.Tail.{waits}
 use Rattle.ring_machine.specs.Machine.{Machine, pushed_with, pushed_by}
 use Rattle.log_store.specs.declared.store.LogStore.{LogStore}
 use Rattle.log_store.specs.Representation.{has_tail}
+use Rattle.write_ahead.specs.Forcing.{IsLogged, is_unsealed, end_now, end_forced, forces}
 use Rattle.page_store.specs.declared.store.PageStore.{PageStore}
 use Rattle.page_store.specs.Representation.{IsStore, IsPage, content_by}
 use Rattle.flash_cache.specs.Representation.{version_on}
 use Rattle.page_store.specs.Caching.{cache_of, rules, pool_page}
 use Rattle.page_store.specs.Pulling.{movable, pulled_frames, evicted_of, evicted_frames}
-use Rattle.page_store.specs.Ahead.{IsLogged, AreLogged, is_unsealed, end_now, end_forced, forces, evicted, pushed_by_touch}
+use Rattle.page_store.specs.Ahead.{AreLogged, evicted, pushed_by_touch}
 use Rattle.redo_undo.specs.Mirroring.{Mirrors}
 
 -- The pages are those of the frames.

@@ -19,15 +19,15 @@ use Rattle.page_store.specs.declared.store.PageStore.{PageStore}
 use Rattle.page_store.specs.Representation.{current}
 use Rattle.page_store.specs.Caching.{cache_of, rules, with_change}
 use Rattle.page_store.specs.Laws.{TouchThenChange}
-use Rattle.redo_undo.specs.Laws.{PageLaws}
-use Rattle.redo_undo.specs.RedoLaws.{RedoLaws}
+use Rattle.redo_laws.specs.Laws.{PageLaws}
+use Rattle.redo_laws.specs.RedoLaws.{RedoLaws}
 use Rattle.redo_undo.specs.Redoing.{AsksAtRest, Opening, opened, touches_of, IsFrom, IsRedoing, asked_of}
 use Rattle.page_store.specs.Staging.{Stages}
 use Rattle.page_store.proofs.StagingLaws.{stages_none, stages_between}
-use Rattle.redo_undo.specs.MachineSteps.{next_group, one_touch, one_change, StepsMachine}
+use Rattle.redo_laws.specs.MachineSteps.{next_group, one_touch, one_change, StepsMachine}
 use Rattle.redo_undo.specs.Mirroring.{PerformsAtRest}
-use Rattle.redo_undo.proofs.Asking.{change_reads, change_stages, asks_nothing, asks_ok, asks_then, asks_stopped}
-use Rattle.redo_undo.proofs.AskingUndo.{change_stopped}
+use Rattle.redo_laws.proofs.Asking.{change_reads, change_stages, asks_nothing, asks_ok, asks_then, asks_stopped}
+use Rattle.redo_laws.proofs.AskingUndo.{change_stopped}
 use Rattle.redo_undo.proofs.Resting.{change_rests, change_rests_stopped, rests_answered, rests_nothing, rests_refused, rests_stopped, rests_then}
 use Rattle.image_meaning.specs.Meaning.{kept_by}
 use Rattle.redo_undo.proofs.NextRecords.{last_below, page_exists}

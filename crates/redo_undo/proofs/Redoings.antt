@@ -25,23 +25,24 @@ use Rattle.log_store.specs.Representation.{HasBlocks, has_tail, end_of}
 use Rattle.flash_cache.specs.Representation.{version_on, IsCleanOn}
 use Rattle.buffer_pool.specs.declared.frame.Frame.{Frame}
 use Rattle.buffer_pool.specs.Frames.{frame_of}
+use Rattle.write_ahead.specs.Forcing.{IsLogged, end_forced, forces}
 use Rattle.page_store.specs.declared.store.PageStore.{PageStore}
 use Rattle.page_store.specs.Representation.{IsStore, current, content_by}
-use Rattle.page_store.specs.Ahead.{IsAhead, IsLogged, end_forced, forces, sealed_end}
+use Rattle.page_store.specs.Ahead.{IsAhead, sealed_end}
 use Rattle.page_store.specs.Leaves.{AreReady, LeavesPages, LeavesRings, KeepsCurrent}
 use Rattle.image_meaning.specs.Meaning.{IsSoundUnder, StandsUnder, picture_under, versions_on, version_in, kept_by, next_block_under}
 use Rattle.image_meaning.specs.Redone.{IsRedone, AreKnown, ShowsAll}
 use Rattle.image_meaning.specs.Pictures.{ReplaceAll}
 use Rattle.image_meaning.specs.Beside.{AreRingsSoundUnder}
-use Rattle.redo_undo.specs.Holding.{Represents, ShowRecords}
-use Rattle.redo_undo.specs.HoldingLaws.{OpenedHolds}
-use Rattle.redo_undo.specs.Laws.{PageLaws}
-use Rattle.redo_undo.specs.RedoLaws.{RedoLaws}
+use Rattle.redo_laws.specs.Holding.{Represents, ShowRecords}
+use Rattle.redo_laws.specs.HoldingLaws.{OpenedHolds}
+use Rattle.redo_laws.specs.Laws.{PageLaws}
+use Rattle.redo_laws.specs.RedoLaws.{RedoLaws}
 use Rattle.redo_undo.specs.Redoing.{IsOpened, Opening, opened, IsFrom, LeavesOpened, IsRedoing}
 use Rattle.checkpoint.specs.declared.master.Master.{Master}
-use Rattle.redo_undo.proofs.CallsInSequence.{units_then, only_read}
-use Rattle.redo_undo.proofs.Standing.{current_sound}
-use Rattle.redo_undo.proofs.Empties.{logged_below}
+use Rattle.redo_laws.proofs.CallsInSequence.{units_then, only_read}
+use Rattle.redo_laws.proofs.Standing.{current_sound}
+use Rattle.redo_laws.proofs.Empties.{logged_below}
 
 -- an empty tail is never forced
 pub never_forced : (log : LogStore) (contents : List (List ℕ)) → log.used ≡ 2 → forces log contents ≡ false

@@ -20,9 +20,9 @@ use Rattle.page_store.specs.declared.store.PageStore.{PageStore}
 use Rattle.page_store.specs.Caching.{cache_of, rules, next_group, pushes, with_change}
 use Rattle.page_store.specs.Laws.{TouchThenChange}
 use Rattle.page_store.specs.Stopping.{MayStop}
-use Rattle.redo_undo.specs.MachineSteps.{one_touch, one_change}
+use Rattle.redo_laws.specs.MachineSteps.{one_touch, one_change}
 use Rattle.redo_undo.specs.Mirroring.{resting, PerformsAtRest}
-use Rattle.redo_undo.proofs.Costs.{touched_next}
+use Rattle.redo_laws.proofs.Costs.{touched_next}
 
 -- The machine rests.
 

@@ -18,10 +18,10 @@ use Rattle.page_store.specs.declared.store.PageStore.{PageStore}
 use Rattle.checkpoint.specs.declared.master.Master.{Master}
 use Rattle.image_meaning.specs.Meaning.{picture_under, master_of, versions_on}
 use Rattle.redo_undo.specs.declared.undo.Undoing.{Undoing}
-use Rattle.redo_undo.specs.Holding.{Represents, MayGrow, blocks_to}
+use Rattle.redo_laws.specs.Holding.{Represents, MayGrow, blocks_to}
 use Rattle.redo_undo.specs.Undoing.{IsAt, Undone}
 use Rattle.redo_undo.specs.Rollback.{AreClrsOf, left_of, Compensates, RollsBack}
-use Rattle.redo_undo.specs.Laws.{PageLaws, UndoLaws}
+use Rattle.redo_laws.specs.Laws.{PageLaws, UndoLaws}
 use Rattle.redo_undo.proofs.Compensations.{to_undo, chain}
 use Rattle.redo_undo.proofs.LeftUpdates.{none_of}
 use Rattle.flash_cache.proofs.Given.{all_append}

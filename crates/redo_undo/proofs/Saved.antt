@@ -41,21 +41,22 @@ use Rattle.sealed_ring.specs.Ready.{Finds}
 use Rattle.sealed_ring.specs.Ring.{Units, FitsIn, IsRing, hi_of}
 use Rattle.image_changes.specs.Rings.{Masters, Blocks, log_shape, KeepsUnits, master_shape}
 use Rattle.image_changes.specs.Changes.{AppendsMaster, Makes, Reaches, ReadsAs}
+use Rattle.write_ahead.specs.Forcing.{end_forced}
 use Rattle.page_store.specs.declared.store.PageStore.{PageStore}
 use Rattle.page_store.specs.Representation.{current, content_by}
 use Rattle.page_store.specs.Caching.{cache_of, pool_page}
-use Rattle.page_store.specs.Ahead.{AreLogged, end_forced}
+use Rattle.page_store.specs.Ahead.{AreLogged}
 use Rattle.image_meaning.specs.Meaning.{picture_under, kept_by, versions_on, version_in, IsSoundUnder}
 use Rattle.image_meaning.specs.Moments.{LeavesFor}
 use Rattle.image_meaning.specs.Changes.{MaySave}
 use Rattle.image_meaning.specs.Flushed.{IsFlushed, IsMasterOf, first_block, oldest_needed}
 use Rattle.image_meaning.specs.Redone.{AreKnown, ShowsAll}
-use Rattle.redo_undo.specs.Holding.{Represents, blocks_to}
-use Rattle.redo_undo.specs.Checkpointing.{AreUnfinished, MayBeMade, begins_of, SaveLaws, KeepUnfinished, IsSaved}
-use Rattle.redo_undo.specs.Laws.{LogLaws, PageLaws, BesideLaws}
-use Rattle.redo_undo.proofs.CallsInSequence.{sound_there, nothing_happens}
-use Rattle.redo_undo.proofs.Touched.{hi_is}
-use Rattle.redo_undo.proofs.Appended.{current_same, more_sealed}
+use Rattle.redo_laws.specs.Holding.{Represents, blocks_to}
+use Rattle.redo_laws.specs.Checkpointing.{AreUnfinished, MayBeMade, begins_of, SaveLaws, KeepUnfinished, IsSaved}
+use Rattle.redo_laws.specs.Laws.{LogLaws, PageLaws, BesideLaws}
+use Rattle.redo_laws.proofs.CallsInSequence.{sound_there, nothing_happens}
+use Rattle.redo_laws.proofs.Touched.{hi_is}
+use Rattle.redo_laws.proofs.Appended.{current_same, more_sealed}
 use Rattle.log_laws.specs.Follow.{IsUndoable}
 use Rattle.std.proofs.lemmas.Bool.{cond-true, cond-false, le-leb, lt-ltb}
 use Rattle.redo_undo.proofs.NextRecords.{order_ends}

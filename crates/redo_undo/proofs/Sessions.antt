@@ -22,14 +22,14 @@ use Rattle.page_store.specs.declared.store.PageStore.{PageStore}
 use Rattle.page_store.specs.Representation.{IsStore}
 use Rattle.checkpoint.specs.declared.master.Master.{Master}
 use Rattle.image_meaning.specs.Meaning.{picture_under, master_of, versions_on}
-use Rattle.redo_undo.specs.Holding.{Represents}
-use Rattle.redo_undo.specs.HoldingLaws.{FrontShows}
-use Rattle.redo_undo.specs.Laws.{LogLaws, PageLaws, UndoLaws}
-use Rattle.redo_undo.specs.SessionLaws.{front_number, front_content, NextIsFresh, BeginMayGrow, UpdateMayGrow, ActiveMayBeUndone, EndMayGrow, HoldsSize, FrontIsCommitted, FrontIsSeen}
-use Rattle.redo_undo.proofs.Touched.{hi_is}
-use Rattle.redo_undo.proofs.Changed.{front_exists}
+use Rattle.redo_laws.specs.Holding.{Represents}
+use Rattle.redo_laws.specs.HoldingLaws.{FrontShows}
+use Rattle.redo_laws.specs.Laws.{LogLaws, PageLaws, UndoLaws}
+use Rattle.redo_laws.specs.SessionLaws.{front_number, front_content, NextIsFresh, BeginMayGrow, UpdateMayGrow, ActiveMayBeUndone, EndMayGrow, HoldsSize, FrontIsCommitted, FrontIsSeen}
+use Rattle.redo_laws.proofs.Touched.{hi_is}
+use Rattle.redo_laws.proofs.Changed.{front_exists}
 use Rattle.redo_undo.proofs.Compensations.{chain}
-use Rattle.redo_undo.proofs.Orderlies.{sealed_orderly}
+use Rattle.redo_laws.proofs.Orderlies.{sealed_orderly}
 
 module _ (logs : LogLaws) (laws : PageLaws) where
   pub next_is_fresh : FreshBehind → NextIsFresh

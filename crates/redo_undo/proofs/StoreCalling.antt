@@ -11,13 +11,13 @@ use Rattle.record_model.specs.State.{Content}
 use Rattle.image_meaning.specs.Moments.{LeavesFor}
 use Rattle.image_meaning.specs.Meaning.{StandsFor}
 use Rattle.redo_undo.specs.Stores.{sizes_of}
-use Rattle.redo_undo.specs.Numbers.{SkipsNone}
-use Rattle.redo_undo.proofs.RingNumbers.{skips_on, then_skips, skips_again, skips_answered, skips_refused, skips_weaker}
+use Rattle.redo_laws.specs.Numbers.{SkipsNone}
+use Rattle.redo_laws.proofs.RingNumbers.{skips_on, then_skips, skips_again, skips_answered, skips_refused, skips_weaker}
 use Rattle.redo_undo.specs.declared.store.Store.{Store}
-use Rattle.redo_undo.proofs.Endings.{ends_answered, ends_behind, ends_failed, ends_leaving, ends_no_memory, ends_ok, leaves_late}
+use Rattle.redo_laws.proofs.Endings.{ends_answered, ends_behind, ends_failed, ends_leaving, ends_no_memory, ends_ok, leaves_late}
 use Rattle.site.proofs.Working.{ok_as, calls_then, calls_answered}
 use Rattle.redo_undo.proofs.NextUnits.{next_then, next_answered}
-use Rattle.redo_undo.specs.Calls as calls
+use Rattle.redo_laws.specs.Calls as calls
 use Rattle.redo_undo.specs.StoreCalls.{KeepsInvariant, Keeps}
 
 -- Of a result.

@@ -17,7 +17,7 @@ use Rattle.log_laws.proofs.Losers.{active_stays, entries_other, loser_stays}
 use Rattle.log_laws.proofs.Tails.{whole_in_order}
 use Rattle.log_laws.proofs.UndoingSteps.{active_is_unfinished}
 use Rattle.image_meaning.specs.Meaning.{master_of, picture_under}
-use Rattle.redo_undo.specs.Holding.{blocks_to}
+use Rattle.redo_laws.specs.Holding.{blocks_to}
 use Rattle.redo_undo.specs.Rollback as undone
 use Rattle.redo_undo.specs.Rollback.{AreClrsOf}
 use Rattle.redo_undo.specs.declared.store.Store.{Store}

@@ -15,8 +15,8 @@ use Rattle.analysis.specs.Read.{IsAnalysis, IsTable, open_at}
 use Rattle.analysis.specs.declared.analysis.Analysis.{Analysis}
 use Rattle.page_store.specs.declared.store.PageStore.{PageStore}
 use Rattle.redo_undo.specs.declared.redo_pass.Redone.{Redone}
-use Rattle.redo_undo.specs.Laws.{PageLaws}
-use Rattle.redo_undo.specs.RedoLaws.{RedoLaws}
+use Rattle.redo_laws.specs.Laws.{PageLaws}
+use Rattle.redo_laws.specs.RedoLaws.{RedoLaws}
 use Rattle.redo_undo.specs.Redoing.{AsksAtRest, IsOpened, Opening, HasTaken, asked_of, opened, heard_of}
 use Rattle.log_laws.proofs.BlockRecords.{IsPast, past_none}
 use Rattle.log_laws.proofs.LogBlocks.{block_of, log_split, log_take, take_whole}

@@ -12,12 +12,12 @@ use Rattle.log_store.specs.declared.store.LogStore.{LogStore}
 use Rattle.page_store.specs.declared.store.PageStore.{PageStore}
 use Rattle.checkpoint.specs.declared.master.Master.{Master}
 use Rattle.redo_undo.specs.declared.undo.Undoing.{Undoing}
-use Rattle.redo_undo.specs.Holding.{Represents, blocks_to}
+use Rattle.redo_laws.specs.Holding.{Represents, blocks_to}
 use Rattle.redo_undo.specs.Undoing.{IsAt, Undone}
 use Rattle.redo_undo.specs.Rollback.{left_of, Compensates}
-use Rattle.redo_undo.specs.Laws.{PageLaws, UndoLaws}
-use Rattle.redo_undo.specs.MachineSteps.{StepsMachine}
-use Rattle.redo_undo.specs.UndoWorks.{works_of}
+use Rattle.redo_laws.specs.Laws.{PageLaws, UndoLaws}
+use Rattle.redo_laws.specs.MachineSteps.{StepsMachine}
+use Rattle.redo_laws.specs.UndoWorks.{works_of}
 use Rattle.redo_undo.specs.Mirroring.{PerformsOn}
 use Rattle.ring_machine.specs.Restart.{clr_work}
 use Rattle.ring_machine.proofs.Performing.{performs_as, performs_by, performs_then, performs_nothing, performs_answered}
@@ -25,8 +25,8 @@ use Rattle.redo_undo.proofs.UndoneWork.{clrs_more}
 use Rattle.site.proofs.Working.{no_error}
 use Rattle.redo_undo.proofs.Rollbacks.{starts, goes_on}
 use Rattle.page_store.proofs.StagingLaws.{stages_none}
-use Rattle.redo_undo.proofs.Asking.{asks_nothing}
-use Rattle.redo_undo.proofs.AskingUndo.{one_more_work}
+use Rattle.redo_laws.proofs.Asking.{asks_nothing}
+use Rattle.redo_laws.proofs.AskingUndo.{one_more_work}
 use Rattle.log_laws.proofs.OpenUpdates.{left_after_clr}
 use Rattle.redo_undo.proofs.LeftUpdates.{AsksSoFar}
 use Rattle.std.proofs.lemmas.List.{length-append}

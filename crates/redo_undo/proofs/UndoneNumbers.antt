@@ -16,16 +16,16 @@ use Rattle.page_store.specs.declared.store.PageStore.{PageStore}
 use Rattle.page_store.specs.Representation.{current}
 use Rattle.page_store.specs.Leaves.{LeavesPages}
 use Rattle.image_meaning.specs.Meaning.{kept_by}
-use Rattle.redo_undo.specs.Holding.{blocks_to}
+use Rattle.redo_laws.specs.Holding.{blocks_to}
 use Rattle.redo_undo.specs.Redoing.{Opening, IsRedoing}
-use Rattle.redo_undo.specs.Numbers.{HasNumbers, SkipsNone}
-use Rattle.redo_undo.proofs.WornLogs.{sealed_hi}
-use Rattle.redo_undo.specs.Laws.{PageLaws}
-use Rattle.redo_undo.specs.RedoLaws.{RedoLaws}
+use Rattle.redo_laws.specs.Numbers.{HasNumbers, SkipsNone}
+use Rattle.redo_laws.proofs.WornLogs.{sealed_hi}
+use Rattle.redo_laws.specs.Laws.{PageLaws}
+use Rattle.redo_laws.specs.RedoLaws.{RedoLaws}
 use Rattle.redo_undo.proofs.Redoings.{leaves_so, blocks_left}
-use Rattle.redo_undo.proofs.RingNumbers.{skips_on}
+use Rattle.redo_laws.proofs.RingNumbers.{skips_on}
 use Rattle.site.proofs.Working.{ok_as}
-use Rattle.redo_undo.proofs.LeftNumbers.{masters_same}
+use Rattle.redo_laws.proofs.LeftNumbers.{masters_same}
 
 -- While records are redone the log ends with the blocks that it was opened with.
 module _ (o : Opening) (log : LogStore) (pages : PageStore) (site : State) (front : List Entry) (h : IsRedoing o log pages site front) where

@@ -21,14 +21,14 @@ use Rattle.analysis.specs.Open.{Open, IsTop, Remains}
 use Rattle.analysis.specs.Table.{listed}
 use Rattle.analysis.specs.Read.{IsTable}
 use Rattle.redo_undo.specs.declared.undo.Undoing.{Undoing}
-use Rattle.redo_undo.specs.Holding.{Represents}
+use Rattle.redo_laws.specs.Holding.{Represents}
 use Rattle.redo_undo.specs.Undoing.{Undone}
-use Rattle.redo_undo.specs.UndoingAll.{IsUndoing, IsGreatest}
-use Rattle.redo_undo.specs.Laws.{UndoLaws, FoundLaws}
-use Rattle.redo_undo.specs.MachineSteps.{StepsMachine, undo_works}
-use Rattle.redo_undo.specs.UndoWorks.{works_of, IsLastAt, UndoesUpdates}
+use Rattle.redo_laws.specs.UndoingAll.{IsUndoing, IsGreatest}
+use Rattle.redo_laws.specs.Laws.{UndoLaws, FoundLaws}
+use Rattle.redo_laws.specs.MachineSteps.{StepsMachine, undo_works}
+use Rattle.redo_laws.specs.UndoWorks.{works_of, IsLastAt, UndoesUpdates}
 use Rattle.page_store.specs.Caching.{rules}
-use Rattle.redo_undo.proofs.AskingUndo.{one_more_work, more_work_stopped, all_work}
+use Rattle.redo_laws.proofs.AskingUndo.{one_more_work, more_work_stopped, all_work}
 use Rattle.redo_undo.proofs.Lasts.{split_at}
 use Rattle.redo_undo.specs.Mirroring.{PerformsOn}
 use Rattle.ring_machine.specs.Machine.{Work}

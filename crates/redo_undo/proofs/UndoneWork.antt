@@ -23,7 +23,7 @@ use Rattle.analysis.specs.Laws.{OneTable, TableOfUnfinished}
 use Rattle.record_model.specs.Touches.{touch}
 use Rattle.ring_machine.specs.Machine.{Work, cached, logged, changed}
 use Rattle.ring_machine.specs.Octets.{clr_octets}
-use Rattle.redo_undo.proofs.AskingUndo.{page_is}
+use Rattle.redo_laws.proofs.AskingUndo.{page_is}
 use Rattle.ring_machine.specs.Commands.{takes_back, ends}
 use Rattle.ring_machine.specs.Restart.{clr_on, clr_work, undoing_one, is_empty, only_ends}
 use Rattle.ring_machine.specs.Performing.{Performs}
@@ -32,14 +32,14 @@ use Rattle.site.specs.State.{Image}
 use Rattle.log_store.specs.declared.store.LogStore.{LogStore}
 use Rattle.page_store.specs.declared.store.PageStore.{PageStore}
 use Rattle.page_store.specs.Caching.{rules}
-use Rattle.redo_undo.specs.UndoingAll.{HasNone}
+use Rattle.redo_laws.specs.UndoingAll.{HasNone}
 use Rattle.analysis.specs.declared.analysis.Analysis.{Analysis}
 use Rattle.analysis.specs.Table.{listed}
 use Rattle.checkpoint.specs.declared.master.Master.{Master}
 use Rattle.image_meaning.specs.Meaning.{picture_under, kept_by}
 use Rattle.log_laws.specs.Tail.{next_lsn}
-use Rattle.redo_undo.specs.Laws.{FoundLaws, UndoLaws}
-use Rattle.redo_undo.specs.UndoWorks.{UndoesUpdates}
+use Rattle.redo_laws.specs.Laws.{FoundLaws, UndoLaws}
+use Rattle.redo_laws.specs.UndoWorks.{UndoesUpdates}
 use Rattle.redo_undo.proofs.Found.{lives, order, undoable, open_is}
 use Rattle.redo_undo.specs.Mirroring.{Mirrors, PerformsOn, clrs_for, none_remains, ends_for}
 use Rattle.redo_undo.proofs.Opens.{found_here}

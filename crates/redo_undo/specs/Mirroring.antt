@@ -16,10 +16,10 @@ use Rattle.ring_machine.specs.Commands.{ends}
 use Rattle.ring_machine.specs.Restart.{clr_work}
 use Rattle.ring_machine.specs.Performing.{Performs}
 use Rattle.log_store.specs.declared.store.LogStore.{LogStore}
+use Rattle.write_ahead.specs.Forcing.{is_unsealed, end_now}
 use Rattle.page_store.specs.declared.store.PageStore.{PageStore}
 use Rattle.page_store.specs.Representation.{current}
 use Rattle.page_store.specs.Caching.{cache_of, rules}
-use Rattle.page_store.specs.Ahead.{is_unsealed, end_now}
 use Rattle.analysis.specs.Open.{Open}
 use Rattle.redo_undo.specs.declared.store.Store.{Store}
 

@@ -2,9 +2,9 @@
 use Rattle.std.specs.Prelude.{Result, OnOk, ◌++◌, ◌≡◌, ◌⊎◌, ℕ, ◌≤◌, ◌<◌, List, [], length, filter_map, Option, filter}
 use Rattle.site.specs.declared.geometry.Geometry.{Geometry}
 use Rattle.site.specs.declared.outside.Stop.{Stop}
-use Rattle.redo_undo.specs.MachineSteps.{StepsMachine}
+use Rattle.redo_laws.specs.MachineSteps.{StepsMachine}
 use Rattle.redo_undo.specs.Mirroring.{PerformsAtRest}
-use Rattle.redo_undo.specs.Calls.{Keeps}
+use Rattle.redo_laws.specs.Calls.{Keeps}
 use Rattle.site.specs.State.{State, Image, Snapshot}
 use Rattle.record_model.specs.State.{Content}
 use Rattle.record_model.specs.Touches.{CacheWork}

@@ -12,7 +12,7 @@ use Rattle.log_store.specs.declared.store.LogStore.{LogStore}
 use Rattle.page_store.specs.declared.store.PageStore.{PageStore}
 use Rattle.checkpoint.specs.declared.master.Master.{Master}
 use Rattle.redo_undo.specs.declared.undo.Undoing.{Undoing}
-use Rattle.redo_undo.specs.Holding.{Represents, blocks_to}
+use Rattle.redo_laws.specs.Holding.{Represents, blocks_to}
 
 -- these are CLRs of a transaction
 abbrev pub AreClrsOf : ℕ → List Entry → Type 0

@@ -11,9 +11,9 @@ use Rattle.flash_cache.specs.Representation as flash_cache
 use Rattle.log_store.specs.Representation as log_store
 use Rattle.log_store.specs.Representation.{end_of}
 use Rattle.page_store.specs.Stopping.{MayStop}
-use Rattle.redo_undo.specs.Calls.{Ends}
-use Rattle.redo_undo.specs.Holding.{blocks_to, IsSpent}
-use Rattle.redo_undo.specs.Numbers.{SkipsNone}
+use Rattle.redo_laws.specs.Calls.{Ends}
+use Rattle.redo_laws.specs.Holding.{blocks_to, IsSpent}
+use Rattle.redo_laws.specs.Numbers.{SkipsNone}
 use Rattle.redo_undo.specs.declared.store.Store.{Store}
 use Rattle.redo_undo.specs.Stores.{MayWork, sizes_of}
 

@@ -14,9 +14,9 @@ use Rattle.buffer_pool.specs.Frames.{front_of}
 use Rattle.checkpoint.specs.declared.master.Master.{Master}
 use Rattle.checkpoint.specs.declared.pairs.Pair.{Pair}
 use Rattle.image_meaning.specs.Meaning.{versions_on}
-use Rattle.redo_undo.specs.Checkpointing.{KeepUnfinished}
-use Rattle.redo_undo.specs.Holding as both
-use Rattle.redo_undo.specs.Holding.{blocks_to}
+use Rattle.redo_laws.specs.Checkpointing.{KeepUnfinished}
+use Rattle.redo_laws.specs.Holding as both
+use Rattle.redo_laws.specs.Holding.{blocks_to}
 use Rattle.redo_undo.specs.declared.store.Store.{Store}
 
 -- how large the devices are

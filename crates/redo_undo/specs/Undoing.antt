@@ -15,7 +15,7 @@ use Rattle.checkpoint.specs.declared.master.Master.{Master}
 use Rattle.image_meaning.specs.Meaning.{master_of, versions_on}
 use Rattle.redo_undo.specs.declared.undo.Undoing.{Undoing}
 use Rattle.redo_undo.specs.declared.undo.Wanted.{Wanted}
-use Rattle.redo_undo.specs.Holding.{Represents}
+use Rattle.redo_laws.specs.Holding.{Represents}
 
 -- where undoing an unfinished transaction stands
 pub record IsAt (at : Undoing) (x : Unfinished) : Type 0 where

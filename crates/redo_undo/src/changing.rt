@@ -6,12 +6,13 @@ ghost use Rattle.log_records.specs.Spelling.{HasForm, IsShort};
 ghost use Rattle.slotted_page.specs.Layout.{lsn_of};
 ghost use Rattle.buffer_pool.specs.Frames.{front_of};
 ghost use Rattle.log_store.specs.declared.store.LogStore.{LogStore};
+ghost use Rattle.write_ahead.specs.Forcing.{end_forced};
 ghost use Rattle.page_store.specs.Representation.{IsStore, Invariant, Matches, current};
 ghost use Rattle.page_store.specs.Caching.{cache_of, with_change};
-ghost use Rattle.page_store.specs.Ahead.{IsAhead, end_forced};
+ghost use Rattle.page_store.specs.Ahead.{IsAhead};
 ghost use Rattle.image_meaning.specs.Meaning.{version_in};
 ghost use Rattle.image_meaning.specs.Redone.{Redoes};
-ghost use Rattle.redo_undo.specs.Holding.{IsOnPage};
+ghost use Rattle.redo_laws.specs.Holding.{IsOnPage};
 
 use log_records::LogRecord;
 use page_store::PageStore;

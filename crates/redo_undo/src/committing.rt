@@ -10,12 +10,12 @@ ghost use Rattle.log_laws.specs.Follow.{writes_in};
 ghost use Rattle.log_store.specs.Representation.{end_of};
 ghost use Rattle.checkpoint.specs.declared.master.Master.{Master};
 ghost use Rattle.image_meaning.specs.Moments.{LeavesEitherFor};
-ghost use Rattle.redo_undo.specs.Committing.{MayCommit, CommitLaws};
+ghost use Rattle.redo_laws.specs.Committing.{MayCommit, CommitLaws};
 ghost use Rattle.redo_undo.specs.Stores.{MayLog, Represents, sizes_of};
 ghost use Rattle.redo_undo.specs.StoreCalls.{KeepsInvariant, Keeps};
 ghost use Rattle.redo_undo.specs.Mirroring.{PerformsStore};
 ghost use Rattle.ring_machine.specs.Commands.{commits as commits_work};
-ghost use Rattle.redo_undo.specs.MachineSteps.{StepsMachine};
+ghost use Rattle.redo_laws.specs.MachineSteps.{StepsMachine};
 
 use crate::laws::{beside_laws, log_laws, page_laws};
 use crate::logging::log_record;

@@ -8,9 +8,9 @@ ghost use Rattle.log_store.specs.Representation as log_store;
 ghost use Rattle.page_store.specs.declared.store.PageStore.{PageStore};
 ghost use Rattle.checkpoint.specs.declared.master.Master.{Master};
 ghost use Rattle.image_meaning.specs.Moments.{LeavesTableUnder};
-ghost use Rattle.redo_undo.specs.Holding.{Invariant, Represents, blocks_to};
+ghost use Rattle.redo_laws.specs.Holding.{Invariant, Represents, blocks_to};
 ghost use Rattle.redo_undo.specs.Mirroring.{PerformsOn, force_work};
-ghost use Rattle.redo_undo.specs.Calls.{KeepsInvariantBeside, KeepsBeside};
+ghost use Rattle.redo_laws.specs.Calls.{KeepsInvariantBeside, KeepsBeside};
 
 use crate::laws::{beside_laws, log_laws, page_laws};
 use image_changes::ring_kept;

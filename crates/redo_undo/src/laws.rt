@@ -1,7 +1,7 @@
 // Laws on log and pages that hold together, and those of the layers below that the proofs rest on. The functions do
 // nothing.
-ghost use Rattle.redo_undo.specs.HoldingLaws.{HoldLaws};
-ghost use Rattle.redo_undo.specs.Laws.{LogLaws, PageLaws, BesideLaws, UndoLaws, FoundLaws};
+ghost use Rattle.redo_laws.specs.HoldingLaws.{HoldLaws};
+ghost use Rattle.redo_laws.specs.Laws.{LogLaws, PageLaws, BesideLaws, UndoLaws, FoundLaws};
 
 use analysis::table_of_records;
 use image_meaning::{

@@ -15,13 +15,13 @@ ghost use Rattle.analysis.specs.Table.{listed};
 ghost use Rattle.analysis.specs.Read as read;
 ghost use Rattle.analysis.specs.Read.{IsAnalysis, IsTable};
 ghost use Rattle.analysis.specs.Taken.{is_named, is_taken, Steps, taken};
-ghost use Rattle.redo_undo.specs.Holding.{Invariant, Represents, IsOnPage, blocks_to};
+ghost use Rattle.redo_laws.specs.Holding.{Invariant, Represents, IsOnPage, blocks_to};
 ghost use Rattle.redo_undo.specs.Redoing.{IsOpened, Opening, Takes, LeavesOpened, IsRedoing, HasTaken, touches_of};
 ghost use Rattle.redo_undo.specs.Redoing.{AsksAtRest, heard_of};
-ghost use Rattle.redo_undo.specs.RedoLaws.{RedoLaws};
+ghost use Rattle.redo_laws.specs.RedoLaws.{RedoLaws};
 ghost use Rattle.checkpoint.specs.declared.master.Master.{Master};
-ghost use Rattle.redo_undo.specs.MachineSteps.{redo_works};
-ghost use Rattle.redo_undo.specs.Calls.{KeepsInvariant, LogsNothing, Keeps};
+ghost use Rattle.redo_laws.specs.MachineSteps.{redo_works};
+ghost use Rattle.redo_laws.specs.Calls.{KeepsInvariant, LogsNothing, Keeps};
 
 use crate::changing::change_front;
 use crate::laws::{log_laws, page_laws};

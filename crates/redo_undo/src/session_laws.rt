@@ -1,6 +1,6 @@
 // Laws for sessions over log and pages that hold together. The functions do nothing.
-ghost use Rattle.redo_undo.specs.SessionLaws.{GrowLaws, SeeLaws, ActiveOutlives};
-ghost use Rattle.redo_undo.specs.MachineSteps.{ActiveIsUndoneBy};
+ghost use Rattle.redo_laws.specs.SessionLaws.{GrowLaws, SeeLaws, ActiveOutlives};
+ghost use Rattle.redo_laws.specs.MachineSteps.{ActiveIsUndoneBy};
 
 use crate::laws::{hold_together, log_laws, page_laws, undo_laws};
 use log_laws::{

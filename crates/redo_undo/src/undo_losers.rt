@@ -15,11 +15,11 @@ ghost use Rattle.analysis.specs.Open.{found_in, Replaces, Remains, TakesOut, owe
 ghost use Rattle.analysis.specs.Table.{listed};
 ghost use Rattle.analysis.specs.Read as analysis;
 ghost use Rattle.analysis.specs.Read.{IsTable};
-ghost use Rattle.redo_undo.specs.Holding.{Invariant, Represents, blocks_to};
-ghost use Rattle.redo_undo.specs.MachineSteps.{StepsMachine, undo_works};
-ghost use Rattle.redo_undo.specs.UndoWorks.{works_of, IsLastAt, UndoesUpdates};
-ghost use Rattle.redo_undo.specs.UndoingAll.{IsHeard, IsOf, Remain, HasNone, IsUndoing, UndoesAll};
-ghost use Rattle.redo_undo.specs.Calls.{KeepsInvariant, KeepsInvariantBeside, Keeps};
+ghost use Rattle.redo_laws.specs.Holding.{Invariant, Represents, blocks_to};
+ghost use Rattle.redo_laws.specs.MachineSteps.{StepsMachine, undo_works};
+ghost use Rattle.redo_laws.specs.UndoWorks.{works_of, IsLastAt, UndoesUpdates};
+ghost use Rattle.redo_laws.specs.UndoingAll.{IsHeard, IsOf, Remain, HasNone, IsUndoing, UndoesAll};
+ghost use Rattle.redo_laws.specs.Calls.{KeepsInvariant, KeepsInvariantBeside, Keeps};
 ghost use Rattle.redo_undo.specs.Mirroring.{PerformsOn, ends_for};
 ghost use Rattle.ring_machine.specs.Commands.{ends};
 ghost use Rattle.ring_machine.specs.Restart.{clr_work, undoing_one, undo_work};

@@ -1,5 +1,5 @@
 // Laws on what calls on pages ask of the cache. The functions do nothing.
-ghost use Rattle.redo_undo.specs.MachineSteps.{WorksAddUp, ReadsAddUp, ReadsForMore, NumbersRise};
+ghost use Rattle.redo_laws.specs.MachineSteps.{WorksAddUp, ReadsAddUp, ReadsForMore, NumbersRise};
 
 /// Law: work adds up, and so do the pages that it reads; the numbers of the groups that it appends never fall. So what
 /// was read for some work was read for it with more behind it.

@@ -6,7 +6,7 @@ ghost use Rattle.log_records.specs.Spelling.{HasForm};
 ghost use Rattle.log_store.specs.Representation as log_store;
 ghost use Rattle.log_store.specs.Representation.{end_of};
 ghost use Rattle.analysis.specs.Read as analysis;
-ghost use Rattle.redo_undo.specs.Holding.{Invariant, IsOnPage, blocks_to};
+ghost use Rattle.redo_laws.specs.Holding.{Invariant, IsOnPage, blocks_to};
 
 use analysis::Analysis;
 use checkpoint::Master;

@@ -7,8 +7,8 @@ ghost use Rattle.checkpoint.specs.Actives.{Ascend};
 ghost use Rattle.log_store.specs.Representation as log_store;
 ghost use Rattle.log_store.specs.Representation.{end_of};
 ghost use Rattle.image_meaning.specs.Flushed.{first_block};
-ghost use Rattle.redo_undo.specs.Checkpointing.{begins_of};
-ghost use Rattle.redo_undo.specs.Holding.{Invariant, IsOnPage, blocks_to};
+ghost use Rattle.redo_laws.specs.Checkpointing.{begins_of};
+ghost use Rattle.redo_laws.specs.Holding.{Invariant, IsOnPage, blocks_to};
 ghost use Rattle.redo_undo.specs.Stores.{MayWork, MayLog, sizes_of};
 
 use crate::rows::{Row, run};

@@ -9,7 +9,7 @@ use Rattle.record_model.specs.State.{Content}
 use Rattle.log_records.specs.declared.log_record.LogRecord.{LogRecord}
 use Rattle.log_records.specs.Unfinished.{owed, pending}
 use Rattle.log_records.specs.Sound.{Picture}
-use Rattle.redo_undo.specs.Numbers.{SkipsNone}
+use Rattle.redo_laws.specs.Numbers.{SkipsNone}
 use Rattle.redo_undo.specs.declared.store.Store.{Store}
 use Rattle.engine.specs.declared.restart.Restarted.{Restarted}
 use Rattle.engine.specs.Restarting.{IsReady, RestartedAs, found_store}
@@ -18,14 +18,14 @@ use Rattle.page_store.specs.Caching.{rules}
 use Rattle.checkpoint.specs.declared.pairs.Pair.{Pair}
 use Rattle.image_meaning.specs.Meaning.{picture_under}
 use Rattle.image_meaning.proofs.Leaving.{under_leaves_for}
-use Rattle.redo_undo.specs.Holding as both
-use Rattle.redo_undo.specs.MachineSteps.{StepsMachine, redo_works, undo_works, checkpoint_works}
+use Rattle.redo_laws.specs.Holding as both
+use Rattle.redo_laws.specs.MachineSteps.{StepsMachine, redo_works, undo_works, checkpoint_works}
 use Rattle.redo_undo.proofs.Saved.{finds_kept}
 use Rattle.redo_undo.specs.declared.redo_pass.Redone.{Redone}
 use Rattle.second_chance.specs.Machine.{Rules}
 use Rattle.engine.specs.Calls.{Ends}
 use Rattle.engine.proofs.Calling.{ends_then}
-use Rattle.redo_undo.proofs.Endings.{ends_failed, ends_answered, ends_leaving}
+use Rattle.redo_laws.proofs.Endings.{ends_failed, ends_answered, ends_leaving}
 use Rattle.redo_undo.specs.Stores.{HasCheckpoint}
 use Rattle.engine.specs.Image.{log_under}
 use Rattle.engine.specs.Leaves.{LeavesTable}
@@ -34,7 +34,7 @@ use Rattle.engine.proofs.Asking.{from_ok, from_err, from_stopped, writes_stopped
 use Rattle.site.specs.Work.{Calls}
 use Rattle.engine.proofs.Recovers.{no_tail_still, kept_of, owed_found, commits_fit, commits_found, may_be_made, restarted_as}
 use Rattle.engine.proofs.RingCounts.{opened_next, restart_failed, restart_done}
-use Rattle.redo_undo.proofs.RingNumbers.{skips_on, then_skips}
+use Rattle.redo_laws.proofs.RingNumbers.{skips_on, then_skips}
 use Rattle.std.specs.Prelude.{Ok, OnOk, Option, Result, IsTrue}
 use Rattle.site.specs.Laws.{stays_honest}
 use Rattle.page_store.proofs.NextUnits.{next_then as next_pages}
@@ -44,7 +44,7 @@ use Rattle.engine.proofs.RestartedUnits.{next_at_error, next_not_worn, next_at_e
 use Rattle.analysis.specs.Open.{owed_for}
 use Rattle.analysis.specs.Table.{listed}
 use Rattle.site.proofs.Working.{calls_then, calls_failed, calls_answered, calls_refused}
-use Rattle.redo_undo.proofs.Asking.{asks_then, asks_stopped}
+use Rattle.redo_laws.proofs.Asking.{asks_then, asks_stopped}
 use Rattle.log_records.specs.Log.{Entry}
 use Rattle.ring_machine.specs.Commands.{saves}
 use Rattle.ring_machine.specs.Restart.{redo_work, undo_work}

@@ -21,12 +21,12 @@ use Rattle.engine.specs.declared.restart.Opened.{Opened}
 use Rattle.engine.specs.Leaves.{LeavesTable}
 use Rattle.engine.specs.Calls.{Ends}
 use Rattle.engine.proofs.Calling.{calls_stopped, calls_behind, ends_then}
-use Rattle.redo_undo.proofs.Endings.{ends_ok}
+use Rattle.redo_laws.proofs.Endings.{ends_ok}
 use Rattle.site.proofs.Working.{calls_failed, err_again}
 use Rattle.engine.proofs.Openings.{stands_still}
 use Rattle.engine.proofs.RestartedUnits.{next_not_worn}
 use Rattle.engine.proofs.RingCounts.{restart_unmoved, restart_behind}
-use Rattle.redo_undo.proofs.Appended.{if_ok_two}
+use Rattle.redo_laws.proofs.Appended.{if_ok_two}
 use Rattle.image_changes.specs.Rings.{log_shape, master_shape}
 use Rattle.sealed_ring.specs.Ring.{hi_of}
 use Rattle.ring_machine.specs.Restart.{restart_work}

@@ -1,5 +1,5 @@
 use Rattle.face.proofs.Pagings.{idle_line}
-use Rattle.redo_undo.specs.MachineSteps.{StepsMachine}
+use Rattle.redo_laws.specs.MachineSteps.{StepsMachine}
 use Rattle.record_model.specs.Touches.{line_touches}
 use Rattle.std.proofs.Common.{◌≡◌, IfOk, OnOk, sym, ap, subst, ◌∙◌, true, ◌≤◌, ◌+◌, arith}
 use Rattle.std.specs.Prelude.{Some, []}

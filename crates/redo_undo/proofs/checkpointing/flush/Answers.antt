@@ -1,5 +1,6 @@
 use Rattle.std.proofs.Common.{append-nil, Bool, sym, subst, ◌∙◌, arith, refl}
 use Rattle.record_model.specs.Touches.{flush}
+use Rattle.write_ahead.specs.Forcing.{forces}
 use Rattle.page_store.specs.Caching.{cache_of, rules}
 use Rattle.page_store.proofs.StagingLaws.{stages_as}
 use Rattle.second_chance.specs.Machine.{rules_of, staged_by}
@@ -7,20 +8,19 @@ use Rattle.site.specs.declared.outside.Dev.TheVariants.{Disk}
 use Rattle.site.specs.declared.geometry.Geometry.{Geometry}
 use Rattle.image_changes.specs.Rings.{KeepsUnits, master_shape}
 use Rattle.log_store.specs.LogList.{LogList}
-use Rattle.page_store.specs.Ahead.{forces}
 use Rattle.page_store.specs.Flushing.{flushed_contents}
 use Rattle.image_meaning.specs.Meaning.{kept_by}
-use Rattle.redo_undo.specs.Holding.{RepresentsIn, Represents}
-use Rattle.redo_undo.proofs.Endings.{ends_by_pages}
+use Rattle.redo_laws.specs.Holding.{RepresentsIn, Represents}
+use Rattle.redo_laws.proofs.Endings.{ends_by_pages}
 use Rattle.redo_undo.proofs.Mirroring.{numbers_left, logged_now, flush_performs, used_where}
 use Rattle.redo_undo.proofs.Redoings.{never_forced}
 use Rattle.log_records.specs.Spelling.{used_by}
 use Rattle.std.proofs.Common.{◌≡◌, ap, true≢false, false, ◌+◌}
 use Rattle.std.specs.Prelude.{if◌then◌else◌}
-use Rattle.redo_undo.proofs.Touched.{forced_tail, leaves_table, touched_holds}
+use Rattle.redo_laws.proofs.Touched.{forced_tail, leaves_table, touched_holds}
 use Rattle.site.proofs.Working.{ok_as}
 use Rattle.page_store.specs.Representation.{current}
-use Rattle.redo_undo.proofs.LeftNumbers.{pages_skip, ready_next}
+use Rattle.redo_laws.proofs.LeftNumbers.{pages_skip, ready_next}
 use Rattle.std.proofs.lemmas.Grind.{common_steps}
 use Rattle.std_lemmas.proofs.Results.{ok_both}
 use Rattle.redo_undo.proofs.checkpointing.flush.Goals as goal

@@ -8,18 +8,18 @@ use Rattle.sealed_ring.specs.Ready.{region, IsReady, Finds}
 use Rattle.image_changes.specs.Rings.{master_shape}
 use Rattle.checkpoint.specs.declared.master.Master.{Master}
 use Rattle.image_meaning.specs.Flushed.{first_block}
-use Rattle.redo_undo.specs.Checkpointing.{begins_of, MayBeMade}
-use Rattle.redo_undo.proofs.Endings.{ends_ok}
+use Rattle.redo_laws.specs.Checkpointing.{begins_of, MayBeMade}
+use Rattle.redo_laws.proofs.Endings.{ends_ok}
 use Rattle.redo_undo.proofs.Saved.{needed_there, save_leaves, is_saved, log_still}
 use Rattle.site.specs.declared.outside.Stop.TheVariants.{Worn}
-use Rattle.redo_undo.proofs.WornLogs.{masters_at_end}
+use Rattle.redo_laws.proofs.WornLogs.{masters_at_end}
 use Rattle.sealed_ring.specs.Ring.{hi_of}
 use Rattle.site.proofs.Working.{no_error}
 use Rattle.log_store.proofs.NextBlocks.{blocks_beside}
-use Rattle.redo_undo.specs.Holding.{blocks_to, Represents}
-use Rattle.redo_undo.proofs.RingNumbers.{hi_on}
-use Rattle.redo_undo.proofs.LeftNumbers.{save_skips, save_calls}
-use Rattle.redo_undo.proofs.AskingFlush.{never_worn_flash}
+use Rattle.redo_laws.specs.Holding.{blocks_to, Represents}
+use Rattle.redo_laws.proofs.RingNumbers.{hi_on}
+use Rattle.redo_laws.proofs.LeftNumbers.{save_skips, save_calls}
+use Rattle.redo_laws.proofs.AskingFlush.{never_worn_flash}
 use Rattle.redo_undo.proofs.Calling.{appends_foreign}
 use Rattle.checkpoint.specs.Units.{unit}
 use Rattle.redo_undo.proofs.checkpointing.save_master.Given.{Over}

@@ -5,17 +5,17 @@ use Rattle.log_store.specs.LogList.{LogList, changes_if}
 use Rattle.log_store.specs.Representation.{has_tail}
 use Rattle.image_meaning.specs.Meaning.{kept_by}
 use Rattle.image_changes.specs.Rings.{Masters, KeepsUnits, master_shape}
-use Rattle.redo_undo.specs.Holding.{Represents}
+use Rattle.redo_laws.specs.Holding.{Represents}
 use Rattle.site.proofs.Working.{no_error, ok_as}
-use Rattle.redo_undo.proofs.CallsInSequence.{nothing_happens}
-use Rattle.redo_undo.proofs.Appended.{append_leaves}
-use Rattle.redo_undo.proofs.Forced.{forced_holds, some_now, ok_five, quiet_stops, seals_only}
-use Rattle.redo_undo.proofs.WornLogs.{log_at_end}
-use Rattle.redo_undo.proofs.RingNumbers.{skips_nothing}
-use Rattle.redo_undo.proofs.LeftNumbers.{log_skips, log_calls, ready_next, same_at_most}
+use Rattle.redo_laws.proofs.CallsInSequence.{nothing_happens}
+use Rattle.redo_laws.proofs.Appended.{append_leaves}
+use Rattle.redo_laws.proofs.Forced.{forced_holds, some_now, ok_five, quiet_stops, seals_only}
+use Rattle.redo_laws.proofs.WornLogs.{log_at_end}
+use Rattle.redo_laws.proofs.RingNumbers.{skips_nothing}
+use Rattle.redo_laws.proofs.LeftNumbers.{log_skips, log_calls, ready_next, same_at_most}
 use Rattle.redo_undo.proofs.forcing.force.Goals as goal
 use Rattle.redo_undo.proofs.Mirroring.{force_performs, numbers_left}
-use Rattle.redo_undo.proofs.Appended.{current_same}
+use Rattle.redo_laws.proofs.Appended.{current_same}
 use Rattle.std.specs.Prelude.{Ok}
 use Rattle.std.proofs.Common.{◌+◌, Bool, false, nat_lt}
 use Rattle.std.specs.Prelude.{if◌then◌else◌}

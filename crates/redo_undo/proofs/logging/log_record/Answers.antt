@@ -4,26 +4,26 @@ use Rattle.std.proofs.Common.{List, ◌≡◌, ◌≤◌, ◌<◌, Bool, true, �
 use Rattle.std.specs.Prelude.{IfOk, Option}
 use Rattle.log_records.specs.Sound.{AreOrderly}
 use Rattle.image_meaning.specs.Meaning.{versions_on}
-use Rattle.redo_undo.proofs.Forced.{quiet_stops, seals_only}
-use Rattle.redo_undo.proofs.Orderlies.{ends_orderly}
+use Rattle.redo_laws.proofs.Forced.{quiet_stops, seals_only}
+use Rattle.redo_laws.proofs.Orderlies.{ends_orderly}
 use Rattle.log_store.specs.Representation.{overflows, next_lsn, end_of, has_tail}
 use Rattle.log_store.specs.LogList.{LogList, changes_if}
 use Rattle.page_store.specs.Ahead.{AreSealed}
 use Rattle.image_meaning.specs.Meaning.{kept_by}
-use Rattle.redo_undo.specs.Holding.{MayGrow, RepresentsLog, Represents}
-use Rattle.redo_undo.proofs.Appended.{appended, ends_with, append_leaves, rings_now, sealed_now, versions_same, current_same, IsNumbered, IsAppended, if_ok_four, if_ok_one, if_ok_two, if_ok_three, ok_by, most_blocks}
-use Rattle.redo_undo.specs.Committing.{EndsWith}
+use Rattle.redo_laws.specs.Holding.{MayGrow, RepresentsLog, Represents}
+use Rattle.redo_laws.proofs.Appended.{appended, ends_with, append_leaves, rings_now, sealed_now, versions_same, current_same, IsNumbered, IsAppended, if_ok_four, if_ok_one, if_ok_two, if_ok_three, ok_by, most_blocks}
+use Rattle.redo_laws.specs.Committing.{EndsWith}
 use Rattle.image_meaning.specs.Beside.{AreRingsSoundUnder}
 use Rattle.checkpoint.specs.declared.master.Master.{Master}
 use Rattle.record_model.specs.State.{Content}
 use Rattle.log_records.specs.Log.{Entry}
 use Rattle.site.specs.State.{State}
 use Rattle.page_store.specs.declared.store.PageStore.{PageStore}
-use Rattle.redo_undo.proofs.Changed.{holds_off}
+use Rattle.redo_laws.proofs.Changed.{holds_off}
 use Rattle.image_changes.specs.Rings.{Masters, KeepsUnits, master_shape}
 use Rattle.site.proofs.Working.{ok_as}
-use Rattle.redo_undo.proofs.WornLogs.{log_at_end}
-use Rattle.redo_undo.proofs.LeftNumbers.{log_skips, log_calls, ready_next}
+use Rattle.redo_laws.proofs.WornLogs.{log_at_end}
+use Rattle.redo_laws.proofs.LeftNumbers.{log_skips, log_calls, ready_next}
 use Rattle.redo_undo.proofs.logging.log_record.Given.{Over}
 use Rattle.redo_undo.proofs.logging.log_record.Goals.{After-append}
 use Rattle.redo_undo.proofs.logging.log_record.Goals as goal

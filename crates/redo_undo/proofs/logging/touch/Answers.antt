@@ -1,17 +1,18 @@
 use Rattle.std.proofs.Common.{Bool, false, [], arith, ◌∙◌, List, ap, ℕ}
 use Rattle.std.specs.Prelude.{◌≡◌, OnOk, if◌then◌else◌}
-use Rattle.page_store.specs.Ahead.{forces, pushed_by_touch}
+use Rattle.write_ahead.specs.Forcing.{forces}
+use Rattle.page_store.specs.Ahead.{pushed_by_touch}
 use Rattle.log_store.specs.LogList.{LogList}
 use Rattle.redo_undo.specs.Redoing.{IsRedoing, Opening}
-use Rattle.redo_undo.proofs.Endings.{ends_by_pages}
-use Rattle.redo_undo.proofs.CallsInSequence.{some_group}
+use Rattle.redo_laws.proofs.Endings.{ends_by_pages}
+use Rattle.redo_laws.proofs.CallsInSequence.{some_group}
 use Rattle.redo_undo.proofs.Redoings.{never_forced, rings_given, rings_of, touch_leaves, touched}
 use Rattle.record_model.specs.Touches.{touch}
 use Rattle.page_store.proofs.StagingLaws.{stages_as}
-use Rattle.redo_undo.proofs.Costs.{touched_next}
+use Rattle.redo_laws.proofs.Costs.{touched_next}
 use Rattle.second_chance.specs.Machine.{rules_of, staged_by}
 use Rattle.page_store.specs.Caching.{cache_of, rules}
-use Rattle.redo_undo.proofs.Asking.{touch_reads}
+use Rattle.redo_laws.proofs.Asking.{touch_reads}
 use Rattle.redo_undo.proofs.Mirroring.{numbers_left, touch_performs, used_where}
 use Rattle.redo_undo.proofs.Resting.{rests_touched}
 use Rattle.image_meaning.specs.Meaning.{kept_by}
@@ -20,10 +21,10 @@ use Rattle.image_changes.specs.Rings.{KeepsUnits, master_shape}
 use Rattle.site.proofs.Working.{ok_as}
 use Rattle.std.proofs.Common.{sym, subst, append-nil, true≢false}
 use Rattle.site.specs.declared.geometry.Geometry.{Geometry}
-use Rattle.redo_undo.specs.Holding.{RepresentsIn, Represents}
-use Rattle.redo_undo.proofs.Touched.{forced_tail, leaves_table, touched_holds}
+use Rattle.redo_laws.specs.Holding.{RepresentsIn, Represents}
+use Rattle.redo_laws.proofs.Touched.{forced_tail, leaves_table, touched_holds}
 use Rattle.page_store.specs.Representation.{current}
-use Rattle.redo_undo.proofs.LeftNumbers.{pages_skip, ready_next}
+use Rattle.redo_laws.proofs.LeftNumbers.{pages_skip, ready_next}
 use Rattle.redo_undo.proofs.logging.touch.Given.{Over}
 use Rattle.redo_undo.proofs.logging.touch.Goals.{After-touch}
 use Rattle.log_records.specs.Log.{Entry}

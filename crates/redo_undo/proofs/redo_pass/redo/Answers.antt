@@ -7,14 +7,14 @@ use Rattle.image_meaning.specs.Meaning.{kept_by, saved_by, picture_under}
 use Rattle.analysis.specs.Read.{IsAnalysis}
 use Rattle.redo_undo.specs.Redoing.{AsksAtRest, Opening, IsOpened, asked_of, HasTaken}
 use Rattle.log_laws.proofs.LogBlocks.{block_of, log_split}
-use Rattle.redo_undo.proofs.CallsInSequence.{going_still, opened_holds, some_group}
+use Rattle.redo_laws.proofs.CallsInSequence.{going_still, opened_holds, some_group}
 use Rattle.redo_undo.proofs.Redoings.{begins, holds_all}
 use Rattle.redo_undo.proofs.TakenRecords.{IsUpTo, IsNextBlock, asks_first, up_to_none, opened_count, finds, next_block, one_more_block, all_blocks, same_stop, unfinished_by}
 use Rattle.site.specs.declared.outside.Stop.TheVariants.{Worn, Device, Foreign}
 use Rattle.site.specs.declared.outside.Dev.TheVariants.{Log}
-use Rattle.redo_undo.proofs.Asking.{stages_read}
+use Rattle.redo_laws.proofs.Asking.{stages_read}
 use Rattle.redo_undo.proofs.RedoWorks.{stops_first, stops_reading, asks_with_read, asks_more, asks_all, stops_within}
-use Rattle.redo_undo.specs.Calls.{Keeps, ReadsOne}
+use Rattle.redo_laws.specs.Calls.{Keeps, ReadsOne}
 use Rattle.image_meaning.specs.Moments.{LeavesTableUnder}
 use Rattle.log_records.specs.declared.log_record.LogRecord.{LogRecord}
 use Rattle.record_model.specs.State.{Content}

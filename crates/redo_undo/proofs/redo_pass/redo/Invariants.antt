@@ -6,12 +6,12 @@ use Rattle.log_records.specs.Log.{log_from}
 use Rattle.analysis.specs.Open.{owed_for}
 use Rattle.analysis.specs.Table.{listed}
 use Rattle.analysis.specs.Read as read
-use Rattle.redo_undo.specs.Holding.{blocks_to}
+use Rattle.redo_laws.specs.Holding.{blocks_to}
 use Rattle.redo_undo.specs.Redoing.{AsksAtRest, IsOpened, asked_of}
 use Rattle.redo_undo.proofs.TakenRecords.{IsUpTo}
 use Rattle.image_meaning.specs.Meaning.{kept_by, saved_by}
 use Rattle.checkpoint.specs.declared.master.Master.{Master}
-use Rattle.redo_undo.specs.Calls.{Keeps, KeepsInvariant}
+use Rattle.redo_laws.specs.Calls.{Keeps, KeepsInvariant}
 use Rattle.image_meaning.specs.Moments.{LeavesTableUnder}
 use Rattle.redo_undo.proofs.redo_pass.redo.Given as goal
 

@@ -10,8 +10,8 @@ use Rattle.buffer_pool.specs.Frames.{front_of}
 use Rattle.flash_cache.specs.declared.cache.FlashCache.{FlashCache}
 use Rattle.second_chance.specs.Machine.{rules_of}
 use Rattle.page_store.specs.Representation.{current}
-use Rattle.redo_undo.proofs.CallsInSequence.{some_group}
-use Rattle.redo_undo.proofs.Changed.{front_is_current}
+use Rattle.redo_laws.proofs.CallsInSequence.{some_group}
+use Rattle.redo_laws.proofs.Changed.{front_is_current}
 use Rattle.redo_undo.proofs.NextRecords.{page_exists, lsn_sealed, no_change, changed, front_knows}
 use Rattle.redo_undo.proofs.RedoWorks.{stops_first, asks_no_page, stops_in_touch, asks_known, asks_redone}
 use Rattle.redo_undo.proofs.Calling.{keeps_redoing, logs_answered, logs_nothing}

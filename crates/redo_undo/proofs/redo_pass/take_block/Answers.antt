@@ -2,7 +2,7 @@ use Rattle.log_records.proofs.Blocks.{some_octet}
 use Rattle.std.proofs.Common.{◌+◌, ◌*◌, ◌++◌, ◌∷◌, [], List, append-nil, refl, sym, subst, append_assoc, arith}
 use Rattle.log_records.specs.Log.{Entry, entries_from}
 use Rattle.redo_undo.specs.Redoing.{HasTaken}
-use Rattle.redo_undo.proofs.CallsInSequence.{some_group}
+use Rattle.redo_laws.proofs.CallsInSequence.{some_group}
 use Rattle.log_laws.proofs.BlockRecords.{next_of_log, past_one, none_there, past_all}
 use Rattle.redo_undo.proofs.TakenRecords.{part_begins}
 use Rattle.redo_undo.proofs.RedoWorks.{asks_more, asks_all, stops_within}

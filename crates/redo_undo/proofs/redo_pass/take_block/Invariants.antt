@@ -8,7 +8,7 @@ use Rattle.analysis.specs.Read as read
 use Rattle.redo_undo.specs.Redoing.{Opening, HasTaken, LeavesOpened}
 use Rattle.redo_undo.proofs.TakenRecords.{IsPartWay}
 use Rattle.image_meaning.specs.Meaning.{kept_by, saved_by}
-use Rattle.redo_undo.specs.Calls.{Keeps, LogsNothing}
+use Rattle.redo_laws.specs.Calls.{Keeps, LogsNothing}
 use Rattle.std.specs.Prelude.{Ok}
 use Rattle.redo_undo.proofs.redo_pass.take_block.Given as goal
 

@@ -3,12 +3,12 @@ use Rattle.site.specs.declared.outside.Dev.TheVariants.{Log}
 use Rattle.log_records.specs.declared.log_record.LogRecord.TheVariants.{Clr}
 use Rattle.log_records.specs.Log.{Entry}
 use Rattle.log_records.specs.Sound.{AreOrderly}
-use Rattle.redo_undo.specs.Holding.{Represents, MayGrow}
-use Rattle.redo_undo.proofs.CallsInSequence.{some_group}
+use Rattle.redo_laws.specs.Holding.{Represents, MayGrow}
+use Rattle.redo_laws.proofs.CallsInSequence.{some_group}
 use Rattle.redo_undo.proofs.Compensations.{may_moved}
-use Rattle.redo_undo.proofs.Appended.{if_ok_one}
+use Rattle.redo_laws.proofs.Appended.{if_ok_one}
 use Rattle.second_chance.specs.Machine.{rules_of}
-use Rattle.redo_undo.proofs.AskingUndo.{change_made, change_stopped}
+use Rattle.redo_laws.proofs.AskingUndo.{change_made, change_stopped}
 use Rattle.redo_undo.proofs.Calling.{keeps_failed, keeps_few, keeps_then, works_then}
 use Rattle.std.proofs.lemmas.Grind.{common_steps}
 use Rattle.redo_undo.proofs.undo.compensate.Goals as goal

@@ -1,7 +1,7 @@
 use Rattle.std.proofs.Common.{◌≡◌, ℕ, Err, true, true≢false, sym, ap, ◌∙◌, arith}
 use Rattle.log_records.specs.Log.{is_closing}
 use Rattle.log_laws.specs.UndoLaws.{next_by}
-use Rattle.redo_undo.proofs.CallsInSequence.{found_now}
+use Rattle.redo_laws.proofs.CallsInSequence.{found_now}
 use Rattle.redo_undo.proofs.Opens.{if_none}
 use Rattle.redo_undo.proofs.Lasts.{last_says, last_is_there, last_kept}
 use Rattle.redo_undo.proofs.undo.read_last.Goals as goal

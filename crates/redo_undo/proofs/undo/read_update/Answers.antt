@@ -2,7 +2,7 @@ use Rattle.std.proofs.Common.{Some, Err, sym, ap, ◌∙◌, arith}
 use Rattle.site.specs.declared.geometry.Geometry.{Geometry}
 use Rattle.log_records.specs.declared.log_record.LogRecord.TheVariants.{Update}
 use Rattle.image_meaning.specs.Meaning.{picture_under}
-use Rattle.redo_undo.proofs.CallsInSequence.{found_now}
+use Rattle.redo_laws.proofs.CallsInSequence.{found_now}
 use Rattle.redo_undo.proofs.Compensations.{to_undo, read_is, wanted_is, is_there, next_below, is_one, next_late}
 use Rattle.log_records.specs.Log.{number_of, before_of}
 use Rattle.redo_undo.proofs.LeftUpdates.{last_left_is}

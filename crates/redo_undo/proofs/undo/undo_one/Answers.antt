@@ -5,8 +5,8 @@ use Rattle.site.specs.declared.outside.Dev.TheVariants.{Log}
 use Rattle.site.specs.declared.outside.Stop.TheVariants.{Foreign}
 use Rattle.log_records.specs.declared.log_record.LogRecord.TheVariants.{End}
 use Rattle.log_records.specs.Unfinished.{left_open, owed}
-use Rattle.redo_undo.specs.Holding.{Represents, MayGrow, blocks_to}
-use Rattle.redo_undo.specs.Calls.{Keeps}
+use Rattle.redo_laws.specs.Holding.{Represents, MayGrow, blocks_to}
+use Rattle.redo_laws.specs.Calls.{Keeps}
 use Rattle.image_meaning.specs.Moments.{LeavesTableUnder}
 use Rattle.checkpoint.specs.declared.master.Master.{Master}
 use Rattle.record_model.specs.State.{Content}
@@ -18,15 +18,15 @@ use Rattle.page_store.specs.Caching.{cache_of, next_group}
 use Rattle.page_store.specs.Staging.{Stages}
 use Rattle.redo_undo.specs.Rollback.{AreClrsOf, Compensates}
 use Rattle.redo_undo.specs.Undoing.{IsAt}
-use Rattle.redo_undo.proofs.CallsInSequence.{going_still, some_group}
+use Rattle.redo_laws.proofs.CallsInSequence.{going_still, some_group}
 use Rattle.redo_undo.proofs.Rollbacks.{none_remains, room_for_end, may_end, owes_all, rolls_back}
 use Rattle.page_store.specs.Caching.{rules}
-use Rattle.redo_undo.specs.MachineSteps.{StepsMachine, undo_one_works}
-use Rattle.redo_undo.proofs.AskingUndo.{SameElse, log_alone, none_read, asks_refused, asks_later, asks_before}
+use Rattle.redo_laws.specs.MachineSteps.{StepsMachine, undo_one_works}
+use Rattle.redo_laws.proofs.AskingUndo.{SameElse, log_alone, none_read, asks_refused, asks_later, asks_before}
 use Rattle.redo_undo.proofs.Calling.{calls_read, held_read, keeps_answered, keeps_appended, keeps_failed, keeps_few, keeps_read, keeps_then, works_answered, works_appended, works_foreign, works_read, works_stopped, works_then}
 use Rattle.site.proofs.Working.{calls_then}
 use Rattle.page_store.proofs.StagingLaws.{stages_ok, stages_err, stages_none}
-use Rattle.redo_undo.proofs.Asking.{asks_err, stages_read, stages_log}
+use Rattle.redo_laws.proofs.Asking.{asks_err, stages_read, stages_log}
 use Rattle.redo_undo.proofs.undo.undo_one.Given.{Over}
 use Rattle.redo_undo.proofs.undo.undo_one.Goals.{After-undo_updates, In-Ok-undo_updates}
 use Rattle.redo_undo.proofs.undo.undo_one.Goals as goal

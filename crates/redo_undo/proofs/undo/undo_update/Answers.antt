@@ -3,14 +3,14 @@ use Rattle.site.specs.declared.geometry.Geometry.{Geometry}
 use Rattle.site.specs.State.{Image}
 use Rattle.log_records.specs.declared.log_record.LogRecord.TheVariants.{Clr}
 use Rattle.redo_undo.specs.Undoing.{IsWanted}
-use Rattle.redo_undo.proofs.CallsInSequence.{holds_still, going_still, some_group}
+use Rattle.redo_laws.proofs.CallsInSequence.{holds_still, going_still, some_group}
 use Rattle.redo_undo.proofs.Compensations.{may_compensate, room_for_clr, owes_less, undone}
 use Rattle.site.specs.declared.outside.Stop.TheVariants.{Foreign}
 use Rattle.page_store.specs.Caching.{rules}
-use Rattle.redo_undo.specs.UndoWorks.{works_of}
-use Rattle.redo_undo.proofs.AskingUndo.{log_alone, asks_refused, asks_of_update}
+use Rattle.redo_laws.specs.UndoWorks.{works_of}
+use Rattle.redo_laws.proofs.AskingUndo.{log_alone, asks_refused, asks_of_update}
 use Rattle.redo_undo.proofs.Calling.{calls_read, held_read, keeps_answered, keeps_failed, keeps_few, keeps_read, keeps_then, works_answered, works_read, works_then}
-use Rattle.redo_undo.proofs.Asking.{asks_err, asks_ok, stages_read}
+use Rattle.redo_laws.proofs.Asking.{asks_err, asks_ok, stages_read}
 use Rattle.std.proofs.lemmas.Grind.{common_steps}
 use Rattle.redo_undo.proofs.undo.undo_update.Goals as goal
 use Rattle.ring_machine.proofs.Performing.{performs_as, performs_answered, performs_failed, performs_refused}

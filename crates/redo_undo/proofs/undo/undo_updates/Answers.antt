@@ -1,13 +1,13 @@
 use Rattle.std.proofs.Common.{◌≡◌, List, [], ◌∷◌, ◌++◌, append-nil, refl, sym, ap, ◌∙◌, arith}
-use Rattle.redo_undo.specs.Holding.{blocks_to}
+use Rattle.redo_laws.specs.Holding.{blocks_to}
 use Rattle.redo_undo.specs.Rollback.{left_of}
-use Rattle.redo_undo.proofs.CallsInSequence.{some_group}
+use Rattle.redo_laws.proofs.CallsInSequence.{some_group}
 use Rattle.redo_undo.proofs.Rollbacks.{remains, none_remains}
 use Rattle.log_records.specs.Log.{Entry}
 use Rattle.log_records.specs.Unfinished.{left_open}
 use Rattle.page_store.specs.Caching.{rules}
 use Rattle.redo_undo.proofs.LeftUpdates.{first_of, none_of}
-use Rattle.redo_undo.proofs.AskingUndo.{more_work_stopped, all_work}
+use Rattle.redo_laws.proofs.AskingUndo.{more_work_stopped, all_work}
 use Rattle.redo_undo.proofs.UndoSoFar.{starts_asking, goes_on_asking}
 use Rattle.redo_undo.proofs.Calling.{keeps_answered, keeps_failed, keeps_few, keeps_nothing, keeps_then, works_answered, works_nothing, works_then}
 use Rattle.redo_undo.specs.Undoing.{IsAt}

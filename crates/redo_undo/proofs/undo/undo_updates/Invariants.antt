@@ -5,8 +5,8 @@ use Rattle.log_laws.specs.Analysis.{Unfinished, IsUnfinished}
 use Rattle.log_store.specs.Representation.{end_of}
 use Rattle.checkpoint.specs.declared.master.Master.{Master}
 use Rattle.image_meaning.specs.Moments.{LeavesTableUnder}
-use Rattle.redo_undo.specs.Holding.{Represents, blocks_to}
-use Rattle.redo_undo.specs.Calls.{KeepsInvariant, Keeps}
+use Rattle.redo_laws.specs.Holding.{Represents, blocks_to}
+use Rattle.redo_laws.specs.Calls.{KeepsInvariant, Keeps}
 use Rattle.std.specs.Prelude.{Ok, length}
 use Rattle.redo_undo.specs.Undoing.{IsAt}
 use Rattle.redo_undo.proofs.UndoSoFar.{AsksFor}

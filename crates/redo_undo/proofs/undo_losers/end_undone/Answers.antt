@@ -11,7 +11,7 @@ use Rattle.ring_machine.specs.Machine.{Work, logged}
 use Rattle.ring_machine.specs.Commands.{ends}
 use Rattle.ring_machine.proofs.Performing.{performs_as, performs_then, performs_stopped, performs_answered, performs_nothing}
 use Rattle.std.proofs.Common.{filter, length, ◌-◌, ap, ◌∙◌}
-use Rattle.redo_undo.specs.UndoingAll.{Remain}
+use Rattle.redo_laws.specs.UndoingAll.{Remain}
 use Rattle.redo_undo.proofs.Opens.{if_none}
 use Rattle.redo_undo.specs.Mirroring.{none_remains, ends_for}
 use Rattle.redo_undo.proofs.UndoneWork.{one_end, more_ends, takes_one, some_none, no_ends}

@@ -8,11 +8,11 @@ use Rattle.image_meaning.specs.Moments.{LeavesTableUnder}
 use Rattle.analysis.specs.Open.{owed_for}
 use Rattle.analysis.specs.Table.{listed}
 use Rattle.analysis.specs.Read as analysis
-use Rattle.redo_undo.specs.Holding.{Invariant, blocks_to}
-use Rattle.redo_undo.specs.UndoingAll.{IsUndoing}
-use Rattle.redo_undo.specs.UndoWorks.{UndoesUpdates}
+use Rattle.redo_laws.specs.Holding.{Invariant, blocks_to}
+use Rattle.redo_laws.specs.UndoingAll.{IsUndoing}
+use Rattle.redo_laws.specs.UndoWorks.{UndoesUpdates}
 use Rattle.redo_undo.proofs.UndoneWork.{EndsMade}
-use Rattle.redo_undo.specs.Calls.{Keeps, KeepsInvariantBeside}
+use Rattle.redo_laws.specs.Calls.{Keeps, KeepsInvariantBeside}
 use Rattle.std.specs.Prelude.{Ok}
 use Rattle.redo_undo.proofs.undo_losers.end_undone.Given as goal
 

@@ -3,24 +3,24 @@ use Rattle.std.specs.Prelude.{⊤, Option, option_map}
 use Rattle.site.proofs.Working.{no_error}
 use Rattle.std.specs.List.{AllByRecursion}
 use Rattle.analysis.specs.Table.{listed}
-use Rattle.redo_undo.proofs.CallsInSequence.{some_group}
+use Rattle.redo_laws.proofs.CallsInSequence.{some_group}
 use Rattle.redo_undo.proofs.Opens.{none_listed, if_none, some_owed}
 use Rattle.image_meaning.specs.Meaning.{kept_by}
 use Rattle.redo_undo.proofs.Found.{order, all_undone, sealed_up_to, own_known}
 use Rattle.site.specs.declared.outside.Dev.TheVariants.{Log}
-use Rattle.redo_undo.specs.MachineSteps.{undo_works}
+use Rattle.redo_laws.specs.MachineSteps.{undo_works}
 use Rattle.page_store.proofs.StagingLaws.{stages_ok, stages_err}
-use Rattle.redo_undo.proofs.Asking.{asks_nothing, stages_log}
-use Rattle.redo_undo.proofs.AskingUndo.{none_read, asks_refused}
+use Rattle.redo_laws.proofs.Asking.{asks_nothing, stages_log}
+use Rattle.redo_laws.proofs.AskingUndo.{none_read, asks_refused}
 use Rattle.checkpoint.specs.declared.master.Master.{Master}
 use Rattle.record_model.specs.State.{Content}
 use Rattle.log_records.specs.Log.{Entry, txn_of, last_where}
 use Rattle.log_records.specs.Unfinished.{pending}
 use Rattle.analysis.specs.Read.{IsTable}
 use Rattle.log_store.specs.Representation.{has_tail}
-use Rattle.redo_undo.specs.Holding.{Represents}
+use Rattle.redo_laws.specs.Holding.{Represents}
 use Rattle.redo_undo.proofs.UndoneUpdates.{AsksUpdates, next_is_last, none_is_next, updates_asked_more, updates_asked_stopped, updates_asked, reads_stopped, reads_asked}
-use Rattle.redo_undo.specs.UndoingAll.{IsUndoing}
+use Rattle.redo_laws.specs.UndoingAll.{IsUndoing}
 use Rattle.redo_undo.proofs.Calling.{keeps_answered, keeps_failed, keeps_few, keeps_then, works_answered, works_beside, works_stopped, works_then}
 use Rattle.redo_undo.proofs.undo_losers.undo_all.Given.{Over}
 use Rattle.redo_undo.proofs.undo_losers.undo_all.Goals.{After-end_undone, After-next_undo}

@@ -7,11 +7,11 @@ use Rattle.image_meaning.specs.Moments.{LeavesTableUnder}
 use Rattle.analysis.specs.Open.{owed_for}
 use Rattle.analysis.specs.Table.{listed}
 use Rattle.analysis.specs.Read as analysis
-use Rattle.redo_undo.specs.Holding.{Represents, blocks_to}
-use Rattle.redo_undo.specs.UndoingAll.{Remain}
+use Rattle.redo_laws.specs.Holding.{Represents, blocks_to}
+use Rattle.redo_laws.specs.UndoingAll.{Remain}
 use Rattle.redo_undo.proofs.UndoneUpdates.{AsksUpdates}
 use Rattle.analysis.specs.Read.{IsTable}
-use Rattle.redo_undo.specs.Calls.{Keeps, KeepsInvariant}
+use Rattle.redo_laws.specs.Calls.{Keeps, KeepsInvariant}
 use Rattle.std.specs.Prelude.{Ok}
 use Rattle.redo_undo.proofs.undo_losers.undo_all.Given as goal
 

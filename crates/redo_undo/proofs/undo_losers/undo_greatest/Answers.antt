@@ -2,8 +2,8 @@ use Rattle.std.proofs.Common.{◌*◌, refl, [], ◌∷◌}
 use Rattle.log_laws.specs.Analysis.{Unfinished}
 use Rattle.image_meaning.specs.Meaning.{kept_by}
 use Rattle.redo_undo.proofs.Found.{order, unfinished_loser, each_remains}
-use Rattle.redo_undo.specs.UndoWorks.{works_of}
-use Rattle.redo_undo.proofs.Asking.{asks_err, asks_ok}
+use Rattle.redo_laws.specs.UndoWorks.{works_of}
+use Rattle.redo_laws.proofs.Asking.{asks_err, asks_ok}
 use Rattle.redo_undo.proofs.UndoneUpdates.{last_is_left, clr_updates}
 use Rattle.redo_undo.proofs.Calling.{keeps_answered, keeps_failed}
 use Rattle.redo_undo.proofs.undo_losers.undo_greatest.Goals as goal

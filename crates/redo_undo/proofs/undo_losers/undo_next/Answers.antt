@@ -1,17 +1,17 @@
 use Rattle.std.proofs.Common.{◌≢◌, ◌++◌, [], ◌∷◌, refl, drop, sym, subst, arith, ℕ}
 use Rattle.analysis.specs.Open.{Open, Replaces, TakesOut}
 use Rattle.analysis.specs.Table.{listed}
-use Rattle.redo_undo.specs.UndoingAll.{Remain, HasNone}
-use Rattle.redo_undo.proofs.CallsInSequence.{some_group}
-use Rattle.redo_undo.proofs.Appended.{if_ok_one}
+use Rattle.redo_laws.specs.UndoingAll.{Remain, HasNone}
+use Rattle.redo_laws.proofs.CallsInSequence.{some_group}
+use Rattle.redo_laws.proofs.Appended.{if_ok_one}
 use Rattle.redo_undo.proofs.Opens.{still_remain, none_remains_of, others_remain}
 use Rattle.redo_undo.proofs.Found.{last_known}
 use Rattle.site.specs.declared.outside.Dev.TheVariants.{Flash}
 use Rattle.site.specs.declared.outside.Stop.TheVariants.{Foreign, Worn}
-use Rattle.redo_undo.specs.UndoWorks.{works_of, IsLastAt, UndoesUpdates}
+use Rattle.redo_laws.specs.UndoWorks.{works_of, IsLastAt, UndoesUpdates}
 use Rattle.page_store.proofs.StagingLaws.{stages_none}
-use Rattle.redo_undo.proofs.Asking.{stages_log}
-use Rattle.redo_undo.proofs.AskingUndo.{none_read, not_worn_either, asks_refused, asks_before}
+use Rattle.redo_laws.proofs.Asking.{stages_log}
+use Rattle.redo_laws.proofs.AskingUndo.{none_read, not_worn_either, asks_refused, asks_before}
 use Rattle.redo_undo.proofs.UndoneUpdates.{more_updates}
 use Rattle.redo_undo.proofs.Opens.{some_owed}
 use Rattle.redo_undo.proofs.Calling.{keeps_few, keeps_then, ends_stop, works_beside, works_then}
@@ -23,7 +23,7 @@ use Rattle.std.proofs.Common.{List, ◌≡◌, ◌∙◌, ap, not, reverse, leng
 use Rattle.std.specs.Prelude.{if◌then◌else◌}
 use Rattle.std.specs.List.{list_any}
 use Rattle.analysis.specs.Open.{found_in}
-use Rattle.redo_undo.specs.UndoingAll.{IsUndoing}
+use Rattle.redo_laws.specs.UndoingAll.{IsUndoing}
 use Rattle.redo_undo.specs.Mirroring.{none_remains}
 use Rattle.redo_undo.proofs.Opens.{left_then}
 use Rattle.record_model.specs.State.{Content}

@@ -1,4 +1,4 @@
-use Rattle.redo_undo.proofs.Costs.{works_add_up, reads_add_up, reads_for_more, numbers_rise}
+use Rattle.redo_laws.proofs.Costs.{works_add_up, reads_add_up, reads_for_more, numbers_rise}
 use Rattle.redo_undo.proofs.work_laws.works_add_up.Goals as goal
 
 pub returns-clause-works : goal.returns-clause-works

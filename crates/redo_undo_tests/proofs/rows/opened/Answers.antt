@@ -2,8 +2,8 @@ use Rattle.std.proofs.Common.{◌≡◌, ap, sym, ◌∙◌, arith, Bool, ℕ}
 use Rattle.std.specs.Prelude.{if◌then◌else◌}
 use Rattle.log_store.specs.Representation.{has_tail}
 use Rattle.page_store.proofs.Versions.{pages_later}
-use Rattle.redo_undo.specs.Holding.{Invariant}
-use Rattle.redo_undo.proofs.Forced.{none_now}
+use Rattle.redo_laws.specs.Holding.{Invariant}
+use Rattle.redo_laws.proofs.Forced.{none_now}
 use Rattle.redo_undo_tests.proofs.rows.opened.Goals as goal
 
 pub returns : goal.returns

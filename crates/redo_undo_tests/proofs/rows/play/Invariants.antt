@@ -1,6 +1,6 @@
 use Rattle.site.specs.MemState.{state_of}
 use Rattle.analysis.specs.Read as analysis
-use Rattle.redo_undo.specs.Holding.{Invariant}
+use Rattle.redo_laws.specs.Holding.{Invariant}
 use Rattle.redo_undo_tests.proofs.rows.play.Given as goal
 
 abbrev pub invariant-loop-place : goal.invariant-loop-place

@@ -4,7 +4,7 @@ use Rattle.site.specs.MemState.{state_of}
 use Rattle.log_store.specs.declared.store.LogStore.{LogStore}
 use Rattle.log_store.specs.Representation.{has_tail}
 use Rattle.page_store.proofs.Versions.{pages_later}
-use Rattle.redo_undo.proofs.Forced.{none_now}
+use Rattle.redo_laws.proofs.Forced.{none_now}
 use Rattle.redo_undo_tests.proofs.tests.opened.Goals as goal
 
 pub returns-clause-going : goal.returns-clause-going

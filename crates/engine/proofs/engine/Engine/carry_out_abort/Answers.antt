@@ -1,7 +1,7 @@
 use Rattle.engine.specs.LogReads.{undo_reads}
 use Rattle.record_model.specs.State.{Session, writes_of}
 use Rattle.record_model.specs.Touches.{write_touch, CacheWork}
-use Rattle.redo_undo.proofs.Asking.{asks_same, asks_ok, asks_err}
+use Rattle.redo_laws.proofs.Asking.{asks_same, asks_ok, asks_err}
 use Rattle.std.proofs.Common.{refl, sym, arith, ap, Option, Some, List, map, reverse, length}
 use Rattle.site.specs.Laws.{stays_honest}
 use Rattle.engine.specs.declared.engine.Engine.{Engine}

@@ -3,9 +3,9 @@ use Rattle.std.proofs.Common.{Err, ◌≤◌, ◌+◌, List, refl, sym, subst, a
 use Rattle.site.specs.Laws.{stays_honest}
 use Rattle.checkpoint.specs.declared.pairs.Pair.{Pair}
 use Rattle.image_meaning.specs.Flushed.{first_block}
-use Rattle.redo_undo.specs.Holding as both
-use Rattle.redo_undo.specs.Holding.{blocks_to}
-use Rattle.redo_undo.specs.Checkpointing.{MayBeMade, begins_of}
+use Rattle.redo_laws.specs.Holding as both
+use Rattle.redo_laws.specs.Holding.{blocks_to}
+use Rattle.redo_laws.specs.Checkpointing.{MayBeMade, begins_of}
 use Rattle.engine.specs.Invariant.{sizes_of}
 use Rattle.redo_undo.specs.Stores.{HasCheckpoint}
 use Rattle.engine.specs.Leaves.{LeavesTable}
@@ -16,8 +16,8 @@ use Rattle.engine.proofs.Calling.{does_of}
 use Rattle.redo_undo.proofs.NextUnits.{next_answered}
 use Rattle.site.proofs.Working.{calls_answered}
 use Rattle.redo_undo.proofs.StoreCalling.{keeps_answered, keeps_failed}
-use Rattle.redo_undo.specs.MachineSteps.{checkpoint_works}
-use Rattle.redo_undo.proofs.Asking.{asks_ok}
+use Rattle.redo_laws.specs.MachineSteps.{checkpoint_works}
+use Rattle.redo_laws.proofs.Asking.{asks_ok}
 use Rattle.engine.proofs.engine.Engine.carry_out_checkpoint.Goals as goal
 use Rattle.ring_machine.proofs.Performing.{performs_answered}
 

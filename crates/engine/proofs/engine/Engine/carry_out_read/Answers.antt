@@ -1,5 +1,5 @@
-use Rattle.redo_undo.specs.MachineSteps.{one_touch}
-use Rattle.redo_undo.proofs.Asking.{asks_ok}
+use Rattle.redo_laws.specs.MachineSteps.{one_touch}
+use Rattle.redo_laws.proofs.Asking.{asks_ok}
 use Rattle.std.proofs.Common.{◌≡◌, ◌*◌, ◌<◌, None, Some, refl, sym, ap, ◌∙◌, arith, ◌/◌, rules}
 use Rattle.site.specs.declared.geometry.Geometry.{Geometry}
 use Rattle.site.specs.Laws.{stays_honest}

@@ -14,7 +14,7 @@ use Rattle.engine.specs.Calls.{Does}
 use Rattle.engine.proofs.Asking.{scan_more, scan_stops, has_group}
 use Rattle.engine.proofs.Scans.{free_at, still_busy, reads_none, reads_more, range_more, items_next}
 use Rattle.engine.proofs.Calling.{does_nothing, does_answered, does_failed, does_then, does_no_memory, late_table, serves_nothing, serves_answered, serves_then, serves_failed, serves_no_memory, still}
-use Rattle.redo_undo.proofs.Asking.{asks_same, asks_ok, asks_fails, no_asks}
+use Rattle.redo_laws.proofs.Asking.{asks_same, asks_ok, asks_fails, no_asks}
 use Rattle.engine.proofs.engine.Engine.carry_out_scan.Goals as goal
 use Rattle.std.proofs.Common.{ap, sym, flat_map}
 use Rattle.ring_machine.specs.Commands.{reads}

@@ -8,7 +8,7 @@ use Rattle.engine.specs.Representation.{Matches, with_reads}
 use Rattle.engine.specs.Leaves.{LeavesTable}
 use Rattle.engine.specs.Scans.{items_seen}
 use Rattle.record_model.specs.Touches.{read_touch}
-use Rattle.redo_undo.specs.MachineSteps.{StepsMachine}
+use Rattle.redo_laws.specs.MachineSteps.{StepsMachine}
 use Rattle.engine.specs.Calls.{KeepsUnread, Does}
 use Rattle.engine.proofs.engine.Engine.carry_out_scan.Given as goal
 use Rattle.std.specs.Prelude.{flat_map}

@@ -1,4 +1,4 @@
-use Rattle.redo_undo.specs.MachineSteps.{one_change}
+use Rattle.redo_laws.specs.MachineSteps.{one_change}
 use Rattle.std.proofs.Common.{◌≡◌, ◌∷◌, sym, ap, ◌∙◌, arith, ◌/◌, []}
 use Rattle.site.specs.Laws.{stays_honest}
 use Rattle.record_model.specs.Step.{making, committed}
@@ -8,7 +8,7 @@ use Rattle.engine.specs.Invariant.{sizes_of}
 use Rattle.engine.proofs.Settings.{may_commit_one, set_fits}
 use Rattle.engine.proofs.Calling.{early, late_commit, serves_still, serves_stopped, does_of}
 use Rattle.redo_undo.proofs.StoreCalling.{works_then, keeps_then, keeps_weaker, keeps_failed}
-use Rattle.redo_undo.proofs.Asking.{asks_then}
+use Rattle.redo_laws.proofs.Asking.{asks_then}
 use Rattle.engine.proofs.engine.Engine.carry_out_set.Goals as goal
 use Rattle.ring_machine.specs.Commands.{commits as commits_work}
 use Rattle.ring_machine.proofs.Performing.{performs_stopped}

@@ -12,14 +12,14 @@ use Rattle.engine.specs.declared.engine.Engine.{Engine}
 use Rattle.engine.specs.Invariant.{sizes_of}
 use Rattle.redo_undo.specs.Stores.{shown_in}
 use Rattle.engine.specs.Representation.{Matches}
-use Rattle.redo_undo.specs.Holding.{blocks_to}
+use Rattle.redo_laws.specs.Holding.{blocks_to}
 use Rattle.txn_table.proofs.Owing.{entry_is, owes}
 use Rattle.engine.proofs.Writes.{touched_fits, may_write, write_fits}
 use Rattle.txn_table.proofs.DistinctBegins.{below_wrote, apart_wrote}
 use Rattle.engine.proofs.Calling.{does_of, serves_of, serves_stopped}
 use Rattle.redo_undo.proofs.StoreCalling.{works_then, works_answered, keeps_failed, keeps_answered, keeps_both, keeps_no_memory}
 use Rattle.std.specs.Prelude.{Err}
-use Rattle.redo_undo.proofs.AskingUndo.{change_made}
+use Rattle.redo_laws.proofs.AskingUndo.{change_made}
 use Rattle.page_store.proofs.StagingLaws.{stages_err, stages_ok}
 use Rattle.engine.proofs.engine.Engine.carry_out_write.Goals as goal
 use Rattle.std.proofs.Common.{ap}

@@ -1,5 +1,5 @@
 use Rattle.std.proofs.Common.{refl, arith}
-use Rattle.redo_undo.proofs.Asking.{asks_ok, asks_err}
+use Rattle.redo_laws.proofs.Asking.{asks_ok, asks_err}
 use Rattle.engine.proofs.Calling.{does_answered, does_failed}
 use Rattle.engine.proofs.engine.Engine.checkpoint.Goals as goal
 use Rattle.ring_machine.proofs.Performing.{performs_answered, performs_failed}

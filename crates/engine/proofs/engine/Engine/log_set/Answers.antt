@@ -1,14 +1,14 @@
 use Rattle.site.specs.declared.outside.Dev.TheVariants.{Log}
-use Rattle.redo_undo.specs.MachineSteps.{one_change}
+use Rattle.redo_laws.specs.MachineSteps.{one_change}
 use Rattle.engine.proofs.Asking.{has_group, store_has_group, change_ok}
 use Rattle.std.proofs.Common.{◌++◌, ◌∷◌, [], ◌∙◌, arith, ◌/◌, rules}
 use Rattle.record_model.specs.State.{content_at, Content}
 use Rattle.redo_undo.specs.Stores.{shown_in}
 use Rattle.redo_undo.proofs.StoreCalling.{works_then, works_answered, keeps_both, keeps_before, keeps_answered}
 use Rattle.engine.proofs.Settings.{begin_at, may_begin, may_update, one_write}
-use Rattle.redo_undo.proofs.Asking.{asks_then, asks_stopped}
+use Rattle.redo_laws.proofs.Asking.{asks_then, asks_stopped}
 use Rattle.std.specs.Prelude.{Err}
-use Rattle.redo_undo.proofs.AskingUndo.{change_stopped, change_made}
+use Rattle.redo_laws.proofs.AskingUndo.{change_stopped, change_made}
 use Rattle.page_store.proofs.StagingLaws.{stages_err, stages_ok}
 use Rattle.engine.proofs.engine.Engine.log_set.Goals as goal
 use Rattle.std.proofs.Common.{ap}

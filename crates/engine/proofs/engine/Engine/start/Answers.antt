@@ -2,7 +2,7 @@ use Rattle.engine.proofs.Asking.{from_other, from_other_fails}
 use Rattle.std.proofs.Common.{◌∙◌, refl, ap, rules}
 use Rattle.site.specs.Laws.{stays_honest}
 use Rattle.site.specs.declared.geometry.Geometry.{Geometry}
-use Rattle.redo_undo.proofs.Endings.{ends_failed, ends_answered, ends_no_memory}
+use Rattle.redo_laws.proofs.Endings.{ends_failed, ends_answered, ends_no_memory}
 use Rattle.engine.proofs.Starts.{started}
 use Rattle.engine.proofs.RestartedUnits.{next_as, next_at_end, next_no_memory}
 use Rattle.engine.proofs.RingCounts.{restart_again, restart_stopped, restart_answered}

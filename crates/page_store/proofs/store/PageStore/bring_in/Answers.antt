@@ -10,11 +10,12 @@ use Rattle.second_chance.specs.Machine.{Cache}
 use Rattle.log_store.specs.LogList.{sealed_if}
 use Rattle.image_meaning.specs.Beside.{AreRingsSoundUnder}
 use Rattle.second_chance.specs.Machine.{Staged}
+use Rattle.write_ahead.specs.Forcing.{forces}
 use Rattle.page_store.specs.Caching.{cache_of, next_group, is_full, rules as rules_for}
 use Rattle.page_store.specs.Staging.{staged_by_eviction}
 use Rattle.page_store.proofs.Numbers.{way_next}
 use Rattle.page_store.specs.Representation.{current}
-use Rattle.page_store.specs.Ahead.{AreSealed, forces, pushed_for_room}
+use Rattle.page_store.specs.Ahead.{AreSealed, pushed_for_room}
 use Rattle.page_store.specs.Changing.{room_changes}
 use Rattle.page_store.specs.Leaves.{LeavesPages}
 use Rattle.image_changes.proofs.Counting.{calls_then as counts_then, calls_unchanged}

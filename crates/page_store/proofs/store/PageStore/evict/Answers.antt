@@ -6,10 +6,11 @@ use Rattle.buffer_pool.specs.Frames.{State as Pool, AreDistinct, frame_of}
 use Rattle.second_chance.specs.Machine.{Cache, evict_coldest, rules_of, staged_in_eviction, staged_in_push}
 use Rattle.flash_cache.specs.declared.cache.FlashCache.{FlashCache}
 use Rattle.site.proofs.Working.{ok_as, calls_nothing, no_error}
+use Rattle.write_ahead.specs.Forcing.{end_forced, forces}
 use Rattle.page_store.specs.declared.store.PageStore.{PageStore}
 use Rattle.page_store.specs.Representation.{IsStore, Invariant}
 use Rattle.page_store.specs.Caching.{pool_page, cache_of, rules as rules_for}
-use Rattle.page_store.specs.Ahead.{end_forced, forces, evicted}
+use Rattle.page_store.specs.Ahead.{evicted}
 use Rattle.page_store.specs.Changing.{given_changes, eviction_changes}
 use Rattle.page_store.specs.Leaves.{AreReady}
 use Rattle.flash_cache.specs.Pushed.{known_pushed, pushed_queue}

@@ -2,8 +2,9 @@ use Rattle.std.proofs.Common.{rules, ◌+◌, ◌≡◌, true, false, ◌&&◌, 
 use Rattle.std.specs.Prelude.{nat_le}
 use Rattle.std.proofs.lemmas.Bool.Decides.{nat_tests}
 use Rattle.site.proofs.Working.{ok_as}
+use Rattle.write_ahead.specs.Forcing.{forces}
 use Rattle.page_store.specs.Caching.{cache_of, is_pushed}
-use Rattle.page_store.specs.Ahead.{forces, evicted, pushed_for_room}
+use Rattle.page_store.specs.Ahead.{evicted, pushed_for_room}
 use Rattle.page_store.specs.Changing.{eviction_changes, room_changes}
 use Rattle.page_store.specs.Calls.{Stands}
 use Rattle.site.specs.State.{Image}

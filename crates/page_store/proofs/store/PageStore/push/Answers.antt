@@ -13,12 +13,12 @@ use Rattle.flash_cache.specs.Kept.{GivesVersions}
 use Rattle.log_store.specs.Representation.{HasBlocks, LeavesLog}
 use Rattle.image_changes.specs.Changes.{Reaches, Change}
 use Rattle.image_changes.specs.Reached.{LeavesFront}
+use Rattle.write_ahead.specs.Forcing.{IsLogged, end_forced, forces, IsLogAtEnd}
 use Rattle.page_store.specs.declared.store.PageStore.{PageStore}
 use Rattle.buffer_pool.specs.declared.frame.Frame.{Frame}
-use Rattle.page_store.specs.Ahead.{IsLogged, LeavesSealed, end_forced, sealed_end, forces}
+use Rattle.page_store.specs.Ahead.{LeavesSealed, sealed_end}
 use Rattle.page_store.specs.Calls.{StandsGiven}
 use Rattle.page_store.specs.Leaves.{AreReady, LeavesPages, LeavesRings}
-use Rattle.page_store.specs.Stopping.{IsLogAtEnd}
 use Rattle.second_chance.specs.Queue.{Queue}
 use Rattle.page_store.proofs.Rings.{sealing_keeps, sound_pushed, pushing_keeps, rings_front}
 use Rattle.page_store.proofs.PushLaws.{version_same, group_changes_since, kept_where, masters_kept, own_sealing, force_leaves, force_sealed, between, Pushed, pushed, pushed_now, pushed_pages, push_leaves, pushed_sealed, reached_all, clean_given_same, gives_since, ok_under, ok_seven, fits_behind, log_fits, log_found, log_units_same}

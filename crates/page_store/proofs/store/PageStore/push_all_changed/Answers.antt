@@ -8,9 +8,9 @@ use Rattle.second_chance.specs.Machine.{Rules, rules_of, Cache, push_changed, fl
 use Rattle.second_chance.specs.Laws.{changed_count}
 use Rattle.log_store.specs.LogList.{LogList, sealed_if}
 use Rattle.log_store.specs.Representation.{has_tail}
+use Rattle.write_ahead.specs.Forcing.{forces, is_unsealed, end_now}
 use Rattle.page_store.specs.declared.store.PageStore.{PageStore}
 use Rattle.page_store.specs.Caching.{next_group, cache_of, rules as rules_for}
-use Rattle.page_store.specs.Ahead.{forces, is_unsealed, end_now}
 use Rattle.buffer_pool.specs.declared.frame.Frame.{Frame}
 use Rattle.page_store.specs.Flushing.{cleared_all, saved_next, flushed_first, flushed_contents, changed_frames}
 use Rattle.page_store.specs.Leaves.{AreReady}

@@ -3,8 +3,8 @@ use Rattle.std.specs.Prelude.{nat_lt, ◌||◌, ◌^◌}
 use Rattle.second_chance.specs.Machine.{flushed, wants_flush}
 use Rattle.second_chance.specs.Laws.{changed_count}
 use Rattle.log_store.specs.LogList.{LogList}
+use Rattle.write_ahead.specs.Forcing.{forces}
 use Rattle.page_store.specs.Caching.{next_group, cache_of, rules}
-use Rattle.page_store.specs.Ahead.{forces}
 use Rattle.buffer_pool.specs.declared.frame.Frame.{Frame}
 use Rattle.page_store.specs.Flushing.{changed_frames, flushed_contents}
 use Rattle.page_store.specs.Leaves.{AreReady}

@@ -8,12 +8,13 @@ use Rattle.buffer_pool.specs.Frames.{State as Pool, IsPool, frame_of}
 use Rattle.second_chance.specs.Machine.{Cache, chance_frame}
 use Rattle.second_chance.specs.declared.frame.Frame.{Frame as Known}
 use Rattle.flash_cache.specs.Pushed.{chance_marks, pushed_queue}
+use Rattle.write_ahead.specs.Forcing.{IsLogged, end_forced, forces}
 use Rattle.page_store.specs.Leaves.{Gives}
 use Rattle.second_chance.specs.Plans.{Placed}
 use Rattle.page_store.specs.declared.store.PageStore.{PageStore}
 use Rattle.page_store.specs.Representation.{IsPage, AreTold}
 use Rattle.page_store.specs.Caching.{pool_page, cache_of, rules as rules_for}
-use Rattle.page_store.specs.Ahead.{IsLogged, AreLogged, end_forced, forces}
+use Rattle.page_store.specs.Ahead.{AreLogged}
 use Rattle.page_store.specs.Calls.{Pushes, Stands}
 use Rattle.page_store.specs.Changing.{standing, push_changes}
 use Rattle.page_store.specs.Pulling.{room_for_pages}

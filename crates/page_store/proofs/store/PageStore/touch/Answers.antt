@@ -7,10 +7,11 @@ use Rattle.buffer_pool.specs.declared.frame.Frame.{Frame}
 use Rattle.buffer_pool.specs.Frames.{State as Pool, frame_of, front_of}
 use Rattle.second_chance.specs.Queue.{has_frame}
 use Rattle.second_chance.specs.Machine.{Cache, in_front, misses, finds}
+use Rattle.write_ahead.specs.Forcing.{IsLogged, end_forced, forces}
 use Rattle.page_store.specs.Representation.{IsPage}
 use Rattle.site.specs.State.{State}
 use Rattle.page_store.specs.Caching.{pushes, pool_page, rules as rules_for, cache_of, with_way}
-use Rattle.page_store.specs.Ahead.{IsLogged, end_forced, forces, pushed_for_room, pushed_by_touch}
+use Rattle.page_store.specs.Ahead.{pushed_for_room, pushed_by_touch}
 use Rattle.page_store.proofs.Pools.{touched_held}
 use Rattle.page_store.proofs.Touching.{way, pushed_same, pushes_same, finds_same, misses_same, not_there, count_if, other_count, nothing_forced, nothing_pushed, nothing_staged, all_touched, order_fits, order_current, pool_going, changes_same, nothing_changes, room_staged, room_next}
 use Rattle.page_store.proofs.NextUnits.{next_nothing}

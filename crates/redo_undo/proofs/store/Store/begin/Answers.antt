@@ -1,8 +1,8 @@
 use Rattle.std.proofs.Common.{refl, ℕ, ◌+◌, rules}
 use Rattle.image_meaning.proofs.Leaving.{under_leaves_for}
 use Rattle.page_store.proofs.StagingLaws.{stages_ok, stages_err}
-use Rattle.redo_undo.proofs.Asking.{asks_nothing, stages_log}
-use Rattle.redo_undo.proofs.AskingFlush.{never_worn_flash}
+use Rattle.redo_laws.proofs.Asking.{asks_nothing, stages_log}
+use Rattle.redo_laws.proofs.AskingFlush.{never_worn_flash}
 use Rattle.redo_undo.proofs.Calling.{keeps_appended, log_stops}
 use Rattle.site.proofs.Working.{no_error}
 use Rattle.page_store.proofs.NextUnits.{next_logged}

@@ -1,11 +1,11 @@
 use Rattle.std.proofs.Common.{◌≡◌, ◌-◌, Err, refl, ap, arith, ◌≤◌, ◌∙◌}
 use Rattle.site.specs.declared.outside.Dev.TheVariants.{Log}
 use Rattle.page_store.specs.Caching.{rules}
-use Rattle.redo_undo.specs.MachineSteps.{checkpoint_works}
-use Rattle.redo_undo.proofs.AskingUndo.{asks_refused, log_alone}
+use Rattle.redo_laws.specs.MachineSteps.{checkpoint_works}
+use Rattle.redo_laws.proofs.AskingUndo.{asks_refused, log_alone}
 use Rattle.page_store.proofs.StagingLaws.{stages_ok, stages_err, stages_beside}
-use Rattle.redo_undo.proofs.Asking.{stages_log}
-use Rattle.redo_undo.proofs.AskingFlush.{never_worn_flash, asks_around, flush_then}
+use Rattle.redo_laws.proofs.Asking.{stages_log}
+use Rattle.redo_laws.proofs.AskingFlush.{never_worn_flash, asks_around, flush_then}
 use Rattle.redo_undo.proofs.Saved.{may_still}
 use Rattle.redo_undo.proofs.Calling.{log_stops, keeps_answered, keeps_failed, keeps_appended, keeps_saved, keeps_then, keeps_unsaved}
 use Rattle.redo_undo.proofs.StoreCalling.{keeps_of}
@@ -29,13 +29,13 @@ use Rattle.log_records.specs.Log.{Entry}
 use Rattle.log_store.specs.declared.store.LogStore.{LogStore}
 use Rattle.page_store.specs.Representation.{current}
 use Rattle.checkpoint.specs.declared.master.Master.{Master}
-use Rattle.redo_undo.specs.Holding as both
+use Rattle.redo_laws.specs.Holding as both
 use Rattle.redo_undo.specs.Mirroring.{MirrorsStore}
 use Rattle.record_model.specs.Touches.{flush}
 use Rattle.ring_machine.proofs.Performing.{performs_by, performs_then, performs_stopped}
 use Rattle.redo_undo.proofs.Mirroring.{numbers_left}
 use Rattle.redo_undo.proofs.MirroringStores.{store_performs, save_performs}
-use Rattle.redo_undo.proofs.Appended.{current_same}
+use Rattle.redo_laws.proofs.Appended.{current_same}
 use Rattle.site.proofs.Working.{err_again}
 
 pub returns-in-Ok-save_master-clause-checkpoint : goal.returns-in-Ok-save_master-clause-checkpoint

@@ -13,10 +13,10 @@ use Rattle.image_changes.specs.Rings.{Masters, KeepsUnits, master_shape}
 use Rattle.image_changes.specs.Costs.{CallsForUnits}
 use Rattle.image_meaning.specs.Meaning.{kept_by, versions_on, master_of}
 use Rattle.image_meaning.proofs.Leaving.{under_leaves_either_for}
-use Rattle.redo_undo.specs.Holding.{IsLogWorn, blocks_to}
+use Rattle.redo_laws.specs.Holding.{IsLogWorn, blocks_to}
 use Rattle.page_store.proofs.StagingLaws.{stages_err, stages_then}
-use Rattle.redo_undo.proofs.Asking.{asks_nothing, stages_log, stages_alone}
-use Rattle.redo_undo.proofs.AskingFlush.{never_worn_flash}
+use Rattle.redo_laws.proofs.Asking.{asks_nothing, stages_log, stages_alone}
+use Rattle.redo_laws.proofs.AskingFlush.{never_worn_flash}
 use Rattle.redo_undo.proofs.Calling.{appends_foreign, keeps_appended, log_stops}
 use Rattle.site.proofs.Working.{no_error}
 use Rattle.site.specs.Laws.{stays_honest, changes_in_sequence}
@@ -24,14 +24,14 @@ use Rattle.log_store.proofs.NextBlocks as blocks
 use Rattle.page_store.proofs.NextUnits.{next_logged}
 use Rattle.redo_undo.specs.StoreCalls.{KeepsNext}
 use Rattle.redo_undo.proofs.NextUnits.{store_next}
-use Rattle.redo_undo.proofs.Committed.{leaves_either, rings_then, sealed_then, commit_holds, before_only, either_after}
-use Rattle.redo_undo.proofs.Forced.{seals_only}
-use Rattle.redo_undo.proofs.LeftNumbers.{log_skips, log_calls, ready_next, same_at_most}
-use Rattle.redo_undo.proofs.Orderlies.{ends_orderly}
-use Rattle.redo_undo.proofs.RingNumbers.{then_skips, skips_on}
+use Rattle.redo_laws.proofs.Committed.{leaves_either, rings_then, sealed_then, commit_holds, before_only, either_after}
+use Rattle.redo_laws.proofs.Forced.{seals_only}
+use Rattle.redo_laws.proofs.LeftNumbers.{log_skips, log_calls, ready_next, same_at_most}
+use Rattle.redo_laws.proofs.Orderlies.{ends_orderly}
+use Rattle.redo_laws.proofs.RingNumbers.{then_skips, skips_on}
 use Rattle.redo_undo.proofs.Saved.{finds_kept}
 use Rattle.redo_undo.proofs.StoreCalling.{keeps_of, keeps_ok}
-use Rattle.redo_undo.proofs.WornLogs.{log_at_end}
+use Rattle.redo_laws.proofs.WornLogs.{log_at_end}
 use Rattle.redo_undo.proofs.store.Store.commit.Given.{Over}
 use Rattle.redo_undo.proofs.store.Store.commit.Goals.{After-force}
 use Rattle.site.specs.Moments.{ChangesOnly, LeavesOnly}
@@ -41,9 +41,9 @@ use Rattle.log_records.specs.Log.{Entry}
 use Rattle.log_laws.specs.Follow.{writes_in}
 use Rattle.checkpoint.specs.declared.master.Master.{Master}
 use Rattle.image_meaning.specs.Moments.{LeavesEitherFor}
-use Rattle.redo_undo.specs.Committing.{MayCommit, EndsWith}
+use Rattle.redo_laws.specs.Committing.{MayCommit, EndsWith}
 use Rattle.redo_undo.specs.Stores.{Represents}
-use Rattle.redo_undo.specs.Numbers.{SkipsNone}
+use Rattle.redo_laws.specs.Numbers.{SkipsNone}
 use Rattle.page_store.specs.declared.store.PageStore.{PageStore}
 use Rattle.log_store.specs.declared.store.LogStore.{LogStore}
 use Rattle.redo_undo.proofs.store.Store.commit.Goals as goal
@@ -51,7 +51,7 @@ use Rattle.ring_machine.specs.Machine.{force}
 use Rattle.ring_machine.proofs.Performing.{performs_then, performs_stopped, performs_failed}
 use Rattle.redo_undo.proofs.Mirroring.{force_performs, numbers_left}
 use Rattle.redo_undo.proofs.MirroringStores.{store_performs}
-use Rattle.redo_undo.proofs.Appended.{current_same}
+use Rattle.redo_laws.proofs.Appended.{current_same}
 
 -- The Commit is the last record, and is sealed.
 

@@ -1,7 +1,7 @@
 use Rattle.redo_undo.proofs.Calling.{keeps_few, keeps_failed, keeps_answered}
 use Rattle.redo_undo.proofs.StoreCalling.{keeps_of}
 use Rattle.image_meaning.proofs.Leaving.{under_leaves_for}
-use Rattle.redo_undo.proofs.Asking.{asks_same, asks_err, asks_ok, asks_fails}
+use Rattle.redo_laws.proofs.Asking.{asks_same, asks_err, asks_ok, asks_fails}
 use Rattle.std.specs.Prelude.{Ok, Err, IsTrue}
 use Rattle.std.proofs.Common.{rules, ◌+◌, refl, ap, ◌∙◌, arith, sym}
 use Rattle.site.specs.declared.geometry.Geometry.{Geometry}

@@ -1,0 +1,256 @@
+-- A record is appended beside the pages.
+use Rattle.std.proofs.Common.{◌≡◌, ℕ, ◌+◌, ◌*◌, ◌≤◌, ◌<◌, Bool, true, false, List, [], ◌∷◌, ◌++◌, map, refl, sym, ap, subst, ◌∙◌, arith}
+use Rattle.log_laws.specs.Tail.{next_lsn}
+use Rattle.std.specs.Prelude.{if◌then◌else◌, Result, Ok, Err, OnOk, IfOk, Option}
+use Rattle.std.specs.List.{AllByRecursion, range_with_len}
+use Rattle.std.proofs.lemmas.Bool.{lt-ltb}
+use Rattle.site.specs.declared.outside.Dev.TheVariants.{Log}
+use Rattle.site.specs.declared.geometry.Geometry.{Geometry}
+use Rattle.site.specs.State.{State, IsQuiet}
+use Rattle.site.specs.Calls.{Preserves}
+use Rattle.site.specs.Moments.{LeavesOnly, ChangesOnly}
+use Rattle.site.specs.Laws.{leaves_weaker}
+use Rattle.record_model.specs.State.{Content}
+use Rattle.log_records.specs.declared.log_record.LogRecord.{LogRecord}
+use Rattle.log_records.specs.Spelling.{AreBlock}
+use Rattle.log_records.specs.Log.{Entry, Version, log_from}
+use Rattle.image_changes.specs.Changes.{Reaches}
+use Rattle.image_changes.specs.Reached.{IsReached, IsFrontOf, LeavesFront}
+use Rattle.log_store.specs.declared.store.LogStore.{LogStore}
+use Rattle.log_store.specs.LogList.{LogList, sealed_if, changes_if, with_record}
+use Rattle.log_store.specs.Representation as log_store
+use Rattle.log_store.specs.Representation.{HasBlocks, LeavesLog, has_tail, end_of}
+use Rattle.buffer_pool.specs.declared.frame.Frame.{Frame}
+use Rattle.write_ahead.specs.Forcing.{IsLogged, end_forced}
+use Rattle.page_store.specs.declared.store.PageStore.{PageStore}
+use Rattle.page_store.specs.Representation.{IsStore, current, content_by}
+use Rattle.buffer_pool.specs.Frames.{frame_of}
+use Rattle.page_store.specs.Ahead.{AreSealed, LeavesSealed, IsAhead, sealed_end}
+use Rattle.page_store.specs.Leaves.{AreReady, HasQueue, LeavesRings}
+use Rattle.checkpoint.specs.declared.master.Master.{Master}
+use Rattle.image_meaning.specs.Meaning.{next_block_under, picture_under, master_of, versions_on, version_in, kept_by}
+use Rattle.image_meaning.specs.Moments.{LeavesTableUnder}
+use Rattle.image_meaning.specs.Beside.{AreRingsSoundUnder, KeepsRingsAll}
+use Rattle.page_store.proofs.Rings.{all_front, sealing_keeps}
+use Rattle.redo_laws.specs.Running.{RunsOn}
+use Rattle.slotted_page.specs.Layout.{lsn_of}
+use Rattle.redo_laws.specs.Holding.{RepresentsLog, Represents, MayGrow, KeepsPages, blocks_to}
+use Rattle.redo_laws.specs.Committing.{EndsWith}
+use Rattle.redo_laws.specs.Laws.{LogLaws, PageLaws, BesideLaws}
+use Rattle.redo_laws.proofs.Runs.{one_more}
+use Rattle.redo_laws.proofs.Standing.{last_of_all, next_more}
+use Rattle.redo_laws.proofs.Changed.{shows_same}
+use Rattle.redo_laws.proofs.Touched.{tail_blocks, hi_is, runs_sealed, leaves_table}
+
+-- the numbers of an append, on every site
+pub record IsNumbered (log log' : LogStore) (lsn : ℕ) (sealing : Bool) : Type 0 where
+  pub lsn_is : lsn ≡ (if sealing then 512 * (log.ring.hi + 1) + 2 else end_of log)
+  pub next : log'.ring.hi ≡ (if sealing then log.ring.hi + 1 else log.ring.hi)
+  pub below : lsn < end_of log'
+  pub low : 2 ≤ log.used
+
+-- and what it has done on an honest one
+pub record IsAppended (g : Geometry) (log log' : LogStore) (list : LogList) (site new : State) (rec : LogRecord) (lsn : ℕ) (sealing : Bool) : Type 0 where
+  pub numbers : IsNumbered log log' lsn sealing
+  pub kept : log'.kept ≡ log.kept
+  pub holds : log_store.Represents log' new.image (with_record rec (sealed_if sealing list))
+  pub finds : log_store.Finds log' new
+  pub changes : ChangesOnly Log site new
+  pub goes : Preserves site new
+
+few_blocks : (b : Bool) → tail_blocks b ≤ 1
+few_blocks true = omega arith
+few_blocks false = omega arith
+
+-- Its numbers.
+module _ (log log' : LogStore) (lsn : ℕ) where
+  some_now : (sealing : Bool) → IsNumbered log log' lsn sealing → 2 < log'.used
+  some_now true is = let a = is.lsn_is in let b = is.next in let c = is.below in omega (arith, a, b, c)
+  some_now false is = let a = is.lsn_is in let b = is.next in let c = is.below in let d = is.low in omega (arith, a, b, c, d)
+
+  pub has_now : (sealing : Bool) → IsNumbered log log' lsn sealing → has_tail log' ≡ true
+  has_now sealing is = lt-ltb 2 log'.used (some_now sealing is)
+
+  pub one_now : (sealing : Bool) → IsNumbered log log' lsn sealing → tail_blocks (has_tail log') ≡ 1
+  one_now sealing is = ap tail_blocks (has_now sealing is)
+
+  pub most_blocks : (sealing : Bool) → (sealing ≡ true → has_tail log ≡ true) → IsNumbered log log' lsn sealing → blocks_to log' ≤ blocks_to log + 1
+  most_blocks true full is = let a = one_now true is in let b = is.next in let c = ap tail_blocks (full refl) in omega (arith, a, b, c)
+  most_blocks false full is = let a = one_now false is in let b = is.next in omega (arith, a, b)
+
+  pub least_blocks : (sealing : Bool) → IsNumbered log log' lsn sealing → blocks_to log ≤ blocks_to log'
+  least_blocks true is = let a = one_now true is in let b = is.next in let c = few_blocks (has_tail log) in omega (arith, a, b, c)
+  least_blocks false is = let a = one_now false is in let b = is.next in let c = few_blocks (has_tail log) in omega (arith, a, b, c)
+
+pub logged_more : (end end' : ℕ) → end ≤ end' → (frames : List Frame) → AllByRecursion (λ frame. IsLogged end frame.content) frames → AllByRecursion (λ frame. IsLogged end' frame.content) frames
+logged_more end end' more [] all = tt
+logged_more end end' more (frame ∷ frames) all = (record { below = λ some. let below = all.0.below some in omega (arith, below, more) }, logged_more end end' more frames all.1)
+
+-- the pages stay
+module _ (beside : BesideLaws) (pages : PageStore) (site new : State) (changes : ChangesOnly Log site new) where
+  pub versions_same : versions_on pages.flash.geometry new.image ≡ versions_on pages.flash.geometry site.image
+  versions_same = λ i. map (λ number. version_in (beside.versions pages.flash.geometry site new number changes i)) (range_with_len 0 pages.flash.geometry.pages)
+
+  pub current_same : (number : ℕ) → current pages new.image number ≡ current pages site.image number
+  current_same number = ap (content_by (frame_of pages.pool.frames number)) (beside.versions pages.flash.geometry site new number changes)
+
+  -- the LSN of each version is sealed still, where the log grew
+  pub more_sealed : (log log' : LogStore) → log.geometry ≡ pages.flash.geometry → log'.geometry ≡ log.geometry → log_store.Finds log site → log_store.Finds log' new → log.ring.hi ≤ log'.ring.hi →
+      AreSealed pages.flash.geometry site.image → AreSealed pages.flash.geometry new.image
+  more_sealed log log' sizes same finds finds' more sealed =
+      let g = pages.flash.geometry in
+      let before : 512 * log.ring.hi ≡ sealed_end g site.image = ap (λ (n : ℕ). 512 * n) finds.hi ∙ ap (λ (k : Geometry). sealed_end k site.image) sizes in
+      let after : 512 * log'.ring.hi ≡ sealed_end g new.image = ap (λ (n : ℕ). 512 * n) finds'.hi ∙ ap (λ (k : Geometry). sealed_end k new.image) (same ∙ sizes) in
+      record {
+        each = λ page exists. record {
+          below = λ some.
+              let was = (sealed.each page exists).below (subst (λ (c : List ℕ). 0 < lsn_of c) (beside.versions g site new page changes) some) in
+              omega (arith, was, before, after, more, ap lsn_of (beside.versions g site new page changes));
+        };
+      }
+
+module _ (logs : LogLaws) (laws : PageLaws) (beside : BesideLaws) (log : LogStore) (pages : PageStore) (site : State) (newest : Option Master) (records : List Entry) (table : List Content) (commits : ℕ) (h : Represents log pages site newest records table commits) (sizes : log.geometry ≡ pages.flash.geometry) where
+  abbrev g : Geometry
+  g = pages.flash.geometry
+
+  abbrev list : LogList
+  list = record { first = kept_by newest; blocks = h.log_holds.blocks; tail = h.log_holds.tail }
+
+  -- At each moment.
+  module _ (new : State) (sealing : Bool) (quiet : IsQuiet site) (changes : ChangesOnly Log site new) (leaves : LeavesOnly site new (LeavesLog log.geometry sealing list site.told)) (front : LeavesFront log.geometry (changes_if sealing list) site new) where
+    at_log : LeavesOnly site new (LeavesLog g sealing list site.told)
+    at_log = subst (λ (k : Geometry). LeavesOnly site new (LeavesLog k sealing list site.told)) sizes leaves
+
+    at_front : LeavesFront g (changes_if sealing list) site new
+    at_front = subst (λ (k : Geometry). LeavesFront k (changes_if sealing list) site new) sizes front
+
+    queue_is : HasQueue g site.image
+    queue_is = record { first = pages.flash.directory.first; groups = h.log_holds.ready.pages.groups; has = h.log_holds.ready.pages.holds.has; saved = h.log_holds.ready.pages.holds.saved }
+
+    pub rings_stay : LeavesOnly site new (LeavesRings newest g)
+    rings_stay =
+        leaves_weaker site new (IsReached g (IsFrontOf (changes_if sealing list)) site) (LeavesRings newest g)
+        (λ s is. beside.rings newest g is.changes site.image s.image h.log_holds.rings (all_front g site.image is.changes is.made.0 (subst (KeepsRingsAll g site.image) is.made.1 (sealing_keeps g site.image sealing list))) is.reaches)
+        at_front
+
+    pub sealed_stay : LeavesOnly site new (LeavesSealed g)
+    sealed_stay =
+        beside.are_sealed g sealing list site new quiet (subst (λ (k : Geometry). HasBlocks k (kept_by newest) h.log_holds.blocks site.image) sizes h.log_holds.ready.records.blocks) h.log_holds.ahead.versions changes at_log
+
+    pub append_leaves : IsStore pages → (sealing ≡ true → has_tail log ≡ true) → LeavesOnly site new (LeavesTableUnder newest g table commits site.told)
+    append_leaves own some =
+        leaves_table logs laws log pages site newest records table commits h own sealing some new
+        (beside.leaves g sealing list (current pages site.image) site new quiet queue_is h.log_holds.ready.pages.clean changes at_log at_front) sealed_stay rings_stay
+
+  -- At its end.
+  module _ (new : State) (sealing : Bool) where
+    pub rings_now : Reaches log.geometry (changes_if sealing list) site.image new.image → AreRingsSoundUnder newest g new.image
+    rings_now reaches =
+        beside.rings newest g (changes_if sealing list) site.image new.image h.log_holds.rings (sealing_keeps g site.image sealing list)
+        (subst (λ (k : Geometry). Reaches k (changes_if sealing list) site.image new.image) sizes reaches)
+
+    pub sealed_now : (log' : LogStore) → ChangesOnly Log site new → log'.geometry ≡ log.geometry → log_store.Finds log' new → log.ring.hi ≤ log'.ring.hi → AreSealed g new.image
+    sealed_now log' changes same finds more = more_sealed beside pages site new changes log log' sizes same h.log_holds.ready.blocks finds more h.log_holds.ahead.versions
+
+  -- Behind it.
+  module _ (new : State) (changes : ChangesOnly Log site new) where
+    pub moved : (blocks : List (List LogRecord)) (tail : List LogRecord) (records' : List Entry) → RunsOn (picture_under newest g site.image blocks) tail records' table commits → RunsOn (picture_under newest g new.image blocks) tail records' table commits
+    moved blocks tail records' runs =
+        subst (λ (versions : List Version). RunsOn (record { master = (master_of newest); log = log_from (kept_by newest) blocks; hi = next_block_under newest blocks; blocks = g.blocks; pages = versions }) tail records' table commits) (sym (versions_same beside pages site new changes)) runs
+
+  module _ (log' : LogStore) (new : State) (rec : LogRecord) (lsn : ℕ) (rings : AreRingsSoundUnder newest g new.image) (are_sealed : AreSealed g new.image) where
+    -- what stands in the log before the record: the tail, or nothing where it was sealed
+    record StandsBefore : Type 0 where
+      pub blocks : List (List LogRecord)
+      pub front : List LogRecord
+      pub holds : log_store.Represents log' new.image (record { first = kept_by newest; blocks = blocks; tail = front ++ rec ∷ [] })
+      pub runs_on : RunsOn (picture_under newest g site.image blocks) front records table commits
+      pub next : lsn ≡ next_lsn (picture_under newest g site.image blocks) front
+
+    stands_before : (sealing : Bool) → (sealing ≡ true → has_tail log ≡ true) → IsAppended g log log' list site new rec lsn sealing → StandsBefore
+    stands_before false full is =
+        let hi = hi_is logs laws log pages site newest records table commits h in
+        record {
+          blocks = h.log_holds.blocks;
+          front = h.log_holds.tail;
+          holds = is.holds;
+          runs_on = h.log_holds.runs_on;
+          next = omega (arith, hi, h.log_holds.ready.records.tail.end, is.numbers.lsn_is);
+        }
+    stands_before true full is =
+        let hi = hi_is logs laws log pages site newest records table commits h in
+        record {
+          blocks = h.log_holds.blocks ++ h.log_holds.tail ∷ [];
+          front = [];
+          holds = is.holds;
+          runs_on = runs_sealed logs laws log pages site newest records table commits h (full refl) (last_of_all AreBlock h.log_holds.blocks h.log_holds.tail is.holds.blocks.are_blocks);
+          next = omega (arith, hi, is.numbers.lsn_is, next_more logs laws newest h.log_holds.blocks h.log_holds.tail);
+        }
+
+    module _ (sealing : Bool) (full : sealing ≡ true → has_tail log ≡ true) (is : IsAppended g log log' list site new rec lsn sealing) where
+      before : StandsBefore
+      before = stands_before sealing full is
+
+      ready_now : AreReady pages log' (record { first = kept_by newest; blocks = before.blocks; tail = before.front ++ rec ∷ [] }) new
+      ready_now = record { pages = beside.fits pages site new is.changes is.goes h.log_holds.ready.pages; blocks = is.finds; records = before.holds }
+
+      ahead_still : IsAhead log' pages new.image
+      ahead_still =
+          let more = least_blocks log log' lsn sealing is.numbers in
+          record { pool = logged_more (end_forced log) (end_forced log') (omega (arith, more)) pages.pool.frames h.log_holds.ahead.pool; versions = are_sealed }
+
+      -- the record comes last in the tail
+      pub ends_with : KeepsPages g pages site.image new.image → end_of log ≤ lsn →
+          EndsWith g log' pages new newest records table commits (record { lsn = lsn; rec = rec })
+      ends_with keeps behind =
+          record {
+            kept = is.kept ∙ h.log_holds.kept;
+            blocks = before.blocks;
+            front = before.front;
+            ready = ready_now;
+            rings = rings;
+            runs_on = moved new is.changes before.blocks before.front records before.runs_on;
+            next = before.next;
+            ahead = ahead_still;
+            shows = record { each = shows_same logs g log log' pages site new newest records table commits h keeps };
+            below = λ number exists.
+                subst (λ (c : List ℕ). lsn_of c < end_of log') (sym (keeps.current number)) (omega (arith, h.below number exists, behind, is.numbers.below));
+            room = omega (arith, most_blocks log log' lsn sealing full is.numbers, h.log_holds.room, h.log_holds.rings.limits.blocks, is.kept);
+          }
+
+      -- where it may follow, log and pages hold together with it
+      pub appended : MayGrow log pages site.image newest records (record { lsn = lsn; rec = rec }) →
+          RepresentsLog g log' pages new newest (records ++ record { lsn = lsn; rec = rec } ∷ []) table commits
+      appended may =
+          record {
+            kept = is.kept ∙ h.log_holds.kept;
+            blocks = before.blocks;
+            tail = before.front ++ rec ∷ [];
+            ready = ready_now;
+            rings = rings;
+            runs_on = moved new is.changes before.blocks (before.front ++ rec ∷ []) (records ++ record { lsn = lsn; rec = rec } ∷ [])
+                (one_more logs (picture_under newest g site.image before.blocks) before.front rec lsn records table commits before.runs_on before.next
+                may.follows may.no_commit);
+            ahead = ahead_still;
+            room = omega (arith, most_blocks log log' lsn sealing full is.numbers, may.room, is.kept);
+          }
+
+pub if_ok_four : {A E : Type 0} (r : Result A E) (P Q R : Type 0) (L Z : A → Type 0) → ((x : A) → P → Q → R → L x → Z x) → OnOk r P → OnOk r Q → OnOk r R → IfOk r L → IfOk r Z
+if_ok_four (Ok x) P Q R L Z f p q r l = f x p q r l
+if_ok_four (Err e) P Q R L Z f p q r l = tt
+
+pub if_ok_one : {A E : Type 0} (r : Result A E) (P Q : A → Type 0) → ((x : A) → P x → Q x) → IfOk r P → IfOk r Q
+if_ok_one (Ok x) P Q f p = f x p
+if_ok_one (Err e) P Q f p = tt
+
+pub if_ok_two : {A E : Type 0} (r : Result A E) (P R Q : A → Type 0) → ((x : A) → P x → R x → Q x) → IfOk r P → IfOk r R → IfOk r Q
+if_ok_two (Ok x) P R Q f p s = f x p s
+if_ok_two (Err e) P R Q f p s = tt
+
+pub if_ok_three : {A E : Type 0} (r : Result A E) (N : Type 0) (P R Q : A → Type 0) → ((x : A) → N → P x → R x → Q x) → OnOk r N → IfOk r P → IfOk r R → IfOk r Q
+if_ok_three (Ok x) N P R Q f n p s = f x n p s
+if_ok_three (Err e) N P R Q f n p s = tt
+
+pub ok_by : {A E : Type 0} (r : Result A E) (P : A → Type 0) (Z : Type 0) → ((x : A) → P x → Z) → IfOk r P → OnOk r Z
+ok_by (Ok x) P Z f p = f x p
+ok_by (Err e) P Z f p = tt

@@ -1,0 +1,156 @@
+-- What undo asks of the cache: calls on the log alone, and one Update after the other.
+use Rattle.std.proofs.Common.{◌≡◌, ◌≢◌, ◌⊎◌, inl, inr, ◌+◌, ◌*◌, ◌<◌, ◌≤◌, true, List, [], ◌∷◌, ◌++◌, append_assoc, append-nil, Option, Some, arith, refl, sym, ap, subst, ◌∙◌, ℕ}
+use Rattle.std.specs.Prelude.{Result, Ok, Err, OnOk, option_map, ⊤}
+use Rattle.std.specs.List.{cons_option}
+use Rattle.std.proofs.lemmas.List.Elements.{filter_map-append}
+use Rattle.site.specs.declared.outside.Dev.{Dev}
+use Rattle.site.specs.declared.outside.Dev.TheVariants.{Log, Flash, Disk}
+use Rattle.site.specs.declared.outside.Stop.{Stop}
+use Rattle.site.specs.declared.outside.Stop.TheVariants.{Device, Worn, Foreign}
+use Rattle.site.specs.State.{State, reads_of}
+use Rattle.site.specs.Calls.{SameReads}
+use Rattle.record_model.specs.Touches.{CacheWork, touch, page_of, write_touch}
+use Rattle.log_records.specs.Log.{Entry, number_of}
+use Rattle.log_records.specs.Restart.{undo_touch}
+use Rattle.second_chance.specs.Machine.{Rules, Cache, touched, staged_by_works}
+use Rattle.page_store.specs.declared.store.PageStore.{PageStore}
+use Rattle.page_store.specs.Caching.{cache_of, rules, with_change}
+use Rattle.page_store.specs.Laws.{TouchThenChange}
+use Rattle.page_store.specs.Staging.{Stages}
+use Rattle.page_store.proofs.StagingLaws.{stages_err, stages_as, stages_then}
+use Rattle.redo_laws.specs.MachineSteps.{next_group, one_touch, one_change, ReadsFor, StepsMachine}
+use Rattle.redo_laws.specs.UndoWorks.{works_of}
+use Rattle.redo_laws.proofs.Costs.{reads_add_up, more_next}
+use Rattle.redo_laws.proofs.Asking.{change_reads, change_stages, asks_ok, asks_then, asks_stopped}
+use Rattle.site.proofs.Working.{ok_as, ok_always}
+
+-- Calls on the log alone.
+
+-- neither the flash nor the disk is read
+pub record SameElse (before now : State) : Type 0 where
+  pub flash : now.flash_reads ≡ before.flash_reads
+  pub disk : now.disk_reads ≡ before.disk_reads
+
+pub log_alone : (before now : State) → ((d : Dev) → d ≢ Log → reads_of d now ≡ reads_of d before) → SameElse before now
+log_alone before now others = record { flash = others Flash (λ h. cc); disk = others Disk (λ h. cc) }
+
+pub none_read : (before now : State) → SameReads before now → SameElse before now
+none_read before now same = record { flash = same Flash; disk = same Disk }
+
+no_reads_else : (r : Rules) (cache : Cache) (before now : State) → SameElse before now → ReadsFor r [] cache before now
+no_reads_else r cache before now same = record { flash = omega (arith, same.flash); disk = omega (arith, same.disk) }
+
+-- why a call on the log stops
+pub not_worn_flash : (stop : Stop) → (stop ≡ Device Log) ⊎ (stop ≡ Worn Log) → stop ≢ Worn Flash
+not_worn_flash stop (inl device) = λ worn. cc
+not_worn_flash stop (inr log) = λ worn. cc
+
+pub not_worn_either : (stop : Stop) → (stop ≡ Device Log) ⊎ ((stop ≡ Worn Log) ⊎ (stop ≡ Foreign)) → stop ≢ Worn Flash
+not_worn_either stop (inl device) = λ worn. cc
+not_worn_either stop (inr (inl log)) = λ worn. cc
+not_worn_either stop (inr (inr foreign)) = λ worn. cc
+
+-- a call that stops before it asks for anything
+pub asks_refused : {T : Type 0} (stop : Stop) (works : List CacheWork) (pages : PageStore) (before now : State) → 1 ≤ (rules pages).groups → SameElse before now →
+    Stages {T = T} (Err stop) [] (next_group (cache_of pages)) pages pages before now → StepsMachine {T = T} (Err stop) works pages pages before now
+asks_refused {T} stop works pages before now some same stages =
+    asks_stopped {A = T} stop [] works pages pages before now some
+    (record { machine = tt; reads = no_reads_else (rules pages) (cache_of pages) before now same; rules_are = refl; stages = stages })
+
+-- a call that reads the log before it asks
+pub asks_later : {T : Type 0} (result : Result T Stop) (works : List CacheWork) (old new : PageStore) (before between now : State) → SameElse before between → Stages {T = ⊤} (Ok tt) [] (next_group (cache_of old)) old old before between →
+    StepsMachine result works old new between now → StepsMachine result works old new before now
+asks_later result works old new before between now same still asks = record {
+  machine = asks.machine;
+  reads = reads_add_up (rules old) [] works (cache_of old) before between now (no_reads_else (rules old) (cache_of old) before between same) asks.reads;
+  rules_are = asks.rules_are;
+  stages = stages_then (λ has. more_next (rules old) [] works (cache_of old) has.room) still asks.stages;
+}
+
+-- a call that goes on with the log once all that it asked for is done
+pub asks_before : {A B : Type 0} (a : A) (result : Result B Stop) (works : List CacheWork) (old new : PageStore) (before between now : State) → 1 ≤ (rules old).groups → SameElse between now →
+    Stages result [] (next_group (cache_of new)) new new between now → StepsMachine {T = A} (Ok a) works old new before between → StepsMachine result works old new before now
+asks_before a result works old new before between now some same still asks = record {
+  machine = ok_always result _ asks.machine;
+  reads = record {
+    flash = (let read = asks.reads.flash in omega (arith, read, same.flash));
+    disk = (let read = asks.reads.disk in omega (arith, read, same.disk));
+  };
+  rules_are = asks.rules_are;
+  stages = stages_as (append-nil (staged_by_works (rules old) works (cache_of old))) (ap next_group asks.machine) (stages_then (λ has. omega (arith, ap next_group asks.machine)) asks.stages still);
+}
+
+-- One Update.
+
+-- its page is touched, which stops
+pub change_stopped : {A B : Type 0} (stop : Stop) (page : ℕ) (old new : PageStore) (before now : State) → 1 ≤ (rules old).groups →
+    StepsMachine {T = A} (Err stop) (one_touch page) old new before now → StepsMachine {T = B} (Err stop) (one_change page) old new before now
+change_stopped stop page old new before now some asks = record {
+  machine = tt;
+  reads = change_reads (rules old) page (cache_of old) before now some asks.reads;
+  rules_are = asks.rules_are;
+  stages = change_stages (Err stop) page old new before now some (stages_err asks.stages);
+}
+
+-- and changed then
+pub change_made : {A B : Type 0} (a : A) (result : Result B Stop) (page : ℕ) (old mid new : PageStore) (before between now : State) → 1 ≤ (rules old).groups → TouchThenChange →
+    StepsMachine {T = A} (Ok a) (one_touch page) old mid before between → OnOk result (cache_of new ≡ with_change (cache_of mid)) → rules new ≡ rules mid → SameReads between now →
+    Stages result [] (next_group (cache_of mid)) mid new between now → StepsMachine result (one_change page) old new before now
+change_made a result page old mid new before between now some law asks changed same read still =
+    let there : with_change (cache_of mid) ≡ touched (rules old) page true (cache_of old) = ap with_change asks.machine ∙ sym (law (rules old) page (cache_of old)) in
+    let none = none_read between now read in
+    record {
+      machine = ok_as result _ _ (λ is. is ∙ there) changed;
+      reads = change_reads (rules old) page (cache_of old) before now some (record {
+        flash = (let reads = asks.reads.flash in omega (arith, reads, none.flash));
+        disk = (let reads = asks.reads.disk in omega (arith, reads, none.disk));
+      });
+      rules_are = same ∙ asks.rules_are;
+      stages = change_stages result page old new before now some
+          (stages_as (append-nil (staged_by_works (rules old) (one_touch page) (cache_of old))) (ap next_group asks.machine) (stages_then (λ has. omega (arith, ap next_group asks.machine)) asks.stages still));
+    }
+
+pub page_is : (page slot : ℕ) → slot < 32 → page_of (32 * page + slot) ≡ page
+page_is page slot less = omega (arith, less)
+
+-- the work of the Update itself
+pub work_is : (u : Entry) (page slot : ℕ) → slot < 32 → number_of u.rec ≡ Some (32 * page + slot) → one_change page ≡ works_of (u ∷ [])
+work_is u page slot less is =
+    ap (λ (n : ℕ). touch n true ∷ []) (sym (page_is page slot less)) ∙ sym (ap (λ (o : Option ℕ). cons_option (option_map write_touch o) []) is)
+
+-- More Updates.
+
+-- all that are left: those that were undone, the next one, and the others
+works_are : (done rest : List Entry) (u : Entry) → works_of (done ++ u ∷ rest) ≡ (works_of done ++ works_of (u ∷ [])) ++ works_of rest
+works_are done rest u =
+    let all : (done ++ u ∷ []) ++ rest ≡ done ++ u ∷ rest = simp append_assoc in
+    sym (ap works_of all) ∙ filter_map-append undo_touch (done ++ u ∷ []) rest ∙ ap (λ (w : List CacheWork). w ++ works_of rest) (filter_map-append undo_touch done (u ∷ []))
+
+-- one more is undone
+pub one_more_work : {A B : Type 0} (a : A) (b : B) (done : List Entry) (u : Entry) (old mid new : PageStore) (before between now : State) →
+    StepsMachine {T = A} (Ok a) (works_of done) old mid before between → StepsMachine {T = B} (Ok b) (works_of (u ∷ [])) mid new between now → StepsMachine {T = ⊤} (Ok tt) (works_of (done ++ u ∷ [])) old new before now
+one_more_work a b done u old mid new before between now first second =
+    let both = asks_then a (Ok b) (works_of done) (works_of (u ∷ [])) old mid new before between now first second in
+    subst (λ (w : List CacheWork). StepsMachine {T = ⊤} (Ok tt) w old new before now) (sym (filter_map-append undo_touch done (u ∷ [])))
+    (asks_ok b tt (works_of done ++ works_of (u ∷ [])) old new before now both)
+
+-- or it stops there
+pub more_work_stopped : {A B C : Type 0} (a : A) (stop : Stop) (all done rest : List Entry) (u : Entry) (old mid new : PageStore) (before between now : State) → 1 ≤ (rules old).groups → all ≡ done ++ u ∷ rest →
+    StepsMachine {T = A} (Ok a) (works_of done) old mid before between → StepsMachine {T = B} (Err stop) (works_of (u ∷ [])) mid new between now → StepsMachine {T = C} (Err stop) (works_of all) old new before now
+more_work_stopped {A} {B} {C} a stop all done rest u old mid new before between now some is first second =
+    subst (λ (w : List CacheWork). StepsMachine {T = C} (Err stop) w old new before now) (sym (ap works_of is ∙ works_are done rest u))
+    (asks_stopped stop (works_of done ++ works_of (u ∷ [])) (works_of rest) old new before now some
+    (asks_then a (Err stop) (works_of done) (works_of (u ∷ [])) old mid new before between now first second))
+
+-- until all are
+pub all_work : {A B : Type 0} (a : A) (b : B) (all done : List Entry) (old new : PageStore) (before now : State) → all ≡ done → StepsMachine {T = A} (Ok a) (works_of done) old new before now →
+    StepsMachine {T = B} (Ok b) (works_of all) old new before now
+all_work {A} {B} a b all done old new before now is asks =
+    subst (λ (l : List Entry). StepsMachine {T = B} (Ok b) (works_of l) old new before now) (sym is)
+    (asks_ok a b (works_of done) old new before now asks)
+
+-- an Update is undone behind a read of the log
+pub asks_of_update : {T : Type 0} (result : Result T Stop) (u : Entry) (page slot : ℕ) (old new : PageStore) (before between now : State) → slot < 32 → number_of u.rec ≡ Some (32 * page + slot) → SameElse before between →
+    Stages {T = ⊤} (Ok tt) [] (next_group (cache_of old)) old old before between → StepsMachine result (one_change page) old new between now → StepsMachine result (works_of (u ∷ [])) old new before now
+asks_of_update result u page slot old new before between now less is same still asks =
+    asks_later result (works_of (u ∷ [])) old new before between now same still (subst (λ (w : List CacheWork). StepsMachine result w old new between now) (work_is u page slot less is) asks)

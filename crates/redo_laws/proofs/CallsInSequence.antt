@@ -1,0 +1,165 @@
+-- Calls one behind the other, and a site of which only was read.
+use Rattle.std.proofs.Common.{◌≡◌, ℕ, ◌<◌, ◌≤◌, Bool, false, nat_lt, arith, append-nil, [], List, refl, sym, ap, subst, ◌∙◌}
+use Rattle.std.specs.Prelude.{if◌then◌else◌, Option}
+use Rattle.site.specs.declared.outside.Dev.TheVariants.{Log, Flash, Disk}
+use Rattle.site.specs.declared.geometry.Geometry.{Geometry}
+use Rattle.site.specs.State.{State, Image, IsQuiet}
+use Rattle.site.specs.Calls.{Preserves, IsUnchanged}
+use Rattle.site.specs.Laws.{in_sequence, holds_now, no_call, unchanged_calm, stays_honest, quiet_leaves}
+use Rattle.site.specs.Moments.{Leaves, LeavesOnly, SameBut, ChangesOnly}
+use Rattle.sealed_ring.specs.Ring.{IsRing, FitsIn, hi_of}
+use Rattle.image_changes.specs.Rings.{log_shape, KeepsUnits, master_shape}
+use Rattle.record_model.specs.State.{Content}
+use Rattle.log_records.specs.Log.{Entry, log_from}
+use Rattle.log_store.specs.declared.store.LogStore.{LogStore}
+use Rattle.log_store.specs.Representation as log_store
+use Rattle.log_store.specs.Representation.{Finds, HasBlocks, has_tail, end_of}
+use Rattle.page_store.specs.Caching.{rules}
+use Rattle.slotted_page.specs.Layout.{lsn_of}
+use Rattle.page_store.proofs.Versions.{flash_later}
+use Rattle.page_store.specs.declared.store.PageStore.{PageStore}
+use Rattle.page_store.specs.Representation.{current}
+use Rattle.page_store.specs.Ahead.{IsAhead}
+use Rattle.page_store.specs.Laws.{FitsBeside}
+use Rattle.checkpoint.specs.declared.master.Master.{Master}
+use Rattle.image_meaning.specs.Meaning.{picture_under, StandsUnder, kept_by, IsSoundUnder}
+use Rattle.image_meaning.specs.Moments.{LeavesTableUnder}
+use Rattle.image_meaning.specs.Beside.{AreRingsSoundUnder}
+use Rattle.redo_laws.specs.HoldingLaws.{OpenedHolds}
+use Rattle.redo_laws.specs.Laws.{LogLaws, PageLaws}
+use Rattle.redo_laws.specs.Running.{RunsOn}
+use Rattle.redo_laws.specs.Holding.{Invariant, Represents, RepresentsIn, ShowRecords}
+
+-- The ring of blocks is found on a site on which log and pages hold together.
+pub found_now : {g : Geometry} {log : LogStore} {pages : PageStore} {site : State} {newest : Option Master} {records : List Entry}
+    {table : List Content} {commits : ℕ} → RepresentsIn g log pages site newest records table commits → Finds log site
+found_now h = let ready = h.log_holds.ready.blocks in record { honest = ready.honest; form = ready.form; hi = ready.hi }
+
+-- A queue on flash has room for a group.
+pub some_group : {log : LogStore} {pages : PageStore} {site : State} → Invariant log pages site → 1 ≤ (rules pages).groups
+some_group going = let least = going.pages_going.flash.limits.groups in omega (arith, least)
+
+-- one call behind others
+pub and_then : (newest : Option Master) (g g' : Geometry) (old mid new : State) (table : List Content) (commits : ℕ) → g' ≡ g → LeavesOnly old mid (LeavesTableUnder newest g table commits old.told) → LeavesOnly mid new (LeavesTableUnder newest g' table commits mid.told) →
+    LeavesOnly old new (LeavesTableUnder newest g table commits old.told)
+and_then newest g g' old mid new table commits same first second =
+    let told : mid.told ≡ old.told = (holds_now old mid (LeavesTableUnder newest g table commits old.told) first).told in
+    in_sequence old mid new (Leaves (LeavesTableUnder newest g table commits old.told)) first
+    (subst (λ (t : List ℕ). LeavesOnly mid new (LeavesTableUnder newest g table commits t)) told (subst (λ (x : Geometry). LeavesOnly mid new (LeavesTableUnder newest x table commits mid.told)) same second))
+
+-- reading changes no device
+pub only_read : (old new : State) → IsUnchanged old new → ChangesOnly Log old new
+only_read old new same = record {
+  only = unchanged_calm old old new (SameBut Log old) (no_call old (SameBut Log old) (record { told = refl; telling = refl; content = λ d other. refl; loose = λ d other. refl })) same;
+  left = same.left;
+}
+
+-- log and pages hold together still
+pub holds_still : FitsBeside → (log : LogStore) (pages : PageStore) (old new : State) (newest : Option Master) (records : List Entry) (table : List Content) (commits : ℕ) → Preserves old new → IsUnchanged old new → Represents log pages old newest records table commits → Represents log pages new newest records table commits
+holds_still fits log pages old new newest records table commits goes same h =
+    let ready = h.log_holds.ready in
+    record {
+      log_holds = record {
+        kept = h.log_holds.kept;
+        blocks = h.log_holds.blocks;
+        tail = h.log_holds.tail;
+        ready = record {
+          pages = fits pages old new (only_read old new same) goes ready.pages;
+          blocks = record {
+            honest = stays_honest old new goes ready.blocks.honest;
+            form = subst (λ (i : Image). IsRing (log_shape log.geometry) i.log) (sym same.image) ready.blocks.form;
+            hi = subst (λ (i : Image). log.ring.hi ≡ hi_of (log_shape log.geometry) i.log) (sym same.image) ready.blocks.hi;
+          };
+          records = subst (λ (i : Image). log_store.Represents log i (record { first = kept_by newest; blocks = h.log_holds.blocks; tail = h.log_holds.tail })) (sym same.image) ready.records;
+        };
+        rings = subst (AreRingsSoundUnder newest pages.flash.geometry) (sym same.image) h.log_holds.rings;
+        runs_on = subst (λ (i : Image). RunsOn (picture_under newest pages.flash.geometry i h.log_holds.blocks) h.log_holds.tail records table commits) (sym same.image) h.log_holds.runs_on;
+        ahead = subst (IsAhead log pages) (sym same.image) h.log_holds.ahead;
+        room = h.log_holds.room;
+      };
+      shows = subst (λ (i : Image). ShowRecords pages.flash.geometry pages i records) (sym same.image) h.shows;
+      below = subst (λ (i : Image). (page : ℕ) → page < pages.flash.geometry.pages → lsn_of (current pages i page) < end_of log) (sym same.image) h.below;
+    }
+
+-- they may still go on
+pub going_still : (log : LogStore) (pages : PageStore) (old new : State) → Preserves old new → Invariant log pages old → Invariant log pages new
+going_still log pages old new goes may = record {
+  log_going = record {
+    limits = may.log_going.limits;
+    lengths = record { log = goes.sizes Log ∙ may.log_going.lengths.log; flash = goes.sizes Flash ∙ may.log_going.lengths.flash; disk = goes.sizes Disk ∙ may.log_going.lengths.disk };
+    usable = record { fits = subst (FitsIn log.ring.shape) (sym (goes.sizes log.ring.shape.dev)) may.log_going.usable.fits; bounded = may.log_going.usable.bounded };
+    shape = may.log_going.shape;
+    kept = may.log_going.kept;
+    live = may.log_going.live;
+    low = may.log_going.low;
+    high = may.log_going.high;
+  };
+  pages_going = record {
+    flash = flash_later pages.flash old new goes may.pages_going.flash;
+    own = may.pages_going.own;
+  };
+  sizes = may.sizes;
+  room = may.room;
+}
+
+-- what stands there is sound
+pub sound_there : (log : LogStore) (pages : PageStore) (site : State) (newest : Option Master) (records : List Entry) (table : List Content) (commits : ℕ) → log.geometry ≡ pages.flash.geometry → (h : Represents log pages site newest records table commits) →
+    IsSoundUnder newest pages.flash.geometry site.image h.log_holds.blocks
+sound_there log pages site newest records table commits sizes h =
+    let rings = h.log_holds.rings in
+    record {
+      octets = record {
+        limits = rings.limits;
+        lengths = rings.lengths;
+        masters = rings.masters;
+        segments = rings.segments;
+        groups = rings.groups;
+        versions = h.log_holds.ready.pages.sound;
+        clean = h.log_holds.ready.pages.clean;
+      };
+      held = subst (λ (k : Geometry). HasBlocks k (kept_by newest) h.log_holds.blocks site.image) sizes h.log_holds.ready.records.blocks;
+      records = h.log_holds.runs_on.carries.sound;
+    }
+
+-- and stands for the table
+pub stands_there : (log : LogStore) (pages : PageStore) (site : State) (newest : Option Master) (records : List Entry) (table : List Content) (commits : ℕ) → log.geometry ≡ pages.flash.geometry → Represents log pages site newest records table commits → StandsUnder newest pages.flash.geometry site.image table commits
+stands_there log pages site newest records table commits sizes h =
+    record { blocks = h.log_holds.blocks; sound = sound_there log pages site newest records table commits sizes h; means = h.log_holds.runs_on.means }
+
+pub nothing_happens : (log : LogStore) (pages : PageStore) (site : State) (newest : Option Master) (records : List Entry) (table : List Content) (commits : ℕ) → log.geometry ≡ pages.flash.geometry → Represents log pages site newest records table commits → IsQuiet site →
+    LeavesOnly site site (LeavesTableUnder newest pages.flash.geometry table commits site.told)
+nothing_happens log pages site newest records table commits sizes h quiet =
+    no_call site (Leaves (LeavesTableUnder newest pages.flash.geometry table commits site.told))
+    (λ snapshot left. subst (LeavesTableUnder newest pages.flash.geometry table commits site.told) (sym (quiet_leaves site snapshot quiet left)) (record { told = refl; stands = stands_there log pages site newest records table commits sizes h }))
+
+-- a crash while only was read leaves it
+pub leaves_still : (log : LogStore) (pages : PageStore) (old new : State) (newest : Option Master) (records : List Entry) (table : List Content) (commits : ℕ) → log.geometry ≡ pages.flash.geometry → IsUnchanged old new → Represents log pages old newest records table commits → IsQuiet old →
+    LeavesOnly old new (LeavesTableUnder newest pages.flash.geometry table commits old.told)
+leaves_still log pages old new newest records table commits sizes same h quiet =
+    unchanged_calm old old new (Leaves (LeavesTableUnder newest pages.flash.geometry table commits old.told)) (nothing_happens log pages old newest records table commits sizes h quiet) same
+
+-- where the tail is empty all records are sealed ones
+pub opened_holds : LogLaws → PageLaws → OpenedHolds
+opened_holds laws page_laws log pages site newest blocks table commits sizes kept ready sound means shows are_ahead below =
+    let p = picture_under newest pages.flash.geometry site.image blocks in
+    let empty : log.used ≡ 2 = ready.records.tail.end in
+    let none : has_tail log ≡ false = ap (nat_lt 2) empty in
+    let no_tail : (if has_tail log then 1 else 0) ≡ 0 = ap {B = ℕ} (λ (b : Bool). if b then 1 else 0) none in
+    record {
+      log_holds = record {
+        kept = kept;
+        blocks = blocks;
+        tail = [];
+        ready = ready;
+        rings = record { limits = sound.octets.limits; lengths = sound.octets.lengths; masters = sound.octets.masters; segments = sound.octets.segments; groups = sound.octets.groups };
+        runs_on = record { carries = laws.carries_nothing p sound.records; means = means; no_commit = refl; records_are = append-nil (log_from (kept_by newest) blocks) };
+        ahead = are_ahead;
+        room = (let at = page_laws.next newest blocks in omega (arith, ready.blocks.hi, ready.records.blocks.next, sound.records.room_for_undo, no_tail, kept, at));
+      };
+      shows = shows;
+      below = below;
+    }
+
+-- the master ring is kept by one call behind others
+pub units_then : (old mid new : Image) → KeepsUnits master_shape old mid → KeepsUnits master_shape mid new → KeepsUnits master_shape old new
+units_then old mid new first second = record { units = second.units ∙ first.units; form = λ form. second.form (first.form form) }

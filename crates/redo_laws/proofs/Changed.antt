@@ -1,0 +1,142 @@
+-- What a page shows behind one more record.
+use Rattle.std.proofs.Common.{◌≡◌, ◌≢◌, ◌⊎◌, inl, inr, ℕ, ◌+◌, ◌*◌, ◌/◌, ◌≤◌, ◌<◌, ◌==◌, cond, false, List, [], ◌∷◌, ◌++◌, length, Option, None, Some, refl, sym, ap, subst, ◌∙◌, arith}
+use Rattle.std.specs.List.{AllByRecursion}
+use Rattle.std.proofs.lemmas.Bool.{cases_eq, ne_eqb, eq-eqb}
+use Rattle.std.proofs.lemmas.Option.{none-some, same_Some}
+use Rattle.site.specs.declared.geometry.Geometry.{Geometry}
+use Rattle.site.specs.State.{State, Image}
+use Rattle.record_model.specs.State.{Content, content_at}
+use Rattle.log_records.specs.declared.log_record.LogRecord.{LogRecord}
+use Rattle.slotted_page.specs.Layout.{lsn_of}
+use Rattle.log_store.specs.declared.store.LogStore.{LogStore}
+use Rattle.log_store.specs.Representation.{end_of}
+use Rattle.page_store.specs.declared.store.PageStore.{PageStore}
+use Rattle.page_store.specs.Representation.{current, content_by, Matches, IsPage}
+use Rattle.page_store.specs.Ahead.{IsAhead}
+use Rattle.flash_cache.specs.Representation.{version_on}
+use Rattle.buffer_pool.specs.declared.frame.Frame.{Frame}
+use Rattle.buffer_pool.specs.Frames.{frame_of, front_of}
+use Rattle.checkpoint.specs.declared.master.Master.{Master}
+use Rattle.image_meaning.specs.Meaning.{versions_on, version_in}
+use Rattle.redo_laws.specs.Holding.{RepresentsLog, RepresentsIn, KeepsPages}
+use Rattle.log_records.specs.Log.{Entry, Version, number_of, after_of, is_on, is_number}
+use Rattle.log_laws.specs.Follow.{shown}
+use Rattle.image_meaning.specs.Redone.{Redoes, AreKnown, ShowsAll}
+use Rattle.redo_laws.specs.Laws.{LogLaws}
+use Rattle.flash_cache.proofs.Given.{all_append}
+
+pub known_more : (log : List Entry) (page from to : ℕ) → from ≤ to → AreKnown log page from → AreKnown log page to
+known_more [] page from to more known = tt
+known_more (e ∷ log) page from to more known = ((λ number is at. let known_e = known.0 number is at in omega (arith, known_e, more)), known_more log page from to more known.1)
+
+module _ (laws : LogLaws) (records : List Entry) (e : Entry) (versions : List Version) (page : ℕ) where
+  off_number : ((number : ℕ) → number_of e.rec ≡ Some number → number / 32 ≡ page → ⊥) → (slot : ℕ) → slot < 32 → is_on (32 * page + slot) e ≡ false
+  off_number off slot less = by (number_of e.rec) refl
+    where
+      by : (o : Option ℕ) → number_of e.rec ≡ o → is_number (32 * page + slot) o ≡ false
+      by None is = refl
+      by (Some number) is = ne_eqb number (32 * page + slot) (λ same. off number is (omega (arith, same, less)))
+
+  -- a record that isn't on it
+  pub off_page : (v : Version) → ((number : ℕ) → number_of e.rec ≡ Some number → number / 32 ≡ page → ⊥) → ShowsAll records versions page v → ShowsAll (records ++ e ∷ []) versions page v
+  off_page v off shows = record {
+    known = all_append (λ (x : Entry). (number : ℕ) → number_of x.rec ≡ Some number → number / 32 ≡ page → x.lsn ≤ v.lsn) records (e ∷ []) shows.known ((λ number is at. absurd (off number is at)), tt);
+    slots = λ slot less.
+        shows.slots slot less
+        ∙ sym (laws.shown_push records e versions (32 * page + slot) ∙ ap (λ b. cond b (after_of e.rec) (shown records versions (32 * page + slot))) (off_number off slot less));
+  }
+
+  -- and one that is, once it is redone
+  pub on_page : (number : ℕ) (v w : Version) → number_of e.rec ≡ Some number → v.lsn < e.lsn → Redoes page e number v w → ShowsAll records versions page v → ShowsAll (records ++ e ∷ []) versions page w
+  on_page number v w is later redoes shows = record {
+    known = let lsn = redoes.lsn in
+        all_append (λ (x : Entry). (n : ℕ) → number_of x.rec ≡ Some n → n / 32 ≡ page → x.lsn ≤ w.lsn) records (e ∷ []) (known_more records page v.lsn w.lsn (omega (arith, lsn, later)) shows.known)
+        ((λ n own at. omega (arith, lsn)), tt);
+    slots = λ slot less.
+        redoes.slots slot less ∙ by slot (shows.slots slot less) (cases_eq number (32 * page + slot))
+        ∙ sym (laws.shown_push records e versions (32 * page + slot) ∙ ap (λ o. cond (is_number (32 * page + slot) o) (after_of e.rec) (shown records versions (32 * page + slot))) is);
+  }
+    where
+      by : (slot : ℕ) → content_at v.slots slot ≡ shown records versions (32 * page + slot) → (number ≡ 32 * page + slot) ⊎ (number ≢ 32 * page + slot) →
+          cond (32 * page + slot == number) (after_of e.rec) (content_at v.slots slot) ≡ cond (number == 32 * page + slot) (after_of e.rec) (shown records versions (32 * page + slot))
+      by slot before (inl same) =
+          ap (λ b. cond b (after_of e.rec) (content_at v.slots slot)) (eq-eqb (32 * page + slot) number (sym same)) ∙ sym (ap (λ b. cond b (after_of e.rec) (shown records versions (32 * page + slot))) (eq-eqb number (32 * page + slot) same))
+      by slot before (inr other) =
+          ap (λ b. cond b (after_of e.rec) (content_at v.slots slot)) (ne_eqb (32 * page + slot) number (λ same. other (sym same))) ∙ before
+          ∙ sym (ap (λ b. cond b (after_of e.rec) (shown records versions (32 * page + slot))) (ne_eqb number (32 * page + slot) other))
+
+-- The same pages, over images in which each page has the version and the content that it had.
+module _ (logs : LogLaws) (g : Geometry) (log log' : LogStore) (pages : PageStore) (site new : State) (newest : Option Master) (records : List Entry) (table : List Content) (commits : ℕ) (h : RepresentsIn g log pages site newest records table commits) (keeps : KeepsPages g pages site.image new.image) where
+  pub shows_same : (number : ℕ) → number < g.pages → ShowsAll records (versions_on g new.image) number (version_in (current pages new.image number))
+  shows_same number exists =
+      subst (λ (versions : List Version). ShowsAll records versions number (version_in (current pages new.image number))) (sym keeps.versions)
+      (subst (λ (c : List ℕ). ShowsAll records (versions_on g site.image) number (version_in c)) (sym (keeps.current number)) (h.shows.each number exists))
+
+  -- a record on none of them
+  pub holds_off : (rec : LogRecord) (lsn : ℕ) → number_of rec ≡ None → end_of log ≤ lsn → lsn < end_of log' →
+      RepresentsLog g log' pages new newest (records ++ record { lsn = lsn; rec = rec } ∷ []) table commits → RepresentsIn g log' pages new newest (records ++ record { lsn = lsn; rec = rec } ∷ []) table commits
+  holds_off rec lsn none behind below holds = record {
+    log_holds = holds;
+    shows = record {
+      each = λ number exists. off_page logs records (record { lsn = lsn; rec = rec }) (versions_on g new.image) number (version_in (current pages new.image number))
+          (λ own is at. none-some own (sym none ∙ is)) (shows_same number exists);
+    };
+    below = λ number exists.
+        subst (λ (c : List ℕ). lsn_of c < end_of log') (sym (keeps.current number)) (omega (arith, h.below number exists, behind, below));
+  }
+
+  -- a record on the page in front, which is redone there
+  pub holds_on : (pages' : PageStore) (rec : LogRecord) (lsn number front : ℕ) → number_of rec ≡ Some number → number / 32 ≡ front → lsn_of (current pages new.image front) < lsn →
+      Redoes front (record { lsn = lsn; rec = rec }) number (version_in (current pages new.image front)) (version_in (current pages' new.image front)) →
+      ((page : ℕ) → page ≢ front → current pages' new.image page ≡ current pages new.image page) → end_of log ≤ lsn → lsn < end_of log' →
+      RepresentsLog g log' pages' new newest (records ++ record { lsn = lsn; rec = rec } ∷ []) table commits → RepresentsIn g log' pages' new newest (records ++ record { lsn = lsn; rec = rec } ∷ []) table commits
+  holds_on pages' rec lsn number front is at later redoes others behind below holds = record {
+    log_holds = holds;
+    shows = record { each = λ page exists. shows_by page exists (cases_eq page front) };
+    below = λ page exists. below_by page exists (cases_eq page front);
+  }
+    where
+      e : Entry
+      e = record { lsn = lsn; rec = rec }
+
+      shows_by : (page : ℕ) → page < g.pages → (page ≡ front) ⊎ (page ≢ front) → ShowsAll (records ++ record { lsn = lsn; rec = rec } ∷ []) (versions_on g new.image) page (version_in (current pages' new.image page))
+      shows_by page exists (inl same) =
+          subst (λ n. ShowsAll (records ++ record { lsn = lsn; rec = rec } ∷ []) (versions_on g new.image) n (version_in (current pages' new.image n))) (sym same)
+          (on_page logs records (record { lsn = lsn; rec = rec }) (versions_on g new.image) front number (version_in (current pages new.image front)) (version_in (current pages' new.image front)) is later redoes
+          (shows_same front (subst (λ n. n < g.pages) same exists)))
+      shows_by page exists (inr other) =
+          subst (λ (c : List ℕ). ShowsAll (records ++ record { lsn = lsn; rec = rec } ∷ []) (versions_on g new.image) page (version_in c)) (sym (others page other))
+          (off_page logs records (record { lsn = lsn; rec = rec }) (versions_on g new.image) page (version_in (current pages new.image page))
+          (λ own found here. let same : own ≡ number = same_Some own number (sym found ∙ is) in other (sym here ∙ ap (λ n. n / 32) same ∙ at)) (shows_same page exists))
+
+      below_by : (page : ℕ) → page < g.pages → (page ≡ front) ⊎ (page ≢ front) → lsn_of (current pages' new.image page) < end_of log'
+      below_by page exists (inl same) =
+          subst (λ n. lsn_of (current pages' new.image n) < end_of log') (sym same) (omega (arith, redoes.lsn, below))
+      below_by page exists (inr other) =
+          subst (λ (c : List ℕ). lsn_of c < end_of log') (sym (others page other ∙ keeps.current page)) (omega (arith, h.below page exists, behind, below))
+
+-- other pages beside the same log
+pub other_pages : (g : Geometry) (log : LogStore) (pages pages' : PageStore) (site : State) (newest : Option Master) (records : List Entry) (table : List Content) (commits : ℕ) → Matches pages' site → IsAhead log pages' site.image →
+    RepresentsLog g log pages site newest records table commits → RepresentsLog g log pages' site newest records table commits
+other_pages g log pages pages' site newest records table commits fits are_ahead h = record {
+  kept = h.kept;
+  blocks = h.blocks;
+  tail = h.tail;
+  ready = record { pages = fits; blocks = h.ready.blocks; records = h.ready.records };
+  rings = h.rings;
+  runs_on = h.runs_on;
+  ahead = are_ahead;
+  room = h.room;
+}
+
+-- The page in front of the pool.
+pub front_exists : (count : ℕ) (frames : List Frame) → 0 < length frames → AllByRecursion (IsPage count) frames → (front_of frames).page < count
+front_exists count [] some all = absurd (omega (arith, some))
+front_exists count (frame ∷ frames) some all = all.0.exists
+
+pub front_is_current : (pages : PageStore) (image : Image) → 0 < length pages.pool.frames → current pages image (front_of pages.pool.frames).page ≡ (front_of pages.pool.frames).content
+front_is_current pages image some = ap (λ o. content_by o (version_on pages.flash.geometry image (front_of pages.pool.frames).page)) (found pages.pool.frames some)
+  where
+    found : (frames : List Frame) → 0 < length frames → frame_of frames (front_of frames).page ≡ Some (front_of frames)
+    found [] some = absurd (omega (arith, some))
+    found (frame ∷ frames) some = ap (λ b. cond b (Some frame) (frame_of frames frame.page)) (eq-eqb frame.page frame.page refl)

@@ -1,0 +1,223 @@
+-- A Commit is appended and sealed.
+use Rattle.std.proofs.Common.{◌≡◌, ℕ, ◌+◌, ◌≤◌, ◌<◌, true, false, List, [], ◌∷◌, ◌++◌, length, inl, inr, refl, sym, ap, subst, ◌∙◌, arith, Option}
+use Rattle.std.proofs.lemmas.Option.{none-some}
+use Rattle.site.specs.declared.outside.Dev.TheVariants.{Log}
+use Rattle.site.specs.declared.geometry.Geometry.{Geometry}
+use Rattle.site.specs.State.{State, Snapshot, IsQuiet}
+use Rattle.site.specs.Calls.{Preserves}
+use Rattle.site.specs.Moments.{Leaves, LeavesOnly, ChangesOnly}
+use Rattle.site.specs.Laws.{leaves_weaker, each_both, each_weaker, in_sequence, holds_now}
+use Rattle.record_model.specs.State.{Content, table_with}
+use Rattle.log_records.specs.declared.log_record.LogRecord.{LogRecord}
+use Rattle.log_records.specs.declared.log_record.LogRecord.TheVariants.{Commit}
+use Rattle.log_records.specs.Spelling.{AreBlock, block_len}
+use Rattle.log_records.specs.Log.{Entry, Version, log_from}
+use Rattle.log_records.specs.Unfinished.{owed, owed_by}
+use Rattle.log_records.specs.Sound.{Picture, HasRoom, commit_numbers, commit_count}
+use Rattle.log_laws.specs.Follow.{Follows, sealed, next_entries, writes_in}
+use Rattle.log_laws.specs.Tail.{Carries, whole, next_lsn}
+use Rattle.image_changes.specs.Changes.{Reaches}
+use Rattle.image_changes.specs.Reached.{IsReached, IsFrontOf, LeavesFront}
+use Rattle.slotted_page.specs.Layout as page
+use Rattle.slotted_page.specs.Layout.{lsn_of}
+use Rattle.log_store.specs.declared.store.LogStore.{LogStore}
+use Rattle.log_store.specs.LogList.{LogList, sealed_if, changes_if}
+use Rattle.log_store.specs.Representation as log_store
+use Rattle.log_store.specs.Representation.{HasBlocks, LeavesLog, has_tail, end_of}
+use Rattle.write_ahead.specs.Forcing.{end_forced}
+use Rattle.page_store.specs.declared.store.PageStore.{PageStore}
+use Rattle.page_store.specs.Representation.{IsStore, current}
+use Rattle.page_store.specs.Ahead.{AreSealed, LeavesSealed}
+use Rattle.page_store.specs.Leaves.{HasQueue, LeavesPages, LeavesRings}
+use Rattle.checkpoint.specs.declared.master.Master.{Master}
+use Rattle.image_meaning.specs.Meaning.{next_block_under, picture_under, master_of, versions_on, version_in, kept_by}
+use Rattle.image_meaning.specs.Redone.{ShowsAll}
+use Rattle.image_meaning.specs.Moments.{LeavesTableUnder, LeavesEitherUnder}
+use Rattle.image_meaning.specs.Beside.{AreRingsSoundUnder, KeepsRingsAll}
+use Rattle.page_store.proofs.Rings.{all_front, sealing_keeps}
+use Rattle.redo_laws.specs.Running.{RunsOn}
+use Rattle.redo_laws.specs.Holding.{Represents}
+use Rattle.redo_laws.specs.Committing.{MayCommit, EndsWith, CommitLaws}
+use Rattle.redo_laws.specs.Laws.{LogLaws, PageLaws, BesideLaws}
+use Rattle.redo_laws.proofs.Standing.{more_blocks, stands_now, current_sound, last_of_all}
+use Rattle.redo_laws.proofs.Touched.{tail_blocks}
+use Rattle.redo_laws.proofs.Appended.{logged_more, versions_same, current_same, more_sealed}
+use Rattle.redo_laws.proofs.Changed.{off_page}
+
+-- A tail whose last record is a Commit is sealed.
+module _ (logs : LogLaws) (own : CommitLaws) (p : Picture) (front : List LogRecord) (txn number lsn : ℕ) (records : List Entry) (table : List Content) (commits : ℕ) (runs : RunsOn p front records table commits) (next : lsn ≡ next_lsn p front)
+    (follows : Follows p.master p.pages records (record { lsn = lsn; rec = Commit txn number })) (is : number ≡ commits + 1) where
+  abbrev last : Entry
+  last = record { lsn = lsn; rec = Commit txn number }
+
+  abbrev last' : Entry
+  last' = record { lsn = next_lsn p front; rec = Commit txn number }
+
+  carries_commit : Carries p (front ++ Commit txn number ∷ [])
+  carries_commit =
+      logs.carries_more p front (Commit txn number) runs.carries
+      (subst (λ (l : List Entry). Follows p.master p.pages l last') (sym runs.records_are) (subst (λ (n : ℕ). Follows p.master p.pages records (record { lsn = n; rec = Commit txn number })) next follows))
+
+  pub whole_commit : whole p (front ++ Commit txn number ∷ []) ≡ records ++ last ∷ []
+  whole_commit = logs.whole_more p front (Commit txn number) ∙ ap (λ (l : List Entry). l ++ last' ∷ []) runs.records_are ∙ ap (λ (n : ℕ). records ++ record { lsn = n; rec = Commit txn number } ∷ []) (sym next)
+
+  numbers_are : commit_numbers (next_entries p (front ++ Commit txn number ∷ [])) ≡ number ∷ []
+  numbers_are =
+      ap commit_numbers (logs.whole_more (record p { log = [] }) front (Commit txn number)) ∙ own.number (next_entries p front) last' number refl
+      ∙ ap (λ (l : List ℕ). l ++ number ∷ []) runs.no_commit
+
+  pub commit_runs : AreBlock (front ++ Commit txn number ∷ []) → HasRoom (sealed p (front ++ Commit txn number ∷ [])) →
+      RunsOn (sealed p (front ++ Commit txn number ∷ [])) [] (records ++ last ∷ []) (table_with table (writes_in txn records)) (commits + 1)
+  commit_runs block room =
+      let tail : List LogRecord = front ++ Commit txn number ∷ [] in
+      let count_is = runs.means.count_is in
+      let expected : number ≡ commit_count p + 1 = omega (arith, is, count_is) in
+      let sound = logs.sealed_tail p tail carries_commit block room (inr (numbers_are ∙ ap (λ (n : ℕ). n ∷ []) expected)) in
+      record {
+        carries = logs.carries_nothing (sealed p tail) sound;
+        means = record {
+          table_is = (λ i. table_with (runs.means.table_is i) (writes_in txn (sym runs.records_are i))) ∙ sym (own.counts p front txn number carries_commit runs.no_commit);
+          count_is = let count = logs.sealed_count p tail carries_commit.sound block in let one : length (commit_numbers (next_entries p tail)) ≡ 1 = ap length numbers_are in omega (arith, count_is, count, one);
+        };
+        no_commit = refl;
+        records_are = logs.whole_sealed p tail ∙ whole_commit;
+      }
+
+-- Log and pages, with a Commit that may stand there last in the tail.
+module _ (logs : LogLaws) (laws : PageLaws) (beside : BesideLaws) (own : CommitLaws) (log : LogStore) (pages : PageStore) (site : State) (newest : Option Master) (records : List Entry) (table : List Content) (commits txn number lsn : ℕ)
+    (m : EndsWith pages.flash.geometry log pages site newest records table commits (record { lsn = lsn; rec = Commit txn number })) (sizes : log.geometry ≡ pages.flash.geometry) (some : has_tail log ≡ true) (may : MayCommit newest records txn number commits) where
+  abbrev g : Geometry
+  g = pages.flash.geometry
+
+  abbrev tail : List LogRecord
+  tail = m.front ++ Commit txn number ∷ []
+
+  abbrev list : LogList
+  list = record { first = kept_by newest; blocks = m.blocks; tail = m.front ++ Commit txn number ∷ [] }
+
+  abbrev more : List (List LogRecord)
+  more = m.blocks ++ (m.front ++ Commit txn number ∷ []) ∷ []
+
+  abbrev e : Entry
+  e = record { lsn = lsn; rec = Commit txn number }
+
+  abbrev table' : List Content
+  table' = table_with table (writes_in txn records)
+
+  owed_less : owed records ≡ owed (records ++ record { lsn = lsn; rec = Commit txn number } ∷ []) + owed_by records txn
+  owed_less = own.owed records e refl may.begun.not_closed may.chain
+
+  follows : Follows (master_of newest) (versions_on g site.image) records (record { lsn = lsn; rec = Commit txn number })
+  follows = own.follows (master_of newest) (versions_on g site.image) records lsn txn number may.begun
+
+  hi_here : log.ring.hi ≡ next_block_under newest m.blocks
+  hi_here = let hi = m.ready.blocks.hi in let next = m.ready.records.blocks.next in let at = laws.next newest m.blocks in omega (arith, hi, next, at)
+
+  room_here : HasRoom (sealed (picture_under newest g site.image m.blocks) (m.front ++ Commit txn number ∷ []))
+  room_here =
+      let all : owed (whole (picture_under newest g site.image m.blocks) (m.front ++ Commit txn number ∷ [])) ≡ owed (records ++ record { lsn = lsn; rec = Commit txn number } ∷ []) =
+      ap owed (whole_commit logs own (picture_under newest g site.image m.blocks) m.front txn number lsn records table commits m.runs_on m.next follows may.number_is) in
+      omega (arith, m.room, ap tail_blocks some, hi_here, all, owed_less, m.kept, laws.next newest m.blocks)
+
+  runs_after : AreBlock (m.front ++ Commit txn number ∷ []) → RunsOn (picture_under newest g site.image (m.blocks ++ (m.front ++ Commit txn number ∷ []) ∷ [])) [] (records ++ record { lsn = lsn; rec = Commit txn number } ∷ []) (table_with table (writes_in txn records)) (commits + 1)
+  runs_after block =
+      subst (λ (q : Picture). RunsOn q [] (records ++ e ∷ []) table' (commits + 1)) (more_blocks logs laws newest g site.image m.blocks tail)
+      (commit_runs logs own (picture_under newest g site.image m.blocks) m.front txn number lsn records table commits m.runs_on m.next follows may.number_is block room_here)
+
+  shows_after : (number' : ℕ) → number' < g.pages → ShowsAll (records ++ record { lsn = lsn; rec = Commit txn number } ∷ []) (versions_on g site.image) number' (version_in (current pages site.image number'))
+  shows_after number' exists =
+      off_page logs records e (versions_on g site.image) number' (version_in (current pages site.image number')) (λ n none here. none-some n none) (m.shows.each number' exists)
+
+  -- What a crash leaves while it is sealed.
+  module _ (new : State) (quiet : IsQuiet site) (changes : ChangesOnly Log site new) (leaves : LeavesOnly site new (LeavesLog log.geometry (has_tail log) list site.told)) (front : LeavesFront log.geometry (changes_if (has_tail log) list) site new) where
+    at_log : LeavesOnly site new (LeavesLog g (has_tail log) list site.told)
+    at_log = subst (λ (k : Geometry). LeavesOnly site new (LeavesLog k (has_tail log) list site.told)) sizes leaves
+
+    at_front : LeavesFront g (changes_if (has_tail log) list) site new
+    at_front = subst (λ (k : Geometry). LeavesFront k (changes_if (has_tail log) list) site new) sizes front
+
+    queue_is : HasQueue g site.image
+    queue_is = record { first = pages.flash.directory.first; groups = m.ready.pages.groups; has = m.ready.pages.holds.has; saved = m.ready.pages.holds.saved }
+
+    pub rings_forced : LeavesOnly site new (LeavesRings newest g)
+    rings_forced =
+        leaves_weaker site new (IsReached g (IsFrontOf (changes_if (has_tail log) list)) site) (LeavesRings newest g)
+        (λ s is. beside.rings newest g is.changes site.image s.image m.rings (all_front g site.image is.changes is.made.0 (subst (KeepsRingsAll g site.image) is.made.1 (sealing_keeps g site.image (has_tail log) list))) is.reaches)
+        at_front
+
+    pub sealed_forced : LeavesOnly site new (LeavesSealed g)
+    sealed_forced =
+        beside.are_sealed g (has_tail log) list site new quiet (subst (λ (k : Geometry). HasBlocks k (kept_by newest) m.blocks site.image) sizes m.ready.records.blocks) m.ahead.versions changes at_log
+
+    sound_given : IsStore pages → (number' : ℕ) → number' < g.pages → page.IsSound (current pages site.image number')
+    sound_given store number' exists = current_sound pages site.image number' store (m.ready.pages.sound number' exists)
+
+    at_snapshot : IsStore pages → (s : Snapshot) → LeavesPages g (current pages site.image) (has_tail log) list site s → AreSealed g s.image → AreRingsSoundUnder newest g s.image →
+        LeavesEitherUnder newest g table (table_with table (writes_in txn records)) commits site.told s
+    at_snapshot store s leaves are_sealed rings = record {
+      told = leaves.log.told;
+      stands = elim leaves.log.blocks [
+        | inl has ↦ inl (stands_now logs laws g site.image s.image (current pages site.image) m.blocks m.front newest records table commits m.runs_on m.shows.each has are_sealed leaves.versions
+            rings leaves.clean m.ready.pages.sound (sound_given store))
+        | inr has ↦ inr (stands_now logs laws g site.image s.image (current pages site.image) more [] newest (records ++ e ∷ []) table' (commits + 1) (runs_after (last_of_all AreBlock m.blocks tail has.1.are_blocks)) shows_after has.1
+            are_sealed leaves.versions rings leaves.clean m.ready.pages.sound (sound_given store))
+      ];
+    }
+
+    pub leaves_either : IsStore pages → LeavesOnly site new (LeavesEitherUnder newest g table (table_with table (writes_in txn records)) commits site.told)
+    leaves_either store =
+        each_weaker site new (λ q. Leaves (LeavesPages g (current pages site.image) (has_tail log) list site) q × (Leaves (LeavesSealed g) q × Leaves (LeavesRings newest g) q)) (Leaves (LeavesEitherUnder newest g table table' commits site.told))
+        (λ q all s left. at_snapshot store s (all.0 s left) (all.1.0 s left) (all.1.1 s left))
+        (each_both site new _ _ (beside.leaves g (has_tail log) list (current pages site.image) site new quiet queue_is m.ready.pages.clean changes at_log at_front) (each_both site new _ _ sealed_forced rings_forced))
+
+  -- What stands once it is sealed.
+  pub rings_then : (new : State) → Reaches log.geometry (changes_if (has_tail log) list) site.image new.image → AreRingsSoundUnder newest g new.image
+  rings_then new reaches =
+      beside.rings newest g (changes_if (has_tail log) list) site.image new.image m.rings (sealing_keeps g site.image (has_tail log) list)
+      (subst (λ (k : Geometry). Reaches k (changes_if (has_tail log) list) site.image new.image) sizes reaches)
+
+  pub sealed_then : (log' : LogStore) (new : State) → ChangesOnly Log site new → log'.geometry ≡ log.geometry → log_store.Finds log' new → log.ring.hi ≤ log'.ring.hi → AreSealed g new.image
+  sealed_then log' new changes same finds more = more_sealed beside pages site new changes log log' sizes same m.ready.blocks finds more m.ahead.versions
+
+  pub commit_holds : (log' : LogStore) (new : State) → ChangesOnly Log site new → Preserves site new → AreRingsSoundUnder newest g new.image → AreSealed g new.image → log_store.Finds log' new →
+      log_store.Represents log' new.image (sealed_if true list) → log'.ring.hi ≡ log.ring.hi + 1 → log'.kept ≡ log.kept → log'.used ≡ 2 → log.used ≤ block_len → has_tail log' ≡ false →
+      Represents log' pages new newest (records ++ record { lsn = lsn; rec = Commit txn number } ∷ []) (table_with table (writes_in txn records)) (commits + 1)
+  commit_holds log' new changes goes rings are_sealed finds holds next same_kept empty high none =
+      let same = versions_same beside pages site new changes in
+      let stays = current_same beside pages site new changes in
+      let one = ap tail_blocks some in
+      let no_tail = ap tail_blocks none in
+      let forced : end_forced log ≤ end_forced log' = omega (arith, one, no_tail, next) in
+      record {
+        log_holds = record {
+          kept = same_kept ∙ m.kept;
+          blocks = more;
+          tail = [];
+          ready = record { pages = beside.fits pages site new changes goes m.ready.pages; blocks = finds; records = holds };
+          rings = rings;
+          runs_on = subst (λ (versions : List Version). RunsOn (record { master = (master_of newest); log = log_from (kept_by newest) more; hi = next_block_under newest more; blocks = g.blocks; pages = versions }) [] (records ++ e ∷ []) table' (commits + 1)) (sym same)
+              (runs_after (last_of_all AreBlock m.blocks tail holds.blocks.are_blocks));
+          ahead = record { pool = logged_more (end_forced log) (end_forced log') forced pages.pool.frames m.ahead.pool; versions = are_sealed };
+          room = omega (arith, m.room, one, no_tail, next, owed_less, same_kept);
+        };
+        shows = record {
+          each = λ number' exists.
+              subst (λ (versions : List Version). ShowsAll (records ++ e ∷ []) versions number' (version_in (current pages new.image number'))) (sym same)
+              (subst (λ (c : List ℕ). ShowsAll (records ++ e ∷ []) (versions_on g site.image) number' (version_in c)) (sym (stays number')) (shows_after number' exists));
+        };
+        below = λ number' exists.
+            subst (λ (c : List ℕ). lsn_of c < end_of log') (sym (stays number')) (omega (arith, m.below number' exists, next, empty, high));
+      }
+
+-- a call that leaves the table of before
+pub before_only : (newest : Option Master) (g : Geometry) (old mid : State) (before after : List Content) (commits : ℕ) → LeavesOnly old mid (LeavesTableUnder newest g before commits old.told) → LeavesOnly old mid (LeavesEitherUnder newest g before after commits old.told)
+before_only newest g old mid before after commits first =
+    leaves_weaker old mid (LeavesTableUnder newest g before commits old.told) (LeavesEitherUnder newest g before after commits old.told) (λ s q. record { told = q.told; stands = inl q.stands }) first
+
+-- and behind it one that leaves either
+pub either_after : (newest : Option Master) (g : Geometry) (old mid new : State) (before after : List Content) (commits : ℕ) → LeavesOnly old mid (LeavesTableUnder newest g before commits old.told) → LeavesOnly mid new (LeavesEitherUnder newest g before after commits mid.told) →
+    LeavesOnly old new (LeavesEitherUnder newest g before after commits old.told)
+either_after newest g old mid new before after commits first second =
+    let told : mid.told ≡ old.told = (holds_now old mid (LeavesTableUnder newest g before commits old.told) first).told in
+    in_sequence old mid new (Leaves (LeavesEitherUnder newest g before after commits old.told)) (before_only newest g old mid before after commits first)
+    (subst (λ (t : List ℕ). LeavesOnly mid new (LeavesEitherUnder newest g before after commits t)) told second)

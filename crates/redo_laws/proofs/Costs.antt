@@ -1,0 +1,80 @@
+-- What work costs the cache: the groups that it appends, and the pages that it reads.
+use Rattle.std.proofs.Common.{◌≡◌, ℕ, ◌+◌, ◌≤◌, Bool, true, false, ◌&&◌, List, [], ◌∷◌, ◌++◌, length, reverse, arith, refl, sym, append_assoc, ap, ◌∙◌}
+use Rattle.std.specs.Prelude.{if◌then◌else◌}
+use Rattle.second_chance.proofs.Unread.{length-groups_read}
+use Rattle.record_model.specs.Touches.{CacheWork, touch, flush}
+use Rattle.second_chance.specs.Queue.{with_read}
+use Rattle.second_chance.specs.Machine.{Rules, Cache, holds, evict_coldest, lacks_room, with_room, in_front, touched, worked, after_works, Staged, staged_by, staged_by_works}
+use Rattle.page_store.specs.Caching.{is_pushed, pushes}
+use Rattle.redo_laws.specs.MachineSteps.{next_group, finds_in, misses_in, WorksAddUp, ReadsAddUp, ReadsForMore, NumbersRise}
+use Rattle.page_store.proofs.Numbers.{first_next, flushed_next}
+
+-- Work after work.
+
+pub works_add_up : WorksAddUp
+works_add_up rules [] later cache = refl
+works_add_up rules (work ∷ works) later cache = works_add_up rules works later (worked rules work cache)
+
+pub staged_add_up : (rules : Rules) (first later : List CacheWork) (cache : Cache) → staged_by_works rules (first ++ later) cache ≡ staged_by_works rules first cache ++ staged_by_works rules later (after_works rules first cache)
+staged_add_up rules [] later cache = refl
+staged_add_up rules (work ∷ works) later cache =
+    ap (λ (l : List Staged). staged_by rules work cache ++ l) (staged_add_up rules works later (worked rules work cache))
+    ∙ sym (append_assoc (staged_by rules work cache) (staged_by_works rules works (worked rules work cache)) (staged_by_works rules later (after_works rules works (worked rules work cache))))
+
+finds_add_up : (rules : Rules) (first later : List CacheWork) (cache : Cache) → finds_in rules (first ++ later) cache ≡ finds_in rules first cache + finds_in rules later (after_works rules first cache)
+finds_add_up rules [] later cache = omega arith
+finds_add_up rules (work ∷ works) later cache = omega (arith, finds_add_up rules works later (worked rules work cache))
+
+misses_add_up : (rules : Rules) (first later : List CacheWork) (cache : Cache) → misses_in rules (first ++ later) cache ≡ misses_in rules first cache + misses_in rules later (after_works rules first cache)
+misses_add_up rules [] later cache = omega arith
+misses_add_up rules (work ∷ works) later cache = omega (arith, misses_add_up rules works later (worked rules work cache))
+
+pub reads_add_up : ReadsAddUp
+reads_add_up rules first later cache old mid new one two =
+    let all : next_group (after_works rules (first ++ later) cache) ≡ next_group (after_works rules later (after_works rules first cache)) = ap next_group (works_add_up rules first later cache) in
+    record {
+      flash = omega (arith, one.flash, two.flash, all, finds_add_up rules first later cache);
+      disk = omega (arith, one.disk, two.disk, misses_add_up rules first later cache);
+    }
+
+-- The numbers of groups.
+
+room_next : (rules : Rules) (page : ℕ) (cache : Cache) → 1 ≤ rules.groups →
+    next_group (with_room rules page cache) ≡ next_group cache + (if pushes rules page cache then 1 else 0)
+room_next rules page cache some = by (lacks_room rules page cache)
+  where
+    by : (b : Bool) → next_group (if b then evict_coldest rules cache else cache) ≡ next_group cache + (if b && is_pushed cache then 1 else 0)
+    by true = first_next rules (reverse cache.pool) cache some
+    by false = omega arith
+
+front_next : (page : ℕ) (change : Bool) (cache : Cache) → next_group (in_front page change cache) ≡ next_group cache
+front_next page change cache = by (holds cache.pool page)
+  where
+    by : (b : Bool) → (if b then cache.queue else with_read page cache.queue).first + length (if b then cache.queue else with_read page cache.queue).groups ≡ next_group cache
+    by true = refl
+    by false = ap (λ n. cache.queue.first + n) (length-groups_read page cache.queue.groups)
+
+-- a touch appends a group where it pushes
+pub touched_next : (rules : Rules) (page : ℕ) (change : Bool) (cache : Cache) → 1 ≤ rules.groups →
+    next_group (touched rules page change cache) ≡ next_group cache + (if pushes rules page cache then 1 else 0)
+touched_next rules page change cache some = front_next page change (with_room rules page cache) ∙ room_next rules page cache some
+
+work_next : (rules : Rules) (work : CacheWork) (cache : Cache) → 1 ≤ rules.groups → next_group cache ≤ next_group (worked rules work cache)
+work_next rules (touch page change) cache some = omega (arith, touched_next rules page change cache some)
+work_next rules flush cache some = flushed_next rules cache some
+
+pub numbers_rise : NumbersRise
+numbers_rise rules [] cache some = omega arith
+numbers_rise rules (work ∷ works) cache some = omega (arith, work_next rules work cache some, numbers_rise rules works (worked rules work cache) some)
+
+pub more_next : (rules : Rules) (first later : List CacheWork) (cache : Cache) → 1 ≤ rules.groups →
+    next_group (after_works rules first cache) ≤ next_group (after_works rules (first ++ later) cache)
+more_next rules first later cache some =
+    let all : next_group (after_works rules (first ++ later) cache) ≡ next_group (after_works rules later (after_works rules first cache)) = ap next_group (works_add_up rules first later cache) in
+    omega (arith, all, numbers_rise rules later (after_works rules first cache) some)
+
+pub reads_for_more : ReadsForMore
+reads_for_more rules first later cache old new some reads = record {
+  flash = omega (arith, reads.flash, more_next rules first later cache some, finds_add_up rules first later cache);
+  disk = omega (arith, reads.disk, misses_add_up rules first later cache);
+}

@@ -1,0 +1,33 @@
+-- Active transactions in the records that a checkpoint keeps.
+use Rattle.std.proofs.Common.{◌≡◌, ℕ, ◌==◌, ◌||◌, ◌&&◌, not, Bool, true, false, true≢false, List, [], ◌∷◌, map, refl, sym, ap, subst, ◌∙◌}
+use Rattle.std.specs.Prelude.{filter_map}
+use Rattle.std.specs.List.{list_any}
+use Rattle.log_records.specs.Log.{is_of, is_closed}
+use Rattle.log_records.specs.Unfinished.{clrs_in, is_begin}
+use Rattle.log_records.specs.Sound.{Active, IsLoserChain, from_block, last_lsn}
+use Rattle.log_laws.specs.Follow.{write_of}
+use Rattle.checkpoint.specs.declared.pairs.Pair.{Pair}
+use Rattle.redo_laws.specs.SessionLaws.{ActiveOutlives}
+
+named_any : (pairs : List Pair) (t : ℕ) → list_any (λ (a : Active). a.begin == t) (map (λ pair. record { begin = pair.begin; last = pair.last }) pairs) ≡ list_any (λ pair. pair.begin == t) pairs
+named_any [] t = refl
+named_any (pair ∷ pairs) t = ap (λ b. (pair.begin == t) || b) (named_any pairs t)
+
+not_closed_of : (some closed : Bool) → (some && not closed) ≡ true → closed ≡ false
+not_closed_of true true is = absurd (true≢false (sym is))
+not_closed_of true false is = refl
+not_closed_of false closed is = absurd (true≢false (sym is))
+
+pub active_outlives : ActiveOutlives
+active_outlives newest m records kept t last writes keeps are loser active =
+    let same = keeps.entries t loser in
+    record {
+      lives = record {
+        known = ap (λ b. b || list_any (λ e. is_begin e.rec && (e.lsn == t)) (from_block m.redo kept)) (named_any m.active t ∙ are.all t loser);
+        not_closed = not_closed_of (list_any (is_of t) kept) (is_closed kept t) (keeps.losers t ∙ loser);
+      };
+      chain = subst (IsLoserChain t) (sym same) active.chain;
+      no_clrs = ap clrs_in same ∙ active.no_clrs;
+      last_is = active.last_is ∙ ap last_lsn (sym same);
+      writes_are = active.writes_are ∙ ap (filter_map (λ e. write_of e.rec)) (sym same);
+    }

@@ -1,0 +1,121 @@
+-- What a crash leaves of log and pages that hold together.
+use Rattle.std.proofs.Common.{◌≡◌, ◌⊎◌, inl, inr, ℕ, zero, suc, ◌+◌, ◌*◌, ◌<◌, ◌==◌, ◌||◌, cond, Bool, true, false, List, [], ◌∷◌, ◌++◌, Option, None, Some, IsTrue, refl, sym, ap, subst, ◌∙◌, arith}
+use Rattle.std.specs.Prelude.{nat_lt}
+use Rattle.std.specs.List.{AllByRecursion}
+use Rattle.std.proofs.lemmas.Bool.{lt-ltb, ne_eqb}
+use Rattle.std.proofs.lemmas.Option.{none-some}
+use Rattle.std.proofs.lemmas.List.{length-append}
+use Rattle.site.specs.declared.geometry.Geometry.{Geometry}
+use Rattle.site.specs.State.{Image}
+use Rattle.record_model.specs.State.{Content}
+use Rattle.log_records.specs.declared.log_record.LogRecord.{LogRecord}
+use Rattle.log_records.specs.Log.{Entry}
+use Rattle.log_records.specs.Sound.{Picture}
+use Rattle.log_laws.specs.Follow.{sealed}
+use Rattle.log_laws.specs.NewImage.{Replaces}
+use Rattle.slotted_page.specs.Layout as page
+use Rattle.slotted_page.specs.Layout.{lsn_of}
+use Rattle.log_store.specs.Representation.{HasBlocks}
+use Rattle.flash_cache.specs.Representation.{version_on, IsCleanOn}
+use Rattle.buffer_pool.specs.declared.frame.Frame.{Frame}
+use Rattle.buffer_pool.specs.Frames.{frame_of}
+use Rattle.page_store.specs.declared.store.PageStore.{PageStore}
+use Rattle.page_store.specs.Representation.{IsPage, IsStore, current, content_by}
+use Rattle.write_ahead.specs.Forcing as ahead
+use Rattle.page_store.specs.Ahead.{AreSealed, sealed_end}
+use Rattle.checkpoint.specs.declared.master.Master.{Master}
+use Rattle.image_meaning.specs.Meaning.{picture_under, next_block_under, versions_on, version_in, StandsUnder, kept_by}
+use Rattle.image_meaning.specs.Redone as redone
+use Rattle.image_meaning.specs.Redone.{ShowsAll}
+use Rattle.image_meaning.specs.Pictures.{ReplaceAll}
+use Rattle.image_meaning.specs.Beside.{AreRingsSoundUnder}
+use Rattle.redo_laws.specs.Running.{RunsOn}
+use Rattle.redo_laws.specs.Laws.{LogLaws, PageLaws}
+use Rattle.redo_laws.proofs.Runs.{reversioned, shows_still}
+
+-- A version's LSN is one of a sealed block.
+logged_number : (n end : ℕ) → (0 < n → n < end) → IsTrue ((n == 0) || nat_lt n end)
+logged_number zero end below = refl
+logged_number (suc n) end below = ap (λ b. b || nat_lt (suc n) end) (ne_eqb (suc n) 0 (λ same. absurd (omega (arith, same)))) ∙ lt-ltb (suc n) end (below (omega arith))
+
+pub logged_version : (p : Picture) (end : ℕ) (content : List ℕ) → end ≡ 512 * p.hi → ahead.IsLogged end content → redone.IsLogged p (version_in content)
+logged_version p end content is logged = logged_number (lsn_of content) (512 * p.hi) (λ some. subst (λ n. lsn_of content < n) is (logged.below some))
+
+-- A page's content is sound.
+frame_sound : (count : ℕ) (frames : List Frame) (number : ℕ) (frame : Frame) → AllByRecursion (IsPage count) frames → frame_of frames number ≡ Some frame → page.IsSound frame.content
+frame_sound count [] number frame all found = absurd (none-some frame found)
+frame_sound count (first ∷ frames) number frame all found = by (first.page == number) found (frame_sound count frames number frame all.1)
+  where
+    by : (b : Bool) → cond b (Some first) (frame_of frames number) ≡ Some frame → (frame_of frames number ≡ Some frame → page.IsSound frame.content) → page.IsSound frame.content
+    by true found rest = let is : first ≡ frame = cc in subst (λ (f : Frame). page.IsSound f.content) is all.0.sound
+    by false found rest = rest found
+
+pub current_sound : (pages : PageStore) (image : Image) (number : ℕ) → IsStore pages → page.IsSound (version_on pages.flash.geometry image number) → page.IsSound (current pages image number)
+current_sound pages image number own sound = by (frame_of pages.pool.frames number) refl
+  where
+    by : (o : Option Frame) → frame_of pages.pool.frames number ≡ o → page.IsSound (content_by o (version_on pages.flash.geometry image number))
+    by None none = sound
+    by (Some frame) found = frame_sound pages.flash.geometry.pages pages.pool.frames number frame own.pages found
+
+pub last_of_all : {X : Type 0} (P : X → Type 0) (xs : List X) (x : X) → AllByRecursion P (xs ++ x ∷ []) → P x
+last_of_all P [] x all = all.0
+last_of_all P (y ∷ xs) x all = last_of_all P xs x all.1
+
+module _ (logs : LogLaws) (laws : PageLaws) where
+  -- the picture of an image with one more block
+  pub more_blocks : (newest : Option Master) (g : Geometry) (image : Image) (blocks : List (List LogRecord)) (tail : List LogRecord) → sealed (picture_under newest g image blocks) tail ≡ picture_under newest g image (blocks ++ tail ∷ [])
+  more_blocks newest g image blocks tail = sym (laws.more newest g image blocks tail)
+
+  -- the block behind these ones and one more
+  pub next_more : (newest : Option Master) (blocks : List (List LogRecord)) (tail : List LogRecord) → next_block_under newest (blocks ++ tail ∷ []) ≡ next_block_under newest blocks + 1
+  next_more newest blocks tail = let a = laws.next newest (blocks ++ tail ∷ []) in let b = laws.next newest blocks in omega (arith, a, b, length-append blocks (tail ∷ []))
+
+  -- An image with these blocks, whose versions are the old ones or the current contents of pages that show all records.
+  module _ (g : Geometry) (old now : Image) (given : ℕ → List ℕ) (blocks : List (List LogRecord)) (tail : List LogRecord) (newest : Option Master) (records : List Entry) (table : List Content) (commits : ℕ)
+      (runs : RunsOn (picture_under newest g old blocks) tail records table commits) (shows : (number : ℕ) → number < g.pages → ShowsAll records (versions_on g old) number (version_in (given number)))
+      (held : HasBlocks g (kept_by newest) blocks now) (are_sealed : AreSealed g now)
+      (versions : (number : ℕ) → number < g.pages → (version_on g now number ≡ version_on g old number) ⊎ (version_on g now number ≡ given number)) where
+    end_is : sealed_end g now ≡ 512 * next_block_under newest blocks
+    end_is = let next = held.next in let at = laws.next newest blocks in omega (arith, next, at)
+
+    by_version : (number : ℕ) → number < g.pages → (version_on g now number ≡ version_on g old number) ⊎ (version_on g now number ≡ given number) → Replaces (picture_under newest g old blocks) number (version_in (version_on g now number))
+    by_version number exists (inl same) =
+        subst (Replaces (picture_under newest g old blocks) number) (laws.at g old number exists ∙ ap version_in (sym same))
+        (laws.itself (picture_under newest g old blocks) number runs.carries.sound (omega (arith, exists, laws.count g old)))
+    by_version number exists (inr same) =
+        subst (λ (c : List ℕ). Replaces (picture_under newest g old blocks) number (version_in c)) (sym same)
+        (laws.sealed_page (picture_under newest g old blocks) tail number (version_in (given number))
+        (subst (λ (c : List ℕ). redone.IsLogged (picture_under newest g old blocks) (version_in c)) same (logged_version (picture_under newest g old blocks) (sealed_end g now) (version_on g now number) end_is (are_sealed.each number exists)))
+        (subst (λ (l : List Entry). ShowsAll l (versions_on g old) number (version_in (given number))) (sym runs.records_are) (shows number exists)))
+
+    pub replaced : ReplaceAll (picture_under newest g old blocks) (versions_on g now)
+    replaced = laws.each_replaces newest g old now blocks (λ number exists. by_version number exists (versions number exists))
+
+    pub runs_now : RunsOn (picture_under newest g now blocks) tail records table commits
+    runs_now = reversioned laws g old now blocks tail newest records table commits replaced runs
+
+    pub shows_now : (number : ℕ) → number < g.pages → ShowsAll records (versions_on g now) number (version_in (given number))
+    shows_now number exists = shows_still laws g old now blocks tail newest records table commits number (version_in (given number)) replaced runs exists (shows number exists)
+
+    pub stands_now : AreRingsSoundUnder newest g now → IsCleanOn g now → ((number : ℕ) → number < g.pages → page.IsSound (version_on g old number)) → ((number : ℕ) → number < g.pages → page.IsSound (given number)) → StandsUnder newest g now table commits
+    stands_now rings clean sound_old sound_given = record {
+      blocks = blocks;
+      sound = record {
+        octets = record {
+          limits = rings.limits;
+          lengths = rings.lengths;
+          masters = rings.masters;
+          segments = rings.segments;
+          groups = rings.groups;
+          versions = λ number exists. sound_by number exists (versions number exists);
+          clean = clean;
+        };
+        held = held;
+        records = runs_now.carries.sound;
+      };
+      means = runs_now.means;
+    }
+      where
+        sound_by : (number : ℕ) → number < g.pages → (version_on g now number ≡ version_on g old number) ⊎ (version_on g now number ≡ given number) → page.IsSound (version_on g now number)
+        sound_by number exists (inl same) = subst page.IsSound (sym same) (sound_old number exists)
+        sound_by number exists (inr same) = subst page.IsSound (sym same) (sound_given number exists)

@@ -1,0 +1,159 @@
+-- Log and pages that hold together, while pages come and go.
+use Rattle.std.proofs.Common.{◌≡◌, ◌⊎◌, inl, inr, ℕ, ◌≤◌, ◌<◌, Bool, true, false, List, [], ◌∷◌, ◌++◌, refl, sym, ap, subst, ◌∙◌, arith}
+use Rattle.std.proofs.lemmas.Bool.{and_parts}
+use Rattle.std.specs.Prelude.{if◌then◌else◌, Option}
+use Rattle.std.proofs.lemmas.List.{length-append}
+use Rattle.site.specs.declared.geometry.Geometry.{Geometry}
+use Rattle.site.specs.State.{State, Snapshot, snapshot_of}
+use Rattle.site.specs.Moments.{Leaves, LeavesOnly}
+use Rattle.site.specs.Laws.{each_both, each_weaker}
+use Rattle.record_model.specs.State.{Content}
+use Rattle.log_records.specs.declared.log_record.LogRecord.{LogRecord}
+use Rattle.log_records.specs.Spelling.{AreBlock}
+use Rattle.log_records.specs.Log.{Entry}
+use Rattle.log_records.specs.Unfinished.{owed}
+use Rattle.log_records.specs.Sound.{Picture, HasRoom}
+use Rattle.log_laws.specs.Follow.{sealed}
+use Rattle.log_laws.specs.Tail.{whole}
+use Rattle.slotted_page.specs.Layout as page
+use Rattle.log_store.specs.declared.store.LogStore.{LogStore}
+use Rattle.log_store.specs.LogList.{LogList, sealed_if}
+use Rattle.log_store.specs.Representation.{HasBlocks, has_tail, end_of}
+use Rattle.slotted_page.specs.Layout.{lsn_of}
+use Rattle.log_records.specs.Spelling.{block_len}
+use Rattle.flash_cache.specs.Representation.{version_on}
+use Rattle.write_ahead.specs.Forcing.{end_forced, forces}
+use Rattle.page_store.specs.declared.store.PageStore.{PageStore}
+use Rattle.page_store.specs.Representation.{IsStore, current}
+use Rattle.page_store.specs.Ahead.{AreSealed, LeavesSealed, IsAhead}
+use Rattle.page_store.specs.Leaves.{AreReady, LeavesPages, LeavesRings, KeepsCurrent}
+use Rattle.checkpoint.specs.declared.master.Master.{Master}
+use Rattle.image_meaning.specs.Meaning.{next_block_under, picture_under, versions_on, version_in, kept_by}
+use Rattle.image_meaning.specs.Redone.{ShowsAll}
+use Rattle.image_meaning.specs.Moments.{LeavesTableUnder}
+use Rattle.image_meaning.specs.Beside.{AreRingsSoundUnder}
+use Rattle.redo_laws.specs.Running.{RunsOn}
+use Rattle.redo_laws.specs.Holding.{ShowRecords, RepresentsIn, Represents}
+use Rattle.redo_laws.specs.Laws.{LogLaws, PageLaws}
+use Rattle.redo_laws.proofs.Runs.{resealed}
+use Rattle.redo_laws.proofs.Standing.{more_blocks, runs_now, shows_now, stands_now, current_sound, last_of_all}
+
+abbrev pub tail_blocks : Bool → ℕ
+tail_blocks b = if b then 1 else 0
+
+-- the log is forced only where its tail has records
+pub forced_tail : (log : LogStore) (contents : List (List ℕ)) → forces log contents ≡ true → has_tail log ≡ true
+forced_tail log contents is = (and_parts (has_tail log) _ is).0
+
+module _ (logs : LogLaws) (laws : PageLaws) (log : LogStore) (pages : PageStore) (site : State) (newest : Option Master) (records : List Entry) (table : List Content) (commits : ℕ) (h : Represents log pages site newest records table commits) where
+  abbrev g : Geometry
+  g = pages.flash.geometry
+
+  abbrev blocks : List (List LogRecord)
+  blocks = h.log_holds.blocks
+
+  abbrev tail : List LogRecord
+  tail = h.log_holds.tail
+
+  abbrev list : LogList
+  list = record { first = kept_by newest; blocks = h.log_holds.blocks; tail = h.log_holds.tail }
+
+  -- the ring's next block is the one behind the sealed ones
+  pub hi_is : log.ring.hi ≡ next_block_under newest blocks
+  hi_is = let hi = h.log_holds.ready.blocks.hi in let next = h.log_holds.ready.records.blocks.next in let at = laws.next newest blocks in omega (arith, hi, next, at)
+
+  -- a tail that has records may be sealed
+  tail_room : has_tail log ≡ true → HasRoom (sealed (picture_under newest g site.image blocks) tail)
+  tail_room some =
+      let all : owed (whole (picture_under newest g site.image blocks) tail) ≡ owed records = ap owed h.log_holds.runs_on.records_are in
+      omega (arith, h.log_holds.room, ap tail_blocks some, hi_is, all, h.log_holds.kept, laws.next newest blocks)
+
+  pub runs_sealed : has_tail log ≡ true → AreBlock tail → RunsOn (picture_under newest g site.image (blocks ++ tail ∷ [])) [] records table commits
+  runs_sealed some block =
+      subst (λ (p : Picture). RunsOn p [] records table commits) (more_blocks logs laws newest g site.image blocks tail)
+      (resealed logs (picture_under newest g site.image blocks) tail records table commits h.log_holds.runs_on block (tail_room some))
+
+  abbrev given : ℕ → List ℕ
+  given = current pages site.image
+
+  -- what a crash leaves
+  module _ (own : IsStore pages) (sealing : Bool) (some : sealing ≡ true → has_tail log ≡ true) where
+    sound_given : (number : ℕ) → number < g.pages → page.IsSound (current pages site.image number)
+    sound_given number exists = current_sound pages site.image number own (h.log_holds.ready.pages.sound number exists)
+
+    pub at_snapshot : (s : Snapshot) → LeavesPages g (current pages site.image) sealing list site s → AreSealed g s.image → AreRingsSoundUnder newest g s.image → LeavesTableUnder newest g table commits site.told s
+    at_snapshot s leaves are_sealed rings = record {
+      told = leaves.log.told;
+      stands = elim leaves.log.blocks [
+        | inl has ↦ stands_now logs laws g site.image s.image given blocks tail newest records table commits h.log_holds.runs_on h.shows.each has are_sealed leaves.versions
+            rings leaves.clean h.log_holds.ready.pages.sound sound_given
+        | inr more ↦ stands_now logs laws g site.image s.image given (blocks ++ tail ∷ []) [] newest records table commits (runs_sealed (some more.0) (last_of_all AreBlock blocks tail more.1.are_blocks)) h.shows.each more.1 are_sealed
+            leaves.versions rings leaves.clean h.log_holds.ready.pages.sound sound_given
+      ];
+    }
+
+    pub leaves_table : (new : State) → LeavesOnly site new (LeavesPages g (current pages site.image) sealing list site) → LeavesOnly site new (LeavesSealed g) → LeavesOnly site new (LeavesRings newest g) →
+        LeavesOnly site new (LeavesTableUnder newest g table commits site.told)
+    leaves_table new leaves are_sealed rings =
+        each_weaker site new (λ m. Leaves (LeavesPages g (current pages site.image) sealing list site) m × (Leaves (LeavesSealed g) m × Leaves (LeavesRings newest g) m)) (Leaves (LeavesTableUnder newest g table commits site.told))
+        (λ m q s left. at_snapshot s (q.0 s left) (q.1.0 s left) (q.1.1 s left))
+        (each_both site new _ _ leaves (each_both site new _ _ are_sealed rings))
+
+  -- and what stands behind a touch
+  module _ (log' : LogStore) (pages' : PageStore) (new : State) (geometry : log'.geometry ≡ g) (same_kept : log'.kept ≡ log.kept) (kept : KeepsCurrent pages site.image pages' new.image) (are_ahead : IsAhead log' pages' new.image)
+      (end : end_forced log' ≡ end_forced log) (are_sealed : AreSealed g new.image) (rings : AreRingsSoundUnder newest g new.image) (high : log.used ≤ block_len) where
+    below_by : end_of log ≤ end_of log' → (number : ℕ) → number < g.pages → lsn_of (current pages' new.image number) < end_of log'
+    below_by more number exists =
+        subst (λ (c : List ℕ). lsn_of c < end_of log') (sym (kept.each number exists)) (omega (arith, h.below number exists, more))
+
+    shows_by : (blocks' : List (List LogRecord)) (tail' : List LogRecord) → RunsOn (picture_under newest g site.image blocks') tail' records table commits → HasBlocks g (kept_by newest) blocks' new.image →
+        ((number : ℕ) → number < g.pages → (version_on g new.image number ≡ version_on g site.image number) ⊎ (version_on g new.image number ≡ given number)) → ShowRecords g pages' new.image records
+    shows_by blocks' tail' runs has versions = record {
+      each = λ number exists.
+          subst (λ (c : List ℕ). ShowsAll records (versions_on g new.image) number (version_in c)) (sym (kept.each number exists))
+          (shows_now logs laws g site.image new.image given blocks' tail' newest records table commits runs h.shows.each has are_sealed versions number exists);
+    }
+
+    pub touched_holds : (sealing : Bool) → (sealing ≡ true → has_tail log ≡ true) → AreReady pages' log' (sealed_if sealing list) new → LeavesPages g (current pages site.image) sealing list site (snapshot_of new) →
+        RepresentsIn g log' pages' new newest records table commits
+    touched_holds false some ready leaves =
+        let has : HasBlocks g (kept_by newest) blocks new.image = subst (λ (k : Geometry). HasBlocks k (kept_by newest) blocks new.image) geometry ready.records.blocks in
+        record {
+          log_holds = record {
+            kept = same_kept ∙ h.log_holds.kept;
+            blocks = blocks;
+            tail = tail;
+            ready = ready;
+            rings = rings;
+            runs_on = runs_now logs laws g site.image new.image given blocks tail newest records table commits h.log_holds.runs_on h.shows.each has are_sealed leaves.versions;
+            ahead = are_ahead;
+            room = omega (arith, h.log_holds.room, end, same_kept);
+          };
+          shows = shows_by blocks tail h.log_holds.runs_on has leaves.versions;
+          below = below_by (
+              let hi = ready.blocks.hi in let next = ready.records.blocks.next in let used = ready.records.tail.end in let was = h.log_holds.ready.records.tail.end in
+              omega (arith, hi, next, used, was, hi_is, laws.next newest blocks)
+              );
+        }
+    touched_holds true some ready leaves =
+        let has : HasBlocks g (kept_by newest) (blocks ++ tail ∷ []) new.image = subst (λ (k : Geometry). HasBlocks k (kept_by newest) (blocks ++ tail ∷ []) new.image) geometry ready.records.blocks in
+        let runs = runs_sealed (some refl) (last_of_all AreBlock blocks tail has.are_blocks) in
+        record {
+          log_holds = record {
+            kept = same_kept ∙ h.log_holds.kept;
+            blocks = blocks ++ tail ∷ [];
+            tail = [];
+            ready = ready;
+            rings = rings;
+            runs_on = runs_now logs laws g site.image new.image given (blocks ++ tail ∷ []) [] newest records table commits runs h.shows.each has are_sealed leaves.versions;
+            ahead = are_ahead;
+            room = omega (arith, h.log_holds.room, end, same_kept);
+          };
+          shows = shows_by (blocks ++ tail ∷ []) [] runs has leaves.versions;
+          below = below_by (
+              let hi = ready.blocks.hi in let next = ready.records.blocks.next in let used = ready.records.tail.end in
+              omega (arith, hi, next, used, hi_is, high, length-append blocks (tail ∷ []), laws.next newest blocks)
+              );
+        }
+
+-- results
