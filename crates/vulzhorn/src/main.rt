@@ -2,10 +2,6 @@
 //! leaves readable.
 #![tactic(auto)]
 
-mod host;
-#[cfg(test)]
-mod host_tests;
-
 use std::process::ExitCode;
 
 fn main(rt: HostRuntime) -> ExitCode {

@@ -1,5 +1,5 @@
 // The program around the top call, over files of the current folder and standard streams that are kept.
-use crate::host::{run, stopped};
+use host::{run, stopped};
 use notices::{Number, Wrong, find_wrong};
 use site::Stop;
 use std::alloc::{Alloc, Allocator, Global};

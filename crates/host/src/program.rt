@@ -1,4 +1,4 @@
-// The program around the top call: its words, and the files of the current folder.
+// The words make a site, the top call works on it, and what is to be said is said.
 ghost use Rattle.std.specs.Prelude.{◌≡◌};
 ghost use Rattle.site.specs.declared.outside.Stop.{Stop};
 ghost use Rattle.face.specs.declared.halt.Halt.{Halt};

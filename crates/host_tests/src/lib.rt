@@ -1,0 +1,5 @@
+//! Tests of `host`.
+#![tactic(auto)]
+
+#[cfg(test)]
+mod tests;
