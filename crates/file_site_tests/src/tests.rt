@@ -1,13 +1,13 @@
 // What no clause says: which files are read, written, synced, made and locked, and what the standard streams give and
 // take. A test is a table of rows, which one function plays.
 use crate::fakes::{Fake, FakeReader, World};
-use file_site::{Call, FileSite, Intake, Watch, tell_line};
-use site::{Dev, Failed, Site};
+use file_site::{Call, Failure, FileSite, Intake, LockFile, Watch, tell_line};
+use site::{Dev, Failed, Site, Stop};
 use std::alloc::Global;
 use std::fs;
-use std::io::ErrorKind;
-use std::process::Abort;
-use std::rt::Files;
+use std::io::{self, Eprint, ErrorKind, Input, Print};
+use std::os::unix::fs::FileExt;
+use std::rt::{Clock, Files};
 use std::test::Fail;
 
 const NAMES: [&str; 6] = [
@@ -19,54 +19,80 @@ const NAMES: [&str; 6] = [
     "face.disk.new",
 ];
 
-fn remove_all(rt: &HostRuntime) {
-    for path in NAMES {
-        let _ = fs::remove_file(rt, path);
-    }
-}
-
-// The length of a file; of one that isn't there the greatest.
-fn length(rt: &HostRuntime, path: &str) -> u64 {
-    match rt.metadata(path) {
-        Ok(metadata) => metadata.len(),
-        Err(_) => u64::MAX,
-    }
-}
-
+// The length of a file that isn't there.
 const NONE: u64 = u64::MAX;
 
-// The lengths of the files of the devices and of their drafts.
-fn lengths(rt: &HostRuntime) -> [u64; 6] {
-    NAMES.map(|path| length(rt, path))
+// How a site is opened: without files, over those that are there, for a check of them, or over those of a new database
+// of these lengths.
+#[derive(Clone, Copy)]
+enum How {
+    Bare,
+    Existing,
+    Check,
+    Fresh(u64, u64, u64),
 }
 
 // A row of a test.
 #[derive(Clone, Copy)]
 enum Step {
-    // The device has this length.
-    Len(Dev, u64),
-    // The call at this place, with the octets that it writes, tells, reads or takes, gives this.
-    Call(Call, u64, &'static [u8], Result<usize, Failed>),
+    // None of the files is there from now on; one is there with these octets.
+    Clear,
+    File(&'static str, &'static [u8]),
+    // The site is closed, and then opened anew.
+    Open(How),
     // From now on so many of these calls on this file fail.
     Fail(&'static str, &'static str, ErrorKind, u32),
     // From now on the output takes no more at once.
     AtMost(usize),
-    // These calls were made since the last such row, this was told, and this was said.
-    Calls(&'static str),
+    // A site that is opened from now on has this input.
+    Feed(&'static [u8]),
+    // From now on so many milliseconds pass at each look at the clock.
+    Pass(u64),
+    // The calls that were made are forgotten.
+    Forget,
+    // The files of the devices and of their drafts have these lengths.
+    Files([u64; 6]),
+    // The device has this length.
+    Len(Dev, u64),
+    // The call at this place, with the octets that it writes, tells, reads or takes, gives this.
+    Call(Call, u64, &'static [u8], Result<usize, Failed>),
+    // Of a call of each kind on each device and one that tells, at the front and with one octet, this one alone fails.
+    Fails(Call),
+    // No call has failed since the site was opened; or this was the first, with this error.
+    Sound,
+    First(Call, ErrorKind),
+    // A line is told without a site, whole or not.
+    Line(&'static [u8], bool),
+    // Behind these first ones these calls were made since the last such row; this was told, and this was said.
+    Calls(&'static str, &'static str),
     Told(&'static [u8]),
     Said(&'static str),
     // So many pauses were made in all.
     Slept(u64),
 }
 
-// Reads these octets from this place on, where the device has so many; answers how many.
-fn read<S: Site>(
-    rt: &impl Abort,
-    site: &mut S,
-    dev: Dev,
-    at: u64,
-    octets: &[u8],
-) -> Result<usize, Failed> {
+fn remove_all(rt: &HostRuntime) {
+    for path in NAMES {
+        let _ = fs::remove_file(rt, path);
+    }
+}
+
+// Whether the files have these lengths.
+fn have_lengths(rt: &HostRuntime, lengths: [u64; 6]) -> bool {
+    for (path, wanted) in NAMES.iter().zip(&lengths) {
+        let found = match rt.metadata(path) {
+            Ok(metadata) => metadata.len(),
+            Err(_) => NONE,
+        };
+        if found != *wanted {
+            return false;
+        }
+    }
+    true
+}
+
+// Reads as many octets from this place on, where the device has so many; answers how many there are, if they are these.
+fn read<S: Site>(site: &mut S, dev: Dev, at: u64, octets: &[u8]) -> Result<usize, Failed> {
     let mut found = [9; 8];
     let len = site.len(dev);
     if len < at || octets.len() > 8 {
@@ -76,7 +102,9 @@ fn read<S: Site>(
         return Ok(0);
     }
     site.read_at(dev, at, &mut found[..octets.len()])?;
-    assert!(rt; found.starts_with(octets));
+    if !found.starts_with(octets) {
+        return Ok(0);
+    }
     Ok(octets.len())
 }
 
@@ -93,30 +121,26 @@ fn write<S: Site>(site: &mut S, dev: Dev, at: u64, octets: &[u8]) -> Result<usiz
     Ok(octets.len())
 }
 
-// Takes at most eight octets, which are to be these; answers how many.
-fn take<S: Site>(rt: &impl Abort, site: &mut S, octets: &[u8]) -> Result<usize, Failed> {
+// Takes at most eight octets; answers how many, if they are these, and else nine.
+fn take<S: Site>(site: &mut S, octets: &[u8]) -> Result<usize, Failed> {
     let mut found = [9; 8];
     let count = site.take(&mut found)?;
-    assert!(rt; found.starts_with(octets));
+    if !found.starts_with(octets) {
+        return Ok(9);
+    }
     Ok(count)
 }
 
 // Makes a call; answers how many octets it wrote, told, read or took.
-fn carry_out<S: Site>(
-    rt: &impl Abort,
-    site: &mut S,
-    call: Call,
-    at: u64,
-    octets: &[u8],
-) -> Result<usize, Failed> {
+fn call<S: Site>(site: &mut S, call: Call, at: u64, octets: &[u8]) -> Result<usize, Failed> {
     match call {
-        Call::Read(dev) => read(rt, site, dev, at, octets),
+        Call::Read(dev) => read(site, dev, at, octets),
         Call::Write(dev) => write(site, dev, at, octets),
         Call::Sync(dev) => match site.sync(dev) {
             Ok(()) => Ok(0),
             Err(failed) => Err(failed),
         },
-        Call::Take => take(rt, site, octets),
+        Call::Take => take(site, octets),
         Call::Tell => {
             if octets.is_empty() {
                 return Ok(0);
@@ -126,220 +150,294 @@ fn carry_out<S: Site>(
     }
 }
 
-// Plays a row that asks the world, or tells it something.
-fn ask(rt: &impl Abort, alloc: Global, world: &World, step: Step, row: usize) {
+// A call of each kind on each device, and one that tells; a write comes before its device is read.
+const EACH: [Call; 10] = [
+    Call::Write(Dev::Log),
+    Call::Sync(Dev::Log),
+    Call::Read(Dev::Log),
+    Call::Write(Dev::Flash),
+    Call::Sync(Dev::Flash),
+    Call::Read(Dev::Flash),
+    Call::Write(Dev::Disk),
+    Call::Sync(Dev::Disk),
+    Call::Read(Dev::Disk),
+    Call::Tell,
+];
+
+// Whether of all these calls this one alone fails.
+fn fails_alone<S: Site>(site: &mut S, failed: Call) -> bool {
+    for made in EACH {
+        if call(site, made, 0, b"a").is_err() != (made == failed) {
+            return false;
+        }
+    }
+    true
+}
+
+// Changes what the site stands on, where the row says so.
+fn prepare(rt: &HostRuntime, world: &World, step: Step) -> io::Result<()> {
     match step {
+        Step::Clear => remove_all(rt),
+        Step::File(path, octets) => fs::write(rt, path, octets)?,
         Step::Fail(call, path, kind, times) => world.fail(call, path, kind, times),
         Step::AtMost(count) => world.tell_at_most(count),
-        Step::Calls(calls) => {
-            assert_eq!(rt; world.calls(alloc).as_str(), calls, "row {row}");
-        }
-        Step::Told(told) => assert!(rt; world.told(alloc).as_slice() == told, "row {row}"),
-        Step::Said(said) => assert_eq!(rt; world.said(alloc).as_str(), said, "row {row}"),
-        Step::Slept(pauses) => assert_eq!(rt; world.slept(), pauses, "row {row}"),
-        Step::Len(..) | Step::Call(..) => {}
+        Step::Feed(input) => world.feed(input),
+        Step::Pass(millis) => world.let_pass(millis),
+        Step::Forget => drop(world.calls(rt.alloc())),
+        _ => {}
+    }
+    Ok(())
+}
+
+// Whether a row holds that looks at what was made, called, told and said.
+fn shows(rt: &HostRuntime, world: &World, step: Step) -> bool {
+    let alloc = rt.alloc();
+    match step {
+        Step::Files(lengths) => have_lengths(rt, lengths),
+        Step::Calls(first, calls) => world.calls(alloc).as_str().strip_prefix(first) == Some(calls),
+        Step::Told(told) => world.told(alloc).as_slice() == told,
+        Step::Said(said) => world.said(alloc).as_str() == said,
+        Step::Slept(pauses) => world.slept() == pauses,
+        _ => true,
     }
 }
 
-// Plays the rows.
-fn play<S: Site>(rt: &impl Abort, alloc: Global, world: &World, site: &mut S, steps: &[Step]) {
+// Whether the first call that failed is this one, with this error.
+fn is_first(found: Option<Failure>, call: Call, kind: ErrorKind) -> bool {
+    match found {
+        Some(failure) => failure.call == call && failure.error.kind() == kind,
+        None => false,
+    }
+}
+
+// Whether a row on the site holds.
+fn holds<R>(over: &R, site: &mut FileSite<R>, step: Step) -> bool
+where
+    R: Files + Input + Print + Clock + Eprint + Drop,
+    R::File: FileExt + LockFile,
+{
+    match step {
+        Step::Len(dev, len) => site.len(dev) == len,
+        Step::Call(made, at, octets, gives) => call(site, made, at, octets) == gives,
+        Step::Fails(failed) => fails_alone(site, failed),
+        Step::Sound => site.failure().is_none(),
+        Step::First(failed, kind) => is_first(site.failure(), failed, kind),
+        Step::Line(line, whole) => tell_line(over, line) == whole,
+        _ => true,
+    }
+}
+
+fn open<R>(over: R, alloc: Global, how: How) -> Result<FileSite<R>, Stop>
+where
+    R: Files + Input + Print + Clock + Eprint + Drop,
+    R::File: FileExt + LockFile,
+{
+    match how {
+        How::Bare => FileSite::bare(over, alloc),
+        How::Existing => FileSite::existing(over, alloc),
+        How::Check => FileSite::for_check(over, alloc),
+        How::Fresh(log, flash, disk) => FileSite::fresh(over, alloc, log, flash, disk),
+    }
+}
+
+// Plays rows over a runtime in this world, and answers how many hold, up to the first one that doesn't.
+fn play_over<R>(rt: &HostRuntime, world: &World, over: R, steps: &[Step]) -> Result<usize, Fail>
+where
+    R: Files + Input + Print + Clock + Eprint + Copy + Drop,
+    R::File: FileExt + LockFile,
+{
+    let mut site = FileSite::bare(over, rt.alloc())?;
     for (row, step) in steps.iter().enumerate() {
         match *step {
-            Step::Len(dev, len) => assert_eq!(rt; site.len(dev), len, "row {row}"),
-            Step::Call(call, at, octets, gives) => {
-                let given = carry_out(rt, site, call, at, octets);
-                assert_eq!(rt; given, gives, "row {row}");
+            Step::Open(how) => {
+                site = FileSite::bare(over, rt.alloc())?;
+                site = open(over, rt.alloc(), how)?;
             }
-            other => ask(rt, alloc, world, other, row),
+            step => {
+                prepare(rt, world, step)?;
+                if !shows(rt, world, step) || !holds(&over, &mut site, step) {
+                    return Ok(row);
+                }
+            }
         }
     }
+    Ok(steps.len())
 }
 
-// The files of a small database.
-fn make_small(rt: &HostRuntime) -> Result<(), Fail> {
-    drop(FileSite::fresh(rt, rt.alloc(), 10, 20, 30)?);
-    Ok(())
+// Plays rows over a new world.
+fn play(rt: &HostRuntime, steps: &[Step]) -> Result<usize, Fail> {
+    let world = World::new(rt.alloc());
+    let fake = Fake { rt, world: &world };
+    play_over(rt, &world, fake, steps)
 }
 
-// Makes the files of a database with a log of this length in this world; answers the lengths of log and disk, and of
-// the files.
-fn make(rt: &HostRuntime, world: &World, log: u64) -> Result<([u64; 2], [u64; 6]), Fail> {
-    let site = FileSite::fresh(Fake { rt, world }, rt.alloc(), log, 20, 30)?;
-    let found = [site.len(Dev::Log), site.len(Dev::Disk)];
-    drop(site);
-    Ok((found, lengths(rt)))
-}
+const FOUND_AGAIN: [Step; 18] = [
+    Step::Clear,
+    Step::Open(How::Existing),
+    Step::Len(Dev::Log, 0),
+    Step::Open(How::Fresh(70_000, 8, 4_096)),
+    Step::Len(Dev::Log, 70_000),
+    Step::Call(Call::Write(Dev::Log), 69_998, b"ab", Ok(2)),
+    Step::Len(Dev::Flash, 8),
+    Step::Call(Call::Write(Dev::Flash), 0, b"flash", Ok(5)),
+    Step::Call(Call::Sync(Dev::Log), 0, b"", Ok(0)),
+    Step::Open(How::Bare),
+    Step::Files([70_000, 8, 4_096, NONE, NONE, NONE]),
+    Step::Open(How::Existing),
+    Step::Len(Dev::Log, 70_000),
+    Step::Len(Dev::Disk, 4_096),
+    Step::Call(Call::Read(Dev::Log), 69_997, b"\0ab", Ok(3)),
+    Step::Len(Dev::Flash, 8),
+    Step::Call(Call::Read(Dev::Flash), 0, b"flash\0\0\0", Ok(8)),
+    Step::Clear,
+];
 
+// The site over the runtime itself.
 #[test]
 fn files_are_made_and_found_again(rt: HostRuntime) -> Result<(), Fail> {
-    remove_all(&rt);
     let world = World::new(rt.alloc());
-    let mut none = FileSite::existing(&rt, rt.alloc())?;
-    play(
-        &rt,
-        rt.alloc(),
-        &world,
-        &mut none,
-        &[Step::Len(Dev::Log, 0)],
-    );
-    let mut made = FileSite::fresh(&rt, rt.alloc(), 70_000, 8, 4_096)?;
-    let steps = [
-        Step::Len(Dev::Log, 70_000),
-        Step::Call(Call::Write(Dev::Log), 69_998, b"ab", Ok(2)),
-        Step::Len(Dev::Flash, 8),
-        Step::Call(Call::Write(Dev::Flash), 0, b"flash", Ok(5)),
-        Step::Call(Call::Sync(Dev::Log), 0, b"", Ok(0)),
-    ];
-    play(&rt, rt.alloc(), &world, &mut made, &steps);
-    drop(made);
-    assert_eq!(rt; lengths(&rt), [70_000, 8, 4_096, NONE, NONE, NONE]);
-
-    let mut again = FileSite::existing(&rt, rt.alloc())?;
-    let steps = [
-        Step::Len(Dev::Log, 70_000),
-        Step::Len(Dev::Disk, 4_096),
-        Step::Call(Call::Read(Dev::Log), 69_997, b"\0ab", Ok(3)),
-        Step::Len(Dev::Flash, 8),
-        Step::Call(Call::Read(Dev::Flash), 0, b"flash\0\0\0", Ok(8)),
-    ];
-    play(&rt, rt.alloc(), &world, &mut again, &steps);
-    remove_all(&rt);
+    let held = play_over(&rt, &world, &rt, &FOUND_AGAIN)?;
+    assert_eq!(rt; held, FOUND_AGAIN.len());
     Ok(())
 }
+
+const NOT_FIT: [Step; 9] = [
+    Step::Clear,
+    Step::File("face.disk", &[0; 30]),
+    Step::Fail("read", "face.disk", ErrorKind::Other, 1),
+    Step::Open(How::Fresh(10, 20, 30)),
+    Step::Len(Dev::Log, 0),
+    Step::Len(Dev::Disk, 0),
+    Step::Open(How::Bare),
+    Step::Files([NONE, NONE, 30, NONE, NONE, NONE]),
+    Step::Clear,
+];
 
 // Where a file that is there can't be read, no device is there: else the missing ones would read as blank and not be
 // made.
 #[test]
 fn a_file_that_cannot_be_read_is_not_fit(rt: HostRuntime) -> Result<(), Fail> {
-    remove_all(&rt);
-    fs::write(&rt, "face.disk", [0u8; 30].as_slice())?;
-    let world = World::new(rt.alloc());
-    world.fail("read", "face.disk", ErrorKind::Other, 1);
-    let (devices, files) = make(&rt, &world, 10)?;
-    assert_eq!(rt; devices, [0, 0]);
-    assert_eq!(rt; files, [NONE, NONE, 30, NONE, NONE, NONE]);
-    remove_all(&rt);
+    assert_eq!(rt; play(&rt, &NOT_FIT)?, NOT_FIT.len());
     Ok(())
 }
+
+// The first calls wherever files are opened.
+const OPENING: &str = "open /dev/null;open /dev/null;open /dev/null;open .;lock .;";
+
+const IN_ORDER: [Step; 17] = [
+    Step::Clear,
+    Step::File("face.log.new", b"left by another"),
+    Step::Open(How::Fresh(70_000, 20, 30)),
+    Step::Calls(
+        OPENING,
+        "open face.log;open face.flash;open face.disk;remove face.log.new;make face.log.new;lock face.log.new;fill \
+        face.log.new;fill face.log.new;sync all face.log.new;remove face.flash.new;make face.flash.new;fill \
+        face.flash.new;sync all face.flash.new;remove face.disk.new;make face.disk.new;fill face.disk.new;sync all \
+        face.disk.new;rename face.log.new;rename face.flash.new;rename face.disk.new;sync all .;",
+    ),
+    Step::Open(How::Bare),
+    Step::Files([70_000, 20, 30, NONE, NONE, NONE]),
+    Step::File("face.disk", &[0; 30]),
+    Step::Open(How::Fresh(20, 20, 30)),
+    Step::Calls(
+        OPENING,
+        "open face.log;lock face.log;sync face.log;open face.flash;sync face.flash;open face.disk;sync face.disk;",
+    ),
+    Step::Open(How::Bare),
+    Step::Files([70_000, 20, 30, NONE, NONE, NONE]),
+    Step::File("face.log", &[0; 20]),
+    Step::Open(How::Fresh(20, 20, 30)),
+    Step::Calls(
+        OPENING,
+        "open face.log;lock face.log;sync face.log;open face.flash;sync face.flash;open face.disk;sync \
+        face.disk;read face.log;read face.flash;read face.disk;sync all .;",
+    ),
+    Step::Open(How::Bare),
+    Step::Files([20, 20, 30, NONE, NONE, NONE]),
+    Step::Clear,
+];
 
 // Each file is filled and synced under the name of a draft, and then renamed; the folder is synced last, also where
 // nothing was to be made.
 #[test]
 fn a_new_database_is_made_in_this_order(rt: HostRuntime) -> Result<(), Fail> {
-    // By a file that is there before, the length of the log, the calls behind the first ones, and the log's file.
-    let rows: [(&str, &[u8], u64, &str, u64); 3] = [
-        (
-            "face.log.new",
-            b"left by another",
-            70_000,
-            "open face.log;open face.flash;open face.disk;remove face.log.new;make face.log.new;lock face.log.new;fill \
-            face.log.new;fill face.log.new;sync all face.log.new;remove face.flash.new;make face.flash.new;fill \
-            face.flash.new;sync all face.flash.new;remove face.disk.new;make face.disk.new;fill face.disk.new;sync all \
-            face.disk.new;rename face.log.new;rename face.flash.new;rename face.disk.new;sync all .;",
-            70_000,
-        ),
-        (
-            "face.disk",
-            &[0; 30],
-            20,
-            "open face.log;lock face.log;sync face.log;open face.flash;sync face.flash;open face.disk;sync face.disk;",
-            70_000,
-        ),
-        (
-            "face.log",
-            &[0; 20],
-            20,
-            "open face.log;lock face.log;sync face.log;open face.flash;sync face.flash;open face.disk;sync \
-            face.disk;read face.log;read face.flash;read face.disk;sync all .;",
-            20,
-        ),
-    ];
-    remove_all(&rt);
-    let world = World::new(rt.alloc());
-    for (path, octets, log, calls, len) in rows {
-        fs::write(&rt, path, octets)?;
-        let (_devices, files) = make(&rt, &world, log)?;
-        let opening = "open /dev/null;open /dev/null;open /dev/null;open .;lock .;";
-        let made = world.calls(rt.alloc());
-        assert_eq!(rt; made.as_str().strip_prefix(opening), Some(calls));
-        assert_eq!(rt; files, [len, 20, 30, NONE, NONE, NONE]);
-    }
-    remove_all(&rt);
+    assert_eq!(rt; play(&rt, &IN_ORDER)?, IN_ORDER.len());
     Ok(())
 }
+
+// A call on a file that fails once, and the length of a log of 10 octets then.
+const UNMADE: [(&str, &str, ErrorKind, u64); 12] = [
+    ("make", "face.flash.new", ErrorKind::PermissionDenied, 0),
+    ("fill", "face.disk.new", ErrorKind::StorageFull, 0),
+    ("sync all", "face.log.new", ErrorKind::Other, 0),
+    ("rename", "face.flash.new", ErrorKind::Other, 0),
+    ("sync all", ".", ErrorKind::Other, 0),
+    ("open", ".", ErrorKind::PermissionDenied, 0),
+    ("open", "/dev/null", ErrorKind::NotFound, 10),
+    ("sync all", ".", ErrorKind::InvalidInput, 10),
+    ("sync all", ".", ErrorKind::Unsupported, 10),
+    ("lock", ".", ErrorKind::Unsupported, 10),
+    ("lock", "face.log.new", ErrorKind::Unsupported, 10),
+    ("fill", "face.log.new", ErrorKind::Interrupted, 10),
+];
 
 // Where a file can't be made, nothing is there and nothing stays; but a file system without a sync of folders or
 // without locks makes a new database all the same.
 #[test]
 fn what_cannot_be_made_is_removed(rt: HostRuntime) -> Result<(), Fail> {
-    let rows = [
-        ("make", "face.flash.new", ErrorKind::PermissionDenied, 0),
-        ("fill", "face.disk.new", ErrorKind::StorageFull, 0),
-        ("sync all", "face.log.new", ErrorKind::Other, 0),
-        ("rename", "face.flash.new", ErrorKind::Other, 0),
-        ("sync all", ".", ErrorKind::Other, 0),
-        ("open", ".", ErrorKind::PermissionDenied, 0),
-        ("open", "/dev/null", ErrorKind::NotFound, 10),
-        ("sync all", ".", ErrorKind::InvalidInput, 10),
-        ("sync all", ".", ErrorKind::Unsupported, 10),
-        ("lock", ".", ErrorKind::Unsupported, 10),
-        ("lock", "face.log.new", ErrorKind::Unsupported, 10),
-        ("fill", "face.log.new", ErrorKind::Interrupted, 10),
-    ];
-    for (call, path, kind, len) in rows {
-        remove_all(&rt);
-        let world = World::new(rt.alloc());
-        world.fail(call, path, kind, 1);
-        let (devices, files) = make(&rt, &world, 10)?;
-        assert_eq!(rt; devices[0], len, "{call} {path}");
+    for (call, path, kind, len) in UNMADE {
         let left = if len == 0 {
             [NONE; 6]
         } else {
             [10, 20, 30, NONE, NONE, NONE]
         };
-        assert_eq!(rt; files, left, "{call} {path}");
+        let steps = [
+            Step::Clear,
+            Step::Fail(call, path, kind, 1),
+            Step::Open(How::Fresh(10, 20, 30)),
+            Step::Len(Dev::Log, len),
+            Step::Open(How::Bare),
+            Step::Files(left),
+            Step::Clear,
+        ];
+        assert!(rt; play(&rt, &steps)? == 7, "{call} {path}");
     }
-    remove_all(&rt);
     Ok(())
 }
+
+const DEVICES: [(Dev, &str, &str); 3] = [
+    (
+        Dev::Log,
+        "face.log",
+        "write face.log;sync face.log;read face.log;",
+    ),
+    (
+        Dev::Flash,
+        "face.flash",
+        "write face.flash;sync face.flash;read face.flash;",
+    ),
+    (
+        Dev::Disk,
+        "face.disk",
+        "write face.disk;sync face.disk;read face.disk;",
+    ),
+];
 
 // Each call is made on the file of its device and at its place, and fails where that does.
 #[test]
 fn each_call_is_made_on_its_own_file(rt: HostRuntime) -> Result<(), Fail> {
-    let devices = [
-        (
-            Dev::Log,
-            "face.log",
-            "write face.log;sync face.log;read face.log;",
-        ),
-        (
-            Dev::Flash,
-            "face.flash",
-            "write face.flash;sync face.flash;read face.flash;",
-        ),
-        (
-            Dev::Disk,
-            "face.disk",
-            "write face.disk;sync face.disk;read face.disk;",
-        ),
-    ];
-    remove_all(&rt);
-    let world = World::new(rt.alloc());
-    let fake = Fake {
-        rt: &rt,
-        world: &world,
-    };
-    make_small(&rt)?;
-    let mut site = FileSite::existing(fake, rt.alloc())?;
-    for (dev, path, calls) in devices {
-        let _ = world.calls(rt.alloc());
+    for (dev, path, calls) in DEVICES {
         let read = Step::Call(Call::Read(dev), 5, b"\0ab", Ok(3));
         let write = Step::Call(Call::Write(dev), 6, b"ab", Ok(2));
         let steps = [
+            Step::Clear,
+            Step::Open(How::Fresh(10, 20, 30)),
+            Step::Open(How::Existing),
+            Step::Forget,
             write,
             Step::Call(Call::Sync(dev), 0, b"", Ok(0)),
             read,
-            Step::Calls(calls),
+            Step::Calls("", calls),
             Step::Fail("write", path, ErrorKind::StorageFull, 1),
             Step::Call(Call::Write(dev), 6, b"cd", Err(Failed)),
             Step::Fail("sync", path, ErrorKind::Other, 1),
@@ -352,48 +450,42 @@ fn each_call_is_made_on_its_own_file(rt: HostRuntime) -> Result<(), Fail> {
             Step::Fail("read", path, ErrorKind::Interrupted, 2),
             write,
             read,
+            Step::Clear,
         ];
-        play(&rt, rt.alloc(), &world, &mut site, &steps);
+        assert!(rt; play(&rt, &steps)? == 21, "{path}");
     }
-    drop(site);
-    remove_all(&rt);
     Ok(())
 }
+
+const COUNTED: [Step; 21] = [
+    Step::Call(Call::Tell, 0, b"one", Ok(3)),
+    Step::AtMost(2),
+    Step::Call(Call::Tell, 0, b"two", Ok(2)),
+    Step::AtMost(0),
+    Step::Call(Call::Tell, 0, b"three", Err(Failed)),
+    Step::AtMost(4),
+    Step::Fail("tell", "", ErrorKind::Interrupted, 3),
+    Step::Call(Call::Tell, 0, b"four", Ok(4)),
+    Step::Slept(0),
+    Step::Fail("tell", "", ErrorKind::WouldBlock, 70_000),
+    Step::Call(Call::Tell, 0, b"fives", Ok(4)),
+    Step::Slept(70_000),
+    Step::Fail("tell", "", ErrorKind::BrokenPipe, 1),
+    Step::Call(Call::Tell, 0, b"six", Err(Failed)),
+    Step::Told(b"onetwfourfive"),
+    Step::AtMost(3),
+    Step::Fail("tell", "", ErrorKind::WouldBlock, 2),
+    Step::Line(b"a whole line", true),
+    Step::Told(b"a whole line"),
+    Step::Fail("tell", "", ErrorKind::BrokenPipe, 1),
+    Step::Line(b"a line", false),
+];
 
 // What an output takes is what is counted; one that isn't ready is tried again behind a pause, and one that fails is a
 // fault.
 #[test]
 fn what_is_told_is_counted(rt: HostRuntime) -> Result<(), Fail> {
-    let world = World::new(rt.alloc());
-    let fake = Fake {
-        rt: &rt,
-        world: &world,
-    };
-    let mut site = FileSite::bare(fake, rt.alloc())?;
-    let steps = [
-        Step::Call(Call::Tell, 0, b"one", Ok(3)),
-        Step::AtMost(2),
-        Step::Call(Call::Tell, 0, b"two", Ok(2)),
-        Step::AtMost(0),
-        Step::Call(Call::Tell, 0, b"three", Err(Failed)),
-        Step::AtMost(4),
-        Step::Fail("tell", "", ErrorKind::Interrupted, 3),
-        Step::Call(Call::Tell, 0, b"four", Ok(4)),
-        Step::Slept(0),
-        Step::Fail("tell", "", ErrorKind::WouldBlock, 70_000),
-        Step::Call(Call::Tell, 0, b"fives", Ok(4)),
-        Step::Slept(70_000),
-        Step::Fail("tell", "", ErrorKind::BrokenPipe, 1),
-        Step::Call(Call::Tell, 0, b"six", Err(Failed)),
-        Step::Told(b"onetwfourfive"),
-        Step::AtMost(3),
-        Step::Fail("tell", "", ErrorKind::WouldBlock, 2),
-    ];
-    play(&rt, rt.alloc(), &world, &mut site, &steps);
-    assert!(rt; tell_line(&fake, b"a whole line"));
-    assert!(rt; world.told(rt.alloc()).as_slice() == b"a whole line".as_slice());
-    world.fail("tell", "", ErrorKind::BrokenPipe, 1);
-    assert!(rt; !tell_line(&fake, b"a line"));
+    assert_eq!(rt; play(&rt, &COUNTED)?, COUNTED.len());
     Ok(())
 }
 
@@ -414,180 +506,199 @@ const COUNTS: [Option<usize>; 13] = [
     Some(0),
 ];
 
+const INPUT: &[u8] = b"the octets of an input";
+
+// Whether all of the input is taken, three octets at once, where the third take fails so many times. A fault that passes
+// has no take of its own.
+fn is_all_taken(
+    alloc: Global,
+    fake: &Fake<'_>,
+    kind: ErrorKind,
+    times: u32,
+    passes: bool,
+) -> Result<bool, Fail> {
+    fake.world.feed(INPUT);
+    let mut intake = Intake::new(FakeReader::new(fake.world), vec![in alloc; 0u8; 4]?);
+    let mut taken = Vec::new(alloc);
+    for (turn, count) in COUNTS.iter().enumerate() {
+        if turn == 2 {
+            fake.world.fail("take", "", kind, times);
+            if passes {
+                continue;
+            }
+        }
+        let mut three = [0; 3];
+        let given = intake.take(fake, &mut three).ok();
+        if given != *count {
+            return Ok(false);
+        }
+        taken.extend_from_slice(&three[..given.unwrap_or(0).min(3)])?;
+    }
+    Ok(taken.as_slice() == INPUT)
+}
+
+// An error, how often it comes, whether it passes, and the pauses then.
+const FAULTS: [(ErrorKind, u32, bool, u64); 3] = [
+    (ErrorKind::Interrupted, 3, true, 0),
+    (ErrorKind::WouldBlock, 70_000, true, 70_000),
+    (ErrorKind::Other, 1, false, 0),
+];
+
+const BY_SITE: [Step; 4] = [
+    Step::Feed(b"input"),
+    Step::Open(How::Bare),
+    Step::Call(Call::Take, 0, b"input", Ok(5)),
+    Step::Call(Call::Take, 0, b"", Ok(0)),
+];
+
 // All of the input is taken in its order, through a buffer of any size, and only its end is 0. A take that fails moves
 // nothing.
 #[test]
 fn all_input_is_taken(rt: HostRuntime) -> Result<(), Fail> {
-    let faults = [
-        (ErrorKind::Interrupted, 3, true, 0),
-        (ErrorKind::WouldBlock, 70_000, true, 70_000),
-        (ErrorKind::Other, 1, false, 0),
-    ];
-    for (kind, times, passes, pauses) in faults {
+    for (kind, times, passes, pauses) in FAULTS {
         let world = World::new(rt.alloc());
         let fake = Fake {
             rt: &rt,
             world: &world,
         };
-        world.feed(b"the octets of an input");
-        let mut intake = Intake::new(FakeReader::new(&world), vec![in rt.alloc(); 0u8; 4]?);
-        let mut taken: Vec<u8> = Vec::new(rt.alloc());
-        for (turn, count) in COUNTS.iter().enumerate() {
-            if turn == 2 {
-                world.fail("take", "", kind, times);
-                if passes {
-                    continue;
-                }
-            }
-            let mut three = [0; 3];
-            let given = intake.take(&fake, &mut three).ok();
-            assert_eq!(rt; given, *count, "turn {turn}");
-            taken.extend_from_slice(&three[..given.unwrap_or(0).min(3)])?;
-        }
-        assert!(rt; taken.as_slice() == b"the octets of an input".as_slice());
-        assert_eq!(rt; world.slept(), pauses);
+        let all = is_all_taken(rt.alloc(), &fake, kind, times, passes)?;
+        assert!(rt; all && world.slept() == pauses, "{times} times");
     }
-    let world = World::new(rt.alloc());
-    world.feed(b"input");
-    let fake = Fake {
-        rt: &rt,
-        world: &world,
-    };
-    let mut site = FileSite::bare(fake, rt.alloc())?;
-    let steps = [
-        Step::Call(Call::Take, 0, b"input", Ok(5)),
-        Step::Call(Call::Take, 0, b"", Ok(0)),
-    ];
-    play(&rt, rt.alloc(), &world, &mut site, &steps);
+    assert_eq!(rt; play(&rt, &BY_SITE)?, BY_SITE.len());
     Ok(())
 }
+
+// The call that fails twice, by its name, its file and its kind. The write that fails is the last, since each read is
+// to find what was written.
+const FIRST: [(&str, &str, Call); 4] = [
+    ("sync", "face.flash", Call::Sync(Dev::Flash)),
+    ("read", "face.log", Call::Read(Dev::Log)),
+    ("tell", "", Call::Tell),
+    ("write", "face.disk", Call::Write(Dev::Disk)),
+];
 
 // The first call that failed is kept with its error, whatever fails behind it.
 #[test]
 fn the_first_failure_is_kept(rt: HostRuntime) -> Result<(), Fail> {
-    // The write that fails is the last, since each read is to find what was written.
-    let rows = [
-        ("sync", "face.flash", Call::Sync(Dev::Flash)),
-        ("read", "face.log", Call::Read(Dev::Log)),
-        ("tell", "", Call::Tell),
-        ("write", "face.disk", Call::Write(Dev::Disk)),
-    ];
-    let calls = [
-        Call::Write(Dev::Log),
-        Call::Sync(Dev::Log),
-        Call::Read(Dev::Log),
-        Call::Write(Dev::Flash),
-        Call::Sync(Dev::Flash),
-        Call::Read(Dev::Flash),
-        Call::Write(Dev::Disk),
-        Call::Sync(Dev::Disk),
-        Call::Read(Dev::Disk),
-        Call::Tell,
-    ];
-    remove_all(&rt);
-    make_small(&rt)?;
-    for (call, path, failed) in rows {
-        let world = World::new(rt.alloc());
-        let fake = Fake {
-            rt: &rt,
-            world: &world,
-        };
-        let mut site = FileSite::existing(fake, rt.alloc())?;
-        assert!(rt; site.failure().is_none());
-        for kind in [ErrorKind::StorageFull, ErrorKind::BrokenPipe] {
-            world.fail(call, path, kind, 1);
-            for made in calls {
-                let given = carry_out(&rt, &mut site, made, 0, b"a");
-                assert_eq!(rt; given.is_err(), made == failed, "{call}");
-            }
-        }
-        let Some(failure) = site.failure() else {
-            return Err(Fail::new("no failure was kept"));
-        };
-        assert_eq!(rt; failure.call, failed);
-        assert_eq!(rt; failure.error.kind(), ErrorKind::StorageFull);
+    for (call, path, failed) in FIRST {
+        let steps = [
+            Step::Clear,
+            Step::Open(How::Fresh(10, 20, 30)),
+            Step::Open(How::Existing),
+            Step::Sound,
+            Step::Fail(call, path, ErrorKind::StorageFull, 1),
+            Step::Fails(failed),
+            Step::Fail(call, path, ErrorKind::BrokenPipe, 1),
+            Step::Fails(failed),
+            Step::First(failed, ErrorKind::StorageFull),
+            Step::Clear,
+        ];
+        assert!(rt; play(&rt, &steps)? == 10, "{call}");
     }
-    remove_all(&rt);
     Ok(())
 }
+
+const LARGE: [Step; 22] = [
+    Step::Clear,
+    Step::Pass(125),
+    Step::Open(How::Fresh(2_097_152, 20, 30)),
+    Step::Len(Dev::Log, 2_097_152),
+    Step::Len(Dev::Disk, 30),
+    Step::Said(
+        "face.log.new: 1 of 2 MiB are written\nface.log.new: 2 of 2 MiB are written, and being synced\n",
+    ),
+    Step::Open(How::Bare),
+    Step::Clear,
+    Step::Fail("say", "", ErrorKind::BrokenPipe, 100),
+    Step::Open(How::Fresh(2_097_152, 20, 30)),
+    Step::Len(Dev::Log, 2_097_152),
+    Step::Len(Dev::Disk, 30),
+    Step::Said(""),
+    Step::Open(How::Bare),
+    Step::Clear,
+    Step::Fail("", "", ErrorKind::BrokenPipe, 100),
+    Step::Pass(50),
+    Step::Open(How::Fresh(2_097_152, 20, 30)),
+    Step::Len(Dev::Log, 2_097_152),
+    Step::Len(Dev::Disk, 30),
+    Step::Said(""),
+    Step::Clear,
+];
 
 // What takes long is said on standard error, and what can't be said is not.
 #[test]
 fn making_large_files_is_told_of(rt: HostRuntime) -> Result<(), Fail> {
-    let said =
-        "face.log.new: 1 of 2 MiB are written\nface.log.new: 2 of 2 MiB are written, and being synced\n";
-    for (millis, call, words) in [(125, "", said), (125, "say", ""), (50, "", "")] {
-        remove_all(&rt);
-        let world = World::new(rt.alloc());
-        world.let_pass(millis);
-        world.fail(call, "", ErrorKind::BrokenPipe, 100);
-        let (devices, _files) = make(&rt, &world, 2_097_152)?;
-        assert_eq!(rt; devices, [2_097_152, 30]);
-        assert_eq!(rt; world.said(rt.alloc()).as_str(), words);
-    }
-    remove_all(&rt);
+    assert_eq!(rt; play(&rt, &LARGE)?, LARGE.len());
     Ok(())
 }
+
+const LONG_CHECK: [Step; 9] = [
+    Step::Clear,
+    Step::Open(How::Fresh(10, 20, 30)),
+    Step::Pass(1_500),
+    Step::Open(How::Check),
+    Step::Call(Call::Read(Dev::Log), 0, b"\0\0\0", Ok(3)),
+    Step::Said(""),
+    Step::Call(Call::Read(Dev::Disk), 0, b"\0\0\0", Ok(3)),
+    Step::Said("check: 0 MiB are read; the files have 1 MiB, of which parts are read again\n"),
+    Step::Clear,
+];
 
 // Where a check of the files takes long, it is said how much of them is read.
 #[test]
 fn a_long_check_is_told_of(rt: HostRuntime) -> Result<(), Fail> {
-    remove_all(&rt);
-    make_small(&rt)?;
-    let world = World::new(rt.alloc());
-    world.let_pass(1_500);
-    let fake = Fake {
-        rt: &rt,
-        world: &world,
-    };
-    let mut site = FileSite::for_check(fake, rt.alloc())?;
-    let steps = [
-        Step::Call(Call::Read(Dev::Log), 0, b"\0\0\0", Ok(3)),
-        Step::Said(""),
-        Step::Call(Call::Read(Dev::Disk), 0, b"\0\0\0", Ok(3)),
-        Step::Said("check: 0 MiB are read; the files have 1 MiB, of which parts are read again\n"),
-    ];
-    play(&rt, rt.alloc(), &world, &mut site, &steps);
-    drop(site);
-    remove_all(&rt);
+    assert_eq!(rt; play(&rt, &LONG_CHECK)?, LONG_CHECK.len());
     Ok(())
+}
+
+// An input and the first line that ends with a carriage return.
+const RETURNED: [(&[u8], Option<u64>); 6] = [
+    (b"", None),
+    (b"get 5\nget 6\n", None),
+    (b"get 5\nget\r6\n\nget 7\r\nget 8\r\n", Some(4)),
+    (b"\r\n", Some(1)),
+    (b"get 5\nget 6\r", Some(2)),
+    (b"\n\r", Some(2)),
+];
+
+const REPLIES: &[u8] =
+    b"open 0\nrefused line\nvalue 0a\nitem 2 refused \nrefused session\nrefused\nrefused long\n";
+
+// What is told, and the rule that has been said to fail then.
+const RULES: [(&[u8], Option<u8>); 3] = [
+    (b"sound S2\nunsou", None),
+    (b"nd S1", Some(1)),
+    (b"1\n", Some(11)),
+];
+
+// What is noticed of input and replies that pass in pieces of this size.
+fn noticed(input: &[u8], replies: &[u8], size: usize) -> Watch {
+    let mut watch = Watch::new();
+    for piece in input.chunks(size.max(1)) {
+        watch.hears(piece);
+    }
+    for piece in replies.chunks(size.max(1)) {
+        watch.tells(piece);
+    }
+    watch
 }
 
 // However the input and the replies are cut, the first line that ends with a carriage return, the refusals and the rule
 // that fails are noticed.
 #[test]
-fn carriage_returns_and_refusals_are_noticed(rt: HostRuntime) -> Result<(), Fail> {
-    let rows: [(&[u8], Option<u64>); 6] = [
-        (b"", None),
-        (b"get 5\nget 6\n", None),
-        (b"get 5\nget\r6\n\nget 7\r\nget 8\r\n", Some(4)),
-        (b"\r\n", Some(1)),
-        (b"get 5\nget 6\r", Some(2)),
-        (b"\n\r", Some(2)),
-    ];
-    for (input, line) in rows {
-        for size in [1, 2, 3, 100] {
-            let mut watch = Watch::new();
-            for piece in input.chunks(size) {
-                watch.hears(piece);
-            }
-            assert_eq!(rt; watch.returned(), line);
-        }
-    }
-    let told =
-        b"open 0\nrefused line\nvalue 0a\nitem 2 refused \nrefused session\nrefused\nrefused long\n".as_slice();
+fn carriage_returns_and_refusals_are_noticed(rt: HostRuntime) {
     for size in [1, 2, 3, 100] {
-        let mut watch = Watch::new();
-        for piece in told.chunks(size) {
-            watch.tells(piece);
+        for (input, line) in RETURNED {
+            let watch = noticed(input, REPLIES, size);
+            assert!(rt;
+                watch.returned() == line && watch.refused() == 3,
+                "{size} at once"
+            );
         }
-        assert_eq!(rt; watch.refused(), 3);
     }
     let mut watch = Watch::new();
-    watch.tells(b"sound S2\nunsou");
-    assert_eq!(rt; watch.rule(), None);
-    watch.tells(b"nd S1");
-    watch.tells(b"1\n");
-    assert_eq!(rt; watch.rule(), Some(11));
-    Ok(())
+    for (told, rule) in RULES {
+        watch.tells(told);
+        assert_eq!(rt; watch.rule(), rule);
+    }
 }
