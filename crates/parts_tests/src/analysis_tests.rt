@@ -1,4 +1,5 @@
-// Logs read record by record. What is expected was worked out by hand.
+// Logs read record by record. What is expected was worked out by hand. A test is a table of rows, which one function
+// plays.
 ghost use Rattle.analysis.specs.Read.{Invariant};
 
 use analysis::{Analysis, Loser};
@@ -7,96 +8,89 @@ use log_records::LogRecord;
 use site::Stop;
 use std::test::Fail;
 
-// An Update of record 5, which had no value and still has none.
-fn update(txn: u64, prev: u64) -> LogRecord {
-    LogRecord::Update {
-        txn,
-        prev,
-        page: 0,
-        slot: 5,
-        before: None,
-        after: None,
-    }
+// A row of a test.
+#[derive(Clone, Copy)]
+enum Step {
+    // A record that is read, by its LSN: of a Begin; of an Update of record 5, which had no value and still has none,
+    // with the transaction and its record before; of the compensation of such an Update, with that which is next; of a
+    // Commit, with the transaction and the number.
+    Begin(u64),
+    Update(u64, u64, u64),
+    Clr(u64, u64, u64, u64),
+    Commit(u64, u64, u64),
+    // A Commit that is refused as foreign.
+    Stray(u64, u64, u64),
+    // This Update is to be undone next, of this transaction; or none.
+    Next(u64, u64),
+    Undone,
+    // That Update is compensated by a record with this LSN; the first loser's End comes.
+    Compensate(u64),
+    Finish,
+    // So many commits and losers are known.
+    Counts(u64, usize),
+    // The first loser, or that there is none.
+    First(Loser),
+    None,
+    // The analysis has ended.
+    Ended,
 }
 
-// Transaction 2 has an Update at 3 and one at 540. Between them transaction 514 begins, updates and commits.
-#[test]
-fn a_log_leaves_one_transaction(rt: HostRuntime) -> Result<(), Fail> {
-    let mut analysis = Analysis::start(rt.alloc(), &Master::blank())?;
-    analysis.step(2, &LogRecord::Begin)?;
-    analysis.step(3, &update(2, 2))?;
-    analysis.step(514, &LogRecord::Begin)?;
-    analysis.step(515, &update(514, 514))?;
-    analysis.step(540, &update(2, 3))?;
-    analysis.step(
-        600,
-        &LogRecord::Commit {
-            txn: 514,
-            number: 1,
-        },
-    )?;
-    assert_eq!(rt; analysis.commits(), 1);
-    assert_eq!(rt; analysis.losers(), 1);
-    assert_eq!(rt; analysis.next_undo(), Some((2, 540)));
-    Ok(())
-}
-
-// Transactions 2 and 3 have Updates at 4 and 60, and at 30. They are undone in descending order.
-#[test]
-fn updates_are_undone_from_the_last_on(rt: HostRuntime) -> Result<(), Fail> {
-    let mut analysis = Analysis::start(rt.alloc(), &Master::blank())?;
-    analysis.step(2, &LogRecord::Begin)?;
-    analysis.step(3, &LogRecord::Begin)?;
-    analysis.step(4, &update(2, 2))?;
-    analysis.step(30, &update(3, 3))?;
-    analysis.step(60, &update(2, 4))?;
-    let order: [(u64, u64); 3] = [(2, 60), (3, 30), (2, 4)];
-    let mut last = 512;
-    for wanted in order {
-        let next = analysis.next_undo();
-        assert_eq!(rt; next, Some(wanted));
-        if let Some((txn, lsn)) = next {
-            analysis.compensated(txn, lsn - lsn % 2, last);
+// Reads a record.
+fn read(analysis: &mut Analysis, step: Step) -> Result<(), Stop>
+    requires { Invariant analysis.old }
+    ensures { Invariant analysis.new }
+{
+    let (lsn, record) = match step {
+        Step::Begin(lsn) => (lsn, LogRecord::Begin),
+        Step::Update(lsn, txn, prev) => (
+            lsn,
+            LogRecord::Update {
+                txn,
+                prev,
+                page: 0,
+                slot: 5,
+                before: None,
+                after: None,
+            },
+        ),
+        Step::Clr(lsn, txn, prev, undo_next) => (
+            lsn,
+            LogRecord::Clr {
+                txn,
+                prev,
+                undo_next,
+                page: 0,
+                slot: 5,
+                after: None,
+            },
+        ),
+        Step::Commit(lsn, txn, number) | Step::Stray(lsn, txn, number) => {
+            (lsn, LogRecord::Commit { txn, number })
         }
-        last += 32;
-    }
-    assert_eq!(rt; analysis.next_undo(), None);
-    assert_eq!(rt; analysis.losers(), 2);
-    Ok(())
+        _ => return Ok(()),
+    };
+    analysis.step(lsn, &record)
 }
 
-// A master names transactions 514 and 600, with 7 commits before it.
-#[test]
-fn a_master_names_active_transactions(rt: HostRuntime) -> Result<(), Fail> {
-    let mut active = Pairs::new();
-    active.push(514, 1_030);
-    active.push(600, 601);
-    let master = Master {
-        redo: 3,
-        kept: 1,
-        commits: 7,
-        active,
-    };
-    if !master.active.ascend() {
-        return Ok(());
+// Compensates the next Update.
+fn compensate(analysis: &mut Analysis, last: u64)
+    requires { Invariant analysis.old }
+    ensures { Invariant analysis.new }
+{
+    if let Some((txn, lsn)) = analysis.next_undo() {
+        analysis.compensated(txn, lsn - lsn % 2, last);
     }
-    let mut analysis = Analysis::start(rt.alloc(), &master)?;
-    assert_eq!(rt; analysis.losers(), 2);
-    analysis.step(514, &LogRecord::Begin)?;
-    analysis.step(600, &LogRecord::Begin)?;
-    analysis.step(601, &update(600, 600))?;
-    analysis.step(1_030, &update(514, 514))?;
-    analysis.step(
-        1_600,
-        &LogRecord::Commit {
-            txn: 600,
-            number: 8,
-        },
-    )?;
-    assert_eq!(rt; analysis.commits(), 8);
-    assert_eq!(rt; analysis.losers(), 1);
-    assert_eq!(rt; analysis.next_undo(), Some((514, 1_030)));
-    Ok(())
+}
+
+// Ends the first loser.
+fn finish(analysis: &mut Analysis)
+    requires { Invariant analysis.old }
+    ensures { Invariant analysis.new }
+{
+    if analysis.losers() > 0 {
+        let loser = analysis.loser(0);
+        analysis.finished(loser.txn);
+    }
 }
 
 // The loser at the front.
@@ -109,49 +103,162 @@ fn first_of(analysis: &Analysis) -> Option<Loser>
     Some(analysis.loser(0))
 }
 
-// A transaction with two Updates, of which the last one is compensated. Its End comes.
+// Whether a row holds that only looks.
+fn shows(analysis: &Analysis, step: Step) -> bool
+    requires { Invariant analysis.now }
+{
+    match step {
+        Step::Next(txn, lsn) => analysis.next_undo() == Some((txn, lsn)),
+        Step::Undone => analysis.next_undo().is_none(),
+        Step::Counts(commits, losers) => analysis.commits() == commits
+            && analysis.losers() == losers,
+        Step::First(loser) => first_of(analysis) == Some(loser),
+        Step::None => first_of(analysis).is_none(),
+        Step::Ended => analysis.ended(),
+        _ => true,
+    }
+}
+
+// Makes a call, or looks, and answers whether that is as the row says.
+fn holds(analysis: &mut Analysis, step: Step) -> bool
+    requires { Invariant analysis.old }
+    ensures { Invariant analysis.new }
+{
+    match step {
+        Step::Compensate(last) => {
+            compensate(analysis, last);
+            true
+        }
+        Step::Finish => {
+            finish(analysis);
+            true
+        }
+        Step::Stray(..) => read(analysis, step) == Err(Stop::Foreign),
+        _ => read(analysis, step).is_ok() && shows(analysis, step),
+    }
+}
+
+// Plays rows, and answers how many hold, up to the first one that doesn't.
+fn play_on(first: Analysis, steps: &[Step]) -> usize
+    requires { Invariant first }
+{
+    let mut analysis = first;
+    for (row, step) in steps.iter().enumerate() {
+        if !holds(&mut analysis, *step) {
+            return row;
+        }
+    }
+    steps.len()
+}
+
+// Plays rows over a log without a checkpoint.
+fn play(rt: &HostRuntime, steps: &[Step]) -> Result<usize, Fail> {
+    Ok(play_on(Analysis::start(rt.alloc(), &Master::blank())?, steps))
+}
+
+// Transaction 2 has an Update at 3 and one at 540. Between them transaction 514 begins, updates and commits.
+const ONE: [Step; 8] = [
+    Step::Begin(2),
+    Step::Update(3, 2, 2),
+    Step::Begin(514),
+    Step::Update(515, 514, 514),
+    Step::Update(540, 2, 3),
+    Step::Commit(600, 514, 1),
+    Step::Counts(1, 1),
+    Step::Next(2, 540),
+];
+
 #[test]
-fn a_loser_ends(rt: HostRuntime) -> Result<(), Fail> {
-    let mut analysis = Analysis::start(rt.alloc(), &Master::blank())?;
-    analysis.step(2, &LogRecord::Begin)?;
-    analysis.step(3, &update(2, 2))?;
-    analysis.step(30, &update(2, 3))?;
-    let clr = LogRecord::Clr {
-        txn: 2,
-        prev: 30,
-        undo_next: 3,
-        page: 0,
-        slot: 5,
-        after: None,
+fn a_log_leaves_one_transaction(rt: HostRuntime) -> Result<(), Fail> {
+    assert_eq!(rt; play(&rt, &ONE)?, ONE.len());
+    Ok(())
+}
+
+// Transactions 2 and 3 have Updates at 4 and 60, and at 30. They are undone in descending order.
+const DESCENDING: [Step; 13] = [
+    Step::Begin(2),
+    Step::Begin(3),
+    Step::Update(4, 2, 2),
+    Step::Update(30, 3, 3),
+    Step::Update(60, 2, 4),
+    Step::Next(2, 60),
+    Step::Compensate(512),
+    Step::Next(3, 30),
+    Step::Compensate(544),
+    Step::Next(2, 4),
+    Step::Compensate(576),
+    Step::Undone,
+    Step::Counts(0, 2),
+];
+
+#[test]
+fn updates_are_undone_from_the_last_on(rt: HostRuntime) -> Result<(), Fail> {
+    assert_eq!(rt; play(&rt, &DESCENDING)?, DESCENDING.len());
+    Ok(())
+}
+
+// A master names transactions 514 and 600, with 7 commits before it.
+const NAMED: [Step; 8] = [
+    Step::Counts(7, 2),
+    Step::Begin(514),
+    Step::Begin(600),
+    Step::Update(601, 600, 600),
+    Step::Update(1_030, 514, 514),
+    Step::Commit(1_600, 600, 8),
+    Step::Counts(8, 1),
+    Step::Next(514, 1_030),
+];
+
+#[test]
+fn a_master_names_active_transactions(rt: HostRuntime) -> Result<(), Fail> {
+    let mut active = Pairs::new();
+    active.push(514, 1_030);
+    active.push(600, 601);
+    let master = Master {
+        redo: 3,
+        kept: 1,
+        commits: 7,
+        active,
     };
-    analysis.step(514, &clr)?;
-    let wanted = Loser {
+    assert!(rt; master.active.ascend());
+    let analysis = Analysis::start(rt.alloc(), &master)?;
+    assert_eq!(rt; play_on(analysis, &NAMED), NAMED.len());
+    Ok(())
+}
+
+// A transaction with two Updates, of which the last one is compensated. Its End comes.
+const LOSER: [Step; 9] = [
+    Step::Begin(2),
+    Step::Update(3, 2, 2),
+    Step::Update(30, 2, 3),
+    Step::Clr(514, 2, 30, 3),
+    Step::First(Loser {
         txn: 2,
         last: 514,
         remaining: 1,
-    };
-    assert_eq!(rt; first_of(&analysis), Some(wanted));
-    assert_eq!(rt; analysis.next_undo(), Some((2, 3)));
-    if analysis.losers() > 0 {
-        let loser = analysis.loser(0);
-        analysis.finished(loser.txn);
-    }
-    assert_eq!(rt; first_of(&analysis), None);
-    assert_eq!(rt; analysis.commits(), 0);
+    }),
+    Step::Next(2, 3),
+    Step::Finish,
+    Step::None,
+    Step::Counts(0, 0),
+];
+
+#[test]
+fn a_loser_ends(rt: HostRuntime) -> Result<(), Fail> {
+    assert_eq!(rt; play(&rt, &LOSER)?, LOSER.len());
     Ok(())
 }
 
 // A record of a transaction that isn't active ends the analysis, and changes nothing else.
+const STRAY: [Step; 4] = [
+    Step::Begin(2),
+    Step::Stray(3, 5, 1),
+    Step::Ended,
+    Step::Counts(0, 1),
+];
+
 #[test]
 fn a_stray_record_is_foreign(rt: HostRuntime) -> Result<(), Fail> {
-    let mut analysis = Analysis::start(rt.alloc(), &Master::blank())?;
-    analysis.step(2, &LogRecord::Begin)?;
-    assert_eq!(rt;
-        analysis.step(3, &LogRecord::Commit { txn: 5, number: 1 }),
-        Err(Stop::Foreign)
-    );
-    assert!(rt; analysis.ended());
-    assert_eq!(rt; analysis.losers(), 1);
-    assert_eq!(rt; analysis.commits(), 0);
+    assert_eq!(rt; play(&rt, &STRAY)?, STRAY.len());
     Ok(())
 }

@@ -8,29 +8,54 @@ const OCTETS: [u8; 9] = [0xff, 0x01, 0x02, 0x03, 0x04, 0x05, 0x06, 0x07, 0x08];
 #[test]
 fn reads_the_highest_octet_first(rt: HostRuntime) {
     let octets: &[u8] = &OCTETS;
-    assert_eq!(rt; get_u16(octets, 1), 258);
-    assert_eq!(rt; get_u32(octets, 1), 16_909_060);
-    assert_eq!(rt; get_u64(octets, 1), 72_623_859_790_382_856);
+    assert!(rt; get_u16(octets, 1) == 258);
+    assert!(rt; get_u32(octets, 1) == 16_909_060);
+    assert!(rt; get_u64(octets, 1) == 72_623_859_790_382_856);
 }
+
+// A number that is put at a place.
+#[derive(Clone, Copy)]
+enum Put {
+    Two(u16),
+    Four(u32),
+    Eight(u64),
+}
+
+// Puts a number at a place, or at the last one where it has room.
+fn put_number(octets: &mut [u8; 9], at: usize, number: Put) {
+    match number {
+        Put::Two(number) => put_u16(octets, at.min(7), number),
+        Put::Four(number) => put_u32(octets, at.min(5), number),
+        Put::Eight(number) => put_u64(octets, at.min(1), number),
+    }
+}
+
+// Numbers that are put one after the other, and what stands there then.
+const PUTS: [(usize, Put, [u8; 9]); 3] = [
+    (
+        0,
+        Put::Two(40_000),
+        [0x9c, 0x40, 0x02, 0x03, 0x04, 0x05, 0x06, 0x07, 0x08],
+    ),
+    (
+        5,
+        Put::Four(4_000_000_000),
+        [0x9c, 0x40, 0x02, 0x03, 0x04, 0xee, 0x6b, 0x28, 0x00],
+    ),
+    (
+        1,
+        Put::Eight(10_000_000_000_000_000_000),
+        [0x9c, 0x8a, 0xc7, 0x23, 0x04, 0x89, 0xe8, 0x00, 0x00],
+    ),
+];
 
 #[test]
 fn writes_the_highest_octet_first(rt: HostRuntime) {
     let mut octets = OCTETS;
-    put_u16(&mut octets, 0, 40_000);
-    assert_eq!(rt;
-        octets,
-        [0x9c, 0x40, 0x02, 0x03, 0x04, 0x05, 0x06, 0x07, 0x08]
-    );
-    put_u32(&mut octets, 5, 4_000_000_000);
-    assert_eq!(rt;
-        octets,
-        [0x9c, 0x40, 0x02, 0x03, 0x04, 0xee, 0x6b, 0x28, 0x00]
-    );
-    put_u64(&mut octets, 1, 10_000_000_000_000_000_000);
-    assert_eq!(rt;
-        octets,
-        [0x9c, 0x8a, 0xc7, 0x23, 0x04, 0x89, 0xe8, 0x00, 0x00]
-    );
+    for (at, number, wanted) in PUTS {
+        put_number(&mut octets, at, number);
+        assert!(rt; octets == wanted, "at {at}");
+    }
 }
 
 const DIRTY: FrameHead = FrameHead {
@@ -42,14 +67,17 @@ const DIRTY: FrameHead = FrameHead {
 
 const DIRTY_OCTETS: [u8; 16] = [1, 1, 0, 0, 0, 0, 0, 7, 0, 0, 0, 0, 0, 0, 0, 0x29];
 
+// What this head is written as between two other octets.
+const IN_THE_MIDDLE: [u8; 18] = [
+    0xee, 1, 1, 0, 0, 0, 0, 0, 7, 0, 0, 0, 0, 0, 0, 0, 0x29, 0xee,
+];
+
 #[test]
 fn writes_and_reads_a_head(rt: HostRuntime) {
     let mut octets = [0xee; 18];
     write_head(&DIRTY, &mut octets, 1);
-    assert_eq!(rt; octets[0], 0xee);
-    assert_eq!(rt; octets[17], 0xee);
-    assert_eq!(rt; &octets[1..17], &DIRTY_OCTETS[..]);
-    assert_eq!(rt; read_head(&octets, 1), Ok(DIRTY));
+    assert!(rt; octets == IN_THE_MIDDLE);
+    assert!(rt; read_head(&octets, 1) == Ok(DIRTY));
 }
 
 // Octets that differ from those of a head in one place.
@@ -60,32 +88,36 @@ fn refuses_what_is_no_head(rt: HostRuntime) {
     for (place, octet) in BAD {
         let mut octets = DIRTY_OCTETS;
         octets[place] = octet;
-        assert_eq!(rt; read_head(&octets, 0), Err(BadHead));
+        assert!(rt; read_head(&octets, 0) == Err(BadHead), "{octet} at {place}");
     }
 }
 
 #[test]
 fn an_absent_head_is_all_zero(rt: HostRuntime) {
     let mut octets = [0; 16];
-    assert_eq!(rt; read_head(&octets, 0), Ok(FrameHead::BLANK));
+    assert!(rt; read_head(&octets, 0) == Ok(FrameHead::BLANK));
     octets[15] = 1;
-    assert_eq!(rt; read_head(&octets, 0), Err(BadHead));
+    assert!(rt; read_head(&octets, 0) == Err(BadHead));
     write_head(&FrameHead::BLANK, &mut octets, 0);
-    assert_eq!(rt; octets, [0; 16]);
+    assert!(rt; octets == [0; 16]);
 }
+
+// What stands for a dirty head and an absent one, and an octet behind.
+const TWO: [u8; 33] = [
+    1, 1, 0, 0, 0, 0, 0, 7, 0, 0, 0, 0, 0, 0, 0, 0x29, 0, 0, 0, 0, 0, 0, 0, 0, 0, 0, 0, 0, 0, 0, 0,
+    0, 0xee,
+];
 
 #[test]
 fn heads_stand_one_after_the_other(rt: HostRuntime) {
     let mut octets = [0xee; 33];
     write_heads(&[DIRTY, FrameHead::BLANK], &mut octets);
-    assert_eq!(rt; &octets[..16], &DIRTY_OCTETS[..]);
-    assert_eq!(rt; &octets[16..32], &[0; 16][..]);
-    assert_eq!(rt; octets[32], 0xee);
+    assert!(rt; octets == TWO);
     let mut heads = [FrameHead::BLANK; 2];
-    assert_eq!(rt; read_heads(&octets, &mut heads), Ok(()));
-    assert_eq!(rt; heads, [DIRTY, FrameHead::BLANK]);
+    assert!(rt; read_heads(&octets, &mut heads) == Ok(()));
+    assert!(rt; heads == [DIRTY, FrameHead::BLANK]);
     octets[16] = 2;
-    assert_eq!(rt; read_heads(&octets, &mut heads), Err(BadHead));
+    assert!(rt; read_heads(&octets, &mut heads) == Err(BadHead));
 }
 
 #[test]

@@ -7,6 +7,22 @@ use flash_directory::{Directory, HeadView, Place};
 use site::Stop;
 use std::test::Fail;
 
+// A row of a test.
+#[derive(Clone, Copy)]
+enum Step {
+    // The directory has this first group and so many.
+    Has(u64, usize),
+    // The last frame of a page is this one of this group; or it has none.
+    Newest(u32, u64, u8),
+    Absent(u32),
+    // The frames of the group at this place have these marks: page, whether they are valid, dirty and referenced.
+    Marks(usize, &'static [(u32, bool, bool, bool)]),
+    // A page is read.
+    Refer(u32),
+    // A group with these pages, each dirty or not, is pushed, and the front one taken out.
+    Push(&'static [(u32, bool)]),
+}
+
 // The heads of a group with these pages, each dirty or not.
 fn heads_of(frames: &[(u32, bool)]) -> [FrameHead; 8]
     requires { length frames.now ≤ 8 }
@@ -42,16 +58,89 @@ const NO_MARK: Mark = Mark {
     referenced: false,
 };
 
-fn mark(page: u32, valid: bool, dirty: bool, referenced: bool) -> Mark {
-    Mark {
-        page,
-        valid,
-        dirty,
-        referenced,
+// Whether the frames of the group at a place have these marks.
+fn has_marks(directory: &Directory, place: usize, wanted: &[(u32, bool, bool, bool)]) -> bool {
+    if place >= directory.len() {
+        return false;
+    }
+    let mut marks = [NO_MARK; 8];
+    if directory.marks(place, &mut marks) != wanted.len() {
+        return false;
+    }
+    for (mark, (page, valid, dirty, referenced)) in marks.iter().zip(wanted) {
+        let same = mark.page == *page && mark.valid == *valid;
+        if !same || mark.dirty != *dirty || mark.referenced != *referenced {
+            return false;
+        }
+    }
+    true
+}
+
+// Marks a page as read, where it has a frame.
+fn refer(directory: &mut Directory, page: u32) -> bool {
+    if directory.newest(page).is_none() {
+        return false;
+    }
+    directory.set_referenced(page);
+    true
+}
+
+// Puts a group behind the others, and takes the front one out, once it is known that it may.
+fn push(directory: &mut Directory, heads: &[FrameHead; 8], drop_front: bool) -> Result<bool, Stop> {
+    if !are_group_heads(heads) || directory.first() + directory.len() as u64 > 1 << 40 {
+        return Ok(false);
+    }
+    if drop_front && directory.len() == 0 {
+        return Ok(false);
+    }
+    directory.push_group(heads, drop_front)?;
+    Ok(true)
+}
+
+// Makes a call, or looks, and answers whether that is as the row says.
+fn holds(directory: &mut Directory, step: Step) -> Result<bool, Stop> {
+    match step {
+        Step::Has(first, len) => Ok(directory.first() == first && directory.len() == len),
+        Step::Newest(page, group, index) => {
+            Ok(directory.newest(page) == Some(Place { group, index }))
+        }
+        Step::Absent(page) => Ok(directory.newest(page).is_none()),
+        Step::Marks(place, marks) => Ok(has_marks(directory, place, marks)),
+        Step::Refer(page) => Ok(refer(directory, page)),
+        Step::Push(frames) => {
+            if frames.len() > 8 {
+                return Ok(false);
+            }
+            push(directory, &heads_of(frames), true)
+        }
     }
 }
 
 // Groups 5 and 6, then group 7 in place of group 5. Page 2 is read in between, and keeps its reference.
+const STEPS: [Step; 14] = [
+    Step::Has(5, 2),
+    Step::Newest(1, 6, 1),
+    Step::Newest(3, 5, 2),
+    Step::Absent(4),
+    Step::Marks(
+        0,
+        &[
+            (1, false, true, false),
+            (2, false, false, false),
+            (3, true, true, false),
+        ],
+    ),
+    Step::Newest(2, 6, 0),
+    Step::Refer(2),
+    Step::Push(&[(1, true), (4, true)]),
+    Step::Has(6, 2),
+    Step::Newest(1, 7, 0),
+    Step::Absent(3),
+    Step::Marks(0, &[(2, true, true, true), (1, false, false, false)]),
+    Step::Marks(1, &[(1, true, true, false), (4, true, true, false)]),
+    Step::Newest(4, 7, 1),
+];
+
 #[test]
 fn a_page_is_found_in_its_last_frame(rt: HostRuntime) -> Result<(), Fail> {
     let list = [
@@ -61,30 +150,9 @@ fn a_page_is_found_in_its_last_frame(rt: HostRuntime) -> Result<(), Fail> {
     let list: &[[FrameHead; 8]] = &list;
     assert!(rt; are_groups(list));
     let mut directory = Directory::of_groups(rt.alloc(), &HeadView { first: 5, list })?;
-    assert_eq!(rt; directory.first(), 5);
-    assert_eq!(rt; directory.len(), 2);
-    assert_eq!(rt; directory.newest(1), Some(Place { group: 6, index: 1 }));
-    assert_eq!(rt; directory.newest(3), Some(Place { group: 5, index: 2 }));
-    assert_eq!(rt; directory.newest(4), None);
-    let mut marks = [NO_MARK; 8];
-    assert_eq!(rt; directory.marks(0, &mut marks), 3);
-    assert_eq!(rt; marks[0], mark(1, false, true, false));
-    assert_eq!(rt; marks[1], mark(2, false, false, false));
-    assert_eq!(rt; marks[2], mark(3, true, true, false));
-    assert!(rt; directory.newest(2).is_some());
-    directory.set_referenced(2);
-    let next = heads_of(&[(1, true), (4, true)]);
-    assert!(rt; are_group_heads(&next));
-    directory.push_group(&next, true)?;
-    assert_eq!(rt; directory.first(), 6);
-    assert_eq!(rt; directory.len(), 2);
-    assert_eq!(rt; directory.newest(1), Some(Place { group: 7, index: 0 }));
-    assert_eq!(rt; directory.newest(3), None);
-    assert_eq!(rt; directory.marks(0, &mut marks), 2);
-    assert_eq!(rt; marks[0], mark(2, true, true, true));
-    assert_eq!(rt; marks[1], mark(1, false, false, false));
-    assert_eq!(rt; directory.marks(1, &mut marks), 2);
-    assert_eq!(rt; marks[1], mark(4, true, true, false));
+    for (row, step) in STEPS.iter().enumerate() {
+        assert!(rt; holds(&mut directory, *step)?, "row {row}");
+    }
     Ok(())
 }
 
@@ -102,16 +170,10 @@ fn eight_from(page: u32) -> [FrameHead; 8] {
     heads
 }
 
-// Puts a group of eight pages behind the others, and takes the front one out where there are five, once it is known
-// that it may.
+// Puts a group of eight pages behind the others, and takes the front one out where there are five.
 fn push_eight(directory: &mut Directory, page: u32) -> Result<bool, Stop> {
-    let heads = eight_from(page);
-    if !are_group_heads(&heads) || directory.first() + directory.len() as u64 > 1 << 40 {
-        return Ok(false);
-    }
     let drop_front = directory.len() >= 5;
-    directory.push_group(&heads, drop_front)?;
-    Ok(true)
+    push(directory, &eight_from(page), drop_front)
 }
 
 // Whether the groups are those numbered from `first` up to `end`, each with the eight pages from eight times its number

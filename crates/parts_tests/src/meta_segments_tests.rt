@@ -24,23 +24,32 @@ const HEADS: [FrameHead; 32] = [
     NONE, NONE, NONE,
 ];
 
+const CLEAN_OCTETS: [u8; 16] = [1, 0, 0, 0, 0, 0, 0, 7, 0, 0, 0, 0, 0, 0, 0, 0x29];
+
+const DIRTY_OCTETS: [u8; 16] = [1, 1, 0, 0, 0, 0, 1, 2, 0, 0, 0, 0, 0, 0, 3, 0xe8];
+
+// From where to where in the segment the same 16 octets stand again and again.
+const PARTS: [(usize, usize, [u8; 16]); 7] = [
+    (0, 16, CLEAN_OCTETS),
+    (16, 128, [0; 16]),
+    (128, 144, DIRTY_OCTETS),
+    (144, 160, CLEAN_OCTETS),
+    (160, 256, [0; 16]),
+    (256, 400, DIRTY_OCTETS),
+    (400, 512, [0; 16]),
+];
+
 #[test]
 fn writes_and_reads_a_segment(rt: HostRuntime) {
     let mut content = [0xee; 512];
     write_segment(&HEADS, &mut content);
-    assert_eq!(rt;
-        &content[..16],
-        &[1, 0, 0, 0, 0, 0, 0, 7, 0, 0, 0, 0, 0, 0, 0, 0x29][..]
-    );
-    assert_eq!(rt; &content[16..128], &[0; 112][..]);
-    assert_eq!(rt;
-        &content[128..144],
-        &[1, 1, 0, 0, 0, 0, 1, 2, 0, 0, 0, 0, 0, 0, 3, 0xe8][..]
-    );
-    assert_eq!(rt; content[144..160], content[..16]);
-    assert_eq!(rt; content[384..400], content[128..144]);
-    assert_eq!(rt; &content[400..], &[0; 112][..]);
-    assert_eq!(rt; segment_heads(&content), Ok(HEADS));
+    for (from, to, octets) in PARTS {
+        let part = content.get(from..to).unwrap_or(&[]);
+        for piece in part.chunks(16) {
+            assert!(rt; piece == octets.as_slice(), "from {from} to {to}");
+        }
+    }
+    assert!(rt; segment_heads(&content) == Ok(HEADS));
 }
 
 // A place and an octet that make a segment bad: no head there, a gap in the first group, a second
@@ -53,7 +62,10 @@ fn refuses_what_is_no_segment(rt: HostRuntime) {
         let mut content = [0; 512];
         write_segment(&HEADS, &mut content);
         content[place] = octet;
-        assert_eq!(rt; segment_heads(&content), Err(BadHead));
+        assert!(rt;
+            segment_heads(&content) == Err(BadHead),
+            "{octet} at {place}"
+        );
     }
-    assert_eq!(rt; segment_heads(&[0; 512]), Err(BadHead));
+    assert!(rt; segment_heads(&[0; 512]) == Err(BadHead));
 }

@@ -5,7 +5,7 @@ use std::test::Fail;
 fn octets_come_back(rt: HostRuntime) -> Result<(), Fail> {
     let whole = [7u8; 256];
     let octets = Octets::from_slice(&whole).ok_or("256 octets are refused")?;
-    assert_eq!(rt; octets.as_slice(), whole.as_slice());
+    assert!(rt; octets.as_slice() == whole.as_slice());
     assert!(rt; Octets::from_slice(&[7u8; 257]).is_none());
     Ok(())
 }
@@ -13,14 +13,13 @@ fn octets_come_back(rt: HostRuntime) -> Result<(), Fail> {
 #[test]
 fn items_stay_in_order(rt: HostRuntime) -> Result<(), Fail> {
     let mut items = Items::new(rt.alloc());
-    assert_eq!(rt; items.len(), 0);
+    assert!(rt; items.len() == 0);
     for number in [2u32, 4] {
         let value = Octets::from_slice(&[0xaa]).ok_or("an octet is refused")?;
         items.push(Item { number, value })?;
     }
-    assert_eq!(rt; items.len(), 2);
-    assert_eq!(rt; items.at(0).number, 2);
-    assert_eq!(rt; items.at(1).number, 4);
+    assert!(rt; items.len() == 2);
+    assert!(rt; items.at(0).number == 2 && items.at(1).number == 4);
     Ok(())
 }
 
@@ -33,13 +32,11 @@ fn lines_stay_in_order(rt: HostRuntime) -> Result<(), Fail> {
             changed: false,
         })?;
     }
-    assert_eq!(rt; listing.len(), 2);
-    assert_eq!(rt;
-        *listing.at(1),
-        CacheLine::Pool {
-            page: 9,
-            changed: false
-        }
-    );
+    assert!(rt; listing.len() == 2);
+    let last = CacheLine::Pool {
+        page: 9,
+        changed: false,
+    };
+    assert!(rt; *listing.at(1) == last);
     Ok(())
 }

@@ -1,79 +1,57 @@
 use byte_fields::Mark;
 use second_chance::{
-    Places, PoolMark, Taking, plan_evict, plan_evict_taking, plan_flush, plan_flush_taking,
+    Places, Plan, PoolMark, Taking, plan_evict, plan_evict_taking, plan_flush, plan_flush_taking,
 };
 
-const fn frame(page: u32, valid: bool, dirty: bool, referenced: bool) -> Mark {
-    Mark {
-        page,
-        valid,
-        dirty,
-        referenced,
-    }
+// A frame's mark: its page, and whether it is valid, dirty and referenced.
+macro_rules! frame {
+    ($page:literal, $valid:literal, $dirty:literal, $referenced:literal) => {
+        Mark {
+            page: $page,
+            valid: $valid,
+            dirty: $dirty,
+            referenced: $referenced,
+        }
+    };
 }
 
-const fn pooled(page: u32, changed: bool, framed: bool) -> PoolMark {
-    PoolMark {
-        page,
-        changed,
-        framed,
-    }
+// A page of the pool, and whether it is changed and has a frame.
+macro_rules! pooled {
+    ($page:literal, $changed:literal, $framed:literal) => {
+        PoolMark {
+            page: $page,
+            changed: $changed,
+            framed: $framed,
+        }
+    };
 }
 
-// Of five frames of the front group two are valid and dirty. One of these was referenced: it has a second chance, as
-// the clean frame that was. The pool has a changed page, and one with no frame.
-#[test]
-fn an_eviction_stages_what_is_valid_and_dirty(rt: HostRuntime) {
-    let front = [
-        frame(30, false, true, false),
-        frame(31, true, true, false),
-        frame(32, true, false, true),
-        frame(33, true, true, true),
-        frame(34, false, false, false),
-    ];
-    let pool = [pooled(7, true, true), pooled(8, false, false)];
-    let plan = plan_evict(Some(&front), &pool);
-    assert!(rt; are(&plan.chances, &[2, 3]));
-    assert!(rt; are(&plan.staged, &[1]));
-    assert!(rt; are(&plan.pulled, &[7, 8]));
-    let plan = plan_evict(None, &pool);
-    assert!(rt; plan.staged.is_empty());
+// A push that is planned.
+#[derive(Clone, Copy)]
+enum Push {
+    Evict,
+    Flush,
+    EvictTaking(Taking),
+    FlushTaking(Taking),
 }
 
-// Of eleven pages nine are changed: the eight coldest of these are pulled.
-#[test]
-fn a_flush_pulls_eight_changed_pages(rt: HostRuntime) {
-    let pool = [
-        pooled(10, true, true),
-        pooled(11, false, false),
-        pooled(12, true, false),
-        pooled(13, true, true),
-        pooled(14, true, true),
-        pooled(15, false, true),
-        pooled(16, true, false),
-        pooled(17, true, true),
-        pooled(18, true, true),
-        pooled(19, true, true),
-        pooled(20, true, true),
-    ];
-    let front = [frame(3, true, true, false)];
-    let plan = plan_flush(Some(&front), &pool);
-    assert_eq!(rt; plan.pulled.len(), 8);
-    assert_eq!(rt; plan.pulled.at(0), 10);
-    assert_eq!(rt; plan.pulled.at(1), 12);
-    assert_eq!(rt; plan.pulled.at(4), 16);
-    assert_eq!(rt; plan.pulled.at(7), 19);
-    assert_eq!(rt; plan.staged.len(), 1);
-    assert_eq!(rt; plan.staged.at(0), 0);
-    assert!(rt; plan.chances.is_empty());
-    let plan = plan_flush(None, &pool[9..]);
-    assert_eq!(rt; plan.pulled.len(), 2);
-    assert_eq!(rt; plan.pulled.at(1), 20);
-    assert!(rt; plan.staged.is_empty());
+// A push with a front group and a pool, and what it takes: second chances, staged frames and pulled pages. Where that
+// isn't known it isn't looked at.
+#[derive(Clone, Copy)]
+struct Row {
+    push: Push,
+    front: Option<&'static [Mark]>,
+    pool: &'static [PoolMark],
+    chances: Option<&'static [u32]>,
+    staged: Option<&'static [u32]>,
+    pulled: Option<&'static [u32]>,
 }
 
-fn are(places: &Places, wanted: &[u32]) -> bool {
-    if places.len() != wanted.len() {
+fn are(places: &Places, wanted: Option<&[u32]>) -> bool {
+    let Some(wanted) = wanted else {
+        return true;
+    };
+    if places.len() != wanted.len() || places.is_empty() != wanted.is_empty() {
         return false;
     }
     for (place, number) in wanted.iter().enumerate() {
@@ -84,44 +62,170 @@ fn are(places: &Places, wanted: &[u32]) -> bool {
     true
 }
 
+fn planned(row: &Row) -> Option<Plan> {
+    if let Some(marks) = row.front {
+        if marks.len() > 8 {
+            return None;
+        }
+    }
+    Some(match row.push {
+        Push::Evict => plan_evict(row.front, row.pool),
+        Push::Flush => plan_flush(row.front, row.pool),
+        Push::EvictTaking(taking) => plan_evict_taking(taking, row.front, row.pool),
+        Push::FlushTaking(taking) => plan_flush_taking(taking, row.front, row.pool),
+    })
+}
+
+// Plays rows, and answers how many hold, up to the first one that doesn't.
+fn play(rows: &[Row]) -> usize {
+    for (place, row) in rows.iter().enumerate() {
+        let Some(plan) = planned(row) else {
+            return place;
+        };
+        if !are(&plan.chances, row.chances) || !are(&plan.staged, row.staged) {
+            return place;
+        }
+        if !are(&plan.pulled, row.pulled) {
+            return place;
+        }
+    }
+    rows.len()
+}
+
+const EVICTED_FRONT: &[Mark] = &[
+    frame!(30, false, true, false),
+    frame!(31, true, true, false),
+    frame!(32, true, false, true),
+    frame!(33, true, true, true),
+    frame!(34, false, false, false),
+];
+
+const EVICTED_POOL: &[PoolMark] = &[pooled!(7, true, true), pooled!(8, false, false)];
+
+const EVICTIONS: [Row; 2] = [
+    Row {
+        push: Push::Evict,
+        front: Some(EVICTED_FRONT),
+        pool: EVICTED_POOL,
+        chances: Some(&[2, 3]),
+        staged: Some(&[1]),
+        pulled: Some(&[7, 8]),
+    },
+    Row {
+        push: Push::Evict,
+        front: None,
+        pool: EVICTED_POOL,
+        chances: None,
+        staged: Some(&[]),
+        pulled: None,
+    },
+];
+
+// Of five frames of the front group two are valid and dirty. One of these was referenced: it has a second chance, as
+// the clean frame that was. The pool has a changed page, and one with no frame.
+#[test]
+fn an_eviction_stages_what_is_valid_and_dirty(rt: HostRuntime) {
+    assert_eq!(rt; play(&EVICTIONS), EVICTIONS.len());
+}
+
+const FLUSHED_POOL: &[PoolMark] = &[
+    pooled!(10, true, true),
+    pooled!(11, false, false),
+    pooled!(12, true, false),
+    pooled!(13, true, true),
+    pooled!(14, true, true),
+    pooled!(15, false, true),
+    pooled!(16, true, false),
+    pooled!(17, true, true),
+    pooled!(18, true, true),
+    pooled!(19, true, true),
+    pooled!(20, true, true),
+];
+
+const FLUSHES: [Row; 2] = [
+    Row {
+        push: Push::Flush,
+        front: Some(&[frame!(3, true, true, false)]),
+        pool: FLUSHED_POOL,
+        chances: Some(&[]),
+        staged: Some(&[0]),
+        pulled: Some(&[10, 12, 13, 14, 16, 17, 18, 19]),
+    },
+    Row {
+        push: Push::Flush,
+        front: None,
+        pool: &[pooled!(19, true, true), pooled!(20, true, true)],
+        chances: None,
+        staged: Some(&[]),
+        pulled: Some(&[19, 20]),
+    },
+];
+
+// Of eleven pages nine are changed: the eight coldest of these are pulled. Then the last two of the eleven.
+#[test]
+fn a_flush_pulls_eight_changed_pages(rt: HostRuntime) {
+    assert_eq!(rt; play(&FLUSHES), FLUSHES.len());
+}
+
+const TAKEN_FRONT: &[Mark] = &[
+    frame!(30, false, true, true),
+    frame!(31, true, true, true),
+    frame!(32, true, false, true),
+    frame!(33, true, true, false),
+    frame!(34, true, false, false),
+];
+
+const TAKEN_POOL: &[PoolMark] = &[
+    pooled!(7, true, true),
+    pooled!(8, false, true),
+    pooled!(9, false, false),
+    pooled!(10, true, false),
+    pooled!(11, false, true),
+    pooled!(12, true, false),
+    pooled!(13, true, true),
+    pooled!(14, false, false),
+];
+
+const BOTH: Taking = Taking {
+    chances: true,
+    pulls: true,
+};
+
+const GROUPED: Taking = Taking {
+    chances: false,
+    pulls: true,
+};
+
+const TAKINGS: [Row; 3] = [
+    Row {
+        push: Push::EvictTaking(BOTH),
+        front: Some(TAKEN_FRONT),
+        pool: TAKEN_POOL,
+        chances: Some(&[1, 2]),
+        staged: Some(&[3]),
+        pulled: Some(&[7, 9, 10, 12, 13]),
+    },
+    Row {
+        push: Push::FlushTaking(BOTH),
+        front: Some(TAKEN_FRONT),
+        pool: TAKEN_POOL,
+        chances: Some(&[1, 2]),
+        staged: None,
+        pulled: Some(&[7, 10, 12, 13]),
+    },
+    Row {
+        push: Push::EvictTaking(GROUPED),
+        front: Some(TAKEN_FRONT),
+        pool: TAKEN_POOL,
+        chances: Some(&[]),
+        staged: Some(&[1, 3]),
+        pulled: Some(&[7, 9, 10, 12, 13, 14]),
+    },
+];
+
 // Two of five frames were read and are the last of their pages. Of eight pages two are changed, two have no frame, and
 // two more are changed and have none.
 #[test]
 fn pushes_take_what_they_are_to(rt: HostRuntime) {
-    let front = [
-        frame(30, false, true, true),
-        frame(31, true, true, true),
-        frame(32, true, false, true),
-        frame(33, true, true, false),
-        frame(34, true, false, false),
-    ];
-    let pool = [
-        pooled(7, true, true),
-        pooled(8, false, true),
-        pooled(9, false, false),
-        pooled(10, true, false),
-        pooled(11, false, true),
-        pooled(12, true, false),
-        pooled(13, true, true),
-        pooled(14, false, false),
-    ];
-    let both = Taking {
-        chances: true,
-        pulls: true,
-    };
-    let plan = plan_evict_taking(both, Some(&front), &pool);
-    assert!(rt; are(&plan.chances, &[1, 2]));
-    assert!(rt; are(&plan.staged, &[3]));
-    assert!(rt; are(&plan.pulled, &[7, 9, 10, 12, 13]));
-    let plan = plan_flush_taking(both, Some(&front), &pool);
-    assert!(rt; are(&plan.chances, &[1, 2]));
-    assert!(rt; are(&plan.pulled, &[7, 10, 12, 13]));
-    let grouped = Taking {
-        chances: false,
-        pulls: true,
-    };
-    let plan = plan_evict_taking(grouped, Some(&front), &pool);
-    assert!(rt; plan.chances.is_empty());
-    assert!(rt; are(&plan.staged, &[1, 3]));
-    assert!(rt; are(&plan.pulled, &[7, 9, 10, 12, 13, 14]));
+    assert_eq!(rt; play(&TAKINGS), TAKINGS.len());
 }

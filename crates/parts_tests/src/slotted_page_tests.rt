@@ -44,7 +44,7 @@ fn set(page: &mut Page, slot: u8, value: Option<&[u8]>, lsn: u64) -> bool {
 fn a_page_is_its_octets(rt: HostRuntime) {
     let octets = example();
     let page = Page::from_bytes(&octets);
-    assert_eq!(rt; page.bytes(), octets.as_slice());
+    assert!(rt; page.bytes() == octets.as_slice());
     assert!(rt; page != Page::empty());
 }
 
@@ -53,40 +53,46 @@ fn the_first_value_stands_at_the_end(rt: HostRuntime) {
     let mut page = Page::empty();
     assert!(rt; set(&mut page, 5, Some(&[0x0a, 0x0b]), 3));
     let octets = example();
-    assert_eq!(rt; page.bytes(), octets.as_slice());
-    assert_eq!(rt; page.lsn(), 3);
+    assert!(rt; page.bytes() == octets.as_slice());
+    assert!(rt; page.lsn() == 3);
     assert!(rt; page.sound());
-    assert_eq!(rt; page.get(5), Some([0x0a_u8, 0x0b].as_slice()));
-    assert_eq!(rt; page.get(4), None);
+    assert!(rt; page.get(5) == Some([0x0a_u8, 0x0b].as_slice()));
+    assert!(rt; page.get(4).is_none());
 }
 
-// Each change of the example breaks one rule, or none.
+// Changes of the example, each of which breaks one rule or none, and whether it is sound then.
+const CHANGES: [(&[(usize, u8)], bool); 16] = [
+    (&[], true),
+    // Octets 10 to 15 are zero.
+    (&[(10, 1)], false),
+    (&[(15, 1)], false),
+    // The heap may take up more than the values do, at most 3,952.
+    (&[(8, 0x0f), (9, 0x70)], true),
+    (&[(8, 0x0f), (9, 0x71)], false),
+    // and no less.
+    (&[(9, 1)], false),
+    // An empty slot has the offset 0.
+    (&[(41, 1)], false),
+    // A value ends within the page.
+    (&[(37, 0xff)], false),
+    // An empty value may stand at the end of the page, and within another value, but not behind the page.
+    (&[(40, 0x10), (43, 1)], true),
+    (&[(40, 0x0f), (41, 0xff), (43, 1)], true),
+    (&[(40, 0x10), (41, 1), (43, 1)], false),
+    // Values do not overlap, whichever slot comes first.
+    (&[(40, 0x0f), (41, 0xff), (43, 2)], false),
+    (&[(32, 0x0f), (33, 0xfe), (35, 3)], false),
+    (&[(39, 2), (40, 0x0f), (41, 0xff), (43, 2)], true),
+    // The heap takes up 200 octets, and the value in front has 120 or 121.
+    (&[(9, 200), (40, 0x0f), (41, 0x38), (43, 121)], true),
+    (&[(9, 200), (40, 0x0f), (41, 0x38), (43, 122)], false),
+];
+
 #[test]
 fn soundness_by_the_table(rt: HostRuntime) {
-    assert!(rt; is_sound_with(&[]));
-    // Octets 10 to 15 are zero.
-    assert!(rt; !is_sound_with(&[(10, 1)]));
-    assert!(rt; !is_sound_with(&[(15, 1)]));
-    // The heap may take up more than the values do, at most 3,952.
-    assert!(rt; is_sound_with(&[(8, 0x0f), (9, 0x70)]));
-    assert!(rt; !is_sound_with(&[(8, 0x0f), (9, 0x71)]));
-    // and no less.
-    assert!(rt; !is_sound_with(&[(9, 1)]));
-    // An empty slot has the offset 0.
-    assert!(rt; !is_sound_with(&[(41, 1)]));
-    // A value ends within the page.
-    assert!(rt; !is_sound_with(&[(37, 0xff)]));
-    // An empty value may stand at the end of the page, and within another value, but not behind the page.
-    assert!(rt; is_sound_with(&[(40, 0x10), (43, 1)]));
-    assert!(rt; is_sound_with(&[(40, 0x0f), (41, 0xff), (43, 1)]));
-    assert!(rt; !is_sound_with(&[(40, 0x10), (41, 1), (43, 1)]));
-    // Values do not overlap, whichever slot comes first.
-    assert!(rt; !is_sound_with(&[(40, 0x0f), (41, 0xff), (43, 2)]));
-    assert!(rt; !is_sound_with(&[(32, 0x0f), (33, 0xfe), (35, 3)]));
-    assert!(rt; is_sound_with(&[(39, 2), (40, 0x0f), (41, 0xff), (43, 2)]));
-    // The heap takes up 200 octets, and the value in front has 120 or 121.
-    assert!(rt; is_sound_with(&[(9, 200), (40, 0x0f), (41, 0x38), (43, 121)]));
-    assert!(rt; !is_sound_with(&[(9, 200), (40, 0x0f), (41, 0x38), (43, 122)]));
+    for (row, (changes, sound)) in CHANGES.iter().enumerate() {
+        assert!(rt; is_sound_with(changes) == *sound, "row {row}");
+    }
 }
 
 #[test]
@@ -94,10 +100,10 @@ fn a_slot_may_be_emptied(rt: HostRuntime) {
     let mut page = Page::from_bytes(&example());
     assert!(rt; set(&mut page, 31, Some(&[]), u64::MAX));
     assert!(rt; set(&mut page, 5, None, 4));
-    assert_eq!(rt; page.lsn(), 4);
+    assert!(rt; page.lsn() == 4);
     assert!(rt; page.sound());
-    assert_eq!(rt; page.get(5), None);
-    assert_eq!(rt; page.get(31), Some([].as_slice()));
+    assert!(rt; page.get(5).is_none());
+    assert!(rt; page.get(31) == Some([].as_slice()));
 }
 
 // What slot `slot` has after `turn` turns of the test below.
@@ -160,18 +166,25 @@ fn values_stay_when_the_heap_is_packed_anew(rt: HostRuntime) {
     for turn in 0..8_u8 {
         assert!(rt; write_all(&mut page, &mut lengths, &mut octets, turn));
     }
-    assert_eq!(rt; page.lsn(), 255);
+    assert!(rt; page.lsn() == 255);
 }
 
-// The heap has room for 3,952 octets.
+// A slot of the example, the octets of a value, and whether it fits there. The heap has room for 3,952 octets.
+const FITS: [(u8, usize, bool); 4] = [
+    (0, 3950, true),
+    (0, 3951, false),
+    (5, 3952, true),
+    (5, 3953, false),
+];
+
 #[test]
 fn what_fits(rt: HostRuntime) {
     let page = Page::from_bytes(&example());
     let value = [0; 3953];
     assert!(rt; page.sound());
-    assert!(rt; page.fits(0, Some(&value[..3950])));
-    assert!(rt; !page.fits(0, Some(&value[..3951])));
-    assert!(rt; page.fits(5, Some(&value[..3952])));
-    assert!(rt; !page.fits(5, Some(&value)));
+    for (slot, len, fits) in FITS {
+        let slot = slot % 32;
+        assert!(rt; page.fits(slot, value.get(..len)) == fits, "{len} octets");
+    }
     assert!(rt; page.fits(5, None));
 }

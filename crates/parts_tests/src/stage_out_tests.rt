@@ -2,16 +2,11 @@
 ghost use Rattle.site.specs.Geometry.{HasLengths};
 ghost use Rattle.site.specs.MemState.{state_of};
 
-use site::{Dev, Geometry, MemSite, Stop};
+use crate::disk_pages_tests::{SMALL, have};
+use site::{Dev, MemSite, Stop};
 use slotted_page::Page;
 use stage_out::stage;
 use std::test::Fail;
-
-const SMALL: Geometry = Geometry {
-    pages: 3,
-    groups: 8,
-    blocks: 16,
-};
 
 // Stages 7s as page 2 and 8s as page 0 of a blank disk.
 fn stage_two(site: &mut MemSite) -> Result<(), Stop>
@@ -21,18 +16,13 @@ fn stage_two(site: &mut MemSite) -> Result<(), Stop>
     stage(site, &[2, 0], &contents)
 }
 
-// The octets at these places.
-fn octets_at(octets: &[u8], places: [usize; 4]) -> [Option<u8>; 4] {
-    places.map(|place| octets.get(place).copied())
-}
-
 #[test]
 fn two_pages_are_written_and_synced_once(rt: HostRuntime) -> Result<(), Fail> {
     let mut site = MemSite::new(rt.alloc(), &SMALL)?;
     stage_two(&mut site)?;
-    assert_eq!(rt; site.changes(), 3);
+    assert!(rt; site.changes() == 3);
     let site = site.crash(2);
-    let found = octets_at(site.content(Dev::Disk), [4_095, 4_096, 8_191, 8_192]);
-    assert_eq!(rt; found, [Some(8), Some(0), Some(0), Some(7)]);
+    let wanted = [(4_095, 8), (4_096, 0), (8_191, 0), (8_192, 7)];
+    assert!(rt; have(site.content(Dev::Disk), wanted));
     Ok(())
 }

@@ -1,71 +1,171 @@
-ghost use Rattle.std.specs.Prelude.{◌≡◌, ◌*◌};
+// A test is a table of rows, which one function plays.
+ghost use Rattle.std.specs.Prelude.{◌≡◌};
 
 use txn_table::{Active, TxnTable};
 
-// A session that began when so many log records had been made, each of them in a block of its own.
-fn begun(session: u32, made: u32) -> Active
-    ensures { result ≡ record { session = session; begin = 512 * made; last = 512 * made; born = made; writes = 0 } }
-{
+// A row of a test.
+#[derive(Clone, Copy)]
+enum Step {
+    // A session begins when so many log records had been made, each of them in a block of its own.
+    Begin(u32, u32),
+    // It writes, and this is its last record then.
+    Wrote(u32, u64),
+    // It ends.
+    End(u32),
+    // Records are counted from the first one of the oldest session on.
+    Count,
+    // So many log records are owed, by so many sessions.
+    Owed(u64, usize),
+    // A session is active with this last record, and began after so many records; or it isn't.
+    Has(u32, u64, u64),
+    Absent(u32),
+    // The session at this place.
+    At(usize, u32),
+    // How many records came before the oldest session, and its Begin; or there is none.
+    Oldest(u64, u64),
+    None,
+}
+
+fn begin(table: &mut TxnTable, session: u32, made: u32) -> bool {
+    if session >= 8 || table.find(session).is_some() {
+        return false;
+    }
     let made = u64::from(made);
-    Active {
+    table.add(Active {
         session,
         begin: 512 * made,
         last: 512 * made,
         born: made,
         writes: 0,
+    });
+    true
+}
+
+fn wrote(table: &mut TxnTable, session: u32, last: u64) -> bool {
+    let Some(entry) = table.find(session) else {
+        return false;
+    };
+    if entry.writes >= 1_000 {
+        return false;
     }
+    table.wrote(session, last);
+    true
+}
+
+fn end(table: &mut TxnTable, session: u32) -> bool {
+    if table.find(session).is_none() {
+        return false;
+    }
+    table.remove(session);
+    true
+}
+
+fn count_from_oldest(table: &mut TxnTable) -> bool {
+    match table.oldest_born() {
+        Some(first) => {
+            table.count_from(first);
+            true
+        }
+        None => false,
+    }
+}
+
+// Whether a session is active with this last record, and began after so many records.
+fn has(table: &TxnTable, session: u32, last: u64, born: u64) -> bool {
+    match table.find(session) {
+        Some(entry) => entry.session == session && entry.last == last && entry.born == born,
+        None => false,
+    }
+}
+
+// Makes a call, or looks, and answers whether that is as the row says.
+fn holds(table: &mut TxnTable, step: Step) -> bool {
+    match step {
+        Step::Begin(session, made) => begin(table, session, made),
+        Step::Wrote(session, last) => wrote(table, session, last),
+        Step::End(session) => end(table, session),
+        Step::Count => count_from_oldest(table),
+        Step::Owed(owed, len) => {
+            table.owed() == owed && table.len() == len && table.is_empty() == (len == 0)
+        }
+        Step::Has(session, last, born) => has(table, session, last, born),
+        Step::Absent(session) => table.find(session).is_none(),
+        Step::At(place, session) => place < table.len() && table.at(place).session == session,
+        Step::Oldest(born, begin) => {
+            table.oldest_born() == Some(born) && table.oldest_begin() == Some(begin)
+        }
+        Step::None => table.oldest_born().is_none() && table.oldest_begin().is_none(),
+    }
+}
+
+// Plays rows over a new table, and answers how many hold, up to the first one that doesn't.
+fn play(steps: &[Step]) -> usize {
+    let mut table = TxnTable::new();
+    for (row, step) in steps.iter().enumerate() {
+        if !holds(&mut table, *step) {
+            return row;
+        }
+    }
+    steps.len()
 }
 
 // One session begins and writes six times: with its end, seven log records are owed. Nothing is, once it has ended.
+const SIX_WRITES: [Step; 13] = [
+    Step::Begin(0, 0),
+    Step::Wrote(0, 512),
+    Step::Wrote(0, 1024),
+    Step::Wrote(0, 1536),
+    Step::Wrote(0, 2048),
+    Step::Wrote(0, 2560),
+    Step::Wrote(0, 3072),
+    Step::Owed(7, 1),
+    Step::Has(0, 3072, 0),
+    Step::Absent(1),
+    Step::End(0),
+    Step::Owed(0, 0),
+    Step::None,
+];
+
 #[test]
 fn six_writes_owe_seven(rt: HostRuntime) {
-    let mut table = TxnTable::new();
-    table.add(begun(0, 0));
-    table.wrote(0, 512);
-    table.wrote(0, 1024);
-    table.wrote(0, 1536);
-    table.wrote(0, 2048);
-    table.wrote(0, 2560);
-    table.wrote(0, 3072);
-    assert_eq!(rt; table.owed(), 7);
-    assert_eq!(rt; table.find(0).map(|entry| entry.last), Some(3072));
-    assert_eq!(rt; table.find(1), None);
-    table.remove(0);
-    assert!(rt; table.is_empty());
-    assert_eq!(rt; table.owed(), 0);
-    assert_eq!(rt; table.oldest_born(), None);
-    assert_eq!(rt; table.oldest_begin(), None);
+    assert_eq!(rt; play(&SIX_WRITES), SIX_WRITES.len());
 }
 
 // Seven sessions begin in turn and owe a log record each. The first ends, and another begins behind the others.
+const SEVEN_SESSIONS: [Step; 14] = [
+    Step::Begin(0, 0),
+    Step::Begin(1, 1),
+    Step::Begin(2, 2),
+    Step::Begin(3, 3),
+    Step::Begin(4, 4),
+    Step::Begin(5, 5),
+    Step::Begin(6, 6),
+    Step::Owed(7, 7),
+    Step::End(0),
+    Step::Begin(7, 8),
+    Step::Owed(7, 7),
+    Step::Oldest(1, 512),
+    Step::At(0, 1),
+    Step::At(6, 7),
+];
+
 #[test]
 fn seven_sessions_owe_seven(rt: HostRuntime) {
-    let mut table = TxnTable::new();
-    for session in 0..7 {
-        table.add(begun(session, session));
-    }
-    assert_eq!(rt; table.owed(), 7);
-    table.remove(0);
-    table.add(begun(7, 8));
-    assert_eq!(rt; table.owed(), 7);
-    assert_eq!(rt; table.len(), 7);
-    assert_eq!(rt; table.oldest_born(), Some(1));
-    assert_eq!(rt; table.oldest_begin(), Some(512));
-    assert_eq!(rt; table.at(0).session, 1);
-    assert_eq!(rt; table.at(6).session, 7);
+    assert_eq!(rt; play(&SEVEN_SESSIONS), SEVEN_SESSIONS.len());
 }
 
 // Two sessions begin after three and five log records. Once records are counted from the first of them on, they began
 // after none and two.
+const COUNTED: [Step; 6] = [
+    Step::Begin(0, 3),
+    Step::Begin(1, 5),
+    Step::Count,
+    Step::Has(0, 1536, 0),
+    Step::Has(1, 2560, 2),
+    Step::Oldest(0, 1536),
+];
+
 #[test]
 fn records_are_counted_from_the_oldest(rt: HostRuntime) {
-    let mut table = TxnTable::new();
-    table.add(begun(0, 3));
-    table.add(begun(1, 5));
-    if let Some(first) = table.oldest_born() {
-        table.count_from(first);
-    }
-    assert_eq!(rt; table.find(0).map(|entry| entry.born), Some(0));
-    assert_eq!(rt; table.find(1).map(|entry| entry.born), Some(2));
-    assert_eq!(rt; table.oldest_begin(), Some(1536));
+    assert_eq!(rt; play(&COUNTED), COUNTED.len());
 }
