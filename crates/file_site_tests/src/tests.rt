@@ -3,7 +3,7 @@
 use crate::fakes::{Fake, FakeReader, World};
 use file_site::{Call, Failure, FileSite, Intake, LockFile, Watch, tell_line};
 use site::{Dev, Failed, Site, Stop};
-use std::alloc::Global;
+use std::alloc::{AllocError, Global};
 use std::fs;
 use std::io::{self, Eprint, ErrorKind, Input, Print};
 use std::os::unix::fs::FileExt;
@@ -50,6 +50,9 @@ enum Step {
     Pass(u64),
     // The calls that were made are forgotten.
     Forget,
+    // None of the files is there, and this call on this file fails once, when those of a new database of 10, 20 and 30
+    // octets are made: its log has this length then, and all of the files are there, or none.
+    Make(&'static str, &'static str, ErrorKind, u64),
     // The files of the devices and of their drafts have these lengths.
     Files([u64; 6]),
     // The device has this length.
@@ -94,15 +97,15 @@ fn have_lengths(rt: &HostRuntime, lengths: [u64; 6]) -> bool {
 // Reads as many octets from this place on, where the device has so many; answers how many there are, if they are these.
 fn read<S: Site>(site: &mut S, dev: Dev, at: u64, octets: &[u8]) -> Result<usize, Failed> {
     let mut found = [9; 8];
+    let Some(part) = found.get_mut(..octets.len()) else {
+        return Ok(0);
+    };
     let len = site.len(dev);
-    if len < at || octets.len() > 8 {
+    if len < at || len - at < octets.len() as u64 {
         return Ok(0);
     }
-    if len - at < octets.len() as u64 {
-        return Ok(0);
-    }
-    site.read_at(dev, at, &mut found[..octets.len()])?;
-    if !found.starts_with(octets) {
+    site.read_at(dev, at, part)?;
+    if !part.starts_with(octets) {
         return Ok(0);
     }
     Ok(octets.len())
@@ -240,6 +243,24 @@ where
     }
 }
 
+// Makes the files of a new database of 10, 20 and 30 octets, and answers whether its log has this length then, with all
+// of the files there, or none.
+fn is_made<R>(rt: &HostRuntime, over: R, len: u64) -> Result<bool, Stop>
+where
+    R: Files + Input + Print + Clock + Eprint + Drop,
+    R::File: FileExt + LockFile,
+{
+    let site = FileSite::fresh(over, rt.alloc(), 10, 20, 30)?;
+    let found = site.len(Dev::Log);
+    drop(site);
+    let left = if len == 0 {
+        [NONE; 6]
+    } else {
+        [10, 20, 30, NONE, NONE, NONE]
+    };
+    Ok(found == len && have_lengths(rt, left))
+}
+
 // Plays rows over a runtime in this world, and answers how many hold, up to the first one that doesn't.
 fn play_over<R>(rt: &HostRuntime, world: &World, over: R, steps: &[Step]) -> Result<usize, Fail>
 where
@@ -252,6 +273,13 @@ where
             Step::Open(how) => {
                 site = FileSite::bare(over, rt.alloc())?;
                 site = open(over, rt.alloc(), how)?;
+            }
+            Step::Make(call, path, kind, len) => {
+                remove_all(rt);
+                world.fail(call, path, kind, 1);
+                if !is_made(rt, over, len)? {
+                    return Ok(row);
+                }
             }
             step => {
                 prepare(rt, world, step)?;
@@ -365,95 +393,83 @@ fn a_new_database_is_made_in_this_order(rt: HostRuntime) -> Result<(), Fail> {
     Ok(())
 }
 
-// A call on a file that fails once, and the length of a log of 10 octets then.
-const UNMADE: [(&str, &str, ErrorKind, u64); 12] = [
-    ("make", "face.flash.new", ErrorKind::PermissionDenied, 0),
-    ("fill", "face.disk.new", ErrorKind::StorageFull, 0),
-    ("sync all", "face.log.new", ErrorKind::Other, 0),
-    ("rename", "face.flash.new", ErrorKind::Other, 0),
-    ("sync all", ".", ErrorKind::Other, 0),
-    ("open", ".", ErrorKind::PermissionDenied, 0),
-    ("open", "/dev/null", ErrorKind::NotFound, 10),
-    ("sync all", ".", ErrorKind::InvalidInput, 10),
-    ("sync all", ".", ErrorKind::Unsupported, 10),
-    ("lock", ".", ErrorKind::Unsupported, 10),
-    ("lock", "face.log.new", ErrorKind::Unsupported, 10),
-    ("fill", "face.log.new", ErrorKind::Interrupted, 10),
+const UNMADE: [Step; 13] = [
+    Step::Make("make", "face.flash.new", ErrorKind::PermissionDenied, 0),
+    Step::Make("fill", "face.disk.new", ErrorKind::StorageFull, 0),
+    Step::Make("sync all", "face.log.new", ErrorKind::Other, 0),
+    Step::Make("rename", "face.flash.new", ErrorKind::Other, 0),
+    Step::Make("sync all", ".", ErrorKind::Other, 0),
+    Step::Make("open", ".", ErrorKind::PermissionDenied, 0),
+    Step::Make("open", "/dev/null", ErrorKind::NotFound, 10),
+    Step::Make("sync all", ".", ErrorKind::InvalidInput, 10),
+    Step::Make("sync all", ".", ErrorKind::Unsupported, 10),
+    Step::Make("lock", ".", ErrorKind::Unsupported, 10),
+    Step::Make("lock", "face.log.new", ErrorKind::Unsupported, 10),
+    Step::Make("fill", "face.log.new", ErrorKind::Interrupted, 10),
+    Step::Clear,
 ];
 
 // Where a file can't be made, nothing is there and nothing stays; but a file system without a sync of folders or
 // without locks makes a new database all the same.
 #[test]
 fn what_cannot_be_made_is_removed(rt: HostRuntime) -> Result<(), Fail> {
-    for (call, path, kind, len) in UNMADE {
-        let left = if len == 0 {
-            [NONE; 6]
-        } else {
-            [10, 20, 30, NONE, NONE, NONE]
-        };
-        let steps = [
-            Step::Clear,
-            Step::Fail(call, path, kind, 1),
-            Step::Open(How::Fresh(10, 20, 30)),
-            Step::Len(Dev::Log, len),
-            Step::Open(How::Bare),
-            Step::Files(left),
-            Step::Clear,
-        ];
-        assert!(rt; play(&rt, &steps)? == 7, "{call} {path}");
-    }
+    assert_eq!(rt; play(&rt, &UNMADE)?, UNMADE.len());
     Ok(())
 }
 
-const DEVICES: [(Dev, &str, &str); 3] = [
-    (
-        Dev::Log,
-        "face.log",
-        "write face.log;sync face.log;read face.log;",
-    ),
-    (
-        Dev::Flash,
-        "face.flash",
-        "write face.flash;sync face.flash;read face.flash;",
-    ),
-    (
-        Dev::Disk,
-        "face.disk",
-        "write face.disk;sync face.disk;read face.disk;",
-    ),
-];
-
-// Each call is made on the file of its device and at its place, and fails where that does.
-#[test]
-fn each_call_is_made_on_its_own_file(rt: HostRuntime) -> Result<(), Fail> {
-    for (dev, path, calls) in DEVICES {
-        let read = Step::Call(Call::Read(dev), 5, b"\0ab", Ok(3));
-        let write = Step::Call(Call::Write(dev), 6, b"ab", Ok(2));
-        let steps = [
+// The calls on the file of a device.
+macro_rules! calls_on {
+    ($dev:expr, $path:literal, $calls:literal) => {
+        [
             Step::Clear,
             Step::Open(How::Fresh(10, 20, 30)),
             Step::Open(How::Existing),
             Step::Forget,
-            write,
-            Step::Call(Call::Sync(dev), 0, b"", Ok(0)),
-            read,
-            Step::Calls("", calls),
-            Step::Fail("write", path, ErrorKind::StorageFull, 1),
-            Step::Call(Call::Write(dev), 6, b"cd", Err(Failed)),
-            Step::Fail("sync", path, ErrorKind::Other, 1),
-            Step::Call(Call::Sync(dev), 0, b"", Err(Failed)),
-            Step::Fail("read", path, ErrorKind::Other, 1),
-            Step::Call(Call::Read(dev), 5, b"\0ab", Err(Failed)),
-            Step::Fail("write", path, ErrorKind::Interrupted, 2),
-            write,
-            read,
-            Step::Fail("read", path, ErrorKind::Interrupted, 2),
-            write,
-            read,
+            Step::Call(Call::Write($dev), 6, b"ab", Ok(2)),
+            Step::Call(Call::Sync($dev), 0, b"", Ok(0)),
+            Step::Call(Call::Read($dev), 5, b"\0ab", Ok(3)),
+            Step::Calls("", $calls),
+            Step::Fail("write", $path, ErrorKind::StorageFull, 1),
+            Step::Call(Call::Write($dev), 6, b"cd", Err(Failed)),
+            Step::Fail("sync", $path, ErrorKind::Other, 1),
+            Step::Call(Call::Sync($dev), 0, b"", Err(Failed)),
+            Step::Fail("read", $path, ErrorKind::Other, 1),
+            Step::Call(Call::Read($dev), 5, b"\0ab", Err(Failed)),
+            Step::Fail("write", $path, ErrorKind::Interrupted, 2),
+            Step::Call(Call::Write($dev), 6, b"ab", Ok(2)),
+            Step::Call(Call::Read($dev), 5, b"\0ab", Ok(3)),
+            Step::Fail("read", $path, ErrorKind::Interrupted, 2),
+            Step::Call(Call::Write($dev), 6, b"ab", Ok(2)),
+            Step::Call(Call::Read($dev), 5, b"\0ab", Ok(3)),
             Step::Clear,
-        ];
-        assert!(rt; play(&rt, &steps)? == 21, "{path}");
-    }
+        ]
+    };
+}
+
+const ON_LOG: [Step; 21] = calls_on!(
+    Dev::Log,
+    "face.log",
+    "write face.log;sync face.log;read face.log;"
+);
+
+const ON_FLASH: [Step; 21] = calls_on!(
+    Dev::Flash,
+    "face.flash",
+    "write face.flash;sync face.flash;read face.flash;"
+);
+
+const ON_DISK: [Step; 21] = calls_on!(
+    Dev::Disk,
+    "face.disk",
+    "write face.disk;sync face.disk;read face.disk;"
+);
+
+// Each call is made on the file of its device and at its place, and fails where that does.
+#[test]
+fn each_call_is_made_on_its_own_file(rt: HostRuntime) -> Result<(), Fail> {
+    assert_eq!(rt; play(&rt, &ON_LOG)?, 21);
+    assert_eq!(rt; play(&rt, &ON_FLASH)?, 21);
+    assert_eq!(rt; play(&rt, &ON_DISK)?, 21);
     Ok(())
 }
 
@@ -508,6 +524,22 @@ const COUNTS: [Option<usize>; 13] = [
 
 const INPUT: &[u8] = b"the octets of an input";
 
+// Takes three octets and keeps those that are given; answers how many, where the take doesn't fail.
+fn take_three(
+    intake: &mut Intake<FakeReader<'_>>,
+    fake: &Fake<'_>,
+    taken: &mut Vec<u8>,
+) -> Result<Option<usize>, AllocError> {
+    let mut three = [0; 3];
+    match intake.take(fake, &mut three) {
+        Ok(count) => {
+            taken.extend_from_slice(&three[..count])?;
+            Ok(Some(count))
+        }
+        Err(_) => Ok(None),
+    }
+}
+
 // Whether all of the input is taken, three octets at once, where the third take fails so many times. A fault that passes
 // has no take of its own.
 fn is_all_taken(
@@ -527,12 +559,9 @@ fn is_all_taken(
                 continue;
             }
         }
-        let mut three = [0; 3];
-        let given = intake.take(fake, &mut three).ok();
-        if given != *count {
+        if take_three(&mut intake, fake, &mut taken)? != *count {
             return Ok(false);
         }
-        taken.extend_from_slice(&three[..given.unwrap_or(0).min(3)])?;
     }
     Ok(taken.as_slice() == INPUT)
 }
@@ -671,16 +700,15 @@ const RULES: [(&[u8], Option<u8>); 3] = [
     (b"1\n", Some(11)),
 ];
 
-// What is noticed of input and replies that pass in pieces of this size.
-fn noticed(input: &[u8], replies: &[u8], size: usize) -> Watch {
-    let mut watch = Watch::new();
-    for piece in input.chunks(size.max(1)) {
-        watch.hears(piece);
+// Lets input or replies pass in pieces of this size.
+fn pass(watch: &mut Watch, text: &[u8], size: usize, told: bool) {
+    for piece in text.chunks(size.max(1)) {
+        if told {
+            watch.tells(piece);
+        } else {
+            watch.hears(piece);
+        }
     }
-    for piece in replies.chunks(size.max(1)) {
-        watch.tells(piece);
-    }
-    watch
 }
 
 // However the input and the replies are cut, the first line that ends with a carriage return, the refusals and the rule
@@ -689,7 +717,9 @@ fn noticed(input: &[u8], replies: &[u8], size: usize) -> Watch {
 fn carriage_returns_and_refusals_are_noticed(rt: HostRuntime) {
     for size in [1, 2, 3, 100] {
         for (input, line) in RETURNED {
-            let watch = noticed(input, REPLIES, size);
+            let mut watch = Watch::new();
+            pass(&mut watch, input, size, false);
+            pass(&mut watch, REPLIES, size, true);
             assert!(rt;
                 watch.returned() == line && watch.refused() == 3,
                 "{size} at once"
