@@ -417,59 +417,47 @@ fn what_cannot_be_made_is_removed(rt: HostRuntime) -> Result<(), Fail> {
     Ok(())
 }
 
-// The calls on the file of a device.
+// The calls on the file of each device, one device after the other.
 macro_rules! calls_on {
-    ($dev:expr, $path:literal, $calls:literal) => {
+    ($($dev:expr, $path:literal, $calls:literal;)+) => {
         [
             Step::Clear,
             Step::Open(How::Fresh(10, 20, 30)),
             Step::Open(How::Existing),
-            Step::Forget,
-            Step::Call(Call::Write($dev), 6, b"ab", Ok(2)),
-            Step::Call(Call::Sync($dev), 0, b"", Ok(0)),
-            Step::Call(Call::Read($dev), 5, b"\0ab", Ok(3)),
-            Step::Calls("", $calls),
-            Step::Fail("write", $path, ErrorKind::StorageFull, 1),
-            Step::Call(Call::Write($dev), 6, b"cd", Err(Failed)),
-            Step::Fail("sync", $path, ErrorKind::Other, 1),
-            Step::Call(Call::Sync($dev), 0, b"", Err(Failed)),
-            Step::Fail("read", $path, ErrorKind::Other, 1),
-            Step::Call(Call::Read($dev), 5, b"\0ab", Err(Failed)),
-            Step::Fail("write", $path, ErrorKind::Interrupted, 2),
-            Step::Call(Call::Write($dev), 6, b"ab", Ok(2)),
-            Step::Call(Call::Read($dev), 5, b"\0ab", Ok(3)),
-            Step::Fail("read", $path, ErrorKind::Interrupted, 2),
-            Step::Call(Call::Write($dev), 6, b"ab", Ok(2)),
-            Step::Call(Call::Read($dev), 5, b"\0ab", Ok(3)),
+            $(
+                Step::Forget,
+                Step::Call(Call::Write($dev), 6, b"ab", Ok(2)),
+                Step::Call(Call::Sync($dev), 0, b"", Ok(0)),
+                Step::Call(Call::Read($dev), 5, b"\0ab", Ok(3)),
+                Step::Calls("", $calls),
+                Step::Fail("write", $path, ErrorKind::StorageFull, 1),
+                Step::Call(Call::Write($dev), 6, b"cd", Err(Failed)),
+                Step::Fail("sync", $path, ErrorKind::Other, 1),
+                Step::Call(Call::Sync($dev), 0, b"", Err(Failed)),
+                Step::Fail("read", $path, ErrorKind::Other, 1),
+                Step::Call(Call::Read($dev), 5, b"\0ab", Err(Failed)),
+                Step::Fail("write", $path, ErrorKind::Interrupted, 2),
+                Step::Call(Call::Write($dev), 6, b"ab", Ok(2)),
+                Step::Call(Call::Read($dev), 5, b"\0ab", Ok(3)),
+                Step::Fail("read", $path, ErrorKind::Interrupted, 2),
+                Step::Call(Call::Write($dev), 6, b"ab", Ok(2)),
+                Step::Call(Call::Read($dev), 5, b"\0ab", Ok(3)),
+            )+
             Step::Clear,
         ]
     };
 }
 
-const ON_LOG: [Step; 21] = calls_on!(
-    Dev::Log,
-    "face.log",
-    "write face.log;sync face.log;read face.log;"
-);
-
-const ON_FLASH: [Step; 21] = calls_on!(
-    Dev::Flash,
-    "face.flash",
-    "write face.flash;sync face.flash;read face.flash;"
-);
-
-const ON_DISK: [Step; 21] = calls_on!(
-    Dev::Disk,
-    "face.disk",
-    "write face.disk;sync face.disk;read face.disk;"
-);
+const OWN_FILE: [Step; 55] = calls_on! {
+    Dev::Log, "face.log", "write face.log;sync face.log;read face.log;";
+    Dev::Flash, "face.flash", "write face.flash;sync face.flash;read face.flash;";
+    Dev::Disk, "face.disk", "write face.disk;sync face.disk;read face.disk;";
+};
 
 // Each call is made on the file of its device and at its place, and fails where that does.
 #[test]
 fn each_call_is_made_on_its_own_file(rt: HostRuntime) -> Result<(), Fail> {
-    assert_eq!(rt; play(&rt, &ON_LOG)?, 21);
-    assert_eq!(rt; play(&rt, &ON_FLASH)?, 21);
-    assert_eq!(rt; play(&rt, &ON_DISK)?, 21);
+    assert_eq!(rt; play(&rt, &OWN_FILE)?, OWN_FILE.len());
     Ok(())
 }
 
@@ -597,33 +585,38 @@ fn all_input_is_taken(rt: HostRuntime) -> Result<(), Fail> {
     Ok(())
 }
 
-// The call that fails twice, by its name, its file and its kind. The write that fails is the last, since each read is
-// to find what was written.
-const FIRST: [(&str, &str, Call); 4] = [
-    ("sync", "face.flash", Call::Sync(Dev::Flash)),
-    ("read", "face.log", Call::Read(Dev::Log)),
-    ("tell", "", Call::Tell),
-    ("write", "face.disk", Call::Write(Dev::Disk)),
-];
+// Calls that fail twice, each of a new site, by name, file and kind: the first time for want of room.
+macro_rules! failures {
+    ($($call:literal, $path:literal, $failed:expr;)+) => {
+        [
+            Step::Clear,
+            Step::Open(How::Fresh(10, 20, 30)),
+            $(
+                Step::Open(How::Existing),
+                Step::Sound,
+                Step::Fail($call, $path, ErrorKind::StorageFull, 1),
+                Step::Fails($failed),
+                Step::Fail($call, $path, ErrorKind::BrokenPipe, 1),
+                Step::Fails($failed),
+                Step::First($failed, ErrorKind::StorageFull),
+            )+
+            Step::Clear,
+        ]
+    };
+}
+
+// The write that fails is the last, since each read is to find what was written.
+const FIRST: [Step; 31] = failures! {
+    "sync", "face.flash", Call::Sync(Dev::Flash);
+    "read", "face.log", Call::Read(Dev::Log);
+    "tell", "", Call::Tell;
+    "write", "face.disk", Call::Write(Dev::Disk);
+};
 
 // The first call that failed is kept with its error, whatever fails behind it.
 #[test]
 fn the_first_failure_is_kept(rt: HostRuntime) -> Result<(), Fail> {
-    for (call, path, failed) in FIRST {
-        let steps = [
-            Step::Clear,
-            Step::Open(How::Fresh(10, 20, 30)),
-            Step::Open(How::Existing),
-            Step::Sound,
-            Step::Fail(call, path, ErrorKind::StorageFull, 1),
-            Step::Fails(failed),
-            Step::Fail(call, path, ErrorKind::BrokenPipe, 1),
-            Step::Fails(failed),
-            Step::First(failed, ErrorKind::StorageFull),
-            Step::Clear,
-        ];
-        assert!(rt; play(&rt, &steps)? == 10, "{call}");
-    }
+    assert_eq!(rt; play(&rt, &FIRST)?, FIRST.len());
     Ok(())
 }
 
