@@ -528,7 +528,8 @@ fn take_three(
     }
 }
 
-// Whether all of the input is taken, three octets at once, where the third take fails so many times. A fault that passes
+// Whether all of the input is taken, three octets at once, where the third take fails so many times. A fault that
+// passes
 // has no take of its own.
 fn is_all_taken(
     alloc: Global,
