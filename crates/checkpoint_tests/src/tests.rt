@@ -2,7 +2,8 @@
 ghost use Rattle.std.specs.Prelude.{◌≡◌, ◌∷◌, []};
 
 use checkpoint::{BadMaster, Master, Pairs, UNIT_LEN, newest, read_master, save, write_master};
-use site::{Dev, Geometry, MemSite};
+use mem_site::MemSite;
+use site::{Dev, Geometry};
 use std::test::Fail;
 
 const SMALL: Geometry = Geometry {

@@ -1,12 +1,13 @@
 // The database over a site in memory. What is expected was worked out by hand. A test is a table of rows, which one
 // function plays.
-ghost use Rattle.site.specs.MemState.{state_of};
+ghost use Rattle.mem_site.specs.MemState.{state_of};
 ghost use Rattle.std.specs.Prelude.{OnOk, ◌<◌, length};
 ghost use Rattle.engine.specs.Invariant.{Invariant};
 
 use engine::Engine;
+use mem_site::{Call, MemSite};
 use record_model::{Octets, Reply, Stat, Why};
-use site::{Call, Dev, Failed, Geometry, MemSite, Site, Stop};
+use site::{Dev, Failed, Geometry, Site, Stop};
 use std::alloc::Global;
 use std::test::Fail;
 

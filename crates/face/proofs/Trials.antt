@@ -4,15 +4,15 @@ use Rattle.std.specs.Prelude.{Option, Some, None, min, Result, Ok, Err, OnErr, s
 use Rattle.std.proofs.lemmas.List.{append-nil, take_all, take_at}
 use Rattle.site.specs.State.{Input, State as Site, Image, MayLeave, no_loose, now_of}
 use Rattle.site.specs.Calls.{Preserves, Rose}
-use Rattle.site.specs.Crash.{image_left, started}
 use Rattle.site.specs.Laws.{calm, each_weaker, goes_nowhere, in_sequence, no_call, now_leaves, now_same, rose_then}
-use Rattle.site.specs.MemState.{limits_of, lives_of, state_of}
 use Rattle.site.specs.Moments.{EachMoment}
 use Rattle.site.specs.Telling.{TellsPart}
 use Rattle.site.specs.declared.geometry.Geometry.{Geometry}
-use Rattle.site.specs.declared.mem.MemSite.{MemSite}
 use Rattle.site.specs.declared.outside.Failed.{Failed}
 use Rattle.site.specs.declared.outside.Stop.TheVariants.{Device, Memory, Worn, Foreign}
+use Rattle.mem_site.specs.Crash.{image_left, started}
+use Rattle.mem_site.specs.MemState.{limits_of, lives_of, state_of}
+use Rattle.mem_site.specs.declared.mem.MemSite.{MemSite}
 use Rattle.workload.specs.declared.scripts.Life.{Life}
 use Rattle.workload.specs.declared.scripts.StopLine.{StopLine}
 use Rattle.workload.specs.Scripts.{lives_between, lives_of as lives_in, stops_from}

@@ -1,10 +1,10 @@
 -- Lives under way.
 use Rattle.std.specs.Prelude.{◌≡◌, ◌⊎◌, ℕ, ◌-◌, List, [], ◌∷◌, ◌++◌, IsTrue, Result, Ok, Err}
 use Rattle.site.specs.State.{State as Site, Image, MayLeave, no_loose, now_of}
-use Rattle.site.specs.MemState.{state_of}
 use Rattle.site.specs.declared.geometry.Geometry.{Geometry}
-use Rattle.site.specs.declared.mem.MemSite.{MemSite}
 use Rattle.site.specs.declared.outside.Stop.TheVariants.{Memory}
+use Rattle.mem_site.specs.MemState.{state_of}
+use Rattle.mem_site.specs.declared.mem.MemSite.{MemSite}
 use Rattle.record_model.specs.declared.words.CacheLine.{CacheLine}
 use Rattle.record_model.specs.State.{Content, opened}
 use Rattle.face.specs.declared.halt.Halt.{Halt}

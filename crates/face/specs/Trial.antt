@@ -6,10 +6,10 @@ use Rattle.site.specs.State.{State as Site}
 use Rattle.site.specs.Calls.{Rose, SameReads}
 use Rattle.site.specs.Moments.{EachMoment}
 use Rattle.site.specs.Geometry.{HasLimits, blank_image}
-use Rattle.site.specs.Crash.{started}
-use Rattle.site.specs.MemState.{IsFresh, limits_of, lives_of, state_of}
 use Rattle.site.specs.declared.geometry.Geometry.{Geometry}
-use Rattle.site.specs.declared.mem.MemSite.{MemSite}
+use Rattle.mem_site.specs.Crash.{started}
+use Rattle.mem_site.specs.MemState.{IsFresh, limits_of, lives_of, state_of}
+use Rattle.mem_site.specs.declared.mem.MemSite.{MemSite}
 use Rattle.record_model.specs.declared.words.CacheLine.{CacheLine}
 use Rattle.record_model.specs.State.{Content, opened}
 use Rattle.record_model.specs.Run.{IsInRange, after_commits, commit_marks}

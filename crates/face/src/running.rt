@@ -29,9 +29,10 @@ use crate::source::{Heard, Source};
 use crate::trial::trial;
 use command_line::TrialSizes;
 use engine::{queue_is_on_flash, versions_are_seen};
+use mem_site::MemSite;
 use record_model::{Command, serial_order};
 use redo_undo::works_add_up;
-use site::{MemSite, Site};
+use site::Site;
 use std::alloc::Global;
 
 // A run has at most one line more than it takes octets.

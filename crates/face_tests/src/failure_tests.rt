@@ -3,7 +3,8 @@
 ghost use Rattle.std.specs.Prelude.{◌≤◌};
 
 use crate::steps;
-use site::{Call, Dev, Geometry, MemSite};
+use mem_site::{Call, MemSite};
+use site::{Dev, Geometry};
 use std::alloc::{AllocError, Global};
 use std::test::Fail;
 

@@ -1,7 +1,8 @@
 // Random lines in a log of the least size, over several lives. What is told is compared, by its hash, with what another
 // program told.
 use crate::steps;
-use site::{Geometry, MemSite};
+use mem_site::MemSite;
+use site::Geometry;
 use std::alloc::{AllocError, Global};
 use std::test::Fail;
 use workload::next;

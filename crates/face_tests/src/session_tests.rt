@@ -1,7 +1,8 @@
 // Sessions, their locks, and restarts that undo them. What is expected was worked out by hand or by another program.
 use crate::steps::{SMALL, STANDARD, Step, play};
 use face::serve;
-use site::{Call, Dev, Geometry, MemSite};
+use mem_site::{Call, MemSite};
+use site::{Dev, Geometry};
 use std::alloc::Global;
 use std::test::Fail;
 

@@ -1,5 +1,6 @@
 // Steps over a site in memory: a test is a table of them, which one function plays.
-use site::{Call, Dev, Geometry, MemSite, Site};
+use mem_site::{Call, MemSite};
+use site::{Dev, Geometry, Site};
 use std::alloc::{AllocError, Global};
 use std::test::Fail;
 use top_call::face;

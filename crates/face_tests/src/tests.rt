@@ -1,6 +1,7 @@
 // The top call over a site in memory. What is expected was worked out by hand or by another program.
 use crate::steps::{SMALL, STANDARD, Step, call, play, play_on};
-use site::{Call, Dev, Geometry, MemSite};
+use mem_site::{Call, MemSite};
+use site::{Dev, Geometry};
 use std::alloc::Global;
 use std::test::Fail;
 

@@ -3,7 +3,7 @@ use crate::steps::STANDARD;
 use face::serve;
 use face::trial::trial;
 use image_check::{Verdict, check_image};
-use site::MemSite;
+use mem_site::MemSite;
 use std::alloc::Global;
 use std::test::Fail;
 

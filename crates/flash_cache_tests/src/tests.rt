@@ -2,14 +2,15 @@
 ghost use Rattle.std.specs.Prelude.{IfOk, OnOk};
 ghost use Rattle.std.specs.Bool.{OnTrue};
 ghost use Rattle.flash_cache.specs.Representation.{Invariant};
-ghost use Rattle.site.specs.MemState.{state_of};
+ghost use Rattle.mem_site.specs.MemState.{state_of};
 ghost use Rattle.disk_pages.specs.Pages.{LiesOn};
 
 use byte_fields::Mark;
 use disk_pages::read_page;
 use flash_cache::FlashCache;
+use mem_site::{Call, MemSite};
 use second_chance::plan_evict;
-use site::{Call, Dev, Failed, Geometry, MemSite, Site, Stop};
+use site::{Dev, Failed, Geometry, Site, Stop};
 use slotted_page::Page;
 use std::alloc::Global;
 use std::test::Fail;

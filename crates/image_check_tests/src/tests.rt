@@ -10,7 +10,8 @@ use image_form::{
     rule_master, rule_rings, rule_segments, rule_versions,
 };
 use log_store::LogStore;
-use site::{Dev, Failed, Geometry, MemSite, Site, Stop};
+use mem_site::MemSite;
+use site::{Dev, Failed, Geometry, Site, Stop};
 use std::alloc::Global;
 use std::test::Fail;
 

@@ -1,14 +1,15 @@
 // Logs on a site in memory.
 ghost use Rattle.std.specs.Prelude.{◌+◌, ◌<◌, IfOk};
 ghost use Rattle.site.specs.Geometry.{HasLengths};
-ghost use Rattle.site.specs.MemState.{state_of};
+ghost use Rattle.mem_site.specs.MemState.{state_of};
 ghost use Rattle.log_records.specs.Spelling.{HasForm};
 ghost use Rattle.log_store.specs.Representation.{Invariant};
 
 use log_records::{BLOCK_LEN, LogRecord};
 use log_store::LogStore;
+use mem_site::MemSite;
 use record_model::Octets;
-use site::{Dev, Geometry, MemSite, Stop};
+use site::{Dev, Geometry, Stop};
 use std::test::Fail;
 
 const SMALL: Geometry = Geometry {

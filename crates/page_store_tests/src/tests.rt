@@ -3,8 +3,8 @@
 ghost use Rattle.std.specs.Prelude.{◌≡◌, ◌<◌, ◌≤◌, length, true, IfOk};
 ghost use Rattle.site.specs.State.{State};
 ghost use Rattle.site.specs.Geometry.{HasLengths};
-ghost use Rattle.site.specs.MemState.{state_of};
 ghost use Rattle.site.specs.Calls.{Preserves};
+ghost use Rattle.mem_site.specs.MemState.{state_of};
 ghost use Rattle.log_records.specs.Spelling.{HasForm};
 ghost use Rattle.log_store.specs.Representation as log_store;
 ghost use Rattle.page_store.specs.Representation.{IsStore, Invariant};
@@ -13,9 +13,10 @@ ghost use Rattle.page_store_tests.specs.Trying.{small, AreGoing};
 use flash_cache::FlashCache;
 use log_records::LogRecord;
 use log_store::LogStore;
+use mem_site::{Call, MemSite};
 use page_store::PageStore;
 use record_model::{CacheLine, Listing, Octets};
-use site::{Call, Dev, Geometry, MemSite, Site, Stop};
+use site::{Dev, Geometry, Site, Stop};
 use std::alloc::Global;
 use std::test::Fail;
 

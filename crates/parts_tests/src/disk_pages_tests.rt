@@ -1,6 +1,7 @@
 // Pages on a site in memory. A test is a table of rows, which one function plays.
 use disk_pages::{PAGE_LEN, read_page, sync_disk, write_page};
-use site::{Dev, Geometry, MemSite, Site};
+use mem_site::MemSite;
+use site::{Dev, Geometry, Site};
 use std::alloc::Global;
 use std::test::Fail;
 

@@ -1,9 +1,10 @@
 // Staging on a site in memory.
 ghost use Rattle.site.specs.Geometry.{HasLengths};
-ghost use Rattle.site.specs.MemState.{state_of};
+ghost use Rattle.mem_site.specs.MemState.{state_of};
 
 use crate::disk_pages_tests::{SMALL, have};
-use site::{Dev, MemSite, Stop};
+use mem_site::MemSite;
+use site::{Dev, Stop};
 use slotted_page::Page;
 use stage_out::stage;
 use std::test::Fail;

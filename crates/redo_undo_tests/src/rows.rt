@@ -1,7 +1,7 @@
 // Log, pages and analysis of a site in memory. A test is a table of rows, which one function plays.
 ghost use Rattle.std.specs.Prelude.{◌↔◌, ◌+◌, ◌<◌, ◌≤◌, ◌^◌, IfOk, IsTrue, OnOk};
 ghost use Rattle.site.specs.Geometry.{HasLengths, HasLimits};
-ghost use Rattle.site.specs.MemState.{state_of};
+ghost use Rattle.mem_site.specs.MemState.{state_of};
 ghost use Rattle.log_records.specs.Spelling.{HasForm};
 ghost use Rattle.log_store.specs.Representation as log_store;
 ghost use Rattle.log_store.specs.Representation.{end_of};
@@ -12,10 +12,11 @@ use analysis::Analysis;
 use checkpoint::Master;
 use log_records::LogRecord;
 use log_store::LogStore;
+use mem_site::MemSite;
 use page_store::PageStore;
 use record_model::Octets;
 use redo_undo::{log_change, log_record, redo, touch, undo_all, undo_one};
-use site::{Dev, Geometry, MemSite, Site, Stop};
+use site::{Dev, Geometry, Site, Stop};
 use std::alloc::Global;
 
 const SMALL: Geometry = Geometry {

@@ -1,7 +1,7 @@
 // Log and pages on a site in memory.
 ghost use Rattle.std.specs.Prelude.{◌≡◌, ◌+◌, ◌<◌, ◌≤◌, IfOk};
 ghost use Rattle.site.specs.Geometry.{HasLengths};
-ghost use Rattle.site.specs.MemState.{state_of};
+ghost use Rattle.mem_site.specs.MemState.{state_of};
 ghost use Rattle.log_records.specs.Spelling.{HasForm};
 ghost use Rattle.checkpoint.specs.Actives.{Ascend};
 ghost use Rattle.log_store.specs.Representation as log_store;
@@ -15,10 +15,11 @@ use crate::rows::{Row, run};
 use checkpoint::{Master, Pairs, newest};
 use log_records::LogRecord;
 use log_store::LogStore;
+use mem_site::MemSite;
 use page_store::PageStore;
 use record_model::Octets;
 use redo_undo::{Store, log_change, log_record, touch, undo_one};
-use site::{Geometry, MemSite, Stop};
+use site::{Geometry, Stop};
 use std::alloc::Global;
 use std::test::Fail;
 

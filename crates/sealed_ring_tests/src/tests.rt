@@ -2,12 +2,13 @@
 ghost use Rattle.std.specs.Prelude.{◌≡◌, ◌≤◌, length};
 ghost use Rattle.std.specs.Bool.{OnTrue};
 ghost use Rattle.site.specs.State.{content_of};
-ghost use Rattle.site.specs.MemState.{state_of};
+ghost use Rattle.mem_site.specs.MemState.{state_of};
 ghost use Rattle.sealed_ring.specs.Ring.{FitsIn, IsLive};
 ghost use Rattle.sealed_ring.specs.Ready.{IsUsable};
 
+use mem_site::{Call, MemSite};
 use sealed_ring::{Ring, Shape, judge, usable_stays};
-use site::{Call, Dev, Geometry, MemSite, Site, Stop};
+use site::{Dev, Geometry, Site, Stop};
 use std::test::Fail;
 
 const SMALL: Geometry = Geometry {

@@ -1,16 +1,8 @@
-pub mod Area
 pub mod Calls
-pub mod Crash
 pub mod Faults
 pub mod Geometry
-pub mod History
 pub mod Laws
-pub mod Limits
-pub mod Lives
-pub mod MemState
 pub mod Moments
-pub mod Named
-pub mod Output
 pub mod State
 pub mod Telling
 pub mod Work

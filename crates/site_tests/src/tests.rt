@@ -1,4 +1,5 @@
-use site::{Call, Dev, Failed, Geometry, MemSite, Site, Take, tell_all};
+use mem_site::{Call, MemSite};
+use site::{Dev, Failed, Geometry, Site, Take, tell_all};
 use std::test::Fail;
 
 const SMALL: Geometry = Geometry {

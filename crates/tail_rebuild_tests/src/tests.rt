@@ -1,13 +1,14 @@
 // Groups and segments on a site in memory.
 ghost use Rattle.std.specs.Prelude.{IfOk};
 ghost use Rattle.site.specs.Geometry.{HasLengths};
-ghost use Rattle.site.specs.MemState.{state_of};
+ghost use Rattle.mem_site.specs.MemState.{state_of};
 ghost use Rattle.tail_rebuild_tests.specs.Trying.{small, MayTry};
 
 use frame_group::GROUP_LEN;
+use mem_site::MemSite;
 use meta_segments::SEGMENT_LEN;
 use sealed_ring::{Ring, Shape};
-use site::{Dev, Geometry, MemSite, Stop};
+use site::{Dev, Geometry, Stop};
 use std::alloc::Global;
 use std::test::Fail;
 use tail_rebuild::{rebuild, save_due};

@@ -1,4 +1,5 @@
-use site::{Call, Geometry, MemSite, Stop};
+use mem_site::{Call, MemSite};
+use site::{Geometry, Stop};
 use std::alloc::Global;
 use std::test::Fail;
 use trace_report::simulate;

@@ -1,4 +1,4 @@
-use Rattle.site.specs.MemState.{state_of}
+use Rattle.mem_site.specs.MemState.{state_of}
 use Rattle.engine.specs.Invariant.{Invariant}
 use Rattle.engine_tests.proofs.tests.play.Given as goal
 

@@ -1,4 +1,4 @@
-use Rattle.site.specs.MemState.{state_of}
+use Rattle.mem_site.specs.MemState.{state_of}
 use Rattle.face.proofs.Livings.{fed_site, lived_one, with_status}
 use Rattle.face.proofs.trial.live.Goals as goal
 

@@ -1,4 +1,4 @@
-use Rattle.site.specs.MemState.{state_of}
+use Rattle.mem_site.specs.MemState.{state_of}
 use Rattle.flash_cache.specs.Representation.{Invariant}
 use Rattle.flash_cache_tests.proofs.tests.play_on.Given as goal
 

@@ -1,4 +1,4 @@
-use Rattle.site.specs.MemState.{state_of}
+use Rattle.mem_site.specs.MemState.{state_of}
 use Rattle.page_store_tests.specs.Trying.{AreGoing}
 use Rattle.page_store_tests.proofs.tests.play.Given as goal
 

@@ -1,5 +1,5 @@
 use Rattle.std.proofs.Common.{ℕ, arith}
-use Rattle.site.specs.MemState.{state_of}
+use Rattle.mem_site.specs.MemState.{state_of}
 use Rattle.disk_pages.specs.Pages.{LiesOn}
 use Rattle.stage_out.proofs.Lists.{two_differ, two_all}
 use Rattle.parts_tests.proofs.stage_out_tests.stage_two.Goals as goal

@@ -1,4 +1,4 @@
-use Rattle.site.specs.MemState.{state_of}
+use Rattle.mem_site.specs.MemState.{state_of}
 use Rattle.analysis.specs.Read as analysis
 use Rattle.redo_laws.specs.Holding.{Invariant}
 use Rattle.redo_undo_tests.proofs.rows.play.Given as goal

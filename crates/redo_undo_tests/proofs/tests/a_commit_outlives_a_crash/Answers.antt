@@ -1,7 +1,7 @@
 use Rattle.std.proofs.Common.{◌∙◌, subst}
 use Rattle.site.specs.declared.geometry.Geometry.{Geometry}
 use Rattle.site.specs.Geometry.{HasLengths}
-use Rattle.site.specs.MemState.{image_of}
+use Rattle.mem_site.specs.MemState.{image_of}
 use Rattle.redo_undo_tests.proofs.tests.a_commit_outlives_a_crash.Goals as goal
 
 pub crashed-site-requires : goal.crashed-site-requires

@@ -1,6 +1,6 @@
 use Rattle.std.proofs.Common.{◌≡◌, ◌/◌, ap, sym, ◌∙◌, arith, Bool, ℕ}
 use Rattle.std.specs.Prelude.{if◌then◌else◌}
-use Rattle.site.specs.MemState.{state_of}
+use Rattle.mem_site.specs.MemState.{state_of}
 use Rattle.log_store.specs.declared.store.LogStore.{LogStore}
 use Rattle.log_store.specs.Representation.{has_tail}
 use Rattle.page_store.proofs.Versions.{pages_later}

@@ -1,6 +1,6 @@
 use Rattle.std.proofs.Common.{arith, ap}
 use Rattle.site.specs.declared.geometry.Geometry.{Geometry}
-use Rattle.site.specs.MemState.{state_of}
+use Rattle.mem_site.specs.MemState.{state_of}
 use Rattle.redo_laws.proofs.CallsInSequence.{going_still}
 use Rattle.redo_undo_tests.proofs.tests.stored.Goals as goal
 

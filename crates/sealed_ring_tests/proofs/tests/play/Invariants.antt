@@ -1,4 +1,4 @@
-use Rattle.site.specs.MemState.{state_of}
+use Rattle.mem_site.specs.MemState.{state_of}
 use Rattle.sealed_ring.specs.Ready.{IsUsable}
 use Rattle.sealed_ring_tests.proofs.tests.play.Given as goal
 

@@ -1,5 +1,5 @@
-use Rattle.site.specs.MemState.{state_of}
 use Rattle.site.proofs.Working.{lengths_later}
+use Rattle.mem_site.specs.MemState.{state_of}
 use Rattle.tail_rebuild_tests.proofs.tests.a_segment_and_a_group_behind_it.Goals as goal
 
 pub rebuild-requires-clause-lengths : goal.rebuild-requires-clause-lengths

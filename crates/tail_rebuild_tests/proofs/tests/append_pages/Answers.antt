@@ -1,5 +1,5 @@
 use Rattle.std.proofs.Common.{◌≡◌, length, ap, sym, ◌∙◌}
-use Rattle.site.specs.MemState.{state_of}
+use Rattle.mem_site.specs.MemState.{state_of}
 use Rattle.tail_rebuild_tests.proofs.Tries.{may_try}
 use Rattle.tail_rebuild_tests.proofs.tests.append_pages.Goals as goal
 

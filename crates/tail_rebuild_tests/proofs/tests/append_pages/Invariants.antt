@@ -1,4 +1,4 @@
-use Rattle.site.specs.MemState.{state_of}
+use Rattle.mem_site.specs.MemState.{state_of}
 use Rattle.tail_rebuild_tests.specs.Trying.{MayTry}
 use Rattle.tail_rebuild_tests.proofs.tests.append_pages.Given as goal
 

@@ -1,5 +1,5 @@
-use Rattle.site.specs.MemState.{state_of}
 use Rattle.site.proofs.Working.{lengths_later}
+use Rattle.mem_site.specs.MemState.{state_of}
 use Rattle.tail_rebuild_tests.proofs.tests.with_groups.Goals as goal
 
 pub append_pages-requires : goal.append_pages-requires

@@ -1,7 +1,0 @@
-use Rattle.std.proofs.Common.{◌≡◌, take}
-use Rattle.site.specs.State.{is_loose}
-use Rattle.site.specs.History.{ranges_of}
-use Rattle.site.proofs.crash.stands_loose.Given as goal
-
-abbrev pub invariant-loop-span : goal.invariant-loop-span
-invariant-loop-span l = l.found ≡ is_loose (ranges_of (take l.span-index l.spans)) l.place
