@@ -16,9 +16,6 @@ active_of pair = record { begin = pair.begin; last = pair.last }
 abbrev pub fresh : Pair → Open
 fresh pair = record { txn = pair.begin; last = pair.last; updates = [] }
 
-names : List Active → ℕ → Bool
-names named t = list_any (λ (a : Active). a.begin == t) named
-
 fresh_ascend : (n : ℕ) (pairs : List Pair) → Ascend pairs → ((p : Pair) (rest : List Pair) → pairs ≡ p ∷ rest → n ≤ p.begin) → AscendFrom n (map fresh pairs)
 fresh_ascend n [] ascend low = tt
 fresh_ascend n (p ∷ []) ascend low = (low p [] refl, tt)

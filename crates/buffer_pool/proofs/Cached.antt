@@ -59,13 +59,6 @@ found es page kept is = frame_of-lookup es page ∙ ap (option_map (λ (kept : K
 pub missing : (es : List Entry) (page : ℕ) → lookup (nat_eq page) es ≡ None → frame_of (frames_in es) page ≡ None
 missing es page is = frame_of-lookup es page ∙ ap (option_map (λ (kept : Kept). frame_in (page, kept))) is
 
-pub is_some-lookup : (es : List Entry) (page : ℕ) → is_some (lookup (nat_eq page) es) ≡ is_some (frame_of (frames_in es) page)
-is_some-lookup es page = by (lookup (nat_eq page) es) ∙ sym (ap is_some (frame_of-lookup es page))
-  where
-    by : (found : Option Kept) → is_some found ≡ is_some (option_map (λ (kept : Kept). frame_in (page, kept)) found)
-    by None = refl
-    by (Some kept) = refl
-
 not_entry : (es : List Entry) (page : ℕ) → frame_of (frames_in es) page ≡ None → lookup_entry (nat_eq page) es ≡ None
 not_entry es page none = by (lookup_entry (nat_eq page) es) (sym (frame_of-lookup_entry es page) ∙ none)
   where
@@ -224,10 +217,6 @@ no_front (e ∷ es) is = absurd (none-some e (sym is))
 pub front-first : (es : List Entry) (e : Entry) → slice_get es 0 ≡ Some e → front_of (frames_in es) ≡ frame_in e
 front-first [] e is = absurd (none-some e is)
 front-first (f ∷ es) e is = let same : f ≡ e = cc in ap frame_in same
-
-pub there-first : (es : List Entry) (e : Entry) → slice_get es 0 ≡ Some e → 0 < length (frames_in es)
-there-first [] e is = absurd (none-some e is)
-there-first (f ∷ es) e is = omega arith
 
 pub lookup-first : (es : List Entry) (e : Entry) → slice_get es 0 ≡ Some e → lookup (nat_eq e.0) es ≡ Some e.1
 lookup-first [] e is = absurd (none-some e is)

@@ -1,13 +1,13 @@
 -- The index of the pages that a push may take, as pages come and go.
-use Rattle.std.proofs.Common.{Ordering, Less, Equal, Greater, ◌≡◌, ℕ, ◌+◌, ◌<◌, ◌≤◌, ◌==◌, ◌||◌, nat_eq, Bool, true, false, not, cond, List, [], ◌∷◌, ◌++◌, length, take, map, filter, reverse, Some, arith, refl, sym, ap, subst, ◌∙◌, append-nil, append_assoc, length-append}
+use Rattle.std.proofs.Common.{◌≡◌, ℕ, ◌+◌, ◌<◌, ◌≤◌, ◌||◌, nat_eq, Bool, true, false, not, cond, List, [], ◌∷◌, ◌++◌, length, take, map, filter, reverse, Some, arith, refl, sym, ap, subst, ◌∙◌, append-nil, append_assoc, length-append}
 use Rattle.std.specs.List.{AllByRecursion}
 use Rattle.std.specs.Map.{lookup, remove_entry, set_value}
-use Rattle.std.specs.Ordering.{nat_cmp, match_ordering}
-use Rattle.std.specs.Cmp.{nat_cmp_is, unsigned_tied}
+use Rattle.std.specs.Ordering.{nat_cmp}
 use Rattle.std.specs.BTreeMap.{insert_entry, is_at}
-use Rattle.std.proofs.lemmas.Bool.{ne_eqb, eqb-true, eq-eqb}
+use Rattle.std.proofs.lemmas.Bool.{eqb-true}
 use Rattle.std.proofs.lemmas.List.{map-append, reverse-append, take_all, take_at, take-map}
 use Rattle.std.proofs.lemmas.List.Elements.{filter-append}
+use Rattle.std_lemmas.proofs.Entries.{at_same, AreBelow, below_append, below_weaker, insert_before, insert_last, kept_behind, skipped}
 use Rattle.buffer_pool.specs.declared.frame.Frame.{Frame}
 use Rattle.buffer_pool.specs.declared.kept.Kept.{Kept}
 use Rattle.buffer_pool.specs.declared.index.Index.{Index}
@@ -19,33 +19,6 @@ use Rattle.buffer_pool.proofs.Known.{framed_in, known, each_known}
 
 abbrev pub Listed : Type 0
 Listed = List (ℕ × (ℕ × Bool))
-
--- numbers of touches, compared
-
-at_is : (s t : ℕ) → is_at (nat_cmp s) t ≡ (s == t)
-at_is s t = unsigned_tied s t
-
-at_same : (s : ℕ) → is_at (nat_cmp s) s ≡ true
-at_same s = at_is s s ∙ eq-eqb s s refl
-
-at_greater : (s t : ℕ) → t < s → is_at (nat_cmp s) t ≡ false
-at_greater s t less = at_is s t ∙ ne_eqb s t (λ same. omega (arith, same, less))
-
-at_less : (s t : ℕ) → s < t → is_at (nat_cmp s) t ≡ false
-at_less s t less = at_is s t ∙ ne_eqb s t (λ same. omega (arith, same, less))
-
--- all of a list are older
-
-abbrev pub AreBelow : ℕ → Listed → Type 0
-AreBelow bound ws = AllByRecursion (λ w. w.0 < bound) ws
-
-below_weaker : (a b : ℕ) (ws : Listed) → a ≤ b → AreBelow a ws → AreBelow b ws
-below_weaker a b [] le all = tt
-below_weaker a b (w ∷ ws) le all = let less = all.0 in (omega (arith, le, less), below_weaker a b ws le all.1)
-
-below_append : (bound : ℕ) (xs ys : Listed) → AreBelow bound xs → AreBelow bound ys → AreBelow bound (xs ++ ys)
-below_append bound [] ys x y = y
-below_append bound (w ∷ xs) ys x y = (x.0, below_append bound xs ys x.1 y)
 
 abbrev one_listed : Entry → Bool → Listed
 one_listed e b = cond b ((e.1.stamp, (e.0, e.1.changed)) ∷ []) []
@@ -96,22 +69,6 @@ found_below bound k kept (e ∷ es) stamped is = by (nat_eq k e.0) is (found_bel
 
 -- Taking off the list.
 
-skipped : (s : ℕ) (xs ys : Listed) → AreBelow s xs → remove_entry (is_at (nat_cmp s)) (xs ++ ys) ≡ xs ++ remove_entry (is_at (nat_cmp s)) ys
-skipped s [] ys below = refl
-skipped s (x ∷ xs) ys below =
-    ap (λ b. cond b (xs ++ ys) (x ∷ remove_entry (is_at (nat_cmp s)) (xs ++ ys))) (at_greater s x.0 below.0)
-    ∙ ap (λ (l : Listed). x ∷ l) (skipped s xs ys below.1)
-
--- a younger one behind stays
-kept_behind : (s : ℕ) (xs : Listed) (w : ℕ × (ℕ × Bool)) → s < w.0 → remove_entry (is_at (nat_cmp s)) (xs ++ w ∷ []) ≡ remove_entry (is_at (nat_cmp s)) xs ++ w ∷ []
-kept_behind s [] w less = ap (λ b. cond b [] (w ∷ [])) (at_less s w.0 less)
-kept_behind s (x ∷ xs) w less = by (is_at (nat_cmp s) x.0) (kept_behind s xs w less)
-  where
-    by : (b : Bool) → remove_entry (is_at (nat_cmp s)) (xs ++ w ∷ []) ≡ remove_entry (is_at (nat_cmp s)) xs ++ w ∷ []
-        → cond b (xs ++ w ∷ []) (x ∷ remove_entry (is_at (nat_cmp s)) (xs ++ w ∷ [])) ≡ cond b xs (x ∷ remove_entry (is_at (nat_cmp s)) xs) ++ w ∷ []
-    by true rest = refl
-    by false rest = ap (λ (l : Listed). x ∷ l) rest
-
 struck_here : (e : Entry) (xs : Listed) → AreBelow e.1.stamp xs → struck e.1.stamp (is_listed e.1) (xs ++ if_listed e) ≡ xs
 struck_here e xs below = by (is_listed e.1)
   where
@@ -155,23 +112,6 @@ struck_coldest front e = ap (struck e.1.stamp (is_listed e.1)) (coldest_first fr
     by false = refl
 
 -- Putting on the list.
-
-insert_last : (s : ℕ) (v : ℕ × Bool) (xs : Listed) → AreBelow s xs → insert_entry nat_cmp xs s v ≡ xs ++ (s, v) ∷ []
-insert_last s v [] below = refl
-insert_last s v (x ∷ xs) below =
-    ap (λ (o : Ordering). match_ordering o ((s, v) ∷ x ∷ xs) ((x.0, v) ∷ xs) (x ∷ insert_entry nat_cmp xs s v)) (sym (nat_cmp_is s x.0 Greater below.0))
-    ∙ ap (λ (l : Listed). x ∷ l) (insert_last s v xs below.1)
-
-insert_before : (s : ℕ) (v : ℕ × Bool) (xs : Listed) (w : ℕ × (ℕ × Bool)) → s < w.0 → insert_entry nat_cmp (xs ++ w ∷ []) s v ≡ insert_entry nat_cmp xs s v ++ w ∷ []
-insert_before s v [] w less = ap (λ (o : Ordering). match_ordering o ((s, v) ∷ w ∷ []) ((w.0, v) ∷ []) (w ∷ (s, v) ∷ [])) (sym (nat_cmp_is s w.0 Less less))
-insert_before s v (x ∷ xs) w less = by (nat_cmp s x.0) (insert_before s v xs w less)
-  where
-    by : (o : Ordering) → insert_entry nat_cmp (xs ++ w ∷ []) s v ≡ insert_entry nat_cmp xs s v ++ w ∷ []
-        → match_ordering o ((s, v) ∷ x ∷ xs ++ w ∷ []) ((x.0, v) ∷ xs ++ w ∷ []) (x ∷ insert_entry nat_cmp (xs ++ w ∷ []) s v)
-        ≡ match_ordering o ((s, v) ∷ x ∷ xs) ((x.0, v) ∷ xs) (x ∷ insert_entry nat_cmp xs s v) ++ w ∷ []
-    by Less rest = refl
-    by Equal rest = refl
-    by Greater rest = ap (λ (l : Listed). x ∷ l) rest
 
 -- a page that comes to the front
 enlisted_front : (k : ℕ) (kept : Kept) (es : List Entry) → AreStamped kept.stamp es → enlisted kept.stamp (k, kept.changed) (is_listed kept) (listed_of es) ≡ listed_of ((k, kept) ∷ es)
@@ -325,22 +265,6 @@ coldest_are most size es distinct =
 pub record IsTold (most : ℕ) (all rest : Listed) (marks : List (ℕ × Bool)) : Type 0 where
   pub split : marks_listed all ≡ marks ++ marks_listed rest
   pub few : length marks ≤ most
-
-pub told_more : (most : ℕ) (all rest next : Listed) (w : ℕ × (ℕ × Bool)) (marks more : List (ℕ × Bool)) → IsTold most all rest marks → rest ≡ w ∷ next → (length marks ≡ most → ⊥) → more ≡ marks ++ w.1 ∷ []
-    → IsTold most all next more
-told_more most all rest next w marks more told is less more_is = record {
-  split =
-      told.split ∙ ap (λ (l : Listed). marks ++ marks_listed l) is ∙ sym (append_assoc marks (w.1 ∷ []) (marks_listed next))
-      ∙ ap (λ (l : List (ℕ × Bool)). l ++ marks_listed next) (sym more_is);
-  few = let few = told.few in omega (arith, few, less, ap length more_is, length-append marks (w.1 ∷ []));
-}
-
-pub told_enough : (most : ℕ) (all rest : Listed) (marks : List (ℕ × Bool)) → IsTold most all rest marks → length marks ≡ most → marks ≡ take most (marks_listed all)
-told_enough most all rest marks told enough = sym (ap (take most) told.split ∙ take_at marks (marks_listed rest) most enough)
-
-pub told_all : (most : ℕ) (all rest : Listed) (marks : List (ℕ × Bool)) → IsTold most all rest marks → rest ≡ [] → marks ≡ take most (marks_listed all)
-told_all most all rest marks told none =
-    sym (ap (take most) (told.split ∙ ap (λ (l : Listed). marks ++ marks_listed l) none ∙ append-nil marks) ∙ take_all most marks told.few)
 
 -- The same by a walk over the entries.
 

@@ -3,7 +3,6 @@ use Rattle.std.proofs.Common.{◌≡◌, ◌≢◌, ℕ, ◌≤◌, ◌==◌, no
 use Rattle.std.specs.List.{AllByRecursion}
 use Rattle.std.proofs.lemmas.Bool.{eqb-true, eqb-false, ne_eqb, cond-false}
 use Rattle.std.proofs.lemmas.Option.{none-some}
-use Rattle.std.proofs.lemmas.List.{length-map}
 use Rattle.buffer_pool.specs.declared.frame.Frame.{Frame}
 use Rattle.buffer_pool.specs.Frames.{AreDistinct, frame_of, without, in_front, touched, clear, cleared_at, cleared}
 
@@ -97,27 +96,12 @@ others_marked page (frame ∷ frames) all =
     ap (λ (f : Frame). f ∷ cleared frames page) (cond-false _ _ frame (ne_eqb _ _ (λ (same : frame.page ≡ page). all.0 (sym same))))
     ∙ ap (λ (xs : List Frame). frame ∷ xs) (others_marked page frames all.1)
 
-pub length-cleared : (frames : List Frame) (page : ℕ) → length (cleared frames page) ≡ length frames
-length-cleared frames page = length-map frames (cleared_at page)
-
 pub page-cleared_at : (page : ℕ) (frame : Frame) → (cleared_at page frame).page ≡ frame.page
 page-cleared_at page frame = by (frame.page == page)
   where
     by : (b : Bool) → (cond b (clear frame) frame).page ≡ frame.page
     by true = refl
     by false = refl
-
-others-cleared : (page other : ℕ) (frames : List Frame) → Others other frames → Others other (cleared frames page)
-others-cleared page other [] all = tt
-others-cleared page other (frame ∷ frames) all =
-    ((let P : ℕ → Type 0 = λ n. other ≢ n in subst P (sym (page-cleared_at page frame)) all.0), others-cleared page other frames all.1)
-
-pub distinct-cleared : (frames : List Frame) (page : ℕ) → AreDistinct frames → AreDistinct (cleared frames page)
-distinct-cleared [] page distinct = tt
-distinct-cleared (frame ∷ frames) page distinct = (
-  (let P : ℕ → Type 0 = λ n. Others n (cleared frames page) in subst P (sym (page-cleared_at page frame)) (others-cleared page frame.page frames distinct.0)),
-  distinct-cleared frames page distinct.1,
-)
 
 -- The last frame taken out.
 

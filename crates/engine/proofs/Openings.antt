@@ -1,9 +1,9 @@
 -- What a restart finds on devices.
 use Rattle.image_meaning.proofs.Reading.{spelled_again, each_has}
 use Rattle.sealed_ring.proofs.Alters.{length-units}
-use Rattle.std.proofs.Common.{Option, ◌≡◌, zero, suc, ◌+◌, ◌-◌, ◌<◌, min, List, [], ◌∷◌, length, map, take, None, Some, refl, sym, ap, subst, ◌∙◌, arith, ℕ}
+use Rattle.std.proofs.Common.{Option, ◌≡◌, zero, suc, ◌+◌, ◌-◌, min, List, [], ◌∷◌, length, map, take, None, Some, refl, sym, ap, subst, ◌∙◌, arith, ℕ}
 use Rattle.std.specs.Prelude.{if◌then◌else◌}
-use Rattle.std.specs.List.{AllByRecursion, slice_get}
+use Rattle.std.specs.List.{slice_get}
 use Rattle.std.proofs.lemmas.Option.{none-some, same_Some}
 use Rattle.std.proofs.Math.Nat.{min-le_left}
 use Rattle.std.proofs.lemmas.List.Sums.{sum_by-cons}
@@ -24,7 +24,7 @@ use Rattle.checkpoint.specs.Newest.{blank, newest_of, IsOf, HasMaster}
 use Rattle.analysis.specs.declared.analysis.Loser.{Loser}
 use Rattle.analysis.specs.Open.{Open, owed_one, owed_for}
 use Rattle.analysis.specs.Read.{loser_of}
-use Rattle.frame_group.specs.Groups.{Frame, frames_in}
+use Rattle.frame_group.specs.Groups.{frames_in}
 use Rattle.flash_cache.specs.Representation.{HasGroups, groups_on}
 use Rattle.log_store.specs.declared.store.LogStore.{LogStore}
 use Rattle.log_store.specs.Representation as log_store
@@ -32,7 +32,7 @@ use Rattle.log_store.specs.Representation.{has_tail}
 use Rattle.page_store.specs.declared.store.PageStore.{PageStore}
 use Rattle.page_store.specs.Representation as page_store
 use Rattle.page_store.specs.Laws.{FitsBeside, GoesOnBeside}
-use Rattle.image_meaning.specs.Meaning.{IsUnused, IsFrameOf, AreGroups, HasNewest, saved_by, kept_by, picture_under}
+use Rattle.image_meaning.specs.Meaning.{IsUnused, AreGroups, HasNewest, saved_by, kept_by, picture_under}
 use Rattle.redo_laws.specs.Holding as both
 use Rattle.engine.specs.Image.{IsSound, Stands}
 use Rattle.engine.specs.Leaves.{LeavesTable}
@@ -42,10 +42,6 @@ use Rattle.redo_undo.proofs.Saved.{log_still}
 use Rattle.redo_laws.proofs.Forced.{none_now}
 
 -- The queue on flash.
-
-each_exists : (g : Geometry) (frames : List Frame) → AllByRecursion (IsFrameOf g) frames → AllByRecursion (λ frame. frame.page < g.pages) frames
-each_exists g [] all = tt
-each_exists g (frame ∷ frames) all = (all.0.exists, each_exists g frames all.1)
 
 as_many : (contents : List (List ℕ)) → length (map frames_in contents) ≡ length contents
 as_many [] = refl

@@ -19,9 +19,9 @@ use Rattle.log_laws.proofs.Lists.{all_find}
 use Rattle.second_chance.specs.Machine.{Rules}
 use Rattle.ring_machine.specs.Tail.{empty_at}
 use Rattle.ring_machine.specs.Machine.{Machine, Work, cached, logged, after_all}
-use Rattle.ring_machine.specs.Restart.{clr_on, clr_work, undoing_one, undoing_work, undo_work, only_ends}
+use Rattle.ring_machine.specs.Restart.{clr_work, undoing_one, undoing_work, undo_work, only_ends}
 use Rattle.ring_machine.specs.Performing.{Performs}
-use Rattle.ring_machine.proofs.Ends.{saves_one, masters_stay}
+use Rattle.ring_machine.proofs.Ends.{saves_one, masters_stay, clr_saves_none}
 use Rattle.ring_machine.proofs.Performing.{performs_as, performs_by, performs_failed, performs_from, performs_with}
 use Rattle.log_store.specs.declared.store.LogStore.{LogStore}
 use Rattle.log_store.specs.Representation.{has_tail}
@@ -80,10 +80,6 @@ touches_save_none (work ∷ works) = touches_save_none works
 ends_save_none : (n : ℕ) → list_any saves_one (replicate n (logged 9)) ≡ false
 ends_save_none zero = refl
 ends_save_none (suc n) = ends_save_none n
-
-clr_saves_none : (before : Content) (number : Option ℕ) → list_any saves_one (clr_on before number) ≡ false
-clr_saves_none before None = refl
-clr_saves_none before (Some number) = refl
 
 undoing_saves_none : (updates : List Entry) → list_any saves_one (undoing_work updates) ≡ false
 undoing_saves_none [] = refl

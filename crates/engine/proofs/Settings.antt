@@ -1,12 +1,11 @@
 -- A set: a transaction of one write, outside sessions.
-use Rattle.record_model.proofs.SerialLists.{left_of}
 use Rattle.image_meaning.proofs.Versions.{length-versions}
 use Rattle.checkpoint.specs.declared.master.Master.{Master}
 use Rattle.std.proofs.Common.{Option, ◌≡◌, ◌+◌, ◌*◌, ◌/◌, ◌%◌, ◌<◌, ◌≤◌, ◌==◌, Bool, true, false, ◌||◌, cond, List, [], ◌∷◌, ◌++◌, length, find, None, Some, refl, sym, ap, subst, ◌∙◌, arith, IsTrue, ℕ, ⊎_elim, true≢false}
 use Rattle.std.specs.Prelude.{filter_map}
 use Rattle.std.specs.List.{AllByRecursion, list_any, range_with_len}
 use Rattle.std.proofs.Math.Nat.{div-add-mod}
-use Rattle.std.proofs.lemmas.Bool.{cases_eq, ne_eqb, and_right}
+use Rattle.std.proofs.lemmas.Bool.{cases_eq, ne_eqb, and_right, or_parts}
 use Rattle.site.specs.declared.geometry.Geometry.{Geometry}
 use Rattle.site.specs.State.{State as Site}
 use Rattle.record_model.specs.State.{Content, State, Write, session_at, table_with}
@@ -50,7 +49,7 @@ find_none f (x ∷ xs) all = ap (λ (b : Bool). cond b (Some x) (find f xs)) all
 
 all_left : (f h : ℕ → Bool) (xs : List ℕ) → AllByRecursion (λ x. (f x || h x) ≡ false) xs → AllByRecursion (λ x. f x ≡ false) xs
 all_left f h [] all = tt
-all_left f h (x ∷ xs) all = (left_of (f x) (h x) all.0, all_left f h xs all.1)
+all_left f h (x ∷ xs) all = ((or_parts (f x) (h x) all.0).0, all_left f h xs all.1)
 
 pub unwritten : (s : State) (number : ℕ) → model.busy_write s None number ≡ None → model.busy_read s None number ≡ None
 unwritten s number none =

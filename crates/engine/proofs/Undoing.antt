@@ -10,6 +10,7 @@ use Rattle.std.proofs.lemmas.Option.{none-some}
 use Rattle.std_lemmas.proofs.Lists.{any_reverse}
 use Rattle.site.specs.State.{State as Site}
 use Rattle.checkpoint.specs.declared.master.Master.{Master}
+use Rattle.std_lemmas.proofs.Options.{option_or_assoc}
 use Rattle.record_model.specs.State.{Content, Session, State, Write, content_at, last_write, session_at, writes_of}
 use Rattle.log_records.specs.declared.log_record.LogRecord.{LogRecord}
 use Rattle.log_records.specs.declared.log_record.LogRecord.TheVariants.{Begin, Update, Clr, Commit, End}
@@ -78,10 +79,6 @@ all_updates (e ∷ entries) updates none = by e.rec none (all_updates entries)
     by (End txn) none later = later updates none
 
 -- the last write on a record
-or_assoc : {X : Type 0} (a b c : Option X) → option_or (option_or a b) c ≡ option_or a (option_or b c)
-or_assoc None b c = refl
-or_assoc (Some x) b c = refl
-
 last_more : (xs : List Write) (write : Write) (number : ℕ) → last_write (xs ++ write ∷ []) number ≡ option_or (if write.0 == number then Some write.1 else None) (last_write xs number)
 last_more [] write number = by (if write.0 == number then Some write.1 else None)
   where
@@ -90,7 +87,7 @@ last_more [] write number = by (if write.0 == number then Some write.1 else None
     by (Some x) = refl
 last_more (x ∷ xs) write number =
     ap (λ (o : Option Content). option_or o (if x.0 == number then Some x.1 else None)) (last_more xs write number)
-    ∙ or_assoc (if write.0 == number then Some write.1 else None) (last_write xs number) (if x.0 == number then Some x.1 else None)
+    ∙ option_or_assoc (if write.0 == number then Some write.1 else None) (last_write xs number) (if x.0 == number then Some x.1 else None)
 
 pub last_left : (updates : List Entry) (number : ℕ) → last_write (writes_left updates) number ≡ option_map (λ (e : Entry). after_of e.rec) (find (is_on number) updates)
 last_left [] number = refl

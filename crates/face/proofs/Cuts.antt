@@ -81,18 +81,6 @@ module _ (entry : List ℕ) (source : Source) (now : Site) (i : ℕ) (cut : Cut 
       let long = ap length same ∙ length-append cut.lines (up_to_quit behind) in
       let count = cut.count in (omega (arith, long, count), ap (take i) is ∙ take_at cut.lines behind i cut.count ∙ sym first_of_all)
 
-  -- between two lines, or within the answer to one
-  pub has_heard : (old new : Site) → old.input.left ≡ entry → new.input ≡ now.input → HasHeard i (cut.octets ++ pending source) source.ended old new
-  has_heard old new at same =
-      let is = cut.are (pending source) source.ended (λ e. (none_pending source (is_source.emptied e), e)) in
-      let both = heard_by (cut.octets ++ pending source) source.ended (commands_of source.ended (pending source)) is in
-      record {
-        taken = at ∙ cut.all ∙ sym (append_assoc cut.octets (pending source) now.input.left) ∙ ap (λ (input : Input). (cut.octets ++ pending source) ++ input.left) (sym same);
-        end = λ e. ap (λ (input : Input). input.left) same ∙ cut.ended e;
-        enough = both.0;
-        same = both.1 ∙ ap (λ (l : List ℕ). take i (commands_of true l)) (sym at);
-      }
-
   -- as many octets were taken as lines were cut, at least
   pub cut_few_octets : i ≤ limit
   cut_few_octets =

@@ -43,7 +43,7 @@ use Rattle.face.proofs.SerialRuns.{run_is_serial, told_is_serial}
 use Rattle.face.proofs.Ranges.{IsFault, is_left, all_text}
 use Rattle.face.proofs.Written.{written_same, written_told}
 
-output_or_not : (h : Halt) → (h ≡ halt.Output) ⊎ (h ≢ halt.Output)
+pub output_or_not : (h : Halt) → (h ≡ halt.Output) ⊎ (h ≢ halt.Output)
 output_or_not (halt.Stop stop) = inr (λ e. cc)
 output_or_not halt.Input = inr (λ e. cc)
 output_or_not halt.Output = inl refl

@@ -30,7 +30,7 @@ use Rattle.face.specs.Workload.{load_run, load_texts, opening_text, summary_text
 use Rattle.face.proofs.CallCounts.{calls_told}
 use Rattle.face.proofs.Endings.{ends_whole, ends_with}
 use Rattle.face.proofs.Demanded.{asked_done, asked_halted, demands_done, demands_err, demands_failed, demands_lost}
-use Rattle.face.proofs.Faults.{not_zero, worn_by}
+use Rattle.face.proofs.Faults.{not_zero, worn_by, output_or_not}
 use Rattle.face.proofs.Meanings.{stands_by}
 
 no_text : (rest text : List ℕ) → IsFront rest [] → IsFront rest text
@@ -168,12 +168,6 @@ module _ (run : Run) (summary : List ℕ) (old mid new : Site) (h : Halt) (stops
         allowed = p.1.allowed;
         stands = p.1.stands;
       }) (tell_leaves (λ image. IsLeftOf run summary (fault_line h) old.told (record { told = mid.told; image = image })) (fault_line h) mid new (λ s left. subst (λ (t : List ℕ). IsLeftOf run summary (fault_line h) old.told (record { told = t; image = s.image })) (told_is mid s left) (before.now s left)) tells)
-
-  output_or_not : (x : Halt) → (x ≡ halt.Output) ⊎ (x ≢ halt.Output)
-  output_or_not (halt.Stop stop) = inr (λ e. cc)
-  output_or_not halt.Input = inr (λ e. cc)
-  output_or_not halt.Output = inl refl
-  output_or_not halt.Limit = inr (λ e. cc)
 
   with_fault : LeavesOnly old new (IsLeftOf run summary (fault_line h) old.told)
   with_fault = in_sequence old mid new (Leaves (IsLeftOf run summary (fault_line h) old.told)) before

@@ -21,7 +21,7 @@ use Rattle.log_records.specs.declared.log_record.LogRecord.{LogRecord}
 use Rattle.checkpoint.specs.declared.master.Master.{Master}
 use Rattle.image_meaning.proofs.Blanks.{unused}
 use Rattle.image_meaning.specs.Meaning.{picture_under}
-use Rattle.second_chance.specs.Groups.{LinesPushFew, WorkPushesFew, next_number, reads_in}
+use Rattle.second_chance.specs.Groups.{LinesPushFew, WorkPushesFew, reads_in}
 use Rattle.second_chance.specs.Machine.{rules_of}
 use Rattle.second_chance.specs.Queue.{frame_of as known_of}
 use Rattle.second_chance.proofs.GroupCounts.{groups_add_up}
@@ -50,7 +50,7 @@ left_has old new P leaves s left = by left.at
 -- Groups.
 
 -- a run begins with the number that flash has
-number_at_entry : (g : Geometry) (image : Image) → next_number (cache_on g image) ≡ hi_of (group_shape g) image.flash
+number_at_entry : (g : Geometry) (image : Image) → next_group (cache_on g image) ≡ hi_of (group_shape g) image.flash
 number_at_entry g image =
     let groups = map frames_in (units_on (group_shape g) image).live in
     let known = length-map groups (map (λ (frame : Frame). known_of frame.page frame.dirty)) in

@@ -31,12 +31,6 @@ below [] (suc i) x rest is = cc
 below (y ∷ xs) zero x rest is = omega arith
 below (y ∷ xs) (suc i) x rest is = let less = below xs i x rest is in omega (arith, less)
 
-pub rest_more : {X : Type 0} (xs : List X) (i : ℕ) (x : X) (rest : List X) → drop i xs ≡ x ∷ rest → drop (suc i) xs ≡ rest
-rest_more [] zero x rest is = cc
-rest_more [] (suc i) x rest is = cc
-rest_more (y ∷ xs) zero x rest is = cc
-rest_more (y ∷ xs) (suc i) x rest is = rest_more xs i x rest is
-
 joined_more : (xs : List (List ℕ)) (i : ℕ) → i < length xs → flat_map (λ (x : List ℕ). x) (take (suc i) xs) ≡ flat_map (λ (x : List ℕ). x) (take i xs) ++ get_or xs i []
 joined_more [] i less = absurd (omega (arith, less))
 joined_more (x ∷ xs) zero less = append-nil x

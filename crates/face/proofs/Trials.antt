@@ -85,11 +85,6 @@ module _ (script : List ℕ) where
   pub more_lives : (place : ℕ) (life : Life) (x : ℕ × ℕ) → slice_get (lives_in script) place ≡ Some life → life.stop ≡ Some x → suc place < length (lives_in script)
   more_lives place life x is some = let less = between_more 0 stops (length script) place life x is some in let same = count in omega (arith, less, same)
 
-pub there_is : {X : Type 0} (xs : List X) (place : ℕ) → place < length xs → slice_get xs place ≡ None → ⊥
-there_is [] place less is = omega (arith, less)
-there_is (x ∷ xs) zero less is = cc
-there_is (x ∷ xs) (suc place) less is = there_is xs place (omega (arith, less)) is
-
 -- The devices of a site.
 
 pub devices_then : (a b c : Site) → LeavesDevices a b → LeavesDevices b c → LeavesDevices a c
@@ -178,16 +173,6 @@ none_yet blank g script old inner new =
 
 -- the site of the life that is over, and how it ended
 module _ (g : Geometry) (script : List ℕ) (place : ℕ) (old mid : Site) (inner lived : MemSite) (r : Reached g script place old mid inner) (numbers : lives_of lived ≡ lives_of inner) where
-  pub given_up : (new : Site) → new.told ≡ mid.told → IsGivenUp g script old new (numbers_of lived)
-  given_up new same = record {
-    lives = place;
-    before = r.before;
-    lived = r.lived;
-    told = same ∙ r.told;
-    changes = (limits_of lived).changes;
-    numbers_are = ap (λ (l : List ℕ). l ++ (limits_of lived).changes ∷ []) (numbers ∙ r.numbers);
-  }
-
   module _ (life : Life) (is_life : slice_get (lives_in script) place ≡ Some life) (status : ℕ) (one : HasLivedOne g r.before (slice_range script life.start life.end) status (state_of lived)) (is_status : IsStatus (is_within life.stop (limits_of lived).changes) status) where
     abbrev text : List ℕ
     text = (state_of lived).told
@@ -252,16 +237,6 @@ module _ (g : Geometry) (script : List ℕ) (place : ℕ) (old mid : Site) (inne
       })
 
 -- Before the first life.
-
-pub unbegun : (g : Geometry) (script : List ℕ) (old new : Site) (inner : MemSite) → IsNewSite g inner → new.told ≡ old.told → IsGivenUp g script old new (numbers_of inner)
-unbegun g script old new inner is told = record {
-  lives = 0;
-  before = at_first g;
-  lived = refl;
-  told = told ∙ sym (append-nil old.told);
-  changes = (limits_of inner).changes;
-  numbers_are = ap (λ (l : List ℕ). l ++ (limits_of inner).changes ∷ []) is.lives;
-}
 
 pub numbers_unbegun : (g : Geometry) (inner : MemSite) → IsNewSite g inner → numbers_of inner ≡ 0 ∷ []
 numbers_unbegun g inner is = ap (λ (l : List ℕ). l ++ (limits_of inner).changes ∷ []) is.lives ∙ ap (λ (n : ℕ). n ∷ []) is.fresh.changes

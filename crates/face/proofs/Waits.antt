@@ -1,10 +1,8 @@
 -- When input is asked for.
-use Rattle.std.proofs.Common.{◌≡◌, ◌≢◌, ℕ, ◌+◌, ◌≤◌, Bool, true, false, List, [], ◌∷◌, ◌++◌, length, take, refl, sym, ◌∙◌, ap, subst, arith, append_assoc, length-append}
-use Rattle.std.specs.Prelude.{Ok, if◌then◌else◌}
-use Rattle.std.proofs.lemmas.List.{append-nil, length-take}
+use Rattle.std.proofs.Common.{◌≡◌, ◌≢◌, ℕ, ◌+◌, ◌≤◌, true, false, List, [], ◌++◌, length, take, refl, sym, ◌∙◌, ap, subst, arith, append_assoc, length-append}
+use Rattle.std.proofs.lemmas.List.{append-nil}
 use Rattle.std_lemmas.proofs.AllOf.{all_append, all_weaker}
 use Rattle.site.specs.State.{Input, State as Site}
-use Rattle.site.specs.Calls.{Took}
 use Rattle.site.specs.declared.outside.Take.{Take}
 use Rattle.face.specs.declared.source.Source.{Source}
 use Rattle.face.specs.Lines.{answered_of, pending, to_hear, IsSource, TookWithin, TakesWithin}
@@ -12,48 +10,10 @@ use Rattle.face.specs.Range.{first_texts}
 use Rattle.face.specs.Run.{Run}
 use Rattle.face.specs.Waiting.{IsAnswered}
 use Rattle.face.specs.Working.{AnswersFirst, IsEarly}
-use Rattle.face.proofs.Cuts.{Cut, none_pending, whole_before}
+use Rattle.face.proofs.Cuts.{Cut, whole_before}
 use Rattle.face.proofs.Heard.{HeardSoFar}
 
 -- Within a line.
-
--- no take
-pub takes_none : (source : Source) (before now : Site) → now.input ≡ before.input → TakesWithin source before now
-takes_none source before now same = record {
-  takes = [];
-  are = ap (λ (input : Input). input.takes) same ∙ sym (append-nil before.input.takes);
-  within = tt;
-  count = ap (λ (input : Input). input.heard + length input.left) same;
-}
-
--- one, where nothing is pending
-pub takes_one : (source : Source) (into : List ℕ) (n : ℕ) (before now : Site) → source.from ≡ source.to → source.ended ≡ false → n ≤ length into → Took into before now (Ok n) → TakesWithin source before now
-takes_one source into n before now empty going few took = by before.input.asked took.noted.takes
-  where
-    t : Take
-    t = record { heard = before.input.heard; told = length before.told }
-
-    within : TookWithin source before t
-    within = record {
-      octets = [];
-      none = tt;
-      rest = to_hear source before;
-      all = refl;
-      here = ap (λ (l : List ℕ). before.input.heard + length l) (none_pending source empty);
-      told = refl;
-      going = going;
-    }
-
-    count : now.input.heard + length now.input.left ≡ before.input.heard + length before.input.left
-    count =
-        let all = ap length took.moved ∙ length-append (take n into) now.input.left in
-        let first = length-take n into in
-        let heard = took.noted.heard in
-        omega (arith, all, first, heard, few)
-
-    by : (asked : Bool) → now.input.takes ≡ (if asked then before.input.takes else before.input.takes ++ t ∷ []) → TakesWithin source before now
-    by true is = record { takes = []; are = is ∙ sym (append-nil before.input.takes); within = tt; count = count }
-    by false is = record { takes = t ∷ []; are = is; within = (within, tt); count = count }
 
 -- octets of the line were heard, and then input was asked for again
 pub takes_then : (source source' : Source) (old mid new : Site) (line : List ℕ) (len n : ℕ) → HeardSoFar (to_hear source old) (to_hear source' mid) line len n → mid.told ≡ old.told → source'.ended ≡ source.ended

@@ -22,10 +22,6 @@ pub front_is : (groups : List (List Known)) (front : List Mark) → slice_get (m
 front_is [] front is = absurd cc
 front_is (group ∷ later) front is = same_Some (front_marks (group ∷ later)) front is
 
-pub front_some : (groups : List (List Known)) (place : ℕ) → place < length (front_marks groups) → 0 < length groups
-front_some [] place lt = absurd (omega (arith, lt))
-front_some (group ∷ later) place lt = omega arith
-
 pub mark_is : (groups : List (List Known)) (into : List Mark) (n place : ℕ) → slice_get (marks_of_groups groups) 0 ≡ Some (take n into) → place < length (front_marks groups)
     → (place < n) × (get_or (front_marks groups) place no_mark ≡ get_or into place no_mark)
 mark_is groups into n place is lt =

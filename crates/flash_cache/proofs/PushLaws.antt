@@ -17,8 +17,8 @@ use Rattle.flash_cache.specs.Pushed.{changes_of_push, LeavesPush, LeavesPushBehi
 
 module _ (g : Geometry) (pages : List ℕ) (contents : List (List ℕ)) (group : List ℕ) (old : State) where
   -- while pages are staged
-  stage_leaves : (mid : State) → LeavesFront g (changes_of pages) old mid → LeavesOnly old mid (LeavesPush g pages contents group old)
-  stage_leaves mid front = leaves_weaker old mid (IsReached g (IsFrontOf (changes_of pages)) old) (LeavesPush g pages contents group old)
+  pub stage_only : (mid : State) → LeavesFront g (changes_of pages) old mid → LeavesOnly old mid (LeavesPush g pages contents group old)
+  stage_only mid front = leaves_weaker old mid (IsReached g (IsFrontOf (changes_of pages)) old) (LeavesPush g pages contents group old)
       (λ s is. record { told = is.told; either = inl (is.changes, is.made, is.reaches) }) front
 
   -- while the group is appended
@@ -44,12 +44,9 @@ module _ (g : Geometry) (pages : List ℕ) (contents : List (List ℕ)) (group :
       → LeavesOnly mid new (LeavesOldOrNew (shape_of g Groups) (octets_of (shape_of g Groups) mid.image) group) → OnlyDevice (shape_of g Groups).dev mid new
       → LeavesOnly old new (LeavesPush g pages contents group old)
   push_leaves mid new limits lengths quiet room front made staged told leaves only =
-      in_sequence old mid new (Leaves (LeavesPush g pages contents group old)) (stage_leaves mid front)
+      in_sequence old mid new (Leaves (LeavesPush g pages contents group old)) (stage_only mid front)
       (leaves_weaker mid new (KeepsOrAppends g Groups group mid) (LeavesPush g pages contents group old) (λ s is. append_leaves mid s made staged told is)
       (append_makes g Groups group mid new limits lengths quiet room leaves only))
-
-  pub stage_only : (mid : State) → LeavesFront g (changes_of pages) old mid → LeavesOnly old mid (LeavesPush g pages contents group old)
-  stage_only mid front = stage_leaves mid front
 
 -- at each moment the first of its changes were made
 pub push_front : (g : Geometry) (before : List Change) (pages : List ℕ) (contents : List (List ℕ)) (group : List ℕ) (old new : State) → LeavesOnly old new (LeavesPushBehind g before pages contents group old)

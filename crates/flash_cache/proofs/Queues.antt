@@ -112,11 +112,6 @@ has_at g [] k all lt = absurd (omega (arith, lt))
 has_at g (frames ∷ groups) zero all lt = all.0
 has_at g (frames ∷ groups) (suc k) all lt = has_at g groups k all.1 (omega (arith, lt))
 
-pub group_at : (groups : List (List Frame)) (k : ℕ) → k < length groups → get_or (map group groups) k [] ≡ group (get_or groups k [])
-group_at [] k lt = absurd (omega (arith, lt))
-group_at (frames ∷ groups) zero lt = refl
-group_at (frames ∷ groups) (suc k) lt = group_at groups k (omega (arith, lt))
-
 -- an error is that error, of whatever it was the result
 pub err_again : {T U E : Type 0} (a b : E) → IsErrOf {T = T} (Err a) b → IsErrOf {T = U} (Err a) b
 err_again {T} {U} {E} a b is = let same : a ≡ b = cc in ap {A = E} {B = Result U E} (λ (e : E). Err e) same

@@ -8,4 +8,4 @@ mod leaving;
 mod making;
 
 pub use cache::FlashCache;
-pub use laws::{pushes_make_fronts, unframed_is_disk};
+pub use laws::unframed_is_disk;

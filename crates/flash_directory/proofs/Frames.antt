@@ -1,5 +1,5 @@
 -- The frames of one group.
-use Rattle.std.proofs.Common.{◌≡◌, ℕ, zero, suc, ◌+◌, ◌<◌, ◌≤◌, ◌==◌, Bool, true, false, cond, List, [], ◌∷◌, ◌++◌, length, get_or, set, take, drop, map, Option, Some, None, append-nil, append_assoc, add-one, arith, refl, sym, ap, ◌∙◌}
+use Rattle.std.proofs.Common.{◌≡◌, ℕ, zero, suc, ◌+◌, ◌<◌, ◌==◌, Bool, true, false, cond, List, [], ◌∷◌, ◌++◌, length, get_or, set, take, drop, map, Option, Some, None, append-nil, append_assoc, add-one, arith, refl, sym, ap, ◌∙◌}
 use Rattle.std.specs.Prelude.{take_while}
 use Rattle.std.specs.List.{refill}
 use Rattle.std.specs.Option.{option_or}
@@ -26,16 +26,6 @@ frames_more heads so_far i d less is present =
     is ∙ ap (λ l. so_far ++ frames_in l) (drop-cons heads i d less) ∙ ap (λ l. so_far ++ l) (frames_in-cons true (get_or heads i d) (drop (suc i) heads) present)
     ∙ sym (append_assoc so_far (frame_of (get_or heads i d).page (get_or heads i d).dirty ∷ []) (frames_in (drop (suc i) heads)))
     ∙ ap (λ k. (so_far ++ frame_of (get_or heads i d).page (get_or heads i d).dirty ∷ []) ++ frames_in (drop k heads)) (sym (add-one i))
-
--- no frame is left where the next head isn't present
-pub frames_end : (heads : List FrameHead) (so_far : List Frame) (i : ℕ) (d : FrameHead) → i < length heads
-    → frames_in heads ≡ so_far ++ frames_in (drop i heads) → (get_or heads i d).present ≡ false → so_far ≡ frames_in heads
-frames_end heads so_far i d less is absent =
-    sym (is ∙ ap (λ l. so_far ++ frames_in l) (drop-cons heads i d less) ∙ ap (λ l. so_far ++ l) (frames_in-cons false (get_or heads i d) (drop (suc i) heads) absent) ∙ append-nil so_far)
-
-pub frames_all : (heads : List FrameHead) (so_far : List Frame) (i : ℕ) → length heads ≤ i
-    → frames_in heads ≡ so_far ++ frames_in (drop i heads) → so_far ≡ frames_in heads
-frames_all heads so_far i all is = sym (is ∙ ap (λ l. so_far ++ frames_in l) (drop_all i heads all) ∙ append-nil so_far)
 
 -- a search for the last frame of a page, one frame further
 by_test : (b c : Bool) (first later : ℕ) (before : Option ℕ)

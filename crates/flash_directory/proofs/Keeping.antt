@@ -3,7 +3,7 @@ use Rattle.std.proofs.Common.{◌≡◌, ℕ, zero, suc, ◌+◌, ◌-◌, ◌<�
 use Rattle.std.specs.Option.{option_or}
 use Rattle.std.proofs.lemmas.Option.{none-some, same_Some}
 use Rattle.std.proofs.lemmas.Bool.{eq-eqb, ne_eqb, cond-true, true≢false}
-use Rattle.std_lemmas.proofs.Options.{option_or_none, none_if_no_some, some_mapped}
+use Rattle.std_lemmas.proofs.Options.{option_or_none, none_if_no_some, some_mapped, option_or_assoc}
 use Rattle.std_lemmas.proofs.Bools.{same_bools}
 use Rattle.second_chance.specs.declared.frame.Frame.{Frame}
 use Rattle.second_chance.specs.Queue.{Queue, in_group, in_groups, is_last, groups_read, group_read}
@@ -49,10 +49,6 @@ newest_at q queue page p is =
 
 -- A group enters behind the others.
 
-or_or : {X : Type 0} (a b c : Option X) → option_or a (option_or b c) ≡ option_or (option_or a b) c
-or_or None b c = refl
-or_or (Some x) b c = refl
-
 pub newest_pushed : (number : ℕ) (groups : List (List Frame)) (group : List Frame) (page : ℕ)
     → last_among number (groups ++ group ∷ []) page ≡ newer (number + length groups) group page (last_among number groups page)
 newest_pushed number [] group page = ap (λ n. option_map (place_in n) (last_in 0 group page)) here ∙ sym (option_or_none _)
@@ -61,7 +57,7 @@ newest_pushed number [] group page = ap (λ n. option_map (place_in n) (last_in 
     here = omega arith
 newest_pushed number (front ∷ groups) group page =
     ap (λ o. option_or o (option_map (place_in number) (last_in 0 front page))) (newest_pushed (number + 1) groups group page)
-    ∙ sym (or_or (option_map (place_in (number + 1 + length groups)) (last_in 0 group page)) (last_among (number + 1) groups page) (option_map (place_in number) (last_in 0 front page)))
+    ∙ option_or_assoc (option_map (place_in (number + 1 + length groups)) (last_in 0 group page)) (last_among (number + 1) groups page) (option_map (place_in number) (last_in 0 front page))
     ∙ ap (λ n. option_or (option_map (place_in n) (last_in 0 group page)) (option_or (last_among (number + 1) groups page) (option_map (place_in number) (last_in 0 front page)))) next
   where
     next : number + 1 + length groups ≡ number + suc (length groups)

@@ -95,13 +95,6 @@ groups_read_at page (group ∷ later) k j d is = by (last_place later page) refl
         (ap (λ i. group ∷ set later q.0 (read_at i (get_or later q.0 d))) (sym index)
         ∙ ap (λ g. g ∷ set later q.0 (read_at q.1 (get_or later q.0 d))) (sym (group_read_later page group later some)) ∙ ap (λ l. group_read page group later ∷ l) (rest q here))
 
--- sizes stay
-pub length-read_at : (j : ℕ) (group : List Frame) → length (read_at j group) ≡ length group
-length-read_at zero [] = refl
-length-read_at (suc j) [] = refl
-length-read_at zero (frame ∷ behind) = refl
-length-read_at (suc j) (frame ∷ behind) = ap suc (length-read_at j behind)
-
 pub length-group_read : (page : ℕ) (group : List Frame) (later : List (List Frame)) → length (group_read page group later) ≡ length group
 length-group_read page [] later = refl
 length-group_read page (frame ∷ behind) later = ap suc (length-group_read page behind later)

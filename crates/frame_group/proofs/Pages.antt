@@ -1,13 +1,13 @@
 -- The pages of a group's frames.
-use Rattle.std.proofs.Common.{◌≡◌, ℕ, zero, suc, ◌+◌, ◌-◌, ◌*◌, ◌<◌, List, [], ◌∷◌, ◌++◌, length, get_or, take, drop, replicate, refl, sym, ap, ◌∙◌, arith, append_assoc, length-append}
+use Rattle.std.proofs.Common.{◌≡◌, ℕ, zero, suc, ◌+◌, ◌-◌, ◌*◌, ◌<◌, List, [], ◌∷◌, ◌++◌, length, get_or, take, drop, replicate, refl, sym, ap, ◌∙◌, arith, append_assoc}
 use Rattle.std.specs.Prelude.{flat_map}
 use Rattle.std.specs.List.{AllByRecursion}
-use Rattle.std.proofs.lemmas.List.{take_at, drop_at, drop-drop, length-replicate, replicate-append-replicate}
+use Rattle.std.proofs.lemmas.List.{take_at, drop_at, drop-drop, replicate-append-replicate}
 use Rattle.byte_fields.specs.FrameHeads.{blank, spelling, spelling_of_all}
 use Rattle.byte_fields.proofs.HeadLists.{length_all}
 use Rattle.frame_group.specs.declared.group.TheConstants.{PAGE_LEN, HEADS_LEN}
 use Rattle.frame_group.specs.Groups.{Frame, heads_of, pages_of, group, IsFrame}
-use Rattle.frame_group.specs.Laws.{ZerosHaveNoFrames, GroupSize, PagesStand}
+use Rattle.frame_group.specs.Laws.{ZerosHaveNoFrames, PagesStand}
 use Rattle.frame_group.proofs.Front.{length_heads}
 
 abbrev pub octets_of : List Frame → List ℕ
@@ -19,12 +19,6 @@ HaveSize size frames = AllByRecursion (λ frame. length frame.octets ≡ size) f
 pub have_size : (frames : List Frame) → AllByRecursion IsFrame frames → HaveSize PAGE_LEN frames
 have_size [] are = tt
 have_size (frame ∷ frames) are = (are.0.size, have_size frames are.1)
-
-pub length_octets : (size : ℕ) (frames : List Frame) → HaveSize size frames → length (octets_of frames) ≡ size * length frames
-length_octets size [] have = grind arith
-length_octets size (frame ∷ frames) have =
-    length-append frame.octets (octets_of frames) ∙ ap (λ n. n + length (octets_of frames)) have.0 ∙ ap (λ n. size + n) (length_octets size frames have.1)
-    ∙ grind arith
 
 -- a page of pages that stand one after the other
 pub page_at : (size : ℕ) (frames : List Frame) (behind : List ℕ) (i : ℕ) (d : Frame) → HaveSize size frames → i < length frames →
@@ -50,25 +44,6 @@ pages_stand content frames i d is less =
     ap (take PAGE_LEN) (sym (drop-drop (PAGE_LEN * i) HEADS_LEN content)) ∙ ap (λ (t : List ℕ). take PAGE_LEN (drop (PAGE_LEN * i) (drop HEADS_LEN t))) is.spelled
     ∙ ap (λ (t : List ℕ). take PAGE_LEN (drop (PAGE_LEN * i) t)) (drop_at heads (pages_of frames) HEADS_LEN size)
     ∙ page_at PAGE_LEN frames _ i d (have_size frames is.are_frames) less
-
-pub group_size : GroupSize
-unfolding group
-group_size content frames is =
-    let heads = length_all (heads_of frames) in
-    let zeros : List ℕ = replicate (PAGE_LEN * (8 - length frames)) 0 in
-    let rest : length zeros ≡ PAGE_LEN * (8 - length frames) = length-replicate (PAGE_LEN * (8 - length frames)) 0 in
-    let size = length_octets PAGE_LEN frames (have_size frames is.are_frames) in
-    omega (
-      arith,
-      ap length is.spelled,
-      length-append (spelling_of_all (heads_of frames)) (pages_of frames),
-      heads,
-      length_heads frames is.room,
-      length-append (octets_of frames) zeros,
-      rest,
-      size,
-      is.room,
-    )
 
 blank_zeros : (n : ℕ) → spelling_of_all (replicate n blank) ≡ replicate (16 * n) 0
 unfolding spelling

@@ -1,5 +1,5 @@
 -- Laws of groups and of lists of frames.
-use Rattle.std.specs.Prelude.{◌≡◌, ◌≢◌, ℕ, ◌+◌, ◌*◌, ◌<◌, ◌≤◌, true, false, List, [], ◌∷◌, ◌++◌, length, map, flat_map}
+use Rattle.std.specs.Prelude.{◌≡◌, ◌≢◌, ℕ, ◌+◌, ◌*◌, ◌<◌, true, false, List, [], ◌∷◌, ◌++◌, length, map, flat_map}
 use Rattle.std.specs.Prelude.{take, drop, replicate, get_or, Some, None}
 use Rattle.std.specs.List.{AllByRecursion}
 use Rattle.std.specs.Option.{option_or}
@@ -15,10 +15,6 @@ abbrev pub ZerosHaveNoFrames : Type 0
 ZerosHaveNoFrames = (content : List ℕ) → length content ≡ GROUP_LEN → content ≡ replicate (length content) 0
     → content ≡ group []
 
--- a group's content has its length
-abbrev pub GroupSize : Type 0
-GroupSize = (content : List ℕ) (frames : List Frame) → IsGroup content frames → length content ≡ GROUP_LEN
-
 -- a group's content begins with the heads of its frames
 abbrev pub BeginsWithHeads : Type 0
 BeginsWithHeads = (content : List ℕ) (frames : List Frame) → IsGroup content frames → HasHeads content (heads_of frames)
@@ -26,11 +22,6 @@ BeginsWithHeads = (content : List ℕ) (frames : List Frame) → IsGroup content
 -- at most one list of heads stands there
 abbrev pub OneHeads : Type 0
 OneHeads = (octets : List ℕ) (a b : List FrameHead) → HasHeads octets a → HasHeads octets b → a ≡ b
-
--- it is enough to look at the octets of the heads
-abbrev pub HeadsOfFront : Type 0
-HeadsOfFront = (octets : List ℕ) (n : ℕ) (heads : List FrameHead) → HEADS_LEN ≤ n → HasHeads octets heads
-    → HasHeads (take n octets) heads
 
 -- the page of each frame stands at its place
 abbrev pub PagesStand : Type 0

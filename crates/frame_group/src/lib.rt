@@ -8,7 +8,4 @@ mod laws;
 mod tests;
 
 pub use group::{GROUP_LEN, HEADS_LEN, PAGE_LEN, group_heads, put_frame};
-pub use laws::{
-    content_frames, group_dropped, group_pages, group_pushed, last_frames, no_frames, one_group,
-    staged,
-};
+pub use laws::{content_frames, group_dropped, group_pushed, no_frames, staged};

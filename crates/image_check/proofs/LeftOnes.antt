@@ -1,8 +1,8 @@
 -- Which transactions are unfinished after one record more.
-use Rattle.std.proofs.Common.{◌≡◌, ℕ, zero, suc, ◌+◌, ◌*◌, ◌^◌, ◌<◌, ◌≤◌, inl, inr, Bool, true, false, true≢false, not, ◌&&◌, ◌||◌, cond, List, [], ◌∷◌, ◌++◌, length, map, drop, get_or, set, Some, None, refl, sym, ap, subst, ◌∙◌, arith, nat_lt}
-use Rattle.std.specs.Prelude.{filter, fold, ◌==◌}
+use Rattle.std.proofs.Common.{◌≡◌, ℕ, zero, suc, ◌+◌, ◌*◌, ◌<◌, ◌≤◌, inl, inr, Bool, true, false, true≢false, not, ◌&&◌, ◌||◌, cond, List, [], ◌∷◌, ◌++◌, length, map, drop, get_or, set, Some, None, refl, sym, ap, subst, ◌∙◌, arith, nat_lt}
+use Rattle.std.specs.Prelude.{filter, ◌==◌}
 use Rattle.std.specs.List.{AllByRecursion, position_or_len, position, remove}
-use Rattle.std.proofs.lemmas.Bool.{cases_Bool, eqb-true, ltb-false, lt-ltb, le-ltb}
+use Rattle.std.proofs.lemmas.Bool.{cases_Bool, eqb-true, ltb-false, lt-ltb}
 use Rattle.std.proofs.lemmas.List.{append-nil, map-append, length-map}
 use Rattle.std.proofs.lemmas.List.Elements.{filter-append}
 use Rattle.std.proofs.lemmas.List.Quantifiers.{position-Some}
@@ -11,21 +11,18 @@ use Rattle.std_lemmas.proofs.AllOf.{all_weaker}
 use Rattle.std_lemmas.proofs.Lists.{map_same}
 use Rattle.log_records.specs.declared.log_record.LogRecord.{LogRecord}
 use Rattle.log_records.specs.declared.log_record.LogRecord.TheVariants.{Begin, Update, Clr, Commit, End}
-use Rattle.log_records.specs.Spelling.{AreBlock}
-use Rattle.log_records.specs.Log.{Entry, txn_of, is_of, is_closing, is_closed, entries_of, log_from}
-use Rattle.log_records.specs.Unfinished.{is_begin, losers, open_by, open_updates, owed}
+use Rattle.log_records.specs.Log.{Entry, txn_of, is_of, is_closing, is_closed, entries_of}
+use Rattle.log_records.specs.Unfinished.{is_begin, losers, open_by, open_updates}
 use Rattle.log_records.specs.Sound.{Active, IsInOrder, last_lsn, before_block, active_in}
 use Rattle.log_laws.specs.Analysis.{Unfinished, unfinished_at, unfinished_in, remaining_by, after_record}
 use Rattle.log_laws.specs.Follow.{IsFresh}
 use Rattle.log_laws.specs.UndoLaws.{next_in}
-use Rattle.log_laws.proofs.Parts.{all_made, all_below, filter_same}
-use Rattle.log_laws.proofs.Orders.{all_from, filter_none}
+use Rattle.log_laws.proofs.Parts.{all_made, filter_same}
 use Rattle.log_laws.proofs.Values.{closed_push}
-use Rattle.log_laws.proofs.Analysing.{unfinished_begin, unfinished_more, unfinished_closed, unfinished_there, unfinished_owed}
+use Rattle.log_laws.proofs.Analysing.{unfinished_begin, unfinished_more, unfinished_closed, unfinished_there}
 use Rattle.checkpoint.specs.declared.pairs.Pair.{Pair}
 use Rattle.image_check.specs.declared.unfinished.Left.{Left}
-use Rattle.image_form.proofs.BlockLists.{log_in_order}
-use Rattle.image_check.specs.Unended.{AreLeft, left_of, owed_for}
+use Rattle.image_check.specs.Unended.{AreLeft, left_of}
 use Rattle.log_records.proofs.Entries.{in_order_from}
 
 -- A record of a transaction that isn't in the list.
@@ -184,9 +181,6 @@ module _ (records : List Entry) (e : Entry) (items : List Left) (place from to :
   at : (place < length items) × (is_of_txn (txn_of e) (get_or items place no_left) ≡ true)
   at = let p = position-Some (is_of_txn (txn_of e)) items place no_left found in (p.0, p.1)
 
-  pub inside : place < length items
-  inside = at.0
-
   parts : Split (unfinished_in records) place
   parts = split (unfinished_in records) place (let size = ap length is.are in let same = length-map (unfinished_in records) left_of in let less = at.0 in omega (arith, size, same, less))
 
@@ -249,13 +243,6 @@ early_more redo records e less =
     ∙ ap (λ (b : Bool). before_block redo records ++ cond b (e ∷ []) []) (lt-ltb e.lsn (512 * redo) less)
 
 -- What undoing makes, and what a master names.
-
-owed_of : (us : List Unfinished) (a : ℕ) → fold (λ n (x : Left). n + (x.remaining + 1)) a (map left_of us) ≡ fold (λ n (x : Unfinished). n + (x.remaining + 1)) a us
-owed_of [] a = refl
-owed_of (u ∷ us) a = owed_of us (a + (u.remaining + 1))
-
-pub owed_is : (records : List Entry) (items : List Left) → AreLeft records items → owed_for items ≡ owed records
-owed_is records items is = ap owed_for is.are ∙ owed_of (unfinished_in records) 0 ∙ sym (unfinished_owed records)
 
 abbrev active_of : Pair → Active
 active_of pair = record { begin = pair.begin; last = pair.last }

@@ -4,7 +4,7 @@ use Rattle.std.specs.Prelude.{filter, map, nat_le, ◌==◌}
 use Rattle.std.specs.List.{AllByRecursion, list_any}
 use Rattle.std.proofs.lemmas.List.Elements.{filter-append}
 use Rattle.std.proofs.lemmas.List.Folds.{list_any-append}
-use Rattle.std.proofs.lemmas.Bool.{and_parts, and_from, and_right, cases_Bool, eqb-true, eq-eqb, not-true, not_from_false}
+use Rattle.std.proofs.lemmas.Bool.{and_right, cases_Bool, eqb-true, eq-eqb}
 use Rattle.std_lemmas.proofs.AllOf.{all_right}
 use Rattle.std_lemmas.proofs.Bools.{or_without_last, or_without, or_assoc}
 use Rattle.log_records.specs.declared.log_record.LogRecord.{LogRecord}
@@ -56,22 +56,6 @@ known_push active redo records e t =
     ∙ sym (or_assoc named (list_any p (from_block redo records)) (is_new redo e t))
 
 -- Which are open.
-
--- a record that neither closes a transaction nor begins one from the redo block on
-pub open_still : (m : Master) (records : List Entry) (e : Entry) (txns : List ℕ) → is_closing e.rec ≡ false → (nat_le (512 * m.redo) e.lsn && is_begin e.rec) ≡ false →
-    AreOpen m records txns → AreOpen m (records ++ e ∷ []) txns
-open_still m records e txns goes_on old is = record {
-  are = λ t.
-      let new : is_new m.redo e t ≡ false = none (nat_le (512 * m.redo) e.lsn) (is_begin e.rec) (e.lsn == t) old in
-      let known = known_push m.active m.redo records e t ∙ or_without (is_known m.active (from_block m.redo records) t) (is_new m.redo e t) new in
-      let closed = closed_push records e t ∙ or_without_last (is_closed records t) (is_of t e && is_closing e.rec) (ap (λ (b : Bool). is_of t e && b) goes_on ∙ and_right (is_of t e) false refl) in
-      is.are t ∙ sym (λ i. known i && not (closed i));
-}
-  where
-    none : (a b c : Bool) → (a && b) ≡ false → (a && (b && c)) ≡ false
-    none true true c h = absurd (true≢false h)
-    none true false c h = refl
-    none false b c h = refl
 
 -- a transaction begins from the redo block on
 pub open_more : (m : Master) (records : List Entry) (e : Entry) (txns : List ℕ) → is_closing e.rec ≡ false → is_begin e.rec ≡ true → nat_le (512 * m.redo) e.lsn ≡ true → IsFresh e.lsn records →
@@ -165,16 +149,6 @@ open_first m pairs txns named is = record {
 
 -- What the rule says of the next record.
 
-pub admitted : (m : Master) (records : List Entry) (e : Entry) (txns : List ℕ) → txn_of e ≤ e.lsn → AreOpen m records txns → list_any (λ x. x == txn_of e) txns ≡ true → MayStand m records e
-admitted m records e txns low is there =
-    let both = and_parts (is_known m.active (from_block m.redo records) (txn_of e)) (not (is_closed records (txn_of e))) (sym (is.are (txn_of e)) ∙ there) in
-    record { begun = low; of_open = λ late old. record { known = both.0; not_closed = not-true (is_closed records (txn_of e)) both.1 } }
-
-pub is_there : (m : Master) (records : List Entry) (e : Entry) (txns : List ℕ) → 512 * m.redo ≤ e.lsn → is_begin e.rec ≡ false → AreOpen m records txns → MayStand m records e → list_any (λ x. x == txn_of e) txns ≡ true
-is_there m records e txns late old is may =
-    let lives = may.of_open late old in
-    is.are (txn_of e) ∙ and_from (is_known m.active (from_block m.redo records) (txn_of e)) (not (is_closed records (txn_of e))) lives.known (not_from_false (is_closed records (txn_of e)) lives.not_closed)
-
 pub third_at : (p : Picture) (front : List Entry) (e : Entry) (back : List Entry) → p.log ≡ front ++ e ∷ back → Rule3 p → MayStand p.master front e
 third_at p front e back split rule = record {
   begun = (all_right (λ x. txn_of x ≤ x.lsn) front (e ∷ back) (subst (AllByRecursion (λ x. txn_of x ≤ x.lsn)) split rule.begun)).0;
@@ -186,11 +160,6 @@ third_of p stand = record {
   open_transactions = InTurn-weaker (MayStand p.master) (IsOfOpenTransaction p.master) (λ earlier e may. may.of_open) [] p.log stand;
   begun = InTurn-all (MayStand p.master) (λ x. txn_of x ≤ x.lsn) (λ earlier e may. may.begun) [] p.log stand;
 }
-
--- What was heard: the records so far may stand, and these transactions are open.
-pub record Follows (m : Master) (txns : List ℕ) (records : List Entry) : Type 0 where
-  pub are_open : AreOpen m records txns
-  pub stand : InTurn (MayStand m) [] records
 
 -- Which records they are.
 

@@ -1,5 +1,5 @@
 -- What was found, after calls that only read, and the first rule of it.
-use Rattle.std.proofs.Common.{◌≡◌, ◌↔◌, ◌≤◌, true, false, true≢false, Bool, IsTrue, sym, ap, ◌∙◌, subst, arith}
+use Rattle.std.proofs.Common.{◌≡◌, ◌↔◌, true, false, true≢false, Bool, IsTrue, sym, ap, ◌∙◌, subst, arith}
 use Rattle.std.specs.Prelude.{Option, Some, None, is_none, Result, Ok, Err, IfOk}
 use Rattle.site.specs.declared.geometry.Geometry.{Geometry}
 use Rattle.site.specs.declared.outside.Stop.{Stop}
@@ -24,9 +24,6 @@ may_be_read_later found a b goes may = record {
   going = going_later found.log a b goes may.going;
   may_read = may_read_later found.log.geometry found.rings a b goes may.may_read;
 }
-
-pub some_blocks : (found : Found) (site : State) → MayBeRead found site → 1 ≤ found.log.geometry.blocks
-some_blocks found site may = let some = may.going.limits.blocks in omega (arith, some)
 
 pub there_later : (found : Found) (a b : State) → Preserves a b → b.image ≡ a.image → IsThere found a → IsThere found b
 there_later found a b goes same there = record {

@@ -1,8 +1,5 @@
 -- Images that are reached by pushes alone.
-use Rattle.flash_cache.specs.Pushed.{changes_of_push}
-use Rattle.stage_out.specs.Staged.{HasStaged, changes_of}
-use Rattle.image_changes.specs.Reached.{IsFrontOf}
-use Rattle.std.proofs.Common.{◌⊎◌, ◌≢◌, inl, inr, ℕ, ◌<◌, List, [], ◌∷◌, Option, Some, sym, subst, ◌∙◌, ◌++◌}
+use Rattle.std.proofs.Common.{◌≢◌, inl, inr, ℕ, ◌<◌, List, [], ◌∷◌, Option, Some, sym, subst, ◌∙◌}
 use Rattle.std.specs.List.{AllByRecursion}
 use Rattle.site.specs.declared.geometry.Geometry.{Geometry}
 use Rattle.site.specs.State.{Image}
@@ -18,7 +15,7 @@ use Rattle.log_store.proofs.BlockLaws.{blocks_stay}
 use Rattle.flash_cache.specs.Representation.{version_on}
 use Rattle.image_meaning.specs.Meaning.{picture_under, AreOctetsSoundUnder, IsSoundUnder, version_in}
 use Rattle.image_meaning.specs.Moments.{LeavesTableUnder}
-use Rattle.image_meaning.specs.Reached.{ChangesPages, IsKeptOrReplaced, IsPushed, LeavesPushed, ReachedIsSound, ReachedMeans, PushedStands, PushChangesPages}
+use Rattle.image_meaning.specs.Reached.{ChangesPages, IsKeptOrReplaced, IsPushed, LeavesPushed, ReachedIsSound, ReachedMeans, PushedStands}
 use Rattle.image_meaning.proofs.UnchangedImages.{lengths_stay, newest_stays}
 use Rattle.image_meaning.proofs.Reading.{groups_are_read}
 use Rattle.image_meaning.proofs.Replacing.{version_replaces, replaced_is_sound, replaced_means}
@@ -97,24 +94,3 @@ pushed_stands newest g old new blocks table count sound means leaves =
     }) leaves
 
 -- A push changes groups and disk pages alone.
-
-staging_of_pages : (pages : List ℕ) → AllByRecursion ChangesPages (changes_of pages)
-staging_of_pages [] = tt
-staging_of_pages (page ∷ pages) = (tt, tt)
-
-all_front : (front left : List Change) → AllByRecursion ChangesPages (front ++ left) → AllByRecursion ChangesPages front
-all_front [] left all = tt
-all_front (change ∷ front) left all = (all.0, all_front front left all.1)
-
-all_more : (changes : List Change) (change : Change) → AllByRecursion ChangesPages changes → ChangesPages change → AllByRecursion ChangesPages (changes ++ change ∷ [])
-all_more [] change all own = (own, tt)
-all_more (first ∷ changes) change all own = (all.0, all_more changes change all.1 own)
-
-pub push_changes_pages : PushChangesPages
-push_changes_pages g pages contents group old snapshot leaves = by leaves.either
-  where
-    by : ((changes : List Change) × IsFrontOf (changes_of pages) changes × Reaches g changes old.image snapshot.image)
-        ⊎ (HasStaged pages contents old.image.disk snapshot.image.disk × Reaches g (changes_of_push pages group) old.image snapshot.image) →
-        (changes : List Change) × AllByRecursion ChangesPages changes × Reaches g changes old.image snapshot.image
-    by (inl part) = (part.0, all_front part.0 part.1.0 (subst (AllByRecursion ChangesPages) part.1.1 (staging_of_pages pages)), part.2)
-    by (inr whole) = (changes_of_push pages group, all_more (changes_of pages) (AppendsGroup group) (staging_of_pages pages) tt, whole.1)

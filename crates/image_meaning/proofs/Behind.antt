@@ -16,11 +16,12 @@ use Rattle.log_laws.proofs.Orders.{all_from, none_passes, entries_in_order}
 use Rattle.log_laws.proofs.Seals.{numbered_with}
 use Rattle.log_laws.proofs.Versions.{table_same}
 use Rattle.log_laws.specs.Tail.{whole}
+use Rattle.log_laws.proofs.Values.{is_number-Some}
 use Rattle.image_meaning.specs.Pictures.{ReplaceAll}
 use Rattle.image_meaning.specs.Redone.{IsLogged, AreKnown, IsCurrent}
 use Rattle.image_meaning.specs.Ahead.{SealedPageReplaces, ShownStays, TableStays, ShowsStill, CarriesStill, GoesOnStill, TailGoesOn}
 use Rattle.image_meaning.proofs.OtherVersions.{slot_same, sound_with}
-use Rattle.image_meaning.proofs.Redos.{on_number, page_of_number, current_replaces}
+use Rattle.image_meaning.proofs.Redos.{page_of_number, current_replaces}
 use Rattle.log_records.proofs.Lists.{last_where-append}
 
 -- The tail.
@@ -38,7 +39,7 @@ module _ (p : Picture) (tail : List LogRecord) (page : ℕ) (v : Version) (logge
       all_both (λ e. 512 * p.hi + 2 ≤ e.lsn) (λ e. (n : ℕ) → number_of e.rec ≡ Some n → n / 32 ≡ page → e.lsn ≤ v.lsn) (λ e. is_on (32 * page + slot) e ≡ false)
       (λ e late own. elim (cases_Bool (is_on (32 * page + slot) e)) [
         | inl here ↦
-            let early = own (32 * page + slot) (on_number (32 * page + slot) (number_of e.rec) here) (page_of_number page slot less) in
+            let early = own (32 * page + slot) (is_number-Some (32 * page + slot) (number_of e.rec) here) (page_of_number page slot less) in
             let bound = low v.lsn p.hi logged in
             absurd (omega (arith, late, early, bound))
         | inr elsewhere ↦ elsewhere

@@ -6,7 +6,6 @@ use Rattle.std.proofs.lemmas.List.{ext_get_or, length-replicate, get_or-replicat
 use Rattle.std.proofs.lemmas.Nat.{mod_below}
 use Rattle.site.specs.declared.geometry.Geometry.{Geometry}
 use Rattle.site.specs.Geometry.{HasLimits, HasLengths, log_length, flash_length, disk_length, blank_image}
-use Rattle.site.specs.State.{Image}
 use Rattle.sealed_ring.specs.Ring.{IsRing, Units, hi_of}
 use Rattle.sealed_ring.specs.Laws.{BlankIsRing}
 use Rattle.record_model.specs.State.{Content, content_at}
@@ -48,9 +47,6 @@ page_of_zeros len number pages size within =
     subst IsBlank (sym part) (blank len size)
 
 module _ (ring_of_zeros : BlankIsRing) (g : Geometry) (limits : HasLimits g) where
-  image : Image
-  image = blank_image g
-
   pub lengths : HasLengths g (blank_image g)
   lengths = record { log = length-replicate (log_length g) 0; flash = length-replicate (flash_length g) 0; disk = length-replicate (disk_length g) 0 }
 

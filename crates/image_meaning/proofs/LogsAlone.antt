@@ -30,9 +30,6 @@ use Rattle.image_meaning.proofs.UnchangedImages.{octets_stay}
 use Rattle.image_meaning.proofs.Blanks.{lengths, blank_page, octets, zero_at}
 
 module _ (ring_of_zeros : BlankIsRing) (leaves_others : LeavesOthers) (g : Geometry) (image : Image) (blocks : List (List LogRecord)) (alone : IsLogAlone g image blocks) where
-  blank : Image
-  blank = blank_image g
-
   sizes : SameSizes (blank_image g) image
   sizes Log = alone.lengths.log ∙ sym (length-replicate (log_length g) 0)
   sizes Flash = alone.lengths.flash ∙ sym (length-replicate (flash_length g) 0)

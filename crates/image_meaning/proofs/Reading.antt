@@ -1,6 +1,4 @@
 -- The groups that a cache knows of.
-use Rattle.image_meaning.specs.Reached.{GroupsAreSound}
-use Rattle.site.specs.State.{Image}
 use Rattle.std.proofs.Common.{◌≡◌, ℕ, refl, arith, List, [], ◌∷◌, map, sym, ap, subst, ◌∙◌}
 use Rattle.std.specs.Prelude.{flat_map, ◌<◌}
 use Rattle.std.specs.List.{AllByRecursion}
@@ -13,7 +11,7 @@ use Rattle.slotted_page.specs.Layout as page
 use Rattle.frame_group.specs.Groups.{Frame, IsGroup, group, frames_in}
 use Rattle.frame_group.specs.Versions.{frames_of}
 use Rattle.frame_group.proofs.Contents.{frames_are_in, frames_of_groups}
-use Rattle.flash_cache.specs.Representation.{HasFrames, HasGroups, frames_on, AreSaved}
+use Rattle.flash_cache.specs.Representation.{HasFrames, frames_on, AreSaved}
 use Rattle.image_meaning.specs.Meaning.{IsFrameOf}
 use Rattle.image_meaning.specs.PushLaws.{GroupsAreRead, GroupsAreThere, SegmentsAreRead}
 use Rattle.flash_cache.proofs.Segments.{groups_are}
@@ -71,17 +69,3 @@ groups_are_there g image groups =
 
 pub segments_are_read : SegmentsAreRead
 segments_are_read g first groups image has saved = subst (λ (l : List (List Frame)). AreSaved g l image) (sym (groups_are g first groups image has)) saved
-
-frames_of_has : (g : Geometry) (first : ℕ) (groups : List (List Frame)) (image : Image) → HasGroups g first groups image → frames_on g image ≡ flat_map (λ frames. frames) groups
-frames_of_has g first groups image has =
-    ap frames_of has.live ∙ frames_of_groups groups (all_weaker (λ fs. HasFrames g fs (group fs)) (λ fs. IsGroup (group fs) fs) (λ fs h. h.is_group) groups has.are_groups)
-
-sound_each : (g : Geometry) (groups : List (List Frame)) → AllByRecursion (IsFrameOf g) (flat_map (λ frames. frames) groups) → AllByRecursion (λ frames. AllByRecursion (λ frame. page.IsSound frame.octets) frames) groups
-sound_each g [] all = tt
-sound_each g (frames ∷ groups) all = (
-  all_weaker (IsFrameOf g) (λ frame. page.IsSound frame.octets) (λ frame is. is.sound) frames (all_left (IsFrameOf g) frames (flat_map (λ fs. fs) groups) all),
-  sound_each g groups (all_right (IsFrameOf g) frames (flat_map (λ fs. fs) groups) all),
-)
-
-pub groups_are_sound : GroupsAreSound
-groups_are_sound g first groups image are has = sound_each g groups (subst (AllByRecursion (IsFrameOf g)) (frames_of_has g first groups image has) are.frames)

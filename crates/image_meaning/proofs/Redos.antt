@@ -1,9 +1,9 @@
 -- Versions of a page that know of the log up to an LSN.
-use Rattle.std.proofs.Common.{◌≡◌, ℕ, ◌+◌, ◌*◌, ◌/◌, ◌%◌, ◌<◌, ◌≤◌, ◌==◌, ◌&&◌, ◌||◌, Bool, true, false, true≢false, List, [], ◌∷◌, ◌++◌, Some, None, refl, sym, ap, subst, ◌∙◌, arith, inl, inr}
+use Rattle.std.proofs.Common.{◌≡◌, ℕ, ◌+◌, ◌*◌, ◌/◌, ◌%◌, ◌<◌, ◌≤◌, ◌==◌, ◌&&◌, ◌||◌, Bool, true, false, List, [], ◌∷◌, ◌++◌, Some, None, refl, sym, ap, subst, ◌∙◌, arith, inl, inr}
 use Rattle.std.specs.Prelude.{Option, nat_lt, nat_le, IsTrue, if◌then◌else◌}
 use Rattle.std.specs.List.{AllByRecursion}
 use Rattle.std.specs.Option.{option_or}
-use Rattle.std.proofs.lemmas.Bool.{cases_Bool, eqb-true, le-leb, lt-leb, and_right}
+use Rattle.std.proofs.lemmas.Bool.{cases_Bool, le-leb, lt-leb, and_right}
 use Rattle.std.proofs.lemmas.Bool.Decides.{nat_tests}
 use Rattle.std.proofs.lemmas.Option.{none-some}
 use Rattle.std.proofs.lemmas.Nat.{div-mul-add, mod-mul-add}
@@ -14,6 +14,7 @@ use Rattle.log_records.specs.Sound.{Picture, IsSound, IsInOrder, ShowsLast, last
 use Rattle.log_laws.specs.Follow.{shown_by, shown}
 use Rattle.log_laws.proofs.Lists.{or_is_none}
 use Rattle.log_laws.proofs.Orders.{all_from, none_passes}
+use Rattle.log_laws.proofs.Values.{is_number-Some}
 use Rattle.image_meaning.specs.Redone.{AreKnown, redone, IsRedone, Redoes, RedoneReplaces, CurrentReplaces, VersionIsRedone, NextIsRedone, RedoneIsCurrent, ShowsMore, ShowsElsewhere}
 use Rattle.log_records.proofs.Lists.{last_where-append}
 
@@ -46,16 +47,12 @@ last_same test other (x ∷ xs) same = λ i. option_or (last_same test other xs 
 
 -- Records on a number.
 
-pub on_number : (number : ℕ) (o : Option ℕ) → is_number number o ≡ true → o ≡ Some number
-on_number number None is = absurd (true≢false (sym is))
-on_number number (Some m) is = ap (λ (n : ℕ). Some n) (eqb-true m number is)
-
 -- of known records a test of the LSN says nothing
 known_by_number : (number lsn : ℕ) (e : Entry) → ((n : ℕ) → number_of e.rec ≡ Some n → n / 32 ≡ number / 32 → e.lsn ≤ lsn) → (is_on number e && nat_le e.lsn lsn) ≡ is_on number e
 known_by_number number lsn e known =
     elim (cases_Bool (is_on number e)) [
       | inl here ↦
-          let le = le-leb e.lsn lsn (known number (on_number number (number_of e.rec) here) refl) in
+          let le = le-leb e.lsn lsn (known number (is_number-Some number (number_of e.rec) here) refl) in
           (λ i. here i && le i) ∙ sym here
       | inr elsewhere ↦ (λ i. elsewhere i && nat_le e.lsn lsn) ∙ sym elsewhere
     ]
@@ -165,7 +162,7 @@ shows_elsewhere log pages page v e all elsewhere = record {
 }
   where
     by : (slot : ℕ) → slot < 32 → (b : Bool) → is_on (32 * page + slot) e ≡ b → (if b then after_of e.rec else shown log pages (32 * page + slot)) ≡ shown log pages (32 * page + slot)
-    by slot less true here = absurd (elsewhere (32 * page + slot) (on_number (32 * page + slot) (number_of e.rec) here) (page_of_number page slot less))
+    by slot less true here = absurd (elsewhere (32 * page + slot) (is_number-Some (32 * page + slot) (number_of e.rec) here) (page_of_number page slot less))
     by slot less false here = refl
 
 -- The next record.

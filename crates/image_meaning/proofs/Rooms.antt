@@ -1,16 +1,14 @@
 -- The picture of an image: what changes make of it, its room and its commits.
-use Rattle.std.proofs.Common.{◌≢◌, ◌+◌, ◌*◌, [], ◌∷◌, ◌++◌, Option, refl, sym, subst, arith, length-append, ◌∙◌, append-nil, append_assoc}
+use Rattle.std.proofs.Common.{◌≢◌, ◌+◌, ◌*◌, [], Option, refl, arith, length-append}
 use Rattle.std_lemmas.proofs.AllOf.{all_weaker}
 use Rattle.std_lemmas.proofs.Lists.{some_length}
 use Rattle.log_records.specs.Spelling.{AreBlock}
 use Rattle.log_records.specs.Log.{entries_from, log_from}
-use Rattle.log_records.specs.Sound.{Picture}
 use Rattle.log_laws.proofs.Owing.{blocks_have_records}
-use Rattle.log_laws.proofs.Tails.{plain_count}
 use Rattle.frame_group.specs.Laws.{StagingKeepsVersions, StagingKeepsClean}
 use Rattle.checkpoint.specs.declared.master.Master.{Master}
 use Rattle.image_meaning.specs.Meaning.{kept_by, next_block_under}
-use Rattle.image_meaning.specs.PictureLaws.{PictureSealed, PictureStays, StagedVersions, RoomForBlock, RoomForTailUnder, AllCommitsCount, GoOn, SealsMayBeMade, BlocksAfterSeals}
+use Rattle.image_meaning.specs.PictureLaws.{PictureSealed, PictureStays, StagedVersions, RoomForBlock, RoomForTailUnder}
 use Rattle.image_meaning.proofs.Versions.{versions_same}
 use Rattle.image_meaning.proofs.UnchangedImages.{next_block_is, same_picture}
 use Rattle.image_meaning.proofs.Seals.{sealed_picture}
@@ -36,18 +34,3 @@ room_for_tail newest g image blocks tail sound some fits =
     let first = 512 * next_block_under newest blocks + 2 in
     room_for_block newest g image blocks tail
     (omega (arith, fits, many, some_length tail some, length_entries first tail, length-append (log_from (kept_by newest) blocks) (entries_from first tail)))
-
-pub all_commits_count : AllCommitsCount
-all_commits_count g image blocks = plain_count g.pages g.blocks blocks
-
-pub seals_may_be_made : SealsMayBeMade
-seals_may_be_made newest g image blocks [] go_on = tt
-seals_may_be_made newest g image blocks (records ∷ later) go_on = (
-  go_on.0,
-  λ mid made. seals_may_be_made newest g mid (blocks ++ records ∷ []) later (subst (λ (p : Picture). GoOn p later) (sym (sealed_picture newest g image mid blocks records made)) go_on.1),
-)
-
-pub blocks_after_seals : BlocksAfterSeals
-blocks_after_seals newest blocks [] = (sym (append-nil blocks), refl)
-blocks_after_seals newest blocks (records ∷ later) =
-    let rest = blocks_after_seals newest (blocks ++ records ∷ []) later in (rest.0 ∙ append_assoc blocks (records ∷ []) later, rest.1)

@@ -41,9 +41,6 @@ apart number other place ne from below =
 
 module _ (versions_kept : StagingKeepsVersions) (clean_kept : StagingKeepsClean) (newest : Option Master) (g : Geometry) (old new : Image) (blocks : List (List LogRecord)) (pages : List ℕ) (sound : IsSoundUnder newest g old blocks)
     (may : MayStage g old pages) (made : Makes g (RewritesPages pages) old new) where
-  frames : List Frame
-  frames = frames_on g old
-
   -- a page that isn't rewritten is as it was
   pub page_kept : (number : ℕ) → (Contains pages number → ⊥) → disk_on new number ≡ disk_on old number
   page_kept number none =

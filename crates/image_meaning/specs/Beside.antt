@@ -20,10 +20,6 @@ pub record AreRingsSoundUnder (newest : Option Master) (g : Geometry) (image : I
   pub segments : AreSegments g image
   pub groups : AreGroups g image
 
--- no master unit stands
-abbrev pub AreRingsSound : Geometry → Image → Type 0
-AreRingsSound = AreRingsSoundUnder None
-
 -- A group is appended where no segment is due, and has frames of pages that exist, with a sound page's octets; a
 -- segment where one is due, with the heads of the last four groups. Blocks and disk pages are free here.
 abbrev pub KeepsRings : Geometry → Image → Change → Type 0

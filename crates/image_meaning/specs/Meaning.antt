@@ -1,5 +1,5 @@
 -- What three contents mean: when they are sound, and which table they stand for.
-use Rattle.std.specs.Prelude.{◌≡◌, ℕ, ◌+◌, ◌<◌, List, [], length, map, Option, Some, None}
+use Rattle.std.specs.Prelude.{◌≡◌, ℕ, ◌+◌, ◌<◌, List, length, map, Option, Some, None}
 use Rattle.std.specs.List.{range_with_len, AllByRecursion}
 use Rattle.site.specs.declared.geometry.Geometry.{Geometry}
 use Rattle.site.specs.Geometry.{HasLimits, HasLengths}
@@ -28,10 +28,6 @@ version_in octets = record { lsn = lsn_of octets; slots = slots_of octets }
 -- the newest versions of all pages
 abbrev pub versions_on : Geometry → Image → List Version
 versions_on g image = map (λ number. version_in (version_on g image number)) (range_with_len 0 g.pages)
-
--- As long as no checkpoint is made no master unit stands: redo begins with block 0, and every block is kept.
-abbrev pub blank_master : lists.Master
-blank_master = record { redo = 0; kept = 0; commits = 0; active = [] }
 
 -- the master of the newest unit, and the blank one where no unit stands
 abbrev pub saved_by : Option Master → Master

@@ -1,16 +1,16 @@
 -- Laws on the picture of an image.
 use Rattle.std.specs.Prelude.{◌≡◌, ◌≢◌, ℕ, ◌+◌, ◌-◌, ◌*◌, ◌/◌, ◌==◌, ◌<◌, ◌≤◌, true, List, [], ◌∷◌, ◌++◌, length}
-use Rattle.std.specs.Prelude.{replicate, map, slice_set, Option, None, if◌then◌else◌, ⊤}
+use Rattle.std.specs.Prelude.{replicate, slice_set, Option, None, if◌then◌else◌}
 use Rattle.site.specs.declared.geometry.Geometry.{Geometry}
 use Rattle.site.specs.Geometry.{HasLimits, blank_image}
 use Rattle.site.specs.State.{Image}
 use Rattle.record_model.specs.State.{Content, content_at}
 use Rattle.log_records.specs.declared.log_record.LogRecord.{LogRecord}
 use Rattle.log_records.specs.Spelling.{IsShort}
-use Rattle.log_records.specs.Log.{version_at, log_from}
-use Rattle.log_records.specs.Sound.{Picture, HasRoom, commit_count, commit_numbers}
+use Rattle.log_records.specs.Log.{version_at}
+use Rattle.log_records.specs.Sound.{HasRoom}
 use Rattle.log_records.specs.Unfinished.{owed}
-use Rattle.log_laws.specs.Follow.{GoesOn, sealed}
+use Rattle.log_laws.specs.Follow.{sealed}
 use Rattle.log_laws.specs.NewImage.{Replaces}
 use Rattle.log_laws.specs.SetLaws.{set_records}
 use Rattle.log_laws.specs.Tail.{whole}
@@ -23,7 +23,7 @@ use Rattle.flash_cache.specs.Representation.{version_on}
 use Rattle.image_meaning.specs.Meaning.{kept_by, next_block_under, picture_under, picture, versions_on, version_in}
 use Rattle.image_meaning.specs.Meaning.{IsSoundUnder, Stands}
 use Rattle.image_meaning.specs.Pictures.{ReplaceAll}
-use Rattle.image_meaning.specs.Changes.{MayStage, MayMakeAll, newest_after_all, blocks_after_all}
+use Rattle.image_meaning.specs.Changes.{MayStage}
 
 -- a sealed block is the picture's next one
 abbrev pub PictureSealed : Type 0
@@ -83,31 +83,6 @@ RoomForTailUnder newest =
     → IsSoundUnder newest g image blocks → tail ≢ [] →
     length (whole (picture_under newest g image blocks) tail) + owed (whole (picture_under newest g image blocks) tail)
     ≤ g.blocks - 1 → HasRoom (sealed (picture_under newest g image blocks) tail)
-
-abbrev pub RoomForTail : Type 0
-RoomForTail = RoomForTailUnder None
-
--- All commits of the log count.
-abbrev pub AllCommitsCount : Type 0
-AllCommitsCount = (g : Geometry) (image : Image) (blocks : List (List LogRecord))
-    → commit_count (picture g image blocks) ≡ length (commit_numbers (log_from 0 blocks))
-
--- Blocks of which each goes on behind the ones before it may be sealed one after the other, whatever else changes of
--- the octets.
-abbrev pub GoOn : Picture → List (List LogRecord) → Type 0
-GoOn p [] = ⊤
-GoOn p (records ∷ later) = GoesOn p records × GoOn (sealed p records) later
-
-abbrev pub SealsMayBeMade : Type 0
-SealsMayBeMade =
-    (newest : Option Master) (g : Geometry) (image : Image) (blocks later : List (List LogRecord))
-    → GoOn (picture_under newest g image blocks) later → MayMakeAll newest g image blocks (map SealsBlock later)
-
-abbrev pub BlocksAfterSeals : Type 0
-BlocksAfterSeals =
-    (newest : Option Master) (blocks later : List (List LogRecord)) →
-    (blocks_after_all newest blocks (map SealsBlock later) ≡ blocks ++ later)
-    × (newest_after_all newest (map SealsBlock later) ≡ newest)
 
 -- The first set on blank devices: its block makes an image that stands for the table with its record, and for one
 -- commit.

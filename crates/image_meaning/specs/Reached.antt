@@ -1,5 +1,4 @@
 -- Images that are reached by pushes alone, by what versions their pages have.
-use Rattle.flash_cache.specs.Pushed.{LeavesPush}
 use Rattle.std.specs.Prelude.{◌≡◌, ◌⊎◌, ℕ, ◌<◌, List, Option, ⊤}
 use Rattle.std.specs.List.{AllByRecursion}
 use Rattle.site.specs.declared.geometry.Geometry.{Geometry}
@@ -14,7 +13,7 @@ use Rattle.frame_group.specs.Groups.{Frame}
 use Rattle.checkpoint.specs.declared.master.Master.{Master}
 use Rattle.image_changes.specs.Changes.{Change, RewritesPages, AppendsGroup, AppendsSegment, Reaches}
 use Rattle.flash_cache.specs.Representation.{HasGroups, version_on, IsCleanOn}
-use Rattle.image_meaning.specs.Meaning.{picture_under, version_in, IsSoundUnder, AreGroups, AreSegments}
+use Rattle.image_meaning.specs.Meaning.{picture_under, version_in, IsSoundUnder, AreSegments}
 use Rattle.image_meaning.specs.Moments.{LeavesTableUnder}
 
 -- a change of groups, of segments or of disk pages
@@ -71,17 +70,3 @@ PushedStands =
     → Means (picture_under newest g old.image blocks) table count →
     LeavesOnly old new (LeavesPushed newest g blocks old)
     → LeavesOnly old new (LeavesTableUnder newest g table count old.told)
-
--- A push changes groups and disk pages alone.
-abbrev pub PushChangesPages : Type 0
-PushChangesPages =
-    (g : Geometry) (pages : List ℕ) (contents : List (List ℕ)) (group : List ℕ) (old : State) (snapshot : Snapshot)
-    → LeavesPush g pages contents group old snapshot →
-    (changes : List Change) × AllByRecursion ChangesPages changes × Reaches g changes old.image snapshot.image
-
--- The groups that a cache knows of a sound image have sound pages.
-abbrev pub GroupsAreSound : Type 0
-GroupsAreSound =
-    (g : Geometry) (first : ℕ) (groups : List (List Frame)) (image : Image) → AreGroups g image
-    → HasGroups g first groups image →
-    AllByRecursion (λ frames. AllByRecursion (λ frame. page.IsSound frame.octets) frames) groups

@@ -1,6 +1,6 @@
 // Laws on images.
 ghost use Rattle.image_meaning.specs.Laws.{BlankStands, OneMeaning, OneMeaningFor, OneMasterStands, NewestIsRead};
-ghost use Rattle.image_meaning.specs.Laws.{ReadIsNewest, SameIsSound, SameMeans, SealedIsSound, SealedWithoutCommit};
+ghost use Rattle.image_meaning.specs.Laws.{ReadIsNewest, SealedIsSound, SealedWithoutCommit};
 ghost use Rattle.image_meaning.specs.Laws.{SealedWithCommit, StagedIsSound, StagedMeans, PushedIsSound, PushedMeans};
 ghost use Rattle.image_meaning.specs.Laws.{SegmentIsSound, SegmentMeans, ReplacedIsSound, ReplacedMeans};
 ghost use Rattle.image_meaning.specs.Laws.{VersionReplaces};
@@ -47,12 +47,6 @@ pub fn one_master_stands()
     one_log();
     one_master();
 }
-
-/// What reads the same as a sound image is sound, and stands for the same.
-pub fn reads_the_same()
-    ensures sound { SameIsSound }
-    ensures means { SameMeans }
-{}
 
 /// Sealing a log block that goes on keeps an image sound. Without a Commit in the block it stands for the same; with
 /// one, the writes of its transaction enter the table, which is one commit more.

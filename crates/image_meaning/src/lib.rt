@@ -15,18 +15,14 @@ pub use checkpoint_laws::{
     orderly_kept,
 };
 pub use laws::{
-    blank_stands, log_alone, one_master_stands, one_meaning, pushed, reads_the_same, replaced,
-    sealed, segment_saved, staged,
+    blank_stands, log_alone, one_master_stands, one_meaning, pushed, replaced, sealed,
+    segment_saved, staged,
 };
 pub use list_laws::{
     checkpoint_needs, master_is_saved, new_versions, pushed_frames, redoing, redone_versions,
     showing, tail_goes_on, versions_beside_the_tail, write_ahead,
 };
-pub use moment_laws::{
-    calls_with_commit, calls_without_commit, pushes_change_pages, under_some_master,
-    versions_at_moments, whole_push,
-};
+pub use moment_laws::{calls_with_commit, calls_without_commit, under_some_master, whole_push};
 pub use picture_laws::{
-    first_push_stands, first_set_stands, pictures, room_and_count, room_under, sealed_in_turn,
-    versions_by_page,
+    first_push_stands, first_set_stands, pictures, room_under, versions_by_page,
 };

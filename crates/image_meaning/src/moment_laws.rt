@@ -1,6 +1,4 @@
 // Laws on what a crash leaves of calls.
-ghost use Rattle.image_meaning.specs.Reached.{ReachedIsSound, ReachedMeans, PushedStands, PushChangesPages};
-ghost use Rattle.image_meaning.specs.Reached.{GroupsAreSound};
 ghost use Rattle.image_meaning.specs.Moments.{UnderLeavesFor, UnderLeavesEitherFor, FrontStandsFor, FrontStands};
 ghost use Rattle.image_meaning.specs.Moments.{PushStands, CommitStands};
 
@@ -37,17 +35,3 @@ pub fn calls_with_commit()
     frame_group::staged();
     master_laws();
 }
-
-/// Pushes of which is known what versions pages have at each moment, as before or new ones, leave devices that stand
-/// for the same table.
-pub fn versions_at_moments()
-    ensures sound { ReachedIsSound }
-    ensures means { ReachedMeans }
-    ensures stands { PushedStands }
-{}
-
-/// A push changes groups and disk pages alone, and the groups that a cache knows of a sound image have sound pages.
-pub fn pushes_change_pages()
-    ensures changes { PushChangesPages }
-    ensures sound { GroupsAreSound }
-{}

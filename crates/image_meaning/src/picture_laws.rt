@@ -3,8 +3,8 @@ ghost use Rattle.std.specs.Prelude.{Option};
 ghost use Rattle.checkpoint.specs.declared.master.Master.{Master};
 ghost use Rattle.image_meaning.specs.PictureLaws.{PictureSealed, BlocksSealed, PictureStays, StagedVersions};
 ghost use Rattle.image_meaning.specs.PictureLaws.{EachReplaces, EachReplacesUnder, NextBlock, RoomForBlock};
-ghost use Rattle.image_meaning.specs.PictureLaws.{RoomForTail, RoomForTailUnder, AllCommitsCount, SealsMayBeMade};
-ghost use Rattle.image_meaning.specs.PictureLaws.{BlocksAfterSeals, FirstSetStands, FirstPushStands, VersionOfPage};
+ghost use Rattle.image_meaning.specs.PictureLaws.{RoomForTailUnder};
+ghost use Rattle.image_meaning.specs.PictureLaws.{FirstSetStands, FirstPushStands, VersionOfPage};
 ghost use Rattle.image_meaning.specs.PictureLaws.{CountOfVersions};
 
 use log_laws::table_at;
@@ -24,24 +24,12 @@ pub fn pictures()
     frame_group::staged();
 }
 
-/// There is room for a tail as long as all records and what is owed have room, and all commits of the log count.
-pub fn room_and_count()
-    ensures room { RoomForTail }
-    ensures count { AllCommitsCount }
-{}
-
 /// Under whatever master is the newest there is room for a tail as long as the kept blocks, or their records, one block
 /// more and what is owed have room.
 pub fn room_under()
     ensures next { NextBlock }
     ensures block { RoomForBlock }
     ensures tail { (newest : Option Master) → RoomForTailUnder newest }
-{}
-
-/// Blocks of which each goes on behind the ones before it may be sealed one after the other.
-pub fn sealed_in_turn()
-    ensures made { SealsMayBeMade }
-    ensures blocks { BlocksAfterSeals }
 {}
 
 /// The block of the first set on blank devices makes an image that stands for the table with its record.

@@ -13,12 +13,12 @@ use Rattle.std_lemmas.proofs.Bools.{or_without_last}
 use Rattle.record_model.specs.State.{Content}
 use Rattle.log_records.specs.declared.log_record.LogRecord.{LogRecord}
 use Rattle.log_records.specs.declared.log_record.LogRecord.TheVariants.{Begin, Update, Clr, Commit, End}
-use Rattle.log_records.specs.Log.{Entry, Version, slot_at, txn_of, is_of, is_on, is_number, number_of, is_update, is_loser, is_closed, is_closing, entries_of, last_where, last_on, first_update, before_of, before_first, after_of, value_after, value_of, table_of}
+use Rattle.log_records.specs.Log.{Entry, Version, slot_at, txn_of, is_of, is_on, number_of, is_update, is_loser, is_closed, is_closing, entries_of, last_where, last_on, first_update, before_of, before_first, after_of, value_after, value_of, table_of}
 use Rattle.log_records.specs.Sound.{Master, IsLoserChain, Pairwise, HoldsOff}
 use Rattle.log_laws.specs.Follow.{Follows, CanBeUndone, IsUndoable, IsUndone, table_after}
 use Rattle.log_laws.proofs.Tables.{table_written}
 use Rattle.log_laws.proofs.Chains.{undone_by_chain}
-use Rattle.log_laws.proofs.Values.{with, closed_same, closed_by, open_before, first_push, first_same, last_same, last_new, last_of_own, value_same, value_open, value_closed, is_loser_with, update_of, last_is_own, value_held, value_free, updates_there}
+use Rattle.log_laws.proofs.Values.{with, closed_same, closed_by, open_before, first_push, first_same, last_same, last_new, last_of_own, value_same, value_open, value_closed, is_loser_with, update_of, last_is_own, value_held, value_free, updates_there, is_number-Some}
 use Rattle.log_records.proofs.Lists.{one}
 
 module _ (m : Master) (pages : List Version) (log : List Entry) (undoable : IsUndoable log) where
@@ -112,12 +112,8 @@ module _ (m : Master) (pages : List Version) (log : List Entry) (undoable : IsUn
 
   -- The table.
 
-  on_is : (number : ℕ) (o : Option ℕ) → is_number number o ≡ true → o ≡ Some number
-  on_is number None h = absurd (grind arith)
-  on_is number (Some k) h = ap Some (eqb-true k number h)
-
   value_stays : (e : Entry) → is_closing e.rec ≡ false → is_closed log (txn_of e) ≡ false → Follows m pages log e → (number : ℕ) → value_of (with log e) pages number ≡ value_of log pages number
-  value_stays e c lives f number = ⊎_elim (λ on. value_there e number c on lives (on_is number (number_of e.rec) on) f) (λ off. value_elsewhere e number c off) (cases_Bool (is_on number e))
+  value_stays e c lives f number = ⊎_elim (λ on. value_there e number c on lives (is_number-Some number (number_of e.rec) on) f) (λ off. value_elsewhere e number c off) (cases_Bool (is_on number e))
 
   table_stays : (log' : List Entry) → ((number : ℕ) → value_of log' pages number ≡ value_of log pages number) → table_of log' pages ≡ table_of log pages
   table_stays log' h = ap (λ (v : ℕ → Content). map v (range_with_len 0 (32 * length pages))) (λ i number. h number i)

@@ -11,12 +11,12 @@ use Rattle.std.proofs.lemmas.Nat.{mod_below}
 use Rattle.std_lemmas.proofs.AllOf.{all_left, all_right, all_both, all_filter, all_weaker, all_passed}
 use Rattle.std_lemmas.proofs.Lists.{map_same, filter_all}
 use Rattle.record_model.specs.State.{Content, content_at}
-use Rattle.log_records.specs.Log.{Entry, Version, version_at, slot_at, txn_of, is_of, is_on, is_number, is_loser, is_closed, is_closing, entries_of, updates_in, last_where, last_on, first_update, number_of, before_first, after_of, value_after, value_of}
+use Rattle.log_records.specs.Log.{Entry, Version, version_at, slot_at, txn_of, is_of, is_on, is_loser, is_closed, is_closing, entries_of, updates_in, last_where, last_on, first_update, number_of, before_first, after_of, value_after, value_of}
 use Rattle.log_records.specs.Unfinished.{open_updates, is_begin, losers, owed, owed_by}
 use Rattle.log_records.specs.Sound.{Active, Picture, IsSound, Means, InTurn, IsOfOpenTransaction, IsOrderly, AreOrderly, IsLoserChain, Pairwise, HoldsOff, FitsLog, ShowsLast, IsInTable, before_block, from_block, last_known, last_lsn, active_in, commit_number, commit_numbers, commit_count}
 use Rattle.log_laws.specs.NewImage.{with_master, MayCheckpoint}
 use Rattle.log_laws.proofs.Lists.{all_find, any_find, find_passes, last_passes}
-use Rattle.log_laws.proofs.Values.{closed_push, value_same, value_closed, last_of_own, is_loser_with}
+use Rattle.log_laws.proofs.Values.{closed_push, value_same, value_closed, last_of_own, is_loser_with, is_number-Some}
 use Rattle.log_laws.proofs.Orders.{filter_none}
 use Rattle.log_laws.proofs.Parts.{begin_is, are_losers, commits_parts, all_made, filter_same, sum_same, pairwise_right, pairwise_within, InTurn-right, parts_at, all_below, in_order_filter, in_order_raise, last_of_both', drop_range}
 use Rattle.log_laws.proofs.Versions.{table_same}
@@ -62,9 +62,6 @@ master_is_orderly p kept sound orderly =
 
 module _ (p : Picture) (kept : ℕ) (sound : IsSound p) (may : MayCheckpoint p kept)
     (open_kept : AllByRecursion (λ e. is_closed (before_block kept p.log) (txn_of e) ≡ false) (from_block kept p.log)) where
-  old : List Entry
-  old = before_block kept p.log
-
   pub parts : p.log ≡ before_block kept p.log ++ from_block kept p.log
   parts = parts_at kept (512 * p.master.kept) p.log (512 * p.hi) sound.in_order
 
@@ -261,15 +258,11 @@ module _ (p : Picture) (kept : ℕ) (sound : IsSound p) (may : MayCheckpoint p k
 
   -- The table.
 
-  is_number_of : (number : ℕ) (o : Option ℕ) → is_number number o ≡ true → o ≡ Some number
-  is_number_of number None h = absurd (grind arith)
-  is_number_of number (Some k) h = ap Some (eqb-true k number h)
-
   -- a number whose records are all left out has the slot that the last of them wrote
   slot_is : (number : ℕ) (x : Entry) → number < 32 * length p.pages → last_on p.log number ≡ Some x → slot_at p.pages number ≡ after_of x.rec
   slot_is number x within last =
       let v = version_at p.pages (number / 32) in
-      let on = is_number_of number (number_of x.rec) (last_passes (is_on number) p.log x last) in
+      let on = is_number-Some number (number_of x.rec) (last_passes (is_on number) p.log x last) in
       let low = all_last (λ e. (n : ℕ) → number_of e.rec ≡ Some n → e.lsn ≤ (version_at p.pages (n / 32)).lsn) (is_on number) p.log x may.flushed last number on in
       let fits = sound.versions_fit (number / 32) (let q = page_and_slot number in omega (arith, q, within)) in
       subst (ShowsLast (slot_at p.pages number))

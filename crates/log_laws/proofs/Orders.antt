@@ -1,5 +1,5 @@
 -- Logs in order, and the parts of a log.
-use Rattle.std.proofs.Common.{◌≡◌, ℕ, zero, suc, ◌+◌, ◌≤◌, Bool, false, cond, List, [], ◌∷◌, ◌++◌, length, get_or, Some, None, refl, sym, ap, subst, ◌∙◌, append_assoc, arith}
+use Rattle.std.proofs.Common.{◌≡◌, ℕ, zero, suc, ◌+◌, ◌≤◌, Bool, false, cond, List, [], ◌∷◌, ◌++◌, length, Some, None, refl, sym, ap, subst, ◌∙◌, append_assoc, arith}
 use Rattle.std.specs.Prelude.{Option, filter, flat_map}
 use Rattle.std.specs.List.{AllByRecursion}
 use Rattle.std.specs.Option.{option_or}
@@ -35,11 +35,6 @@ entries_in_order lsn (rec ∷ records) = (
 pub all_from : (from : ℕ) (log : List Entry) (to : ℕ) → IsInOrder from log to → AllByRecursion (λ e. from ≤ e.lsn) log
 all_from from [] to h = tt
 all_from from (e ∷ log) to h = (h.0, all_from from log to (let b = h.0 in in_order_from (e.lsn + 1) from log to (omega (arith, b)) h.1))
-
-pub all_get_or : {X : Type 0} (P : X → Type 0) (xs : List X) (i : ℕ) (d : X) → AllByRecursion P xs → P d → P (get_or xs i d)
-all_get_or P [] i d h p = p
-all_get_or P (x ∷ xs) zero d h p = h.0
-all_get_or P (x ∷ xs) (suc i) d h p = all_get_or P xs i d h.1 p
 
 pub none_passes : {X : Type 0} (test : X → Bool) (xs : List X) → AllByRecursion (λ x. test x ≡ false) xs → last_where test xs ≡ None
 none_passes test [] h = refl

@@ -1,11 +1,12 @@
 -- What undo may take, record by record.
-use Rattle.std.proofs.Common.{◌≡◌, ◌≢◌, ℕ, suc, ◌+◌, ◌*◌, ◌<◌, ◌≤◌, Bool, true, false, cond, not, ◌&&◌, List, [], ◌∷◌, length, map, refl, sym, ap, subst, ◌∙◌, arith}
-use Rattle.std.specs.Prelude.{drop, filter, filter_map, sum_by, IsTrue, ◌==◌}
+use Rattle.std.proofs.Common.{◌≡◌, ◌≢◌, ℕ, suc, ◌+◌, ◌*◌, ◌<◌, ◌≤◌, Bool, true, false, cond, not, ◌&&◌, List, [], ◌∷◌, length, refl, sym, ap, subst, ◌∙◌, arith}
+use Rattle.std.specs.Prelude.{drop, filter_map, sum_by, IsTrue, ◌==◌}
 use Rattle.std.specs.List.{AllByRecursion}
 use Rattle.std.proofs.lemmas.List.Elements.{filter-append}
 use Rattle.std.proofs.lemmas.List.{length-append}
 use Rattle.std.proofs.lemmas.Bool.{and_from, and_left, and_right, eqb-true, eq-eqb, ne_eqb}
 use Rattle.std.proofs.lemmas.List.Sums.{sum_by-cons, sum_by-append}
+use Rattle.std_lemmas.proofs.Sums.{sum_both, sum_made, sum_pointwise, sum_within, sum_zero}
 use Rattle.log_records.specs.declared.log_record.LogRecord.{LogRecord}
 use Rattle.log_records.specs.declared.log_record.LogRecord.TheVariants.{Begin, Update, Clr, Commit, End}
 use Rattle.log_records.specs.Log.{Entry, txn_of, txn_by, is_of, is_update, is_closing, is_closed, entries_of}
@@ -20,32 +21,6 @@ use Rattle.log_laws.proofs.Chains.{left_of_chain}
 use Rattle.log_laws.proofs.Parts.{are_losers}
 use Rattle.log_records.specs.Log.{is_loser, updates_in, log_from, entries_from}
 use Rattle.log_records.specs.Unfinished.{losers, clrs_in}
-
--- Sums.
-
-pub sum_both : {X : Type 0} (f g : X → ℕ) (xs : List X) → sum_by (λ x. f x + g x) xs ≡ sum_by f xs + sum_by g xs
-sum_both f g [] = refl
-sum_both f g (x ∷ xs) = omega (arith, sum_by-cons (λ y. f y + g y) x xs, sum_by-cons f x xs, sum_by-cons g x xs, sum_both f g xs)
-
-pub sum_zero : {X : Type 0} (f : X → ℕ) (xs : List X) → AllByRecursion (λ x. f x ≡ 0) xs → sum_by f xs ≡ 0
-sum_zero f [] h = refl
-sum_zero f (x ∷ xs) h = let a = h.0 in omega (arith, sum_by-cons f x xs, sum_zero f xs h.1, a)
-
-pub sum_made : {X Y : Type 0} (g : Y → ℕ) (f : X → Y) (test : X → Bool) (xs : List X) → sum_by g (map f (filter test xs)) ≡ sum_by (λ x. cond (test x) (g (f x)) 0) xs
-sum_made g f test [] = refl
-sum_made {X} {Y} g f test (x ∷ xs) = by_test (test x) (sum_made g f test xs) ∙ sym (sum_by-cons (λ x. cond (test x) (g (f x)) 0) x xs)
-  where
-    by_test : (b : Bool) → sum_by g (map f (filter test xs)) ≡ sum_by (λ x. cond (test x) (g (f x)) 0) xs → sum_by g (map f (cond b (x ∷ filter test xs) (filter test xs))) ≡ cond b (g (f x)) 0 + sum_by (λ x. cond (test x) (g (f x)) 0) xs
-    by_test true e = sum_by-cons g (f x) (map f (filter test xs)) ∙ ap (λ n. g (f x) + n) e
-    by_test false e = e ∙ omega arith
-
-pub sum_within : {X : Type 0} (g : X → ℕ) (test : X → Bool) (xs : List X) → ((x : X) → test x ≡ false → g x ≡ 0) → sum_by g (filter test xs) ≡ sum_by g xs
-sum_within g test [] h = refl
-sum_within g test (x ∷ xs) h = by_test (test x) refl (sum_within g test xs h) ∙ sym (sum_by-cons g x xs)
-  where
-    by_test : (b : Bool) → test x ≡ b → sum_by g (filter test xs) ≡ sum_by g xs → sum_by g (cond b (x ∷ filter test xs) (filter test xs)) ≡ g x + sum_by g xs
-    by_test true t e = sum_by-cons g x (filter test xs) ∙ ap (λ n. g x + n) e
-    by_test false t e = e ∙ omega (arith, h x t)
 
 -- An unfinished transaction has one Begin.
 
@@ -119,9 +94,6 @@ less_at true c c' true o o' k at other = let a = at refl in ap (λ b. cond (not 
     none_plus : (n : ℕ) → n ≡ 0 + n
     none_plus n = omega arith
 less_at true c c' false o o' k at other = let a = other refl in sym (ap (λ b. cond (not b) o' 0) a.0 ∙ ap (λ n. cond (not c) n 0) a.1) ∙ omega arith
-
-pub sum_pointwise : {X : Type 0} (f g : X → ℕ) → ((x : X) → f x ≡ g x) → (xs : List X) → sum_by f xs ≡ sum_by g xs
-sum_pointwise {X} f g h xs = ap (λ (k : X → ℕ). sum_by k xs) (λ i x. h x i)
 
 owed_by_same : (log : List Entry) (e : Entry) (t : ℕ) → (is_of t e && is_update e.rec) ≡ false → (is_of t e && is_clr e.rec) ≡ false → owed_by (with log e) t ≡ owed_by log t
 owed_by_same log e t u c = ap (λ (l : List Entry). length l + 1) (left_push log e t ∙ by_tests (is_of t e) e.rec u c)

@@ -1,5 +1,5 @@
 -- No more Updates wait to be undone than undo owes blocks.
-use Rattle.std.proofs.Common.{◌≡◌, ℕ, ◌+◌, ◌<◌, ◌≤◌, ◌==◌, Bool, true, false, cond, not, ◌&&◌, ◌||◌, List, [], ◌∷◌, length, refl, sym, ap, subst, ◌∙◌, arith}
+use Rattle.std.proofs.Common.{◌≡◌, ℕ, ◌+◌, ◌<◌, ◌≤◌, ◌==◌, Bool, true, false, cond, not, ◌&&◌, ◌||◌, List, [], ◌∷◌, length, refl, ap, subst, ◌∙◌, arith}
 use Rattle.std.specs.Prelude.{sum_by, IsTrue}
 use Rattle.std.specs.List.{AllByRecursion, list_any}
 use Rattle.std.proofs.lemmas.Bool.{eqb-true, ne_eqb}
@@ -7,29 +7,10 @@ use Rattle.std.proofs.lemmas.List.Sums.{length-filter, sum_by-cons}
 use Rattle.log_records.specs.Log.{Entry, entries_of, is_closed, is_loser, is_of, is_update, txn_of}
 use Rattle.log_records.specs.Sound.{IsInOrder, IsLoserChain}
 use Rattle.log_records.specs.Unfinished.{is_begin, left_open, owed, owed_by, pending}
-use Rattle.log_laws.proofs.Owing.{begun_by, once, sum_both, sum_made, sum_pointwise, sum_zero}
+use Rattle.std_lemmas.proofs.AllOf.{all_each}
+use Rattle.std_lemmas.proofs.Sums.{sum_both, sum_le, sum_made, sum_of_zeros, sum_swap}
+use Rattle.log_laws.proofs.Owing.{begun_by, once}
 use Rattle.log_laws.proofs.Parts.{all_own}
-
--- Sums.
-
-sum_le : {X : Type 0} (f g : X → ℕ) (xs : List X) → AllByRecursion (λ x. f x ≤ g x) xs → sum_by f xs ≤ sum_by g xs
-sum_le f g [] all = omega arith
-sum_le f g (x ∷ xs) all = let one = all.0 in omega (arith, one, sum_by-cons f x xs, sum_by-cons g x xs, sum_le f g xs all.1)
-
-every : {X : Type 0} (P : X → Type 0) → ((x : X) → P x) → (xs : List X) → AllByRecursion P xs
-every P all [] = tt
-every P all (x ∷ xs) = (all x, every P all xs)
-
-nothing : {X : Type 0} (xs : List X) → sum_by (λ (x : X). 0) xs ≡ 0
-nothing {X} xs = sum_zero (λ (x : X). 0) xs (every (λ x. 0 ≡ 0) (λ x. refl) xs)
-
-sum_swap : {X Y : Type 0} (f : X → Y → ℕ) (xs : List X) (ys : List Y) → sum_by (λ x. sum_by (f x) ys) xs ≡ sum_by (λ y. sum_by (λ x. f x y) xs) ys
-sum_swap f [] ys = sym (nothing ys)
-sum_swap {X} {Y} f (x ∷ xs) ys =
-    let first = sum_by-cons (λ (w : X). sum_by (f w) ys) x xs in
-    let each = sum_pointwise (λ (y : Y). sum_by (λ w. f w y) (x ∷ xs)) (λ y. f x y + sum_by (λ w. f w y) xs) (λ y. sum_by-cons (λ w. f w y) x xs) ys in
-    let parts = sum_both (f x) (λ (y : Y). sum_by (λ w. f w y) xs) ys in
-    omega (arith, first, each, parts, sum_swap f xs ys)
 
 -- At most one record has an LSN.
 
@@ -56,33 +37,38 @@ one_at n from (e ∷ log) to order = by (n == e.lsn) refl (one_at n (e.lsn + 1) 
         let none : at n e ≡ 0 = ap (λ (b : Bool). cond b 1 0) is in
         omega (arith, none, sum_by-cons (at n) e log, rest)
 
-abbrev among : List Entry → Entry → ℕ
+abbrev pub among : List Entry → Entry → ℕ
 among us e = cond (list_any (λ u. u.lsn == e.lsn) us) 1 0
 
-among_few : (us : List Entry) (from : ℕ) (log : List Entry) (to : ℕ) → IsInOrder from log to → sum_by (among us) log ≤ length us
-among_few [] from log to order = omega (arith, nothing log)
+pub among_few : (us : List Entry) (from : ℕ) (log : List Entry) (to : ℕ) → IsInOrder from log to → sum_by (among us) log ≤ length us
+among_few [] from log to order = omega (arith, sum_of_zeros log)
 among_few (u ∷ us) from log to order =
-    let each = sum_le (among (u ∷ us)) (λ e. at u.lsn e + among us e) log (every _ (λ e. either (u.lsn == e.lsn) (list_any (λ v. v.lsn == e.lsn) us)) log) in
+    let each = sum_le (among (u ∷ us)) (λ e. at u.lsn e + among us e) log (all_each _ (λ e. either (u.lsn == e.lsn) (list_any (λ v. v.lsn == e.lsn) us)) log) in
     omega (arith, each, sum_both (at u.lsn) (among us) log, one_at u.lsn from log to order, among_few us from log to order)
   where
     either : (a b : Bool) → cond (a || b) 1 0 ≤ cond a 1 0 + cond b 1 0
     either true b = omega arith
     either false b = omega arith
 
+-- the Begin of an unfinished transaction, and how many Updates of it are to be undone
+abbrev pub lives : List Entry → Entry → Bool
+lives log b = is_begin b.rec && not (is_closed log b.lsn)
+
+abbrev pub left_by : List Entry → Entry → ℕ
+left_by log b = cond (lives log b) (length (left_open log b.lsn)) 0
+
+-- the Updates that wait, transaction by transaction
+abbrev pub waits : List Entry → Entry → Bool
+waits log e = is_update e.rec && not (is_closed log (txn_of e)) && list_any (λ u. u.lsn == e.lsn) (left_open log (txn_of e))
+
 -- Each Update that waits is of a transaction whose Begin stands in the log.
 
-module _ (log : List Entry) (chains : (t : ℕ) → IsTrue (is_loser log t) → IsLoserChain t (entries_of t log)) (from to : ℕ) (order : IsInOrder from log to) where
-  abbrev waits : Entry → Bool
-  waits e = is_update e.rec && not (is_closed log (txn_of e)) && list_any (λ u. u.lsn == e.lsn) (left_open log (txn_of e))
-
+module _ (log : List Entry) (chains : (t : ℕ) → IsTrue (is_loser log t) → IsLoserChain t (entries_of t log)) where
   abbrev waiting : Entry → ℕ
-  waiting e = cond (waits e) 1 0
+  waiting e = cond (waits log e) 1 0
 
   abbrev for_begin : Entry → Entry → ℕ
   for_begin e b = cond (begun_by (txn_of e) b) (waiting e) 0
-
-  abbrev owes : Entry → ℕ
-  owes b = cond (is_begin b.rec && not (is_closed log b.lsn)) (owed_by log b.lsn) 0
 
   begun : (e : Entry) → list_any (is_of (txn_of e)) log ≡ true → waiting e ≤ sum_by (for_begin e) log
   begun e own = by (is_closed log (txn_of e)) refl
@@ -101,7 +87,7 @@ module _ (log : List Entry) (chains : (t : ℕ) → IsTrue (is_loser log t) → 
           omega (arith, once log (txn_of e) (waiting e) (chains (txn_of e) loser))
 
   -- those of one transaction
-  own_few : (e b : Entry) → for_begin e b ≤ cond (is_begin b.rec && not (is_closed log b.lsn)) (among (left_open log b.lsn) e) 0
+  own_few : (e b : Entry) → for_begin e b ≤ cond (lives log b) (among (left_open log b.lsn) e) 0
   own_few e b = by (is_begin b.rec) (txn_of e == b.lsn) refl
     where
       both : (u c a : Bool) → cond (u && not c && a) 1 0 ≤ cond (not c) (cond a 1 0) 0
@@ -116,22 +102,34 @@ module _ (log : List Entry) (chains : (t : ℕ) → IsTrue (is_loser log t) → 
       by true true is = subst (λ (t : ℕ). waiting e ≤ cond (not (is_closed log t)) (among (left_open log t) e) 0) (eqb-true (txn_of e) b.lsn is)
           (both (is_update e.rec) (is_closed log (txn_of e)) (list_any (λ u. u.lsn == e.lsn) (left_open log (txn_of e))))
 
-  one_owes : (b : Entry) → sum_by (λ e. for_begin e b) log ≤ owes b
-  one_owes b = by (is_begin b.rec && not (is_closed log b.lsn)) (sum_le (λ e. for_begin e b) (λ e. cond (is_begin b.rec && not (is_closed log b.lsn)) (among (left_open log b.lsn) e) 0) log (every _ (λ e. own_few e b) log))
-    where
-      by : (live : Bool) → sum_by (λ e. for_begin e b) log ≤ sum_by (λ e. cond live (among (left_open log b.lsn) e) 0) log → sum_by (λ e. for_begin e b) log ≤ cond live (owed_by log b.lsn) 0
-      by true few = omega (arith, few, among_few (left_open log b.lsn) from log to order)
-      by false few = omega (arith, few, nothing log)
-
   all_begun : (xs : List Entry) → AllByRecursion (λ e. list_any (is_of (txn_of e)) log ≡ true) xs → AllByRecursion (λ e. waiting e ≤ sum_by (for_begin e) log) xs
   all_begun [] all = tt
   all_begun (e ∷ xs) all = (begun e all.0, all_begun xs all.1)
 
-  pub pending_few : length (pending log) ≤ owed log
-  pending_few =
-      let many : length (pending log) ≡ sum_by waiting log = length-filter waits log in
+  one_leaves : (from to : ℕ) → IsInOrder from log to → (b : Entry) → sum_by (λ e. for_begin e b) log ≤ left_by log b
+  one_leaves from to order b = by (lives log b) (sum_le (λ e. for_begin e b) (λ e. cond (lives log b) (among (left_open log b.lsn) e) 0) log (all_each _ (λ e. own_few e b) log))
+    where
+      by : (live : Bool) → sum_by (λ e. for_begin e b) log ≤ sum_by (λ e. cond live (among (left_open log b.lsn) e) 0) log → sum_by (λ e. for_begin e b) log ≤ cond live (length (left_open log b.lsn)) 0
+      by true few = omega (arith, few, among_few (left_open log b.lsn) from log to order)
+      by false few = omega (arith, few, sum_of_zeros log)
+
+  pub pending_left : (from to : ℕ) → IsInOrder from log to → length (pending log) ≤ sum_by (left_by log) log
+  pending_left from to order =
+      let many : length (pending log) ≡ sum_by waiting log = length-filter (waits log) log in
       let each = sum_le waiting (λ e. sum_by (for_begin e) log) log (all_begun log (all_own log)) in
       let turned = sum_swap for_begin log log in
-      let all = sum_le (λ b. sum_by (λ e. for_begin e b) log) owes log (every _ one_owes log) in
-      let owed_is : owed log ≡ sum_by owes log = sum_made (owed_by log) (λ (e : Entry). e.lsn) (λ e. is_begin e.rec && not (is_closed log e.lsn)) log in
-      omega (arith, many, each, turned, all, owed_is)
+      let all = sum_le (λ b. sum_by (λ e. for_begin e b) log) (left_by log) log (all_each _ (one_leaves from to order) log) in
+      omega (arith, many, each, turned, all)
+
+  abbrev owes : Entry → ℕ
+  owes b = cond (lives log b) (owed_by log b.lsn) 0
+
+  pub pending_few : (from to : ℕ) → IsInOrder from log to → length (pending log) ≤ owed log
+  pending_few from to order =
+      let owed_is : owed log ≡ sum_by owes log = sum_made (owed_by log) (λ (e : Entry). e.lsn) (lives log) log in
+      let each = sum_le (left_by log) owes log (all_each _ (λ b. one_more (lives log b) (length (left_open log b.lsn))) log) in
+      omega (arith, pending_left from to order, each, owed_is)
+    where
+      one_more : (live : Bool) (n : ℕ) → cond live n 0 ≤ cond live (n + 1) 0
+      one_more true n = omega arith
+      one_more false n = omega arith

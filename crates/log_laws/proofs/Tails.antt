@@ -143,7 +143,7 @@ whole_in_table p tail c =
     all_append (IsInTable p.pages) p.log (next_entries p tail) c.sound.in_table
     (InTurn-all (Follows p.master p.pages) (IsInTable p.pages) (λ earlier e f. f.in_table) p.log (next_entries p tail) c.follow)
 
-InTurn-left : {X : Type 0} (P : List X → X → Type 0) (earlier xs ys : List X) → InTurn P earlier (xs ++ ys) → InTurn P earlier xs
+pub InTurn-left : {X : Type 0} (P : List X → X → Type 0) (earlier xs ys : List X) → InTurn P earlier (xs ++ ys) → InTurn P earlier xs
 InTurn-left P earlier [] ys h = tt
 InTurn-left P earlier (x ∷ xs) ys h = (h.0, InTurn-left P (earlier ++ x ∷ []) xs ys h.1)
 

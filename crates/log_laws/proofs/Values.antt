@@ -8,7 +8,7 @@ use Rattle.std.proofs.lemmas.Bool.{or_parts, or_right, or_left, and_from, and_pa
 use Rattle.std_lemmas.proofs.Options.{option_or_none}
 use Rattle.std_lemmas.proofs.Bools.{or_without_last}
 use Rattle.record_model.specs.State.{Content}
-use Rattle.log_records.specs.Log.{Entry, Version, slot_at, txn_of, is_of, is_on, is_update, is_loser, is_closed, is_closing, entries_of, last_where, last_on, first_update, before_of, before_first, after_of, value_after, value_of}
+use Rattle.log_records.specs.Log.{Entry, Version, slot_at, txn_of, is_of, is_on, is_update, is_loser, is_closed, is_closing, entries_of, last_where, last_on, first_update, before_of, before_first, after_of, value_after, value_of, is_number}
 use Rattle.log_records.specs.Sound.{Pairwise, HoldsOff}
 use Rattle.log_laws.specs.Follow.{CanBeUndone, shown, shown_by}
 use Rattle.log_laws.proofs.Lists.{one_false, one_true, last_passes, last_any, last_where-filter, find-filter, last_of_both, find_passes, all_find, any_left}
@@ -17,6 +17,11 @@ use Rattle.log_records.proofs.Lists.{one, last_where-append, all_last}
 
 abbrev pub with : List Entry → Entry → List Entry
 with log e = log ++ e ∷ []
+
+-- a number that is a record's
+pub is_number-Some : (number : ℕ) (o : Option ℕ) → is_number number o ≡ true → o ≡ Some number
+is_number-Some number None h = absurd (grind arith)
+is_number-Some number (Some k) h = ap Some (eqb-true k number h)
 
 -- Which transactions are closed.
 

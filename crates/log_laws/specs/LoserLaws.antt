@@ -1,28 +1,10 @@
 -- The list of the unfinished transactions, and how it is read from a log.
 use Rattle.std.specs.Prelude.{◌≡◌, ℕ, ◌*◌, ◌<◌, ◌==◌, true, false, List, [], ◌∷◌, ◌++◌, length, Some}
 use Rattle.std.specs.List.{list_any}
-use Rattle.log_records.specs.declared.log_record.LogRecord.TheVariants.{Begin}
-use Rattle.log_records.specs.Log.{Entry, txn_of, number_of, is_closing, is_closed, is_loser}
+use Rattle.log_records.specs.Log.{Entry, txn_of, number_of, is_closed, is_loser}
 use Rattle.log_records.specs.Unfinished.{is_begin, losers}
 use Rattle.log_records.specs.Sound.{Picture, IsSound, IsInOrder}
 use Rattle.log_laws.specs.Follow.{IsUndoable, IsFresh}
-
--- a Begin adds its transaction at the end
-abbrev pub LosersBegin : Type 0
-LosersBegin = (log : List Entry) (lsn : ℕ) → IsFresh lsn log
-    → losers (log ++ record { lsn = lsn; rec = Begin } ∷ []) ≡ losers log ++ lsn ∷ []
-
--- a Commit or an End takes its transaction out
-abbrev pub LosersClosed : Type 0
-LosersClosed =
-    (from to : ℕ) (log : List Entry) (e : Entry) (front back : List ℕ) → IsInOrder from log to
-    → is_closing e.rec ≡ true →
-    losers log ≡ front ++ txn_of e ∷ back → losers (log ++ e ∷ []) ≡ front ++ back
-
--- any other record leaves the list
-abbrev pub LosersStay : Type 0
-LosersStay = (log : List Entry) (e : Entry) → is_begin e.rec ≡ false → is_closing e.rec ≡ false
-    → losers (log ++ e ∷ []) ≡ losers log
 
 -- who is on the list is a loser
 abbrev pub ListedIsLoser : Type 0

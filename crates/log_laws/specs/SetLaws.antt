@@ -1,5 +1,5 @@
 -- A block that sets one record of the table.
-use Rattle.std.specs.Prelude.{ℕ, ◌+◌, ◌-◌, ◌*◌, ◌/◌, ◌%◌, ◌^◌, ◌<◌, ◌≤◌, List, [], ◌∷◌, length, replicate, slice_set}
+use Rattle.std.specs.Prelude.{ℕ, ◌+◌, ◌-◌, ◌*◌, ◌/◌, ◌%◌, ◌^◌, ◌<◌, ◌≤◌, List, [], ◌∷◌, length, replicate}
 use Rattle.std.specs.Prelude.{None}
 use Rattle.record_model.specs.State.{Content}
 use Rattle.log_records.specs.declared.log_record.LogRecord.{LogRecord}
@@ -7,7 +7,7 @@ use Rattle.log_records.specs.declared.log_record.LogRecord.TheVariants.{Begin, U
 use Rattle.log_records.specs.Spelling.{IsShort}
 use Rattle.log_records.specs.Unfinished.{owed}
 use Rattle.log_records.specs.Sound.{Picture, IsSound, Means, AreOrderly, commit_count}
-use Rattle.log_laws.specs.Follow.{GoesOn, IsFree, sealed, shown}
+use Rattle.log_laws.specs.Follow.{IsFree, shown}
 use Rattle.log_laws.specs.Tail.{plain}
 
 -- the records of a transaction that sets one record and commits
@@ -28,16 +28,6 @@ pub record MaySet (p : Picture) (number : ℕ) (value : Content) : Type 0 where
   pub room : p.hi + 1 - p.master.kept + owed p.log ≤ p.blocks - 1
   pub few_pages : length p.pages ≤ 2 ^ 32
   pub few_blocks : 512 * p.hi + 2 < 2 ^ 64
-
--- it goes on, and sets the record in the table
-abbrev pub SetGoesOn : Type 0
-SetGoesOn = (p : Picture) (number : ℕ) (value : Content) → MaySet p number value → GoesOn p (set_records p number value)
-
-abbrev pub SetMeans : Type 0
-SetMeans =
-    (p : Picture) (number : ℕ) (value : Content) → MaySet p number value → (table : List Content) (count : ℕ)
-    → Means p table count →
-    Means (sealed p (set_records p number value)) (slice_set table number value) (count + 1)
 
 -- and so it is for the first one on blank devices
 abbrev pub FirstSet : Type 0

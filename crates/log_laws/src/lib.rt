@@ -24,13 +24,13 @@ pub use analysis_laws::{unfinished_more, unfinished_owed, unfinished_there};
 pub use examples::{a_loser, a_stray};
 pub use follow_laws::{begin_follows, commit_follows, end_follows, update_follows};
 pub use image_laws::{empty_master, new_master, new_version, sealed_is_orderly};
-pub use loser_laws::{losers_listed, losers_more, reads_on};
+pub use loser_laws::{losers_listed, reads_on};
 pub use room_laws::{
     blocks_have_records, left_is_written, left_push, owed_begin, owed_closing, owed_clr, owed_none,
     owed_update,
 };
 pub use seal_laws::{means_with_commit, means_without_commit, sealed_is_sound};
-pub use set_laws::{first_set, one_set};
+pub use set_laws::first_set;
 pub use shown_laws::{
     shown_at, shown_blank, shown_is_seen, shown_is_table, shown_is_value, shown_push, shown_set,
     shown_stays, table_at, value_by_last, value_held, writer_is_loser,

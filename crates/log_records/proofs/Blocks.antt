@@ -3,7 +3,7 @@ use Rattle.std.proofs.Common.{◌≡◌, ◌≢◌, ℕ, ◌+◌, ◌-◌, ◌�
 use Rattle.std.specs.Prelude.{slice_range, flat_map}
 use Rattle.std.specs.List.{AllByRecursion}
 use Rattle.std.specs.Int.{w16, to_be_bytes, from_be_bytes}
-use Rattle.std.proofs.lemmas.List.{take_at, drop_at, append-nil, length-append, length-take, length-take-le, length-drop, length-replicate, drop-drop, drop-replicate, take-append-drop}
+use Rattle.std.proofs.lemmas.List.{take_at, drop_at, append-nil, length-append, length-take, length-take-le, length-drop, length-replicate, drop-drop, take-append-drop}
 use Rattle.std.proofs.lemmas.List.Folds.{drop_split}
 use Rattle.std.proofs.Math.Seq.{take-length}
 use Rattle.std.proofs.lemmas.Grind.{flat_map-append}
@@ -12,7 +12,6 @@ use Rattle.std_lemmas.proofs.AllOf.{all_push, all_between}
 use Rattle.log_records.specs.declared.log_record.LogRecord.{LogRecord}
 use Rattle.log_records.specs.declared.log_record.LogRecord.TheVariants.{Begin, Update, Clr, Commit, End}
 use Rattle.log_records.specs.Spelling.{spelling, used_by, block, block_len, HasForm, FitsFields, AreBlock, IsBlock, IsSpelledAt}
-use Rattle.log_records.specs.Writes.{Writes}
 use Rattle.log_records.specs.Laws.{OneSpelled, WrittenIsSpelled}
 use Rattle.log_records.proofs.Records.{spelling_is_one}
 use Rattle.log_records.proofs.Fields.{IsBytes, IsBytes-take}
@@ -162,18 +161,6 @@ read_more content used at end r e rec s =
       only = same_next content used at end r e rec s;
     }
 
--- before the first record
-pub read_none : (content : List ℕ) (used : ℕ) → 2 ≤ used → ReadTo content used 2
-read_none content used low = record {
-  records = [];
-  have_form = tt;
-  fit_fields = tt;
-  text = refl;
-  place = refl;
-  to = low;
-  only = λ all is. (all, refl);
-}
-
 not_empty : (all : List LogRecord) → 3 ≤ used_by all → all ≢ []
 not_empty [] low = absurd (omega (arith, low))
 not_empty (rec ∷ all) low = λ e. cc
@@ -238,17 +225,3 @@ length-block records room =
       length-replicate {A = ℕ} (block_len - used_by records) 0,
       room,
     )
-
--- records that were written into zeros, behind the place for the offset of their end, make a block
-pub block_from_writes : (records : List LogRecord) (blank last : List ℕ) (end : ℕ) → blank ≡ replicate block_len 0 → Writes blank last 2 (flat_map spelling records) end → to_be_bytes w16 end ++ drop 2 last ≡ block records
-unfolding block
-block_from_writes records blank last end is writes =
-    let flat = flat_map spelling records in
-    let place : end ≡ used_by records = writes.length_is in
-    let two : length (take 2 blank) ≡ 2 = ap (λ (l : List ℕ). length (take 2 l)) is in
-    let written : last ≡ take 2 blank ++ (flat ++ drop end blank) = writes.written ∙ append_assoc (take 2 blank) flat (drop end blank) in
-    let rest : drop 2 last ≡ flat ++ drop end blank = ap (drop 2) written ∙ drop_at (take 2 blank) (flat ++ drop end blank) 2 two in
-    let zero : drop end blank ≡ replicate (block_len - end) 0 = ap (drop end) is ∙ drop-replicate end block_len 0 in
-    ap (λ (t : List ℕ). to_be_bytes w16 end ++ t) (rest ∙ ap (λ (t : List ℕ). flat ++ t) zero)
-    ∙ ap (λ n. to_be_bytes w16 n ++ (flat ++ replicate (block_len - n) 0)) place
-    ∙ sym (append_assoc (to_be_bytes w16 (used_by records)) flat (replicate (block_len - used_by records) 0))

@@ -1,12 +1,12 @@
 -- How many Updates and CLRs a log of so many blocks has at most.
-use Rattle.std.proofs.Common.{◌≡◌, ℕ, ◌+◌, ◌*◌, ◌≤◌, Bool, true, false, cond, List, [], ◌∷◌, ◌++◌, length, filter, reverse, flat_map, Option, Some, None, refl, ap, ◌∙◌, arith}
+use Rattle.std.proofs.Common.{◌≡◌, ℕ, ◌+◌, ◌*◌, ◌≤◌, Bool, true, false, cond, List, [], ◌∷◌, ◌++◌, length, filter, flat_map, Some, None, refl, arith}
 use Rattle.std.specs.Prelude.{is_some}
 use Rattle.std.specs.List.{AllByRecursion}
-use Rattle.std.proofs.lemmas.List.{length-append, reverse-append}
+use Rattle.std.proofs.lemmas.List.{length-append}
 use Rattle.log_records.specs.declared.log_record.LogRecord.{LogRecord}
 use Rattle.log_records.specs.declared.log_record.LogRecord.TheVariants.{Begin, Update, Clr, Commit, End}
 use Rattle.log_records.specs.Log.{Entry, entries_from, log_from, number_of}
-use Rattle.log_records.specs.Spelling.{AreBlock, content_spelling, spelling, used_by}
+use Rattle.log_records.specs.Spelling.{AreBlock, content_spelling, spelling}
 use Rattle.record_model.specs.State.{Content}
 
 -- whether a record is an Update or a CLR, as a number; and how many are
@@ -20,12 +20,6 @@ changes_in (e ∷ log) = is_change e.rec + changes_in log
 pub changes_join : (xs ys : List Entry) → changes_in (xs ++ ys) ≡ changes_in xs + changes_in ys
 changes_join [] ys = omega arith
 changes_join (e ∷ xs) ys = omega (arith, changes_join xs ys)
-
-pub changes_reverse : (xs : List Entry) → changes_in (reverse xs) ≡ changes_in xs
-changes_reverse [] = refl
-changes_reverse (e ∷ xs) =
-    let turned : changes_in (reverse (e ∷ xs)) ≡ changes_in (reverse xs ++ e ∷ []) = ap changes_in (reverse-append (e ∷ []) xs) in
-    omega (arith, turned, changes_join (reverse xs) (e ∷ []), changes_reverse xs)
 
 pub changes_filter : (test : Entry → Bool) (xs : List Entry) → changes_in (filter test xs) ≤ changes_in xs
 changes_filter test [] = omega arith

@@ -1,9 +1,8 @@
 -- The last item that passes a test.
 use Rattle.std.proofs.Common.{◌≡◌, ⊎_elim, Bool, true, cond, List, [], ◌∷◌, ◌++◌, Some, None, sym, ap, subst, ◌∙◌, arith}
 use Rattle.std.specs.Prelude.{Option}
-use Rattle.std.specs.List.{list_any, AllByRecursion}
+use Rattle.std.specs.List.{AllByRecursion}
 use Rattle.std.specs.Option.{option_or}
-use Rattle.std.proofs.lemmas.Bool.{or_left, or_right}
 use Rattle.std.proofs.lemmas.Option.{cond_some}
 use Rattle.std_lemmas.proofs.Options.{option_or_none, option_or_assoc, option_or_some}
 use Rattle.log_records.specs.Log.{last_where}
@@ -20,11 +19,4 @@ pub all_last : {X : Type 0} (P : X → Type 0) (test : X → Bool) (xs : List X)
 all_last P test [] x h e = absurd (grind arith)
 all_last P test (y ∷ ys) x h e = ⊎_elim (all_last P test ys x h.1)
     (λ o. let c = cond_some (test y) y x o.1 in subst P c.1 h.0)
-    (option_or_some (last_where test ys) (one test y) x e)
-
--- the last is one of them
-pub any_last : {X : Type 0} (test other : X → Bool) (xs : List X) (x : X) → last_where test xs ≡ Some x → other x ≡ true → list_any other xs ≡ true
-any_last test other [] x e h = absurd (grind arith)
-any_last test other (y ∷ ys) x e h = ⊎_elim (λ o. or_right (other y) (list_any other ys) (any_last test other ys x o h))
-    (λ o. let c = cond_some (test y) y x o.1 in or_left (other y) (list_any other ys) (ap other c.1 ∙ h))
     (option_or_some (last_where test ys) (one test y) x e)

@@ -1,10 +1,10 @@
 -- Laws of the format and of logs.
-use Rattle.std.specs.Prelude.{◌≡◌, ℕ, ◌+◌, ◌*◌, ◌^◌, ◌<◌, ◌≤◌, List, [], ◌∷◌, ◌++◌, length, map, replicate, slice_set}
+use Rattle.std.specs.Prelude.{◌≡◌, ℕ, ◌+◌, ◌*◌, ◌^◌, ◌<◌, ◌≤◌, List, [], ◌∷◌, ◌++◌, length, map, replicate}
 use Rattle.std.specs.Prelude.{None}
 use Rattle.log_records.specs.declared.log_record.LogRecord.{LogRecord}
 use Rattle.log_records.specs.Spelling.{spelling, block, AreBlock, HasForm, FitsFields, IsSpelledAt}
 use Rattle.log_records.specs.Writes.{Writes}
-use Rattle.log_records.specs.Log.{Version, entries_from, table_of}
+use Rattle.log_records.specs.Log.{entries_from, table_of}
 use Rattle.log_records.specs.Sets.{Change, IsChange, update_of, records_of, set_log, blank_versions}
 
 -- no spelling begins another record's
@@ -41,12 +41,6 @@ SetLsns =
     (i : ℕ) (c : Change) →
     map (λ e. e.lsn) (entries_from (512 * i + 2) (records_of i c))
     ≡ (512 * i + 2) ∷ (512 * i + 3) ∷ (512 * i + 3 + length (spelling (update_of i c))) ∷ []
-
--- one block more sets its record in the table
-abbrev pub ValuesOfSets : Type 0
-ValuesOfSets =
-    (versions : List Version) (changes : List Change) (c : Change) →
-    table_of (set_log (changes ++ c ∷ [])) versions ≡ slice_set (table_of (set_log changes) versions) c.number c.after
 
 -- and without a block there are no values
 abbrev pub ValuesOfNone : Type 0

@@ -1,6 +1,5 @@
 // Laws of the format and of logs, for the proofs of code above. They do nothing when called.
 ghost use Rattle.log_records.specs.Laws.{OneForm, WrittenIsSpelled, OneSpelled, OneChange, SetIsBlock, SetLsns};
-ghost use Rattle.log_records.specs.Laws.{ValuesOfSets, ValuesOfNone};
 
 /// No record's spelling begins another one's, whatever follows it.
 pub fn one_form()
@@ -26,11 +25,4 @@ pub fn set_is_block()
 /// Where the records of a block that sets one record stand.
 pub fn set_lsns()
     ensures { SetLsns }
-{}
-
-/// A block more sets its record in the table that the log stands for, and the empty log stands for the
-/// table without values where no page was ever written.
-pub fn values_of_sets()
-    ensures more { ValuesOfSets }
-    ensures none { ValuesOfNone }
 {}

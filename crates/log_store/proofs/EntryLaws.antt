@@ -8,7 +8,6 @@ use Rattle.log_records.specs.Log.{Entry, entries_from, log_from}
 use Rattle.site.specs.State.{State}
 use Rattle.log_store.specs.declared.store.LogStore.{LogStore}
 use Rattle.log_store.specs.Representation.{Finds, Represents}
-use Rattle.log_store.specs.Laws.{BlocksAreThere}
 use Rattle.log_store.specs.LogList.{LogList, next_block, sealed, entries, sealed_if, with_record}
 
 abbrev entry : ℕ → LogRecord → Entry
@@ -47,10 +46,3 @@ next_place store site log lsn fits holds is =
     let hi = fits.hi in
     let end = holds.tail.end in
     omega (arith, next, hi, end, is)
-
--- the sealed records are the first ones
-pub blocks_are_there : BlocksAreThere
-blocks_are_there log = record {
-  unsealed = (entries_from (512 * next_block log + 2) log.tail, refl);
-  all = blocks_more log.first log.blocks log.tail;
-}

@@ -130,9 +130,6 @@ pub record IsReading (octets : List ℕ) (used offset at : ℕ) : Type 0 where
   pub high : at ≤ used
   pub left : (records : List LogRecord) → HasRecords octets used records → IsLeft octets used offset at records
 
-pub reading_begins : (octets : List ℕ) (used offset : ℕ) → 2 ≤ used → IsReading octets used offset 2
-reading_begins octets used offset low = record { high = low; left = λ records has. record { left = records; have_form = has.have_form; fit_fields = has.fit_fields; text = has.text; end = has.end; same = refl } }
-
 -- before the end one is left
 one_left : (octets : List ℕ) (used offset at : ℕ) (records : List LogRecord) (l : IsLeft octets used offset at records) → at < used → (rec : LogRecord) × (others : List LogRecord) × (l.left ≡ rec ∷ others)
 one_left octets used offset at records l before = by_cases l.left refl

@@ -1,5 +1,5 @@
 -- What sealing the tail leaves.
-use Rattle.std.proofs.Common.{◌≡◌, ◌⊎◌, inl, inr, ⊎_elim, IsTrue, ℕ, ◌+◌, ◌-◌, ◌≤◌, ◌<◌, Bool, true, List, [], ◌∷◌, ◌++◌, length, replicate, refl, sym, ap, ◌∙◌, subst, arith}
+use Rattle.std.proofs.Common.{◌≡◌, ◌⊎◌, inl, inr, ⊎_elim, ℕ, ◌+◌, ◌-◌, ◌≤◌, ◌<◌, Bool, true, List, [], ◌∷◌, ◌++◌, length, replicate, refl, sym, ap, ◌∙◌, subst, arith}
 use Rattle.std.specs.Prelude.{slice_index}
 use Rattle.site.specs.declared.outside.Dev.TheVariants.{Log}
 use Rattle.site.specs.declared.geometry.Geometry.{Geometry}
@@ -59,28 +59,11 @@ ring_ready store site going fits = record {
   hi = fits.hi ∙ sym (ap (λ (s : Shape). hi_of s (region s site)) going.shape);
 }
 
--- and it fits where the ring is ready
-pub fits_again : (store : LogStore) (site : State) → store.ring.shape ≡ log_shape store.geometry → IsTrue site.honest → IsReady store.ring site → Matches store site
-fits_again store site shape honest ready = record {
-  honest = honest;
-  settled = subst (λ (s : Shape). loose_of s.dev site.loose ≡ []) shape ready.settled;
-  form = subst (λ (s : Shape). IsRing s (region s site)) shape ready.form;
-  hi = ready.hi ∙ ap (λ (s : Shape). hi_of s (region s site)) shape;
-}
-
 -- the ring of a store that found its log is found
 pub ring_finds : (store : LogStore) (site : State) → Invariant store site → Finds store site → ready.Finds store.ring site
 ring_finds store site going finds = record {
   form = subst (λ (s : Shape). IsRing s (region s site)) (sym going.shape) finds.form;
   hi = finds.hi ∙ sym (ap (λ (s : Shape). hi_of s (region s site)) going.shape);
-}
-
--- and the store has found its log where its ring is ready
-pub finds_again : (store : LogStore) (site : State) → store.ring.shape ≡ log_shape store.geometry → IsTrue site.honest → IsReady store.ring site → Finds store site
-finds_again store site shape honest ready = record {
-  honest = honest;
-  form = subst (λ (s : Shape). IsRing s (region s site)) shape ready.form;
-  hi = ready.hi ∙ ap (λ (s : Shape). hi_of s (region s site)) shape;
 }
 
 -- an append of the tail's block

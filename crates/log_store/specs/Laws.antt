@@ -1,5 +1,5 @@
 -- Laws on logs.
-use Rattle.std.specs.Prelude.{◌≡◌, true, Bool, List, [], ◌∷◌, ◌++◌}
+use Rattle.std.specs.Prelude.{◌≡◌, true, []}
 use Rattle.site.specs.declared.outside.Dev.TheVariants.{Log}
 use Rattle.site.specs.declared.geometry.Geometry.{Geometry}
 use Rattle.site.specs.Geometry.{HasLimits, blank_image}
@@ -7,23 +7,10 @@ use Rattle.site.specs.State.{State, Image, IsSettled}
 use Rattle.site.specs.Calls.{Preserves}
 use Rattle.log_records.specs.declared.log_record.LogRecord.{LogRecord}
 use Rattle.log_records.specs.Spelling.{HasForm}
-use Rattle.log_records.specs.Log.{Entry}
 use Rattle.image_changes.specs.Rings.{log_shape, KeepsUnits}
 use Rattle.log_store.specs.declared.store.LogStore.{LogStore}
-use Rattle.log_store.specs.LogList.{LogList, sealed, entries, sealed_if}
+use Rattle.log_store.specs.LogList.{LogList}
 use Rattle.log_store.specs.Representation.{Matches, HasBlocks, Represents, has_tail, overflows}
-
--- sealing the tail changes no record and no LSN
-abbrev pub SealingKeeps : Type 0
-SealingKeeps = (sealing : Bool) (log : LogList) → entries (sealed_if sealing log) ≡ entries log
-
--- the sealed records of what was sealed are the first ones of the log, and once the tail is sealed they are all of them
-pub record SealedFront (log : LogList) : Type 0 where
-  pub unsealed : (left : List Entry) × (entries log ≡ sealed log ++ left)
-  pub all : sealed (record { first = log.first; blocks = log.blocks ++ log.tail ∷ []; tail = [] }) ≡ entries log
-
-abbrev pub BlocksAreThere : Type 0
-BlocksAreThere = (log : LogList) → SealedFront log
 
 -- calls that leave the units of the log's ring, and nothing of its device loose, leave a store fit
 abbrev pub FitsBeside : Type 0

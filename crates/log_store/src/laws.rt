@@ -1,12 +1,6 @@
 // Laws on logs, for the proofs of code above; their lemmas stand in proofs/. They do nothing when called.
-ghost use Rattle.log_store.specs.Laws.{SealingKeeps, FitsBeside, HoldsBeside, BlankHasNoBlocks, BlocksAreThere, OneLog};
+ghost use Rattle.log_store.specs.Laws.{FitsBeside, HoldsBeside, BlankHasNoBlocks, OneLog};
 ghost use Rattle.log_store.specs.Laws.{FullTail};
-
-/// Law: sealing the tail changes no record and no LSN, and a snapshot's blocks begin the log.
-pub fn list_kept()
-    ensures entries { SealingKeeps }
-    ensures front { BlocksAreThere }
-{}
 
 /// Law: a store fits and holds its log after calls that leave the units of the log's ring.
 pub fn stays_beside()

@@ -64,7 +64,7 @@ distinct_changed (x ∷ xs) (y ∷ ys) there count others page all =
     subst (λ (l : List Frame). AllByRecursion (λ (o : Frame). y.page ≢ o.page) l × AreDistinct l) (sym others)
     (subst (λ (n : ℕ). AllByRecursion (λ (o : Frame). n ≢ o.page) xs × AreDistinct xs) (sym page) all)
 
-front_exists : (pages : ℕ) (old : List Frame) → 0 < length old → AllByRecursion (IsPage pages) old → (front_of old).page < pages
+pub front_exists : (pages : ℕ) (old : List Frame) → 0 < length old → AllByRecursion (IsPage pages) old → (front_of old).page < pages
 front_exists pages [] there all = absurd (omega (arith, there))
 front_exists pages (x ∷ xs) there all = all.0.exists
 

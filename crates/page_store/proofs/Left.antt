@@ -1,4 +1,5 @@
 -- The changed pages that are left behind a push of the coldest ones.
+use Rattle.std_lemmas.proofs.Bools.{or_assoc}
 use Rattle.std.proofs.Common.{◌≡◌, ◌≢◌, ℕ, zero, suc, ◌<◌, ◌≤◌, ◌==◌, Bool, true, false, not, ◌&&◌, ◌||◌, cond, List, [], ◌∷◌, ◌++◌, length, min, take, drop, map, filter, reverse, append_assoc, length-append, arith, refl, sym, ap, ◌∙◌}
 use Rattle.std.proofs.lemmas.List.Sums.{length-filter, count_by-le-length}
 use Rattle.std.specs.List.{AllByRecursion, list_any}
@@ -28,11 +29,7 @@ AreApart saved frames = AllByRecursion (λ (f : Frame). is_among saved f.page �
 
 among_append : (ps qs : List ℕ) (n : ℕ) → is_among (ps ++ qs) n ≡ (is_among ps n || is_among qs n)
 among_append [] qs n = refl
-among_append (p ∷ ps) qs n = ap (λ b. p == n || b) (among_append ps qs n) ∙ or_again (p == n) (is_among ps n) (is_among qs n)
-  where
-    or_again : (a b c : Bool) → (a || (b || c)) ≡ ((a || b) || c)
-    or_again true b c = refl
-    or_again false b c = refl
+among_append (p ∷ ps) qs n = ap (λ b. p == n || b) (among_append ps qs n) ∙ sym (or_assoc (p == n) (is_among ps n) (is_among qs n))
 
 one_apart : (saved : List ℕ) (page : ℕ) (frames : List Frame) → AreApart saved frames → AllByRecursion (λ (other : Frame). page ≢ other.page) frames → AreApart (saved ++ page ∷ []) frames
 one_apart saved page frames apart others =

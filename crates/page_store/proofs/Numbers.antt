@@ -1,26 +1,11 @@
 -- The numbers of the groups that a flush appends.
-use Rattle.std.proofs.Common.{◌≡◌, ℕ, zero, suc, ◌+◌, ◌≤◌, Bool, true, false, ◌&&◌, List, [], ◌∷◌, length, drop, reverse, refl, ap, arith}
+use Rattle.std.proofs.Common.{◌≡◌, ℕ, zero, suc, ◌+◌, ◌≤◌, Bool, true, false, ◌&&◌, List, [], ◌∷◌, length, reverse, refl, ap, arith}
 use Rattle.std.specs.Prelude.{if◌then◌else◌}
-use Rattle.std.proofs.lemmas.Bool.{leb-true}
-use Rattle.std.proofs.lemmas.List.{length-append, length-drop}
-use Rattle.second_chance.specs.declared.frame.Frame.{Frame}
-use Rattle.second_chance.specs.Queue.{Queue, pushed}
-use Rattle.second_chance.specs.Machine.{Rules, PoolPage, Cache, is_full, push_evicted, must_be_pushed, after_eviction, evict_first, evict_coldest, push_changed, flushed_by, flushed, wants_flush}
+use Rattle.second_chance.specs.Machine.{Rules, PoolPage, Cache, push_evicted, must_be_pushed, after_eviction, evict_first, evict_coldest, push_changed, flushed_by, flushed, wants_flush}
 use Rattle.second_chance.specs.Laws.{FlushGoesOn}
+use Rattle.second_chance.proofs.GroupCounts.{changed_next, evicted_next}
 use Rattle.page_store.specs.declared.store.PageStore.{PageStore}
 use Rattle.page_store.specs.Caching.{next_group, cache_of, rules as rules_for, is_full as has_no_room, first_pushed, is_pushed, with_way}
-
-full_has_one : (rules : Rules) (queue : Queue) → 1 ≤ rules.groups → is_full rules queue ≡ true → 1 ≤ length queue.groups
-full_has_one rules queue some full = omega (arith, some, leb-true rules.groups (length queue.groups) full)
-
-pushed_next : (leaves : Bool) (group : List Frame) (queue : Queue) → (leaves ≡ true → 1 ≤ length queue.groups) →
-    (pushed leaves group queue).first + length (pushed leaves group queue).groups ≡ queue.first + length queue.groups + 1
-pushed_next true group queue some = omega (arith, some refl, length-append (drop 1 queue.groups) (group ∷ []), length-drop 1 queue.groups)
-pushed_next false group queue some = omega (arith, length-append queue.groups (group ∷ []))
-
--- a push appends one group
-pub changed_next : (rules : Rules) (cache : Cache) → 1 ≤ rules.groups → next_group (push_changed rules cache) ≡ next_group cache + 1
-changed_next rules cache some = pushed_next (is_full rules cache.queue) _ cache.queue (full_has_one rules cache.queue some)
 
 -- a flush takes no group's number back
 flushed_by_next : (pushes : ℕ) (rules : Rules) (cache : Cache) → 1 ≤ rules.groups → next_group cache ≤ next_group (flushed_by pushes rules cache)
@@ -42,9 +27,6 @@ flushed_more goes_on rules cache some wants =
     omega (arith, same, flushed_next rules (push_changed rules cache) some, changed_next rules cache some)
 
 -- An eviction appends one group where it pushes.
-
-evicted_next : (rules : Rules) (own : PoolPage) (cache : Cache) → 1 ≤ rules.groups → next_group (push_evicted rules own cache) ≡ next_group cache + 1
-evicted_next rules own cache some = pushed_next (is_full rules cache.queue) _ cache.queue (full_has_one rules cache.queue some)
 
 after_next : (rules : Rules) (own : PoolPage) (cache : Cache) → 1 ≤ rules.groups →
     next_group (after_eviction rules own cache) ≡ next_group cache + (if must_be_pushed cache.queue own then 1 else 0)

@@ -33,9 +33,6 @@ all_chosen P room frames all = all_take P room (changed_frames frames) (all_filt
 
 -- each page once
 
-abbrev Others : Frame → List Frame → Type 0
-Others f fs = AllByRecursion (λ (other : Frame). f.page ≢ other.page) fs
-
 distinct_append : (xs : List Frame) (y : Frame) → AreDistinct xs → AllByRecursion (λ (x : Frame). x.page ≢ y.page) xs → AreDistinct (xs ++ y ∷ [])
 distinct_append [] y apart others = (tt, tt)
 distinct_append (x ∷ xs) y apart others = (all_append (λ (other : Frame). x.page ≢ other.page) xs (y ∷ []) apart.0 (others.0, tt), distinct_append xs y apart.1 others.1)

@@ -2,7 +2,7 @@
 use Rattle.std.proofs.Common.{◌≡◌, ◌≢◌, ◌⊎◌, inl, inr, ℕ, zero, suc, ◌<◌, ◌==◌, ◌&&◌, ◌||◌, Bool, true, false, true≢false, not, cond, List, [], ◌∷◌, ◌++◌, length, take, drop, map, filter, reverse, is_some, option_map, Option, None, Some, arith, refl, sym, ap, subst, ◌∙◌}
 use Rattle.std.specs.Prelude.{Result, Ok, Err, OnOk, OnErr, IsSome}
 use Rattle.std.specs.List.{AllByRecursion, enumerate_from}
-use Rattle.std.proofs.lemmas.Bool.{cases_eq, eqb-true, eqb-false, eq-eqb, ne_eqb}
+use Rattle.std.proofs.lemmas.Bool.{cases_eq, eqb-true, eqb-false, eq-eqb, ne_eqb, or_parts}
 use Rattle.std.proofs.lemmas.List.{reverse-append}
 use Rattle.std.proofs.lemmas.List.Elements.{filter-append}
 use Rattle.std.proofs.lemmas.List.Folds.{list_any-append}
@@ -16,7 +16,7 @@ use Rattle.buffer_pool.specs.declared.frame.Frame.{Frame}
 use Rattle.buffer_pool.specs.Frames.{State as Pool, frame_of, front_of, without, touched, cleared, cleared_at, is_framed, is_movable, coldest_movable, Knows, KnowsSame}
 use Rattle.buffer_pool.specs.Laws.{WithoutTakesOne, TouchKeepsFrames, ClearedKeepsFrames, ChangesOne}
 use Rattle.second_chance.specs.declared.frame.Frame.{Frame as Known}
-use Rattle.second_chance.specs.Queue.{Queue, has_frame, in_group, in_groups, group_read, groups_read, with_read, group_marks, front_marks}
+use Rattle.second_chance.specs.Queue.{Queue, has_frame, in_group, in_groups, group_marks, front_marks}
 use Rattle.second_chance.specs.Plans.{Placed, chances_of, chances_given}
 use Rattle.second_chance.specs.Machine.{rules_of, leaving, chance_frame, must_be_pushed}
 use Rattle.flash_cache.specs.declared.cache.FlashCache.{FlashCache}
@@ -109,19 +109,6 @@ pub tells_page : (pages next : List ℕ) (page : ℕ) (old mid new : PageStore) 
 tells_page pages next page old mid new is = tells_more (is_named pages) (λ n. n == page) (is_named next) old mid new
     (λ n. ap (λ (l : List ℕ). is_named l n) is ∙ list_any-append (λ (m : ℕ). m == n) pages (page ∷ []) ∙ ap (λ b. is_named pages n || b) (or_false (page == n) ∙ eq_turned page n))
 
--- A read leaves the pages of all frames.
-
-group_read_same : (page : ℕ) (group : List Known) (later : List (List Known)) (n : ℕ) → in_group (group_read page group later) n ≡ in_group group n
-group_read_same page [] later n = refl
-group_read_same page (f ∷ group) later n = ap (λ b. (f.page == n) || b) (group_read_same page group later n)
-
-groups_read_same : (page : ℕ) (groups : List (List Known)) (n : ℕ) → in_groups (groups_read page groups) n ≡ in_groups groups n
-groups_read_same page [] n = refl
-groups_read_same page (g ∷ later) n = (λ i. group_read_same page g later n i || groups_read_same page later n i)
-
-pub read_has : (page : ℕ) (queue : Queue) (n : ℕ) → has_frame (with_read page queue) n ≡ has_frame queue n
-read_has page queue n = groups_read_same page queue.groups n
-
 -- What may be pulled is known by what was told.
 
 each_found : (frames : List Frame) → AllByRecursion (λ (f : Frame). IsSome (frame_of frames f.page)) frames
@@ -157,14 +144,6 @@ module _ (store : PageStore) where
 
 -- Which pages have a frame after a push: those that aren't in the front group and aren't given have one as before.
 
-first_false : (a b : Bool) → (a || b) ≡ false → a ≡ false
-first_false true b is = is
-first_false false b is = refl
-
-second_false : (a b : Bool) → (a || b) ≡ false → b ≡ false
-second_false true b is = absurd (true≢false is)
-second_false false b is = is
-
 group_append : (xs ys : List Known) (n : ℕ) → in_group (xs ++ ys) n ≡ (in_group xs n || in_group ys n)
 group_append [] ys n = refl
 group_append (x ∷ xs) ys n = ap (λ b. (x.page == n) || b) (group_append xs ys n) ∙ sym (or_assoc (x.page == n) (in_group xs n) (in_group ys n))
@@ -181,7 +160,7 @@ marked_group (f ∷ group) later n = ap (λ b. (f.page == n) || b) (marked_group
 -- a page of no mark has no second chance
 no_placed : (front : List Mark) (i n : ℕ) → is_marked front n ≡ false → AllByRecursion (λ (p : Placed). (p.1.page == n) ≡ false) (enumerate_from i front)
 no_placed [] i n none = tt
-no_placed (m ∷ front) i n none = (first_false (m.page == n) (is_marked front n) none, no_placed front _ n (second_false (m.page == n) (is_marked front n) none))
+no_placed (m ∷ front) i n none = ((or_parts (m.page == n) (is_marked front n) none).0, no_placed front _ n (or_parts (m.page == n) (is_marked front n) none).1)
 
 all_filter : (P : Placed → Type 0) (test : Placed → Bool) (xs : List Placed) → AllByRecursion P xs → AllByRecursion P (filter test xs)
 all_filter P test [] all = tt
@@ -208,7 +187,7 @@ none_given : (pages : List ℕ) (changed : List Bool) (n : ℕ) → is_named pag
 none_given [] changed n none = refl
 none_given (page ∷ pages) [] n none = refl
 none_given (page ∷ pages) (c ∷ changed) n none =
-    ap (λ b. b || in_group (known_given pages changed) n) (first_false (page == n) (is_named pages n) none) ∙ none_given pages changed n (second_false (page == n) (is_named pages n) none)
+    ap (λ b. b || in_group (known_given pages changed) n) (or_parts (page == n) (is_named pages n) none).0 ∙ none_given pages changed n (or_parts (page == n) (is_named pages n) none).1
 
 module _ (cache : FlashCache) (pages : List ℕ) (changed : List Bool) (n : ℕ) where
   abbrev front : List Mark

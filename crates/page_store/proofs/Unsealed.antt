@@ -1,8 +1,7 @@
 -- Which changed pages have an LSN in the tail, before a push of a flush and behind it.
 use Rattle.std.proofs.Common.{◌≡◌, ℕ, zero, suc, ◌+◌, ◌*◌, Bool, true, false, not, ◌&&◌, ◌||◌, cond, List, [], ◌∷◌, get_or, take, map, filter, reverse, Some, arith, refl, sym, ap, ◌∙◌}
-use Rattle.std.proofs.lemmas.List.Folds.{list_any-append}
 use Rattle.std.specs.List.{AllByRecursion, list_any}
-use Rattle.std.proofs.lemmas.List.{reverse-append, get_or_default}
+use Rattle.std.proofs.lemmas.List.{get_or_default}
 use Rattle.std_lemmas.proofs.Lists.{any_reverse}
 use Rattle.std_lemmas.proofs.AllOf.{all_both, all_map, all_at}
 use Rattle.buffer_pool.specs.declared.frame.Frame.{Frame}
@@ -17,12 +16,6 @@ use Rattle.page_store.proofs.Flushes.{among_listed}
 -- some changed page passes a test
 abbrev pub some_changed : (List ℕ → Bool) → List Frame → Bool
 some_changed u frames = list_any (λ (f : Frame). f.changed && u f.content) frames
-
-or_swap : (a b : Bool) → (a || (b || false)) ≡ (b || a)
-or_swap true true = refl
-or_swap true false = refl
-or_swap false true = refl
-or_swap false false = refl
 
 any_filtered : (u : List ℕ → Bool) (xs : List Frame) → list_any u (map (λ (f : Frame). f.content) (filter (λ (f : Frame). f.changed) xs)) ≡ some_changed u xs
 any_filtered u [] = refl

@@ -1,40 +1,19 @@
 -- The version of a page is read.
-use Rattle.std.proofs.Common.{◌≡◌, ℕ, ◌<◌, ◌==◌, Bool, true, false, ◌&&◌, ◌||◌, List, [], ◌∷◌, refl, sym, ap, subst, ◌∙◌}
+use Rattle.std.proofs.Common.{◌≡◌, ℕ, ◌<◌, true, false, refl, sym, subst, ◌∙◌}
 use Rattle.flash_cache.proofs.Standing.{rings_later}
-use Rattle.std.proofs.Math.Bool.{or-false}
 use Rattle.std.specs.List.{AllByRecursion}
 use Rattle.site.specs.declared.outside.Dev.TheVariants.{Log, Flash, Disk}
 use Rattle.site.specs.declared.geometry.Geometry.{Geometry}
 use Rattle.site.specs.State.{State, Image}
 use Rattle.site.specs.Calls.{Preserves, IsUnchanged}
 use Rattle.slotted_page.specs.Layout.{IsSound}
-use Rattle.second_chance.specs.declared.frame.Frame.{Frame as Known}
-use Rattle.second_chance.specs.Queue.{Queue, in_group, in_groups, has_frame, is_last, group_read, groups_read, with_read}
+use Rattle.second_chance.specs.Queue.{has_frame}
 use Rattle.flash_cache.specs.declared.cache.FlashCache.{FlashCache}
 use Rattle.flash_cache.specs.Representation as flash_cache
 use Rattle.flash_cache.specs.Representation.{version_on, IsCleanOn}
 use Rattle.page_store.specs.declared.store.PageStore.{PageStore}
 use Rattle.page_store.specs.Representation.{IsPage, Invariant, Matches}
 use Rattle.page_store.proofs.ToldPages.{told_with}
-
--- a page without a frame leaves no mark
-group_same : (page : ℕ) (group : List Known) (later : List (List Known)) → in_group group page ≡ false → group_read page group later ≡ group
-group_same page [] later none = refl
-group_same page (frame ∷ behind) later none = by (frame.page == page) refl none (group_same page behind later)
-  where
-    by : (b : Bool) → (frame.page == page) ≡ b → (b || in_group behind page) ≡ false → (in_group behind page ≡ false → group_read page behind later ≡ behind) → group_read page (frame ∷ behind) later ≡ frame ∷ behind
-    by true is none rest = absurd cc
-    by false is none rest =
-        let mark : (frame.referenced || (frame.page == page && is_last behind later frame)) ≡ frame.referenced = ap (λ b. frame.referenced || (b && is_last behind later frame)) is ∙ or-false frame.referenced in
-        λ i. (let f : Known = record frame { referenced = mark i } in f) ∷ rest none i
-
-groups_same : (page : ℕ) (groups : List (List Known)) → in_groups groups page ≡ false → groups_read page groups ≡ groups
-groups_same page [] none = refl
-groups_same page (group ∷ later) none = by (in_group group page) refl none (groups_same page later)
-  where
-    by : (b : Bool) → in_group group page ≡ b → (b || in_groups later page) ≡ false → (in_groups later page ≡ false → groups_read page later ≡ later) → groups_read page (group ∷ later) ≡ group ∷ later
-    by true is none rest = absurd cc
-    by false is none rest = λ i. group_same page group later is i ∷ rest none i
 
 -- the cache goes on after any call
 pub flash_later : (cache : FlashCache) (old new : State) → Preserves old new → flash_cache.Invariant cache old → flash_cache.Invariant cache new

@@ -1,10 +1,12 @@
 -- The page store as the cache machine.
-use Rattle.std.specs.Prelude.{ℕ, ◌+◌, nat_le, Bool, false, true, ◌&&◌, List, [], ◌∷◌, length, map, reverse}
+use Rattle.std.specs.Prelude.{ℕ, nat_le, Bool, false, true, ◌&&◌, List, [], ◌∷◌, length, map, reverse}
 use Rattle.std.specs.Prelude.{if◌then◌else◌}
 use Rattle.buffer_pool.specs.declared.frame.Frame.{Frame}
 use Rattle.second_chance.specs.Queue.{Queue}
 use Rattle.second_chance.specs.Machine.{Rules, rules_of, PoolPage, Cache, must_be_pushed, lacks_room, evict_coldest}
 use Rattle.page_store.specs.declared.store.PageStore.{PageStore}
+-- the number of the group that the next push appends
+pub use Rattle.second_chance.specs.Machine.{next_group}
 
 -- what the machine knows of a page in the pool
 abbrev pub pool_page : Frame → PoolPage
@@ -16,10 +18,6 @@ cache_of store = record { pool = map pool_page store.pool.frames; queue = store.
 
 abbrev pub rules : PageStore → Rules
 rules store = rules_of store.pool.size store.flash.geometry.groups
-
--- the number of the group that the next push appends
-abbrev pub next_group : Cache → ℕ
-next_group cache = cache.queue.first + length cache.queue.groups
 
 -- whether the pool has as many pages as it may have
 abbrev pub is_full : PageStore → Bool

@@ -7,4 +7,3 @@ pub mod Looked
 pub mod Pushed
 pub mod Touched
 pub mod Listed
-pub mod Slots

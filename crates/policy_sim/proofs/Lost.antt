@@ -7,7 +7,7 @@ use Rattle.std_lemmas.proofs.Bools.{eq_turned, and_true, or_without, or_assoc}
 use Rattle.byte_fields.specs.declared.frame_head.Mark.{Mark}
 use Rattle.second_chance.specs.declared.frame.Frame.{Frame}
 use Rattle.second_chance.specs.declared.plan.Plan.{Plan}
-use Rattle.second_chance.specs.Queue.{Queue, frame_of, front_marks, group_marks, has_frame, in_group, in_groups, pushed, with_read, group_read, groups_read}
+use Rattle.second_chance.specs.Queue.{Queue, frame_of, front_marks, group_marks, has_frame, in_group, in_groups, pushed}
 use Rattle.second_chance.specs.Machine.{PoolPage, holds, without}
 use Rattle.second_chance.specs.Laws.{given_again, names}
 use Rattle.policy_sim.specs.Pools.{group_of, pulled_frames}
@@ -133,19 +133,6 @@ still_framed full front queue plan own pool n is gone held =
     let stays = stays_in plan.pulled pool n held in
     let other : (own.page == n) ≡ false = ne_eqb own.page n (λ same. let bad : true ≡ false = sym stays.1 ∙ ap (holds pool) (sym same) ∙ gone in cc) in
     pushed_frames full front queue (group_of front plan own pool) n is (new_there front plan own pool n other stays.0)
-
--- A read leaves the pages of all frames.
-
-group_read_same : (page : ℕ) (group : List Frame) (later : List (List Frame)) (n : ℕ) → in_group (group_read page group later) n ≡ in_group group n
-group_read_same page [] later n = refl
-group_read_same page (f ∷ group) later n = ap (λ b. (f.page == n) || b) (group_read_same page group later n)
-
-groups_read_same : (page : ℕ) (groups : List (List Frame)) (n : ℕ) → in_groups (groups_read page groups) n ≡ in_groups groups n
-groups_read_same page [] n = refl
-groups_read_same page (g ∷ later) n = (λ i. group_read_same page g later n i || groups_read_same page later n i)
-
-pub read_same : (page : ℕ) (queue : Queue) (n : ℕ) → has_frame (with_read page queue) n ≡ has_frame queue n
-read_same page queue n = groups_read_same page queue.groups n
 
 -- the marks one by one
 pub unless_more : (front : List Mark) (mark : Mark) (queue : Queue) (framed : ℕ → Bool) (n : ℕ)

@@ -144,14 +144,6 @@ split_last (f ∷ g ∷ es) e is =
 pub last_page : (es : Entries) (e : ℕ × Kept) → last_entry es ≡ Some e → pages_in es ≡ pages_in (take (length es - 1) es) ++ entry_page e ∷ []
 last_page es e is = ap pages_in (split_last es e is) ∙ map-append entry_page (take (length es - 1) es) (e ∷ [])
 
-pub none_last : (es : Entries) → last_entry es ≡ None → es ≡ []
-none_last [] is = refl
-none_last (f ∷ []) is = absurd (none-some f (sym is))
-none_last (f ∷ g ∷ es) is =
-    let more : length (f ∷ g ∷ es) - 1 ≡ suc (length (g ∷ es) - 1) = omega arith in
-    let rest : g ∷ es ≡ [] = none_last (g ∷ es) (sym (ap (slice_get (f ∷ g ∷ es)) more) ∙ is) in
-    absurd (let n : length (g ∷ es) ≡ 0 = ap length rest in omega (arith, n))
-
 -- Pages taken out one by one.
 
 pub without_none : (pool : List PoolPage) → pool ≡ without (names []) pool

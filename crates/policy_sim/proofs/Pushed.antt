@@ -3,18 +3,17 @@ use Rattle.std.proofs.Common.{◌≡◌, ℕ, zero, suc, ◌+◌, ◌-◌, ◌<�
 use Rattle.std.specs.Prelude.{filter_map, option_map}
 use Rattle.std.proofs.lemmas.Bool.{ltb-true, ltb-false}
 use Rattle.std.proofs.lemmas.Option.{slice_get_read}
-use Rattle.std.proofs.lemmas.List.{length-map, length-take, length-drop, take-take}
+use Rattle.std.proofs.lemmas.List.{length-map, length-drop, take-take}
 use Rattle.std.proofs.lemmas.List.Elements.{filter_map-append}
 use Rattle.byte_fields.specs.declared.frame_head.Mark.{Mark}
 use Rattle.second_chance.specs.declared.frame.Frame.{Frame}
 use Rattle.second_chance.specs.declared.plan.Plan.{Plan}
 use Rattle.second_chance.specs.declared.plan.PoolMark.{PoolMark}
 use Rattle.second_chance.specs.Queue.{Queue, frame_of, pushed}
-use Rattle.second_chance.specs.Plans.{Placed, chances_of, staged_of, pulled_at_eviction, eviction_plan}
+use Rattle.second_chance.specs.Plans.{Placed, chances_of, staged_of, eviction_plan}
 use Rattle.second_chance.specs.Machine.{Rules, PoolPage, Cache, without, is_full, leaving, pool_marks, push_evicted, staged_in_push}
 use Rattle.second_chance.specs.Laws.{AreApart, EvictionIsPlanned, names, given_again, eviction_done, plan_for_eviction}
 use Rattle.policy_sim.specs.Pools.{is_movable, group_of}
-use Rattle.second_chance.proofs.Flushes.{few_chances}
 
 -- The first seven candidates are enough for a plan.
 
@@ -45,28 +44,6 @@ seven_are_enough true given front pool =
     let room : ℕ = 8 - 1 - length (chances_of given front) in
     ap (λ (l : List PoolMark). plan_with given front (take room l)) (filter_taken 7 pool)
     ∙ ap (plan_with given front) (take-take room 7 (filter is_movable pool) (omega arith))
-
--- where nothing is pulled the pool doesn't matter
-pub none_are_enough : (pulls given : Bool) (front : List Mark) (some pool : List PoolMark) → pulls ≡ false
-    → eviction_plan pulls given front some ≡ eviction_plan pulls given front pool
-none_are_enough true given front some pool is = absurd cc
-none_are_enough false given front some pool is = refl
-
--- What a plan takes fits a group, beside the evicted page.
-
-few_pulled : (pulls given : Bool) (front : List Mark) (pool : List PoolMark) → length (pulled_at_eviction pulls given front pool) ≤ 7 - length (chances_of given front)
-few_pulled true given front pool = omega (arith, length-take (8 - 1 - length (chances_of given front)) (filter is_movable pool))
-few_pulled false given front pool = omega arith
-
-pub plan_fits : (pulls given : Bool) (front : List Mark) (pool : List PoolMark)
-    → length (eviction_plan pulls given front pool).chances + length (eviction_plan pulls given front pool).pulled ≤ 7
-plan_fits pulls given front pool = omega (
-  arith,
-  few_chances given front,
-  few_pulled pulls given front pool,
-  length-map (chances_of given front) (λ (f : Placed). f.0),
-  length-map (pulled_at_eviction pulls given front pool) (λ (p : PoolMark). p.page),
-)
 
 -- The frames of the new group, one by one.
 

@@ -1,14 +1,14 @@
 -- The list of the pages that a push may take, as pages come and go.
-use Rattle.std.proofs.Common.{Ordering, Less, Equal, Greater, ◌≡◌, ℕ, ◌<◌, ◌≤◌, ◌==◌, ◌&&◌, ◌||◌, nat_eq, Bool, true, false, not, cond, List, [], ◌∷◌, ◌++◌, map, Some, arith, refl, sym, ap, subst, ◌∙◌, append-nil, append_assoc}
+use Rattle.std.proofs.Common.{◌≡◌, ℕ, ◌<◌, ◌≤◌, ◌==◌, ◌&&◌, ◌||◌, nat_eq, Bool, true, false, not, cond, List, [], ◌∷◌, ◌++◌, map, Some, arith, refl, sym, ap, subst, ◌∙◌, append-nil, append_assoc}
 use Rattle.std.specs.Prelude.{unwrap_or}
 use Rattle.std.specs.List.{AllByRecursion, IsDistinct}
 use Rattle.std.specs.Map.{keys_of, lookup, remove_entry, set_value}
-use Rattle.std.specs.Ordering.{nat_cmp, match_ordering}
-use Rattle.std.specs.Cmp.{nat_cmp_is, unsigned_tied}
+use Rattle.std.specs.Ordering.{nat_cmp}
 use Rattle.std.specs.BTreeMap.{insert_entry, is_at}
 use Rattle.std.proofs.lemmas.Bool.{ne_eqb, eqb-true, eqb-false, eq-eqb}
 use Rattle.std.proofs.lemmas.List.{map-append}
 use Rattle.std_lemmas.proofs.Bools.{and_false, and_true, or_true}
+use Rattle.std_lemmas.proofs.Entries.{at_same, AreBelow, below_append, below_weaker, insert_before, insert_last, kept_behind, skipped}
 use Rattle.second_chance.specs.declared.plan.PoolMark.{PoolMark}
 use Rattle.second_chance.specs.Queue.{Queue, has_frame}
 use Rattle.second_chance.specs.Machine.{holds, pool_mark}
@@ -21,40 +21,13 @@ use Rattle.policy_sim.proofs.Pooled.{Entries, movable_more}
 abbrev pub Listed : Type 0
 Listed = List (ℕ × Entry)
 
--- numbers of touches, compared
-
-at_is : (s t : ℕ) → is_at (nat_cmp s) t ≡ (s == t)
-at_is s t = unsigned_tied s t
-
-at_same : (s : ℕ) → is_at (nat_cmp s) s ≡ true
-at_same s = at_is s s ∙ eq-eqb s s refl
-
-at_greater : (s t : ℕ) → t < s → is_at (nat_cmp s) t ≡ false
-at_greater s t less = at_is s t ∙ ne_eqb s t (λ same. omega (arith, same, less))
-
-at_less : (s t : ℕ) → s < t → is_at (nat_cmp s) t ≡ false
-at_less s t less = at_is s t ∙ ne_eqb s t (λ same. omega (arith, same, less))
-
--- all of a list are older
-
-abbrev pub AreBelow : ℕ → Listed → Type 0
-AreBelow bound ws = AllByRecursion (λ w. w.0 < bound) ws
-
-below_weaker : (a b : ℕ) (ws : Listed) → a ≤ b → AreBelow a ws → AreBelow b ws
-below_weaker a b [] le all = tt
-below_weaker a b (w ∷ ws) le all = let less = all.0 in (omega (arith, le, less), below_weaker a b ws le all.1)
-
-below_append : (bound : ℕ) (xs ys : Listed) → AreBelow bound xs → AreBelow bound ys → AreBelow bound (xs ++ ys)
-below_append bound [] ys x y = y
-below_append bound (w ∷ xs) ys x y = (x.0, below_append bound xs ys x.1 y)
-
 pub listed_below : (bound : ℕ) (es : Entries) → AreStamped bound es → AreBelow bound (listed_of es)
 listed_below bound [] stamped = tt
 listed_below bound (e ∷ es) stamped =
     let less = stamped.0 in
     below_append bound (listed_of es) (if_listed e) (below_weaker e.1.stamp bound (listed_of es) (omega (arith, less)) (listed_below e.1.stamp es stamped.1)) (own e.1.listed)
   where
-    own : (b : Bool) → AreBelow bound (cond b ((e.1.stamp, record { page = e.0; changed = e.1.changed }) ∷ []) [])
+    own : (b : Bool) → AreBelow {V = Entry} bound (cond b ((e.1.stamp, record { page = e.0; changed = e.1.changed }) ∷ []) [])
     own true = (stamped.0, tt)
     own false = tt
 
@@ -80,22 +53,6 @@ kept_below bound k (e ∷ es) stamped listed = by (nat_eq k e.0) listed (kept_be
     by false there later = let less = stamped.0 in let rest = later there in omega (arith, less, rest)
 
 -- Taking off the list.
-
-skipped : (s : ℕ) (xs ys : Listed) → AreBelow s xs → remove_entry (is_at (nat_cmp s)) (xs ++ ys) ≡ xs ++ remove_entry (is_at (nat_cmp s)) ys
-skipped s [] ys below = refl
-skipped s (x ∷ xs) ys below =
-    ap (λ b. cond b (xs ++ ys) (x ∷ remove_entry (is_at (nat_cmp s)) (xs ++ ys))) (at_greater s x.0 below.0)
-    ∙ ap (λ (l : Listed). x ∷ l) (skipped s xs ys below.1)
-
--- a younger one behind stays
-kept_behind : (s : ℕ) (xs : Listed) (w : ℕ × Entry) → s < w.0 → remove_entry (is_at (nat_cmp s)) (xs ++ w ∷ []) ≡ remove_entry (is_at (nat_cmp s)) xs ++ w ∷ []
-kept_behind s [] w less = ap (λ b. cond b [] (w ∷ [])) (at_less s w.0 less)
-kept_behind s (x ∷ xs) w less = by (is_at (nat_cmp s) x.0) (kept_behind s xs w less)
-  where
-    by : (b : Bool) → remove_entry (is_at (nat_cmp s)) (xs ++ w ∷ []) ≡ remove_entry (is_at (nat_cmp s)) xs ++ w ∷ []
-        → cond b (xs ++ w ∷ []) (x ∷ remove_entry (is_at (nat_cmp s)) (xs ++ w ∷ [])) ≡ cond b xs (x ∷ remove_entry (is_at (nat_cmp s)) xs) ++ w ∷ []
-    by true rest = refl
-    by false rest = ap (λ (l : Listed). x ∷ l) rest
 
 abbrev one_listed : ℕ × Kept → Bool → Listed
 one_listed e b = cond b ((e.1.stamp, record { page = e.0; changed = e.1.changed }) ∷ []) []
@@ -154,23 +111,6 @@ gone_front (f ∷ front) e distinct = ap (λ b. b || holds (pages_in front) e.0)
     last (g ∷ front) all = last front all.1
 
 -- Putting on the list.
-
-pub insert_last : (s : ℕ) (v : Entry) (xs : Listed) → AreBelow s xs → insert_entry nat_cmp xs s v ≡ xs ++ (s, v) ∷ []
-insert_last s v [] below = refl
-insert_last s v (x ∷ xs) below =
-    ap (λ (o : Ordering). match_ordering o ((s, v) ∷ x ∷ xs) ((x.0, v) ∷ xs) (x ∷ insert_entry nat_cmp xs s v)) (sym (nat_cmp_is s x.0 Greater below.0))
-    ∙ ap (λ (l : Listed). x ∷ l) (insert_last s v xs below.1)
-
-insert_before : (s : ℕ) (v : Entry) (xs : Listed) (w : ℕ × Entry) → s < w.0 → insert_entry nat_cmp (xs ++ w ∷ []) s v ≡ insert_entry nat_cmp xs s v ++ w ∷ []
-insert_before s v [] w less = ap (λ (o : Ordering). match_ordering o ((s, v) ∷ w ∷ []) ((w.0, v) ∷ []) (w ∷ (s, v) ∷ [])) (sym (nat_cmp_is s w.0 Less less))
-insert_before s v (x ∷ xs) w less = by (nat_cmp s x.0) (insert_before s v xs w less)
-  where
-    by : (o : Ordering) → insert_entry nat_cmp (xs ++ w ∷ []) s v ≡ insert_entry nat_cmp xs s v ++ w ∷ []
-        → match_ordering o ((s, v) ∷ x ∷ xs ++ w ∷ []) ((x.0, v) ∷ xs ++ w ∷ []) (x ∷ insert_entry nat_cmp (xs ++ w ∷ []) s v)
-        ≡ match_ordering o ((s, v) ∷ x ∷ xs) ((x.0, v) ∷ xs) (x ∷ insert_entry nat_cmp xs s v) ++ w ∷ []
-    by Less rest = refl
-    by Equal rest = refl
-    by Greater rest = ap (λ (l : Listed). x ∷ l) rest
 
 -- a page that comes to the front
 pub enlisted_front : (k : ℕ) (kept : Kept) (es : Entries) → AreStamped kept.stamp es → enlisted k kept (listed_of es) ≡ listed_of ((k, kept) ∷ es)

@@ -1,9 +1,9 @@
 -- Lists, as serial order needs them.
 use Rattle.std.proofs.Common.{◌≡◌, ℕ, zero, suc, ◌+◌, ◌<◌, ◌≤◌, Bool, true, false, cond, List, [], ◌∷◌, length, Option, Some, None, inl, inr, refl, ap, ◌∙◌, subst, arith}
-use Rattle.std.specs.Prelude.{◌==◌, ◌||◌, filter_map, find, slice_index_or, slice_set, replicate, map}
+use Rattle.std.specs.Prelude.{◌==◌, filter_map, find, slice_index_or, slice_set, replicate, map}
 use Rattle.std.specs.List.{range_with_len, AllByRecursion, cons_option}
 use Rattle.std.proofs.lemmas.Bool.Decides.{nat_tests}
-use Rattle.std.proofs.lemmas.Bool.{cases_Bool, eqb-true, eqb-false, or_parts}
+use Rattle.std.proofs.lemmas.Bool.{cases_Bool, eqb-true, eqb-false}
 
 -- Tests.
 
@@ -13,9 +13,6 @@ not_both false h k = absurd cc
 
 pub same_is : (m : ℕ) → (m == m) ≡ true
 same_is m = grind (arith, nat_tests)
-
-pub left_of : (a b : Bool) → (a || b) ≡ false → a ≡ false
-left_of a b h = (or_parts a b h).0
 
 -- Places.
 

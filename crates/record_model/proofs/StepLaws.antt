@@ -14,19 +14,9 @@ use Rattle.record_model.specs.declared.words.Reply.{Reply}
 use Rattle.record_model.specs.declared.words.Reply.TheVariants as reply
 use Rattle.record_model.specs.State.{kept_by_checkpoint, Content, Session, State, table_with, session_at, writes_of, seen, content_at, busy_read, busy_write}
 use Rattle.record_model.specs.State as state
-use Rattle.record_model.specs.Step.{lacks_room, wants_checkpoint, Outcome, step, outcome, refusal, first_refusal, refuse_if, wants_active, wants_record, wants_short, may_read, may_write, ready, effect, answer, found}
+use Rattle.record_model.specs.Step.{lacks_room, wants_checkpoint, Outcome, outcome, refusal, first_refusal, refuse_if, wants_active, wants_record, wants_short, may_read, may_write, ready, effect, answer, found}
 use Rattle.record_model.specs.Run.{is_committed}
 use Rattle.record_model.specs.Laws.{IsCountedIn, KeepsSizes, CommitsOnce, SizesStay, RefusedChangesNothing}
-
--- a command that is refused before the budget is looked at leaves the state as it was
-pub step_refused : (checkpoints : Bool) (s : State) (command : Command) (listing : List CacheLine) (refused : Reply) → refusal s command ≡ Some refused →
-    step checkpoints s command listing ≡ record { after = s; reply = refused }
-step_refused checkpoints s command listing refused h = ap (outcome checkpoints s command listing) h
-
--- a commit is refused only where the session isn't active
-pub step_commit : (checkpoints : Bool) (s : State) (n : ℕ) (listing : List CacheLine) (session : Session) → session_at s n ≡ Some session →
-    (step checkpoints s (Commit n) listing).reply ≡ reply.Committed (s.commits + 1)
-step_commit checkpoints s n listing session h = rw h refl
 
 -- Sizes.
 

@@ -1,6 +1,5 @@
 -- What a page shows behind one more record.
 use Rattle.std.proofs.Common.{◌≡◌, ◌≢◌, ◌⊎◌, inl, inr, ℕ, ◌+◌, ◌*◌, ◌/◌, ◌≤◌, ◌<◌, ◌==◌, cond, false, List, [], ◌∷◌, ◌++◌, length, Option, None, Some, refl, sym, ap, subst, ◌∙◌, arith}
-use Rattle.std.specs.List.{AllByRecursion}
 use Rattle.std.proofs.lemmas.Bool.{cases_eq, ne_eqb, eq-eqb}
 use Rattle.std.proofs.lemmas.Option.{none-some, same_Some}
 use Rattle.site.specs.declared.geometry.Geometry.{Geometry}
@@ -11,7 +10,7 @@ use Rattle.slotted_page.specs.Layout.{lsn_of}
 use Rattle.log_store.specs.declared.store.LogStore.{LogStore}
 use Rattle.log_store.specs.Representation.{end_of}
 use Rattle.page_store.specs.declared.store.PageStore.{PageStore}
-use Rattle.page_store.specs.Representation.{current, content_by, Matches, IsPage}
+use Rattle.page_store.specs.Representation.{current, content_by, Matches}
 use Rattle.page_store.specs.Ahead.{IsAhead}
 use Rattle.flash_cache.specs.Representation.{version_on}
 use Rattle.buffer_pool.specs.declared.frame.Frame.{Frame}
@@ -128,11 +127,6 @@ other_pages g log pages pages' site newest records table commits fits are_ahead 
   ahead = are_ahead;
   room = h.room;
 }
-
--- The page in front of the pool.
-pub front_exists : (count : ℕ) (frames : List Frame) → 0 < length frames → AllByRecursion (IsPage count) frames → (front_of frames).page < count
-front_exists count [] some all = absurd (omega (arith, some))
-front_exists count (frame ∷ frames) some all = all.0.exists
 
 pub front_is_current : (pages : PageStore) (image : Image) → 0 < length pages.pool.frames → current pages image (front_of pages.pool.frames).page ≡ (front_of pages.pool.frames).content
 front_is_current pages image some = ap (λ o. content_by o (version_on pages.flash.geometry image (front_of pages.pool.frames).page)) (found pages.pool.frames some)

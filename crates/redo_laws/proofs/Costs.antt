@@ -1,10 +1,9 @@
 -- What work costs the cache: the groups that it appends, and the pages that it reads.
-use Rattle.std.proofs.Common.{◌≡◌, ℕ, ◌+◌, ◌≤◌, Bool, true, false, ◌&&◌, List, [], ◌∷◌, ◌++◌, length, reverse, arith, refl, sym, append_assoc, ap, ◌∙◌}
+use Rattle.std.proofs.Common.{◌≡◌, ℕ, ◌+◌, ◌≤◌, Bool, true, false, ◌&&◌, List, [], ◌∷◌, ◌++◌, reverse, arith, refl, sym, append_assoc, ap, ◌∙◌}
 use Rattle.std.specs.Prelude.{if◌then◌else◌}
-use Rattle.second_chance.proofs.Unread.{length-groups_read}
+use Rattle.second_chance.proofs.GroupCounts.{front_next}
 use Rattle.record_model.specs.Touches.{CacheWork, touch, flush}
-use Rattle.second_chance.specs.Queue.{with_read}
-use Rattle.second_chance.specs.Machine.{Rules, Cache, holds, evict_coldest, lacks_room, with_room, in_front, touched, worked, after_works, Staged, staged_by, staged_by_works}
+use Rattle.second_chance.specs.Machine.{Rules, Cache, evict_coldest, lacks_room, with_room, touched, worked, after_works, Staged, staged_by, staged_by_works}
 use Rattle.page_store.specs.Caching.{is_pushed, pushes}
 use Rattle.redo_laws.specs.MachineSteps.{next_group, finds_in, misses_in, WorksAddUp, ReadsAddUp, ReadsForMore, NumbersRise}
 use Rattle.page_store.proofs.Numbers.{first_next, flushed_next}
@@ -46,13 +45,6 @@ room_next rules page cache some = by (lacks_room rules page cache)
     by : (b : Bool) → next_group (if b then evict_coldest rules cache else cache) ≡ next_group cache + (if b && is_pushed cache then 1 else 0)
     by true = first_next rules (reverse cache.pool) cache some
     by false = omega arith
-
-front_next : (page : ℕ) (change : Bool) (cache : Cache) → next_group (in_front page change cache) ≡ next_group cache
-front_next page change cache = by (holds cache.pool page)
-  where
-    by : (b : Bool) → (if b then cache.queue else with_read page cache.queue).first + length (if b then cache.queue else with_read page cache.queue).groups ≡ next_group cache
-    by true = refl
-    by false = ap (λ n. cache.queue.first + n) (length-groups_read page cache.queue.groups)
 
 -- a touch appends a group where it pushes
 pub touched_next : (rules : Rules) (page : ℕ) (change : Bool) (cache : Cache) → 1 ≤ rules.groups →

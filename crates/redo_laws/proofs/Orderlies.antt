@@ -5,7 +5,8 @@ use Rattle.site.specs.State.{State}
 use Rattle.record_model.specs.State.{Content}
 use Rattle.log_records.specs.declared.log_record.LogRecord.{LogRecord}
 use Rattle.log_records.specs.Log.{Entry, Version}
-use Rattle.log_records.specs.Sound.{Picture, InTurn, IsOrderly, AreOrderly}
+use Rattle.log_records.specs.Sound.{Picture, IsOrderly, AreOrderly}
+use Rattle.log_laws.proofs.Tails.{InTurn-left}
 use Rattle.log_laws.specs.Follow.{Follows, next_entries}
 use Rattle.log_laws.specs.Tail.{Carries, whole, next_lsn}
 use Rattle.log_laws.specs.TailLaws.{WholeStaysOrderly}
@@ -17,13 +18,9 @@ use Rattle.redo_laws.specs.Running.{RunsOn}
 use Rattle.redo_laws.specs.Committing.{EndsWith}
 use Rattle.redo_laws.specs.Laws.{LogLaws}
 
-in_turn_front : {X : Type 0} (P : List X → X → Type 0) (earlier xs ys : List X) → InTurn P earlier (xs ++ ys) → InTurn P earlier xs
-in_turn_front P earlier [] ys all = tt
-in_turn_front P earlier (x ∷ xs) ys all = (all.0, in_turn_front P (earlier ++ x ∷ []) xs ys all.1)
-
 -- the sealed records of an orderly log are orderly
 pub sealed_orderly : (p : Picture) (tail : List LogRecord) (records : List Entry) (table : List Content) (commits : ℕ) → RunsOn p tail records table commits → AreOrderly records → AreOrderly p.log
-sealed_orderly p tail records table commits runs orderly = in_turn_front IsOrderly [] p.log (next_entries p tail) (subst AreOrderly (sym runs.records_are) orderly)
+sealed_orderly p tail records table commits runs orderly = InTurn-left IsOrderly [] p.log (next_entries p tail) (subst AreOrderly (sym runs.records_are) orderly)
 
 -- a record that follows an orderly log, and comes last in it, keeps it orderly
 pub ends_orderly : LogLaws → WholeStaysOrderly → (g : Geometry) (log : LogStore) (pages : PageStore) (site : State) (newest : Option Master) (records : List Entry) (table : List Content) (commits : ℕ) (rec : LogRecord) (lsn : ℕ) (versions : List Version) →

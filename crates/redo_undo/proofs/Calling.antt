@@ -262,14 +262,14 @@ pub keeps_redoing : PageLaws → RedoLaws → {T : Type 0} {x : T} {o : Opening}
     Keeps {T = T} (Ok x) pages.flash.geometry log log site site (LeavesOpened o site.told) 0 0
 keeps_redoing laws redo {T = T} {x = x} sizes h = keeps_opened laws redo sizes h unchanged (λ d is. no_error {T = T} {x = x} {e = Worn d} is) (no_error {T = T} {x = x} {e = Foreign})
 
-found_worn : (stop : Stop) → (stop ≡ Memory) ⊎ (stop ≡ Foreign) → (d : Dev) → stop ≢ Worn d
-found_worn stop (inl is) = λ d same. cc
-found_worn stop (inr is) = λ d same. cc
+pub not_worn : (stop : Stop) → (stop ≡ Memory) ⊎ (stop ≡ Foreign) → (d : Dev) → stop ≢ Worn d
+not_worn stop (inl is) = λ d same. cc
+not_worn stop (inr is) = λ d same. cc
 
 pub keeps_refused_by : PageLaws → RedoLaws → {T : Type 0} {stop : Stop} {o : Opening} {log : LogStore} {pages : PageStore} {site : State} {front : List Entry} → (stop ≡ Memory) ⊎ (stop ≡ Foreign) → log.geometry ≡ pages.flash.geometry → IsRedoing o log pages site front → stop ≢ Foreign →
     Keeps {T = T} (Err stop) pages.flash.geometry log log site site (LeavesOpened o site.told) 0 0
 keeps_refused_by laws redo {stop = stop} stops sizes h readable =
-    keeps_opened laws redo sizes h unchanged (λ d is. found_worn stop stops d (let same : stop ≡ Worn d = cc in same)) (λ is. readable (let same : stop ≡ Foreign = cc in same))
+    keeps_opened laws redo sizes h unchanged (λ d is. not_worn stop stops d (let same : stop ≡ Worn d = cc in same)) (λ is. readable (let same : stop ≡ Foreign = cc in same))
 
 -- where only a record is read
 pub keeps_read : {T : Type 0} {r : Result T Stop} {log : LogStore} {pages : PageStore} {before now : State} {newest : Option Master} {records : List Entry} {table : List Content} {commits : ℕ} →

@@ -97,9 +97,6 @@ module _ (log log' : LogStore) (pages pages' : PageStore) (before now : State) (
   abbrev sealing : Bool
   sealing = forces log (pushed_by_touch pages page)
 
-  abbrev touched_then : Machine → Machine
-  touched_then m = record m { cache = touched (rules pages) page false m.cache; tail = sealed_if (list_any (waits m.tail) (pushed_by (rules pages) (touch page false) m.cache)) m.tail }
-
   -- as the log is sealed
   step : (m : Machine) → Mirrors log pages before.image m → worked (rules pages) (cached (touch page false)) m ≡ record m { cache = touched (rules pages) page false (cache_of pages); tail = sealed_if sealing m.tail }
   step m is =

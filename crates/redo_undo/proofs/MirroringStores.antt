@@ -1,5 +1,5 @@
 -- What calls on a store make of the machine that mirrors it.
-use Rattle.std.proofs.Common.{◌≡◌, ◌⊎◌, ℕ, ◌+◌, ◌^◌, ◌≤◌, false, List, [], ◌∷◌, ◌++◌, Option, Some, None, inl, inr, ◌*◌, ◌<◌, refl, sym, ap, subst, ◌∙◌, arith}
+use Rattle.std.proofs.Common.{◌≡◌, ◌⊎◌, ℕ, ◌+◌, ◌^◌, ◌≤◌, false, List, [], ◌∷◌, ◌++◌, Some, inl, inr, ◌*◌, ◌<◌, refl, sym, ap, subst, ◌∙◌, arith}
 use Rattle.std.specs.Prelude.{Result, Ok, Err, OnOk, IfErr, IsErrOf}
 use Rattle.std.specs.List.{list_any}
 use Rattle.std.proofs.lemmas.Bool.{or_from}
@@ -10,14 +10,13 @@ use Rattle.site.specs.declared.outside.Stop.{Stop}
 use Rattle.site.specs.declared.outside.Stop.TheVariants.{Device, Worn}
 use Rattle.site.specs.State.{State, Image}
 use Rattle.site.proofs.Working.{no_error}
-use Rattle.record_model.specs.State.{Content}
 use Rattle.log_records.specs.Log.{Entry, number_of, before_of}
-use Rattle.ring_machine.specs.Machine.{Machine, Work, save, worked, past_end}
+use Rattle.ring_machine.specs.Machine.{Machine, Work, save, past_end}
 use Rattle.ring_machine.specs.Commands.{ends}
-use Rattle.ring_machine.specs.Restart.{clr_on, clr_work}
+use Rattle.ring_machine.specs.Restart.{clr_work}
 use Rattle.ring_machine.specs.Performing.{Performs}
 use Rattle.ring_machine.proofs.Works.{first_of_one}
-use Rattle.ring_machine.proofs.Ends.{saves_one, masters_stay, never_past, masters_past}
+use Rattle.ring_machine.proofs.Ends.{saves_one, masters_stay, clr_saves_none, never_past, masters_past}
 use Rattle.ring_machine.proofs.Performing.{performs_with}
 use Rattle.sealed_ring.specs.declared.ring.Ring.{Ring}
 use Rattle.write_ahead.specs.Forcing.{is_unsealed, end_now}
@@ -34,11 +33,6 @@ pub store_performs : {T : Type 0} {result : Result T Stop} {works : List Work} {
 store_performs {works = works} {old = old} none same performs =
     performs_with (λ m is. is.both) (λ m is both. record { both = both; masters = masters_stay (rules old.pages) works m none ∙ is.masters ∙ sym (ap (λ (r : Ring). r.hi) same) }) performs
 
--- CLRs save none
-clr_saves_none : (before : Content) (number : Option ℕ) → list_any saves_one (clr_on before number) ≡ false
-clr_saves_none before None = refl
-clr_saves_none before (Some number) = refl
-
 pub clrs_save_none : (updates : List Entry) → list_any saves_one (clrs_for updates) ≡ false
 clrs_save_none [] = refl
 clrs_save_none (u ∷ updates) =
@@ -51,9 +45,6 @@ undoing_saves_none updates = list_any-append saves_one (clrs_for updates) ends �
 -- A master unit is saved.
 
 module _ (old new : Store) (before now : State) (numbers : HasNumbersLeft old.log old.pages) where
-  save_step : (m : Machine) → MirrorsStore old before.image m → past_end (worked (rules old.pages) save m) ≡ past_end (record m { masters = m.masters + 1 })
-  save_step m is = refl
-
   pub save_performs : {T : Type 0} (result : Result T Stop) → (IsErrOf result (Worn Log) → old.masters.hi ≡ 2 ^ 40) → IfErr result (λ stop. (stop ≡ Device Log) ⊎ (stop ≡ Worn Log)) → OnOk result (new.masters.hi ≡ old.masters.hi + 1) → OnOk result (new.masters.hi ≤ 2 ^ 40) →
       OnOk result (new.log.ring.hi ≡ old.log.ring.hi) → OnOk result (new.log.used ≡ old.log.used) → new.pages ≡ old.pages → ((page : ℕ) → current old.pages now.image page ≡ current old.pages before.image page) → PerformsStore result (save ∷ []) old new before now
   save_performs {T = T} (Err stop) at_end stops one most hi used same kept = record {

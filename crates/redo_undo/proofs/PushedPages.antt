@@ -1,15 +1,14 @@
 -- The pages that a touch pushes, by the machine and by the pool, and whether one of them waits for the log.
-use Rattle.std.proofs.Common.{◌≡◌, ◌≢◌, ℕ, zero, suc, ◌+◌, ◌-◌, ◌*◌, ◌<◌, Bool, true, false, cond, not, ◌&&◌, ◌||◌, nat_lt, nat_le, List, [], ◌∷◌, map, filter, reverse, length, take, Option, Some, refl, sym, ap, subst, ◌∙◌, arith, eq-eqb, ne_eqb}
+use Rattle.std.proofs.Common.{◌≡◌, ℕ, zero, suc, ◌+◌, ◌-◌, ◌*◌, ◌<◌, Bool, true, false, cond, not, ◌&&◌, ◌||◌, nat_lt, nat_le, List, [], ◌∷◌, map, filter, reverse, length, take, Option, Some, refl, sym, ap, subst, ◌∙◌, arith}
 use Rattle.std.specs.Prelude.{if◌then◌else◌}
 use Rattle.std.specs.List.{AllByRecursion, list_any}
 use Rattle.std.proofs.lemmas.Bool.{and_right, ltb-true, lt-leb}
-use mathlib.Core.List.{reverse_aux}
 use Rattle.std_lemmas.proofs.AllOf.{all_both, all_filter, all_reverse, all_take, all_weaker}
-use Rattle.std_lemmas.proofs.Lists.{any_map, map_map}
+use Rattle.std_lemmas.proofs.Lists.{any_map, map_map, map_reverse_aux}
 use Rattle.site.specs.State.{Image}
 use Rattle.slotted_page.specs.Layout.{lsn_of}
 use Rattle.buffer_pool.specs.declared.frame.Frame.{Frame}
-use Rattle.buffer_pool.specs.Frames.{AreDistinct, frame_of}
+use Rattle.buffer_pool.specs.Frames.{frame_of}
 use Rattle.record_model.specs.Touches.{touch}
 use Rattle.second_chance.specs.declared.plan.PoolMark.{PoolMark}
 use Rattle.second_chance.specs.Plans.{group_size, chances_of, pulled_at_eviction}
@@ -20,6 +19,7 @@ use Rattle.ring_machine.specs.Machine.{Machine, pushed_with, pushed_by}
 use Rattle.log_store.specs.declared.store.LogStore.{LogStore}
 use Rattle.log_store.specs.Representation.{has_tail}
 use Rattle.write_ahead.specs.Forcing.{IsLogged, is_unsealed, end_now, end_forced, forces}
+use Rattle.page_store.proofs.Saving.{found_all}
 use Rattle.page_store.specs.declared.store.PageStore.{PageStore}
 use Rattle.page_store.specs.Representation.{IsStore, IsPage, content_by}
 use Rattle.flash_cache.specs.Representation.{version_on}
@@ -64,14 +64,6 @@ pages_pushed r queue (coldest ∷ warmer) = by (must_be_pushed queue (pool_page 
     by false = refl
 
 -- They stand in the pool.
-
-pub each_found : (frames : List Frame) → AreDistinct frames → AllByRecursion (λ (f : Frame). frame_of frames f.page ≡ Some f) frames
-each_found [] distinct = tt
-each_found (first ∷ frames) distinct = (
-  ap (λ (b : Bool). cond b (Some first) (frame_of frames first.page)) (eq-eqb first.page first.page refl),
-  all_both (λ (f : Frame). first.page ≢ f.page) (λ (f : Frame). frame_of frames f.page ≡ Some f) (λ (f : Frame). frame_of (first ∷ frames) f.page ≡ Some f)
-      (λ f other found. ap (λ (b : Bool). cond b (Some first) (frame_of frames f.page)) (ne_eqb first.page f.page other) ∙ found) frames distinct.0 (each_found frames distinct.1),
-)
 
 evicted_all : (P : Frame → Type 0) (r : Rules) (queue : Queue) (frames : List Frame) → AllByRecursion P frames → AllByRecursion P (evicted_of r queue frames)
 evicted_all P r queue [] all = tt
@@ -122,10 +114,6 @@ some_wait log pages image m own is frames exist found =
     (all_both (λ (f : Frame). IsPage pages.flash.geometry.pages f) (λ (f : Frame). frame_of pages.pool.frames f.page ≡ Some f) (λ (f : Frame). waits m.tail f.page ≡ is_unsealed (end_now log) f.content)
     (λ f page there. is.waiting f.page page.exists ∙ ap (λ (o : Option Frame). is_unsealed (end_now log) (content_by o (version_on pages.flash.geometry image f.page))) there) frames exist found)
 
-mapped : {A B : Type 0} (f : A → B) (xs ys : List A) → reverse_aux (map f xs) (map f ys) ≡ map f (reverse_aux xs ys)
-mapped f [] ys = refl
-mapped f (x ∷ xs) ys = mapped f xs (x ∷ ys)
-
 -- The log is forced for a touch where one of the pages that it pushes waits.
 pub pushed_waits : (log : LogStore) (pages : PageStore) (image : Image) (m : Machine) (page : ℕ) → IsStore pages → AreLogged (end_forced log) pages.pool.frames → Mirrors log pages image m →
     list_any (waits m.tail) (pushed_by (rules pages) (touch page false) m.cache) ≡ forces log (pushed_by_touch pages page)
@@ -134,12 +122,12 @@ pushed_waits log pages image m page own logged is =
   where
     here : list_any (waits m.tail) (pushed_with (rules pages) pages.flash.directory (reverse (map pool_page pages.pool.frames))) ≡ forces log (evicted pages)
     here =
-        ap (λ (l : List PoolPage). list_any (waits m.tail) (pushed_with (rules pages) pages.flash.directory l)) (mapped pool_page pages.pool.frames [])
+        ap (λ (l : List PoolPage). list_any (waits m.tail) (pushed_with (rules pages) pages.flash.directory l)) (map_reverse_aux pool_page pages.pool.frames [])
         ∙ ap (list_any (waits m.tail)) (pages_pushed (rules pages) pages.flash.directory (reverse pages.pool.frames))
         ∙ some_wait log pages image m own is (evicted_frames pages)
         (evicted_all (λ (f : Frame). IsPage pages.flash.geometry.pages f) (rules pages) pages.flash.directory (reverse pages.pool.frames) (all_reverse (λ (f : Frame). IsPage pages.flash.geometry.pages f) pages.pool.frames own.pages))
         (evicted_all (λ (f : Frame). frame_of pages.pool.frames f.page ≡ Some f) (rules pages) pages.flash.directory (reverse pages.pool.frames)
-        (all_reverse (λ (f : Frame). frame_of pages.pool.frames f.page ≡ Some f) pages.pool.frames (each_found pages.pool.frames own.pool.distinct)))
+        (all_reverse (λ (f : Frame). frame_of pages.pool.frames f.page ≡ Some f) pages.pool.frames (found_all pages.pool.frames own.pool.distinct)))
         ∙ sym (tail_needed log (evicted_frames pages) (evicted_all (λ (f : Frame). IsLogged (end_forced log) f.content) (rules pages) pages.flash.directory (reverse pages.pool.frames)
         (all_reverse (λ (f : Frame). IsLogged (end_forced log) f.content) pages.pool.frames logged)))
 
@@ -152,5 +140,5 @@ pub none_waits : (log : LogStore) (pages : PageStore) (image : Image) (m : Machi
     list_any (waits m.tail) (map (λ (f : Frame). f.page) (filter ask pages.pool.frames)) ≡ false
 none_waits log pages image m own logged is ask =
     some_wait log pages image m own is (filter ask pages.pool.frames) (all_filter (λ (f : Frame). IsPage pages.flash.geometry.pages f) ask pages.pool.frames own.pages)
-    (all_filter (λ (f : Frame). frame_of pages.pool.frames f.page ≡ Some f) ask pages.pool.frames (each_found pages.pool.frames own.pool.distinct))
+    (all_filter (λ (f : Frame). frame_of pages.pool.frames f.page ≡ Some f) ask pages.pool.frames (found_all pages.pool.frames own.pool.distinct))
     ∙ none_unsealed (end_now log) (filter ask pages.pool.frames) (all_filter (λ (f : Frame). IsLogged (end_now log) f.content) ask pages.pool.frames logged)

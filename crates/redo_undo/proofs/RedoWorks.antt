@@ -1,13 +1,13 @@
 -- What redo asks of the cache.
 use Rattle.site.proofs.Working.{no_error, ok_always}
-use Rattle.std.proofs.Common.{◌≡◌, ◌≢◌, ◌⊎◌, inl, inr, ℕ, ◌-◌, ◌/◌, ◌≤◌, ◌<◌, nat_lt, Bool, true, false, List, [], ◌∷◌, ◌++◌, Option, Some, None, append-nil, append_assoc, refl, sym, ap, subst, ◌∙◌, arith, ◌*◌}
+use Rattle.std.proofs.Common.{◌≡◌, ◌≢◌, inl, inr, ℕ, ◌-◌, ◌/◌, ◌≤◌, ◌<◌, nat_lt, Bool, true, false, List, [], ◌∷◌, ◌++◌, Option, Some, None, append-nil, append_assoc, refl, sym, ap, subst, ◌∙◌, arith, ◌*◌}
 use Rattle.std.specs.Prelude.{if◌then◌else◌, ⊤, Result, Ok, Err, filter_map, option_map, nat_le}
 use Rattle.std.proofs.lemmas.Bool.{le-leb, lt-ltb, le-ltb, cond-true, cond-false, lt-leb}
 use Rattle.std.proofs.lemmas.List.Elements.{filter_map-append}
 use Rattle.site.specs.declared.outside.Dev.{Dev}
 use Rattle.site.specs.declared.outside.Dev.TheVariants.{Log, Flash, Disk}
 use Rattle.site.specs.declared.outside.Stop.{Stop}
-use Rattle.site.specs.declared.outside.Stop.TheVariants.{Worn, Memory, Foreign}
+use Rattle.site.specs.declared.outside.Stop.TheVariants.{Worn}
 use Rattle.site.specs.State.{State, reads_of}
 use Rattle.record_model.specs.Touches.{CacheWork, touch, page_of}
 use Rattle.log_records.specs.Log.{Entry, version_at, number_of, log_from}
@@ -48,11 +48,6 @@ stops_first {A} stop works pages site some never = record {
   asks = asks_stopped {A = A} {B = A} stop [] works pages pages site site some (asks_nothing {T = A} (Err stop) pages site site (λ dev. refl) (stages_none tt (omega arith) refl));
   performs = rests_refused never;
 }
-
--- why analysis stops
-pub not_worn : (stop : Stop) → (stop ≡ Memory) ⊎ (stop ≡ Foreign) → (dev : Dev) → stop ≢ Worn dev
-not_worn stop (inl is) dev = λ same. cc
-not_worn stop (inr is) dev = λ same. cc
 
 -- a call that reads the log alone
 asks_reading : {A : Type 0} (result : Result A Stop) (pages : PageStore) (old new : State) → ((dev : Dev) → dev ≢ Log → reads_of dev new ≡ reads_of dev old) →

@@ -22,12 +22,12 @@ use Rattle.page_store.specs.declared.store.PageStore.{PageStore}
 use Rattle.page_store.specs.Representation.{IsStore}
 use Rattle.checkpoint.specs.declared.master.Master.{Master}
 use Rattle.image_meaning.specs.Meaning.{picture_under, master_of, versions_on}
+use Rattle.page_store.proofs.Fitting.{front_exists}
 use Rattle.redo_laws.specs.Holding.{Represents}
 use Rattle.redo_laws.specs.HoldingLaws.{FrontShows}
 use Rattle.redo_laws.specs.Laws.{LogLaws, PageLaws, UndoLaws}
 use Rattle.redo_laws.specs.SessionLaws.{front_number, front_content, NextIsFresh, BeginMayGrow, UpdateMayGrow, ActiveMayBeUndone, EndMayGrow, HoldsSize, FrontIsCommitted, FrontIsSeen}
 use Rattle.redo_laws.proofs.Touched.{hi_is}
-use Rattle.redo_laws.proofs.Changed.{front_exists}
 use Rattle.redo_undo.proofs.Compensations.{chain}
 use Rattle.redo_laws.proofs.Orderlies.{sealed_orderly}
 

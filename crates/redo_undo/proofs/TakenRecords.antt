@@ -45,10 +45,6 @@ part_begins laws redo o log pages site so_far front block octets used records si
   asked = nothing_asked pages site;
 }
 
--- how many of the opened blocks stand before a block, and their records
-abbrev pub place : Opening → ℕ → ℕ
-place o block = block - kept_by o.newest
-
 -- the first blocks are read
 pub record IsUpTo (o : Opening) (log : LogStore) (pages : PageStore) (old site : State) (so_far : Redone) (block : ℕ) : Type 0 where
   pub from : kept_by o.newest ≤ block

@@ -1,9 +1,10 @@
 -- The machine's cache is the cache machine.
-use Rattle.std.proofs.Common.{◌≡◌, ◌==◌, ℕ, zero, suc, Bool, true, false, ◌||◌, List, [], ◌∷◌, ◌++◌, map, filter_map, flat_map, reverse, replicate, length, Option, Some, None, option_map, refl, sym, ap, subst, ◌∙◌}
+use Rattle.std.proofs.Common.{◌≡◌, ◌==◌, ℕ, zero, suc, Bool, true, false, List, [], ◌∷◌, ◌++◌, map, filter_map, flat_map, reverse, replicate, length, Option, Some, None, option_map, refl, sym, ap, subst, ◌∙◌}
 use Rattle.std.specs.Prelude.{if◌then◌else◌}
 use Rattle.std.specs.List.{cons_option}
 use Rattle.std.specs.List.{list_any, range_with_len}
-use mathlib.Core.List.{reverse_aux}
+use Rattle.std_lemmas.proofs.Bools.{or_true}
+use Rattle.std_lemmas.proofs.Lists.{map_reverse_aux}
 use Rattle.record_model.specs.declared.words.Command.{Command}
 use Rattle.record_model.specs.declared.words.Command.TheVariants.{Abort, Begin, Cache, Checkpoint, Commit, Erase, Get, Quit, Read, Scan, Set, Stat, Write}
 use Rattle.record_model.specs.State.{Content, State, content_at, seen, session_at, writes_of}
@@ -39,10 +40,6 @@ nothing : (rules : Rules) (works : List Work) → ((m : Machine) → (after_all 
 nothing rules works same m = same m
 
 -- a page is touched, and changed in front
-or_true : (b : Bool) → (b || true) ≡ true
-or_true true = refl
-or_true false = refl
-
 change : (rules : Rules) (number octets : ℕ) → Agrees rules (cached (read_touch number) ∷ changed octets (page_of number) ∷ []) (write_touch number ∷ [])
 change rules number octets m =
     let c = with_room rules (page_of number) m.cache in
@@ -61,17 +58,13 @@ take_all_back rules [] = nothing rules [] (λ m. refl)
 take_all_back rules (w ∷ made) = in_turn rules (takes_back w) (flat_map takes_back made) (write_touch w.0 ∷ []) (map (λ w. write_touch w.0) made) (change rules w.0 (clr_octets w.1)) (take_all_back rules made)
 
 -- the same records, in the same order
-mapped : {A B : Type 0} (f : A → B) (xs ys : List A) → reverse_aux (map f xs) (map f ys) ≡ map f (reverse_aux xs ys)
-mapped f [] ys = refl
-mapped f (x ∷ xs) ys = mapped f xs (x ∷ ys)
-
 numbers_stay : (table : List Content) (earlier made : List state.Write) → map (λ w. write_touch w.0) (stood_before table earlier made) ≡ map (λ w. write_touch w.0) made
 numbers_stay table earlier [] = refl
 numbers_stay table earlier (w ∷ later) = ap (λ (l : List CacheWork). write_touch w.0 ∷ l) (numbers_stay table (earlier ++ w ∷ []) later)
 
 touches_stay : (table : List Content) (made : List state.Write) → map (λ w. write_touch w.0) (reverse (stood_before table [] made)) ≡ map (λ w. write_touch w.0) (reverse made)
 touches_stay table made =
-    sym (mapped (λ (w : state.Write). write_touch w.0) (stood_before table [] made) []) ∙ ap reverse (numbers_stay table [] made) ∙ mapped (λ (w : state.Write). write_touch w.0) made []
+    sym (map_reverse_aux (λ (w : state.Write). write_touch w.0) (stood_before table [] made) []) ∙ ap reverse (numbers_stay table [] made) ∙ map_reverse_aux (λ (w : state.Write). write_touch w.0) made []
 
 append-none : (asked : List CacheWork) → asked ++ [] ≡ asked
 append-none [] = refl

@@ -1,5 +1,5 @@
 -- How many numbers work takes from the rings on the log's device.
-use Rattle.std.proofs.Common.{◌≡◌, ◌⊎◌, inl, inr, ⊎_elim, ℕ, zero, suc, ◌+◌, ◌^◌, ◌≤◌, Bool, true, false, not, ◌&&◌, List, [], ◌∷◌, ◌++◌, length, drop, flat_map, reverse, Option, Some, None, refl, sym, ap, subst, ◌∙◌, arith, le-ltb}
+use Rattle.std.proofs.Common.{◌≡◌, ◌⊎◌, inl, inr, ⊎_elim, ℕ, zero, suc, ◌+◌, ◌^◌, ◌≤◌, Bool, true, false, not, ◌&&◌, List, [], ◌∷◌, ◌++◌, length, drop, flat_map, reverse, Option, Some, None, refl, sym, ap, subst, ◌∙◌, arith}
 use Rattle.std.specs.Prelude.{nat_lt, is_none, if◌then◌else◌}
 use Rattle.std.specs.List.{list_any, range_with_len}
 use Rattle.std.specs.Option.{option_or}
@@ -16,11 +16,11 @@ use Rattle.record_model.specs.Touches.{CacheWork, touch, flush}
 use Rattle.log_records.specs.Spelling.{block_len}
 use Rattle.second_chance.specs.declared.frame.Frame.{Frame}
 use Rattle.second_chance.specs.Queue.{Queue, pushed, with_read}
-use Rattle.second_chance.specs.Machine.{Rules, PoolPage, holds, is_full, push_evicted, must_be_pushed, after_eviction, evict_first, evict_coldest, lacks_room as lacks_place, with_room, in_front, wants_flush, push_changed, flushed_by}
+use Rattle.second_chance.specs.Machine.{Rules, PoolPage, holds, is_full, push_evicted, must_be_pushed, after_eviction, evict_first, evict_coldest, lacks_room as lacks_place, with_room, in_front, wants_flush, push_changed, flushed_by, next_group}
 use Rattle.second_chance.specs.Machine as cache
 use Rattle.second_chance.proofs.Unread.{length-groups_read}
 use Rattle.ring_machine.specs.Tail.{Tail, waits, sealed_if, is_full_for, with_record, forced, before_push}
-use Rattle.ring_machine.specs.Machine.{Machine, Work, cached, logged, changed, force, save, group_to_come, pushed_by, worked, after_all, past_end, first_worn}
+use Rattle.ring_machine.specs.Machine.{Machine, Work, cached, logged, changed, force, save, pushed_by, worked, after_all, past_end, first_worn}
 use Rattle.ring_machine.specs.Commands.{reads, takes_back, ends, saves, undoes, stood_before, record_work, command_work}
 use Rattle.ring_machine.specs.Counts.{records_in, saves_in, FewAreEnough, CommandsLogFew}
 use Rattle.ring_machine.proofs.Ends.{never_past}
@@ -49,54 +49,54 @@ pushed_rises : (leaves : Bool) (group : List Frame) (queue : Queue) → queue.fi
 pushed_rises true group queue = omega (arith, length-append (drop 1 queue.groups) (group ∷ []), length-drop 1 queue.groups)
 pushed_rises false group queue = omega (arith, length-append queue.groups (group ∷ []))
 
-push_rises : (rules : Rules) (c : cache.Cache) → group_to_come c ≤ group_to_come (push_changed rules c)
+push_rises : (rules : Rules) (c : cache.Cache) → next_group c ≤ next_group (push_changed rules c)
 push_rises rules c = pushed_rises (is_full rules c.queue) _ c.queue
 
-eviction_rises : (rules : Rules) (own : PoolPage) (c : cache.Cache) → group_to_come c ≤ group_to_come (after_eviction rules own c)
+eviction_rises : (rules : Rules) (own : PoolPage) (c : cache.Cache) → next_group c ≤ next_group (after_eviction rules own c)
 eviction_rises rules own c = by (must_be_pushed c.queue own)
   where
-    by : (b : Bool) → group_to_come c ≤ group_to_come (if b then push_evicted rules own c else c)
+    by : (b : Bool) → next_group c ≤ next_group (if b then push_evicted rules own c else c)
     by true = pushed_rises (is_full rules c.queue) _ c.queue
     by false = omega arith
 
-first_rises : (rules : Rules) (pool : List PoolPage) (c : cache.Cache) → group_to_come c ≤ group_to_come (evict_first rules pool c)
+first_rises : (rules : Rules) (pool : List PoolPage) (c : cache.Cache) → next_group c ≤ next_group (evict_first rules pool c)
 first_rises rules [] c = omega arith
 first_rises rules (coldest ∷ warmer) c = eviction_rises rules coldest (record c { pool = reverse warmer })
 
-room_rises : (rules : Rules) (page : ℕ) (c : cache.Cache) → group_to_come c ≤ group_to_come (with_room rules page c)
+room_rises : (rules : Rules) (page : ℕ) (c : cache.Cache) → next_group c ≤ next_group (with_room rules page c)
 room_rises rules page c = by (lacks_place rules page c)
   where
-    by : (b : Bool) → group_to_come c ≤ group_to_come (if b then evict_coldest rules c else c)
+    by : (b : Bool) → next_group c ≤ next_group (if b then evict_coldest rules c else c)
     by true = first_rises rules (reverse c.pool) c
     by false = omega arith
 
-front_stays : (page : ℕ) (change : Bool) (c : cache.Cache) → group_to_come (in_front page change c) ≡ group_to_come c
+front_stays : (page : ℕ) (change : Bool) (c : cache.Cache) → next_group (in_front page change c) ≡ next_group c
 front_stays page change c = by (holds c.pool page)
   where
-    by : (b : Bool) → (if b then c.queue else with_read page c.queue).first + length (if b then c.queue else with_read page c.queue).groups ≡ group_to_come c
+    by : (b : Bool) → (if b then c.queue else with_read page c.queue).first + length (if b then c.queue else with_read page c.queue).groups ≡ next_group c
     by true = refl
     by false = ap (λ n. c.queue.first + n) (length-groups_read page c.queue.groups)
 
-flush_rises : (pushes : ℕ) (rules : Rules) (c : cache.Cache) → group_to_come c ≤ group_to_come (flushed_by pushes rules c)
+flush_rises : (pushes : ℕ) (rules : Rules) (c : cache.Cache) → next_group c ≤ next_group (flushed_by pushes rules c)
 flush_rises zero rules c = omega arith
 flush_rises (suc pushes) rules c = by (wants_flush c) (flush_rises pushes rules (push_changed rules c))
   where
-    by : (b : Bool) → group_to_come (push_changed rules c) ≤ group_to_come (flushed_by pushes rules (push_changed rules c)) → group_to_come c ≤ group_to_come (if b then flushed_by pushes rules (push_changed rules c) else c)
+    by : (b : Bool) → next_group (push_changed rules c) ≤ next_group (flushed_by pushes rules (push_changed rules c)) → next_group c ≤ next_group (if b then flushed_by pushes rules (push_changed rules c) else c)
     by true later = omega (arith, push_rises rules c, later)
     by false later = omega arith
 
-cache_rises : (rules : Rules) (work : CacheWork) (c : cache.Cache) → group_to_come c ≤ group_to_come (cache.worked rules work c)
+cache_rises : (rules : Rules) (work : CacheWork) (c : cache.Cache) → next_group c ≤ next_group (cache.worked rules work c)
 cache_rises rules (touch page change) c = omega (arith, room_rises rules page c, front_stays page change (with_room rules page c))
 cache_rises rules flush c = flush_rises (length c.pool) rules c
 
-pub group_rises : (rules : Rules) (work : Work) (m : Machine) → group_to_come m.cache ≤ group_to_come (worked rules work m).cache
+pub group_rises : (rules : Rules) (work : Work) (m : Machine) → next_group m.cache ≤ next_group (worked rules work m).cache
 group_rises rules (cached work) m = cache_rises rules work m.cache
 group_rises rules (logged octets) m = omega arith
 group_rises rules (changed octets page) m = omega arith
 group_rises rules force m = omega arith
 group_rises rules save m = omega arith
 
-pub groups_rise : (rules : Rules) (works : List Work) (m : Machine) → group_to_come m.cache ≤ group_to_come (after_all rules works m).cache
+pub groups_rise : (rules : Rules) (works : List Work) (m : Machine) → next_group m.cache ≤ next_group (after_all rules works m).cache
 groups_rise rules [] m = omega arith
 groups_rise rules (work ∷ works) m = omega (arith, group_rises rules work m, groups_rise rules works (worked rules work m))
 
@@ -150,9 +150,9 @@ masters_after rules force m = omega arith
 masters_after rules save m = omega arith
 
 -- Where the numbers go no further than to a top, no unit is past its end.
-module _ (top : ℕ) (never : (m : Machine) → m.tail.next ≤ top → m.masters ≤ top → group_to_come m.cache ≤ top → past_end m ≡ None) (rules : Rules) where
+module _ (top : ℕ) (never : (m : Machine) → m.tail.next ≤ top → m.masters ≤ top → next_group m.cache ≤ top → past_end m ≡ None) (rules : Rules) where
   enough : (works : List Work) (m : Machine) (limit : ℕ) → Stays limit m.tail → limit + records_in works ≤ top → m.masters + saves_in works ≤ top →
-      group_to_come (after_all rules works m).cache ≤ top → first_worn rules works m ≡ None
+      next_group (after_all rules works m).cache ≤ top → first_worn rules works m ≡ None
   enough [] m limit stays records masters groups = refl
   enough (work ∷ works) m limit stays records masters groups =
       let now = worked rules work m in

@@ -5,9 +5,11 @@ use Rattle.std.specs.List.{list_any}
 use Rattle.std.proofs.lemmas.Bool.{or_from, or_left, or_right, or_parts}
 use Rattle.site.specs.declared.outside.Dev.{Dev}
 use Rattle.site.specs.declared.outside.Dev.TheVariants.{Log, Flash}
-use Rattle.second_chance.specs.Machine.{Rules}
+use Rattle.record_model.specs.State.{Content}
+use Rattle.second_chance.specs.Machine.{Rules, next_group}
 use Rattle.ring_machine.specs.Tail.{Tail, sealed_if}
-use Rattle.ring_machine.specs.Machine.{Machine, Work, cached, logged, changed, force, save, worked, after_all, group_to_come, past_end}
+use Rattle.ring_machine.specs.Machine.{Machine, Work, cached, logged, changed, force, save, worked, after_all, past_end}
+use Rattle.ring_machine.specs.Restart.{clr_on}
 
 abbrev of_flash : Bool → Option Dev
 of_flash b = if b then Some Flash else None
@@ -15,21 +17,21 @@ of_flash b = if b then Some Flash else None
 abbrev of_log : ℕ → Bool → Option Dev
 of_log group b = if b then Some Log else if nat_lt (2 ^ 40) group then Some Flash else None
 
-pub never_past : (m : Machine) → m.tail.next ≤ 2 ^ 40 → m.masters ≤ 2 ^ 40 → group_to_come m.cache ≤ 2 ^ 40 → past_end m ≡ None
+pub never_past : (m : Machine) → m.tail.next ≤ 2 ^ 40 → m.masters ≤ 2 ^ 40 → next_group m.cache ≤ 2 ^ 40 → past_end m ≡ None
 never_past m tail masters group =
-    ap (of_log (group_to_come m.cache)) (or_from (nat_lt (2 ^ 40) m.tail.next) (nat_lt (2 ^ 40) m.masters) (le-ltb (2 ^ 40) m.tail.next tail) (le-ltb (2 ^ 40) m.masters masters))
-    ∙ ap of_flash (le-ltb (2 ^ 40) (group_to_come m.cache) group)
+    ap (of_log (next_group m.cache)) (or_from (nat_lt (2 ^ 40) m.tail.next) (nat_lt (2 ^ 40) m.masters) (le-ltb (2 ^ 40) m.tail.next tail) (le-ltb (2 ^ 40) m.masters masters))
+    ∙ ap of_flash (le-ltb (2 ^ 40) (next_group m.cache) group)
 
 pub log_past : (m : Machine) → 2 ^ 40 < m.tail.next → past_end m ≡ Some Log
-log_past m past = ap (of_log (group_to_come m.cache)) (or_left (nat_lt (2 ^ 40) m.tail.next) (nat_lt (2 ^ 40) m.masters) (lt-ltb (2 ^ 40) m.tail.next past))
+log_past m past = ap (of_log (next_group m.cache)) (or_left (nat_lt (2 ^ 40) m.tail.next) (nat_lt (2 ^ 40) m.masters) (lt-ltb (2 ^ 40) m.tail.next past))
 
 pub masters_past : (m : Machine) → 2 ^ 40 < m.masters → past_end m ≡ Some Log
-masters_past m past = ap (of_log (group_to_come m.cache)) (or_right (nat_lt (2 ^ 40) m.tail.next) (nat_lt (2 ^ 40) m.masters) (lt-ltb (2 ^ 40) m.masters past))
+masters_past m past = ap (of_log (next_group m.cache)) (or_right (nat_lt (2 ^ 40) m.tail.next) (nat_lt (2 ^ 40) m.masters) (lt-ltb (2 ^ 40) m.masters past))
 
-pub flash_past : (m : Machine) → m.tail.next ≤ 2 ^ 40 → m.masters ≤ 2 ^ 40 → 2 ^ 40 < group_to_come m.cache → past_end m ≡ Some Flash
+pub flash_past : (m : Machine) → m.tail.next ≤ 2 ^ 40 → m.masters ≤ 2 ^ 40 → 2 ^ 40 < next_group m.cache → past_end m ≡ Some Flash
 flash_past m tail masters past =
-    ap (of_log (group_to_come m.cache)) (or_from (nat_lt (2 ^ 40) m.tail.next) (nat_lt (2 ^ 40) m.masters) (le-ltb (2 ^ 40) m.tail.next tail) (le-ltb (2 ^ 40) m.masters masters))
-    ∙ ap of_flash (lt-ltb (2 ^ 40) (group_to_come m.cache) past)
+    ap (of_log (next_group m.cache)) (or_from (nat_lt (2 ^ 40) m.tail.next) (nat_lt (2 ^ 40) m.masters) (le-ltb (2 ^ 40) m.tail.next tail) (le-ltb (2 ^ 40) m.masters masters))
+    ∙ ap of_flash (lt-ltb (2 ^ 40) (next_group m.cache) past)
 
 -- A tail that is sealed where that is wanted.
 
@@ -62,3 +64,7 @@ masters_stay rules (work ∷ works) m none =
     one (changed octets page) none = refl
     one force none = refl
     one save none = absurd (true≢false none)
+
+pub clr_saves_none : (before : Content) (number : Option ℕ) → list_any saves_one (clr_on before number) ≡ false
+clr_saves_none before None = refl
+clr_saves_none before (Some number) = refl

@@ -1,7 +1,8 @@
 -- Work after work.
-use Rattle.std.proofs.Common.{◌≡◌, List, [], ◌∷◌, ◌++◌, Option, Some, None, refl, ap, ◌∙◌}
+use Rattle.std.proofs.Common.{◌≡◌, List, [], ◌∷◌, ◌++◌, Option, Some, None, refl, sym, ap, ◌∙◌}
 use Rattle.std.specs.Option.{option_or}
 use Rattle.site.specs.declared.outside.Dev.{Dev}
+use Rattle.std_lemmas.proofs.Options.{option_or_assoc}
 use Rattle.second_chance.specs.Machine.{Rules}
 use Rattle.ring_machine.specs.Machine.{Machine, Work, worked, after_all, past_end, first_worn}
 use Rattle.ring_machine.specs.Laws.{WorkAddsUp, FirstIsFirst}
@@ -10,15 +11,11 @@ pub work_adds_up : WorkAddsUp
 work_adds_up rules [] later m = refl
 work_adds_up rules (work ∷ works) later m = work_adds_up rules works later (worked rules work m)
 
-pub or_again : {X : Type 0} (a b c : Option X) → option_or a (option_or b c) ≡ option_or (option_or a b) c
-or_again None b c = refl
-or_again (Some x) b c = refl
-
 pub first_is_first : FirstIsFirst
 first_is_first rules [] later m = refl
 first_is_first rules (work ∷ works) later m =
     ap (option_or (past_end (worked rules work m))) (first_is_first rules works later (worked rules work m))
-    ∙ or_again (past_end (worked rules work m)) (first_worn rules works (worked rules work m)) (first_worn rules later (after_all rules works (worked rules work m)))
+    ∙ sym (option_or_assoc (past_end (worked rules work m)) (first_worn rules works (worked rules work m)) (first_worn rules later (after_all rules works (worked rules work m))))
 
 -- where no ring is worn by the beginning, what follows decides
 pub first_then : (rules : Rules) (first later : List Work) (m : Machine) → first_worn rules first m ≡ None → first_worn rules (first ++ later) m ≡ first_worn rules later (after_all rules first m)

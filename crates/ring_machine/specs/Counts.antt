@@ -7,10 +7,10 @@ use Rattle.record_model.specs.Step.{makes_checkpoint}
 use Rattle.record_model.specs.Run.{Line, line_step}
 use Rattle.log_records.specs.Unfinished.{owed}
 use Rattle.log_records.specs.Sound.{Picture, IsSound}
-use Rattle.second_chance.specs.Machine.{Rules}
+use Rattle.second_chance.specs.Machine.{Rules, next_group}
 use Rattle.ring_machine.specs.Tail.{empty_at}
 use Rattle.ring_machine.specs.Machine.{Machine, Work, logged, changed, save}
-use Rattle.ring_machine.specs.Machine.{group_to_come, after_all, first_worn}
+use Rattle.ring_machine.specs.Machine.{after_all, first_worn}
 use Rattle.ring_machine.specs.Commands.{line_work}
 use Rattle.ring_machine.specs.Restart.{restart_work}
 
@@ -31,7 +31,7 @@ saves_in (_ ∷ works) = saves_in works
 abbrev pub FewAreEnough : Type 0
 FewAreEnough = (rules : Rules) (works : List Work) (m : Machine) → m.tail ≡ empty_at m.tail.next
     → m.tail.next + records_in works ≤ 2 ^ 40 → m.masters + saves_in works ≤ 2 ^ 40
-    → group_to_come (after_all rules works m).cache ≤ 2 ^ 40 → first_worn rules works m ≡ None
+    → next_group (after_all rules works m).cache ≤ 2 ^ 40 → first_worn rules works m ≡ None
 
 -- how many master units a line saves
 abbrev pub saved_by : Bool → State → Line → ℕ

@@ -1,5 +1,5 @@
 -- The rings of the devices as a machine: which unit each piece of work appends, and which ring it finds at its end.
-use Rattle.std.specs.Prelude.{ℕ, ◌+◌, ◌^◌, true, ◌||◌, nat_lt, List, [], ◌∷◌, length, map, filter, reverse}
+use Rattle.std.specs.Prelude.{ℕ, ◌+◌, ◌^◌, true, ◌||◌, nat_lt, List, [], ◌∷◌, map, filter, reverse}
 use Rattle.std.specs.Prelude.{Option, Some, None, if◌then◌else◌}
 use Rattle.std.specs.Option.{option_or}
 use Rattle.site.specs.declared.outside.Dev.{Dev}
@@ -7,7 +7,8 @@ use Rattle.site.specs.declared.outside.Dev.TheVariants.{Log, Flash}
 use Rattle.record_model.specs.Touches.{CacheWork, touch, flush}
 use Rattle.second_chance.specs.Plans.{pulled_at_eviction}
 use Rattle.second_chance.specs.Queue.{Queue}
-use Rattle.second_chance.specs.Machine.{Rules, PoolPage, Cache, pool_mark, leaving, must_be_pushed, lacks_room}
+use Rattle.second_chance.specs.Machine.{Rules, PoolPage, Cache, next_group}
+use Rattle.second_chance.specs.Machine.{pool_mark, leaving, must_be_pushed, lacks_room}
 use Rattle.second_chance.specs.Machine as cache
 use Rattle.ring_machine.specs.Tail.{Tail, with_record, forced, before_push}
 
@@ -16,10 +17,6 @@ pub record Machine : Type 0 where
   pub cache : Cache
   pub tail : Tail
   pub masters : ℕ
-
--- the number of the group that is appended next
-abbrev pub group_to_come : Cache → ℕ
-group_to_come cache = cache.queue.first + length cache.queue.groups
 
 -- What is asked of log and cache: a touch or a flush; a record of so many octets is logged, on no page or on the page
 -- in front, which it changes; the log is forced; a master unit is saved.
@@ -69,7 +66,7 @@ after_all rules (work ∷ works) m = after_all rules works (worked rules work m)
 -- the device on which a unit has a number that its ring doesn't have: the log is sealed before a group is appended
 abbrev pub past_end : Machine → Option Dev
 past_end m = if nat_lt (2 ^ 40) m.tail.next || nat_lt (2 ^ 40) m.masters then Some Log
-    else if nat_lt (2 ^ 40) (group_to_come m.cache) then Some Flash else None
+    else if nat_lt (2 ^ 40) (next_group m.cache) then Some Flash else None
 
 -- the device of the first ring that the work is to append to at its end
 abbrev pub first_worn : Rules → List Work → Machine → Option Dev

@@ -72,9 +72,6 @@ module _ (s : Shape) (hi : ℕ) (old : State) (fits : FitsIn s (length (region s
   slot : (n : ℕ) → n % s.slots < s.slots
   slot n = mod_below n s.slots (omega (arith, fits.slots))
 
-  body : ℕ
-  body = place s (hi % s.slots) + 1
-
   next : ℕ
   next = place s ((hi + 1) % s.slots)
 

@@ -1,12 +1,11 @@
 -- Laws for the crates above.
 use Rattle.std.specs.Prelude.{◌≡◌, ◌⊎◌, ℕ, ◌+◌, ◌-◌, ◌*◌, ◌<◌, ◌≤◌, min, true, List, [], ◌∷◌, ◌++◌, length, slice_index}
-use Rattle.site.specs.State.{State, IsSettled}
+use Rattle.site.specs.State.{State}
 use Rattle.site.specs.Calls.{Preserves}
-use Rattle.site.specs.Moments.{Untouched}
 use Rattle.sealed_ring.specs.declared.slots.Shape.{Shape}
 use Rattle.sealed_ring.specs.declared.ring.Ring.{Ring}
 use Rattle.sealed_ring.specs.Ring.{FitsIn, IsRing, counts, number, hi_of, Units, units_of, appended, SameOutside}
-use Rattle.sealed_ring.specs.Ready.{region, IsUsable, IsReady}
+use Rattle.sealed_ring.specs.Ready.{IsUsable}
 
 -- two rings of one device that don't overlap
 abbrev pub Apart : Shape → Shape → Type 0
@@ -21,18 +20,6 @@ LeavesOthers = (s t : Shape) (old new : List ℕ) → Apart s t → FitsIn s (le
 -- a ring can be used after any calls, since no length changes
 abbrev pub UsableStays : Type 0
 UsableStays = (ring : Ring) (old new : State) → IsUsable ring old → Preserves old new → IsUsable ring new
-
--- a ring stays ready where its device stays as it is
-abbrev pub ReadyElsewhere : Type 0
-ReadyElsewhere = (ring : Ring) (old new : State) → Untouched ring.shape.dev old new → IsReady ring old
-    → IsReady ring new
-
--- and where only another ring of its device changes and nothing is loose in the end
-abbrev pub ReadyBeside : Type 0
-ReadyBeside = (ring : Ring) (s : Shape) (old new : State) → Apart s ring.shape
-    → FitsIn s (length (region ring.shape old)) → IsUsable ring old → Preserves old new
-    → SameOutside s (region ring.shape old) (region ring.shape new) → IsSettled ring.shape.dev new → IsReady ring old
-    → IsReady ring new
 
 -- hi is above each number of a slot that counts, and one above one of them or 0
 abbrev pub HiIsHighest : Type 0

@@ -1,5 +1,5 @@
 // Laws on rings that the crates above use; their lemmas stand in proofs/.
-ghost use Rattle.sealed_ring.specs.Laws.{LeavesOthers, UsableStays, ReadyElsewhere, ReadyBeside, HiIsHighest};
+ghost use Rattle.sealed_ring.specs.Laws.{LeavesOthers, UsableStays, HiIsHighest};
 ghost use Rattle.sealed_ring.specs.Laws.{LiveCount, AppendsBehind, EndsOldest, BlankIsRing};
 
 /// Law: an append to one ring leaves each other ring of the device as it was.
@@ -10,12 +10,6 @@ pub fn leaves_others()
 /// Law: a ring can be used after any calls on its site.
 pub fn usable_stays()
     ensures { UsableStays }
-{}
-
-/// Law: a ring stays ready where only octets outside it change.
-pub fn ready_stays()
-    ensures elsewhere { ReadyElsewhere }
-    ensures beside { ReadyBeside }
 {}
 
 /// Law: a ring's `hi` is one more than the greatest number of a slot that counts, 0 if none does.

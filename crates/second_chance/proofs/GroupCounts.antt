@@ -7,9 +7,9 @@ use Rattle.record_model.specs.Touches.{CacheWork, touch, flush}
 use Rattle.second_chance.specs.declared.frame.Frame.{Frame}
 use Rattle.second_chance.specs.Queue.{Queue, pushed, with_read}
 use Rattle.second_chance.specs.Plans.{pulled_at_eviction}
-use Rattle.second_chance.specs.Machine.{Rules, PoolPage, Cache, holds, is_changed, without, is_full, is_pulled, leaving, pool_marks, push_evicted, must_be_pushed, after_eviction, evict_first, evict_coldest, lacks_room, with_room, in_front, touched, wants_flush, push_changed, flushed_by, flushed, worked}
+use Rattle.second_chance.specs.Machine.{Rules, PoolPage, Cache, holds, is_changed, without, is_full, is_pulled, leaving, pool_marks, push_evicted, must_be_pushed, after_eviction, evict_first, evict_coldest, lacks_room, with_room, in_front, touched, wants_flush, push_changed, flushed_by, flushed, worked, next_group}
 use Rattle.second_chance.specs.Laws.{changed_count}
-use Rattle.second_chance.specs.Groups.{next_number, groups_for, groups_for_all, FlushPushesChanged, NearlyAllArePushed, TouchPushesOne, WorkPushesFew}
+use Rattle.second_chance.specs.Groups.{groups_for, groups_for_all, FlushPushesChanged, NearlyAllArePushed, TouchPushesOne, WorkPushesFew}
 use Rattle.second_chance.proofs.Flushes.{count_cons, push_saves}
 use Rattle.second_chance.proofs.Unread.{length-groups_read}
 
@@ -23,10 +23,10 @@ one_appended : (leaves : Bool) (group : List Frame) (queue : Queue) → (leaves 
 one_appended true group queue some = omega (arith, some refl, length-append (drop 1 queue.groups) (group ∷ []), length-drop 1 queue.groups)
 one_appended false group queue some = omega (arith, length-append queue.groups (group ∷ []))
 
-changed_next : (rules : Rules) (cache : Cache) → 1 ≤ rules.groups → next_number (push_changed rules cache) ≡ next_number cache + 1
+pub changed_next : (rules : Rules) (cache : Cache) → 1 ≤ rules.groups → next_group (push_changed rules cache) ≡ next_group cache + 1
 changed_next rules cache some = one_appended (is_full rules cache.queue) _ cache.queue (full_has_one rules cache.queue some)
 
-evicted_next : (rules : Rules) (own : PoolPage) (cache : Cache) → 1 ≤ rules.groups → next_number (push_evicted rules own cache) ≡ next_number cache + 1
+pub evicted_next : (rules : Rules) (own : PoolPage) (cache : Cache) → 1 ≤ rules.groups → next_group (push_evicted rules own cache) ≡ next_group cache + 1
 evicted_next rules own cache some = one_appended (is_full rules cache.queue) _ cache.queue (full_has_one rules cache.queue some)
 
 -- How many pages are changed.
@@ -71,36 +71,36 @@ count_own page (p ∷ pool) some = by (p.page == page) p.changed some (count_own
 -- An eviction: the group that it pushes, and the changed pages that are left.
 
 evicted_few : (rules : Rules) (own : PoolPage) (cache : Cache) → 1 ≤ rules.groups →
-    (next_number (after_eviction rules own cache) ≤ next_number cache + 1) × (changed_count (after_eviction rules own cache).pool ≤ changed_count cache.pool)
+    (next_group (after_eviction rules own cache) ≤ next_group cache + 1) × (changed_count (after_eviction rules own cache).pool ≤ changed_count cache.pool)
 evicted_few rules own cache some = by (must_be_pushed cache.queue own)
   where
-    by : (b : Bool) → (next_number (if b then push_evicted rules own cache else cache) ≤ next_number cache + 1) × (changed_count (if b then push_evicted rules own cache else cache).pool ≤ changed_count cache.pool)
+    by : (b : Bool) → (next_group (if b then push_evicted rules own cache else cache) ≤ next_group cache + 1) × (changed_count (if b then push_evicted rules own cache else cache).pool ≤ changed_count cache.pool)
     by true = (omega (arith, evicted_next rules own cache some), count_without (is_pulled (pulled_at_eviction rules.pulls rules.chances (leaving rules cache.queue) (pool_marks cache))) cache.pool)
     by false = (omega arith, omega arith)
 
 first_few : (rules : Rules) (pool : List PoolPage) (cache : Cache) → 1 ≤ rules.groups → changed_count pool ≡ changed_count cache.pool →
-    (next_number (evict_first rules pool cache) ≤ next_number cache + 1) × (changed_count (evict_first rules pool cache).pool ≤ changed_count cache.pool)
+    (next_group (evict_first rules pool cache) ≤ next_group cache + 1) × (changed_count (evict_first rules pool cache).pool ≤ changed_count cache.pool)
 first_few rules [] cache some same = (omega arith, omega arith)
 first_few rules (coldest ∷ warmer) cache some same =
     let rest : Cache = record cache { pool = reverse warmer } in
     let few = evicted_few rules coldest rest some in
-    let next : next_number rest ≡ next_number cache = refl in
+    let next : next_group rest ≡ next_group cache = refl in
     (few.0, omega (arith, few.1, count_reverse warmer, count_cons coldest warmer, same))
 
 room_few : (rules : Rules) (page : ℕ) (cache : Cache) → 1 ≤ rules.groups →
-    (next_number (with_room rules page cache) ≤ next_number cache + 1) × (changed_count (with_room rules page cache).pool ≤ changed_count cache.pool)
+    (next_group (with_room rules page cache) ≤ next_group cache + 1) × (changed_count (with_room rules page cache).pool ≤ changed_count cache.pool)
 room_few rules page cache some = by (lacks_room rules page cache)
   where
-    by : (b : Bool) → (next_number (if b then evict_coldest rules cache else cache) ≤ next_number cache + 1) × (changed_count (if b then evict_coldest rules cache else cache).pool ≤ changed_count cache.pool)
+    by : (b : Bool) → (next_group (if b then evict_coldest rules cache else cache) ≤ next_group cache + 1) × (changed_count (if b then evict_coldest rules cache else cache).pool ≤ changed_count cache.pool)
     by true = first_few rules (reverse cache.pool) cache some (count_reverse cache.pool)
     by false = (omega arith, omega arith)
 
 -- A touch.
 
-front_next : (page : ℕ) (change : Bool) (cache : Cache) → next_number (in_front page change cache) ≡ next_number cache
+pub front_next : (page : ℕ) (change : Bool) (cache : Cache) → next_group (in_front page change cache) ≡ next_group cache
 front_next page change cache = by (holds cache.pool page)
   where
-    by : (b : Bool) → (if b then cache.queue else with_read page cache.queue).first + length (if b then cache.queue else with_read page cache.queue).groups ≡ next_number cache
+    by : (b : Bool) → (if b then cache.queue else with_read page cache.queue).first + length (if b then cache.queue else with_read page cache.queue).groups ≡ next_group cache
     by true = refl
     by false = ap (λ n. cache.queue.first + n) (length-groups_read page cache.queue.groups)
 
@@ -115,7 +115,7 @@ front_changed page change cache = by (is_changed cache.pool page) change (count_
     by false false own few = omega (arith, few, count_cons (record { page = page; changed = false }) (beside page cache.pool))
 
 touched_few : (rules : Rules) (page : ℕ) (change : Bool) (cache : Cache) → 1 ≤ rules.groups →
-    (next_number (touched rules page change cache) ≤ next_number cache + 1) × (changed_count (touched rules page change cache).pool ≤ changed_count cache.pool + cond change 1 0)
+    (next_group (touched rules page change cache) ≤ next_group cache + 1) × (changed_count (touched rules page change cache).pool ≤ changed_count cache.pool + cond change 1 0)
 touched_few rules page change cache some =
     let room = room_few rules page cache some in
     let front = with_room rules page cache in
@@ -127,17 +127,17 @@ touch_pushes_one rules page change cache some = (touched_few rules page change c
 -- A flush.
 
 flushed_by_few : (pushes : ℕ) (rules : Rules) (cache : Cache) → 1 ≤ rules.groups →
-    next_number (flushed_by pushes rules cache) + changed_count (flushed_by pushes rules cache).pool ≤ next_number cache + changed_count cache.pool
+    next_group (flushed_by pushes rules cache) + changed_count (flushed_by pushes rules cache).pool ≤ next_group cache + changed_count cache.pool
 flushed_by_few zero rules cache some = omega arith
 flushed_by_few (suc pushes) rules cache some = by (wants_flush cache) refl (flushed_by_few pushes rules (push_changed rules cache) some)
   where
     by : (b : Bool) → wants_flush cache ≡ b →
-        next_number (flushed_by pushes rules (push_changed rules cache)) + changed_count (flushed_by pushes rules (push_changed rules cache)).pool ≤ next_number (push_changed rules cache) + changed_count (push_changed rules cache).pool →
-        next_number (if b then flushed_by pushes rules (push_changed rules cache) else cache) + changed_count (if b then flushed_by pushes rules (push_changed rules cache) else cache).pool ≤ next_number cache + changed_count cache.pool
+        next_group (flushed_by pushes rules (push_changed rules cache)) + changed_count (flushed_by pushes rules (push_changed rules cache)).pool ≤ next_group (push_changed rules cache) + changed_count (push_changed rules cache).pool →
+        next_group (if b then flushed_by pushes rules (push_changed rules cache) else cache) + changed_count (if b then flushed_by pushes rules (push_changed rules cache) else cache).pool ≤ next_group cache + changed_count cache.pool
     by true wants later = omega (arith, later, changed_next rules cache some, push_saves rules cache wants)
     by false none later = omega arith
 
-flushed_few : (rules : Rules) (cache : Cache) → 1 ≤ rules.groups → next_number (flushed rules cache) + changed_count (flushed rules cache).pool ≤ next_number cache + changed_count cache.pool
+flushed_few : (rules : Rules) (cache : Cache) → 1 ≤ rules.groups → next_group (flushed rules cache) + changed_count (flushed rules cache).pool ≤ next_group cache + changed_count cache.pool
 flushed_few rules cache some = flushed_by_few (length cache.pool) rules cache some
 
 pub flush_pushes_changed : FlushPushesChanged
@@ -146,7 +146,7 @@ flush_pushes_changed rules cache some = omega (arith, flushed_few rules cache so
 -- All work.
 
 work_few : (rules : Rules) (work : CacheWork) (cache : Cache) → 1 ≤ rules.groups →
-    next_number (worked rules work cache) + changed_count (worked rules work cache).pool ≤ next_number cache + changed_count cache.pool + groups_for work
+    next_group (worked rules work cache) + changed_count (worked rules work cache).pool ≤ next_group cache + changed_count cache.pool + groups_for work
 work_few rules (touch page change) cache some =
     let few = touched_few rules page change cache some in
     omega (arith, few.0, few.1, two change)

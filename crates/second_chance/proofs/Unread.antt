@@ -26,3 +26,16 @@ with_read_none page queue none = ap (λ (groups : List (List Frame)). record que
 pub length-groups_read : (page : ℕ) (groups : List (List Frame)) → length (groups_read page groups) ≡ length groups
 length-groups_read page [] = refl
 length-groups_read page (group ∷ later) = ap suc (length-groups_read page later)
+
+-- A read leaves the pages of all frames.
+
+group_read_same : (page : ℕ) (group : List Frame) (later : List (List Frame)) (n : ℕ) → in_group (group_read page group later) n ≡ in_group group n
+group_read_same page [] later n = refl
+group_read_same page (f ∷ group) later n = ap (λ b. (f.page == n) || b) (group_read_same page group later n)
+
+groups_read_same : (page : ℕ) (groups : List (List Frame)) (n : ℕ) → in_groups (groups_read page groups) n ≡ in_groups groups n
+groups_read_same page [] n = refl
+groups_read_same page (g ∷ later) n = (λ i. group_read_same page g later n i || groups_read_same page later n i)
+
+pub read_has : (page : ℕ) (queue : Queue) (n : ℕ) → has_frame (with_read page queue) n ≡ has_frame queue n
+read_has page queue n = groups_read_same page queue.groups n

@@ -1,5 +1,5 @@
 -- How many groups work pushes at most.
-use Rattle.std.specs.Prelude.{◌≡◌, ℕ, ◌+◌, ◌*◌, ◌≤◌, Bool, true, List, [], ◌∷◌, length, flat_map, Some, if◌then◌else◌}
+use Rattle.std.specs.Prelude.{◌≡◌, ℕ, ◌+◌, ◌*◌, ◌≤◌, Bool, true, List, [], ◌∷◌, flat_map, Some, if◌then◌else◌}
 use Rattle.std.specs.List.{range_with_len}
 use Rattle.record_model.specs.declared.words.CacheLine.{CacheLine}
 use Rattle.record_model.specs.declared.words.Command.TheVariants.{Abort, Begin, Get, Read, Scan, Set, Write}
@@ -7,12 +7,8 @@ use Rattle.record_model.specs.State.{State}
 use Rattle.record_model.specs.Run.{Line, Turn, left_by, turns}
 use Rattle.record_model.specs.Rows.{fresh}
 use Rattle.record_model.specs.Touches.{CacheWork, touch, flush, run_touches}
-use Rattle.second_chance.specs.Machine.{Rules, Cache, touched, flushed, after_works, opened}
+use Rattle.second_chance.specs.Machine.{Rules, Cache, touched, flushed, after_works, opened, next_group}
 use Rattle.second_chance.specs.Laws.{changed_count}
-
--- the number of the group that the next push appends
-abbrev pub next_number : Cache → ℕ
-next_number cache = cache.queue.first + length cache.queue.groups
 
 -- a group for a touch, since a page may have to leave, and one more for a change, since it may have to be saved
 abbrev pub groups_for : CacheWork → ℕ
@@ -26,18 +22,18 @@ groups_for_all (work ∷ works) = groups_for work + groups_for_all works
 -- A touch pushes at most one group, and a flush at most one for each page that is changed.
 abbrev pub TouchPushesOne : Type 0
 TouchPushesOne = (rules : Rules) (page : ℕ) (change : Bool) (cache : Cache) → 1 ≤ rules.groups
-    → next_number (touched rules page change cache) ≤ next_number cache + 1
+    → next_group (touched rules page change cache) ≤ next_group cache + 1
 
 abbrev pub FlushPushesChanged : Type 0
 FlushPushesChanged = (rules : Rules) (cache : Cache) → 1 ≤ rules.groups
-    → next_number (flushed rules cache) ≤ next_number cache + changed_count cache.pool
+    → next_group (flushed rules cache) ≤ next_group cache + changed_count cache.pool
 
 -- So all work pushes at most a group for each touch and one for each change. A page that was changed before may have to
 -- be saved too; one that is still changed behind it was not.
 abbrev pub WorkPushesFew : Type 0
 WorkPushesFew = (rules : Rules) (works : List CacheWork) (cache : Cache) → 1 ≤ rules.groups
-    → next_number (after_works rules works cache) + changed_count (after_works rules works cache).pool
-    ≤ next_number cache + changed_count cache.pool + groups_for_all works
+    → next_group (after_works rules works cache) + changed_count (after_works rules works cache).pool
+    ≤ next_group cache + changed_count cache.pool + groups_for_all works
 
 -- Fewer aren't enough: over a queue of one group and a pool of two pages each change that is saved at once pushes two
 -- groups, once the pool is full.
@@ -50,7 +46,7 @@ after_changes pages = after_works (record { pages = 2; groups = 1; chances = tru
 
 pub record NearlyAllArePushed : Type 0 where
   pub most : groups_for_all (changes_saved 8) ≡ 16
-  pub pushed : next_number (after_changes 8) ≡ 14
+  pub pushed : next_group (after_changes 8) ≡ 14
   pub saved : changed_count (after_changes 8).pool ≡ 0
 
 -- Lines of input. How many records a line reads, and how many the lines of a run do.

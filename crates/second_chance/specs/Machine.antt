@@ -33,6 +33,10 @@ pub record Cache : Type 0 where
   pub pool : List PoolPage
   pub queue : Queue
 
+-- the number of the group that the next push appends
+abbrev pub next_group : Cache → ℕ
+next_group cache = cache.queue.first + length cache.queue.groups
+
 -- The pool.
 
 abbrev pub holds : List PoolPage → ℕ → Bool

@@ -3,7 +3,7 @@ ghost use Rattle.second_chance.specs.Laws.{EvictionIsPlanned, FlushIsPlanned, St
 ghost use Rattle.second_chance.specs.Laws.{FlushGoesOn, FlushEnds, FlushSavesAll, ChancesStand, ChancesFew};
 ghost use Rattle.second_chance.specs.Groups.{FlushPushesChanged, LinesCounted, LinesPushFew, NearlyAllArePushed};
 ghost use Rattle.second_chance.specs.Groups.{TouchPushesOne, WorkPushesFew};
-ghost use Rattle.second_chance.specs.Laws.{ChancesAreNotStaged, StagedStand, StagedApart};
+ghost use Rattle.second_chance.specs.Laws.{ChancesAreNotStaged};
 
 /// To do what a plan says is the push of the machine: its new group, the pages that leave the pool or are saved, and
 /// the frames that are staged.
@@ -19,12 +19,6 @@ pub fn flushes_save_all()
     ensures goes_on { FlushGoesOn }
     ensures ends { FlushEnds }
     ensures saves_all { FlushSavesAll }
-{}
-
-/// Each frame that a push stages stands in the front group, valid and dirty, and no page is staged twice.
-pub fn staged_frames_are_apart()
-    ensures stand { StagedStand }
-    ensures apart { StagedApart }
 {}
 
 /// Each second chance stands in the front group, valid and referenced; there are at most seven; and none of them is

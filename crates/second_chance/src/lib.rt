@@ -9,8 +9,7 @@ mod rows;
 
 pub use frame::Frame;
 pub use laws::{
-    flushes_save_all, lines_push_few, plans_are_pushes, second_chances_stand,
-    staged_frames_are_apart, work_pushes_few,
+    flushes_save_all, lines_push_few, plans_are_pushes, second_chances_stand, work_pushes_few,
 };
 pub use places::Places;
 pub use plan::{

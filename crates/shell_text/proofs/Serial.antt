@@ -91,10 +91,6 @@ turns_before checkpoints s (u ∷ earlier) later t is =
 
 -- Whether a turn is of the session, by what is told.
 
-not_not : (b : Bool) → not (not b) ≡ b
-not_not true = refl
-not_not false = refl
-
 accepted_is_said : (checkpoints : Bool) (s : State) (command : Command) (listing : List CacheLine) (t : Turn) → t.reply ≡ (turn checkpoints s (Some command) listing).reply →
     not (says_refused (reply_text t.reply)) ≡ is_accepted checkpoints s command
 accepted_is_said checkpoints s command listing t e =

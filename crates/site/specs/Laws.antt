@@ -16,8 +16,8 @@ use Rattle.site.specs.declared.outside.Failed.{Failed}
 use Rattle.site.specs.State.{State, Image, Loose, Range, Moment, Snapshot, MayStand, MayLeave, content_of, with_content}
 use Rattle.site.specs.State.{loose_of, with_loose, is_loose, is_within, faults_of, reads_of, now_of, snapshot_of}
 use Rattle.site.specs.State.{IsSettled, IsQuiet, no_loose}
-use Rattle.site.specs.Calls.{IsUnchanged, HasRead, Preserves, Rose, put, range, within_write, within_tell, Adds, Lies}
-use Rattle.site.specs.Calls.{Stays, Wrote, Synced, Took, Told}
+use Rattle.site.specs.Calls.{IsUnchanged, Preserves, Rose, put, range, within_write, Adds, Lies}
+use Rattle.site.specs.Calls.{Stays, Wrote, Synced}
 use Rattle.site.specs.Moments.{Leaves, since, EachMoment, LeavesOnly, SameBut, OnlyDevice, ChangesOnly, SameAt}
 use Rattle.site.specs.Moments.{Untouched}
 use Rattle.site.specs.Telling.{TellsPart, SameDevices}
@@ -438,16 +438,6 @@ then_sync old mid new P dev result so_far w =
 
 -- reads
 
-pub read_unchanged : {T : Type 0} (dev : Dev) (at : ℕ) (into : List ℕ) (old new : State) (result : Result T Failed)
-    → HasRead dev at into old new result → IsUnchanged old new
-read_unchanged dev at into old new result r = record {
-  image = r.image;
-  loose = r.loose;
-  told = r.told;
-  left = r.left;
-  past = r.past;
-}
-
 pub unchanged : (a : State) → IsUnchanged a a
 unchanged a = record { image = refl; loose = refl; told = refl; left = refl; past = refl }
 
@@ -523,14 +513,6 @@ others_untouched dev d old new ne only =
       content = same.content d ne;
       loose = same.loose d ne;
     }) only
-
-pub tells_untouched : (d : Dev) (piece : List ℕ) (old new : State) → EachMoment old new (TellsPart piece old)
-    → Untouched d old new
-tells_untouched d piece old new tells =
-    each_weaker old new (TellsPart piece old) (SameAt d old) (λ m part. record {
-      content = ap (content_of d) part.image;
-      loose = ap (loose_of d) part.loose;
-    }) tells
 
 pub untouched_in_sequence : (d : Dev) (a b c : State) → Untouched d a b → Untouched d b c → Untouched d a c
 untouched_in_sequence d a b c first second =
@@ -621,10 +603,6 @@ calm a b c Q so_far past now =
 pub unchanged_calm : (a b c : State) (Q : Moment → Type 0) → EachMoment a b Q → IsUnchanged b c → EachMoment a c Q
 unchanged_calm a b c Q so_far same = calm a b c Q so_far same.past (now_same b c same.told same.image same.loose)
 
-pub took_calm : (a b c : State) (Q : Moment → Type 0) (into : List ℕ) (result : Result ℕ Failed) → EachMoment a b Q
-    → Took into b c result → EachMoment a c Q
-took_calm a b c Q into result so_far took = calm a b c Q so_far took.past (now_same b c took.told took.image took.loose)
-
 pub unchanged_devices : (a b : State) → IsUnchanged a b → SameDevices a b
 unchanged_devices a b same = record { image = same.image; loose = same.loose; left = same.left }
 
@@ -633,33 +611,6 @@ devices_in_sequence a b c f s = record { image = s.image ∙ f.image; loose = s.
 
 pub stays_quiet : (a b : State) → SameDevices a b → IsQuiet a → IsQuiet b
 stays_quiet a b same quiet = same.loose ∙ quiet
-
--- Between two calls a crash leaves nothing that it might not leave within the call before it, or the call behind it.
-
-pub before_write : (dev : Dev) (at n : ℕ) (s : State) (snapshot : Snapshot) → MayLeave (now_of s) snapshot
-    → MayLeave (within_write dev at n s) snapshot
-before_write dev at n s snapshot left =
-    stays_leaves dev at n s s snapshot (record { image = refl; loose = refl; told = refl; past = refl }) refl left
-
-pub before_tell : (piece : List ℕ) (s : State) (snapshot : Snapshot) → MayLeave (now_of s) snapshot
-    → MayLeave (within_tell piece s) snapshot
-before_tell piece s snapshot left = record {
-  told = (zero, told_is s snapshot left ∙ sym (append-nil s.told));
-  content = left.content;
-}
-
--- what is left after a tell, the moment within it might have left
-pub told_leaves : (piece : List ℕ) (old new : State) (result : Result ℕ Failed) (snapshot : Snapshot)
-    → Told piece old new result → MayLeave (now_of new) snapshot → MayLeave (within_tell piece old) snapshot
-told_leaves piece old new result snapshot told left = record {
-  told = let some = some_told result told in (some.0, told_is new snapshot left ∙ some.1);
-  content = λ dev. stands_at _ _ _ _ _ (ap (loose_of dev) told.loose) (ap (content_of dev) told.image)
-      (left.content dev);
-}
-  where
-    some_told : (r : Result ℕ Failed) → Told piece old new r → (n : ℕ) × (new.told ≡ old.told ++ take n piece)
-    some_told (Ok n) t = (n, t.told)
-    some_told (Err e) t = t.failed
 
 -- a whole piece
 

@@ -28,15 +28,6 @@ own old new at text w =
     ∙ ap (take (length text)) (drop_at (take at old) (text ++ drop (at + length text) old) at (front at old (omega (arith, w.inside))))
     ∙ take_at text (drop (at + length text) old) (length text) refl
 
--- a part of it
-pub own_part : (old new : List ℕ) (at : ℕ) (text : List ℕ) (from n : ℕ) → Wrote old new at text → from + n ≤ length text
-    → take n (drop (at + from) new) ≡ take n (drop from text)
-own_part old new at text from n w inside =
-    ap (take n) (sym (drop-drop from at new)
-    ∙ ap (drop from) (ap (drop at) w.written ∙ drop_at (take at old) (text ++ drop (at + length text) old) at (front at old (omega (arith, w.inside))))
-    ∙ drop-append-le from text (drop (at + length text) old) (omega (arith, inside)))
-    ∙ take-append-le n (drop from text) (drop (at + length text) old) (omega (arith, inside, length-drop from text))
-
 -- a part in front of it
 pub before : (old new : List ℕ) (at : ℕ) (text : List ℕ) (p n : ℕ) → Wrote old new at text → p + n ≤ at
     → take n (drop p new) ≡ take n (drop p old)

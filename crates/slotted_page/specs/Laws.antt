@@ -10,9 +10,6 @@ pub record IsBlank (octets : List ℕ) : Type 0 where
   pub used : used_of octets ≡ 0
   pub slots : slots_of octets ≡ replicate 32 None
 
-abbrev pub ZerosAreBlank : Type 0
-ZerosAreBlank = IsBlank (replicate 4096 0)
-
 -- a page has 32 slots, each with its content
 pub record HasSlots (octets : List ℕ) : Type 0 where
   pub count : length (slots_of octets) ≡ 32

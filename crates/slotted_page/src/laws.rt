@@ -1,11 +1,6 @@
 // Laws of pages, for the proofs of code above. They do nothing when called.
 ghost use Rattle.std.specs.Prelude.{ℕ, List};
-ghost use Rattle.slotted_page.specs.Laws.{ZerosAreBlank, HasSlots, AreShort, EachValueFits};
-
-/// A page of zeros is sound, with empty slots and the LSN 0.
-pub fn zeros_are_blank()
-    ensures { ZerosAreBlank }
-{}
+ghost use Rattle.slotted_page.specs.Laws.{HasSlots, AreShort, EachValueFits};
 
 /// A page has 32 slots, and in a sound one no value is longer than values are.
 pub fn slots_of_a_page()

@@ -1,5 +1,5 @@
 -- What staging has done to the devices.
-use Rattle.std.proofs.Common.{◌≡◌, ◌≢◌, ℕ, suc, ◌+◌, ◌<◌, List, [], ◌∷◌, length, get_or, refl, sym, ap, subst, arith}
+use Rattle.std.proofs.Common.{◌≡◌, ◌≢◌, ℕ, suc, ◌<◌, List, [], ◌∷◌, length, get_or, refl, sym, ap, subst, arith}
 use Rattle.std.specs.List.{All, AllByRecursion}
 use Rattle.site.specs.declared.outside.Dev.{Dev}
 use Rattle.site.specs.declared.outside.Dev.TheVariants.{Log, Flash, Disk}
@@ -15,7 +15,7 @@ use Rattle.image_changes.specs.Changes.{Change, RewritesPages, Rewrites, Reaches
 use Rattle.image_changes.specs.Reached.{IsReached, LeavesFront, IsFrontOf}
 use Rattle.image_changes.proofs.Adding.{none_made}
 use Rattle.image_changes.proofs.Sequence.{reads_itself}
-use Rattle.stage_out.specs.Staged.{IsBesideAll, LeavesBeside, LeavesStaged, HasLeft, HasWritten, HasStaged, changes_of, calls_of}
+use Rattle.stage_out.specs.Staged.{IsBesideAll, LeavesBeside, LeavesStaged, HasLeft, HasWritten, HasStaged, changes_of}
 
 pub left_staged : (pages : List ℕ) (old new : State) → HasLeft pages old new → LeavesOnly old new (LeavesStaged pages old)
 left_staged pages old new left =
@@ -61,10 +61,6 @@ same_there d old s settled may = settled_is (content_of d old.image) (content_of
 pub changes_some : (pages : List ℕ) → 0 < length pages → changes_of pages ≡ RewritesPages pages ∷ []
 changes_some [] some = absurd (omega arith)
 changes_some (page ∷ pages) some = refl
-
-pub calls_some : (pages : List ℕ) → 0 < length pages → calls_of pages ≡ length pages + 1
-calls_some [] some = absurd (omega arith)
-calls_some (page ∷ pages) some = refl
 
 -- of a quiet site a crash leaves the rewritten pages
 pub front : (g : Geometry) (pages : List ℕ) (old new : State) → 0 < length pages → HasLengths g old.image → All (λ p. LiesOn p old.image.disk) pages → IsQuiet old → LeavesOnly old new (LeavesStaged pages old) → LeavesFront g (changes_of pages) old new

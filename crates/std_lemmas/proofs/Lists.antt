@@ -1,5 +1,6 @@
 -- Lists under `map`, `filter` and tests, and fronts of lists.
 use Rattle.std.proofs.Common.{◌≡◌, ◌≢◌, ℕ, zero, suc, ◌+◌, ◌-◌, ◌<◌, ◌≤◌, Bool, true, false, cond, ◌||◌, List, [], ◌∷◌, ◌++◌, map, filter, reverse, length, get_or, take, drop, slice_get, Some, refl, sym, ap, ◌∙◌, length-append, length-take-le, take_at, arith}
+use mathlib.Core.List.{reverse_aux}
 use Rattle.std.specs.List.{AllByRecursion, list_any, range_with_len}
 use Rattle.std.proofs.lemmas.List.{reverse-append, take_more, drop_more}
 use Rattle.std.proofs.lemmas.List.Folds.{list_any-append}
@@ -16,6 +17,10 @@ map_same f g (x ∷ xs) h = ap (λ y. y ∷ map f xs) h.0 ∙ ap (λ l. g x ∷ 
 pub map_map : {X Y Z : Type 0} (g : Y → Z) (f : X → Y) (xs : List X) → map g (map f xs) ≡ map (λ x. g (f x)) xs
 map_map g f [] = refl
 map_map g f (x ∷ xs) = ap (λ l. g (f x) ∷ l) (map_map g f xs)
+
+pub map_reverse_aux : {X Y : Type 0} (f : X → Y) (xs ys : List X) → reverse_aux (map f xs) (map f ys) ≡ map f (reverse_aux xs ys)
+map_reverse_aux f [] ys = refl
+map_reverse_aux f (x ∷ xs) ys = map_reverse_aux f xs (x ∷ ys)
 
 pub filter_all : {X : Type 0} (test : X → Bool) (xs : List X) → AllByRecursion (λ x. test x ≡ true) xs → filter test xs ≡ xs
 filter_all test [] h = refl

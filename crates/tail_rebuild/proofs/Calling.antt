@@ -6,7 +6,7 @@ use Rattle.site.specs.declared.outside.Stop.{Stop}
 use Rattle.site.specs.declared.outside.Stop.TheVariants.{Device}
 use Rattle.site.specs.State.{State}
 use Rattle.site.specs.Faults.{after_work}
-use Rattle.site.proofs.Working.{err_again, no_error}
+use Rattle.site.proofs.Working.{no_error}
 use Rattle.site.specs.Laws.{stays_honest, goes_in_sequence, unchanged_in_sequence, fault_since}
 use Rattle.tail_rebuild.specs.Listing.{ReadsFlash}
 
@@ -32,17 +32,6 @@ reads_answered {A} {B} x y n k a b most reads = record {
   others = reads.others;
   device = λ says. absurd (no_error {T = B} {x = y} {e = Device Flash} says);
   stops = tt;
-}
-
-pub reads_failed : {A B : Type 0} (stop : Stop) (n k : ℕ) (a b : State) → n ≤ k → ReadsFlash {T = A} (Err stop) n a b → ReadsFlash {T = B} (Err stop) k a b
-reads_failed stop n k a b most reads = record {
-  same = reads.same;
-  goes = reads.goes;
-  faults = reads.faults;
-  reads = let one = reads.reads in omega (arith, one, most);
-  others = reads.others;
-  device = λ says. reads.device (err_again stop (Device Flash) says);
-  stops = reads.stops;
 }
 
 -- what follows from two facts on an answer

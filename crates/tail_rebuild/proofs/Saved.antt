@@ -6,8 +6,8 @@ use Rattle.site.specs.declared.geometry.Geometry.{Geometry}
 use Rattle.site.specs.State.{State, Image}
 use Rattle.sealed_ring.specs.declared.slots.Shape.{Shape}
 use Rattle.sealed_ring.specs.declared.ring.Ring.{Ring}
-use Rattle.sealed_ring.specs.Ring.{hi_of, units_of, unit_at, number, IsLive}
-use Rattle.sealed_ring.specs.Row.{HaveContents, StandInRow}
+use Rattle.sealed_ring.specs.Ring.{hi_of, units_of, unit_at, IsLive}
+use Rattle.sealed_ring.specs.Row.{HaveContents}
 use Rattle.sealed_ring.specs.Ready.{region, units_in, Matches as RingFits}
 use Rattle.sealed_ring.specs.Near.{IsNear}
 use Rattle.sealed_ring.proofs.Units.{live_count}
@@ -57,14 +57,6 @@ module _ (g : Geometry) (ring : Ring) (site : State) (n count : ℕ) (segments :
   hold_segments slots have i less =
       segment_is g ring site (n + i) segments (take 512 (drop (i * 1024 + 9) slots)) shape fits (lives i less) has
       (sym (ap (λ (s : Shape). take s.room (drop (i * s.stride + 9) slots)) shape) ∙ have i less)
-
-  pub stand_in_row : StandInRow ring.shape n count (region ring.shape site)
-  stand_in_row i less =
-      let slots : ring.shape.slots ≡ g.groups / 4 + 3 = ap (λ (s : Shape). s.slots) shape in
-      let hi : ring.hi ≡ hi_of (segment_shape g) site.image.flash = fits ∙ ap (λ (s : Shape). hi_of s (region s site)) shape in
-      let near = live.near in
-      subst (λ (s : Shape). number s (region s site) ((n + i) % s.slots) ≡ n + i) (sym shape)
-      (has.form.numbers (n + i) (omega (arith, less, most, hi)) (omega (arith, near, hi, slots)))
 
 -- the list of live heads goes on with those of a live segment
 pub goes_on : (g : Geometry) (first : ℕ) (stand : List (List Frame)) (saved : List (List FrameHead)) (image : Image) (s at : ℕ) → HasGroups g first stand image → HasSaved g stand saved image

@@ -1,5 +1,5 @@
 -- The octets of a line, one after the other.
-use Rattle.std.proofs.Common.{◌≡◌, ◌≢◌, ℕ, zero, suc, ◌-◌, ◌<◌, Bool, true, List, [], ◌∷◌, ◌++◌, length, take, drop, refl, sym, ◌∙◌, ap, subst, arith, append_assoc, length-append}
+use Rattle.std.proofs.Common.{◌≡◌, ℕ, zero, suc, ◌-◌, ◌<◌, Bool, true, List, [], ◌∷◌, ◌++◌, length, take, drop, refl, sym, ◌∙◌, ap, subst, arith, length-append}
 use Rattle.std.specs.Prelude.{◌==◌, false, Option, Some, None, if◌then◌else◌}
 use Rattle.std.proofs.lemmas.List.{append-nil}
 use Rattle.std.proofs.lemmas.Bool.{ne_eqb}
@@ -17,16 +17,6 @@ use Rattle.trace_report.proofs.Spelled.{too_long}
 pub record SoFar (before after line : List ℕ) : Type 0 where
   pub all : before ≡ line ++ after
   pub none : HasNoNewline line
-
-pub nothing_yet : (before : List ℕ) → SoFar before before []
-nothing_yet before = record { all = refl; none = tt }
-
-all_more : (x : ℕ) (ne : x ≢ 10) (xs : List ℕ) → HasNoNewline xs → HasNoNewline (xs ++ x ∷ [])
-all_more x ne [] a = (ne, tt)
-all_more x ne (y ∷ xs) a = (a.0, all_more x ne xs a.1)
-
-pub octet_more : (before after line : List ℕ) (x : ℕ) → SoFar before (x ∷ after) line → x ≢ 10 → SoFar before after (line ++ x ∷ [])
-octet_more before after line x h ne = record { all = h.all ∙ sym (append_assoc line (x ∷ []) after); none = all_more x ne line h.none }
 
 pub octet_is : (o : Option ℕ) (x : ℕ) (before after : List ℕ) → HearsOctet o before after → o ≡ Some x → before ≡ x ∷ after
 octet_is o x before after h is = subst (λ (p : Option ℕ). HearsOctet p before after) is h
@@ -58,11 +48,6 @@ last_heard said before after (x ∷ line) h nothing some is =
 pub some_octet : (n : ℕ) (empty : Bool) → empty ≡ (n == 0) → empty ≡ false → 0 < n
 some_octet zero empty is not_empty = let bad : true ≡ false = sym is ∙ not_empty in cc
 some_octet (suc n) empty is not_empty = omega arith
-
--- no line
-pub no_more : (before : List ℕ) (line : List ℕ) → SoFar before [] line → length line ≡ 0 → before ≡ []
-no_more before [] h none = h.all
-no_more before (x ∷ line) h none = absurd (omega (arith, none))
 
 -- octets with no newline among them begin the first line
 record Begins (line : List ℕ) (lines : List (List ℕ)) : Type 0 where

@@ -24,17 +24,6 @@ too_great line text change page is number great fits t touch =
     let same : page ≡ t.0 = decimal_injective page t.0 fits (omega (arith, small)) (sym number ∙ here.1) in
     absurd (omega (arith, same, small, great))
 
--- the page's text is no number's
-pub no_number : (line text : List ℕ) (change : Bool) → line ≡ letter change ++ text → ((n : ℕ) → n < 10 ^ 9 → text ≡ decimal n → ⊥) → IsWrong line
-no_number line text change is none t touch =
-    let here = behind_letter change t.1 text (decimal t.0) (sym is ∙ touch.text) in
-    let small = touch.page in
-    none t.0 (omega (arith, small)) here.1
-
--- there is no letter
-pub no_letter : (line : List ℕ) → ((change : Bool) (page : List ℕ) → line ≡ letter change ++ page → ⊥) → IsWrong line
-no_letter line none t touch = none t.1 (decimal t.0) touch.text
-
 length-letter : (b : Bool) → length (letter b) ≡ 2
 length-letter true = refl
 length-letter false = refl

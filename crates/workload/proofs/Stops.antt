@@ -1,36 +1,9 @@
 -- The stop lines of a script, and its lives.
-use Rattle.std.proofs.Common.{◌≡◌, ℕ, zero, suc, ◌+◌, ◌-◌, ◌≤◌, ◌<◌, Bool, true, false, List, [], ◌∷◌, length, take, drop, Option, Some, None, refl, sym, ap, ◌∙◌, arith, length-drop}
-use Rattle.std.specs.Prelude.{min, slice_range, slice_get, if◌then◌else◌}
-use Rattle.std.proofs.Math.ListN.{drop_of_length-le}
-use Rattle.std.proofs.lemmas.List.{length-take-le}
-use Rattle.shell_text.specs.Runs.{lines_of}
+use Rattle.std.proofs.Common.{◌≡◌, ℕ, zero, suc, ◌+◌, ◌-◌, ◌<◌, Bool, true, false, List, [], ◌∷◌, length, take, Option, Some, None, refl, ap, ◌∙◌, arith}
+use Rattle.std.specs.Prelude.{min, slice_get, if◌then◌else◌}
 use Rattle.workload.specs.declared.scripts.Life.{Life}
 use Rattle.workload.specs.declared.scripts.StopLine.{StopLine}
-use Rattle.workload.specs.Scripts.{stop_of, with_stop, stops_among, stops_from, lives_between}
-
--- behind the last octet there is none
-pub stops_past : (script : List ℕ) (at : ℕ) → length script ≤ at → stops_from script at ≡ []
-stops_past script at past = ap (λ (octets : List ℕ). stops_among at (lines_of true octets)) (drop_of_length-le script past)
-
--- the line at a place, and those behind it
-pub stops_at : (script : List ℕ) (at end : ℕ) → at ≤ end → end ≤ length script →
-    lines_of true (drop at script) ≡ slice_range script at end ∷ lines_of true (drop (end + 1) script) →
-    stops_from script at ≡ with_stop at (end + 1) (stop_of (slice_range script at end)) (stops_from script (end + 1))
-stops_at script at end order inside line =
-    let line-length : length (slice_range script at end) ≡ end - at = length-take-le (end - at) (drop at script) (omega (arith, length-drop at script)) in
-    let next : at + length (slice_range script at end) + 1 ≡ end + 1 = omega (arith, line-length, order) in
-    ap (stops_among at) line
-    ∙ ap (λ (n : ℕ). with_stop at n (stop_of (slice_range script at end)) (stops_among n (lines_of true (drop (end + 1) script)))) next
-
--- where it is a stop line
-pub stop_at : (script : List ℕ) (at end k seed : ℕ) → stops_from script at ≡ with_stop at (end + 1) (stop_of (slice_range script at end)) (stops_from script (end + 1)) →
-    Some (k, seed) ≡ stop_of (slice_range script at end) → stops_from script at ≡ record { from = at; next = end + 1; limit = k; seed = seed } ∷ stops_from script (end + 1)
-stop_at script at end k seed all is = all ∙ ap (λ (o : Option (ℕ × ℕ)). with_stop at (end + 1) o (stops_from script (end + 1))) (sym is)
-
--- where it is none
-pub no_stop_at : (script : List ℕ) (at end : ℕ) → stops_from script at ≡ with_stop at (end + 1) (stop_of (slice_range script at end)) (stops_from script (end + 1)) →
-    None ≡ stop_of (slice_range script at end) → stops_from script at ≡ stops_from script (end + 1)
-no_stop_at script at end all is = all ∙ ap (λ (o : Option (ℕ × ℕ)). with_stop at (end + 1) o (stops_from script (end + 1))) (sym is)
+use Rattle.workload.specs.Scripts.{stops_from, lives_between}
 
 -- Lives.
 

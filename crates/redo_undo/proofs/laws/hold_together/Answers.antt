@@ -2,8 +2,9 @@ use Rattle.std.proofs.Common.{ℕ, List, sym, ap, ◌∙◌}
 use Rattle.record_model.specs.State.{content_at}
 use Rattle.slotted_page.specs.Layout.{slots_of}
 use Rattle.buffer_pool.specs.Frames.{front_of}
+use Rattle.page_store.proofs.Fitting.{front_exists}
 use Rattle.redo_laws.proofs.CallsInSequence.{opened_holds, stands_there, nothing_happens, holds_still}
-use Rattle.redo_laws.proofs.Changed.{front_exists, front_is_current}
+use Rattle.redo_laws.proofs.Changed.{front_is_current}
 use Rattle.redo_laws.proofs.Empties.{empty_holds}
 use Rattle.redo_undo.proofs.laws.hold_together.Goals as goal
 

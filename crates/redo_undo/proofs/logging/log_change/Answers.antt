@@ -3,8 +3,9 @@ use Rattle.slotted_page.specs.Layout.{lsn_of}
 use Rattle.site.specs.declared.geometry.Geometry.{Geometry}
 use Rattle.page_store.specs.Representation.{current}
 use Rattle.flash_cache.specs.declared.cache.FlashCache.{FlashCache}
+use Rattle.page_store.proofs.Fitting.{front_exists}
 use Rattle.redo_laws.specs.Holding.{RepresentsIn}
-use Rattle.redo_laws.proofs.Changed.{holds_on, other_pages, front_exists, front_is_current}
+use Rattle.redo_laws.proofs.Changed.{holds_on, other_pages, front_is_current}
 use Rattle.page_store.proofs.StagingLaws.{stages_between, stages_ok, stages_err}
 use Rattle.redo_laws.proofs.Asking.{stages_log}
 use Rattle.redo_undo.proofs.logging.log_change.Goals as goal

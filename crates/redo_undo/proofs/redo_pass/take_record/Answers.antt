@@ -6,10 +6,10 @@ use Rattle.redo_undo.specs.Redoing.{asked_of}
 use Rattle.site.proofs.Working.{ok_as}
 use Rattle.redo_laws.proofs.CallsInSequence.{some_group}
 use Rattle.redo_undo.proofs.NextRecords.{may_step, known_before, no_change}
-use Rattle.redo_undo.proofs.RedoWorks.{stops_first, not_worn, asks_early, asks_late}
+use Rattle.redo_undo.proofs.RedoWorks.{stops_first, asks_early, asks_late}
 use Rattle.redo_undo.proofs.TakenRecords.{analysis_to, analysis_back, step_to}
 use Rattle.std.specs.Prelude.{Err}
-use Rattle.redo_undo.proofs.Calling.{keeps_redoing, keeps_refused_by}
+use Rattle.redo_undo.proofs.Calling.{keeps_redoing, keeps_refused_by, not_worn}
 use Rattle.redo_undo.proofs.redo_pass.take_record.Goals as goal
 
 pub returns-in-Err-clause-takes : goal.returns-in-Err-clause-takes

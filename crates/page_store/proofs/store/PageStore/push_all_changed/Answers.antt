@@ -9,6 +9,7 @@ use Rattle.second_chance.specs.Laws.{changed_count}
 use Rattle.log_store.specs.LogList.{LogList, sealed_if}
 use Rattle.log_store.specs.Representation.{has_tail}
 use Rattle.write_ahead.specs.Forcing.{forces, is_unsealed, end_now}
+use Rattle.second_chance.proofs.GroupCounts.{changed_next}
 use Rattle.page_store.specs.declared.store.PageStore.{PageStore}
 use Rattle.page_store.specs.Caching.{next_group, cache_of, rules as rules_for}
 use Rattle.buffer_pool.specs.declared.frame.Frame.{Frame}
@@ -19,7 +20,7 @@ use Rattle.page_store.proofs.Choosing.{first_changed}
 use Rattle.page_store.specs.Changing.{standing, push_changes, flush_changes, after_push, pushes_changes}
 use Rattle.page_store.proofs.Left.{some_left, none_left, front_pages, back_pages, all_changed}
 use Rattle.page_store.proofs.Unsealed.{next_round, nothing_forced, forced_by_first}
-use Rattle.page_store.proofs.Numbers.{changed_next, flushed_next, flushed_more}
+use Rattle.page_store.proofs.Numbers.{flushed_next, flushed_more}
 use Rattle.page_store.proofs.Rounds.{kept_block, no_tail, risen, sealed_again}
 use Rattle.page_store.proofs.Appending.{has_pushed}
 use Rattle.page_store.proofs.Changing.{HasMade, gives_versions, standing_after, none_to_come, one_to_come}

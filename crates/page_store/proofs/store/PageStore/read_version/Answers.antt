@@ -2,7 +2,7 @@ use Rattle.std.specs.Prelude.{Ok, Bool}
 use Rattle.page_store.specs.declared.store.PageStore.{PageStore}
 use Rattle.page_store.specs.Staging.{HasQueueOn}
 use Rattle.std.proofs.Common.{rules, ◌≡◌, true, false, arith, sym, ap, subst, ◌∙◌, refl}
-use Rattle.second_chance.proofs.Unread.{with_read_none}
+use Rattle.second_chance.proofs.Unread.{with_read_none, read_has}
 use Rattle.site.specs.declared.outside.Dev.TheVariants.{Log, Disk}
 use Rattle.site.specs.declared.outside.Stop.TheVariants.{Foreign}
 use Rattle.site.specs.State.{Image}
@@ -16,7 +16,6 @@ use Rattle.page_store.specs.Representation.{Invariant, Matches}
 use Rattle.page_store.proofs.PushLaws.{flash_fits_same, flash_holds_same, kept_where}
 use Rattle.page_store.proofs.Versions.{flash_later, store_with, fits_with}
 use Rattle.page_store.proofs.StagingLaws.{stages_still, queue_same, queue_pushed}
-use Rattle.page_store.proofs.ToldPages.{read_has}
 use Rattle.page_store.proofs.store.PageStore.read_version.Given.{Over}
 use Rattle.page_store.proofs.store.PageStore.read_version.Goals.{After-read_disk}
 use Rattle.page_store.proofs.store.PageStore.read_version.Goals as goal
