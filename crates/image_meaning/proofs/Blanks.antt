@@ -24,7 +24,7 @@ use Rattle.meta_segments.specs.Following.{Follow}
 use Rattle.meta_segments.proofs.Numbers.{none_follow}
 use Rattle.tail_rebuild.specs.Standing.{HasSaved}
 use Rattle.flash_cache.specs.Representation.{frames_on, disk_on, version_on}
-use Rattle.image_meaning.specs.Meaning.{IsUnused, IsFrameOf, AreSegments, AreOctetsSound, IsSound, picture, versions_on}
+use Rattle.image_meaning.specs.Meaning.{IsUnused, IsFrameOf, AreSegments, AreOctetsSoundUnder, IsSoundUnder, picture, versions_on}
 use Rattle.image_meaning.specs.Laws.{BlankStands}
 use Rattle.image_meaning.proofs.Versions.{length-versions, version_is}
 use Rattle.log_records.proofs.Values.{page_and_slot, length_table_of}
@@ -82,7 +82,7 @@ module _ (ring_of_zeros : BlankIsRing) (g : Geometry) (limits : HasLimits g) whe
       let there : version_on g (blank_image g) number ≡ disk_on (blank_image g) number = ap (λ (fs : List Frame). version (disk_on (blank_image g)) fs number) no_frames in
       subst IsBlank (sym there) (page_of_zeros 4096 number g.pages refl within)
 
-  pub octets : AreOctetsSound g (blank_image g)
+  pub octets : AreOctetsSoundUnder None g (blank_image g)
   octets = record {
     limits = limits;
     lengths = lengths;
@@ -123,7 +123,7 @@ module _ (ring_of_zeros : BlankIsRing) (g : Geometry) (limits : HasLimits g) whe
     commits = record { before_redo = omega arith; run_on = refl; fit = omega arith };
   }
 
-  pub sound_blank : BlankHasNoBlocks → IsSound g (blank_image g) []
+  pub sound_blank : BlankHasNoBlocks → IsSoundUnder None g (blank_image g) []
   sound_blank no_blocks = record { octets = octets; held = no_blocks g limits; records = records }
 
   -- no slot has a value

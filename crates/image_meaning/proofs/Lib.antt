@@ -20,10 +20,6 @@ pub mod OrderlyLogs
 pub mod WholePushes
 pub mod Leaving
 pub mod Rooms
-pub mod FirstSets
-pub mod LogsAlone
-pub mod FirstPushes
-pub mod FirstCheckpoints
 pub mod Arrivals
 pub mod Beside
 pub mod CheckpointMoments

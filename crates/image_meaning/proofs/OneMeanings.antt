@@ -16,7 +16,7 @@ use Rattle.log_store.specs.LogList.{LogList}
 use Rattle.log_store.specs.Representation.{HasBlocks, Represents}
 use Rattle.log_store.specs.Laws.{OneLog}
 use Rattle.image_meaning.specs.Meaning.{saved_by, kept_by, picture_under, HasNewest, IsSoundUnder, StandsUnder}
-use Rattle.image_meaning.specs.Laws.{OneMeaning, OneMeaningFor, OneMasterStands, NewestIsRead, ReadIsNewest}
+use Rattle.image_meaning.specs.Laws.{OneMeaningFor, OneMasterStands, NewestIsRead, ReadIsNewest}
 
 -- a store that has found no block
 abbrev empty_store : Geometry → LogStore
@@ -44,9 +44,6 @@ module _ (one : OneLog) (newest : Option Master) (g : Geometry) (image : Image) 
 
       count_by : List (List LogRecord) → ℕ
       count_by blocks = commit_count (picture_under newest g image blocks)
-
-pub one_meaning : OneLog → OneMeaning
-one_meaning one g image table other commits many stands too = one_meaning_under one None g image table other commits many stands too
 
 pub one_master_stands : OneNewest → OneMasterStands
 one_master_stands one g image None None first second = refl

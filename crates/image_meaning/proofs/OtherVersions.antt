@@ -1,13 +1,11 @@
 -- Other versions of the pages keep a picture sound, and what it stands for.
-use Rattle.std.proofs.Common.{◌+◌, ◌≡◌, ℕ, ◌*◌, ◌/◌, ◌%◌, ◌<◌, List, length, Some, None, refl, sym, ap, ◌∙◌, arith, ◌≤◌, ◌==◌, ◌||◌, subst}
-use Rattle.std.specs.Prelude.{Option, IsTrue, nat_lt}
-use Rattle.std.specs.List.{AllByRecursion}
+use Rattle.std.proofs.Common.{◌≡◌, ℕ, ◌*◌, ◌/◌, ◌%◌, ◌<◌, List, length, Some, None, refl, sym, ap, ◌∙◌, arith}
+use Rattle.std.specs.Prelude.{Option}
 use Rattle.std.proofs.lemmas.Nat.{mod_below}
 use Rattle.std_lemmas.proofs.AllOf.{all_weaker}
-use Rattle.record_model.specs.State.{Content, content_at}
-use Rattle.log_records.specs.Log.{Entry, Version, version_at, slot_at, number_of, last_on, value_after, value_of}
-use Rattle.log_records.specs.Sound.{Picture, IsSound, Means, FitsLog, IsInTable, ShowsLast, last_known, before_block}
-use Rattle.log_laws.specs.NewImage.{Replaces}
+use Rattle.record_model.specs.State.{Content}
+use Rattle.log_records.specs.Log.{Entry, Version, version_at, slot_at, last_on, value_after, value_of}
+use Rattle.log_records.specs.Sound.{Picture, IsSound, Means, FitsLog, IsInTable}
 use Rattle.log_laws.proofs.Versions.{table_same}
 use Rattle.image_meaning.specs.Pictures.{with_versions, ReplaceAll, VersionsAreSound, VersionsMean, VersionReplacesItself}
 use Rattle.log_records.proofs.Values.{page_and_slot}
@@ -56,20 +54,3 @@ versions_mean p versions sound r table count means = means_with p versions sound
 
 pub version_replaces_itself : VersionReplacesItself
 version_replaces_itself p page sound within = record { fits = sound.versions_fit page within; as_before = λ slot less none. refl }
-
--- a version with the same LSN and the same slots as the page's replaces it
-fits_alike : (p : Picture) (page : ℕ) (v w : Version) → FitsLog p page v → w.lsn ≡ v.lsn → ((slot : ℕ) → slot < 32 → content_at w.slots slot ≡ content_at v.slots slot) → FitsLog p page w
-fits_alike p page v w fits lsn same = record {
-  logged = subst (λ (n : ℕ). IsTrue ((n == 0) || nat_lt n (512 * p.hi))) (sym lsn) fits.logged;
-  shows = λ slot less.
-      subst (λ (c : Content). ShowsLast c (last_known p.log w.lsn (32 * page + slot))) (sym (same slot less))
-      (subst (λ (n : ℕ). ShowsLast (content_at v.slots slot) (last_known p.log n (32 * page + slot))) (sym lsn) (fits.shows slot less));
-  knows = subst (λ (l : ℕ). AllByRecursion (λ e. (n : ℕ) → number_of e.rec ≡ Some n → n / 32 ≡ page → e.lsn ≤ l) (before_block p.master.redo p.log)) (sym lsn) fits.knows;
-}
-
-pub alike_replaces : (p : Picture) (page : ℕ) (w : Version) → IsSound p → page < length p.pages → w.lsn ≡ (version_at p.pages page).lsn →
-    ((slot : ℕ) → slot < 32 → content_at w.slots slot ≡ content_at (version_at p.pages page).slots slot) → Replaces p page w
-alike_replaces p page w sound within lsn same = record {
-  fits = fits_alike p page (version_at p.pages page) w (sound.versions_fit page within) lsn same;
-  as_before = λ slot less none. same slot less;
-}

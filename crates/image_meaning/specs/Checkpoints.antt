@@ -1,28 +1,21 @@
 -- Laws on a new master.
-use Rattle.std.specs.Prelude.{◌≡◌, ◌⊎◌, ℕ, ◌+◌, ◌*◌, ◌/◌, ◌<◌, ◌≤◌, ◌==◌, true, List, [], ◌∷◌, ◌++◌, replicate}
-use Rattle.std.specs.Prelude.{slice_set, Option, Some, None, if◌then◌else◌}
+use Rattle.std.specs.Prelude.{◌≡◌, ◌⊎◌, ℕ, ◌+◌, ◌*◌, ◌≤◌, true, List, [], ◌∷◌, ◌++◌}
+use Rattle.std.specs.Prelude.{Option, Some}
 use Rattle.std.specs.List.{AllByRecursion}
 use Rattle.site.specs.declared.geometry.Geometry.{Geometry}
-use Rattle.site.specs.Geometry.{HasLimits, blank_image}
 use Rattle.site.specs.State.{State, Image}
 use Rattle.site.specs.Moments.{LeavesOnly}
-use Rattle.record_model.specs.State.{Content, content_at}
+use Rattle.record_model.specs.State.{Content}
 use Rattle.log_records.specs.declared.log_record.LogRecord.{LogRecord}
-use Rattle.log_records.specs.Spelling.{IsShort}
-use Rattle.log_records.specs.Log.{version_at}
 use Rattle.log_records.specs.Sound.{AreOrderly, Means}
 use Rattle.log_laws.specs.NewImage.{with_master, MayCheckpoint}
-use Rattle.log_laws.specs.SetLaws.{set_records}
-use Rattle.slotted_page.specs.Layout.{lsn_of, slots_of}
-use Rattle.slotted_page.specs.Layout as page
-use Rattle.frame_group.specs.Groups.{IsGroup}
 use Rattle.checkpoint.specs.declared.master.Master.{Master}
-use Rattle.checkpoint.specs.Units.{unit, IsUnit, master_in}
+use Rattle.checkpoint.specs.Units.{IsUnit, master_in}
 use Rattle.checkpoint.specs.Newest.{seen}
-use Rattle.image_changes.specs.Changes.{Change, SealsBlock, AppendsGroup, AppendsMaster, Makes, Reaches}
+use Rattle.image_changes.specs.Changes.{Change, AppendsMaster, Makes, Reaches}
 use Rattle.image_changes.specs.Reached.{LeavesFront}
-use Rattle.image_meaning.specs.Meaning.{master_of, kept_by, picture_under, picture, versions_on, AreOctetsSoundUnder}
-use Rattle.image_meaning.specs.Meaning.{IsSoundUnder, StandsUnder}
+use Rattle.image_meaning.specs.Meaning.{master_of, kept_by, picture_under, AreOctetsSoundUnder}
+use Rattle.image_meaning.specs.Meaning.{IsSoundUnder}
 use Rattle.image_meaning.specs.Changes.{MaySave, MayMake, MayMakeAll, SealsNoCommit, SavesNoMaster, newest_after}
 use Rattle.image_meaning.specs.Changes.{blocks_after, newest_after_all, blocks_after_all}
 use Rattle.image_meaning.specs.Flushed.{IsFlushed, IsMasterOf, oldest_needed}
@@ -158,25 +151,6 @@ SaveStands =
     IsSoundUnder newest g mid.image blocks → Means (picture_under newest g mid.image blocks) table count →
     MaySave newest g mid.image blocks content → LeavesFront g (AppendsMaster content ∷ []) mid new →
     LeavesOnly old new (LeavesFor g table count old.told)
-
--- The first set on blank devices, whose page is pushed, and then a master unit that keeps no block: the image stands
--- for the same, by its pages alone.
-abbrev pub first_master : Master
-first_master = record { redo = 1; kept = 1; commits = 1; active = [] }
-
-abbrev pub FirstCheckpointStands : Type 0
-FirstCheckpointStands =
-    (g : Geometry) (number : ℕ) (value : Content) (mid pushed new : Image) (octets content : List ℕ) → HasLimits g
-    → number < 32 * g.pages → IsShort value →
-    Makes g (SealsBlock (set_records (picture g (blank_image g) []) number value)) (blank_image g) mid →
-    page.IsSound octets → lsn_of octets ≡ 3 →
-    ((slot : ℕ) → slot < 32 → content_at (slots_of octets) slot
-    ≡ (if 32 * (number / 32) + slot
-    == number then value else content_at (version_at (versions_on g mid) (number / 32)).slots slot)) →
-    IsGroup content (record { page = number / 32; dirty = true; octets = octets } ∷ [])
-    → Makes g (AppendsGroup content) mid pushed →
-    Makes g (AppendsMaster (unit first_master)) pushed new →
-    StandsUnder (Some first_master) g new (slice_set (replicate (32 * g.pages) None) number value) 1
 
 -- The master of a sound image keeps the blocks of the transactions that it names as active.
 abbrev pub ActiveAreKept : Type 0

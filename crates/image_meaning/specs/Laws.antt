@@ -21,22 +21,15 @@ use Rattle.image_changes.specs.Changes.{Reaches}
 use Rattle.log_store.specs.Representation.{HasBlocks}
 use Rattle.flash_cache.specs.Representation.{version_on}
 use Rattle.image_meaning.specs.Meaning.{saved_by, kept_by, picture_under, version_in, HasNewest, AreOctetsSoundUnder}
-use Rattle.image_meaning.specs.Meaning.{IsSoundUnder, Stands, StandsFor}
+use Rattle.image_meaning.specs.Meaning.{IsSoundUnder, StandsUnder, StandsFor}
 use Rattle.image_meaning.specs.Changes.{MaySaveSegment, MayAppend, MayStage, MayMake, MayMakeAll, SealsNoCommit}
 use Rattle.image_meaning.specs.Changes.{newest_after, blocks_after, newest_after_all, blocks_after_all}
 
 -- blank devices stand for the table without values
 abbrev pub BlankStands : Type 0
-BlankStands = (g : Geometry) → HasLimits g → Stands g (blank_image g) (replicate (32 * g.pages) None) 0
+BlankStands = (g : Geometry) → HasLimits g → StandsUnder None g (blank_image g) (replicate (32 * g.pages) None) 0
 
 -- an image stands for one table at most
-abbrev pub OneMeaning : Type 0
-OneMeaning =
-    (g : Geometry) (image : Image) (table other : List Content) (commits many : ℕ) → Stands g image table commits
-    → Stands g image other many →
-    (table ≡ other) × (commits ≡ many)
-
--- whatever its newest master is
 abbrev pub OneMeaningFor : Type 0
 OneMeaningFor =
     (g : Geometry) (image : Image) (table other : List Content) (commits many : ℕ) → StandsFor g image table commits

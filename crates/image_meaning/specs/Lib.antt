@@ -9,7 +9,6 @@ pub mod PushLaws
 pub mod Moments
 pub mod Reached
 pub mod PictureLaws
-pub mod Plain
 pub mod Beside
 pub mod Flushed
 pub mod Below

@@ -124,13 +124,3 @@ pub record StandsUnder (newest : Option Master) (g : Geometry) (image : Image) (
 pub record StandsFor (g : Geometry) (image : Image) (table : List Content) (commits : ℕ) : Type 0 where
   pub newest : Option Master
   pub stands : StandsUnder newest g image table commits
-
--- The same where no master unit stands.
-abbrev pub AreOctetsSound : Geometry → Image → Type 0
-AreOctetsSound = AreOctetsSoundUnder None
-
-abbrev pub IsSound : Geometry → Image → List (List LogRecord) → Type 0
-IsSound = IsSoundUnder None
-
-abbrev pub Stands : Geometry → Image → List Content → ℕ → Type 0
-Stands = StandsUnder None

@@ -1,27 +1,20 @@
 -- Laws on the picture of an image.
-use Rattle.std.specs.Prelude.{◌≡◌, ◌≢◌, ℕ, ◌+◌, ◌-◌, ◌*◌, ◌/◌, ◌==◌, ◌<◌, ◌≤◌, true, List, [], ◌∷◌, ◌++◌, length}
-use Rattle.std.specs.Prelude.{replicate, slice_set, Option, None, if◌then◌else◌}
+use Rattle.std.specs.Prelude.{◌≡◌, ◌≢◌, ℕ, ◌+◌, ◌-◌, ◌<◌, ◌≤◌, true, List, [], ◌∷◌, ◌++◌, length}
+use Rattle.std.specs.Prelude.{Option, None}
 use Rattle.site.specs.declared.geometry.Geometry.{Geometry}
-use Rattle.site.specs.Geometry.{HasLimits, blank_image}
 use Rattle.site.specs.State.{Image}
-use Rattle.record_model.specs.State.{Content, content_at}
 use Rattle.log_records.specs.declared.log_record.LogRecord.{LogRecord}
-use Rattle.log_records.specs.Spelling.{IsShort}
 use Rattle.log_records.specs.Log.{version_at}
 use Rattle.log_records.specs.Sound.{HasRoom}
 use Rattle.log_records.specs.Unfinished.{owed}
 use Rattle.log_laws.specs.Follow.{sealed}
 use Rattle.log_laws.specs.NewImage.{Replaces}
-use Rattle.log_laws.specs.SetLaws.{set_records}
 use Rattle.log_laws.specs.Tail.{whole}
-use Rattle.slotted_page.specs.Layout.{lsn_of, slots_of}
-use Rattle.slotted_page.specs.Layout as page
-use Rattle.frame_group.specs.Groups.{IsGroup}
 use Rattle.checkpoint.specs.declared.master.Master.{Master}
-use Rattle.image_changes.specs.Changes.{SealsBlock, RewritesPages, AppendsGroup, Makes}
+use Rattle.image_changes.specs.Changes.{SealsBlock, RewritesPages, Makes}
 use Rattle.flash_cache.specs.Representation.{version_on}
-use Rattle.image_meaning.specs.Meaning.{kept_by, next_block_under, picture_under, picture, versions_on, version_in}
-use Rattle.image_meaning.specs.Meaning.{IsSoundUnder, Stands}
+use Rattle.image_meaning.specs.Meaning.{kept_by, next_block_under, picture_under, versions_on, version_in}
+use Rattle.image_meaning.specs.Meaning.{IsSoundUnder}
 use Rattle.image_meaning.specs.Pictures.{ReplaceAll}
 use Rattle.image_meaning.specs.Changes.{MayStage}
 
@@ -83,29 +76,6 @@ RoomForTailUnder newest =
     → IsSoundUnder newest g image blocks → tail ≢ [] →
     length (whole (picture_under newest g image blocks) tail) + owed (whole (picture_under newest g image blocks) tail)
     ≤ g.blocks - 1 → HasRoom (sealed (picture_under newest g image blocks) tail)
-
--- The first set on blank devices: its block makes an image that stands for the table with its record, and for one
--- commit.
-abbrev pub FirstSetStands : Type 0
-FirstSetStands =
-    (g : Geometry) (number : ℕ) (value : Content) (new : Image) → HasLimits g → number < 32 * g.pages → IsShort value →
-    Makes g (SealsBlock (set_records (picture g (blank_image g) []) number value)) (blank_image g) new →
-    Stands g new (slice_set (replicate (32 * g.pages) None) number value) 1
-
--- And when its page, with the record in its slot and the Update's LSN, is pushed as a dirty frame, the image stands for
--- the same.
-abbrev pub FirstPushStands : Type 0
-FirstPushStands =
-    (g : Geometry) (number : ℕ) (value : Content) (mid new : Image) (octets content : List ℕ) → HasLimits g
-    → number < 32 * g.pages → IsShort value →
-    Makes g (SealsBlock (set_records (picture g (blank_image g) []) number value)) (blank_image g) mid →
-    page.IsSound octets → lsn_of octets ≡ 3 →
-    ((slot : ℕ) → slot < 32 → content_at (slots_of octets) slot
-    ≡ (if 32 * (number / 32) + slot
-    == number then value else content_at (version_at (versions_on g mid) (number / 32)).slots slot)) →
-    IsGroup content (record { page = number / 32; dirty = true; octets = octets } ∷ [])
-    → Makes g (AppendsGroup content) mid new →
-    Stands g new (slice_set (replicate (32 * g.pages) None) number value) 1
 
 -- the versions of an image by their pages
 abbrev pub VersionOfPage : Type 0

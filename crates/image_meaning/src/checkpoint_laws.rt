@@ -4,13 +4,11 @@ ghost use Rattle.image_meaning.specs.Beside.{RingsSaved};
 ghost use Rattle.image_meaning.specs.Checkpoints.{MasterMaySave, EmptyMasterMaySave, CheckpointMaySave, SavedOctets};
 ghost use Rattle.image_meaning.specs.Checkpoints.{SavedPicture, SavedIsSound, SavedMeans, SavedIsOrderly};
 ghost use Rattle.image_meaning.specs.Checkpoints.{ChangeKeepsOrderly, FrontKeepsOrderly, CheckpointStands};
-ghost use Rattle.image_meaning.specs.Checkpoints.{PushedCheckpointStands, SaveStands, FirstCheckpointStands};
+ghost use Rattle.image_meaning.specs.Checkpoints.{PushedCheckpointStands, SaveStands};
 ghost use Rattle.image_meaning.specs.Checkpoints.{ActiveAreKept};
 
 use checkpoint::{one_master, stays_newest};
-use log_laws::{empty_master, losers_listed, new_master, sealed_is_orderly, table_at};
-use log_store::blank_log;
-use sealed_ring::blank_is_ring;
+use log_laws::{empty_master, losers_listed, new_master, sealed_is_orderly};
 
 // What the laws rest on.
 pub(crate) fn master_laws()
@@ -65,17 +63,6 @@ pub fn checkpoint_stands()
 {
     frame_group::staged();
     master_laws();
-}
-
-/// And so does the first checkpoint on devices on which one record was set, with its page pushed: no block is kept
-/// then.
-pub fn first_checkpoint_stands()
-    ensures { FirstCheckpointStands }
-{
-    master_laws();
-    blank_is_ring();
-    blank_log();
-    table_at();
 }
 
 /// A sound image keeps the blocks of the transactions that its master names as active.

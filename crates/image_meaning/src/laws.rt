@@ -1,15 +1,14 @@
 // Laws on images.
-ghost use Rattle.image_meaning.specs.Laws.{BlankStands, OneMeaning, OneMeaningFor, OneMasterStands, NewestIsRead};
+ghost use Rattle.image_meaning.specs.Laws.{BlankStands, OneMeaningFor, OneMasterStands, NewestIsRead};
 ghost use Rattle.image_meaning.specs.Laws.{ReadIsNewest, SealedIsSound, SealedWithoutCommit};
 ghost use Rattle.image_meaning.specs.Laws.{SealedWithCommit, StagedIsSound, StagedMeans, PushedIsSound, PushedMeans};
 ghost use Rattle.image_meaning.specs.Laws.{SegmentIsSound, SegmentMeans, ReplacedIsSound, ReplacedMeans};
 ghost use Rattle.image_meaning.specs.Laws.{VersionReplaces};
-ghost use Rattle.image_meaning.specs.Plain.{LogAloneIsSound, LogAloneMeans};
 
 use checkpoint::one_master;
 use log_laws::table_at;
 use log_store::{blank_log, one_log};
-use sealed_ring::{blank_is_ring, leaves_others};
+use sealed_ring::blank_is_ring;
 
 /// Blank devices are sound and stand for the table without values, and for no commit.
 pub fn blank_stands()
@@ -18,23 +17,6 @@ pub fn blank_stands()
     blank_is_ring();
     blank_log();
     table_at();
-}
-
-/// Devices on which no page was ever written, with sound records in their log, are sound, and stand for what the log
-/// stands for.
-pub fn log_alone()
-    ensures sound { LogAloneIsSound }
-    ensures means { LogAloneMeans }
-{
-    blank_is_ring();
-    leaves_others();
-}
-
-/// An image stands for one table and one number of commits at most.
-pub fn one_meaning()
-    ensures { OneMeaning }
-{
-    one_log();
 }
 
 /// So it does whatever its newest master is. There is one at most, which is the one that is read.

@@ -4,12 +4,8 @@ ghost use Rattle.checkpoint.specs.declared.master.Master.{Master};
 ghost use Rattle.image_meaning.specs.PictureLaws.{PictureSealed, BlocksSealed, PictureStays, StagedVersions};
 ghost use Rattle.image_meaning.specs.PictureLaws.{EachReplaces, EachReplacesUnder, NextBlock, RoomForBlock};
 ghost use Rattle.image_meaning.specs.PictureLaws.{RoomForTailUnder};
-ghost use Rattle.image_meaning.specs.PictureLaws.{FirstSetStands, FirstPushStands, VersionOfPage};
+ghost use Rattle.image_meaning.specs.PictureLaws.{VersionOfPage};
 ghost use Rattle.image_meaning.specs.PictureLaws.{CountOfVersions};
-
-use log_laws::table_at;
-use log_store::blank_log;
-use sealed_ring::blank_is_ring;
 
 /// What changes make of an image's picture: a sealed block is its next one, staging leaves it, and a push replaces
 /// versions.
@@ -31,24 +27,6 @@ pub fn room_under()
     ensures block { RoomForBlock }
     ensures tail { (newest : Option Master) → RoomForTailUnder newest }
 {}
-
-/// The block of the first set on blank devices makes an image that stands for the table with its record.
-pub fn first_set_stands()
-    ensures { FirstSetStands }
-{
-    blank_is_ring();
-    blank_log();
-    table_at();
-}
-
-/// And with its page pushed to flash the image stands for the same.
-pub fn first_push_stands()
-    ensures { FirstPushStands }
-{
-    blank_is_ring();
-    blank_log();
-    table_at();
-}
 
 /// The versions of an image by their pages, and their number.
 pub fn versions_by_page()

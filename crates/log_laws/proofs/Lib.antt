@@ -17,7 +17,6 @@ pub mod Losers
 pub mod Rows
 pub mod Versions
 pub mod Masters
-pub mod Setting
 pub mod Undoing
 pub mod Listing
 pub mod Analysing

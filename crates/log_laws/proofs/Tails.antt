@@ -1,28 +1,25 @@
 -- A log that goes on record by record.
-use Rattle.std.proofs.Common.{◌≡◌, ◌≢◌, ◌-◌, ℕ, ◌+◌, ◌*◌, ◌≤◌, List, [], ◌∷◌, ◌++◌, length, Some, None, refl, sym, ap, subst, ◌∙◌, append_assoc, arith}
+use Rattle.std.proofs.Common.{◌≡◌, ◌-◌, ℕ, ◌+◌, ◌*◌, ◌≤◌, List, [], ◌∷◌, ◌++◌, length, Some, None, refl, sym, ap, subst, ◌∙◌, append_assoc, arith}
 use Rattle.std.specs.Prelude.{Option, flat_map}
 use Rattle.std.specs.List.{AllByRecursion, cons_option}
 use Rattle.std.proofs.lemmas.List.{append-nil, length-append, length-replicate, get_or-replicate}
 use Rattle.std.proofs.lemmas.List.Elements.{filter_map-append}
 use Rattle.std_lemmas.proofs.AllOf.{all_append}
-use Rattle.std_lemmas.proofs.Lists.{some_length}
 use Rattle.record_model.specs.State.{Content, table_with}
 use Rattle.log_records.specs.declared.log_record.LogRecord.{LogRecord}
 use Rattle.log_records.specs.declared.log_record.LogRecord.TheVariants.{Commit}
 use Rattle.log_records.specs.Spelling.{spelling, AreBlock}
 use Rattle.log_records.specs.Log.{Entry, blank_version, entries_from, log_from, table_of}
-use Rattle.log_records.specs.Sound.{Picture, IsSound, IsInOrder, InTurn, IsOfOpenTransaction, IsInTable, FitsLog, HasRoom, IsOrderly, AreOrderly, commit_count, commit_number, commit_numbers}
+use Rattle.log_records.specs.Sound.{Picture, IsSound, IsInOrder, InTurn, IsOfOpenTransaction, IsInTable, FitsLog, HasRoom, IsOrderly, AreOrderly, commit_number, commit_numbers}
 use Rattle.log_laws.specs.Follow.{GoesOn, Follows, IsUndoable, IsFresh, sealed, next_entries, table_after, writes_in}
 use Rattle.log_laws.specs.Tail.{Carries, CommitsOnceAtMost, whole, next_lsn, plain}
 use Rattle.log_laws.proofs.Parts.{InTurn-right}
-use Rattle.log_laws.proofs.Owing.{blocks_have_records}
-use Rattle.log_records.specs.Unfinished.{owed}
 use Rattle.log_laws.proofs.Follow.{table_behind}
 use Rattle.log_laws.proofs.Orders.{InTurn-all, InTurn-append, InTurn-append_all, InTurn-weaker, entries_in_order, in_order_to, in_order-append}
 use Rattle.log_laws.proofs.Seals.{undoable_behind_all, table_behind_all, sealed_is_sound, numbered_with}
 use Rattle.log_laws.proofs.Commits.{table_none}
-use Rattle.log_laws.proofs.Orderly.{orderly_of, orderly_behind, none_active, fresh_behind, all_from_first}
-use Rattle.log_records.proofs.Entries.{in_order_left, length_entries, in_order_from}
+use Rattle.log_laws.proofs.Orderly.{orderly_of, orderly_behind, none_active, fresh_behind}
+use Rattle.log_records.proofs.Entries.{in_order_left, in_order_from}
 
 pub entries_append : (lsn : ℕ) (xs ys : List LogRecord) → entries_from lsn (xs ++ ys) ≡ entries_from lsn xs ++ entries_from (lsn + length (flat_map spelling xs)) ys
 entries_append lsn [] ys = ap (λ n. entries_from n ys) (omega arith)
@@ -112,15 +109,6 @@ log_from-append (b ∷ blocks) records number =
     ∙ sym (append_assoc (entries_from (512 * number + 2) b) (log_from (number + 1) blocks) _)
     ∙ ap (λ n. entries_from (512 * number + 2) b ++ log_from (number + 1) blocks ++ entries_from (512 * n + 2) records) (omega arith)
 
-pub plain_sealed : (pages room : ℕ) (blocks : List (List LogRecord)) (records : List LogRecord) → sealed (plain pages room blocks) records ≡ plain pages room (blocks ++ records ∷ [])
-plain_sealed pages room blocks records =
-    let log = sym (log_from-append blocks records 0 ∙ ap (λ n. log_from 0 blocks ++ entries_from (512 * n + 2) records) (omega arith)) in
-    let hi = sym (length-append blocks (records ∷ [])) in
-    λ k. record { master = (plain pages room blocks).master; log = log k; hi = hi k; blocks = room; pages = (plain pages room blocks).pages }
-
-pub plain_count : (pages room : ℕ) (blocks : List (List LogRecord)) → commit_count (plain pages room blocks) ≡ length (commit_numbers (plain pages room blocks).log)
-plain_count pages room blocks = omega (arith, ap (λ (l : List Entry). length (commit_numbers l)) (all_from_first (log_from 0 blocks)))
-
 pub blank_is_sound : (pages room : ℕ) → IsSound (plain pages room [])
 blank_is_sound pages room = record {
   kept_before_redo = omega arith;
@@ -155,18 +143,6 @@ orderly_at from to earlier e rest order orderly =
 
 pub whole_sealed : (p : Picture) (tail : List LogRecord) → whole (sealed p tail) [] ≡ whole p tail
 whole_sealed p tail = append-nil (whole p tail)
-
-pub plain_room : (pages room : ℕ) (blocks : List (List LogRecord)) (tail : List LogRecord) → AllByRecursion (λ records. records ≢ []) blocks → tail ≢ [] →
-    length (whole (plain pages room blocks) tail) + owed (whole (plain pages room blocks) tail) ≤ room - 1 → HasRoom (sealed (plain pages room blocks) tail)
-plain_room pages room blocks tail full some fits =
-    omega (
-      arith,
-      fits,
-      blocks_have_records 0 blocks full,
-      some_length tail some,
-      length_entries (512 * length blocks + 2) tail,
-      length-append (log_from 0 blocks) (entries_from (512 * length blocks + 2) tail),
-    )
 
 pub sealed_is_orderly : (p : Picture) (records : List LogRecord) → IsSound p → AreOrderly p.log → GoesOn p records → AreOrderly (sealed p records).log
 sealed_is_orderly p records sound orderly goes = whole_stays_orderly p records (record { sound = sound; follow = goes.follow }) orderly

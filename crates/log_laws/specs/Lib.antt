@@ -9,7 +9,6 @@ pub mod TailLaws
 pub mod ActiveLaws
 pub mod Rows
 pub mod NewImageLaws
-pub mod SetLaws
 pub mod UndoLaws
 pub mod LoserLaws
 pub mod Analysis

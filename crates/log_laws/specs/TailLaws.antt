@@ -1,5 +1,5 @@
 -- A log that goes on record by record.
-use Rattle.std.specs.Prelude.{◌≡◌, ◌≢◌, ◌-◌, ℕ, ◌+◌, ◌*◌, ◌≤◌, List, [], ◌∷◌, ◌++◌, length, Some, None}
+use Rattle.std.specs.Prelude.{◌≡◌, ℕ, ◌+◌, ◌*◌, ◌≤◌, List, [], ◌∷◌, ◌++◌, length, Some, None}
 use Rattle.std.specs.List.{AllByRecursion}
 use Rattle.record_model.specs.State.{table_with}
 use Rattle.log_records.specs.declared.log_record.LogRecord.{LogRecord}
@@ -8,7 +8,6 @@ use Rattle.log_records.specs.Spelling.{AreBlock}
 use Rattle.log_records.specs.Log.{Entry, table_of}
 use Rattle.log_records.specs.Sound.{Picture, IsSound, IsInOrder, IsInTable, HasRoom, IsOrderly, AreOrderly}
 use Rattle.log_records.specs.Sound.{commit_count, commit_number, commit_numbers}
-use Rattle.log_records.specs.Unfinished.{owed}
 use Rattle.log_laws.specs.Follow.{Follows, IsUndoable, IsFresh, sealed, next_entries, table_after, writes_in}
 use Rattle.log_laws.specs.Tail.{Carries, CommitsOnceAtMost, whole, next_lsn, plain}
 
@@ -118,20 +117,3 @@ SealedCount =
 -- Logs without checkpoints: without blocks they are sound, and a block more is one that is sealed.
 abbrev pub BlankIsSound : Type 0
 BlankIsSound = (pages room : ℕ) → IsSound (plain pages room [])
-
-abbrev pub PlainSealed : Type 0
-PlainSealed = (pages room : ℕ) (blocks : List (List LogRecord)) (records : List LogRecord)
-    → sealed (plain pages room blocks) records ≡ plain pages room (blocks ++ records ∷ [])
-
--- all their commits count
-abbrev pub PlainCount : Type 0
-PlainCount = (pages room : ℕ) (blocks : List (List LogRecord))
-    → commit_count (plain pages room blocks) ≡ length (commit_numbers (plain pages room blocks).log)
-
--- where no block is empty there is room for the tail as long as all records and what is owed have room
-abbrev pub PlainRoom : Type 0
-PlainRoom =
-    (pages room : ℕ) (blocks : List (List LogRecord)) (tail : List LogRecord)
-    → AllByRecursion (λ records. records ≢ []) blocks → tail ≢ [] →
-    length (whole (plain pages room blocks) tail) + owed (whole (plain pages room blocks) tail) ≤ room - 1
-    → HasRoom (sealed (plain pages room blocks) tail)

@@ -10,7 +10,6 @@ mod image_laws;
 mod loser_laws;
 mod room_laws;
 mod seal_laws;
-mod set_laws;
 mod shown_laws;
 mod step_laws;
 mod tail_laws;
@@ -30,7 +29,6 @@ pub use room_laws::{
     owed_update,
 };
 pub use seal_laws::{means_with_commit, means_without_commit, sealed_is_sound};
-pub use set_laws::first_set;
 pub use shown_laws::{
     shown_at, shown_blank, shown_is_seen, shown_is_table, shown_is_value, shown_push, shown_set,
     shown_stays, table_at, value_by_last, value_held, writer_is_loser,
@@ -38,8 +36,8 @@ pub use shown_laws::{
 pub use step_laws::{active_is_unfinished, undo_end, undo_goes_on, undo_step, unfinished_step};
 pub use tail_laws::{
     blank_is_sound, carries_front, carries_more, carries_nothing, commits_more, fresh_at_end,
-    orderly_at, orderly_goes_on, plain_count, plain_room, plain_sealed, sealed_count, sealed_tail,
-    table_more, tail_with_commit, tail_without_commit, whole_in_order, whole_in_table,
-    whole_is_orderly, whole_is_undoable, whole_more, whole_sealed,
+    orderly_at, orderly_goes_on, sealed_count, sealed_tail, table_more, tail_with_commit,
+    tail_without_commit, whole_in_order, whole_in_table, whole_is_orderly, whole_is_undoable,
+    whole_more, whole_sealed,
 };
 pub use undo_laws::{found_by_lsn, next_more, next_of_active, next_of_undone, next_to_undo};

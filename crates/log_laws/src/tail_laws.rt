@@ -2,8 +2,8 @@
 ghost use Rattle.log_laws.specs.TailLaws.{CarriesNothing, CarriesMore, WholeMore, WholeInOrder, WholeIsUndoable};
 ghost use Rattle.log_laws.specs.TailLaws.{WholeIsOrderly, FreshAtEnd, WholeStaysOrderly, FreshBehind, TableMore};
 ghost use Rattle.log_laws.specs.TailLaws.{CommitsMore, CommitsStay, TailWithoutCommit, SealedTail, SealedCount};
-ghost use Rattle.log_laws.specs.TailLaws.{BlankIsSound, PlainSealed, PlainCount, WholeInTable, OrderlyAt, WholeSealed};
-ghost use Rattle.log_laws.specs.TailLaws.{PlainRoom, TailWithCommit, CarriesFront};
+ghost use Rattle.log_laws.specs.TailLaws.{BlankIsSound, WholeInTable, OrderlyAt, WholeSealed};
+ghost use Rattle.log_laws.specs.TailLaws.{TailWithCommit, CarriesFront};
 
 /// A sound picture carries the empty tail.
 pub fn carries_nothing()
@@ -77,16 +77,6 @@ pub fn blank_is_sound()
     ensures { BlankIsSound }
 {}
 
-/// A block more of a log without checkpoints is one that is sealed.
-pub fn plain_sealed()
-    ensures { PlainSealed }
-{}
-
-/// All commits of a log without checkpoints count.
-pub fn plain_count()
-    ensures { PlainCount }
-{}
-
 /// Each record of a log with its tail is on a record of the table.
 pub fn whole_in_table()
     ensures { WholeInTable }
@@ -100,11 +90,6 @@ pub fn orderly_at()
 /// Sealing the tail leaves the log as it was.
 pub fn whole_sealed()
     ensures { WholeSealed }
-{}
-
-/// Where no block is empty there is room for a tail as long as all records and what is owed have room.
-pub fn plain_room()
-    ensures { PlainRoom }
 {}
 
 /// A tail whose last record is its only Commit counts for what that transaction has written.

@@ -1,11 +1,10 @@
 -- Laws of the format and of logs.
-use Rattle.std.specs.Prelude.{◌≡◌, ℕ, ◌+◌, ◌*◌, ◌^◌, ◌<◌, ◌≤◌, List, [], ◌∷◌, ◌++◌, length, map, replicate}
-use Rattle.std.specs.Prelude.{None}
+use Rattle.std.specs.Prelude.{◌≡◌, ℕ, ◌+◌, ◌*◌, ◌^◌, ◌<◌, ◌≤◌, List, [], ◌∷◌, ◌++◌, length, map}
 use Rattle.log_records.specs.declared.log_record.LogRecord.{LogRecord}
 use Rattle.log_records.specs.Spelling.{spelling, block, AreBlock, HasForm, FitsFields, IsSpelledAt}
 use Rattle.log_records.specs.Writes.{Writes}
-use Rattle.log_records.specs.Log.{entries_from, table_of}
-use Rattle.log_records.specs.Sets.{Change, IsChange, update_of, records_of, set_log, blank_versions}
+use Rattle.log_records.specs.Log.{entries_from}
+use Rattle.log_records.specs.Sets.{Change, IsChange, update_of, records_of}
 
 -- no spelling begins another record's
 abbrev pub OneForm : Type 0
@@ -41,7 +40,3 @@ SetLsns =
     (i : ℕ) (c : Change) →
     map (λ e. e.lsn) (entries_from (512 * i + 2) (records_of i c))
     ≡ (512 * i + 2) ∷ (512 * i + 3) ∷ (512 * i + 3 + length (spelling (update_of i c))) ∷ []
-
--- and without a block there are no values
-abbrev pub ValuesOfNone : Type 0
-ValuesOfNone = (pages : ℕ) → table_of (set_log []) (blank_versions pages) ≡ replicate (32 * pages) None

@@ -4,7 +4,7 @@ use Rattle.record_model.specs.State.{Content}
 use Rattle.log_records.specs.declared.log_record.LogRecord.{LogRecord}
 use Rattle.log_records.specs.declared.log_record.LogRecord.TheVariants.{Begin, Update, Commit}
 use Rattle.log_records.specs.Spelling.{IsShort}
-use Rattle.log_records.specs.Log.{Entry, Version, blank_version, log_from}
+use Rattle.log_records.specs.Log.{Version, blank_version}
 
 -- the number of a record of the table, and what it has before and after
 pub record Change : Type 0 where
@@ -28,15 +28,6 @@ commit_of i = Commit (512 * i + 2) (i + 1)
 -- the records of block i
 abbrev pub records_of : ℕ → Change → List LogRecord
 records_of i c = Begin ∷ update_of i c ∷ commit_of i ∷ []
-
--- the blocks from a number on
-abbrev pub set_blocks : ℕ → List Change → List (List LogRecord)
-set_blocks i [] = []
-set_blocks i (c ∷ changes) = records_of i c ∷ set_blocks (i + 1) changes
-
--- a log that begins with block 0
-abbrev pub set_log : List Change → List Entry
-set_log changes = log_from 0 (set_blocks 0 changes)
 
 -- pages that were never written
 abbrev pub blank_versions : ℕ → List Version
