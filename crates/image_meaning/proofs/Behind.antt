@@ -13,13 +13,12 @@ use Rattle.log_records.specs.Sound.{Picture, InTurn}
 use Rattle.log_laws.specs.Follow.{Follows, next_entries, shown_by, shown}
 use Rattle.log_laws.proofs.Lists.{or_is_none}
 use Rattle.log_laws.proofs.Orders.{all_from, none_passes, entries_in_order}
-use Rattle.log_laws.proofs.Seals.{numbered_with}
 use Rattle.log_laws.proofs.Versions.{table_same}
 use Rattle.log_laws.specs.Tail.{whole}
 use Rattle.log_laws.proofs.Values.{is_number-Some}
 use Rattle.image_meaning.specs.Pictures.{ReplaceAll}
 use Rattle.image_meaning.specs.Redone.{IsLogged, AreKnown, IsCurrent}
-use Rattle.image_meaning.specs.Ahead.{SealedPageReplaces, ShownStays, TableStays, ShowsStill, CarriesStill, GoesOnStill, TailGoesOn}
+use Rattle.image_meaning.specs.Ahead.{SealedPageReplaces, ShownStays, TableStays, ShowsStill, CarriesStill, GoesOnStill}
 use Rattle.image_meaning.proofs.OtherVersions.{slot_same, sound_with}
 use Rattle.image_meaning.proofs.Redos.{page_of_number, current_replaces}
 use Rattle.log_records.proofs.Lists.{last_where-append}
@@ -62,9 +61,6 @@ module _ (p : Picture) (tail : List LogRecord) (page : ℕ) (v : Version) (logge
 
 pub sealed_page_replaces : SealedPageReplaces
 sealed_page_replaces p tail page v logged all = current_replaces p page v (current p tail page v logged all.known all.slots)
-
-pub tail_goes_on : TailGoesOn
-tail_goes_on p tail carries block room commits = record { are_block = block; follow = carries.follow; numbered = numbered_with p tail carries.sound block commits; room = room }
 
 -- New versions.
 

@@ -16,7 +16,6 @@ pub mod Flushes
 pub mod Naming
 pub mod Saves
 pub mod Making
-pub mod OrderlyLogs
 pub mod WholePushes
 pub mod Leaving
 pub mod Rooms

@@ -1,12 +1,11 @@
 -- Versions of pages, and records that aren't sealed yet, as statements over lists.
 use Rattle.std.specs.Prelude.{◌≡◌, ℕ, ◌*◌, ◌<◌, List, ◌++◌, length}
 use Rattle.log_records.specs.declared.log_record.LogRecord.{LogRecord}
-use Rattle.log_records.specs.Spelling.{AreBlock}
 use Rattle.log_records.specs.Log.{Entry, Version, table_of}
-use Rattle.log_records.specs.Sound.{Picture, HasRoom}
-use Rattle.log_laws.specs.Follow.{GoesOn, sealed, shown}
+use Rattle.log_records.specs.Sound.{Picture}
+use Rattle.log_laws.specs.Follow.{GoesOn, shown}
 use Rattle.log_laws.specs.NewImage.{Replaces}
-use Rattle.log_laws.specs.Tail.{Carries, CommitsOnceAtMost, whole}
+use Rattle.log_laws.specs.Tail.{Carries, whole}
 use Rattle.image_meaning.specs.Pictures.{with_versions, ReplaceAll}
 use Rattle.image_meaning.specs.Redone.{IsLogged, ShowsAll}
 
@@ -43,9 +42,3 @@ CarriesStill = (p : Picture) (versions : List Version) (tail : List LogRecord) �
 abbrev pub GoesOnStill : Type 0
 GoesOnStill = (p : Picture) (versions : List Version) (records : List LogRecord) → ReplaceAll p versions
     → GoesOn p records → GoesOn (with_versions p versions) records
-
--- A tail whose records follow in turn goes on as a block, where it has the form of one, has room, and at most the next
--- Commit.
-abbrev pub TailGoesOn : Type 0
-TailGoesOn = (p : Picture) (tail : List LogRecord) → Carries p tail → AreBlock tail → HasRoom (sealed p tail)
-    → CommitsOnceAtMost p tail → GoesOn p tail

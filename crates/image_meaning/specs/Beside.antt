@@ -1,5 +1,5 @@
 -- The part of the octets' soundness that speaks of the rings alone.
-use Rattle.std.specs.Prelude.{ℕ, List, [], ◌∷◌, Option, Some, None, ⊤}
+use Rattle.std.specs.Prelude.{ℕ, List, [], ◌∷◌, Option, Some, ⊤}
 use Rattle.std.specs.List.{AllByRecursion}
 use Rattle.site.specs.declared.geometry.Geometry.{Geometry}
 use Rattle.site.specs.Geometry.{HasLimits, HasLengths}
@@ -41,9 +41,6 @@ abbrev pub RingsKeptUnder : Option Master → Type 0
 RingsKeptUnder newest =
     (g : Geometry) (changes : List Change) (old new : Image) → AreRingsSoundUnder newest g old
     → KeepsRingsAll g old changes → Reaches g changes old new → AreRingsSoundUnder newest g new
-
-abbrev pub RingsKept : Type 0
-RingsKept = RingsKeptUnder None
 
 -- and a master unit makes its master the newest
 abbrev pub RingsSaved : Type 0

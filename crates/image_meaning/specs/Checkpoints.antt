@@ -1,5 +1,5 @@
 -- Laws on a new master.
-use Rattle.std.specs.Prelude.{◌≡◌, ◌⊎◌, ℕ, ◌+◌, ◌*◌, ◌≤◌, true, List, [], ◌∷◌, ◌++◌}
+use Rattle.std.specs.Prelude.{◌≡◌, ◌⊎◌, ℕ, ◌*◌, ◌≤◌, true, List, [], ◌∷◌}
 use Rattle.std.specs.Prelude.{Option, Some}
 use Rattle.std.specs.List.{AllByRecursion}
 use Rattle.site.specs.declared.geometry.Geometry.{Geometry}
@@ -16,7 +16,7 @@ use Rattle.image_changes.specs.Changes.{Change, AppendsMaster, Makes, Reaches}
 use Rattle.image_changes.specs.Reached.{LeavesFront}
 use Rattle.image_meaning.specs.Meaning.{master_of, kept_by, picture_under, AreOctetsSoundUnder}
 use Rattle.image_meaning.specs.Meaning.{IsSoundUnder}
-use Rattle.image_meaning.specs.Changes.{MaySave, MayMake, MayMakeAll, SealsNoCommit, SavesNoMaster, newest_after}
+use Rattle.image_meaning.specs.Changes.{MaySave, MayMakeAll, SealsNoCommit, SavesNoMaster}
 use Rattle.image_meaning.specs.Changes.{blocks_after, newest_after_all, blocks_after_all}
 use Rattle.image_meaning.specs.Flushed.{IsFlushed, IsMasterOf, oldest_needed}
 use Rattle.image_meaning.specs.Moments.{LeavesFor}
@@ -97,23 +97,6 @@ SavedIsOrderly =
     → IsSoundUnder newest g old blocks → MaySave newest g old blocks content →
     Makes g (AppendsMaster content) old new
     → AreOrderly (picture_under (Some (master_in content)) g new (blocks_saved newest blocks content)).log
-
--- Each change that may be made keeps an orderly log,
-abbrev pub ChangeKeepsOrderly : Type 0
-ChangeKeepsOrderly =
-    (newest : Option Master) (g : Geometry) (old new : Image) (blocks : List (List LogRecord)) (change : Change)
-    → IsSoundUnder newest g old blocks → AreOrderly (picture_under newest g old blocks).log →
-    MayMake newest g old blocks change → Makes g change old new
-    → AreOrderly (picture_under (newest_after newest change) g new (blocks_after newest blocks change)).log
-
--- and so do the first ones of a list.
-abbrev pub FrontKeepsOrderly : Type 0
-FrontKeepsOrderly =
-    (newest : Option Master) (g : Geometry) (old new : Image) (blocks : List (List LogRecord))
-    (front left : List Change) → IsSoundUnder newest g old blocks
-    → AreOrderly (picture_under newest g old blocks).log →
-    MayMakeAll newest g old blocks (front ++ left) → Reaches g front old new
-    → AreOrderly (picture_under (newest_after_all newest front) g new (blocks_after_all newest blocks front)).log
 
 -- A checkpoint: changes that seal no Commit, then a master unit. The devices stand for the same table at each moment.
 abbrev pub CheckpointStands : Type 0

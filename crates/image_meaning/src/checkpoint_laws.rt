@@ -3,7 +3,7 @@ ghost use Rattle.image_meaning.specs.Below.{MasterLaws};
 ghost use Rattle.image_meaning.specs.Beside.{RingsSaved};
 ghost use Rattle.image_meaning.specs.Checkpoints.{MasterMaySave, EmptyMasterMaySave, CheckpointMaySave, SavedOctets};
 ghost use Rattle.image_meaning.specs.Checkpoints.{SavedPicture, SavedIsSound, SavedMeans, SavedIsOrderly};
-ghost use Rattle.image_meaning.specs.Checkpoints.{ChangeKeepsOrderly, FrontKeepsOrderly, CheckpointStands};
+ghost use Rattle.image_meaning.specs.Checkpoints.{CheckpointStands};
 ghost use Rattle.image_meaning.specs.Checkpoints.{PushedCheckpointStands, SaveStands};
 ghost use Rattle.image_meaning.specs.Checkpoints.{ActiveAreKept};
 
@@ -42,15 +42,6 @@ pub fn master_saved()
     ensures means { SavedMeans }
     ensures orderly { SavedIsOrderly }
 {
-    master_laws();
-}
-
-/// Changes that may be made keep an orderly log.
-pub fn orderly_kept()
-    ensures one { ChangeKeepsOrderly }
-    ensures front { FrontKeepsOrderly }
-{
-    frame_group::staged();
     master_laws();
 }
 

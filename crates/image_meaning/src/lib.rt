@@ -9,14 +9,12 @@ mod list_laws;
 mod moment_laws;
 mod picture_laws;
 
-pub use change_laws::{changes_kept, groups_are_read, push_kept, rings_kept, rings_kept_under};
-pub use checkpoint_laws::{
-    active_are_kept, checkpoint_stands, master_may_save, master_saved, orderly_kept,
-};
+pub use change_laws::rings_kept_under;
+pub use checkpoint_laws::{active_are_kept, checkpoint_stands, master_may_save, master_saved};
 pub use laws::{blank_stands, one_master_stands, pushed, replaced, sealed, segment_saved, staged};
 pub use list_laws::{
-    checkpoint_needs, master_is_saved, new_versions, pushed_frames, redoing, redone_versions,
-    showing, tail_goes_on, versions_beside_the_tail, write_ahead,
+    checkpoint_needs, master_is_saved, new_versions, redoing, redone_versions, showing,
+    versions_beside_the_tail, write_ahead,
 };
 pub use moment_laws::{calls_with_commit, calls_without_commit, under_some_master, whole_push};
 pub use picture_laws::{pictures, room_under, versions_by_page};

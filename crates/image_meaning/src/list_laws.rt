@@ -3,9 +3,8 @@ ghost use Rattle.image_meaning.specs.Pictures.{VersionsAreSound, VersionsMean, V
 ghost use Rattle.image_meaning.specs.Redone.{RedoneReplaces, CurrentReplaces, VersionIsRedone, NextIsRedone};
 ghost use Rattle.image_meaning.specs.Redone.{RedoneIsCurrent, ShowsMore, ShowsElsewhere};
 ghost use Rattle.image_meaning.specs.Ahead.{SealedPageReplaces, ShownStays, TableStays, ShowsStill, CarriesStill};
-ghost use Rattle.image_meaning.specs.Ahead.{GoesOnStill, TailGoesOn};
+ghost use Rattle.image_meaning.specs.Ahead.{GoesOnStill};
 ghost use Rattle.image_meaning.specs.Flushed.{CheckpointNeeds, OldestIsThere, MasterIsSaved};
-ghost use Rattle.image_meaning.specs.Pushes.{PushedClean, PushedVersion, OthersKeepVersions};
 
 use log_laws::losers_listed;
 
@@ -50,19 +49,6 @@ pub fn versions_beside_the_tail()
     ensures shows { ShowsStill }
     ensures carries { CarriesStill }
     ensures goes_on { GoesOnStill }
-{}
-
-/// A tail whose records follow in turn goes on as a block.
-pub fn tail_goes_on()
-    ensures { TailGoesOn }
-{}
-
-/// A pushed group changes the versions of its pages alone, and clean frames equal the disk still, where a front group
-/// leaves whose dirty frames are staged.
-pub fn pushed_frames()
-    ensures clean { PushedClean }
-    ensures version { PushedVersion }
-    ensures others { OthersKeepVersions }
 {}
 
 /// A checkpoint may be made exactly where the pages are flushed and the blocks of all unfinished transactions are kept.

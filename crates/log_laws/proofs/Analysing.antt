@@ -1,6 +1,6 @@
 -- What analysis keeps of each unfinished transaction.
 use Rattle.std.proofs.Common.{◌≡◌, ℕ, ◌+◌, ◌-◌, ◌≤◌, true, false, cond, not, List, [], ◌∷◌, ◌++◌, length, map, drop, refl, sym, ap, subst, ◌∙◌, arith}
-use Rattle.std.specs.Prelude.{fold, sum_by, IsTrue}
+use Rattle.std.specs.Prelude.{IsTrue}
 use Rattle.std.specs.List.{AllByRecursion, list_any}
 use Rattle.std.proofs.lemmas.List.{map-append}
 use Rattle.std.proofs.lemmas.Bool.{and_parts, or_from, eq-eqb, ne_eqb}
@@ -9,7 +9,7 @@ use Rattle.std_lemmas.proofs.Lists.{map_same}
 use Rattle.log_records.specs.declared.log_record.LogRecord.{LogRecord}
 use Rattle.log_records.specs.declared.log_record.LogRecord.TheVariants.{Begin, Update, Clr, Commit, End}
 use Rattle.log_records.specs.Log.{Entry, txn_of, is_of, is_closing, is_closed, is_loser, entries_of}
-use Rattle.log_records.specs.Unfinished.{is_begin, losers, left_open, open_by, open_updates, owed, owed_by}
+use Rattle.log_records.specs.Unfinished.{is_begin, losers, left_open, open_by, open_updates}
 use Rattle.log_records.specs.Sound.{IsInOrder, last_lsn}
 use Rattle.log_laws.specs.Follow.{IsFresh}
 use Rattle.log_laws.specs.UndoLaws.{next_by, next_in, next_of}
@@ -150,10 +150,3 @@ unfinished_there log front x back split =
     (all_right (IsUnfinished log) front (x ∷ back) (subst (AllByRecursion (IsUnfinished log)) split
     (all_map (IsUnfinished log) (unfinished_at log) (losers log)
     (all_weaker (λ t. IsTrue (is_loser log t)) (λ t. IsUnfinished log (unfinished_at log t)) (λ t loser. record { loser = loser; last_is = refl; next_is = refl; remaining_is = refl }) (losers log) (are_losers log))))).0
-
-sums_of : (log : List Entry) (ns : List ℕ) (a : ℕ) → fold (λ n t. n + owed_by log t) a ns ≡ fold (λ n (x : Unfinished). n + (x.remaining + 1)) a (map (unfinished_at log) ns)
-sums_of log [] a = refl
-sums_of log (t ∷ ns) a = sums_of log ns (a + owed_by log t)
-
-pub unfinished_owed : (log : List Entry) → owed log ≡ sum_by (λ (x : Unfinished). x.remaining + 1) (unfinished_in log)
-unfinished_owed log = sums_of log (losers log) 0

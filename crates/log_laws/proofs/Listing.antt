@@ -1,5 +1,5 @@
 -- The list of the unfinished transactions.
-use Rattle.std.proofs.Common.{◌≡◌, ℕ, ◌+◌, ◌*◌, ◌≤◌, ⊎_elim, Bool, true, false, cond, not, ◌&&◌, ◌||◌, List, [], ◌∷◌, ◌++◌, length, map, drop, refl, sym, ap, subst, ◌∙◌, arith}
+use Rattle.std.proofs.Common.{◌≡◌, ℕ, ◌+◌, ◌≤◌, ⊎_elim, Bool, true, false, cond, not, ◌&&◌, ◌||◌, List, [], ◌∷◌, ◌++◌, map, drop, refl, sym, ap, subst, ◌∙◌, arith}
 use Rattle.std.specs.Prelude.{filter, IsTrue, ◌==◌}
 use Rattle.std.specs.List.{AllByRecursion, list_any}
 use Rattle.std.proofs.lemmas.List.{append-nil, map-append}
@@ -10,17 +10,14 @@ use Rattle.std_lemmas.proofs.Lists.{filter_all}
 use Rattle.log_records.specs.declared.log_record.LogRecord.TheVariants.{Begin}
 use Rattle.log_records.specs.Log.{Entry, txn_of, is_of, is_closing, is_closed, is_loser, entries_of}
 use Rattle.log_records.specs.Unfinished.{is_begin, losers}
-use Rattle.log_records.specs.Sound.{Active, Picture, IsSound, IsInOrder, InTurn, IsOfOpenTransaction, AreOrderly, IsInTable, is_known, from_block}
+use Rattle.log_records.specs.Sound.{IsInOrder}
 use Rattle.log_laws.specs.Follow.{IsUndoable, IsFresh}
-use Rattle.log_laws.specs.LoserLaws.{IsRead}
 use Rattle.log_laws.proofs.Lists.{any_find, all_find, find_passes}
 use Rattle.log_laws.proofs.Values.{with, closed_push, closed_same}
-use Rattle.log_laws.proofs.Parts.{are_losers, begin_is, InTurn-right}
+use Rattle.log_laws.proofs.Parts.{are_losers}
 use Rattle.log_laws.proofs.Appends.{fresh_open}
-use Rattle.log_laws.proofs.Orderly.{orderly_of, none_active, all_from_first}
 use Rattle.log_laws.proofs.Losers.{any_of_those, loser_is_not_closed}
-use Rattle.log_laws.proofs.Tails.{orderly_at}
-use Rattle.log_records.proofs.Entries.{closing_is_no_begin, in_order_left, in_order_from}
+use Rattle.log_records.proofs.Entries.{closing_is_no_begin}
 
 abbrev pub is_listed : List Entry → Entry → Bool
 is_listed log x = is_begin x.rec && not (is_closed log x.lsn)
@@ -139,23 +136,3 @@ none_listed log t undoable none = ⊎_elim
     (λ loser. absurd (let never = sym (ap (list_any (λ s. s == t)) none) ∙ loser_is_listed log t undoable loser in grind arith))
     (λ no. no)
     (cases_Bool (is_loser log t))
-
--- Reading a log.
-
-pub reads_on : (p : Picture) (earlier : List Entry) (e : Entry) (rest : List Entry) → IsSound p → p.master.redo ≡ 0 → p.log ≡ earlier ++ e ∷ rest → IsRead (length p.pages) earlier e
-reads_on p earlier e rest sound first split =
-    let order = subst (λ (l : List Entry). IsInOrder (512 * p.master.kept) l (512 * p.hi)) split sound.in_order in
-    let orderly = subst AreOrderly split (orderly_of p.master (512 * p.master.kept) p.log (512 * p.hi) first (none_active p sound first) sound.in_order sound.open_transactions) in
-    let at = orderly_at (512 * p.master.kept) (512 * p.hi) earlier e rest order orderly in
-    let open' = (InTurn-right (IsOfOpenTransaction p.master) [] earlier (e ∷ rest) (subst (InTurn (IsOfOpenTransaction p.master) []) split sound.open_transactions)).0 in
-    record {
-      fresh = λ begin. (at.2, begin_is e begin);
-      listed = λ other.
-          let lives = open' (omega (arith, first)) other in
-          let known = subst (λ (l : List Active). IsTrue (is_known l (from_block p.master.redo earlier) (txn_of e))) (none_active p sound first) lives.known in
-          begun_is_listed earlier (txn_of e) lives.not_closed earlier
-          (subst (λ (l : List Entry). list_any (λ x. is_begin x.rec && (x.lsn == txn_of e)) l ≡ true) (ap (λ n. from_block n earlier) first ∙ all_from_first earlier) known);
-      not_closed = at.1.not_closed;
-      within = (all_right (IsInTable p.pages) earlier (e ∷ rest) (subst (AllByRecursion (IsInTable p.pages)) split sound.in_table)).0;
-      order = in_order_from (512 * p.master.kept) 0 earlier e.lsn (omega arith) (in_order_left (512 * p.master.kept) earlier e rest (512 * p.hi) order);
-    }

@@ -223,9 +223,6 @@ module _ (p : Picture) (tail : List LogRecord) (t : ℕ) (c : Carries p tail) (l
     not_closed = not_closed;
   }
 
-pub loser_is_open : (p : Picture) (tail : List LogRecord) (t : ℕ) → Carries p tail → p.master.redo ≡ 0 → is_loser (whole p tail) t ≡ true → IsOpen p.master (whole p tail) t
-loser_is_open p tail t c first loser = loser_is_known p tail t c loser
-
 -- what is left to be undone are Updates among these records
 pub all_left_open : (P : Entry → Type 0) (updates entries : List Entry) → AllByRecursion P updates → AllByRecursion (λ e. is_update e.rec ≡ true → P e) entries → AllByRecursion P (open_updates updates entries)
 all_left_open P updates [] h a = h

@@ -2,15 +2,14 @@
 use Rattle.std.proofs.Common.{◌≡◌, ℕ, ◌+◌, ◌*◌, ◌<◌, ◌≤◌, ⊎_elim, true, false, ◌&&◌, List, [], ◌∷◌, ◌++◌, not, sym, ap, subst, ◌∙◌, arith}
 use Rattle.std.specs.Prelude.{filter, IsTrue, nat_lt, nat_le, ◌==◌}
 use Rattle.std.specs.List.{AllByRecursion, list_any}
-use Rattle.std.proofs.lemmas.Bool.{and_parts, or_cases, cases_Bool, eqb-true, ne_eqb, le-ltb, le-leb}
+use Rattle.std.proofs.lemmas.Bool.{and_parts, or_cases, cases_Bool, eqb-true, ne_eqb}
 use Rattle.std_lemmas.proofs.AllOf.{all_append, all_push, all_both, all_filter, all_weaker, all_map}
-use Rattle.std_lemmas.proofs.Lists.{filter_all}
 use Rattle.log_records.specs.Log.{Entry, txn_of, is_of, is_closed, entries_of}
 use Rattle.log_records.specs.Unfinished.{is_begin, losers}
-use Rattle.log_records.specs.Sound.{Active, Master, IsOpen, IsSound, Picture, InTurn, IsInOrder, IsOfOpenTransaction, IsOrderly, AreOrderly, HaveBegunBefore, before_block, from_block, is_known, last_lsn, active_in}
+use Rattle.log_records.specs.Sound.{Active, Master, IsOpen, IsSound, Picture, InTurn, IsInOrder, IsOrderly, AreOrderly, HaveBegunBefore, before_block, from_block, is_known, last_lsn}
 use Rattle.log_laws.specs.Follow.{Follows, IsFresh}
 use Rattle.log_laws.proofs.Lists.{all_find, any_find, find_passes}
-use Rattle.log_laws.proofs.Orders.{filter_none, InTurn-all, InTurn-weaker, InTurn-append_all}
+use Rattle.log_laws.proofs.Orders.{InTurn-all, InTurn-weaker, InTurn-append_all}
 use Rattle.log_laws.proofs.Parts.{begin_is, all_below}
 use Rattle.log_laws.proofs.Appends.{fresh_open}
 
@@ -69,25 +68,6 @@ orderly_from m from earlier (e ∷ log) to named order below begun h =
         let less = known_before m earlier (txn_of e) e.lsn (all_weaker (λ a. a.begin < from) (λ a. a.begin < e.lsn) (λ a c. let f = order.0 in omega (arith, f, c)) m.active named) before o.known in
         record { begun = omega (arith, less); not_closed = o.not_closed }
 
-pub none_before : (log : List Entry) → before_block 0 log ≡ []
-none_before log = filter_none (λ e. nat_lt e.lsn (512 * 0)) log (never log)
-  where
-    never : (log : List Entry) → AllByRecursion (λ e. nat_lt e.lsn (512 * 0) ≡ false) log
-    never [] = tt
-    never (e ∷ log) = (le-ltb e.lsn (512 * 0) (omega arith), never log)
-
-pub all_from_first : (log : List Entry) → from_block 0 log ≡ log
-all_from_first log = filter_all (λ e. nat_le (512 * 0) e.lsn) log (always log)
-  where
-    always : (log : List Entry) → AllByRecursion (λ e. nat_le (512 * 0) e.lsn ≡ true) log
-    always [] = tt
-    always (e ∷ log) = (le-leb (512 * 0) e.lsn (omega arith), always log)
-
-pub orderly_of : (m : Master) (from : ℕ) (log : List Entry) (to : ℕ) → m.redo ≡ 0 → m.active ≡ [] → IsInOrder from log to → InTurn (IsOfOpenTransaction m) [] log → AreOrderly log
-orderly_of m from log to first none order h =
-    orderly_from m from [] log to (subst (AllByRecursion (λ a. a.begin < from)) (sym none) tt) order tt tt
-    (InTurn-weaker (IsOfOpenTransaction m) (λ earlier e. is_begin e.rec ≡ false → IsOpen m earlier (txn_of e)) (λ earlier e o. o (omega (arith, first))) [] log h)
-
 -- the master names transactions that have begun
 named_below : (p : Picture) → IsSound p → AllByRecursion (λ a. a.begin < 512 * p.hi) p.master.active
 named_below p sound =
@@ -134,10 +114,6 @@ orderly_behind p entries to sound orderly order follow =
     (orderly_from p.master (512 * p.hi) p.log entries to (named_below p sound) order (all_below (512 * p.master.kept) p.log (512 * p.hi) sound.in_order)
     (InTurn-all IsOrderly (λ e. txn_of e ≤ e.lsn) (λ earlier e o. o.begun) [] p.log orderly)
     (InTurn-weaker (Follows p.master p.pages) (λ earlier e. is_begin e.rec ≡ false → IsOpen p.master earlier (txn_of e)) (λ earlier e f. f.of_open) p.log entries follow))
-
--- no transaction was active
-pub none_active : (p : Picture) → IsSound p → p.master.redo ≡ 0 → p.master.active ≡ []
-none_active p sound first = sound.master_names_the_active ∙ ap (λ n. active_in (before_block n p.log)) first ∙ ap active_in (none_before p.log)
 
 pub fresh_behind : (from : ℕ) (log : List Entry) (to lsn : ℕ) → IsInOrder from log to → AreOrderly log → to ≤ lsn → IsFresh lsn log
 fresh_behind from log to lsn order orderly late =

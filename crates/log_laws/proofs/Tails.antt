@@ -2,24 +2,24 @@
 use Rattle.std.proofs.Common.{◌≡◌, ◌-◌, ℕ, ◌+◌, ◌*◌, ◌≤◌, List, [], ◌∷◌, ◌++◌, length, Some, None, refl, sym, ap, subst, ◌∙◌, append_assoc, arith}
 use Rattle.std.specs.Prelude.{Option, flat_map}
 use Rattle.std.specs.List.{AllByRecursion, cons_option}
-use Rattle.std.proofs.lemmas.List.{append-nil, length-append, length-replicate, get_or-replicate}
+use Rattle.std.proofs.lemmas.List.{append-nil, length-append}
 use Rattle.std.proofs.lemmas.List.Elements.{filter_map-append}
 use Rattle.std_lemmas.proofs.AllOf.{all_append}
 use Rattle.record_model.specs.State.{Content, table_with}
 use Rattle.log_records.specs.declared.log_record.LogRecord.{LogRecord}
 use Rattle.log_records.specs.declared.log_record.LogRecord.TheVariants.{Commit}
 use Rattle.log_records.specs.Spelling.{spelling, AreBlock}
-use Rattle.log_records.specs.Log.{Entry, blank_version, entries_from, log_from, table_of}
-use Rattle.log_records.specs.Sound.{Picture, IsSound, IsInOrder, InTurn, IsOfOpenTransaction, IsInTable, FitsLog, HasRoom, IsOrderly, AreOrderly, commit_number, commit_numbers}
+use Rattle.log_records.specs.Log.{Entry, entries_from, log_from, table_of}
+use Rattle.log_records.specs.Sound.{Picture, IsSound, IsInOrder, InTurn, IsInTable, HasRoom, AreOrderly, commit_number, commit_numbers}
 use Rattle.log_laws.specs.Follow.{GoesOn, Follows, IsUndoable, IsFresh, sealed, next_entries, table_after, writes_in}
-use Rattle.log_laws.specs.Tail.{Carries, CommitsOnceAtMost, whole, next_lsn, plain}
+use Rattle.log_laws.specs.Tail.{Carries, CommitsOnceAtMost, whole, next_lsn}
 use Rattle.log_laws.proofs.Parts.{InTurn-right}
 use Rattle.log_laws.proofs.Follow.{table_behind}
-use Rattle.log_laws.proofs.Orders.{InTurn-all, InTurn-append, InTurn-append_all, InTurn-weaker, entries_in_order, in_order_to, in_order-append}
+use Rattle.log_laws.proofs.Orders.{InTurn-all, InTurn-append, entries_in_order, in_order_to, in_order-append}
 use Rattle.log_laws.proofs.Seals.{undoable_behind_all, table_behind_all, sealed_is_sound, numbered_with}
 use Rattle.log_laws.proofs.Commits.{table_none}
-use Rattle.log_laws.proofs.Orderly.{orderly_of, orderly_behind, none_active, fresh_behind}
-use Rattle.log_records.proofs.Entries.{in_order_left, in_order_from}
+use Rattle.log_laws.proofs.Orderly.{orderly_behind, fresh_behind}
+use Rattle.log_records.proofs.Entries.{in_order_from}
 
 pub entries_append : (lsn : ℕ) (xs ys : List LogRecord) → entries_from lsn (xs ++ ys) ≡ entries_from lsn xs ++ entries_from (lsn + length (flat_map spelling xs)) ys
 entries_append lsn [] ys = ap (λ n. entries_from n ys) (omega arith)
@@ -58,17 +58,6 @@ undoable_of p sound = record { undone = sound.losers_can_be_undone; held = sound
 
 pub whole_is_undoable : (p : Picture) (tail : List LogRecord) → Carries p tail → IsUndoable (whole p tail)
 whole_is_undoable p tail c = undoable_behind_all p.master p.pages p.log (next_entries p tail) (undoable_of p c.sound) c.follow
-
-pub whole_of_open : (p : Picture) (tail : List LogRecord) → Carries p tail → InTurn (IsOfOpenTransaction p.master) [] (whole p tail)
-whole_of_open p tail c =
-    InTurn-append_all (IsOfOpenTransaction p.master) [] p.log (next_entries p tail) c.sound.open_transactions
-    (InTurn-weaker (Follows p.master p.pages) (IsOfOpenTransaction p.master) (λ earlier e f late other. f.of_open other) p.log (next_entries p tail) c.follow)
-
-pub whole_is_orderly : (p : Picture) (tail : List LogRecord) → Carries p tail → p.master.redo ≡ 0 → AreOrderly (whole p tail)
-whole_is_orderly p tail c first = orderly_of p.master (512 * p.master.kept) (whole p tail) (next_lsn p tail) first (none_active p c.sound first) (whole_in_order p tail c) (whole_of_open p tail c)
-
-pub fresh_at_end : (p : Picture) (tail : List LogRecord) (lsn : ℕ) → Carries p tail → p.master.redo ≡ 0 → next_lsn p tail ≤ lsn → IsFresh lsn (whole p tail)
-fresh_at_end p tail lsn c first late = fresh_behind (512 * p.master.kept) (whole p tail) (next_lsn p tail) lsn (whole_in_order p tail c) (whole_is_orderly p tail c first) late
 
 -- Wherever redo begins, over an orderly log.
 
@@ -109,23 +98,6 @@ log_from-append (b ∷ blocks) records number =
     ∙ sym (append_assoc (entries_from (512 * number + 2) b) (log_from (number + 1) blocks) _)
     ∙ ap (λ n. entries_from (512 * number + 2) b ++ log_from (number + 1) blocks ++ entries_from (512 * n + 2) records) (omega arith)
 
-pub blank_is_sound : (pages room : ℕ) → IsSound (plain pages room [])
-blank_is_sound pages room = record {
-  kept_before_redo = omega arith;
-  redo_before_end = omega arith;
-  kept_is_live = omega arith;
-  in_order = omega arith;
-  open_transactions = tt;
-  begun = tt;
-  in_table = tt;
-  losers_can_be_undone = λ t h. cc;
-  losers_hold_others_off = tt;
-  versions_fit = λ page h. subst (FitsLog (plain pages room []) page) (sym (get_or-replicate pages page blank_version blank_version (omega (arith, h, length-replicate pages blank_version)))) (record { logged = refl; shows = λ slot low. tt; knows = tt });
-  room_for_undo = omega arith;
-  master_names_the_active = refl;
-  commits = record { before_redo = omega arith; run_on = refl; fit = omega arith };
-}
-
 pub whole_in_table : (p : Picture) (tail : List LogRecord) → Carries p tail → AllByRecursion (IsInTable p.pages) (whole p tail)
 whole_in_table p tail c =
     all_append (IsInTable p.pages) p.log (next_entries p tail) c.sound.in_table
@@ -134,12 +106,6 @@ whole_in_table p tail c =
 pub InTurn-left : {X : Type 0} (P : List X → X → Type 0) (earlier xs ys : List X) → InTurn P earlier (xs ++ ys) → InTurn P earlier xs
 InTurn-left P earlier [] ys h = tt
 InTurn-left P earlier (x ∷ xs) ys h = (h.0, InTurn-left P (earlier ++ x ∷ []) xs ys h.1)
-
-pub orderly_at : (from to : ℕ) (earlier : List Entry) (e : Entry) (rest : List Entry) → IsInOrder from (earlier ++ e ∷ rest) to → AreOrderly (earlier ++ e ∷ rest) →
-    AreOrderly earlier × IsOrderly earlier e × IsFresh e.lsn earlier
-orderly_at from to earlier e rest order orderly =
-    let left = InTurn-left IsOrderly [] earlier (e ∷ rest) orderly in
-    (left, (InTurn-right IsOrderly [] earlier (e ∷ rest) orderly).0, fresh_behind from earlier e.lsn e.lsn (in_order_left from earlier e rest to order) left (omega arith))
 
 pub whole_sealed : (p : Picture) (tail : List LogRecord) → whole (sealed p tail) [] ≡ whole p tail
 whole_sealed p tail = append-nil (whole p tail)

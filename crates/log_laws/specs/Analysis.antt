@@ -1,11 +1,10 @@
 -- What analysis keeps of each unfinished transaction.
-use Rattle.std.specs.Prelude.{◌≡◌, ℕ, ◌+◌, ◌-◌, true, false, List, [], ◌∷◌, ◌++◌, length, map, sum_by}
+use Rattle.std.specs.Prelude.{◌≡◌, ℕ, ◌+◌, ◌-◌, true, false, List, length, map}
 use Rattle.log_records.specs.declared.log_record.LogRecord.{LogRecord}
-use Rattle.log_records.specs.declared.log_record.LogRecord.TheVariants.{Begin, Update, Clr}
-use Rattle.log_records.specs.Log.{Entry, txn_of, is_closing, is_loser, entries_of}
-use Rattle.log_records.specs.Unfinished.{is_begin, left_open, losers, owed}
-use Rattle.log_records.specs.Sound.{IsInOrder, last_lsn}
-use Rattle.log_laws.specs.Follow.{IsFresh}
+use Rattle.log_records.specs.declared.log_record.LogRecord.TheVariants.{Update, Clr}
+use Rattle.log_records.specs.Log.{Entry, is_loser, entries_of}
+use Rattle.log_records.specs.Unfinished.{left_open, losers}
+use Rattle.log_records.specs.Sound.{last_lsn}
 use Rattle.log_laws.specs.UndoLaws.{next_by, next_of}
 
 -- a transaction, the LSN of its last record, the LSN where undoing it goes on, and how many of its Updates remain to be
@@ -42,40 +41,9 @@ after_record x e = record {
   remaining = remaining_by x.remaining e.rec;
 }
 
--- a Begin comes at the end
-abbrev pub UnfinishedBegin : Type 0
-UnfinishedBegin =
-    (log : List Entry) (lsn : ℕ) → IsFresh lsn log →
-    unfinished_in (log ++ record { lsn = lsn; rec = Begin } ∷ [])
-    ≡ unfinished_in log ++ record { txn = lsn; last = lsn; next = lsn; remaining = 0 } ∷ []
-
--- an Update or a CLR changes its transaction
-abbrev pub UnfinishedMore : Type 0
-UnfinishedMore =
-    (from to : ℕ) (log : List Entry) (e : Entry) (front : List Unfinished) (x : Unfinished) (back : List Unfinished)
-    → IsInOrder from log to →
-    is_begin e.rec ≡ false → is_closing e.rec ≡ false → unfinished_in log ≡ front ++ x ∷ back → x.txn ≡ txn_of e →
-    unfinished_in (log ++ e ∷ []) ≡ front ++ after_record x e ∷ back
-
--- a Commit or an End takes it out
-abbrev pub UnfinishedClosed : Type 0
-UnfinishedClosed =
-    (from to : ℕ) (log : List Entry) (e : Entry) (front : List Unfinished) (x : Unfinished) (back : List Unfinished)
-    → IsInOrder from log to →
-    is_closing e.rec ≡ true → unfinished_in log ≡ front ++ x ∷ back → x.txn ≡ txn_of e →
-    unfinished_in (log ++ e ∷ []) ≡ front ++ back
-
 -- what is there is a loser, and what is said of it
 pub record IsUnfinished (log : List Entry) (x : Unfinished) : Type 0 where
   pub loser : is_loser log x.txn ≡ true
   pub last_is : x.last ≡ last_lsn (entries_of x.txn log)
   pub next_is : x.next ≡ next_of log x.txn
   pub remaining_is : x.remaining ≡ length (left_open log x.txn)
-
-abbrev pub UnfinishedThere : Type 0
-UnfinishedThere = (log : List Entry) (front : List Unfinished) (x : Unfinished) (back : List Unfinished)
-    → unfinished_in log ≡ front ++ x ∷ back → IsUnfinished log x
-
--- what undoing all of them takes
-abbrev pub UnfinishedOwed : Type 0
-UnfinishedOwed = (log : List Entry) → owed log ≡ sum_by (λ x. x.remaining + 1) (unfinished_in log)

@@ -1,15 +1,14 @@
 -- A log that goes on record by record.
 use Rattle.std.specs.Prelude.{◌≡◌, ℕ, ◌+◌, ◌*◌, ◌≤◌, List, [], ◌∷◌, ◌++◌, length, Some, None}
-use Rattle.std.specs.List.{AllByRecursion}
 use Rattle.record_model.specs.State.{table_with}
 use Rattle.log_records.specs.declared.log_record.LogRecord.{LogRecord}
 use Rattle.log_records.specs.declared.log_record.LogRecord.TheVariants.{Commit}
 use Rattle.log_records.specs.Spelling.{AreBlock}
 use Rattle.log_records.specs.Log.{Entry, table_of}
-use Rattle.log_records.specs.Sound.{Picture, IsSound, IsInOrder, IsInTable, HasRoom, IsOrderly, AreOrderly}
+use Rattle.log_records.specs.Sound.{Picture, IsSound, IsInOrder, HasRoom, AreOrderly}
 use Rattle.log_records.specs.Sound.{commit_count, commit_number, commit_numbers}
-use Rattle.log_laws.specs.Follow.{Follows, IsUndoable, IsFresh, sealed, next_entries, table_after, writes_in}
-use Rattle.log_laws.specs.Tail.{Carries, CommitsOnceAtMost, whole, next_lsn, plain}
+use Rattle.log_laws.specs.Follow.{Follows, IsUndoable, IsFresh, sealed, next_entries, writes_in}
+use Rattle.log_laws.specs.Tail.{Carries, CommitsOnceAtMost, whole, next_lsn}
 
 -- the empty tail
 abbrev pub CarriesNothing : Type 0
@@ -31,22 +30,9 @@ abbrev pub WholeInOrder : Type 0
 WholeInOrder = (p : Picture) (tail : List LogRecord) → Carries p tail
     → IsInOrder (512 * p.master.kept) (whole p tail) (next_lsn p tail)
 
--- and each record is on a record of the table
-abbrev pub WholeInTable : Type 0
-WholeInTable = (p : Picture) (tail : List LogRecord) → Carries p tail
-    → AllByRecursion (IsInTable p.pages) (whole p tail)
-
 -- its unfinished transactions can be undone
 abbrev pub WholeIsUndoable : Type 0
 WholeIsUndoable = (p : Picture) (tail : List LogRecord) → Carries p tail → IsUndoable (whole p tail)
-
--- where redo begins with the first block it is orderly, and a transaction that begins behind it is a new one
-abbrev pub WholeIsOrderly : Type 0
-WholeIsOrderly = (p : Picture) (tail : List LogRecord) → Carries p tail → p.master.redo ≡ 0 → AreOrderly (whole p tail)
-
-abbrev pub FreshAtEnd : Type 0
-FreshAtEnd = (p : Picture) (tail : List LogRecord) (lsn : ℕ) → Carries p tail → p.master.redo ≡ 0
-    → next_lsn p tail ≤ lsn → IsFresh lsn (whole p tail)
 
 -- So it is wherever redo begins, as long as the sealed log is orderly.
 abbrev pub WholeStaysOrderly : Type 0
@@ -56,19 +42,6 @@ WholeStaysOrderly = (p : Picture) (tail : List LogRecord) → Carries p tail →
 abbrev pub FreshBehind : Type 0
 FreshBehind = (p : Picture) (tail : List LogRecord) (lsn : ℕ) → Carries p tail → AreOrderly p.log
     → next_lsn p tail ≤ lsn → IsFresh lsn (whole p tail)
-
--- So it is for each record in the log.
-abbrev pub OrderlyAt : Type 0
-OrderlyAt =
-    (from to : ℕ) (earlier : List Entry) (e : Entry) (rest : List Entry) → IsInOrder from (earlier ++ e ∷ rest) to
-    → AreOrderly (earlier ++ e ∷ rest) →
-    AreOrderly earlier × IsOrderly earlier e × IsFresh e.lsn earlier
-
--- what one more record makes of the table and of the numbers of the commits
-abbrev pub TableMore : Type 0
-TableMore =
-    (p : Picture) (tail : List LogRecord) (e : Entry) → Carries p tail → Follows p.master p.pages (whole p tail) e →
-    table_of (whole p tail ++ e ∷ []) p.pages ≡ table_after (table_of (whole p tail) p.pages) (whole p tail) e.rec
 
 abbrev pub CommitsMore : Type 0
 CommitsMore = (log : List Entry) (e : Entry) (number : ℕ) → commit_number e ≡ Some number
@@ -92,12 +65,6 @@ TailWithCommit =
     table_of (whole p (front ++ Commit t number ∷ [])) p.pages
     ≡ table_with (table_of p.log p.pages) (writes_in t (whole p front))
 
--- what was carried with its last record was carried without it, and that record followed
-abbrev pub CarriesFront : Type 0
-CarriesFront =
-    (p : Picture) (front : List LogRecord) (rec : LogRecord) → Carries p (front ++ rec ∷ []) →
-    Carries p front × Follows p.master p.pages (whole p front) (record { lsn = next_lsn p front; rec = rec })
-
 -- a tail that is sealed makes a sound picture, which has its records and counts its commits
 abbrev pub SealedTail : Type 0
 SealedTail =
@@ -113,7 +80,3 @@ abbrev pub SealedCount : Type 0
 SealedCount =
     (p : Picture) (tail : List LogRecord) → IsSound p → AreBlock tail →
     commit_count (sealed p tail) ≡ commit_count p + length (commit_numbers (next_entries p tail))
-
--- Logs without checkpoints: without blocks they are sound, and a block more is one that is sealed.
-abbrev pub BlankIsSound : Type 0
-BlankIsSound = (pages room : ℕ) → IsSound (plain pages room [])

@@ -1,12 +1,10 @@
 -- Where undoing a transaction goes on.
-use Rattle.std.specs.Prelude.{◌≡◌, ℕ, ◌<◌, ◌≤◌, ◌==◌, true, if◌then◌else◌, List, [], ◌∷◌, ◌++◌, find, Some}
-use Rattle.record_model.specs.State.{Write}
+use Rattle.std.specs.Prelude.{◌≡◌, ℕ, ◌<◌, ◌≤◌, ◌==◌, true, List, [], ◌∷◌, ◌++◌, find, Some}
 use Rattle.log_records.specs.declared.log_record.LogRecord.{LogRecord}
 use Rattle.log_records.specs.declared.log_record.LogRecord.TheVariants.{Update, Clr}
-use Rattle.log_records.specs.Log.{Entry, txn_of, is_of, is_update, entries_of}
+use Rattle.log_records.specs.Log.{Entry, txn_of, is_update, entries_of}
 use Rattle.log_records.specs.Unfinished.{left_open, prev_of}
-use Rattle.log_records.specs.Sound.{Master, IsInOrder, IsLoserChain, last_lsn}
-use Rattle.log_laws.specs.Follow.{IsActive}
+use Rattle.log_records.specs.Sound.{IsInOrder, IsLoserChain, last_lsn}
 
 -- the LSN of the first of these, and of the Begin where there is none
 abbrev pub top_lsn : ℕ → List Entry → ℕ
@@ -26,11 +24,6 @@ next_in next (e ∷ entries) = next_in (next_by next e.lsn e.rec) entries
 -- and for a transaction, which begins with its Begin
 abbrev pub next_of : List Entry → ℕ → ℕ
 next_of log t = next_in t (entries_of t log)
-
--- one more record
-abbrev pub NextMore : Type 0
-NextMore = (log : List Entry) (e : Entry) (t : ℕ)
-    → next_of (log ++ e ∷ []) t ≡ (if is_of t e then next_by (next_of log t) e.lsn e.rec else next_of log t)
 
 -- undoing goes on with the last Update that is left, which stands in the log and names the one before it that is left
 pub record IsNext (log : List Entry) (t : ℕ) (u : Entry) (rest : List Entry) : Type 0 where
@@ -53,11 +46,6 @@ NextToUndo =
 abbrev pub NextOfUndone : Type 0
 NextOfUndone = (from to : ℕ) (log : List Entry) (t : ℕ) → IsInOrder from log to → IsLoserChain t (entries_of t log)
     → left_open log t ≡ [] → next_of log t ≡ t
-
--- and for a transaction that was never undone it is the last record
-abbrev pub NextOfActive : Type 0
-NextOfActive = (m : Master) (from to : ℕ) (log : List Entry) (t last : ℕ) (writes : List Write) → IsInOrder from log to
-    → IsActive m log t last writes → next_of log t ≡ last
 
 -- a record in the log is found by its LSN
 abbrev pub FoundByLsn : Type 0

@@ -1,5 +1,5 @@
 // One step of undo.
-ghost use Rattle.log_laws.specs.UndoSteps.{UndoStep, UndoEnd, UndoGoesOn, UndoEnds, UnfinishedStep, ActiveIsUnfinished};
+ghost use Rattle.log_laws.specs.UndoSteps.{UndoStep, UndoEnd, UndoGoesOn, UndoEnds, UnfinishedStep};
 
 /// As long as an Update of an unfinished transaction remains, the record at the LSN where undoing goes on is one, and
 /// the CLR that compensates it may follow.
@@ -21,9 +21,4 @@ pub fn undo_goes_on()
 /// What one more record of its own makes of an unfinished transaction.
 pub fn unfinished_step()
     ensures { UnfinishedStep }
-{}
-
-/// An active transaction is unfinished, and undoing it goes on with its last record.
-pub fn active_is_unfinished()
-    ensures { ActiveIsUnfinished }
 {}

@@ -7,7 +7,6 @@ pub mod Mirroring
 pub mod MirroringStores
 pub mod UndoneWork
 pub mod Saved
-pub mod Sessions
 pub mod Opens
 pub mod Found
 pub mod Lasts

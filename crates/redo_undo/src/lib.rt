@@ -17,7 +17,7 @@ mod work_laws;
 pub use laws::hold_together;
 pub use logging::{log_change, log_record, touch};
 pub use redo_pass::{Redone, redo};
-pub use session_laws::{sessions_are_undone, sessions_go_on, sessions_outlive, sessions_see};
+pub use session_laws::{sessions_are_undone, sessions_outlive};
 pub use store::Store;
 pub use undo::undo_one;
 pub use undo_losers::undo_all;

@@ -1,5 +1,0 @@
-use Rattle.log_laws.proofs.Losers.{loser_is_open}
-use Rattle.log_laws.proofs.active_laws.loser_is_open.Goals as goal
-
-pub returns : goal.returns
-returns c = loser_is_open
