@@ -1,8 +1,8 @@
 #!/usr/bin/env python3
 """uncited.py finds what nothing cites, in seconds: definitions and lemmas of specs/ and proofs/ that no other one of their file
-names and no other file takes, and laws (functions without a body) that no function calls, no other function's proof names and
-docs/PROMISES.md doesn't list. Worked examples (modules Example, Examples and Rows) stand for themselves. And each crate's README
-names the modules of its lemmas that other crates cite, no others. Prints what isn't so, a line each; the status is then 1."""
+names and no other file takes (worked examples, in modules Example, Examples and Rows, stand for themselves); public laws, functions
+that do nothing, that docs/PROMISES.md doesn't list; and what READMEs say too much or too little of the modules of lemmas that other
+crates cite. Prints what isn't so, a line each; the status is then 1."""
 import collections
 import glob
 import os
@@ -14,9 +14,9 @@ from libraries import ROOT
 KEYWORDS = "pub|abbrev|unfoldable|opaque|record|data|infixl|infixr"
 DEFINITION = re.compile(rf"(?:(?:{KEYWORDS}) +)*([^\s:(){{}}=\[\]]+(?:=[^\s:(){{}}=]+)?)")
 USE = re.compile(r"(pub )?use (Rattle\.[\w.'\-]+?)(?:\.\{(.*)\}| as (\w+))?$")
-LAW = re.compile(r"(?m)^pub(?:\(crate\))? fn (\w+)\(\)\n(?:    .*\n)+\{\}$")
+LAW = re.compile(r"(?m)^pub fn (\w+)\(\)\n(?:    .*\n)+(?:\{\}|\{\n(?:    [\w:]+\(\);\n)+\})$")
 NO_NAMES = {"use", "open", "unfolding", "module", "mod", "where", "let", "in"}
-EXAMPLES = re.compile(r"/(Examples?|Rows|rows|examples)\.")
+EXAMPLES = re.compile(r"/(Examples?|Rows)\.")
 
 
 def read(path):
@@ -97,15 +97,10 @@ def uncited(files, sources):
                     yield file.path, name
 
 
-def unused_laws(files, sources):
-    promised = set(re.findall(r"(?:::|`)(\w+)`", read("docs/PROMISES.md")))
-    called = set(re.findall(r"(?<!fn )\b(\w+)\(\)", "".join(sources.values())))
-    elsewhere = set()
-    for file in files.values():
-        own = os.path.basename(os.path.dirname(file.path))
-        elsewhere |= {word for words in file.words.values() for word in words if word != own}
+def unlisted_laws(sources):
+    listed = set(re.findall(r"(?:::|`)(\w+)`", read("docs/PROMISES.md")))
     for path, text in sources.items():
-        yield from ((path, name) for name in LAW.findall(text) if name not in called | elsewhere | promised)
+        yield from (f"{path}: docs/PROMISES.md doesn't list {name}" for name in LAW.findall(text) if name not in listed)
 
 
 def misnamed(files, sources):
@@ -126,8 +121,8 @@ def main():
     files = {module_of(path): File(path) for path in sorted(glob.glob("crates/*/specs/**/*.antt", recursive=True)
                                                             + glob.glob("crates/*/proofs/**/*.antt", recursive=True))}
     sources = {path: read(path) for path in sorted(glob.glob("crates/*/src/**/*.rt", recursive=True))}
-    found = [*uncited(files, sources), *unused_laws(files, sources)]
-    lines = [f"{path}: nothing cites {name}" for path, name in found if not EXAMPLES.search(path)] + [*misnamed(files, sources)]
+    lines = [f"{path}: nothing cites {name}" for path, name in uncited(files, sources) if not EXAMPLES.search(path)]
+    lines += [*unlisted_laws(sources), *misnamed(files, sources)]
     print("\n".join(lines), end="\n" if lines else "")
     return 1 if lines else 0
 
