@@ -4,8 +4,8 @@
     bench/bench.py FOLDER [COUNT]
 
 FOLDER is where the files are made, in a folder of their own that is removed at the end: it says which disk is measured. COUNT
-is the number of sets, and of gets, of each size (2,000 where it isn't given). FACE names another program than the one that is
-built here. It prints one table of all figures: commits, gets and pairs of a load's set and get per second at several sizes, of
+is the number of sets, and of gets, of each size (2,000 where it isn't given). FACE names another program than the one that
+bin/face runs. It prints one table of all figures: commits, gets and pairs of a load's set and get per second at several sizes, of
 which one is changed at a time; the rate of the commits to that of the bare calls; the time of a restart; and the instructions of
 a set with its get, where valgrind is installed. Two more tables have the time of a restart by the blocks of the live log and by the
 groups of the queue on flash, each the median of five. The next one is of pools all of whose pages are in memory: a set of each page and

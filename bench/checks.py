@@ -6,7 +6,7 @@
 FOLDER is where the files are made, in a folder of their own that is removed at the end; they take up 1.7 GB. The database
 has 65,536 pages, 16,383 live groups of eight frames and 16,380 kept blocks of the log: sets of each page in turn, two of each,
 then a checkpoint, then sets up to the next one. That of sqlite3 has rows of a value of 100 octets each, in pages of 4,096. The
-table has the seconds of each, the least of three, in turns. FACE names another program than the one that is built here."""
+table has the seconds of each, the least of three, in turns. FACE names another program than the one that bin/face runs."""
 import os
 import shutil
 import subprocess

@@ -3,7 +3,7 @@
 
     bench/device_calls.py [PROGRAM ..]
 
-Each PROGRAM is one to count, named by its path; without any it is the one that is built here. Two choices of records: uniform, and
+Each PROGRAM is one to count, named by its path; without any it is the one that bin/face runs. Two choices of records: uniform, and
 skewed (record = top * u^6 with u uniform). A database has 1,024 pages and a pool of 64; 4,000 sets come before those that are
 counted, which are 4,000 more. The table is of 1,000 commits: groups pushed to flash, pages read from flash, pages read from the
 disk and written to it, and syncs of the disk. The files are made in the current folder, in one of their own that is removed."""

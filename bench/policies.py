@@ -10,7 +10,7 @@ touches of 64 hot ones. They are drawn anew from a fixed seed at each run, so a 
 of flash from 8 groups to twice as many frames as there are pages, and pools of 1, 8, 64 and 512 pages.
 
 The figures are drawn with matplotlib, as Debian's python3-matplotlib has it. Where that is missing the table is printed all the
-same, and a line says so. FACE names another program than the one that is built here."""
+same, and a line says so. FACE names another program than the one that bin/face runs."""
 import os
 import random
 import subprocess

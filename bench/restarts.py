@@ -3,7 +3,7 @@
 
     bench/restarts.py [PROGRAM ..]
 
-Each PROGRAM is one to measure, named by its path; without any it is the one that is built here. A database has 65,536 pages, 16,384
+Each PROGRAM is one to measure, named by its path; without any it is the one that bin/face runs. A database has 65,536 pages, 16,384
 groups, and one page in memory; reads of one page after the other append a group each, on devices that the same program made. The table
 has the flash reads of a restart, by strace, and its time, the median of eleven, in turns with the other programs; the time of starting
 the program is in it. The files are made in the current folder, in folders of their own that are removed."""

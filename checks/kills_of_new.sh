@@ -3,7 +3,7 @@
 # no file of the database may be short, a run opens a database of these sizes or none, and `new` again, of these sizes
 # or of others, tells `ready` and has made a database of its sizes, or refuses clearly. Prints a table of counts, and
 # 'N kills, M wrong'. It needs strace. The words are the states before it that are tried, without words all. FACE
-# names another program than the one that is built here.
+# names another program than the one that bin/face runs.
 . "$(dirname "$(readlink -f "$0")")/on_files/helpers.bash"
 if ! command -v strace >/dev/null 2>&1 || ! strace -o /dev/null true 2>/dev/null; then
     echo 'skipped: kills of new: need strace'

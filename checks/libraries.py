@@ -1,9 +1,11 @@
-"""What crates.txt says, and the prover's command over libraries that are built, for the scripts beside this one."""
+"""What crates.txt says, and the prover's words over libraries that are built, for the scripts beside this one and for bin/build."""
 import os
+import shutil
 import sys
 
 ROOT = os.path.dirname(os.path.dirname(os.path.realpath(__file__)))
-KIT = os.environ.get("RATTLE_KIT", "/opt/rattle")
+# The toolchain's folder, that of `rt`.
+KIT = os.environ.get("RATTLE_KIT") or os.path.dirname(os.path.dirname(os.path.realpath(shutil.which("rt") or "/opt/rattle/bin/rt")))
 
 
 def crates():
@@ -20,14 +22,12 @@ def below(crate, libraries):
     return found
 
 
-def command(copy, crate, folder, kept):
-    """The command that checks the crate in this folder, with each library below it where a copy of the repository or the kit has it; what
-    was checked is kept for the next call."""
+def words(copy, crate, folder):
+    """What each command of the prover is told of the crate in this folder: its root file, the logic, and each library below it, where a
+    copy of the repository or the kit has it."""
     libraries = crates()
     root = next(name for name in ("src/lib.rt", "src/main.rt") if os.path.isfile(f"{folder}/{name}"))
-    os.makedirs(kept, exist_ok=True)
-    found = [f"{KIT}/bin/rattle", "check", "--crate-name", crate, root, "--incremental", kept]
-    found += ["--antt-project", f"{KIT}/rattle/logic/antt-project.json", "--logic-built", f"{KIT}/logic_built"]
+    found = ["--crate-name", crate, root, "--antt-project", f"{KIT}/rattle/logic/antt-project.json", "--logic-built", f"{KIT}/logic_built"]
     found += ["-L", f"dependency={KIT}/rlibs", "--extern", f"std={KIT}/rlibs/std.rlib"]
     for name in sorted(below(crate, libraries)):
         home = f"{copy}/crates/{name}/out/rlib" if name in libraries else f"{KIT}/rlibs"
@@ -36,3 +36,9 @@ def command(copy, crate, folder, kept):
         found += ["-L", f"dependency={home}"] if name in libraries else []
         found += ["--extern", f"{name}={home}/{name}.rlib"] if name in libraries[crate] else []
     return found
+
+
+def command(copy, crate, folder, kept):
+    """The command that checks the crate in this folder; what was checked is kept for the next call."""
+    os.makedirs(kept, exist_ok=True)
+    return [f"{KIT}/bin/rattle", "check", *words(copy, crate, folder), "--incremental", kept]

@@ -4,7 +4,7 @@ meet the same load: measure.py [COUNT [POOL]]. Each is handed one line and is ti
 that it is written over again and again; the means have the sets that make a checkpoint first, the medians hardly see them. With
 POOL the database has as many pages, all of them are in the pool before, and the sets choose among them at random; without it
 there are 1,024 pages, a pool of 64, and the sets go by one record after the other. The current folder's disk is measured. FACE
-names another program than the one that is built here."""
+names another program than the one that bin/face runs."""
 import os
 import random
 import shutil

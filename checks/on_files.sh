@@ -2,12 +2,12 @@
 # Tries the program over real files as a user would, by the scripts of on_files/, or those that are named: new, run,
 # words on standard error, kills, files that can't be used, full disks, failing calls and closed pipes. Tells what
 # failed or was skipped for want of a tool, and 'N passed, M failed, K skipped' of each script and of all. FACE names
-# another program than the one that is built here.
+# another program than the one that bin/face runs.
 set -u
 root=$(cd "$(dirname "$(readlink -f "$0")")/.." && pwd)
 if [ -z "${FACE:-}" ]; then
     "$root/bin/face" help >/dev/null 2>&1 </dev/null
-    FACE=$root/crates/vulzhorn/out/vulzhorn
+    FACE=$("$root/bin/which") || exit 1
 fi
 export FACE
 told=$(mktemp -d)

@@ -5,7 +5,7 @@
 # where the work goes on. The next run must open sound files within range: with each commit that was told, and at most
 # the one that would have been told next; behind a `new`, blank files or none, of which `new` makes a database again.
 # Tells how many refusals were tried, and 'N tried, M wrong'. It needs cc. The words are the commands that are tried,
-# without words all. FACE names another program than the one that is built here.
+# without words all. FACE names another program than the one that bin/face runs.
 . "$(dirname "$(readlink -f "$0")")/on_files/helpers.bash"
 if ! cc -shared -fPIC -o "$folder/lack.so" "$root/checks/lack_memory.c" -ldl; then
     echo 'skipped: refused allocations: lack_memory.c could not be built'

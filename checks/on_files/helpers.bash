@@ -1,6 +1,6 @@
 # What the scripts of this folder share: each works in a folder of its own, which it removes, tries the program as a
 # user would, and ends by `finish`, which tells 'N passed, M failed, K skipped'. FACE names another program than the
-# one that is built here.
+# one that bin/face runs.
 # Two scripts of checks/ take the folder and the program from here, and tell their own counts.
 set -u
 root=$(cd "$(dirname "$(readlink -f "${BASH_SOURCE[0]}")")/../.." && pwd)
@@ -11,7 +11,7 @@ chmod 755 "$folder"
 trap 'cd /; rm -rf "$folder"' EXIT
 if [ -z "${FACE:-}" ]; then
     "$root/bin/face" help >/dev/null 2>&1 </dev/null
-    FACE=$root/crates/vulzhorn/out/vulzhorn
+    FACE=$("$root/bin/which") || exit 1
 fi
 cp "$FACE" "$folder/face" || exit 1
 face=$folder/face
