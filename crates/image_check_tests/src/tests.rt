@@ -21,8 +21,11 @@ const SMALL: Geometry = Geometry {
     blocks: 16,
 };
 
+// Where the first block's slot stands in the log.
+const BLOCK_AT: u64 = 1_536;
+
 // Block 0 behind its open gate: the first transaction sets record 5 to 0a0b.
-const BLOCK: [u8; 55] = [
+const BLOCK: &[u8] = &[
     0xa5, // gate
     0x00, 0x00, 0x00, 0x00, 0x00, 0x00, 0x00, 0x00, // number
     0x00, 0x2e, // used
@@ -39,21 +42,21 @@ const BLOCK: [u8; 55] = [
     0x00, 0x00, 0x00, 0x00, 0x00, 0x00, 0x00, 0x01, // commit number
 ];
 
-// The first octet of the block, its gate; the last ones of what its records name; and the end of its records.
-const GATE_AT: u8 = 0;
+// The first octet of the block in the log, its gate; the last ones of what its records name; and the end of its records.
+const GATE_AT: u64 = BLOCK_AT;
 
-const USED_AT: u64 = 10;
+const USED_AT: u64 = BLOCK_AT + 10;
 
-const PREV_AT: u8 = 28;
+const PREV_AT: u64 = BLOCK_AT + 28;
 
-const PAGE_AT: u8 = 32;
+const PAGE_AT: u64 = BLOCK_AT + 32;
 
-const TXN_AT: u8 = 46;
+const TXN_AT: u64 = BLOCK_AT + 46;
 
-const COMMIT_AT: u8 = 54;
+const COMMIT_AT: u64 = BLOCK_AT + 54;
 
 // The block of the first transaction without its Commit.
-const UNFINISHED: [u8; 38] = [
+const UNFINISHED: &[u8] = &[
     0xa5, // gate
     0x00, 0x00, 0x00, 0x00, 0x00, 0x00, 0x00, 0x00, // number
     0x00, 0x1d, // used
@@ -68,7 +71,7 @@ const UNFINISHED: [u8; 38] = [
 ];
 
 // What a second transaction has written behind the unfinished one, from octet 38 on.
-const SECOND: [u8; 27] = [
+const SECOND: &[u8] = &[
     0x01, // Begin
     0x02, // Update
     0x00, 0x00, 0x00, 0x00, 0x00, 0x00, 0x00, 0x1d, // txn
@@ -80,22 +83,19 @@ const SECOND: [u8; 27] = [
 ];
 
 // The slot of its Update behind the first transaction, and where its records end.
-const SECOND_SLOT_AT: u8 = 60;
+const SECOND_SLOT_AT: u64 = BLOCK_AT + 60;
 
 const SECOND_USED: u8 = 0x38;
 
-// Where the first block's slot stands in the log.
-const BLOCK_AT: u64 = 1_536;
-
 // The front of group 0 in its slot: a clean frame of page 0.
-const GROUP: [u8; 10] = [
+const GROUP: &[u8] = &[
     0xa5, // gate
     0x00, 0x00, 0x00, 0x00, 0x00, 0x00, 0x00, 0x00, // number
     0x01, // present
 ];
 
 // The front of a page whose slot 5 has the last two octets, which knows of the first Update.
-const PAGE: [u8; 40] = [
+const PAGE: &[u8] = &[
     0x00, 0x00, 0x00, 0x00, 0x00, 0x00, 0x00, 0x03, // LSN
     0x00, 0x02, // used
     0x00, 0x00, 0x00, 0x00, 0x00, 0x00, // zeros
@@ -114,42 +114,107 @@ const FRAMED: u8 = 0xa5;
 const BARE: u8 = 0;
 
 // The entry of a slot with the empty value.
-const ENTRY: [u8; 4] = [0x10, 0x00, 0x00, 0x01];
+const ENTRY: &[u8] = &[0x10, 0x00, 0x00, 0x01];
 
-// The devices of a row.
-#[derive(Clone, Copy)]
-enum Devices {
-    // Blank ones, but for this octet of the disk page, which is to be zero.
-    Blank(u8),
-    // A block at the front of the log, with another octet at a place of it: the first commit, the first transaction
-    // without its Commit, and two transactions without Commits.
-    Finished(u8, u8),
-    Unfinished(u8, u8),
-    TwoUnfinished(u8, u8),
-    // Four groups of a clean frame of page 0 each, and what is written besides.
-    Groups(Written),
-    // The block of the first commit; a disk page with the last octets of its LSN and of slot 5; the gate of group 0.
-    Page([u8; 2], u8, u8),
+// Octets that are written on blank devices, each behind its device and place.
+type Written = &'static [(Dev, u64, &'static [u8])];
+
+// Nothing but this octet of the disk page, which is to be zero.
+macro_rules! blank {
+    ($octet:literal) => {
+        &[(Dev::Disk, 10, &[$octet])]
+    };
 }
 
-// What is written besides four groups.
-#[derive(Clone, Copy)]
-enum Written {
-    Nothing,
-    // the LSN of another page in the head of the first group
-    OtherLsn,
-    // a disk page of another form
-    OtherPage,
-    // the segment of the groups, and one with another head: a dirty frame in the fourth group
-    Segment,
-    OtherSegment,
-    // a value in slot 0 of the frame in the fourth group
-    Shown,
-    // or in those of the disk page and of the frame in the third
-    Hidden,
+// A block at the front of the log, with another octet at a place of it: the first commit, the first transaction without
+// its Commit, and two transactions without Commits.
+macro_rules! finished {
+    ($at:expr, $octet:literal) => {
+        &[(Dev::Log, BLOCK_AT, BLOCK), (Dev::Log, $at, &[$octet])]
+    };
 }
 
-// Writes octets, each behind its device and place.
+macro_rules! unfinished {
+    ($at:expr, $octet:literal) => {
+        &[(Dev::Log, BLOCK_AT, UNFINISHED), (Dev::Log, $at, &[$octet])]
+    };
+}
+
+macro_rules! two_unfinished {
+    ($at:expr, $octet:literal) => {
+        &[
+            (Dev::Log, BLOCK_AT, UNFINISHED),
+            (Dev::Log, BLOCK_AT + 38, SECOND),
+            (Dev::Log, USED_AT, &[SECOND_USED]),
+            (Dev::Log, $at, &[$octet]),
+        ]
+    };
+}
+
+// Four groups of a clean frame of page 0 each, and what is written besides.
+macro_rules! groups {
+    ($($dev:expr, $at:literal, $octets:expr;)*) => {
+        &[
+            (Dev::Flash, 0, GROUP),
+            (Dev::Flash, 33_280, GROUP),
+            (Dev::Flash, 33_288, &[1]),
+            (Dev::Flash, 66_560, GROUP),
+            (Dev::Flash, 66_568, &[2]),
+            (Dev::Flash, 99_840, GROUP),
+            (Dev::Flash, 99_848, &[3]),
+            $(($dev, $at, $octets),)*
+        ]
+    };
+}
+
+const FOUR: Written = groups!();
+
+// The LSN of another page in the head of the first group.
+const OTHER_LSN: Written = groups! { Dev::Flash, 24, &[1]; };
+
+// A disk page of another form.
+const OTHER_PAGE: Written = groups! { Dev::Disk, 10, &[1]; };
+
+// The segment of the groups, with a clean frame of page 0 in each of them, and one with a dirty frame in the fourth.
+const SEGMENT: Written = groups! {
+    Dev::Flash, 266_240, &[0xa5];
+    Dev::Flash, 266_249, &[1];
+    Dev::Flash, 266_377, &[1];
+    Dev::Flash, 266_505, &[1];
+    Dev::Flash, 266_633, &[1];
+};
+
+const OTHER_SEGMENT: Written = groups! {
+    Dev::Flash, 266_240, &[0xa5];
+    Dev::Flash, 266_249, &[1];
+    Dev::Flash, 266_377, &[1];
+    Dev::Flash, 266_505, &[1];
+    Dev::Flash, 266_633, &[1, 1];
+};
+
+// A value in slot 0 of the frame in the fourth group; or in those of the disk page and of the frame in the third.
+const SHOWN: Written = groups! { Dev::Flash, 99_993, ENTRY; };
+
+const HIDDEN: Written = groups! {
+    Dev::Disk, 16, ENTRY;
+    Dev::Flash, 66_713, ENTRY;
+};
+
+// The block of the first commit; a disk page with the last octets of its LSN and of slot 5; the gate of group 0.
+macro_rules! page {
+    ($high:literal, $low:literal, $value:literal, $gate:expr) => {
+        &[
+            (Dev::Log, BLOCK_AT, BLOCK),
+            (Dev::Disk, 0, PAGE),
+            (Dev::Disk, 6, &[$high, $low]),
+            (Dev::Disk, 4_094, &[0x0a, $value]),
+            (Dev::Flash, 0, GROUP),
+            (Dev::Flash, 0, &[$gate]),
+        ]
+    };
+}
+
+// Writes octets.
 fn put<S: Site>(site: &mut S, octets: &[(Dev, u64, &[u8])]) -> Result<(), Failed> {
     for &(dev, at, piece) in octets {
         let len = site.len(dev);
@@ -162,95 +227,6 @@ fn put<S: Site>(site: &mut S, octets: &[(Dev, u64, &[u8])]) -> Result<(), Failed
         site.write_at(dev, at, piece)?;
     }
     Ok(())
-}
-
-// Writes segment 0, whose four groups have a frame of page 0 each: a clean one, or a dirty one in the fourth.
-fn put_segment<S: Site>(site: &mut S, dirty: u8) -> Result<(), Failed> {
-    let mut octets = [0u8; 521];
-    octets[0] = 0xa5;
-    octets[9] = 1;
-    octets[137] = 1;
-    octets[265] = 1;
-    octets[393] = 1;
-    octets[394] = dirty;
-    put(site, &[(Dev::Flash, 266_240, &octets)])
-}
-
-// Writes the fronts of four groups.
-fn put_groups<S: Site>(site: &mut S) -> Result<(), Failed> {
-    put(
-        site,
-        &[
-            (Dev::Flash, 0, &GROUP),
-            (Dev::Flash, 33_280, &GROUP),
-            (Dev::Flash, 33_288, &[1]),
-            (Dev::Flash, 66_560, &GROUP),
-            (Dev::Flash, 66_568, &[2]),
-            (Dev::Flash, 99_840, &GROUP),
-            (Dev::Flash, 99_848, &[3]),
-        ],
-    )
-}
-
-// Writes what stands besides four groups.
-fn put_besides<S: Site>(site: &mut S, written: Written) -> Result<(), Failed> {
-    match written {
-        Written::Nothing => Ok(()),
-        Written::OtherLsn => put(site, &[(Dev::Flash, 24, &[1])]),
-        Written::OtherPage => put(site, &[(Dev::Disk, 10, &[1])]),
-        Written::Segment => put_segment(site, 0),
-        Written::OtherSegment => put_segment(site, 1),
-        Written::Shown => put(site, &[(Dev::Flash, 99_993, &ENTRY)]),
-        Written::Hidden => put(
-            site,
-            &[(Dev::Disk, 16, &ENTRY), (Dev::Flash, 66_713, &ENTRY)],
-        ),
-    }
-}
-
-// Writes the devices of a row over blank ones.
-fn put_devices<S: Site>(site: &mut S, devices: Devices) -> Result<(), Failed> {
-    match devices {
-        Devices::Blank(octet) => put(site, &[(Dev::Disk, 10, &[octet])]),
-        Devices::Finished(at, octet) => put(
-            site,
-            &[
-                (Dev::Log, BLOCK_AT, &BLOCK),
-                (Dev::Log, BLOCK_AT + at as u64, &[octet]),
-            ],
-        ),
-        Devices::Unfinished(at, octet) => put(
-            site,
-            &[
-                (Dev::Log, BLOCK_AT, &UNFINISHED),
-                (Dev::Log, BLOCK_AT + at as u64, &[octet]),
-            ],
-        ),
-        Devices::TwoUnfinished(at, octet) => put(
-            site,
-            &[
-                (Dev::Log, BLOCK_AT, &UNFINISHED),
-                (Dev::Log, BLOCK_AT + 38, &SECOND),
-                (Dev::Log, BLOCK_AT + USED_AT, &[SECOND_USED]),
-                (Dev::Log, BLOCK_AT + at as u64, &[octet]),
-            ],
-        ),
-        Devices::Groups(written) => {
-            put_groups(site)?;
-            put_besides(site, written)
-        }
-        Devices::Page(lsn, value, gate) => put(
-            site,
-            &[
-                (Dev::Log, BLOCK_AT, &BLOCK),
-                (Dev::Disk, 0, &PAGE),
-                (Dev::Disk, 6, &lsn),
-                (Dev::Disk, 4_094, &[0x0a, value]),
-                (Dev::Flash, 0, &GROUP),
-                (Dev::Flash, 0, &[gate]),
-            ],
-        ),
-    }
 }
 
 // The rules on the log, the first and the third as one.
@@ -412,10 +388,10 @@ fn is_found(alloc: Global, site: &mut MemSite, found: Finds) -> Result<bool, Sto
 }
 
 // Makes the devices of each row, and answers of how many this is found, up to the first one of which it isn't.
-fn play(alloc: Global, rows: &[(Devices, Finds)]) -> Result<usize, Fail> {
-    for (index, &(devices, found)) in rows.iter().enumerate() {
+fn play(alloc: Global, rows: &[(Written, Finds)]) -> Result<usize, Fail> {
+    for (index, &(written, found)) in rows.iter().enumerate() {
         let mut site = MemSite::new(alloc, &SMALL)?;
-        put_devices(&mut site, devices)?;
+        put(&mut site, written)?;
         if !is_found(alloc, &mut site, found)? {
             return Ok(index);
         }
@@ -423,292 +399,191 @@ fn play(alloc: Global, rows: &[(Devices, Finds)]) -> Result<usize, Fail> {
     Ok(rows.len())
 }
 
-#[test]
-fn a_finished_transaction(rt: HostRuntime) -> Result<(), Fail> {
-    let rows = [
-        (
-            Devices::Finished(GATE_AT, 0xa5),
-            Finds::OnLog(LogRule::Formed, true),
-        ),
-        (
-            Devices::Finished(GATE_AT, 0xa5),
-            Finds::OnLog(LogRule::OneCommit, true),
-        ),
-        (
-            Devices::Finished(PAGE_AT, 1),
-            Finds::OnLog(LogRule::Formed, false),
-        ),
-        (
-            Devices::Finished(TXN_AT, 3),
-            Finds::OnLog(LogRule::Formed, false),
-        ),
-        (
-            Devices::Finished(COMMIT_AT, 2),
-            Finds::OnLog(LogRule::OneCommit, false),
-        ),
-    ];
-    assert_eq!(rt; play(rt.alloc(), &rows)?, rows.len());
-    Ok(())
-}
+// The tests by their names: devices and what is found on them.
+const TESTS: [(&str, &[(Written, Finds)]); 15] = [
+    (
+        "a finished transaction",
+        &[
+            (
+                finished!(GATE_AT, 0xa5),
+                Finds::OnLog(LogRule::Formed, true),
+            ),
+            (
+                finished!(GATE_AT, 0xa5),
+                Finds::OnLog(LogRule::OneCommit, true),
+            ),
+            (finished!(PAGE_AT, 1), Finds::OnLog(LogRule::Formed, false)),
+            (finished!(TXN_AT, 3), Finds::OnLog(LogRule::Formed, false)),
+            (
+                finished!(COMMIT_AT, 2),
+                Finds::OnLog(LogRule::OneCommit, false),
+            ),
+        ],
+    ),
+    (
+        "an unfinished transaction",
+        &[
+            (
+                unfinished!(GATE_AT, 0xa5),
+                Finds::OnLog(LogRule::Room, true),
+            ),
+            (
+                unfinished!(GATE_AT, 0xa5),
+                Finds::OnLog(LogRule::Undoable, true),
+            ),
+            (
+                unfinished!(PREV_AT, 1),
+                Finds::OnLog(LogRule::Undoable, false),
+            ),
+        ],
+    ),
+    (
+        "a master with an active transaction",
+        &[
+            (unfinished!(GATE_AT, 0xa5), Finds::Named(true, true)),
+            (unfinished!(GATE_AT, 0xa5), Finds::Named(false, false)),
+        ],
+    ),
+    (
+        "two unfinished transactions",
+        &[
+            (
+                two_unfinished!(SECOND_SLOT_AT, 6),
+                Finds::OnLog(LogRule::Apart, true),
+            ),
+            (
+                two_unfinished!(SECOND_SLOT_AT, 5),
+                Finds::OnLog(LogRule::Apart, false),
+            ),
+        ],
+    ),
+    (
+        "blank devices",
+        &[
+            (blank!(0), Finds::Lengths),
+            (blank!(0), Finds::Master),
+            (blank!(0), Finds::OnPages(PageRule::Segments, true)),
+        ],
+    ),
+    (
+        "a disk page of another form",
+        &[(blank!(1), Finds::OnPages(PageRule::Versions, false))],
+    ),
+    (
+        "four groups of one frame",
+        &[
+            (FOUR, Finds::OnPages(PageRule::Groups, true)),
+            (OTHER_LSN, Finds::OnPages(PageRule::Groups, false)),
+            (OTHER_PAGE, Finds::OnPages(PageRule::Versions, true)),
+            (FOUR, Finds::OnPages(PageRule::Clean, true)),
+            (OTHER_PAGE, Finds::OnPages(PageRule::Clean, false)),
+            (SEGMENT, Finds::OnPages(PageRule::Following, true)),
+            (OTHER_SEGMENT, Finds::OnPages(PageRule::Following, false)),
+        ],
+    ),
+    (
+        "a page of the first commit",
+        &[
+            (page!(0x00, 0x03, 0x0b, BARE), Finds::Shown(1, true)),
+            (page!(0x00, 0x03, 0x0c, BARE), Finds::Shown(0, false)),
+            (page!(0x00, 0x03, 0x0c, FRAMED), Finds::Shown(0, true)),
+            (page!(0x00, 0x02, 0x0c, BARE), Finds::Shown(0, true)),
+            (page!(0x00, 0x02, 0x0b, BARE), Finds::Shown(1, false)),
+            (page!(0x01, 0xff, 0x0b, BARE), Finds::Shown(0, true)),
+            (page!(0x02, 0x00, 0x0b, BARE), Finds::Shown(0, false)),
+        ],
+    ),
+    (
+        "values of one transaction",
+        &[
+            (finished!(GATE_AT, 0xa5), Finds::Values(0, 1)),
+            (unfinished!(GATE_AT, 0xa5), Finds::Values(0, 0)),
+        ],
+    ),
+    // Slot 0 of the frame in the fourth group has a value, or those of the disk page and of the frame in the third.
+    (
+        "values of the newest frame",
+        &[(SHOWN, Finds::Values(0, 1)), (HIDDEN, Finds::Values(0, 0))],
+    ),
+    (
+        "verdicts on the first commit",
+        &[
+            (
+                finished!(GATE_AT, 0xa5),
+                Finds::Judged(Verdict::Sound {
+                    records: 1,
+                    commits: 1,
+                }),
+            ),
+            (
+                finished!(TXN_AT, 3),
+                Finds::Judged(Verdict::Unsound {
+                    rule: 3,
+                    place: Place::Block(0),
+                }),
+            ),
+            (
+                finished!(COMMIT_AT, 2),
+                Finds::Judged(Verdict::Unsound {
+                    rule: 11,
+                    place: Place::Blocks,
+                }),
+            ),
+        ],
+    ),
+    (
+        "verdicts on blank devices",
+        &[
+            (
+                blank!(0),
+                Finds::Judged(Verdict::Sound {
+                    records: 0,
+                    commits: 0,
+                }),
+            ),
+            (
+                blank!(1),
+                Finds::Judged(Verdict::Unsound {
+                    rule: 1,
+                    place: Place::Page(0),
+                }),
+            ),
+        ],
+    ),
+    (
+        "places in the log",
+        &[
+            (finished!(GATE_AT, 0xa5), Finds::At(None)),
+            (finished!(PAGE_AT, 1), Finds::At(Some(Place::Block(0)))),
+            (finished!(TXN_AT, 3), Finds::At(Some(Place::Block(0)))),
+        ],
+    ),
+    (
+        "places in four groups",
+        &[
+            (FOUR, Finds::At(None)),
+            (OTHER_LSN, Finds::At(Some(Place::Group(0)))),
+            (OTHER_PAGE, Finds::At(Some(Place::Group(3)))),
+            (OTHER_SEGMENT, Finds::At(Some(Place::Group(3)))),
+        ],
+    ),
+    (
+        "places on pages",
+        &[
+            (blank!(1), Finds::At(Some(Place::Page(0)))),
+            (
+                page!(0x00, 0x03, 0x0c, BARE),
+                Finds::At(Some(Place::Page(0))),
+            ),
+        ],
+    ),
+];
 
 #[test]
-fn an_unfinished_transaction(rt: HostRuntime) -> Result<(), Fail> {
-    let rows = [
-        (
-            Devices::Unfinished(GATE_AT, 0xa5),
-            Finds::OnLog(LogRule::Room, true),
-        ),
-        (
-            Devices::Unfinished(GATE_AT, 0xa5),
-            Finds::OnLog(LogRule::Undoable, true),
-        ),
-        (
-            Devices::Unfinished(PREV_AT, 1),
-            Finds::OnLog(LogRule::Undoable, false),
-        ),
-    ];
-    assert_eq!(rt; play(rt.alloc(), &rows)?, rows.len());
-    Ok(())
-}
-
-#[test]
-fn a_master_with_an_active_transaction(rt: HostRuntime) -> Result<(), Fail> {
-    let rows = [
-        (Devices::Unfinished(GATE_AT, 0xa5), Finds::Named(true, true)),
-        (
-            Devices::Unfinished(GATE_AT, 0xa5),
-            Finds::Named(false, false),
-        ),
-    ];
-    assert_eq!(rt; play(rt.alloc(), &rows)?, rows.len());
-    Ok(())
-}
-
-#[test]
-fn two_unfinished_transactions(rt: HostRuntime) -> Result<(), Fail> {
-    let rows = [
-        (
-            Devices::TwoUnfinished(SECOND_SLOT_AT, 6),
-            Finds::OnLog(LogRule::Apart, true),
-        ),
-        (
-            Devices::TwoUnfinished(SECOND_SLOT_AT, 5),
-            Finds::OnLog(LogRule::Apart, false),
-        ),
-    ];
-    assert_eq!(rt; play(rt.alloc(), &rows)?, rows.len());
-    Ok(())
-}
-
-#[test]
-fn blank_devices(rt: HostRuntime) -> Result<(), Fail> {
-    let rows = [
-        (Devices::Blank(0), Finds::Lengths),
-        (Devices::Blank(0), Finds::Master),
-        (Devices::Blank(0), Finds::OnPages(PageRule::Segments, true)),
-    ];
-    assert_eq!(rt; play(rt.alloc(), &rows)?, rows.len());
-    Ok(())
-}
-
-#[test]
-fn a_disk_page_of_another_form(rt: HostRuntime) -> Result<(), Fail> {
-    let rows = [(Devices::Blank(1), Finds::OnPages(PageRule::Versions, false))];
-    assert_eq!(rt; play(rt.alloc(), &rows)?, rows.len());
-    Ok(())
-}
-
-#[test]
-fn four_groups_of_one_frame(rt: HostRuntime) -> Result<(), Fail> {
-    let rows = [
-        (
-            Devices::Groups(Written::Nothing),
-            Finds::OnPages(PageRule::Groups, true),
-        ),
-        (
-            Devices::Groups(Written::OtherLsn),
-            Finds::OnPages(PageRule::Groups, false),
-        ),
-        (
-            Devices::Groups(Written::OtherPage),
-            Finds::OnPages(PageRule::Versions, true),
-        ),
-        (
-            Devices::Groups(Written::Nothing),
-            Finds::OnPages(PageRule::Clean, true),
-        ),
-        (
-            Devices::Groups(Written::OtherPage),
-            Finds::OnPages(PageRule::Clean, false),
-        ),
-        (
-            Devices::Groups(Written::Segment),
-            Finds::OnPages(PageRule::Following, true),
-        ),
-        (
-            Devices::Groups(Written::OtherSegment),
-            Finds::OnPages(PageRule::Following, false),
-        ),
-    ];
-    assert_eq!(rt; play(rt.alloc(), &rows)?, rows.len());
-    Ok(())
-}
-
-#[test]
-fn a_page_of_the_first_commit(rt: HostRuntime) -> Result<(), Fail> {
-    let rows = [
-        (
-            Devices::Page([0x00, 0x03], 0x0b, BARE),
-            Finds::Shown(1, true),
-        ),
-        (
-            Devices::Page([0x00, 0x03], 0x0c, BARE),
-            Finds::Shown(0, false),
-        ),
-        (
-            Devices::Page([0x00, 0x03], 0x0c, FRAMED),
-            Finds::Shown(0, true),
-        ),
-        (
-            Devices::Page([0x00, 0x02], 0x0c, BARE),
-            Finds::Shown(0, true),
-        ),
-        (
-            Devices::Page([0x00, 0x02], 0x0b, BARE),
-            Finds::Shown(1, false),
-        ),
-        (
-            Devices::Page([0x01, 0xff], 0x0b, BARE),
-            Finds::Shown(0, true),
-        ),
-        (
-            Devices::Page([0x02, 0x00], 0x0b, BARE),
-            Finds::Shown(0, false),
-        ),
-    ];
-    assert_eq!(rt; play(rt.alloc(), &rows)?, rows.len());
-    Ok(())
-}
-
-#[test]
-fn values_of_one_transaction(rt: HostRuntime) -> Result<(), Fail> {
-    let rows = [
-        (Devices::Finished(GATE_AT, 0xa5), Finds::Values(0, 1)),
-        (Devices::Unfinished(GATE_AT, 0xa5), Finds::Values(0, 0)),
-    ];
-    assert_eq!(rt; play(rt.alloc(), &rows)?, rows.len());
-    Ok(())
-}
-
-// Slot 0 of the frame in the fourth group has a value, or those of the disk page and of the frame in the third.
-#[test]
-fn values_of_the_newest_frame(rt: HostRuntime) -> Result<(), Fail> {
-    let rows = [
-        (Devices::Groups(Written::Shown), Finds::Values(0, 1)),
-        (Devices::Groups(Written::Hidden), Finds::Values(0, 0)),
-    ];
-    assert_eq!(rt; play(rt.alloc(), &rows)?, rows.len());
-    Ok(())
-}
-
-#[test]
-fn verdicts_on_the_first_commit(rt: HostRuntime) -> Result<(), Fail> {
-    let rows = [
-        (
-            Devices::Finished(GATE_AT, 0xa5),
-            Finds::Judged(Verdict::Sound {
-                records: 1,
-                commits: 1,
-            }),
-        ),
-        (
-            Devices::Finished(TXN_AT, 3),
-            Finds::Judged(Verdict::Unsound {
-                rule: 3,
-                place: Place::Block(0),
-            }),
-        ),
-        (
-            Devices::Finished(COMMIT_AT, 2),
-            Finds::Judged(Verdict::Unsound {
-                rule: 11,
-                place: Place::Blocks,
-            }),
-        ),
-    ];
-    assert_eq!(rt; play(rt.alloc(), &rows)?, rows.len());
-    Ok(())
-}
-
-#[test]
-fn verdicts_on_blank_devices(rt: HostRuntime) -> Result<(), Fail> {
-    let rows = [
-        (
-            Devices::Blank(0),
-            Finds::Judged(Verdict::Sound {
-                records: 0,
-                commits: 0,
-            }),
-        ),
-        (
-            Devices::Blank(1),
-            Finds::Judged(Verdict::Unsound {
-                rule: 1,
-                place: Place::Page(0),
-            }),
-        ),
-    ];
-    assert_eq!(rt; play(rt.alloc(), &rows)?, rows.len());
-    Ok(())
-}
-
-#[test]
-fn places_in_the_log(rt: HostRuntime) -> Result<(), Fail> {
-    let rows = [
-        (Devices::Finished(GATE_AT, 0xa5), Finds::At(None)),
-        (
-            Devices::Finished(PAGE_AT, 1),
-            Finds::At(Some(Place::Block(0))),
-        ),
-        (
-            Devices::Finished(TXN_AT, 3),
-            Finds::At(Some(Place::Block(0))),
-        ),
-    ];
-    assert_eq!(rt; play(rt.alloc(), &rows)?, rows.len());
-    Ok(())
-}
-
-#[test]
-fn places_in_four_groups(rt: HostRuntime) -> Result<(), Fail> {
-    let rows = [
-        (Devices::Groups(Written::Nothing), Finds::At(None)),
-        (
-            Devices::Groups(Written::OtherLsn),
-            Finds::At(Some(Place::Group(0))),
-        ),
-        (
-            Devices::Groups(Written::OtherPage),
-            Finds::At(Some(Place::Group(3))),
-        ),
-        (
-            Devices::Groups(Written::OtherSegment),
-            Finds::At(Some(Place::Group(3))),
-        ),
-    ];
-    assert_eq!(rt; play(rt.alloc(), &rows)?, rows.len());
-    Ok(())
-}
-
-#[test]
-fn places_on_pages(rt: HostRuntime) -> Result<(), Fail> {
-    let rows = [
-        (Devices::Blank(1), Finds::At(Some(Place::Page(0)))),
-        (
-            Devices::Page([0x00, 0x03], 0x0c, BARE),
-            Finds::At(Some(Place::Page(0))),
-        ),
-    ];
-    assert_eq!(rt; play(rt.alloc(), &rows)?, rows.len());
+fn each_rule_finds_what_is_written(rt: HostRuntime) -> Result<(), Fail> {
+    for (name, rows) in TESTS {
+        let held = play(rt.alloc(), rows)?;
+        assert!(rt; held == rows.len(), "{name}: row {held}");
+    }
     Ok(())
 }
