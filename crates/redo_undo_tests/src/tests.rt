@@ -5,20 +5,20 @@ ghost use Rattle.mem_site.specs.MemState.{state_of};
 ghost use Rattle.log_records.specs.Spelling.{HasForm};
 ghost use Rattle.checkpoint.specs.Actives.{Ascend};
 ghost use Rattle.log_store.specs.Representation as log_store;
-ghost use Rattle.log_store.specs.Representation.{end_of};
 ghost use Rattle.image_meaning.specs.Flushed.{first_block};
 ghost use Rattle.redo_laws.specs.Checkpointing.{begins_of};
 ghost use Rattle.redo_laws.specs.Holding.{Invariant, IsOnPage, blocks_to};
 ghost use Rattle.redo_undo.specs.Stores.{MayWork, MayLog, sizes_of};
 
 use crate::rows::{Row, run};
+use crate::undo_tests::{COMPENSATED, NONE, TWO};
 use checkpoint::{Master, Pairs, newest};
 use log_records::LogRecord;
 use log_store::LogStore;
 use mem_site::MemSite;
 use page_store::PageStore;
 use record_model::Octets;
-use redo_undo::{Store, log_change, log_record, touch, undo_one};
+use redo_undo::{Store, log_change, log_record, touch};
 use site::{Geometry, Stop};
 use std::alloc::Global;
 use std::test::Fail;
@@ -51,7 +51,6 @@ fn opened(alloc: Global, site: &mut MemSite) -> Result<(LogStore, PageStore), St
     ensures room { IfOk result (λ both. blocks_to both.0 + 5 < both.0.kept + both.0.geometry.blocks) }
     ensures geometry { IfOk result (λ both. both.0.geometry ≡ record { pages = 1; groups = 8; blocks = 16 }) }
     ensures pages { IfOk result (λ both. both.1.flash.geometry.pages ≡ 1) }
-    ensures sizes { IfOk result (λ both. both.0.geometry ≡ record { pages = 1; groups = 8; blocks = 16 }) }
 {
     let pages = PageStore::start(alloc, site, &SMALL, 4)?;
     let mut log = LogStore::start(site, &SMALL)?;
@@ -59,55 +58,39 @@ fn opened(alloc: Global, site: &mut MemSite) -> Result<(LogStore, PageStore), St
     Ok((log, pages))
 }
 
-// A transaction has begun, and has changed record 5. The last is the LSN of its Update.
-fn changed(alloc: Global, site: &mut MemSite) -> Result<(LogStore, PageStore, u64), Stop>
+// A transaction has begun, and has changed record 5.
+fn changed(alloc: Global, site: &mut MemSite) -> Result<(LogStore, PageStore), Stop>
     requires { HasLengths (record { pages = 1; groups = 8; blocks = 16 }) (state_of site.old).image }
-    ensures going { IfOk result (λ all. Invariant all.0 all.1 (state_of site.new)) }
-    ensures last { IfOk result (λ all. all.2 < end_of all.0) }
-    ensures room { IfOk result (λ all. blocks_to all.0 + 3 < all.0.kept + all.0.geometry.blocks) }
-    ensures geometry { IfOk result (λ all. all.0.geometry ≡ record { pages = 1; groups = 8; blocks = 16 }) }
-    ensures pages { IfOk result (λ all. all.1.flash.geometry.pages ≡ 1) }
+    ensures going { IfOk result (λ both. Invariant both.0 both.1 (state_of site.new)) }
+    ensures room { IfOk result (λ both. blocks_to both.0 + 3 < both.0.kept + both.0.geometry.blocks) }
+    ensures geometry { IfOk result (λ both. both.0.geometry ≡ record { pages = 1; groups = 8; blocks = 16 }) }
 {
     let (mut log, mut pages) = opened(alloc, site)?;
     log_record(site, &mut log, &LogRecord::Begin)?;
     touch(site, &mut log, &mut pages, 0)?;
-    let lsn = log_change(site, &mut log, &mut pages, &update())?;
-    Ok((log, pages, lsn))
+    log_change(site, &mut log, &mut pages, &update())?;
+    Ok((log, pages))
 }
 
-const SEEN: [Row; 4] = [
+const SEEN: &[Row] = &[
     Row::Begin(2),
     Row::Change(3),
     Row::Value(5, 0x0a, true),
     Row::Changes(0),
 ];
 
-#[test]
-fn a_change_is_seen(rt: HostRuntime) -> Result<(), Fail> {
-    assert_eq!(rt; run(rt.alloc(), &SEEN)?, SEEN.len());
-    Ok(())
-}
-
-const UNDONE: [Row; 4] = [
+const UNDONE: &[Row] = &[
     Row::Begin(2),
     Row::ChangeAndUndo(3, 2),
     Row::Value(5, 0x0a, false),
     Row::PageLsn(29),
 ];
 
-#[test]
-fn a_transaction_is_undone(rt: HostRuntime) -> Result<(), Fail> {
-    assert_eq!(rt; run(rt.alloc(), &UNDONE)?, UNDONE.len());
-    Ok(())
-}
+const FOREIGN: [Row; 2] = [Row::Begin(2), Row::ChangeAndUndo(3, 1)];
 
 #[test]
-fn an_update_of_another_is_foreign(rt: HostRuntime) -> Result<(), Fail> {
-    let mut site = MemSite::new(rt.alloc(), &SMALL)?;
-    let (mut log, mut pages, last) = changed(rt.alloc(), &mut site)?;
-    let undone = undo_one(&mut site, &mut log, &mut pages, 1, last);
-    assert_eq!(rt; undone, Err(Stop::Foreign));
-    Ok(())
+fn an_update_of_another_is_foreign(rt: HostRuntime) {
+    assert!(rt; run(rt.alloc(), &FOREIGN) == Err(Stop::Foreign));
 }
 
 // What a crash leaves.
@@ -157,9 +140,9 @@ fn is_committed(log: &LogStore, site: &mut MemSite) -> Result<bool, Stop>
 #[test]
 fn a_commit_outlives_a_crash(rt: HostRuntime) -> Result<(), Fail> {
     let mut site = MemSite::new(rt.alloc(), &SMALL)?;
-    let (log, pages, _last) = changed(rt.alloc(), &mut site)?;
+    let (log, pages) = changed(rt.alloc(), &mut site)?;
     let mut store = stored(&mut site, log, pages)?;
-    assert_eq!(rt; store.commit(&mut site, 2, 1)?, 29);
+    assert!(rt; store.commit(&mut site, 2, 1)? == 29);
     let mut site = crashed(site);
     let log = LogStore::start(&mut site, &SMALL)?;
     assert!(rt; is_committed(&log, &mut site)?);
@@ -167,7 +150,8 @@ fn a_commit_outlives_a_crash(rt: HostRuntime) -> Result<(), Fail> {
 }
 
 // A life in which a transaction changes record 5, and all of its log is sealed, and the next one.
-const EARLIER: [Row; 7] = [
+// The page has the value that its Update wrote, with the Update's LSN, and the transaction is found as unfinished.
+const EARLIER: &[Row] = &[
     Row::Begin(2),
     Row::Change(3),
     Row::Reopen,
@@ -177,15 +161,9 @@ const EARLIER: [Row; 7] = [
     Row::PageLsn(3),
 ];
 
-// The page has the value that its Update wrote, with the Update's LSN, and the transaction is found as unfinished.
-#[test]
-fn an_earlier_life_is_redone(rt: HostRuntime) -> Result<(), Fail> {
-    assert_eq!(rt; run(rt.alloc(), &EARLIER)?, EARLIER.len());
-    Ok(())
-}
-
 // The first restart and the flush of its pages make changes behind those that seal the log, and the second makes none.
-const TWICE: [Row; 10] = [
+// Once the page is on the flash a second restart finds its LSN there, and leaves it unchanged.
+const TWICE: &[Row] = &[
     Row::Begin(2),
     Row::Change(3),
     Row::Reopen,
@@ -198,20 +176,13 @@ const TWICE: [Row; 10] = [
     Row::Changes(10),
 ];
 
-// Once the page is on the flash a second restart finds its LSN there, and leaves it unchanged.
-#[test]
-fn a_record_is_redone_once(rt: HostRuntime) -> Result<(), Fail> {
-    assert_eq!(rt; run(rt.alloc(), &TWICE)?, TWICE.len());
-    Ok(())
-}
-
 // A transaction is committed, and its records are block 0.
 fn committed(alloc: Global, site: &mut MemSite) -> Result<Store, Stop>
     requires { HasLengths (record { pages = 1; groups = 8; blocks = 16 }) (state_of site.old).image }
     ensures may { IfOk result (λ store. MayLog store (state_of site.new)) }
     ensures made { IfOk result (λ store. store.made ≡ 17) }
 {
-    let (log, pages, _last) = changed(alloc, site)?;
+    let (log, pages) = changed(alloc, site)?;
     let mut store = stored(site, log, pages)?;
     store.commit(site, 2, 1)?;
     Ok(store)
@@ -258,14 +229,14 @@ fn a_checkpoint_keeps_the_block_of_an_active_begin(rt: HostRuntime) -> Result<()
     let mut site = MemSite::new(rt.alloc(), &SMALL)?;
     let mut store = committed(rt.alloc(), &mut site)?;
     let begin = store.begin(&mut site)?;
-    assert_eq!(rt; begin, 514);
+    assert!(rt; begin == 514);
     let mut active = Pairs::new();
     active.push(514, 514);
     if store.blocks() != 2 {
         return Ok(());
     }
     let master = checkpointed(&mut site, &mut store, active)?;
-    assert_eq!(rt; told(&master, &store), (2, 1, 1, 1, 1));
+    assert!(rt; told(&master, &store) == (2, 1, 1, 1, 1));
     assert!(rt; is_active(&master, 514));
     Ok(())
 }
@@ -275,6 +246,26 @@ fn a_checkpoint_of_no_transaction_keeps_no_block(rt: HostRuntime) -> Result<(), 
     let mut site = MemSite::new(rt.alloc(), &SMALL)?;
     let mut store = committed(rt.alloc(), &mut site)?;
     let master = checkpointed(&mut site, &mut store, Pairs::new())?;
-    assert_eq!(rt; told(&master, &store), (1, 1, 1, 1, 0));
+    assert!(rt; told(&master, &store) == (1, 1, 1, 1, 0));
+    Ok(())
+}
+
+// The tests by their names.
+const TESTS: [(&str, &[Row]); 7] = [
+    ("two_transactions_are_undone_from_the_last_update_on", TWO),
+    ("a_transaction_with_a_clr_is_undone", COMPENSATED),
+    ("where_none_is_unfinished_nothing_is_logged", NONE),
+    ("a_change_is_seen", SEEN),
+    ("a_transaction_is_undone", UNDONE),
+    ("an_earlier_life_is_redone", EARLIER),
+    ("a_record_is_redone_once", TWICE),
+];
+
+#[test]
+fn rows_hold(rt: HostRuntime) -> Result<(), Fail> {
+    for (name, rows) in TESTS {
+        let held = run(rt.alloc(), rows)?;
+        assert!(rt; held == rows.len(), "{name}: row {held}");
+    }
     Ok(())
 }

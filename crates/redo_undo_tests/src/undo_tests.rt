@@ -1,11 +1,11 @@
-// Undo on a site in memory. The LSNs were worked out by hand from the lengths of the records.
+// Rows of undo on a site in memory. The LSNs were worked out by hand from the lengths of the records.
 
-use crate::rows::{Row, run};
-use std::test::Fail;
+use crate::rows::Row;
 
 // Transactions 2 and 3 are unfinished, with Updates at 4 and 58, and at 31. That at 58 is compensated. All of this is
 // sealed.
-const TWO: [Row; 11] = [
+// The Updates at 31 and 4 have their CLRs at 514 and 555, and the Ends stand at 546 and 587.
+pub(crate) const TWO: &[Row] = &[
     Row::Begin(2),
     Row::Begin(3),
     Row::Update(4, 2, 2, 5),
@@ -19,15 +19,9 @@ const TWO: [Row; 11] = [
     Row::PageLsn(555),
 ];
 
-// The Updates at 31 and 4 have their CLRs at 514 and 555, and the Ends stand at 546 and 587.
-#[test]
-fn two_transactions_are_undone_from_the_last_update_on(rt: HostRuntime) -> Result<(), Fail> {
-    assert_eq!(rt; run(rt.alloc(), &TWO)?, TWO.len());
-    Ok(())
-}
-
 // The same, and transaction 2 is undone from its last record on.
-const COMPENSATED: [Row; 12] = [
+// The Update at 58 has its CLR at 85, so that of the Update at 4 is the only one that comes.
+pub(crate) const COMPENSATED: &[Row] = &[
     Row::Begin(2),
     Row::Begin(3),
     Row::Update(4, 2, 2, 5),
@@ -42,17 +36,4 @@ const COMPENSATED: [Row; 12] = [
     Row::PageLsn(514),
 ];
 
-// The Update at 58 has its CLR at 85, so that of the Update at 4 is the only one that comes.
-#[test]
-fn a_transaction_with_a_clr_is_undone(rt: HostRuntime) -> Result<(), Fail> {
-    assert_eq!(rt; run(rt.alloc(), &COMPENSATED)?, COMPENSATED.len());
-    Ok(())
-}
-
-const NONE: [Row; 3] = [Row::UndoAll(0), Row::TailEmpty, Row::Changes(0)];
-
-#[test]
-fn where_none_is_unfinished_nothing_is_logged(rt: HostRuntime) -> Result<(), Fail> {
-    assert_eq!(rt; run(rt.alloc(), &NONE)?, NONE.len());
-    Ok(())
-}
+pub(crate) const NONE: &[Row] = &[Row::UndoAll(0), Row::TailEmpty, Row::Changes(0)];
