@@ -325,11 +325,13 @@ const FOUND_AGAIN: [Step; 18] = [
 fn files_are_made_and_found_again(rt: HostRuntime) -> Result<(), Fail> {
     let world = World::new(rt.alloc());
     let held = play_over(&rt, &world, &rt, &FOUND_AGAIN)?;
-    assert_eq!(rt; held, FOUND_AGAIN.len());
+    assert!(rt; held == FOUND_AGAIN.len());
     Ok(())
 }
 
-const NOT_FIT: [Step; 9] = [
+// Where a file that is there can't be read, no device is there: else the missing ones would read as blank and not be
+// made.
+const NOT_FIT: &[Step] = &[
     Step::Clear,
     Step::File("face.disk", &[0; 30]),
     Step::Fail("read", "face.disk", ErrorKind::Other, 1),
@@ -341,18 +343,12 @@ const NOT_FIT: [Step; 9] = [
     Step::Clear,
 ];
 
-// Where a file that is there can't be read, no device is there: else the missing ones would read as blank and not be
-// made.
-#[test]
-fn a_file_that_cannot_be_read_is_not_fit(rt: HostRuntime) -> Result<(), Fail> {
-    assert_eq!(rt; play(&rt, &NOT_FIT)?, NOT_FIT.len());
-    Ok(())
-}
-
 // The first calls wherever files are opened.
 const OPENING: &str = "open /dev/null;open /dev/null;open /dev/null;open .;lock .;";
 
-const IN_ORDER: [Step; 17] = [
+// Each file is filled and synced under the name of a draft, and then renamed; the folder is synced last, also where
+// nothing was to be made.
+const IN_ORDER: &[Step] = &[
     Step::Clear,
     Step::File("face.log.new", b"left by another"),
     Step::Open(How::Fresh(70_000, 20, 30)),
@@ -385,15 +381,9 @@ const IN_ORDER: [Step; 17] = [
     Step::Clear,
 ];
 
-// Each file is filled and synced under the name of a draft, and then renamed; the folder is synced last, also where
-// nothing was to be made.
-#[test]
-fn a_new_database_is_made_in_this_order(rt: HostRuntime) -> Result<(), Fail> {
-    assert_eq!(rt; play(&rt, &IN_ORDER)?, IN_ORDER.len());
-    Ok(())
-}
-
-const UNMADE: [Step; 13] = [
+// Where a file can't be made, nothing is there and nothing stays; but a file system without a sync of folders or
+// without locks makes a new database all the same.
+const UNMADE: &[Step] = &[
     Step::Make("make", "face.flash.new", ErrorKind::PermissionDenied, 0),
     Step::Make("fill", "face.disk.new", ErrorKind::StorageFull, 0),
     Step::Make("sync all", "face.log.new", ErrorKind::Other, 0),
@@ -409,18 +399,10 @@ const UNMADE: [Step; 13] = [
     Step::Clear,
 ];
 
-// Where a file can't be made, nothing is there and nothing stays; but a file system without a sync of folders or
-// without locks makes a new database all the same.
-#[test]
-fn what_cannot_be_made_is_removed(rt: HostRuntime) -> Result<(), Fail> {
-    assert_eq!(rt; play(&rt, &UNMADE)?, UNMADE.len());
-    Ok(())
-}
-
 // The calls on the file of each device, one device after the other.
 macro_rules! calls_on {
     ($($dev:expr, $path:literal, $calls:literal;)+) => {
-        [
+        &[
             Step::Clear,
             Step::Open(How::Fresh(10, 20, 30)),
             Step::Open(How::Existing),
@@ -448,20 +430,16 @@ macro_rules! calls_on {
     };
 }
 
-const OWN_FILE: [Step; 55] = calls_on! {
+// Each call is made on the file of its device and at its place, and fails where that does.
+const OWN_FILE: &[Step] = calls_on! {
     Dev::Log, "face.log", "write face.log;sync face.log;read face.log;";
     Dev::Flash, "face.flash", "write face.flash;sync face.flash;read face.flash;";
     Dev::Disk, "face.disk", "write face.disk;sync face.disk;read face.disk;";
 };
 
-// Each call is made on the file of its device and at its place, and fails where that does.
-#[test]
-fn each_call_is_made_on_its_own_file(rt: HostRuntime) -> Result<(), Fail> {
-    assert_eq!(rt; play(&rt, &OWN_FILE)?, OWN_FILE.len());
-    Ok(())
-}
-
-const COUNTED: [Step; 21] = [
+// What an output takes is what is counted; one that isn't ready is tried again behind a pause, and one that fails is a
+// fault.
+const COUNTED: &[Step] = &[
     Step::Call(Call::Tell, 0, b"one", Ok(3)),
     Step::AtMost(2),
     Step::Call(Call::Tell, 0, b"two", Ok(2)),
@@ -484,14 +462,6 @@ const COUNTED: [Step; 21] = [
     Step::Fail("tell", "", ErrorKind::BrokenPipe, 1),
     Step::Line(b"a line", false),
 ];
-
-// What an output takes is what is counted; one that isn't ready is tried again behind a pause, and one that fails is a
-// fault.
-#[test]
-fn what_is_told_is_counted(rt: HostRuntime) -> Result<(), Fail> {
-    assert_eq!(rt; play(&rt, &COUNTED)?, COUNTED.len());
-    Ok(())
-}
 
 // What each take gives where the third one fails.
 const COUNTS: [Option<usize>; 13] = [
@@ -562,7 +532,7 @@ const FAULTS: [(ErrorKind, u32, bool, u64); 3] = [
     (ErrorKind::Other, 1, false, 0),
 ];
 
-const BY_SITE: [Step; 4] = [
+const BY_SITE: &[Step] = &[
     Step::Feed(b"input"),
     Step::Open(How::Bare),
     Step::Call(Call::Take, 0, b"input", Ok(5)),
@@ -582,14 +552,13 @@ fn all_input_is_taken(rt: HostRuntime) -> Result<(), Fail> {
         let all = is_all_taken(rt.alloc(), &fake, kind, times, passes)?;
         assert!(rt; all && world.slept() == pauses, "{times} times");
     }
-    assert_eq!(rt; play(&rt, &BY_SITE)?, BY_SITE.len());
     Ok(())
 }
 
 // Calls that fail twice, each of a new site, by name, file and kind: the first time for want of room.
 macro_rules! failures {
     ($($call:literal, $path:literal, $failed:expr;)+) => {
-        [
+        &[
             Step::Clear,
             Step::Open(How::Fresh(10, 20, 30)),
             $(
@@ -607,21 +576,16 @@ macro_rules! failures {
 }
 
 // The write that fails is the last, since each read is to find what was written.
-const FIRST: [Step; 31] = failures! {
+// The first call that failed is kept with its error, whatever fails behind it.
+const FIRST: &[Step] = failures! {
     "sync", "face.flash", Call::Sync(Dev::Flash);
     "read", "face.log", Call::Read(Dev::Log);
     "tell", "", Call::Tell;
     "write", "face.disk", Call::Write(Dev::Disk);
 };
 
-// The first call that failed is kept with its error, whatever fails behind it.
-#[test]
-fn the_first_failure_is_kept(rt: HostRuntime) -> Result<(), Fail> {
-    assert_eq!(rt; play(&rt, &FIRST)?, FIRST.len());
-    Ok(())
-}
-
-const LARGE: [Step; 22] = [
+// What takes long is said on standard error, and what can't be said is not.
+const LARGE: &[Step] = &[
     Step::Clear,
     Step::Pass(125),
     Step::Open(How::Fresh(2_097_152, 20, 30)),
@@ -648,14 +612,8 @@ const LARGE: [Step; 22] = [
     Step::Clear,
 ];
 
-// What takes long is said on standard error, and what can't be said is not.
-#[test]
-fn making_large_files_is_told_of(rt: HostRuntime) -> Result<(), Fail> {
-    assert_eq!(rt; play(&rt, &LARGE)?, LARGE.len());
-    Ok(())
-}
-
-const LONG_CHECK: [Step; 9] = [
+// Where a check of the files takes long, it is said how much of them is read.
+const LONG_CHECK: &[Step] = &[
     Step::Clear,
     Step::Open(How::Fresh(10, 20, 30)),
     Step::Pass(1_500),
@@ -666,13 +624,6 @@ const LONG_CHECK: [Step; 9] = [
     Step::Said("check: 0 MiB are read; the files have 1 MiB, of which parts are read again\n"),
     Step::Clear,
 ];
-
-// Where a check of the files takes long, it is said how much of them is read.
-#[test]
-fn a_long_check_is_told_of(rt: HostRuntime) -> Result<(), Fail> {
-    assert_eq!(rt; play(&rt, &LONG_CHECK)?, LONG_CHECK.len());
-    Ok(())
-}
 
 // An input and the first line that ends with a carriage return.
 const RETURNED: [(&[u8], Option<u64>); 6] = [
@@ -723,6 +674,28 @@ fn carriage_returns_and_refusals_are_noticed(rt: HostRuntime) {
     let mut watch = Watch::new();
     for (told, rule) in RULES {
         watch.tells(told);
-        assert_eq!(rt; watch.rule(), rule);
+        assert!(rt; watch.rule() == rule);
     }
+}
+
+// The tests by their names.
+const TESTS: [(&str, &[Step]); 9] = [
+    ("all_input_is_taken", BY_SITE),
+    ("a_file_that_cannot_be_read_is_not_fit", NOT_FIT),
+    ("a_new_database_is_made_in_this_order", IN_ORDER),
+    ("what_cannot_be_made_is_removed", UNMADE),
+    ("each_call_is_made_on_its_own_file", OWN_FILE),
+    ("what_is_told_is_counted", COUNTED),
+    ("the_first_failure_is_kept", FIRST),
+    ("making_large_files_is_told_of", LARGE),
+    ("a_long_check_is_told_of", LONG_CHECK),
+];
+
+#[test]
+fn steps_hold(rt: HostRuntime) -> Result<(), Fail> {
+    for (name, rows) in TESTS {
+        let held = play(&rt, rows)?;
+        assert!(rt; held == rows.len(), "{name}: row {held}");
+    }
+    Ok(())
 }

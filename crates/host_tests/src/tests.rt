@@ -2,7 +2,7 @@
 use host::{run, stopped};
 use notices::{Number, Wrong, find_wrong};
 use site::Stop;
-use std::alloc::{Alloc, Allocator, Global};
+use std::alloc::{Alloc, AllocError, Allocator, Global};
 use std::cell::{Cell, RefCell};
 use std::env::FillError;
 use std::fmt::Display;
@@ -206,158 +206,183 @@ impl<'a> Eprint for Caller<'a> {
     }
 }
 
+const PATHS: [&str; 3] = ["face.log", "face.flash", "face.disk"];
+
+fn remove_all(rt: &HostRuntime) {
+    for path in PATHS {
+        let _ = fs::remove_file(rt, path);
+    }
+}
+
+// A call of the program: the words and the input, the status and the text, and so many files that are opened.
+type Row = (
+    &'static [&'static [u8]],
+    &'static [u8],
+    u8,
+    &'static [u8],
+    u64,
+);
+
+const CALLS: [Row; 15] = [
+    (&[b"face", b"run", b"1"], b"", 9, b"fault foreign\n", 3),
+    (&[b"face", b"check"], b"", 11, b"unsound S1\n", 3),
+    (
+        &[b"face", b"new", b"16", b"8", b"64"],
+        b"",
+        0,
+        b"ready 16 8 64\n",
+        6,
+    ),
+    (
+        &[b"face", b"new", b"16", b"8", b"64"],
+        b"",
+        0,
+        b"ready 16 8 64\n",
+        3,
+    ),
+    (&[b"face"], b"", 2, b"fault words\n", 0),
+    (&[], b"", 2, b"fault words\n", 0),
+    (&[b"face", b"run", b"0"], b"get 5\n", 2, b"fault words\n", 0),
+    (&[b"face", b"run", b"\xff"], b"", 2, b"fault words\n", 0),
+    (
+        &[b"face", b"new", b"16", b"8", b"15"],
+        b"",
+        2,
+        b"fault words\n",
+        0,
+    ),
+    (&[b"face", b"--help"], b"", 2, b"fault words\n", 0),
+    (
+        &[b"face", b"run", b"1"],
+        b"set 5 0a\nget 5\n",
+        0,
+        b"open 0\ncommitted 1\nvalue 0a\n",
+        3,
+    ),
+    (
+        &[b"face", b"check"],
+        b"",
+        0,
+        b"sound records 1 commits 1\n",
+        3,
+    ),
+    (
+        &[b"face", b"load", b"2", b"7", b"1"],
+        b"",
+        0,
+        b"open 1\nload 2 committed 2 checkpoints 0 found 2\n",
+        3,
+    ),
+    (
+        &[b"face", b"new", b"16", b"8", b"65"],
+        b"",
+        9,
+        b"fault foreign\n",
+        3,
+    ),
+    (
+        &[b"face", b"trial", b"16", b"8", b"64", b"1"],
+        b"set 5 0a\nstop 12 0\nget 5\n",
+        0,
+        b"open 0\ncommitted 1\nlife 1 status 0\nopen 1\nvalue 0a\nlife 2 status 0\n",
+        0,
+    ),
+];
+
+// Whether a call is as the row says.
+fn is_as(rt: &HostRuntime, row: Row) -> bool {
+    let (words, input, status, told, opened) = row;
+    let caller = make_caller(rt, words, input);
+    caller.mute.set(opened == 3);
+    if run(&caller) != status || caller.told().as_slice() != told {
+        return false;
+    }
+    caller.opened.get() == opened && caller.said().is_empty() == (status == 0 || opened == 3)
+}
+
 // Each list of words has its status, its text, and so many files that it opens: the three of a database and, for a new
 // one, the drafts of those that are missing.
 #[test]
-fn words_open_their_files(rt: HostRuntime) -> Result<(), Fail> {
-    let rows: [(&[&[u8]], &'static [u8], u8, &[u8], u64); 15] = [
-        (&[b"face", b"run", b"1"], b"", 9, b"fault foreign\n", 3),
-        (&[b"face", b"check"], b"", 11, b"unsound S1\n", 3),
-        (
-            &[b"face", b"new", b"16", b"8", b"64"],
-            b"",
-            0,
-            b"ready 16 8 64\n",
-            6,
-        ),
-        (
-            &[b"face", b"new", b"16", b"8", b"64"],
-            b"",
-            0,
-            b"ready 16 8 64\n",
-            3,
-        ),
-        (&[b"face"], b"", 2, b"fault words\n", 0),
-        (&[], b"", 2, b"fault words\n", 0),
-        (&[b"face", b"run", b"0"], b"get 5\n", 2, b"fault words\n", 0),
-        (&[b"face", b"run", b"\xff"], b"", 2, b"fault words\n", 0),
-        (
-            &[b"face", b"new", b"16", b"8", b"15"],
-            b"",
-            2,
-            b"fault words\n",
-            0,
-        ),
-        (&[b"face", b"--help"], b"", 2, b"fault words\n", 0),
-        (
-            &[b"face", b"run", b"1"],
-            b"set 5 0a\nget 5\n",
-            0,
-            b"open 0\ncommitted 1\nvalue 0a\n",
-            3,
-        ),
-        (
-            &[b"face", b"check"],
-            b"",
-            0,
-            b"sound records 1 commits 1\n",
-            3,
-        ),
-        (
-            &[b"face", b"load", b"2", b"7", b"1"],
-            b"",
-            0,
-            b"open 1\nload 2 committed 2 checkpoints 0 found 2\n",
-            3,
-        ),
-        (
-            &[b"face", b"new", b"16", b"8", b"65"],
-            b"",
-            9,
-            b"fault foreign\n",
-            3,
-        ),
-        (
-            &[b"face", b"trial", b"16", b"8", b"64", b"1"],
-            b"set 5 0a\nstop 12 0\nget 5\n",
-            0,
-            b"open 0\ncommitted 1\nlife 1 status 0\nopen 1\nvalue 0a\nlife 2 status 0\n",
-            0,
-        ),
-    ];
-    for path in ["face.log", "face.flash", "face.disk"] {
-        let _ = fs::remove_file(&rt, path);
+fn words_open_their_files(rt: HostRuntime) {
+    remove_all(&rt);
+    for (place, row) in CALLS.iter().enumerate() {
+        assert!(rt; is_as(&rt, *row), "row {place}");
     }
-    for (words, input, status, told, opened) in rows {
-        let caller = make_caller(&rt, words, input);
-        caller.mute.set(opened == 3);
-        assert_eq!(rt; run(&caller), status);
-        assert!(rt; caller.told().as_slice() == told);
-        assert_eq!(rt; caller.opened.get(), opened);
-        assert_eq!(rt; caller.said().is_empty(), status == 0 || opened == 3);
-    }
-    for path in ["face.log", "face.flash", "face.disk"] {
-        let _ = fs::remove_file(&rt, path);
-    }
-    Ok(())
+    remove_all(&rt);
 }
 
 // Where memory is wanted before there is a site, the line is told whole and the status is 4.
 #[test]
 fn a_stop_has_its_line_and_its_status(rt: HostRuntime) -> Result<(), Fail> {
     let caller = make_caller(&rt, &[], b"");
-    assert_eq!(rt; stopped(&caller, Stop::Memory), 4);
+    assert!(rt; stopped(&caller, Stop::Memory) == 4);
     assert!(rt; caller.told().as_slice() == b"fault memory\n".as_slice());
     Ok(())
 }
 
 // The words, without the program's own name, and what is wrong with them.
+const WRONG: [(&str, Option<Wrong>); 33] = [
+    ("new 1 8 16", None),
+    ("new 65536 16384 1048576", None),
+    ("run 1", None),
+    ("run 4096", None),
+    ("load 1 0 1", None),
+    ("load 100000 18446744073709551615 4096", None),
+    ("new 0 8 16", Some(Wrong::Unfit(2, Number::Pages))),
+    ("new 65537 8 16", Some(Wrong::Unfit(2, Number::Pages))),
+    ("new 1 4 16", Some(Wrong::Unfit(3, Number::Groups))),
+    ("new 1 9 16", Some(Wrong::Unfit(3, Number::Groups))),
+    ("new 1 16388 16", Some(Wrong::Unfit(3, Number::Groups))),
+    ("new 1 8 15", Some(Wrong::Unfit(4, Number::Blocks))),
+    ("new 1 8 1048577", Some(Wrong::Unfit(4, Number::Blocks))),
+    ("new 1 8", Some(Wrong::Lacks(Number::Blocks))),
+    ("new", Some(Wrong::Lacks(Number::Pages))),
+    ("run 0", Some(Wrong::Unfit(2, Number::Pool))),
+    ("run 4097", Some(Wrong::Unfit(2, Number::Pool))),
+    ("run -- 1", Some(Wrong::Unfit(2, Number::Pool))),
+    ("run 01 2 3", Some(Wrong::Unfit(2, Number::Pool))),
+    ("run 1 2 3", Some(Wrong::TooMany(3))),
+    ("load 100001 0 1", Some(Wrong::Unfit(2, Number::Count))),
+    (
+        "load 1 18446744073709551616 1",
+        Some(Wrong::Unfit(3, Number::Seed)),
+    ),
+    ("load 1 1", Some(Wrong::Lacks(Number::Pool))),
+    (
+        "trial 1025 8 16 1",
+        Some(Wrong::Unfit(2, Number::TrialPages)),
+    ),
+    (
+        "trial 1 260 16 1",
+        Some(Wrong::Unfit(3, Number::TrialGroups)),
+    ),
+    (
+        "trial 1 8 4097 1",
+        Some(Wrong::Unfit(4, Number::TrialBlocks)),
+    ),
+    ("trial 1 8 16", Some(Wrong::Lacks(Number::Pool))),
+    ("simulate 16384 4096", None),
+    ("simulate 10 1", Some(Wrong::Unfit(2, Number::Groups))),
+    ("simulate 8", Some(Wrong::Lacks(Number::Pool))),
+    ("check", None),
+    ("check x", Some(Wrong::TooMany(2))),
+    ("RUN 1", Some(Wrong::Unknown)),
+];
+
+// What is wrong with the words of a line.
+fn wrong_in(alloc: Global, line: &str) -> Result<Option<Wrong>, AllocError> {
+    let mut words: Vec<String> = Vec::new(alloc);
+    for word in line.split(' ') {
+        words.push(String::from_str(alloc, word)?)?;
+    }
+    Ok(find_wrong(words.as_slice()))
+}
+
 #[test]
 fn the_first_wrong_word_is_found(rt: HostRuntime) -> Result<(), Fail> {
-    let rows: [(&str, Option<Wrong>); 33] = [
-        ("new 1 8 16", None),
-        ("new 65536 16384 1048576", None),
-        ("run 1", None),
-        ("run 4096", None),
-        ("load 1 0 1", None),
-        ("load 100000 18446744073709551615 4096", None),
-        ("new 0 8 16", Some(Wrong::Unfit(2, Number::Pages))),
-        ("new 65537 8 16", Some(Wrong::Unfit(2, Number::Pages))),
-        ("new 1 4 16", Some(Wrong::Unfit(3, Number::Groups))),
-        ("new 1 9 16", Some(Wrong::Unfit(3, Number::Groups))),
-        ("new 1 16388 16", Some(Wrong::Unfit(3, Number::Groups))),
-        ("new 1 8 15", Some(Wrong::Unfit(4, Number::Blocks))),
-        ("new 1 8 1048577", Some(Wrong::Unfit(4, Number::Blocks))),
-        ("new 1 8", Some(Wrong::Lacks(Number::Blocks))),
-        ("new", Some(Wrong::Lacks(Number::Pages))),
-        ("run 0", Some(Wrong::Unfit(2, Number::Pool))),
-        ("run 4097", Some(Wrong::Unfit(2, Number::Pool))),
-        ("run -- 1", Some(Wrong::Unfit(2, Number::Pool))),
-        ("run 01 2 3", Some(Wrong::Unfit(2, Number::Pool))),
-        ("run 1 2 3", Some(Wrong::TooMany(3))),
-        ("load 100001 0 1", Some(Wrong::Unfit(2, Number::Count))),
-        (
-            "load 1 18446744073709551616 1",
-            Some(Wrong::Unfit(3, Number::Seed)),
-        ),
-        ("load 1 1", Some(Wrong::Lacks(Number::Pool))),
-        (
-            "trial 1025 8 16 1",
-            Some(Wrong::Unfit(2, Number::TrialPages)),
-        ),
-        (
-            "trial 1 260 16 1",
-            Some(Wrong::Unfit(3, Number::TrialGroups)),
-        ),
-        (
-            "trial 1 8 4097 1",
-            Some(Wrong::Unfit(4, Number::TrialBlocks)),
-        ),
-        ("trial 1 8 16", Some(Wrong::Lacks(Number::Pool))),
-        ("simulate 16384 4096", None),
-        ("simulate 10 1", Some(Wrong::Unfit(2, Number::Groups))),
-        ("simulate 8", Some(Wrong::Lacks(Number::Pool))),
-        ("check", None),
-        ("check x", Some(Wrong::TooMany(2))),
-        ("RUN 1", Some(Wrong::Unknown)),
-    ];
-    for (line, wrong) in rows {
-        let mut words: Vec<String> = Vec::new(rt.alloc());
-        for word in line.split(' ') {
-            words.push(String::from_str(rt.alloc(), word)?)?;
-        }
-        assert_eq!(rt; find_wrong(words.as_slice()), wrong, "{line}");
+    for (line, wrong) in WRONG {
+        assert!(rt; wrong_in(rt.alloc(), line)? == wrong, "{line}");
     }
-    assert_eq!(rt; find_wrong(&[]), Some(Wrong::Nothing));
+    assert!(rt; find_wrong(&[]) == Some(Wrong::Nothing));
     Ok(())
 }
