@@ -22,16 +22,16 @@ enum Step {
     // An octet is written to the disk, without `disk_pages`.
     Put(u64, u8),
     // A page is read, and has these octets at these places; the disk has them.
-    Read(u32, [(usize, u8); 4]),
-    Has([(usize, u8); 4]),
+    Read(u32, &'static [(usize, u8)]),
+    Has(&'static [(usize, u8)]),
     // So many changes were made in all, and so many reads of the disk.
     Changes(u64),
     Reads(u64),
 }
 
 // Whether there are these octets at these places.
-pub fn have(octets: &[u8], wanted: [(usize, u8); 4]) -> bool {
-    for (place, octet) in wanted {
+pub fn have(octets: &[u8], wanted: &[(usize, u8)]) -> bool {
+    for &(place, octet) in wanted {
         if octets.get(place) != Some(&octet) {
             return false;
         }
@@ -58,7 +58,7 @@ fn put_octet<S: Site>(site: &mut S, place: u64, octet: u8) -> Result<bool, Fail>
 }
 
 // Whether the disk has this page, with these octets.
-fn reads<S: Site>(site: &mut S, page: u32, wanted: [(usize, u8); 4]) -> Result<bool, Fail> {
+fn reads<S: Site>(site: &mut S, page: u32, wanted: &[(usize, u8)]) -> Result<bool, Fail> {
     if site.len(Dev::Disk) < 4_096 * u64::from(page) + 4_096 {
         return Ok(false);
     }
@@ -97,42 +97,40 @@ fn play(alloc: Global, steps: &[Step]) -> Result<usize, Fail> {
     Ok(steps.len())
 }
 
-const IN_PLACE: [Step; 3] = [
+const IN_PLACE: &[Step] = &[
     Step::Write(1, 7),
-    Step::Has([(4_095, 0), (4_096, 7), (8_191, 7), (8_192, 0)]),
+    Step::Has(&[(4_095, 0), (4_096, 7), (8_191, 7), (8_192, 0)]),
     Step::Changes(1),
 ];
 
-#[test]
-fn a_page_stands_in_its_place(rt: HostRuntime) -> Result<(), Fail> {
-    assert_eq!(rt; play(rt.alloc(), &IN_PLACE)?, IN_PLACE.len());
-    Ok(())
-}
-
 // The first octet of page 1, and its last.
-const READ: [Step; 4] = [
+const READ: &[Step] = &[
     Step::Put(4_096, 7),
     Step::Put(8_191, 8),
-    Step::Read(1, [(0, 7), (1, 0), (4_094, 0), (4_095, 8)]),
+    Step::Read(1, &[(0, 7), (1, 0), (4_094, 0), (4_095, 8)]),
     Step::Reads(1),
 ];
 
-#[test]
-fn a_page_is_read(rt: HostRuntime) -> Result<(), Fail> {
-    assert_eq!(rt; play(rt.alloc(), &READ)?, READ.len());
-    Ok(())
-}
-
-const SYNCED: [Step; 5] = [
+const SYNCED: &[Step] = &[
     Step::Write(0, 7),
     Step::Sync,
     Step::Changes(2),
     Step::Crash(2),
-    Step::Has([(0, 7), (1, 7), (4_095, 7), (4_096, 0)]),
+    Step::Has(&[(0, 7), (1, 7), (4_095, 7), (4_096, 0)]),
+];
+
+// The tests by their names.
+const TESTS: [(&str, &[Step]); 3] = [
+    ("a_page_stands_in_its_place", IN_PLACE),
+    ("a_page_is_read", READ),
+    ("a_synced_page_stays", SYNCED),
 ];
 
 #[test]
-fn a_synced_page_stays(rt: HostRuntime) -> Result<(), Fail> {
-    assert_eq!(rt; play(rt.alloc(), &SYNCED)?, SYNCED.len());
+fn steps_hold(rt: HostRuntime) -> Result<(), Fail> {
+    for (name, rows) in TESTS {
+        let held = play(rt.alloc(), rows)?;
+        assert!(rt; held == rows.len(), "{name}: row {held}");
+    }
     Ok(())
 }

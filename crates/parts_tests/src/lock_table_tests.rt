@@ -48,7 +48,7 @@ fn play(alloc: Global, steps: &[Step]) -> Result<usize, Stop> {
 }
 
 // One session writes record 7; another may not read it until the first has released.
-const WRITTEN: [Step; 6] = [
+const WRITTEN: &[Step] = &[
     Step::Writes(0, 7),
     Step::MayRead(Some(1), 7, Err(Busy { holder: 0 })),
     Step::MayRead(Some(0), 7, Ok(())),
@@ -57,14 +57,8 @@ const WRITTEN: [Step; 6] = [
     Step::MayRead(Some(1), 7, Ok(())),
 ];
 
-#[test]
-fn a_written_record_is_busy_until_it_is_released(rt: HostRuntime) -> Result<(), Fail> {
-    assert_eq!(rt; play(rt.alloc(), &WRITTEN)?, WRITTEN.len());
-    Ok(())
-}
-
 // Two sessions read record 9, so neither may write it. Once one of them has ended, the other may.
-const READ_BY_TWO: [Step; 8] = [
+const READ_BY_TWO: &[Step] = &[
     Step::Reads(0, 9),
     Step::Reads(1, 9),
     Step::MayRead(None, 9, Ok(())),
@@ -75,8 +69,20 @@ const READ_BY_TWO: [Step; 8] = [
     Step::MayWrite(Some(0), 9, Ok(())),
 ];
 
+// The tests by their names.
+const TESTS: [(&str, &[Step]); 2] = [
+    ("a_written_record_is_busy_until_it_is_released", WRITTEN),
+    (
+        "a_record_that_two_have_read_is_written_by_neither",
+        READ_BY_TWO,
+    ),
+];
+
 #[test]
-fn a_record_that_two_have_read_is_written_by_neither(rt: HostRuntime) -> Result<(), Fail> {
-    assert_eq!(rt; play(rt.alloc(), &READ_BY_TWO)?, READ_BY_TWO.len());
+fn steps_hold(rt: HostRuntime) -> Result<(), Fail> {
+    for (name, rows) in TESTS {
+        let held = play(rt.alloc(), rows)?;
+        assert!(rt; held == rows.len(), "{name}: row {held}");
+    }
     Ok(())
 }

@@ -102,7 +102,9 @@ const EVICTED_FRONT: &[Mark] = &[
 
 const EVICTED_POOL: &[PoolMark] = &[pooled!(7, true, true), pooled!(8, false, false)];
 
-const EVICTIONS: [Row; 2] = [
+// Of five frames of the front group two are valid and dirty. One of these was referenced: it has a second chance, as
+// the clean frame that was. The pool has a changed page, and one with no frame.
+const EVICTIONS: &[Row] = &[
     Row {
         push: Push::Evict,
         front: Some(EVICTED_FRONT),
@@ -121,13 +123,6 @@ const EVICTIONS: [Row; 2] = [
     },
 ];
 
-// Of five frames of the front group two are valid and dirty. One of these was referenced: it has a second chance, as
-// the clean frame that was. The pool has a changed page, and one with no frame.
-#[test]
-fn an_eviction_stages_what_is_valid_and_dirty(rt: HostRuntime) {
-    assert_eq!(rt; play(&EVICTIONS), EVICTIONS.len());
-}
-
 const FLUSHED_POOL: &[PoolMark] = &[
     pooled!(10, true, true),
     pooled!(11, false, false),
@@ -142,7 +137,8 @@ const FLUSHED_POOL: &[PoolMark] = &[
     pooled!(20, true, true),
 ];
 
-const FLUSHES: [Row; 2] = [
+// Of eleven pages nine are changed: the eight coldest of these are pulled. Then the last two of the eleven.
+const FLUSHES: &[Row] = &[
     Row {
         push: Push::Flush,
         front: Some(&[frame!(3, true, true, false)]),
@@ -160,12 +156,6 @@ const FLUSHES: [Row; 2] = [
         pulled: Some(&[19, 20]),
     },
 ];
-
-// Of eleven pages nine are changed: the eight coldest of these are pulled. Then the last two of the eleven.
-#[test]
-fn a_flush_pulls_eight_changed_pages(rt: HostRuntime) {
-    assert_eq!(rt; play(&FLUSHES), FLUSHES.len());
-}
 
 const TAKEN_FRONT: &[Mark] = &[
     frame!(30, false, true, true),
@@ -196,7 +186,9 @@ const GROUPED: Taking = Taking {
     pulls: true,
 };
 
-const TAKINGS: [Row; 3] = [
+// Two of five frames were read and are the last of their pages. Of eight pages two are changed, two have no frame, and
+// two more are changed and have none.
+const TAKINGS: &[Row] = &[
     Row {
         push: Push::EvictTaking(BOTH),
         front: Some(TAKEN_FRONT),
@@ -223,9 +215,17 @@ const TAKINGS: [Row; 3] = [
     },
 ];
 
-// Two of five frames were read and are the last of their pages. Of eight pages two are changed, two have no frame, and
-// two more are changed and have none.
+// The tests by their names.
+const TESTS: [(&str, &[Row]); 3] = [
+    ("an_eviction_stages_what_is_valid_and_dirty", EVICTIONS),
+    ("a_flush_pulls_eight_changed_pages", FLUSHES),
+    ("pushes_take_what_they_are_to", TAKINGS),
+];
+
 #[test]
-fn pushes_take_what_they_are_to(rt: HostRuntime) {
-    assert_eq!(rt; play(&TAKINGS), TAKINGS.len());
+fn rows_hold(rt: HostRuntime) {
+    for (name, rows) in TESTS {
+        let held = play(rows);
+        assert!(rt; held == rows.len(), "{name}: row {held}");
+    }
 }

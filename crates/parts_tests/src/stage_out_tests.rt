@@ -24,6 +24,6 @@ fn two_pages_are_written_and_synced_once(rt: HostRuntime) -> Result<(), Fail> {
     assert!(rt; site.changes() == 3);
     let site = site.crash(2);
     let wanted = [(4_095, 8), (4_096, 0), (8_191, 0), (8_192, 7)];
-    assert!(rt; have(site.content(Dev::Disk), wanted));
+    assert!(rt; have(site.content(Dev::Disk), &wanted));
     Ok(())
 }

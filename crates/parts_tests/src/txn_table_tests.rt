@@ -110,7 +110,7 @@ fn play(steps: &[Step]) -> usize {
 }
 
 // One session begins and writes six times: with its end, seven log records are owed. Nothing is, once it has ended.
-const SIX_WRITES: [Step; 13] = [
+const SIX_WRITES: &[Step] = &[
     Step::Begin(0, 0),
     Step::Wrote(0, 512),
     Step::Wrote(0, 1024),
@@ -126,13 +126,8 @@ const SIX_WRITES: [Step; 13] = [
     Step::None,
 ];
 
-#[test]
-fn six_writes_owe_seven(rt: HostRuntime) {
-    assert_eq!(rt; play(&SIX_WRITES), SIX_WRITES.len());
-}
-
 // Seven sessions begin in turn and owe a log record each. The first ends, and another begins behind the others.
-const SEVEN_SESSIONS: [Step; 14] = [
+const SEVEN_SESSIONS: &[Step] = &[
     Step::Begin(0, 0),
     Step::Begin(1, 1),
     Step::Begin(2, 2),
@@ -149,14 +144,9 @@ const SEVEN_SESSIONS: [Step; 14] = [
     Step::At(6, 7),
 ];
 
-#[test]
-fn seven_sessions_owe_seven(rt: HostRuntime) {
-    assert_eq!(rt; play(&SEVEN_SESSIONS), SEVEN_SESSIONS.len());
-}
-
 // Two sessions begin after three and five log records. Once records are counted from the first of them on, they began
 // after none and two.
-const COUNTED: [Step; 6] = [
+const COUNTED: &[Step] = &[
     Step::Begin(0, 3),
     Step::Begin(1, 5),
     Step::Count,
@@ -165,7 +155,17 @@ const COUNTED: [Step; 6] = [
     Step::Oldest(0, 1536),
 ];
 
+// The tests by their names.
+const TESTS: [(&str, &[Step]); 3] = [
+    ("six_writes_owe_seven", SIX_WRITES),
+    ("seven_sessions_owe_seven", SEVEN_SESSIONS),
+    ("records_are_counted_from_the_oldest", COUNTED),
+];
+
 #[test]
-fn records_are_counted_from_the_oldest(rt: HostRuntime) {
-    assert_eq!(rt; play(&COUNTED), COUNTED.len());
+fn steps_hold(rt: HostRuntime) {
+    for (name, rows) in TESTS {
+        let held = play(rows);
+        assert!(rt; held == rows.len(), "{name}: row {held}");
+    }
 }

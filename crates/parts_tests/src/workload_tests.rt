@@ -10,7 +10,7 @@ const NEXT: [(u64, u64); 4] = [
 #[test]
 fn makes_numbers(rt: HostRuntime) {
     for (number, following) in NEXT {
-        assert_eq!(rt; next(number), following);
+        assert!(rt; next(number) == following);
     }
 }
 
