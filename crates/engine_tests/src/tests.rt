@@ -194,7 +194,7 @@ fn run(alloc: Global, sizes: &Geometry, rows: &[(Ask, Answer)]) -> Result<usize,
     run_on(alloc, &mut site, rows)
 }
 
-const PENDING: [(Ask, Answer); 9] = [
+const PENDING: &[(Ask, Answer)] = &[
     (Ask::Begin(0), Answer::Done),
     (Ask::Write(0, 7, 0x01), Answer::Done),
     (Ask::Begin(1), Answer::Done),
@@ -206,13 +206,7 @@ const PENDING: [(Ask, Answer); 9] = [
     (Ask::Read(1, 7), Answer::Nothing),
 ];
 
-#[test]
-fn a_pending_write_is_seen_by_its_session_alone(rt: HostRuntime) -> Result<(), Fail> {
-    assert_eq!(rt; run(rt.alloc(), &STANDARD, &PENDING)?, PENDING.len());
-    Ok(())
-}
-
-const READ_LOCKS: [(Ask, Answer); 9] = [
+const READ_LOCKS: &[(Ask, Answer)] = &[
     (Ask::Begin(0), Answer::Done),
     (Ask::Begin(1), Answer::Done),
     (Ask::Read(0, 9), Answer::Nothing),
@@ -224,13 +218,7 @@ const READ_LOCKS: [(Ask, Answer); 9] = [
     (Ask::Get(9), Answer::Found(0xaa)),
 ];
 
-#[test]
-fn read_locks_last_to_the_end(rt: HostRuntime) -> Result<(), Fail> {
-    assert_eq!(rt; run(rt.alloc(), &STANDARD, &READ_LOCKS)?, READ_LOCKS.len());
-    Ok(())
-}
-
-const ERASED: [(Ask, Answer); 6] = [
+const ERASED: &[(Ask, Answer)] = &[
     (Ask::Begin(0), Answer::Done),
     (Ask::Write(0, 1, 0xaa), Answer::Done),
     (Ask::Erase(0, 1), Answer::Done),
@@ -239,13 +227,7 @@ const ERASED: [(Ask, Answer); 6] = [
     (Ask::Get(1), Answer::Nothing),
 ];
 
-#[test]
-fn an_erased_record_has_nothing(rt: HostRuntime) -> Result<(), Fail> {
-    assert_eq!(rt; run(rt.alloc(), &STANDARD, &ERASED)?, ERASED.len());
-    Ok(())
-}
-
-const REFUSED: [(Ask, Answer); 14] = [
+const REFUSED: &[(Ask, Answer)] = &[
     (Ask::Begin(8), Answer::Refused(Why::BadSession)),
     (Ask::Read(0, 0), Answer::Refused(Why::BadSession)),
     (Ask::Begin(0), Answer::Done),
@@ -262,13 +244,7 @@ const REFUSED: [(Ask, Answer); 14] = [
     (Ask::Get(5), Answer::Found(0xab)),
 ];
 
-#[test]
-fn what_may_not_be_is_refused(rt: HostRuntime) -> Result<(), Fail> {
-    assert_eq!(rt; run(rt.alloc(), &STANDARD, &REFUSED)?, REFUSED.len());
-    Ok(())
-}
-
-const UNDOING: [(Ask, Answer); 11] = [
+const UNDOING: &[(Ask, Answer)] = &[
     (Ask::Begin(0), Answer::Done),
     (Ask::Write(0, 1, 0xaa), Answer::Done),
     (Ask::Write(0, 1, 0xaa), Answer::Done),
@@ -291,13 +267,7 @@ const UNDOING: [(Ask, Answer); 11] = [
     (Ask::Set(0, 0xaa), Answer::Committed(1)),
 ];
 
-#[test]
-fn undoing_has_room(rt: HostRuntime) -> Result<(), Fail> {
-    assert_eq!(rt; run(rt.alloc(), &SMALL, &UNDOING)?, UNDOING.len());
-    Ok(())
-}
-
-const CHECKPOINTS: [(Ask, Answer); 5] = [
+const CHECKPOINTS: &[(Ask, Answer)] = &[
     (Ask::Set(0, 0x01), Answer::Committed(1)),
     (Ask::Checkpoint, Answer::Checked),
     (Ask::Checkpoint, Answer::Checked),
@@ -314,16 +284,7 @@ const CHECKPOINTS: [(Ask, Answer); 5] = [
     (Ask::Get(0), Answer::Found(0x01)),
 ];
 
-#[test]
-fn a_checkpoint_lets_records_go(rt: HostRuntime) -> Result<(), Fail> {
-    assert_eq!(rt;
-        run(rt.alloc(), &STANDARD, &CHECKPOINTS)?,
-        CHECKPOINTS.len()
-    );
-    Ok(())
-}
-
-const EACH_SESSION: [(Ask, Answer); 11] = [
+const EACH_SESSION: &[(Ask, Answer)] = &[
     (Ask::Begin(0), Answer::Done),
     (Ask::Begin(1), Answer::Done),
     (Ask::Begin(2), Answer::Done),
@@ -345,12 +306,6 @@ const EACH_SESSION: [(Ask, Answer); 11] = [
         }),
     ),
 ];
-
-#[test]
-fn each_session_has_room_to_end(rt: HostRuntime) -> Result<(), Fail> {
-    assert_eq!(rt; run(rt.alloc(), &SMALL, &EACH_SESSION)?, EACH_SESSION.len());
-    Ok(())
-}
 
 // Two pages are written by a session, which has not committed.
 const WRITES: [(Ask, Answer); 3] = [
@@ -410,21 +365,24 @@ fn survives(alloc: Global, changes: u64, seed: u64) -> Result<Option<bool>, Stop
     Ok(done)
 }
 
+// Whether a commit is done, by the change that is stopped, and by the seeds 0, 1, 2 and 77.
+const DONE: [[bool; 4]; 7] = [
+    [false, false, false, false],
+    [false, false, false, false],
+    [false, false, false, false],
+    [true, false, true, false],
+    [true, false, true, false],
+    [true, true, true, true],
+    [true, true, true, true],
+];
+
+const SEEDS: [u64; 4] = [0, 1, 2, 77];
+
 #[test]
 fn a_stopped_commit_is_done_or_not(rt: HostRuntime) -> Result<(), Fail> {
-    // By the change that is stopped, and by the seeds 0, 1, 2 and 77.
-    let rows: [[bool; 4]; 7] = [
-        [false, false, false, false],
-        [false, false, false, false],
-        [false, false, false, false],
-        [true, false, true, false],
-        [true, false, true, false],
-        [true, true, true, true],
-        [true, true, true, true],
-    ];
-    for (changes, row) in rows.iter().enumerate() {
-        for (seed, done) in [0, 1, 2, 77].iter().zip(row) {
-            assert_eq!(rt; survives(rt.alloc(), changes as u64, *seed)?, Some(*done));
+    for (changes, row) in DONE.iter().enumerate() {
+        for (seed, done) in SEEDS.iter().zip(row) {
+            assert!(rt; survives(rt.alloc(), changes as u64, *seed)? == Some(*done));
         }
     }
     Ok(())
@@ -488,7 +446,7 @@ fn a_stopped_restart_is_done_again(rt: HostRuntime) -> Result<(), Fail> {
         for changes in 0..16 {
             let site = half_done(rt.alloc())?;
             let (site, started) = restarted(rt.alloc(), site, changes, seed);
-            assert_eq!(rt; started, changes >= 15);
+            assert!(rt; started == (changes >= 15));
             let (mut site, _started) = restarted(rt.alloc(), site, changes, seed);
             assert!(rt; is_undone(rt.alloc(), &mut site)?);
         }
@@ -496,19 +454,13 @@ fn a_stopped_restart_is_done_again(rt: HostRuntime) -> Result<(), Fail> {
     Ok(())
 }
 
-const OUTSIDE: [(Ask, Answer); 4] = [
+// A page that isn't in the pool is read from the flash, each time: what was changed there is seen.
+const OUTSIDE: &[(Ask, Answer)] = &[
     (Ask::SetLong(0, 0x5a), Answer::Committed(1)),
     (Ask::Set(32, 0x02), Answer::Committed(2)),
     (Ask::Put(0x5b), Answer::Done),
     (Ask::Get(0), Answer::FoundLong(0x5b, 0x5a)),
 ];
-
-// A page that isn't in the pool is read from the flash, each time: what was changed there is seen.
-#[test]
-fn a_page_outside_the_pool_is_read_from_flash(rt: HostRuntime) -> Result<(), Fail> {
-    assert_eq!(rt; run(rt.alloc(), &STANDARD, &OUTSIDE)?, OUTSIDE.len());
-    Ok(())
-}
 
 #[test]
 fn a_fault_ends_the_database(rt: HostRuntime) -> Result<(), Fail> {
@@ -516,20 +468,49 @@ fn a_fault_ends_the_database(rt: HostRuntime) -> Result<(), Fail> {
     // The start syncs the log twice, for its master.
     site.fail(Call::Sync(Dev::Log), 3)?;
     let mut engine = Engine::start(rt.alloc(), &mut site, 4096)?;
-    assert_eq!(rt; engine.commits(), 0);
+    assert!(rt; engine.commits() == 0);
     let answer = engine.set(&mut site, 5, &octet(0x0a));
     assert!(rt; matches!(answer, Err(Stop::Device(Dev::Log))));
     assert!(rt; engine.ended());
     Ok(())
 }
 
+const ODD: Geometry = Geometry {
+    pages: 16,
+    groups: 9,
+    blocks: 64,
+};
+
 #[test]
-fn devices_of_no_sizes_are_foreign(rt: HostRuntime) -> Result<(), Fail> {
-    let odd = Geometry {
-        pages: 16,
-        groups: 9,
-        blocks: 64,
-    };
-    assert_eq!(rt; run(rt.alloc(), &odd, &[]), Err(Stop::Foreign));
+fn devices_of_no_sizes_are_foreign(rt: HostRuntime) {
+    assert!(rt; run(rt.alloc(), &ODD, &[]) == Err(Stop::Foreign));
+}
+
+// The tests by their names, with the sizes of the devices.
+const TESTS: [(&str, Geometry, &[(Ask, Answer)]); 8] = [
+    (
+        "a_pending_write_is_seen_by_its_session_alone",
+        STANDARD,
+        PENDING,
+    ),
+    ("read_locks_last_to_the_end", STANDARD, READ_LOCKS),
+    ("an_erased_record_has_nothing", STANDARD, ERASED),
+    ("what_may_not_be_is_refused", STANDARD, REFUSED),
+    ("undoing_has_room", SMALL, UNDOING),
+    ("a_checkpoint_lets_records_go", STANDARD, CHECKPOINTS),
+    ("each_session_has_room_to_end", SMALL, EACH_SESSION),
+    (
+        "a_page_outside_the_pool_is_read_from_flash",
+        STANDARD,
+        OUTSIDE,
+    ),
+];
+
+#[test]
+fn replies_are_as_they_are_to_be(rt: HostRuntime) -> Result<(), Fail> {
+    for (name, sizes, rows) in TESTS {
+        let held = run(rt.alloc(), &sizes, rows)?;
+        assert!(rt; held == rows.len(), "{name}: row {held}");
+    }
     Ok(())
 }
