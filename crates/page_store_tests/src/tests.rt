@@ -290,7 +290,7 @@ fn run(alloc: Global, pool: u32, rows: &[Row]) -> Result<usize, Stop>
 }
 
 // Sixty pieces of work on a pool of three pages, and the pool and the queue then.
-const MIXED: [Row; 85] = [
+const MIXED: &[Row] = &[
     Row::Change(8),
     Row::Touch(8),
     Row::Change(0),
@@ -379,13 +379,7 @@ const MIXED: [Row; 85] = [
     Row::Sealed(7_168),
 ];
 
-#[test]
-fn a_mixed_script(rt: HostRuntime) -> Result<(), Fail> {
-    assert_eq!(rt; run(rt.alloc(), 3, &MIXED)?, MIXED.len());
-    Ok(())
-}
-
-const BACK: [Row; 6] = [
+const BACK: &[Row] = &[
     Row::Change(0),
     Row::Change(7),
     Row::Change(2),
@@ -394,13 +388,8 @@ const BACK: [Row; 6] = [
     Row::Octet(2, 2),
 ];
 
-#[test]
-fn changed_pages_come_back(rt: HostRuntime) -> Result<(), Fail> {
-    assert_eq!(rt; run(rt.alloc(), 1, &BACK)?, BACK.len());
-    Ok(())
-}
-
-const HITS: [Row; 10] = [
+// A touch of a page that is in the pool makes no device call.
+const HITS: &[Row] = &[
     Row::Touch(3),
     Row::Touch(4),
     Row::DiskReads(2),
@@ -413,15 +402,8 @@ const HITS: [Row; 10] = [
     Row::Changes(0),
 ];
 
-// A touch of a page that is in the pool makes no device call.
-#[test]
-fn a_hit_makes_no_call(rt: HostRuntime) -> Result<(), Fail> {
-    assert_eq!(rt; run(rt.alloc(), 2, &HITS)?, HITS.len());
-    Ok(())
-}
-
 // Nine pages change in a pool of one page; page 0 is read again behind page 1, and so has a second chance in the queue.
-const NINE: [Row; 20] = [
+const NINE: &[Row] = &[
     Row::Change(0),
     Row::Change(1),
     Row::Touch(0),
@@ -443,12 +425,6 @@ const NINE: [Row; 20] = [
     Row::Frame(7, 7, 1, 7, true, true, false),
     Row::Pool(8, 8, true),
 ];
-
-#[test]
-fn nine_pages_are_listed(rt: HostRuntime) -> Result<(), Fail> {
-    assert_eq!(rt; run(rt.alloc(), 1, &NINE)?, NINE.len());
-    Ok(())
-}
 
 // What a crash leaves.
 fn crashed(site: MemSite, seed: u64) -> MemSite
@@ -479,16 +455,19 @@ fn stopped_at(alloc: Global, changes: u64, seed: u64) -> Result<(bool, bool), St
     Ok((log.sealed_end() == 512, flash.holds(0)))
 }
 
-// The log is sealed, by five changes, before the first of the five changes that append page 0.
+// The changes that pass, and whether the log's block and page 0's frame are there then: the log is sealed, by five
+// changes, before the first of the five changes that append page 0.
+const STOPPED: [(u64, bool, bool); 4] = [
+    (3, false, false),
+    (5, true, false),
+    (8, true, false),
+    (10, true, true),
+];
+
 #[test]
 fn the_log_is_sealed_before_a_page_leaves(rt: HostRuntime) -> Result<(), Fail> {
-    for (changes, sealed, holds) in [
-        (3, false, false),
-        (5, true, false),
-        (8, true, false),
-        (10, true, true),
-    ] {
-        assert_eq!(rt; stopped_at(rt.alloc(), changes, 1)?, (sealed, holds));
+    for (changes, sealed, holds) in STOPPED {
+        assert!(rt; stopped_at(rt.alloc(), changes, 1)? == (sealed, holds));
     }
     Ok(())
 }
@@ -505,6 +484,23 @@ fn a_fault_ends_the_store(rt: HostRuntime) -> Result<(), Fail> {
     let mut site = MemSite::new(rt.alloc(), &SMALL)?;
     site.fail(Call::Read(Dev::Disk), 2)?;
     let (mut pages, mut log) = opened(rt.alloc(), &mut site, 2)?;
-    assert_eq!(rt; play(&mut pages, &mut log, &mut site, &FAULT)?, FAULT.len());
+    assert!(rt; play(&mut pages, &mut log, &mut site, &FAULT)? == FAULT.len());
+    Ok(())
+}
+
+// The tests by their names, with the pool's pages.
+const TESTS: [(&str, u32, &[Row]); 4] = [
+    ("a_mixed_script", 3, MIXED),
+    ("changed_pages_come_back", 1, BACK),
+    ("a_hit_makes_no_call", 2, HITS),
+    ("nine_pages_are_listed", 1, NINE),
+];
+
+#[test]
+fn rows_hold(rt: HostRuntime) -> Result<(), Fail> {
+    for (name, pool, rows) in TESTS {
+        let held = run(rt.alloc(), pool, rows)?;
+        assert!(rt; held == rows.len(), "{name}: row {held}");
+    }
     Ok(())
 }
