@@ -42,7 +42,8 @@ const BLOCK: &[u8] = &[
     0x00, 0x00, 0x00, 0x00, 0x00, 0x00, 0x00, 0x01, // commit number
 ];
 
-// The first octet of the block in the log, its gate; the last ones of what its records name; and the end of its records.
+// The first octet of the block in the log, its gate; the last ones of what its records name; and the last one of
+// where its records end.
 const GATE_AT: u64 = BLOCK_AT;
 
 const USED_AT: u64 = BLOCK_AT + 10;
