@@ -1,5 +1,5 @@
 // Log, pages and analysis of a site in memory. A test is a table of rows, which one function plays.
-ghost use Rattle.std.specs.Prelude.{◌↔◌, ◌+◌, ◌<◌, ◌≤◌, ◌^◌, IfOk, IsTrue, OnOk};
+ghost use Rattle.std.specs.Prelude.{◌≡◌, ◌↔◌, ◌+◌, ◌<◌, ◌≤◌, ◌^◌, IfOk, IsTrue, OnOk};
 ghost use Rattle.site.specs.Geometry.{HasLengths, HasLimits};
 ghost use Rattle.mem_site.specs.MemState.{state_of};
 ghost use Rattle.log_records.specs.Spelling.{HasForm};
@@ -128,7 +128,7 @@ fn has_room(log: &LogStore) -> bool
 }
 
 // Log and pages of devices of these sizes.
-fn opened<S: Site>(
+pub(crate) fn opened<S: Site>(
     alloc: Global,
     site: &mut S,
     sizes: &Geometry,
@@ -136,6 +136,8 @@ fn opened<S: Site>(
     requires limits { HasLimits sizes.now }
     requires lengths { HasLengths sizes.now (S.state site.old).image }
     ensures going { IfOk result (λ both. Invariant both.0 both.1 (S.state site.new)) }
+    ensures empty { IfOk result (λ both. both.0.used ≡ 2) }
+    ensures sizes { IfOk result (λ both. both.0.geometry ≡ sizes.now) }
 {
     let pages = PageStore::start(alloc, site, sizes, 4)?;
     let log = LogStore::start(site, sizes)?;

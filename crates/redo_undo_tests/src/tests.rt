@@ -10,6 +10,7 @@ ghost use Rattle.redo_laws.specs.Checkpointing.{begins_of};
 ghost use Rattle.redo_laws.specs.Holding.{Invariant, IsOnPage, blocks_to};
 ghost use Rattle.redo_undo.specs.Stores.{MayWork, MayLog, sizes_of};
 
+use crate::rows;
 use crate::rows::{Row, run};
 use crate::undo_tests::{COMPENSATED, NONE, TWO};
 use checkpoint::{Master, Pairs, newest};
@@ -44,16 +45,14 @@ fn update() -> LogRecord
     }
 }
 
-// Log and pages of devices of these sizes.
+// Log and pages, where the log has room for all of its blocks.
 fn opened(alloc: Global, site: &mut MemSite) -> Result<(LogStore, PageStore), Stop>
     requires { HasLengths (record { pages = 1; groups = 8; blocks = 16 }) (state_of site.old).image }
     ensures going { IfOk result (λ both. Invariant both.0 both.1 (state_of site.new)) }
     ensures room { IfOk result (λ both. blocks_to both.0 + 5 < both.0.kept + both.0.geometry.blocks) }
     ensures geometry { IfOk result (λ both. both.0.geometry ≡ record { pages = 1; groups = 8; blocks = 16 }) }
-    ensures pages { IfOk result (λ both. both.1.flash.geometry.pages ≡ 1) }
 {
-    let pages = PageStore::start(alloc, site, &SMALL, 4)?;
-    let mut log = LogStore::start(site, &SMALL)?;
+    let (mut log, pages) = rows::opened(alloc, site, &SMALL)?;
     log.keep(log.sealed_end() / 512);
     Ok((log, pages))
 }

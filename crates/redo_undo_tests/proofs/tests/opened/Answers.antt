@@ -1,9 +1,8 @@
-use Rattle.std.proofs.Common.{◌≡◌, ◌/◌, ap, sym, ◌∙◌, arith, Bool, ℕ}
+use Rattle.std.proofs.Common.{◌≡◌, ◌/◌, ap, ◌∙◌, arith, Bool, ℕ}
 use Rattle.std.specs.Prelude.{if◌then◌else◌}
 use Rattle.mem_site.specs.MemState.{state_of}
 use Rattle.log_store.specs.declared.store.LogStore.{LogStore}
 use Rattle.log_store.specs.Representation.{has_tail}
-use Rattle.page_store.proofs.Versions.{pages_later}
 use Rattle.redo_laws.proofs.Forced.{none_now}
 use Rattle.redo_undo_tests.proofs.tests.opened.Goals as goal
 
@@ -18,8 +17,8 @@ returns-clause-going c =
     let first = ap (λ (l : LogStore). l.kept) kept in
     let blocks = ap (λ (l : LogStore). l.geometry.blocks) kept in
     record {
-      log_going = c.keep.ensures.going (state_of c.start-2.new.site) going;
-      pages_going = pages_later c.in_ok-pages.pages (state_of c.start.new.site) (state_of c.start-2.new.site) c.start-2.ensures.goes c.in_ok-pages.ensures.going;
-      sizes = ap (λ (l : LogStore). l.geometry) kept ∙ c.in_ok-log.ensures.geometry ∙ sym c.in_ok-pages.ensures.geometry;
-      room = omega (arith, hi, first, blocks, none, c.sealed_end.ensures, going.limits.blocks);
+      log_going = c.keep.ensures.going (state_of c.opened.new.site) going.log_going;
+      pages_going = going.pages_going;
+      sizes = ap (λ (l : LogStore). l.geometry) kept ∙ going.sizes;
+      room = omega (arith, hi, first, blocks, none, c.sealed_end.ensures, going.log_going.limits.blocks);
     }
