@@ -285,16 +285,13 @@ fn failed(alloc: Global, script: &Script, whole: &[u8], call: Call) -> Result<Op
 fn every_call_that_can_fail_fails(rt: HostRuntime) -> Result<(), Fail> {
     for script in SCRIPTS {
         let mut site = prepared(rt.alloc(), &script)?;
-        assert_eq!(rt; steps::call(rt.alloc(), &mut site, script.words)?, 0);
+        assert!(rt; steps::call(rt.alloc(), &mut site, script.words)? == 0);
         for dev in [Dev::Log, Dev::Flash, Dev::Disk] {
             let reads = failed(rt.alloc(), &script, site.told(), Call::Read(dev))?;
-            assert_eq!(rt; reads, Some(site.reads(dev)));
+            assert!(rt; reads == Some(site.reads(dev)));
         }
         for (call, calls) in CALLS.iter().zip(script.calls) {
-            assert_eq!(rt;
-                failed(rt.alloc(), &script, site.told(), *call)?,
-                Some(calls)
-            );
+            assert!(rt; failed(rt.alloc(), &script, site.told(), *call)? == Some(calls));
         }
     }
     Ok(())

@@ -2,7 +2,7 @@
 use crate::steps::{SMALL, STANDARD, Step, play};
 use face::serve;
 use mem_site::{Call, MemSite};
-use site::{Dev, Geometry};
+use site::Dev;
 use std::alloc::Global;
 use std::test::Fail;
 
@@ -12,66 +12,37 @@ fn run(alloc: Global, site: &mut MemSite, input: &str) -> Result<u8, Fail> {
     Ok(serve(alloc, 1, site))
 }
 
-// Runs over blank devices, and answers whether this was told.
-fn tells(alloc: Global, sizes: &Geometry, input: &str, told: &str) -> Result<bool, Fail> {
-    let mut site = MemSite::new(alloc, sizes)?;
-    let status = run(alloc, &mut site, input)?;
-    Ok(status == 0 && site.told() == told.as_bytes())
+// Inputs that are served over blank devices of these sizes, and what is told.
+macro_rules! served {
+    ($sizes:expr; $($input:literal => $told:literal;)+) => {
+        &[$(Step::New($sizes), Step::Serve($input, $told),)+]
+    };
 }
 
-// How many inputs are told what stands beside them, up to the first one that isn't.
-fn told_rows(alloc: Global, sizes: &Geometry, rows: &[(&str, &str)]) -> Result<usize, Fail> {
-    for (row, (input, told)) in rows.iter().enumerate() {
-        if !tells(alloc, sizes, input, told)? {
-            return Ok(row);
-        }
-    }
-    Ok(rows.len())
-}
+const APART: &[Step<'static>] = served! {
+    STANDARD;
+    "begin 0\nwrite 0 7 01\nbegin 1\nread 1 7\nabort 0\nread 1 7\n" =>
+    "open 0\nok\nok\nok\nbusy 0\naborted\nnone\n";
+    "begin 0\nbegin 1\nread 0 9\nread 1 9\nwrite 0 9 aa\ncommit 1\nwrite 0 9 aa\ncommit 0\nget 9\n" =>
+    "open 0\nok\nok\nnone\nnone\nbusy 1\ncommitted 1\nok\ncommitted 2\nvalue aa\n";
+    "begin 0\nwrite 0 1 aa\nerase 0 1\nread 0 1\ncommit 0\nget 1\n" =>
+    "open 0\nok\nok\nok\nnone\ncommitted 1\nnone\n";
+    "begin 8\nread 0 0\nbegin 0\nbegin 0\nset 5 AB\nget 5\n" =>
+    "open 0\nrefused session\nrefused session\nok\nrefused session\ncommitted 1\nvalue ab\n";
+    "set 1 aa\nbegin 3\nwrite 3 1 bb\nget 1\nset 1 cc\nbegin 2\nread 2 1\nread 3 1\nabort 3\nread 2 1\n\
+    set 1 dd\ncommit 2\nstat\n" =>
+    "open 0\ncommitted 1\nok\nok\nbusy 3\nbusy 3\nok\nbusy 3\nvalue bb\naborted\nvalue aa\nbusy 2\n\
+    committed 2\nstat commits 2 used 9 owed 0 cap 63 active 0\n";
+    "set 2 aa\nset 4 -\nbegin 0\nscan 0 0 6\nbegin 1\nwrite 1 9 01\nscan 0 5 8\nset 6 bb\nscan 0 500 64\n" =>
+    "open 0\ncommitted 1\ncommitted 2\nok\nitem 2 aa\nitem 4 -\nend 2\nok\nok\nbusy 1\ncommitted 3\n\
+    refused record\n";
+    "set 31 aa\nbegin 2\nwrite 2 32 bb\nscan 2 31 2\nbegin 4\nwrite 4 33 cc\nbegin 3\nwrite 3 34 dd\n\
+    scan 2 31 64\nset 31 ee\nscan 2 449 64\nscan 2 449 63\n" =>
+    "open 0\ncommitted 1\nok\nok\nitem 31 aa\nitem 32 bb\nend 2\nok\nok\nok\nok\nbusy 4\nbusy 2\n\
+    refused record\nend 0\n";
+};
 
-const APART: [(&'static str, &'static str); 7] = [
-    (
-        "begin 0\nwrite 0 7 01\nbegin 1\nread 1 7\nabort 0\nread 1 7\n",
-        "open 0\nok\nok\nok\nbusy 0\naborted\nnone\n",
-    ),
-    (
-        "begin 0\nbegin 1\nread 0 9\nread 1 9\nwrite 0 9 aa\ncommit 1\nwrite 0 9 aa\ncommit 0\nget 9\n",
-        "open 0\nok\nok\nnone\nnone\nbusy 1\ncommitted 1\nok\ncommitted 2\nvalue aa\n",
-    ),
-    (
-        "begin 0\nwrite 0 1 aa\nerase 0 1\nread 0 1\ncommit 0\nget 1\n",
-        "open 0\nok\nok\nok\nnone\ncommitted 1\nnone\n",
-    ),
-    (
-        "begin 8\nread 0 0\nbegin 0\nbegin 0\nset 5 AB\nget 5\n",
-        "open 0\nrefused session\nrefused session\nok\nrefused session\ncommitted 1\nvalue ab\n",
-    ),
-    (
-        "set 1 aa\nbegin 3\nwrite 3 1 bb\nget 1\nset 1 cc\nbegin 2\nread 2 1\nread 3 1\nabort 3\nread 2 1\n\
-        set 1 dd\ncommit 2\nstat\n",
-        "open 0\ncommitted 1\nok\nok\nbusy 3\nbusy 3\nok\nbusy 3\nvalue bb\naborted\nvalue aa\nbusy 2\n\
-        committed 2\nstat commits 2 used 9 owed 0 cap 63 active 0\n",
-    ),
-    (
-        "set 2 aa\nset 4 -\nbegin 0\nscan 0 0 6\nbegin 1\nwrite 1 9 01\nscan 0 5 8\nset 6 bb\nscan 0 500 64\n",
-        "open 0\ncommitted 1\ncommitted 2\nok\nitem 2 aa\nitem 4 -\nend 2\nok\nok\nbusy 1\ncommitted 3\n\
-        refused record\n",
-    ),
-    (
-        "set 31 aa\nbegin 2\nwrite 2 32 bb\nscan 2 31 2\nbegin 4\nwrite 4 33 cc\nbegin 3\nwrite 3 34 dd\n\
-        scan 2 31 64\nset 31 ee\nscan 2 449 64\nscan 2 449 63\n",
-        "open 0\ncommitted 1\nok\nok\nitem 31 aa\nitem 32 bb\nend 2\nok\nok\nok\nok\nbusy 4\nbusy 2\n\
-        refused record\nend 0\n",
-    ),
-];
-
-#[test]
-fn sessions_are_kept_apart(rt: HostRuntime) -> Result<(), Fail> {
-    assert_eq!(rt; told_rows(rt.alloc(), &STANDARD, &APART)?, APART.len());
-    Ok(())
-}
-
-const REFUSALS: [Step<'static>; 7] = [
+const REFUSALS: &[Step<'static>] = &[
     Step::Feed("\nget 05\nget  5\nget 5 \nset 5 0\nset 5 0g\nscan 0 0 0\nscan 0 0 65\nGET 5\n"),
     Step::FeedMany(501, "7"),
     Step::Feed("\nbegin 8\nread 0 0\nbegin 0\nbegin 0\nset 5 AB\nget 5\n"),
@@ -84,33 +55,18 @@ const REFUSALS: [Step<'static>; 7] = [
     ),
 ];
 
-#[test]
-fn lines_and_sessions_are_refused(rt: HostRuntime) -> Result<(), Fail> {
-    assert_eq!(rt; play(rt.alloc(), &REFUSALS)?, REFUSALS.len());
-    Ok(())
-}
+const ROOM: &[Step<'static>] = served! {
+    SMALL;
+    "begin 0\nwrite 0 1 aa\nwrite 0 1 aa\nwrite 0 1 aa\nwrite 0 1 aa\nwrite 0 1 aa\nwrite 0 1 aa\n\
+    write 0 1 aa\nabort 0\nstat\nset 0 aa\n" =>
+    "open 0\nok\nok\nok\nok\nok\nok\nok\nfull 7 7 15\naborted\nstat commits 0 used 14 owed 0 cap 15 active 0\n\
+    committed 1\n";
+    "begin 0\nbegin 1\nbegin 2\nbegin 3\nbegin 4\nbegin 5\nbegin 6\nbegin 7\ncommit 0\nbegin 7\nstat\n" =>
+    "open 0\nok\nok\nok\nok\nok\nok\nok\nfull 7 7 15\ncommitted 1\nok\n\
+    stat commits 1 used 8 owed 7 cap 15 active 7\n";
+};
 
-const ROOM: [(&'static str, &'static str); 2] = [
-    (
-        "begin 0\nwrite 0 1 aa\nwrite 0 1 aa\nwrite 0 1 aa\nwrite 0 1 aa\nwrite 0 1 aa\nwrite 0 1 aa\n\
-        write 0 1 aa\nabort 0\nstat\nset 0 aa\n",
-        "open 0\nok\nok\nok\nok\nok\nok\nok\nfull 7 7 15\naborted\nstat commits 0 used 14 owed 0 cap 15 active 0\n\
-        committed 1\n",
-    ),
-    (
-        "begin 0\nbegin 1\nbegin 2\nbegin 3\nbegin 4\nbegin 5\nbegin 6\nbegin 7\ncommit 0\nbegin 7\nstat\n",
-        "open 0\nok\nok\nok\nok\nok\nok\nok\nfull 7 7 15\ncommitted 1\nok\n\
-        stat commits 1 used 8 owed 7 cap 15 active 7\n",
-    ),
-];
-
-#[test]
-fn undo_has_room(rt: HostRuntime) -> Result<(), Fail> {
-    assert_eq!(rt; told_rows(rt.alloc(), &SMALL, &ROOM)?, ROOM.len());
-    Ok(())
-}
-
-const FAULTS: [Step<'static>; 14] = [
+const FAULTS: &[Step<'static>] = &[
     Step::Fail(Call::Write(Dev::Log), 4),
     Step::Feed("begin 0\nwrite 0 1 aa\ncommit 0\n"),
     Step::Call("run 1", 3),
@@ -127,9 +83,20 @@ const FAULTS: [Step<'static>; 14] = [
     Step::Told("open 0\nok\nok\n"),
 ];
 
+// The tests by their names.
+const TESTS: [(&str, &[Step<'static>]); 4] = [
+    ("sessions_are_kept_apart", APART),
+    ("lines_and_sessions_are_refused", REFUSALS),
+    ("undo_has_room", ROOM),
+    ("faults_end_a_session", FAULTS),
+];
+
 #[test]
-fn faults_end_a_session(rt: HostRuntime) -> Result<(), Fail> {
-    assert_eq!(rt; play(rt.alloc(), &FAULTS)?, FAULTS.len());
+fn steps_hold(rt: HostRuntime) -> Result<(), Fail> {
+    for (name, rows) in TESTS {
+        let held = play(rt.alloc(), rows)?;
+        assert!(rt; held == rows.len(), "{name}: row {held}");
+    }
     Ok(())
 }
 

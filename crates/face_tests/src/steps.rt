@@ -1,4 +1,5 @@
 // Steps over a site in memory: a test is a table of them, which one function plays.
+use face::serve;
 use mem_site::{Call, MemSite};
 use site::{Dev, Geometry, Site};
 use std::alloc::{AllocError, Global};
@@ -27,6 +28,8 @@ pub enum Step<'a> {
     // The input goes on with this, once or so many times.
     Feed(&'a str),
     FeedMany(usize, &'a str),
+    // The input goes on with so many lines that set record 3, to 197, 198, .. up to 247 octets 0x5A, again and again.
+    FeedSets(usize),
     // The call of this kind that comes as the nth fails.
     Fail(Call, u64),
     // The nth tell takes so many octets at most.
@@ -38,6 +41,8 @@ pub enum Step<'a> {
     Call(&'a str, u8),
     // It is called with `run 1` over this input, answers 0, and all that was told is this.
     Run(&'a str, &'a str),
+    // The lines of this input are served, without any words, with the status 0, and all that was told is this.
+    Serve(&'a str, &'a str),
     // All that was told is this, begins so, ends so, or has this length.
     Told(&'a str),
     Begins(&'a str),
@@ -69,6 +74,23 @@ pub fn call(alloc: Global, site: &mut MemSite, line: &str) -> Result<u8, AllocEr
 fn feed_many(site: &mut MemSite, times: usize, input: &str) -> Result<bool, Fail> {
     for _time in 0..times {
         site.feed(input.as_bytes())?;
+    }
+    Ok(true)
+}
+
+// Feeds a line that sets record 3 to so many octets 0x5A.
+fn feed_long_set(site: &mut MemSite, octets: usize) -> Result<(), Fail> {
+    site.feed(b"set 3 ")?;
+    for _octet in 0..octets {
+        site.feed(b"5a")?;
+    }
+    site.feed(b"\n")?;
+    Ok(())
+}
+
+fn feed_sets(site: &mut MemSite, lines: usize) -> Result<bool, Fail> {
+    for line in 0..lines {
+        feed_long_set(site, 197 + line % 51)?;
     }
     Ok(true)
 }
@@ -115,6 +137,7 @@ fn carry_out(alloc: Global, site: &mut MemSite, step: Step<'_>) -> Result<bool, 
     match step {
         Step::Feed(input) => feed_many(site, 1, input),
         Step::FeedMany(times, input) => feed_many(site, times, input),
+        Step::FeedSets(lines) => feed_sets(site, lines),
         Step::Fail(call, nth) => fail(site, call, nth),
         Step::ShortTell(nth, count) => tell_short(site, nth, count),
         Step::Put(dev, place, octet) => put(site, dev, place, octet),
@@ -123,6 +146,10 @@ fn carry_out(alloc: Global, site: &mut MemSite, step: Step<'_>) -> Result<bool, 
         Step::Run(input, told) => {
             site.feed(input.as_bytes())?;
             Ok(call(alloc, site, "run 1")? == 0 && site.told() == told.as_bytes())
+        }
+        Step::Serve(input, told) => {
+            site.feed(input.as_bytes())?;
+            Ok(serve(alloc, 1, site) == 0 && site.told() == told.as_bytes())
         }
         _ => Ok(true),
     }
@@ -168,9 +195,9 @@ fn holds(site: &MemSite, step: Step<'_>) -> bool {
     }
 }
 
-// Plays steps over a site, and answers how many hold, up to the first one that doesn't.
-pub fn play_on(alloc: Global, first: MemSite, steps: &[Step<'_>]) -> Result<usize, Fail> {
-    let mut site = first;
+// Plays steps over a new site of the standard sizes, and answers how many hold, up to the first one that doesn't.
+pub fn play(alloc: Global, steps: &[Step<'_>]) -> Result<usize, Fail> {
+    let mut site = MemSite::new(alloc, &STANDARD)?;
     for (row, step) in steps.iter().enumerate() {
         match *step {
             Step::New(sizes) => site = MemSite::new(alloc, &sizes)?,
@@ -183,9 +210,4 @@ pub fn play_on(alloc: Global, first: MemSite, steps: &[Step<'_>]) -> Result<usiz
         }
     }
     Ok(steps.len())
-}
-
-// Plays steps over a new site of the standard sizes.
-pub fn play(alloc: Global, steps: &[Step<'_>]) -> Result<usize, Fail> {
-    play_on(alloc, MemSite::new(alloc, &STANDARD)?, steps)
 }

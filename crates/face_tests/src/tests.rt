@@ -1,5 +1,5 @@
 // The top call over a site in memory. What is expected was worked out by hand or by another program.
-use crate::steps::{SMALL, STANDARD, Step, call, play, play_on};
+use crate::steps::{SMALL, STANDARD, Step, call, play};
 use mem_site::{Call, MemSite};
 use site::{Dev, Geometry};
 use std::alloc::Global;
@@ -18,7 +18,7 @@ const LARGE: Geometry = Geometry {
     blocks: 400,
 };
 
-const LINES: [Step<'static>; 11] = [
+const LINES: &[Step<'static>] = &[
     Step::Run("set 5 0a0b\nget 5\n", "open 0\ncommitted 1\nvalue 0a0b\n"),
     Step::New(STANDARD),
     Step::Run("", "open 0\n"),
@@ -40,12 +40,6 @@ const LINES: [Step<'static>; 11] = [
         "open 0\ncommitted 1\nrefused line\nvalue 00ff\n",
     ),
 ];
-
-#[test]
-fn lines_are_answered(rt: HostRuntime) -> Result<(), Fail> {
-    assert_eq!(rt; play(rt.alloc(), &LINES)?, LINES.len());
-    Ok(())
-}
 
 const OTHER_LINES: &str = "
 get 05
@@ -85,7 +79,7 @@ fn other_lines_are_refused(rt: HostRuntime) -> Result<(), Fail> {
     Ok(())
 }
 
-const LISTINGS: [Step<'static>; 5] = [
+const LISTINGS: &[Step<'static>] = &[
     Step::Run("cache\n", "open 0\nend 0\n"),
     Step::New(STANDARD),
     Step::Run(
@@ -100,14 +94,8 @@ const LISTINGS: [Step<'static>; 5] = [
     ),
 ];
 
-#[test]
-fn the_cache_is_listed(rt: HostRuntime) -> Result<(), Fail> {
-    assert_eq!(rt; play(rt.alloc(), &LISTINGS)?, LISTINGS.len());
-    Ok(())
-}
-
 // The frame that was read goes into the new group as the first group leaves, and not to the disk.
-const FULL_QUEUE: [Step<'static>; 2] = [
+const FULL_QUEUE: &[Step<'static>] = &[
     Step::Run(
         "set 0 01\nset 32 02\nget 0\nset 64 03\nset 96 04\nset 128 05\nset 160 06\nset 192 07\nset 224 08\n\
         set 256 09\ncache\n",
@@ -138,15 +126,9 @@ end 9
     Step::Zeros(Dev::Disk, 0, 65_536),
 ];
 
-#[test]
-fn a_full_queue_is_listed(rt: HostRuntime) -> Result<(), Fail> {
-    assert_eq!(rt; play(rt.alloc(), &FULL_QUEUE)?, FULL_QUEUE.len());
-    Ok(())
-}
-
 // A group is filled from the pool, all its frames are read, and seven checkpoints push groups of one page: as the first
 // group leaves, the eighth frame that was read goes to the disk, and no other page.
-const SECOND_CHANCES: [Step<'static>; 8] = [
+const SECOND_CHANCES: &[Step<'static>] = &[
     Step::Feed(
         "set 0 00\nset 32 01\nset 64 02\nset 96 03\nset 128 04\nset 160 05\nset 192 06\nset 224 07\nset 256 08\n\
         get 0\nget 32\nget 64\nget 96\nget 128\nget 160\nget 192\nget 224\n",
@@ -216,12 +198,6 @@ end 22
     Step::Zeros(Dev::Disk, 32_768, 65_536),
 ];
 
-#[test]
-fn seven_frames_have_a_second_chance(rt: HostRuntime) -> Result<(), Fail> {
-    assert_eq!(rt; play(rt.alloc(), &SECOND_CHANCES)?, SECOND_CHANCES.len());
-    Ok(())
-}
-
 // The log's first slot after a set of record 5 to 0a0b on blank devices.
 const FIRST_SLOT: [u8; 64] = [
     0xA5, // gate
@@ -243,7 +219,7 @@ const FIRST_SLOT: [u8; 64] = [
 
 // The restart's master unit says nothing: the log keeps the blocks from the first one on, and no transaction is
 // unfinished.
-const ONE_SET: [Step<'static>; 7] = [
+const ONE_SET: &[Step<'static>] = &[
     Step::Run("set 5 0a0b\nget 5\n", "open 0\ncommitted 1\nvalue 0a0b\n"),
     Step::Has(Dev::Log, 1_536, &FIRST_SLOT),
     Step::Has(Dev::Log, 0, &[0xA5]),
@@ -253,25 +229,13 @@ const ONE_SET: [Step<'static>; 7] = [
     Step::Zeros(Dev::Disk, 0, 65_536),
 ];
 
-#[test]
-fn a_set_fills_the_first_slot(rt: HostRuntime) -> Result<(), Fail> {
-    assert_eq!(rt; play(rt.alloc(), &ONE_SET)?, ONE_SET.len());
-    Ok(())
-}
-
-const SPELLINGS: [Step<'static>; 1] = [Step::Run(
+const SPELLINGS: &[Step<'static>] = &[Step::Run(
     "set 3 -\nget 3\nget 4\nset 5 AB\nget 5\nset 5 aBcD\nget 5\n",
     "open 0\ncommitted 1\nvalue -\nnone\ncommitted 2\nvalue ab\ncommitted 3\nvalue abcd\n",
 )];
 
-#[test]
-fn values_have_every_spelling(rt: HostRuntime) -> Result<(), Fail> {
-    assert_eq!(rt; play(rt.alloc(), &SPELLINGS)?, SPELLINGS.len());
-    Ok(())
-}
-
 // Sets of record 3 to 120 and to 121 octets.
-const LONG_VALUES: [Step<'static>; 7] = [
+const LONG_VALUES: &[Step<'static>] = &[
     Step::Feed("set 3 "),
     Step::FeedMany(120, "5a"),
     Step::Feed("\nset 3 "),
@@ -281,31 +245,9 @@ const LONG_VALUES: [Step<'static>; 7] = [
     Step::Told("open 0\ncommitted 1\nrefused long\ncommitted 2\nvalue -\nnone\n"),
 ];
 
-#[test]
-fn a_long_value_is_refused(rt: HostRuntime) -> Result<(), Fail> {
-    assert_eq!(rt; play(rt.alloc(), &LONG_VALUES)?, LONG_VALUES.len());
-    Ok(())
-}
-
-// Feeds a line that sets record 3 to so many octets 0x5A.
-fn feed_long_set(site: &mut MemSite, octets: usize) -> Result<(), Fail> {
-    site.feed(b"set 3 ")?;
-    for _octet in 0..octets {
-        site.feed(b"5a")?;
-    }
-    site.feed(b"\n")?;
-    Ok(())
-}
-
 // 135 lines of 400, 402, .. up to 500 octets, again and again: 60,291 octets with their newlines.
-fn feed_long_lines(site: &mut MemSite) -> Result<(), Fail> {
-    for line in 0..135 {
-        feed_long_set(site, 197 + line % 51)?;
-    }
-    Ok(())
-}
-
-const LONG_INPUT: [Step<'static>; 7] = [
+const LONG_INPUT: &[Step<'static>] = &[
+    Step::FeedSets(135),
     Step::Feed("get 3\n"),
     Step::Call("run 1", 0),
     Step::Length(1_767),
@@ -315,39 +257,19 @@ const LONG_INPUT: [Step<'static>; 7] = [
     Step::Changes(142),
 ];
 
-#[test]
-fn a_long_input_is_heard_to_its_end(rt: HostRuntime) -> Result<(), Fail> {
-    let mut site = MemSite::new(rt.alloc(), &STANDARD)?;
-    feed_long_lines(&mut site)?;
-    assert_eq!(rt; play_on(rt.alloc(), site, &LONG_INPUT)?, LONG_INPUT.len());
-    Ok(())
-}
-
-const QUITS: [Step<'static>; 3] = [
+const QUITS: &[Step<'static>] = &[
     Step::Run("get 5", "open 0\nnone\n"),
     Step::New(STANDARD),
     Step::Run("quit\nget 5\n", "open 0\nbye\n"),
 ];
 
-#[test]
-fn quit_ends_the_run(rt: HostRuntime) -> Result<(), Fail> {
-    assert_eq!(rt; play(rt.alloc(), &QUITS)?, QUITS.len());
-    Ok(())
-}
-
 // A line of 5,501 octets.
-const LONG_LINE: [Step<'static>; 2] = [
+const LONG_LINE: &[Step<'static>] = &[
     Step::FeedMany(5_501, "7"),
     Step::Run("\nget 5\n", "open 0\nrefused line\nnone\n"),
 ];
 
-#[test]
-fn a_long_line_is_refused_once(rt: HostRuntime) -> Result<(), Fail> {
-    assert_eq!(rt; play(rt.alloc(), &LONG_LINE)?, LONG_LINE.len());
-    Ok(())
-}
-
-const MANY_SETS: [Step<'static>; 9] = [
+const MANY_SETS: &[Step<'static>] = &[
     Step::New(SMALL),
     Step::FeedMany(100, "set 0 aa\n"),
     Step::Feed("stat\n"),
@@ -359,14 +281,8 @@ const MANY_SETS: [Step<'static>; 9] = [
     Step::Run("get 0\n", "open 100\nvalue aa\n"),
 ];
 
-#[test]
-fn a_small_log_is_used_again(rt: HostRuntime) -> Result<(), Fail> {
-    assert_eq!(rt; play(rt.alloc(), &MANY_SETS)?, MANY_SETS.len());
-    Ok(())
-}
-
 // The records of an active session stay.
-const CHECKPOINTS: [Step<'static>; 3] = [
+const CHECKPOINTS: &[Step<'static>] = &[
     Step::Run(
         "set 0 01\ncheckpoint\ncheckpoint\nstat\nget 0\n",
         "open 0\ncommitted 1\ncheckpoint\ncheckpoint\nstat commits 1 used 0 owed 0 cap 63 active 0\nvalue 01\n",
@@ -380,26 +296,14 @@ const CHECKPOINTS: [Step<'static>; 3] = [
     ),
 ];
 
-#[test]
-fn a_checkpoint_lets_records_go(rt: HostRuntime) -> Result<(), Fail> {
-    assert_eq!(rt; play(rt.alloc(), &CHECKPOINTS)?, CHECKPOINTS.len());
-    Ok(())
-}
-
-const WORN: [Step<'static>; 4] = [
+const WORN: &[Step<'static>] = &[
     Step::Write(Dev::Log, 0, &[0xA5, 0, 0, 0, 0xFF, 0xFF, 0xFF, 0xFF, 0xFF]),
     Step::Write(Dev::Log, 1_025, &[0, 0, 0, 0xFF, 0xFF, 0xFF, 0xFF, 0xFE]),
     Step::Call("run 1", 8),
     Step::Told("fault worn log\n"),
 ];
 
-#[test]
-fn a_worn_ring_of_masters_ends_a_run(rt: HostRuntime) -> Result<(), Fail> {
-    assert_eq!(rt; play(rt.alloc(), &WORN)?, WORN.len());
-    Ok(())
-}
-
-const NEW: [Step<'static>; 23] = [
+const NEW: &[Step<'static>] = &[
     Step::Call("new 16 8 64", 0),
     Step::Told("ready 16 8 64\n"),
     Step::Changes(1),
@@ -425,14 +329,8 @@ const NEW: [Step<'static>; 23] = [
     Step::Length(0),
 ];
 
-#[test]
-fn a_new_database_is_tested(rt: HostRuntime) -> Result<(), Fail> {
-    assert_eq!(rt; play(rt.alloc(), &NEW)?, NEW.len());
-    Ok(())
-}
-
 // A verdict is told, and nothing else is done; devices without sizes aren't read.
-const CHECKS: [Step<'static>; 7] = [
+const CHECKS: &[Step<'static>] = &[
     Step::Call("check", 0),
     Step::Told("sound records 0 commits 0\n"),
     Step::Changes(1),
@@ -442,23 +340,11 @@ const CHECKS: [Step<'static>; 7] = [
     Step::Reads(Dev::Log, 0),
 ];
 
-#[test]
-fn devices_are_checked(rt: HostRuntime) -> Result<(), Fail> {
-    assert_eq!(rt; play(rt.alloc(), &CHECKS)?, CHECKS.len());
-    Ok(())
-}
-
-const LARGE_DEVICES: [Step<'static>; 3] = [
+const LARGE_DEVICES: &[Step<'static>] = &[
     Step::New(LARGE),
     Step::Call("new 1024 64 400", 0),
     Step::Told("ready 1024 64 400\n"),
 ];
-
-#[test]
-fn large_devices_are_tested(rt: HostRuntime) -> Result<(), Fail> {
-    assert_eq!(rt; play(rt.alloc(), &LARGE_DEVICES)?, LARGE_DEVICES.len());
-    Ok(())
-}
 
 // The first line has no words, and one ends with an empty word.
 const OTHER_WORDS: &str = "
@@ -525,12 +411,13 @@ fn other_words_are_refused(rt: HostRuntime) -> Result<(), Fail> {
     for words in OTHER_WORDS.split('\n') {
         assert!(rt; refuses_words(rt.alloc(), words)?, "{words}");
     }
-    assert_eq!(rt; play(rt.alloc(), &[Step::Call("run 4096", 0)])?, 1);
     Ok(())
 }
 
+const LARGEST_POOL: &[Step<'static>] = &[Step::Call("run 4096", 0)];
+
 // No device is touched.
-const TRACES: [Step<'static>; 11] = [
+const TRACES: &[Step<'static>] = &[
     Step::Feed("r 0\nr 0\n"),
     Step::Call("simulate 16384 4096", 0),
     Step::Told(
@@ -550,13 +437,7 @@ chance touches 2 pool 1 flash 0 disk 1 staged 0 pushed 0
     Step::Changes(1),
 ];
 
-#[test]
-fn a_trace_is_reported(rt: HostRuntime) -> Result<(), Fail> {
-    assert_eq!(rt; play(rt.alloc(), &TRACES)?, TRACES.len());
-    Ok(())
-}
-
-const FAULTS: [Step<'static>; 39] = [
+const FAULTS: &[Step<'static>] = &[
     Step::Fail(Call::Read(Dev::Log), 1),
     Step::Feed("set 5 0a0b\n"),
     Step::Call("run 1", 3),
@@ -598,13 +479,7 @@ const FAULTS: [Step<'static>; 39] = [
     Step::Told("open 0\n"),
 ];
 
-#[test]
-fn faults_have_their_status(rt: HostRuntime) -> Result<(), Fail> {
-    assert_eq!(rt; play(rt.alloc(), &FAULTS)?, FAULTS.len());
-    Ok(())
-}
-
-const FOLLOWERS: [Step<'static>; 11] = [
+const FOLLOWERS: &[Step<'static>] = &[
     Step::Fail(Call::Read(Dev::Flash), 1),
     Step::Call("run 1", 3),
     Step::Told("fault flash\n"),
@@ -623,14 +498,8 @@ const FOLLOWERS: [Step<'static>; 11] = [
     Step::Run("get 0\n", "open 8\nvalue 01\n"),
 ];
 
-#[test]
-fn a_run_follows_a_fault(rt: HostRuntime) -> Result<(), Fail> {
-    assert_eq!(rt; play(rt.alloc(), &FOLLOWERS)?, FOLLOWERS.len());
-    Ok(())
-}
-
 // Six reads of flash find the ring of segments, one the first gate of the groups.
-const SHORT_TELL: [Step<'static>; 5] = [
+const SHORT_TELL: &[Step<'static>] = &[
     Step::ShortTell(2, 3),
     Step::Run("set 5 0a0b\nget 5\n", "open 0\ncommitted 1\nvalue 0a0b\n"),
     Step::Reads(Dev::Log, 69),
@@ -638,15 +507,9 @@ const SHORT_TELL: [Step<'static>; 5] = [
     Step::Reads(Dev::Disk, 1),
 ];
 
-#[test]
-fn a_short_tell_goes_on(rt: HostRuntime) -> Result<(), Fail> {
-    assert_eq!(rt; play(rt.alloc(), &SHORT_TELL)?, SHORT_TELL.len());
-    Ok(())
-}
-
 // An open gate over a block of zeros; then a first slot that says that more octets are used than it has; then lengths
 // that no sizes have.
-const DAMAGED: [Step<'static>; 17] = [
+const DAMAGED: &[Step<'static>] = &[
     Step::Put(Dev::Log, 1_536, 0xA5),
     Step::Feed("get 5\n"),
     Step::Call("run 1", 9),
@@ -666,25 +529,13 @@ const DAMAGED: [Step<'static>; 17] = [
     Step::Changes(1),
 ];
 
-#[test]
-fn damaged_devices_are_foreign(rt: HostRuntime) -> Result<(), Fail> {
-    assert_eq!(rt; play(rt.alloc(), &DAMAGED)?, DAMAGED.len());
-    Ok(())
-}
-
 // A load of a few sets on blank devices, and what a run finds after it. The numbers were worked out by another program.
-const LOAD: [Step<'static>; 2] = [
+const LOAD: &[Step<'static>] = &[
     Step::Call("load 1 1 4", 0),
     Step::Told("open 0\nload 1 committed 1 checkpoints 0 found 1\n"),
 ];
 
-#[test]
-fn a_load_is_summed_up(rt: HostRuntime) -> Result<(), Fail> {
-    assert_eq!(rt; play(rt.alloc(), &LOAD)?, LOAD.len());
-    Ok(())
-}
-
-const LOAD_AND_RUN: [Step<'static>; 4] = [
+const LOAD_AND_RUN: &[Step<'static>] = &[
     Step::Call("load 1 1 4", 0),
     Step::Feed("get 470\n"),
     Step::Call("run 4", 0),
@@ -693,49 +544,62 @@ const LOAD_AND_RUN: [Step<'static>; 4] = [
     ),
 ];
 
-#[test]
-fn a_load_is_found_again(rt: HostRuntime) -> Result<(), Fail> {
-    assert_eq!(rt; play(rt.alloc(), &LOAD_AND_RUN)?, LOAD_AND_RUN.len());
-    Ok(())
-}
-
 // The sets make checkpoints where the log is half full: 3 of 12 do in a log of 16 blocks.
-const LOAD_IN_A_SMALL_LOG: [Step<'static>; 3] = [
+const LOAD_IN_A_SMALL_LOG: &[Step<'static>] = &[
     Step::New(SMALL),
     Step::Call("load 12 5 1", 0),
     Step::Told("open 0\nload 12 committed 12 checkpoints 3 found 12\n"),
 ];
 
-#[test]
-fn a_load_makes_checkpoints(rt: HostRuntime) -> Result<(), Fail> {
-    assert_eq!(rt;
-        play(rt.alloc(), &LOAD_IN_A_SMALL_LOG)?,
-        LOAD_IN_A_SMALL_LOG.len()
-    );
-    Ok(())
-}
-
 // Two of 200 sets make one in a log of 400 blocks.
-const LONG_LOAD: [Step<'static>; 3] = [
+const LONG_LOAD: &[Step<'static>] = &[
     Step::New(LARGE),
     Step::Call("load 200 7 64", 0),
     Step::Told("open 0\nload 200 committed 200 checkpoints 2 found 200\n"),
 ];
 
-#[test]
-fn a_long_load_is_summed_up(rt: HostRuntime) -> Result<(), Fail> {
-    assert_eq!(rt; play(rt.alloc(), &LONG_LOAD)?, LONG_LOAD.len());
-    Ok(())
-}
-
 // The largest seed is read.
-const LARGEST_SEED: [Step<'static>; 2] = [
+const LARGEST_SEED: &[Step<'static>] = &[
     Step::Call("load 1 18446744073709551615 1", 0),
     Step::Told("open 0\nload 1 committed 1 checkpoints 0 found 1\n"),
 ];
 
+// The tests by their names.
+const TESTS: [(&str, &[Step<'static>]); 27] = [
+    ("the_largest_pool_is_served", LARGEST_POOL),
+    ("a_long_input_is_heard_to_its_end", LONG_INPUT),
+    ("lines_are_answered", LINES),
+    ("the_cache_is_listed", LISTINGS),
+    ("a_full_queue_is_listed", FULL_QUEUE),
+    ("seven_frames_have_a_second_chance", SECOND_CHANCES),
+    ("a_set_fills_the_first_slot", ONE_SET),
+    ("values_have_every_spelling", SPELLINGS),
+    ("a_long_value_is_refused", LONG_VALUES),
+    ("quit_ends_the_run", QUITS),
+    ("a_long_line_is_refused_once", LONG_LINE),
+    ("a_small_log_is_used_again", MANY_SETS),
+    ("a_checkpoint_lets_records_go", CHECKPOINTS),
+    ("a_worn_ring_of_masters_ends_a_run", WORN),
+    ("a_new_database_is_tested", NEW),
+    ("devices_are_checked", CHECKS),
+    ("large_devices_are_tested", LARGE_DEVICES),
+    ("a_trace_is_reported", TRACES),
+    ("faults_have_their_status", FAULTS),
+    ("a_run_follows_a_fault", FOLLOWERS),
+    ("a_short_tell_goes_on", SHORT_TELL),
+    ("damaged_devices_are_foreign", DAMAGED),
+    ("a_load_is_summed_up", LOAD),
+    ("a_load_is_found_again", LOAD_AND_RUN),
+    ("a_load_makes_checkpoints", LOAD_IN_A_SMALL_LOG),
+    ("a_long_load_is_summed_up", LONG_LOAD),
+    ("a_seed_has_64_bits", LARGEST_SEED),
+];
+
 #[test]
-fn a_seed_has_64_bits(rt: HostRuntime) -> Result<(), Fail> {
-    assert_eq!(rt; play(rt.alloc(), &LARGEST_SEED)?, LARGEST_SEED.len());
+fn steps_hold(rt: HostRuntime) -> Result<(), Fail> {
+    for (name, rows) in TESTS {
+        let held = play(rt.alloc(), rows)?;
+        assert!(rt; held == rows.len(), "{name}: row {held}");
+    }
     Ok(())
 }
