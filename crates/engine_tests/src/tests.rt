@@ -1,7 +1,7 @@
 // The database over a site in memory. What is expected was worked out by hand. A test is a table of rows, which one
 // function plays.
 ghost use Rattle.mem_site.specs.MemState.{state_of};
-ghost use Rattle.std.specs.Prelude.{OnOk, ◌<◌, length};
+ghost use Rattle.std.specs.Prelude.{IfOk, OnOk, ◌<◌, ◌≤◌, length};
 ghost use Rattle.engine.specs.Invariant.{Invariant};
 
 use engine::Engine;
@@ -125,10 +125,13 @@ fn call<S: Site>(engine: &mut Engine, site: &mut S, ask: Ask) -> Result<Reply, S
 
 // Where the flash has the first 120 octets 0x5A in a row.
 fn first_of_page(site: &MemSite) -> Option<usize> {
-    let long = [0x5A_u8; 120];
-    site.content(Dev::Flash)
-        .windows(120)
-        .position(|octets| octets == long.as_slice())
+    let content = site.content(Dev::Flash);
+    for place in 0..content.len() {
+        if content[place..].starts_with(&[0x5A; 120]) {
+            return Some(place);
+        }
+    }
+    None
 }
 
 // Sets an octet of the flash while the database goes on.
@@ -182,16 +185,26 @@ fn play(engine: &mut Engine, site: &mut MemSite, rows: &[(Ask, Answer)]) -> Resu
     Ok(rows.len())
 }
 
-// Starts on a site, and plays rows.
-fn run_on(alloc: Global, site: &mut MemSite, rows: &[(Ask, Answer)]) -> Result<usize, Stop> {
-    let mut engine = Engine::start(alloc, site, 1)?;
-    play(&mut engine, site, rows)
+// Starts on a site.
+fn start<S: Site>(alloc: Global, site: &mut S, pool: u32) -> Result<Engine, Stop>
+    requires pool { (1 ≤ pool) × (pool ≤ 4096) }
+    ensures { IfOk result (λ engine. Invariant engine (S.state site.new)) }
+{
+    Engine::start(alloc, site, pool)
+}
+
+// Starts on a site, and plays rows. Answers how many commits there were then, and how many rows got their replies.
+fn run_on(alloc: Global, site: &mut MemSite, rows: &[(Ask, Answer)]) -> Result<(u64, usize), Stop> {
+    let mut engine = start(alloc, site, 1)?;
+    let commits = engine.commits();
+    Ok((commits, play(&mut engine, site, rows)?))
 }
 
 // Starts on blank devices of these sizes, and plays rows.
 fn run(alloc: Global, sizes: &Geometry, rows: &[(Ask, Answer)]) -> Result<usize, Stop> {
     let mut site = MemSite::new(alloc, sizes)?;
-    run_on(alloc, &mut site, rows)
+    let (_commits, held) = run_on(alloc, &mut site, rows)?;
+    Ok(held)
 }
 
 const PENDING: &[(Ask, Answer)] = &[
@@ -331,7 +344,7 @@ fn stopped(alloc: Global, changes: u64, seed: u64) -> Result<Option<(MemSite, bo
     let mut site = MemSite::new(alloc, &STANDARD)?;
     // A start on blank devices saves a master, by five changes. The writes stay in memory, as both pages do.
     site.fuse(changes.saturating_add(5));
-    let mut engine = Engine::start(alloc, &mut site, 2)?;
+    let mut engine = start(alloc, &mut site, 2)?;
     if play(&mut engine, &mut site, &WRITES)? < WRITES.len() {
         return Ok(None);
     }
@@ -342,27 +355,20 @@ fn stopped(alloc: Global, changes: u64, seed: u64) -> Result<Option<(MemSite, bo
     Ok(Some((site.crash(seed), answered)))
 }
 
-// Whether a run finds the commit done, as both records and the count of commits say it.
-fn is_done(alloc: Global, site: &mut MemSite) -> Result<Option<bool>, Stop> {
-    let mut engine = Engine::start(alloc, site, 1)?;
-    let done = engine.commits() == 1;
-    let rows = if done { BOTH } else { NEITHER };
-    if play(&mut engine, site, &rows)? < rows.len() {
-        return Ok(None);
-    }
-    Ok(Some(done))
+// Whether a run finds the commit done or not, as both records and the count of commits say it.
+fn is_found(alloc: Global, site: &mut MemSite, done: bool) -> Result<bool, Stop> {
+    let rows: &[(Ask, Answer)] = if done { &BOTH } else { &NEITHER };
+    let (commits, held) = run_on(alloc, site, rows)?;
+    Ok((commits == 1) == done && held == rows.len())
 }
 
-// Stops the commit of a session at one of its changes, and answers whether the next run finds it done.
-fn survives(alloc: Global, changes: u64, seed: u64) -> Result<Option<bool>, Stop> {
-    let Some((mut site, answered)) = stopped(alloc, changes, seed)? else {
-        return Ok(None);
-    };
-    let done = is_done(alloc, &mut site)?;
-    if answered && done == Some(false) {
-        return Ok(None);
+// Stops the commit of a session at one of its changes, and answers whether the next run finds it done or not, and done
+// where it was answered.
+fn survives(alloc: Global, changes: u64, seed: u64, done: bool) -> Result<bool, Stop> {
+    match stopped(alloc, changes, seed)? {
+        Some((mut site, answered)) => Ok((done || !answered) && is_found(alloc, &mut site, done)?),
+        None => Ok(false),
     }
-    Ok(done)
 }
 
 // Whether a commit is done, by the change that is stopped, and by the seeds 0, 1, 2 and 77.
@@ -382,7 +388,7 @@ const SEEDS: [u64; 4] = [0, 1, 2, 77];
 fn a_stopped_commit_is_done_or_not(rt: HostRuntime) -> Result<(), Fail> {
     for (changes, row) in DONE.iter().enumerate() {
         for (seed, done) in SEEDS.iter().zip(row) {
-            assert!(rt; survives(rt.alloc(), changes as u64, *seed)? == Some(*done));
+            assert!(rt; survives(rt.alloc(), changes as u64, *seed, *done)?);
         }
     }
     Ok(())
@@ -417,11 +423,8 @@ const UNDONE: [(Ask, Answer); 8] = [
 
 // Whether a run finds the table as it was before the session, and two commits.
 fn is_undone(alloc: Global, site: &mut MemSite) -> Result<bool, Stop> {
-    let mut engine = Engine::start(alloc, site, 1)?;
-    if engine.commits() != 2 {
-        return Ok(false);
-    }
-    Ok(play(&mut engine, site, &UNDONE)? == UNDONE.len())
+    let (commits, held) = run_on(alloc, site, &UNDONE)?;
+    Ok(commits == 2 && held == UNDONE.len())
 }
 
 #[test]
@@ -436,7 +439,7 @@ fn what_is_not_committed_is_undone(rt: HostRuntime) -> Result<(), Fail> {
 // What a crash leaves of a restart in which only so many changes pass, and whether it started.
 fn restarted(alloc: Global, mut site: MemSite, changes: u64, seed: u64) -> (MemSite, bool) {
     site.fuse(changes);
-    let started = Engine::start(alloc, &mut site, 1).is_ok();
+    let started = start(alloc, &mut site, 1).is_ok();
     (site.crash(seed), started)
 }
 
@@ -467,7 +470,7 @@ fn a_fault_ends_the_database(rt: HostRuntime) -> Result<(), Fail> {
     let mut site = MemSite::new(rt.alloc(), &STANDARD)?;
     // The start syncs the log twice, for its master.
     site.fail(Call::Sync(Dev::Log), 3)?;
-    let mut engine = Engine::start(rt.alloc(), &mut site, 4096)?;
+    let mut engine = start(rt.alloc(), &mut site, 4096)?;
     assert!(rt; engine.commits() == 0);
     let answer = engine.set(&mut site, 5, &octet(0x0a));
     assert!(rt; matches!(answer, Err(Stop::Device(Dev::Log))));
