@@ -1,15 +1,16 @@
 // The newest master of the devices: reading it, and saving a newer one.
-ghost use Rattle.std.specs.Prelude.{◌≡◌, ◌≢◌, ◌⊎◌, ◌↔◌, ◌+◌, ◌^◌, ◌≤◌, [], ◌∷◌, length, true, false, IsTrue, IfOk};
+ghost use Rattle.std.specs.Prelude.{◌≡◌, ◌⊎◌, ◌↔◌, ◌+◌, ◌^◌, ◌≤◌, [], ◌∷◌, length, true, false, IsTrue, IfOk};
 ghost use Rattle.std.specs.Prelude.{OnOk, OnErr, IfErr, IsErrOf};
 ghost use Rattle.site.specs.declared.outside.Dev.{Dev};
 ghost use Rattle.site.specs.declared.outside.Stop.{Stop};
 ghost use Rattle.site.specs.declared.geometry.Geometry.{Geometry};
 ghost use Rattle.site.specs.Geometry.{HasLimits, HasLengths};
-ghost use Rattle.site.specs.State.{reads_of, IsSettled, IsQuiet};
-ghost use Rattle.site.specs.Calls.{Preserves, SameReads, IsUnchanged};
+ghost use Rattle.site.specs.State.{IsSettled, IsQuiet};
+ghost use Rattle.site.specs.Calls.{Preserves, SameReads};
 ghost use Rattle.site.specs.Faults.{WorkFaults};
 ghost use Rattle.site.specs.Moments.{LeavesOnly};
 ghost use Rattle.sealed_ring.specs.Ring.{IsRing, SameOutside, appended};
+ghost use Rattle.sealed_ring.specs.Reading.{ReadsFrom};
 ghost use Rattle.sealed_ring.specs.Ready.{FaultRose, IsUsable, Matches, Finds, IsReady, ChangesOnly};
 ghost use Rattle.image_changes.specs.Rings.{master_shape, units_on};
 ghost use Rattle.image_changes.specs.Changes.{AppendsMaster, Reaches};
@@ -48,17 +49,7 @@ fn master_on<S: Site>(site: &mut S, ring: &Ring) -> Result<Master, Stop>
         → IfOk result (λ master. HasMaster (S.state site.old).image master) }
     ensures ascend { IfOk result (λ master. Ascend master.active) }
     ensures few { IfOk result (λ master. length master.active ≤ 8) }
-    ensures same { IsTrue (S.state site.old).honest
-        → IsUnchanged (S.state site.old) (S.state site.new) }
-    ensures goes { Preserves (S.state site.old) (S.state site.new) }
-    ensures faults { WorkFaults result (S.state site.old) (S.state site.new) }
-    ensures reads { reads_of Dev.Log (S.state site.new) ≤ reads_of Dev.Log (S.state site.old) + 1 }
-    ensures others { (d : Dev) → d ≢ Dev.Log
-        → reads_of d (S.state site.new) ≡ reads_of d (S.state site.old) }
-
-    // When each answer comes.
-    ensures device { IsErrOf result (Stop.Device Dev.Log)
-        → FaultRose Dev.Log (S.state site.old) (S.state site.new) }
+    ensures reads { ReadsFrom result Dev.Log 1 (S.state site.old) (S.state site.new) }
     ensures foreign { IsErrOf result Stop.Foreign → IsTrue (S.state site.old).honest
         → Finds ring.now (S.state site.old) → (master : Master)
         → HasMaster (S.state site.old).image master → ⊥ }
@@ -91,8 +82,6 @@ pub fn newest<S: Site>(site: &mut S) -> Result<(Ring, Master), Stop>
         → IfOk result (λ found. IsReady found.0 (S.state site.new)) }
     ensures fits { IsTrue (S.state site.old).honest
         → IfOk result (λ found. Matches found.0 (S.state site.new)) }
-    ensures same { IsTrue (S.state site.old).honest
-        → IsUnchanged (S.state site.old) (S.state site.new) }
 
     // Of every site.
     ensures shape { IfOk result (λ found. found.0.shape ≡ master_shape) }
@@ -100,15 +89,7 @@ pub fn newest<S: Site>(site: &mut S) -> Result<(Ring, Master), Stop>
     ensures ended { IfOk result (λ found. found.0.ended ≡ false) }
     ensures ascend { IfOk result (λ found. Ascend found.1.active) }
     ensures few { IfOk result (λ found. length found.1.active ≤ 8) }
-    ensures goes { Preserves (S.state site.old) (S.state site.new) }
-    ensures faults { WorkFaults result (S.state site.old) (S.state site.new) }
-    ensures reads { reads_of Dev.Log (S.state site.new) ≤ reads_of Dev.Log (S.state site.old) + 5 }
-    ensures others { (d : Dev) → d ≢ Dev.Log
-        → reads_of d (S.state site.new) ≡ reads_of d (S.state site.old) }
-
-    // When each answer comes.
-    ensures device { IsErrOf result (Stop.Device Dev.Log)
-        → FaultRose Dev.Log (S.state site.old) (S.state site.new) }
+    ensures reads { ReadsFrom result Dev.Log 5 (S.state site.old) (S.state site.new) }
     ensures foreign { IsErrOf result Stop.Foreign → IsTrue (S.state site.old).honest
         → IsRing master_shape (S.state site.old).image.log → (master : Master)
         → HasMaster (S.state site.old).image master → ⊥ }

@@ -3,9 +3,10 @@ ghost use Rattle.std.specs.Prelude.{◌≡◌, ◌≢◌, ◌+◌, ◌*◌, ◌�
 ghost use Rattle.site.specs.declared.outside.Dev.{Dev};
 ghost use Rattle.site.specs.declared.outside.Stop.{Stop};
 ghost use Rattle.site.specs.State.{reads_of, now_of, MayLeave, IsSettled};
-ghost use Rattle.site.specs.Calls.{Preserves, SameReads, FaultRose, IsUnchanged, Lies, Adds};
-ghost use Rattle.site.specs.Faults.{WorkFaults};
+ghost use Rattle.site.specs.Calls.{Lies, Adds};
 ghost use Rattle.site.specs.Moments.{LeavesOnly, ChangesOnly};
+ghost use Rattle.site.specs.Work.{OnlyReads};
+ghost use Rattle.disk_pages.specs.Calls.{WritesDisk};
 ghost use Rattle.disk_pages.specs.Pages.{LiesOn, page_on, within_page};
 
 use site::{Dev, Site, Stop};
@@ -27,16 +28,10 @@ pub fn read_page<S: Site>(site: &mut S, page: u32, into: &mut [u8]) -> Result<()
 
     ensures read { IsTrue (S.state site.old).honest
         → OnOk result (into.new ≡ page_on page (S.state site.old).image.disk) }
-    ensures same { IsTrue (S.state site.old).honest
-        → IsUnchanged (S.state site.old) (S.state site.new) }
-    ensures goes { Preserves (S.state site.old) (S.state site.new) }
-    ensures faults { WorkFaults result (S.state site.old) (S.state site.new) }
+    ensures looks { OnlyReads result (S.state site.old) (S.state site.new) }
     ensures reads { (S.state site.new).disk_reads ≤ (S.state site.old).disk_reads + 1 }
     ensures others { (d : Dev) → d ≢ Dev.Disk
         → reads_of d (S.state site.new) ≡ reads_of d (S.state site.old) }
-
-    // When the error comes.
-    ensures device { OnErr result (FaultRose Dev.Disk (S.state site.old) (S.state site.new)) }
     ensures stops { IfErr result (λ stop. stop ≡ Stop.Device Dev.Disk) }
 {
     let Ok(()) = site.read_at(Dev::Disk, place_of(page), into) else {
@@ -60,13 +55,7 @@ pub fn write_page<S: Site>(site: &mut S, page: u32, from: &[u8]) -> Result<(), S
         → OnOk result (Adds (within_page page (S.state site.old)) (S.state site.old) (S.state site.new)) }
     ensures changes { IsTrue (S.state site.old).honest
         → ChangesOnly Dev.Disk (S.state site.old) (S.state site.new) }
-    ensures goes { Preserves (S.state site.old) (S.state site.new) }
-    ensures faults { WorkFaults result (S.state site.old) (S.state site.new) }
-    ensures reads { SameReads (S.state site.old) (S.state site.new) }
-
-    // When the error comes.
-    ensures device { OnErr result (FaultRose Dev.Disk (S.state site.old) (S.state site.new)) }
-    ensures stops { IfErr result (λ stop. stop ≡ Stop.Device Dev.Disk) }
+    ensures writes { WritesDisk result (S.state site.old) (S.state site.new) }
 {
     let Ok(()) = site.write_at(Dev::Disk, place_of(page), from) else {
         return Err(Stop::Device(Dev::Disk));
@@ -88,13 +77,7 @@ pub fn sync_disk<S: Site>(site: &mut S) -> Result<(), Stop>
         → OnOk result (Adds (now_of (S.state site.old)) (S.state site.old) (S.state site.new)) }
     ensures changes { IsTrue (S.state site.old).honest
         → ChangesOnly Dev.Disk (S.state site.old) (S.state site.new) }
-    ensures goes { Preserves (S.state site.old) (S.state site.new) }
-    ensures faults { WorkFaults result (S.state site.old) (S.state site.new) }
-    ensures reads { SameReads (S.state site.old) (S.state site.new) }
-
-    // When the error comes.
-    ensures device { OnErr result (FaultRose Dev.Disk (S.state site.old) (S.state site.new)) }
-    ensures stops { IfErr result (λ stop. stop ≡ Stop.Device Dev.Disk) }
+    ensures writes { WritesDisk result (S.state site.old) (S.state site.new) }
 {
     let Ok(()) = site.sync(Dev::Disk) else {
         return Err(Stop::Device(Dev::Disk));

@@ -1,5 +1,9 @@
 -- The frames of a group, by their places in it.
 use Rattle.std.specs.Prelude.{◌≡◌, ℕ, ◌+◌, ◌*◌, false, List, length, map, zip, take, drop, slice_index_or}
+use Rattle.site.specs.declared.outside.Dev.TheVariants.{Flash}
+use Rattle.site.specs.State.{State}
+use Rattle.sealed_ring.specs.declared.ring.Ring.{Ring}
+use Rattle.sealed_ring.specs.Ready.{IsUsable}
 use Rattle.byte_fields.specs.declared.frame_head.FrameHead.{FrameHead}
 use Rattle.byte_fields.specs.declared.frame_head.Mark.{Mark}
 use Rattle.frame_group.specs.Groups.{Frame, frame_of}
@@ -7,6 +11,12 @@ use Rattle.second_chance.specs.declared.frame.Frame.{Frame as Known}
 use Rattle.second_chance.specs.Queue.{front_marks}
 use Rattle.flash_cache.specs.declared.leaving.FrontFrames.{FrontFrames}
 use Rattle.flash_cache.specs.Pushed.{frames_given}
+
+-- a ring of groups that may be read
+pub record IsGroupRing (ring : Ring) (site : State) : Type 0 where
+  pub usable : IsUsable ring site
+  pub device : ring.shape.dev ≡ Flash
+  pub room : ring.shape.room ≡ 32896
 
 abbrev pub no_mark : Mark
 no_mark = record { page = 0; valid = false; dirty = false; referenced = false }

@@ -1,15 +1,15 @@
 // The queue on flash: its groups stand on a ring of the flash device, and a directory in memory knows their frames.
-ghost use Rattle.std.specs.Prelude.{◌≡◌, ◌≢◌, ◌⊎◌, ◌↔◌, ◌+◌, ◌-◌, ◌*◌, ◌^◌, ◌<◌, ◌≤◌, ℕ, List, length, map, take, []};
-ghost use Rattle.std.specs.Prelude.{◌∷◌, ◌++◌, true, false, IsTrue, IfOk, OnOk, OnErr, IfErr, IsErrOf, IfSome, IfNone};
+ghost use Rattle.std.specs.Prelude.{◌≡◌, ◌≢◌, ◌⊎◌, ◌↔◌, ◌+◌, ◌-◌, ◌*◌, ◌<◌, ◌≤◌, ℕ, List, length, map, take, []};
+ghost use Rattle.std.specs.Prelude.{true, false, IsTrue, IfOk, OnOk, OnErr, IfErr, IsErrOf, IfSome, IfNone};
 ghost use Rattle.std.specs.Prelude.{Some, if◌then◌else◌, slice_get, AllPairs};
 ghost use Rattle.std.specs.List.{All, AllByRecursion};
 ghost use Rattle.site.specs.declared.outside.Dev.{Dev};
 ghost use Rattle.site.specs.declared.outside.Stop.{Stop};
 ghost use Rattle.site.specs.Geometry.{HasLimits, HasLengths};
 ghost use Rattle.site.specs.State.{reads_of, IsSettled, IsQuiet};
-ghost use Rattle.site.specs.Calls.{Preserves, SameReads, FaultRose, IsUnchanged};
-ghost use Rattle.site.specs.Faults.{WorkFaults};
+ghost use Rattle.site.specs.Calls.{SameReads};
 ghost use Rattle.site.specs.Moments.{LeavesOnly, ChangesOnly, SameAt, Untouched};
+ghost use Rattle.sealed_ring.specs.Reading.{ReadsFrom};
 ghost use Rattle.sealed_ring.specs.Ready.{LeavesOldOrNew};
 ghost use Rattle.byte_fields.specs.declared.frame_head.FrameHead.{FrameHead};
 ghost use Rattle.byte_fields.specs.FrameHeads.{AreGroupHeads};
@@ -17,12 +17,14 @@ ghost use Rattle.image_changes.specs.Rings.{group_shape, Groups as GroupRing};
 ghost use Rattle.image_changes.specs.Changes.{Appends, Reaches};
 ghost use Rattle.image_changes.specs.Reached.{LeavesFront};
 ghost use Rattle.frame_group.specs.Groups.{Frame, IsFrame, heads_of, group};
+ghost use Rattle.tail_rebuild.specs.Listing.{ReadsFlash};
 ghost use Rattle.tail_rebuild.specs.Saving.{is_due};
 ghost use Rattle.second_chance.specs.Queue.{has_frame, with_read, marks, front_marks};
 ghost use Rattle.second_chance.specs.Machine.{rules_of, leaving, staged_in_push};
 ghost use Rattle.stage_out.specs.Staged.{HasStaged, calls_of};
 ghost use Rattle.flash_directory.specs.Heads.{frames_in};
-ghost use Rattle.flash_cache.specs.Representation.{Invariant, Matches, IsNext, KeepsNext, IsWorn, HasGroups};
+ghost use Rattle.flash_cache.specs.Calls.{KeepsCache};
+ghost use Rattle.flash_cache.specs.Representation.{Invariant, Matches, IsNext, HasGroups};
 ghost use Rattle.flash_cache.specs.Representation.{HasFrames, AreSaved, Represents, queue_of, version_on};
 ghost use Rattle.flash_cache.specs.Representation.{PagesExist, IsCleanOn, start_reads};
 ghost use Rattle.flash_cache.specs.Pushed.{staged_marks, staged_pages, staged_contents, chance_marks, pages_pushed};
@@ -96,18 +98,7 @@ impl FlashCache {
         ensures going { IfOk result (λ cache. Invariant cache (S.state site.new)) }
         ensures geometry { IfOk result (λ cache. cache.geometry ≡ geometry.now) }
         ensures ended { IfOk result (λ cache. cache.ended ≡ false) }
-        ensures same { IsTrue (S.state site.old).honest
-            → IsUnchanged (S.state site.old) (S.state site.new) }
-        ensures goes { Preserves (S.state site.old) (S.state site.new) }
-        ensures faults { WorkFaults result (S.state site.old) (S.state site.new) }
-        ensures reads { (S.state site.new).flash_reads
-            ≤ (S.state site.old).flash_reads + start_reads geometry.now }
-        ensures others { (d : Dev) → d ≢ Dev.Flash
-            → reads_of d (S.state site.new) ≡ reads_of d (S.state site.old) }
-        ensures device { IsErrOf result (Stop.Device Dev.Flash)
-            → FaultRose Dev.Flash (S.state site.old) (S.state site.new) }
-        ensures stops { IfErr result (λ stop. (stop ≡ Stop.Device Dev.Flash)
-            ⊎ ((stop ≡ Stop.Memory) ⊎ (stop ≡ Stop.Foreign))) }
+        ensures reads { ReadsFlash result (start_reads geometry.now) (S.state site.old) (S.state site.new) }
     {
         let heads = match rebuild(alloc, site, geometry) {
             Ok(heads) => heads,
@@ -159,16 +150,7 @@ impl FlashCache {
         ensures err { OnErr result (self.new ≡ record self.old { ended = true }) }
         ensures geometry { self.new.geometry ≡ self.old.geometry }
         ensures segments { self.new.segments ≡ self.old.segments }
-        ensures same { IsTrue (S.state site.old).honest
-            → IsUnchanged (S.state site.old) (S.state site.new) }
-        ensures goes { Preserves (S.state site.old) (S.state site.new) }
-        ensures faults { WorkFaults result (S.state site.old) (S.state site.new) }
-        ensures reads { (S.state site.new).flash_reads ≤ (S.state site.old).flash_reads + 1 }
-        ensures others { (d : Dev) → d ≢ Dev.Flash
-            → reads_of d (S.state site.new) ≡ reads_of d (S.state site.old) }
-
-        // When the error comes.
-        ensures device { OnErr result (FaultRose Dev.Flash (S.state site.old) (S.state site.new)) }
+        ensures reads { ReadsFrom result Dev.Flash 1 (S.state site.old) (S.state site.new) }
         ensures stops { IfErr result (λ stop. stop ≡ Stop.Device Dev.Flash) }
     {
         let Some(place) = self.directory.newest(page) else {
@@ -288,36 +270,19 @@ impl FlashCache {
             → OnOk result (Represents self.new (S.state site.new).image
             (pushed_groups self.old groups
             (frames_pushed self.old (S.state site.old).image pages.now changed.now contents.now))) }
-        ensures fits { Matches self.old (S.state site.old) → OnOk result (Matches self.new (S.state site.new)) }
-        ensures next_segment { IsTrue (S.state site.old).honest
-            → KeepsNext result self.old self.new (S.state site.old) (S.state site.new) }
-        ensures quiet { IsTrue (S.state site.old).honest → IsQuiet (S.state site.old)
-            → OnOk result (IsQuiet (S.state site.new)) }
         // Five calls for the group, five for a segment, and one for each page that is staged and for the sync.
         ensures past { IsTrue (S.state site.old).honest
             → OnOk result (length (S.state site.new).past ≤ length (S.state site.old).past + 19) }
-        ensures quiet_err { IsTrue (S.state site.old).honest → IsQuiet (S.state site.old)
-            → IfErr result (λ stop. ((d : Dev) → stop ≢ Stop.Device d) → IsQuiet (S.state site.new)) }
 
         // Of every site.
-        ensures going { Invariant self.new (S.state site.new) }
-        ensures geometry { self.new.geometry ≡ self.old.geometry }
+        ensures keeps { KeepsCache result self.old self.new (S.state site.old) (S.state site.new) }
         ensures ended { OnOk result (self.new.ended ≡ self.old.ended) }
         ensures err { OnErr result (self.new.ended ≡ true) }
-        ensures kept { OnErr result (self.new.directory ≡ self.old.directory) }
-        ensures goes { Preserves (S.state site.old) (S.state site.new) }
-        ensures faults { WorkFaults result (S.state site.old) (S.state site.new) }
         ensures reads { (S.state site.new).flash_reads ≤ (S.state site.old).flash_reads + 12 }
         ensures others { (d : Dev) → d ≢ Dev.Flash
             → reads_of d (S.state site.new) ≡ reads_of d (S.state site.old) }
 
         // When each answer comes.
-        ensures worn { IsErrOf result (Stop.Worn Dev.Flash) → self.old.ring.hi ≡ 2 ^ 40 }
-        ensures worn_end { Matches self.old (S.state site.old) → IsErrOf result (Stop.Worn Dev.Flash)
-            → IsWorn self.old.geometry (S.state site.new).image }
-        ensures never_past { self.old.ring.hi ≡ 2 ^ 40 → OnOk result ⊥ }
-        ensures device { (d : Dev) → IsErrOf result (Stop.Device d)
-            → FaultRose d (S.state site.old) (S.state site.new) }
         ensures foreign { (groups : List (List Frame))
             → Matches self.old (S.state site.old) → Represents self.old (S.state site.old).image groups
             → IsErrOf result Stop.Foreign → ⊥ }
@@ -389,37 +354,20 @@ impl FlashCache {
             → ChangesPages (S.state site.old) (S.state site.new) }
         ensures alone { IsTrue (S.state site.old).honest → staged_pages self.old ≡ []
             → Untouched Dev.Disk (S.state site.old) (S.state site.new) }
-        ensures fits { Matches self.old (S.state site.old) → OnOk result (Matches self.new (S.state site.new)) }
-        ensures next_segment { IsTrue (S.state site.old).honest
-            → KeepsNext result self.old self.new (S.state site.old) (S.state site.new) }
-        ensures quiet { IsTrue (S.state site.old).honest → IsQuiet (S.state site.old)
-            → OnOk result (IsQuiet (S.state site.new)) }
         ensures past { IsTrue (S.state site.old).honest
             → OnOk result (length (S.state site.new).past
             ≡ length (S.state site.old).past + (calls_of (staged_pages self.old) + 5)) }
-        ensures quiet_err { IsTrue (S.state site.old).honest → IsQuiet (S.state site.old)
-            → IfErr result (λ stop. ((d : Dev) → stop ≢ Stop.Device d) → IsQuiet (S.state site.new)) }
 
         // Of every site.
         ensures directory { OnOk result (self.new.directory
             ≡ pushed_queue self.old (known_pushed self.old given.now.pages.now given.now.changed.now)) }
-        ensures kept { OnErr result (self.new.directory ≡ self.old.directory) }
-        ensures going { Invariant self.new (S.state site.new) }
-        ensures geometry { self.new.geometry ≡ self.old.geometry }
+        ensures keeps { KeepsCache result self.old self.new (S.state site.old) (S.state site.new) }
         ensures ended { self.new.ended ≡ self.old.ended }
-        ensures goes { Preserves (S.state site.old) (S.state site.new) }
-        ensures faults { WorkFaults result (S.state site.old) (S.state site.new) }
         ensures reads { (S.state site.new).flash_reads ≤ (S.state site.old).flash_reads + 8 }
         ensures others { (d : Dev) → d ≢ Dev.Flash
             → reads_of d (S.state site.new) ≡ reads_of d (S.state site.old) }
 
         // When each answer comes.
-        ensures worn { IsErrOf result (Stop.Worn Dev.Flash) → self.old.ring.hi ≡ 2 ^ 40 }
-        ensures worn_end { Matches self.old (S.state site.old) → IsErrOf result (Stop.Worn Dev.Flash)
-            → IsWorn self.old.geometry (S.state site.new).image }
-        ensures never_past { self.old.ring.hi ≡ 2 ^ 40 → OnOk result ⊥ }
-        ensures device { (d : Dev) → IsErrOf result (Stop.Device d)
-            → FaultRose d (S.state site.old) (S.state site.new) }
         ensures stops { IfErr result (λ stop. (stop ≡ Stop.Device Dev.Flash)
             ⊎ ((stop ≡ Stop.Device Dev.Disk)
             ⊎ ((stop ≡ Stop.Memory) ⊎ (stop ≡ Stop.Worn Dev.Flash)))) }
@@ -475,34 +423,17 @@ impl FlashCache {
             → ChangesPages (S.state site.old) (S.state site.new) }
         ensures alone { IsTrue (S.state site.old).honest → staged.now ≡ []
             → Untouched Dev.Disk (S.state site.old) (S.state site.new) }
-        ensures fits { Matches self.old (S.state site.old) → OnOk result (Matches self.new (S.state site.new)) }
-        ensures next_segment { IsTrue (S.state site.old).honest
-            → KeepsNext result self.old self.new (S.state site.old) (S.state site.new) }
-        ensures quiet { IsTrue (S.state site.old).honest → IsQuiet (S.state site.old)
-            → OnOk result (IsQuiet (S.state site.new)) }
         ensures past { IsTrue (S.state site.old).honest
             → OnOk result (length (S.state site.new).past
             ≡ length (S.state site.old).past + (calls_of staged.now + 5)) }
-        ensures quiet_err { IsTrue (S.state site.old).honest → IsQuiet (S.state site.old)
-            → IfErr result (λ stop. ((d : Dev) → stop ≢ Stop.Device d) → IsQuiet (S.state site.new)) }
 
         // Of every site.
         ensures ok { OnOk result (self.new.directory ≡ pushed_queue self.old (frames_in heads.now)) }
-        ensures kept { OnErr result (self.new.directory ≡ self.old.directory) }
-        ensures going { Invariant self.new (S.state site.new) }
-        ensures geometry { self.new.geometry ≡ self.old.geometry }
+        ensures keeps { KeepsCache result self.old self.new (S.state site.old) (S.state site.new) }
         ensures ended { self.new.ended ≡ self.old.ended }
-        ensures goes { Preserves (S.state site.old) (S.state site.new) }
-        ensures faults { WorkFaults result (S.state site.old) (S.state site.new) }
         ensures reads { SameReads (S.state site.old) (S.state site.new) }
 
         // When each answer comes.
-        ensures worn { IsErrOf result (Stop.Worn Dev.Flash) → self.old.ring.hi ≡ 2 ^ 40 }
-        ensures worn_end { Matches self.old (S.state site.old) → IsErrOf result (Stop.Worn Dev.Flash)
-            → IsWorn self.old.geometry (S.state site.new).image }
-        ensures never_past { self.old.ring.hi ≡ 2 ^ 40 → OnOk result ⊥ }
-        ensures device { (d : Dev) → IsErrOf result (Stop.Device d)
-            → FaultRose d (S.state site.old) (S.state site.new) }
         ensures stops { IfErr result (λ stop. (stop ≡ Stop.Device Dev.Flash)
             ⊎ ((stop ≡ Stop.Device Dev.Disk)
             ⊎ ((stop ≡ Stop.Memory) ⊎ (stop ≡ Stop.Worn Dev.Flash)))) }
@@ -533,33 +464,16 @@ impl FlashCache {
             → ChangesOnly Dev.Flash (S.state site.old) (S.state site.new) }
         ensures appends { Matches self.old (S.state site.old) → OnOk result (Appends self.old.geometry
             GroupRing content.now (S.state site.old).image (S.state site.new).image) }
-        ensures fits { Matches self.old (S.state site.old) → OnOk result (Matches self.new (S.state site.new)) }
-        ensures next_segment { IsTrue (S.state site.old).honest
-            → KeepsNext result self.old self.new (S.state site.old) (S.state site.new) }
-        ensures quiet { IsTrue (S.state site.old).honest → IsQuiet (S.state site.old)
-            → OnOk result (IsQuiet (S.state site.new)) }
         ensures past { IsTrue (S.state site.old).honest
             → OnOk result (length (S.state site.new).past ≡ length (S.state site.old).past + 5) }
-        ensures quiet_err { IsTrue (S.state site.old).honest → IsQuiet (S.state site.old)
-            → IfErr result (λ stop. ((d : Dev) → stop ≢ Stop.Device d) → IsQuiet (S.state site.new)) }
 
         // Of every site.
         ensures ok { OnOk result (self.new.directory ≡ pushed_queue self.old (frames_in heads.now)) }
-        ensures kept { OnErr result (self.new.directory ≡ self.old.directory) }
-        ensures going { Invariant self.new (S.state site.new) }
-        ensures geometry { self.new.geometry ≡ self.old.geometry }
+        ensures keeps { KeepsCache result self.old self.new (S.state site.old) (S.state site.new) }
         ensures ended { self.new.ended ≡ self.old.ended }
-        ensures goes { Preserves (S.state site.old) (S.state site.new) }
-        ensures faults { WorkFaults result (S.state site.old) (S.state site.new) }
         ensures reads { SameReads (S.state site.old) (S.state site.new) }
 
         // When each answer comes.
-        ensures worn { IsErrOf result (Stop.Worn Dev.Flash) → self.old.ring.hi ≡ 2 ^ 40 }
-        ensures worn_end { Matches self.old (S.state site.old) → IsErrOf result (Stop.Worn Dev.Flash)
-            → IsWorn self.old.geometry (S.state site.new).image }
-        ensures never_past { self.old.ring.hi ≡ 2 ^ 40 → OnOk result ⊥ }
-        ensures device { IsErrOf result (Stop.Device Dev.Flash)
-            → FaultRose Dev.Flash (S.state site.old) (S.state site.new) }
         ensures stops { IfErr result (λ stop. (stop ≡ Stop.Device Dev.Flash)
             ⊎ ((stop ≡ Stop.Memory) ⊎ (stop ≡ Stop.Worn Dev.Flash))) }
     {

@@ -1,16 +1,13 @@
 // What leaves the queue with its front group and goes to the disk.
-ghost use Rattle.std.specs.Prelude.{◌≡◌, ◌≢◌, ◌⊎◌, ◌+◌, ◌<◌, ◌≤◌, ◌++◌, length, map, IsTrue, IfOk, OnErr, IfErr};
-ghost use Rattle.std.specs.Prelude.{IsErrOf};
+ghost use Rattle.std.specs.Prelude.{◌≡◌, ◌⊎◌, ◌+◌, ◌<◌, ◌≤◌, length, map, IsTrue, IfOk, IfErr};
 ghost use Rattle.std.specs.List.{All};
 ghost use Rattle.site.specs.declared.outside.Dev.{Dev};
 ghost use Rattle.site.specs.declared.outside.Stop.{Stop};
-ghost use Rattle.site.specs.State.{reads_of};
-ghost use Rattle.site.specs.Calls.{Preserves, FaultRose, IsUnchanged};
-ghost use Rattle.site.specs.Faults.{WorkFaults};
 ghost use Rattle.sealed_ring.specs.Ring.{IsLive, unit_at};
-ghost use Rattle.sealed_ring.specs.Ready.{units_in, IsUsable, Matches as RingFits};
+ghost use Rattle.sealed_ring.specs.Reading.{ReadsFrom};
+ghost use Rattle.sealed_ring.specs.Ready.{units_in, Matches as RingFits};
 ghost use Rattle.second_chance.specs.Queue.{front_marks};
-ghost use Rattle.flash_cache.specs.Leaving.{mark_at, page_at, AreAt};
+ghost use Rattle.flash_cache.specs.Leaving.{mark_at, page_at, AreAt, IsGroupRing};
 
 use byte_fields::Mark;
 use flash_directory::Directory;
@@ -48,9 +45,7 @@ pub fn frames_leaving<S: Site>(
     ring: &Ring,
     plan: &Plan,
 ) -> Result<(FrontFrames, FrontFrames), Stop>
-    requires usable { IsUsable ring.now (S.state site.old) }
-    requires device { ring.now.shape.dev ≡ Dev.Flash }
-    requires room { ring.now.shape.room ≡ 32896 }
+    requires ring { IsGroupRing ring.now (S.state site.old) }
     requires live { 0 < length directory.now.groups → IsLive ring.now.shape ring.now.hi directory.now.first }
     requires few { length (front_marks directory.now.groups) ≤ 8 }
     requires staged { All (λ place. place < length (front_marks directory.now.groups)) plan.now.staged }
@@ -64,18 +59,8 @@ pub fn frames_leaving<S: Site>(
     ensures chances_contents { IsTrue (S.state site.old).honest → RingFits ring.now (S.state site.old)
         → IfOk result (λ both. both.1.contents.items ≡ map (page_at (unit_at ring.now.shape
         (units_in ring.now.shape (S.state site.old)) directory.now.first)) plan.now.chances) }
-    ensures same { IsTrue (S.state site.old).honest
-        → IsUnchanged (S.state site.old) (S.state site.new) }
-    ensures goes { Preserves (S.state site.old) (S.state site.new) }
-    ensures faults { WorkFaults result (S.state site.old) (S.state site.new) }
-    ensures reads { (S.state site.new).flash_reads
-        ≤ (S.state site.old).flash_reads + length plan.now.staged + length plan.now.chances }
-    ensures others { (d : Dev) → d ≢ Dev.Flash
-        → reads_of d (S.state site.new) ≡ reads_of d (S.state site.old) }
-
-    // When each answer comes.
-    ensures device { IsErrOf result (Stop.Device Dev.Flash)
-        → FaultRose Dev.Flash (S.state site.old) (S.state site.new) }
+    ensures reads { ReadsFrom result Dev.Flash (length plan.now.staged + length plan.now.chances)
+        (S.state site.old) (S.state site.new) }
     ensures stops { IfErr result (λ stop. (stop ≡ Stop.Device Dev.Flash) ⊎ (stop ≡ Stop.Memory)) }
 {
     let staged = match frames_at(alloc, site, directory, ring, &plan.staged) {
@@ -96,9 +81,7 @@ fn frames_at<S: Site>(
     ring: &Ring,
     places: &Places,
 ) -> Result<FrontFrames, Stop>
-    requires usable { IsUsable ring.now (S.state site.old) }
-    requires device { ring.now.shape.dev ≡ Dev.Flash }
-    requires room { ring.now.shape.room ≡ 32896 }
+    requires ring { IsGroupRing ring.now (S.state site.old) }
     requires live { 0 < length directory.now.groups → IsLive ring.now.shape ring.now.hi directory.now.first }
     requires few { length (front_marks directory.now.groups) ≤ 8 }
     requires places { All (λ place. place < length (front_marks directory.now.groups)) places.now }
@@ -107,18 +90,7 @@ fn frames_at<S: Site>(
     ensures contents { IsTrue (S.state site.old).honest → RingFits ring.now (S.state site.old)
         → IfOk result (λ frames. frames.contents.items ≡ map (page_at (unit_at ring.now.shape
         (units_in ring.now.shape (S.state site.old)) directory.now.first)) places.now) }
-    ensures same { IsTrue (S.state site.old).honest
-        → IsUnchanged (S.state site.old) (S.state site.new) }
-    ensures goes { Preserves (S.state site.old) (S.state site.new) }
-    ensures faults { WorkFaults result (S.state site.old) (S.state site.new) }
-    ensures reads { (S.state site.new).flash_reads
-        ≤ (S.state site.old).flash_reads + length places.now }
-    ensures others { (d : Dev) → d ≢ Dev.Flash
-        → reads_of d (S.state site.new) ≡ reads_of d (S.state site.old) }
-
-    // When each answer comes.
-    ensures device { IsErrOf result (Stop.Device Dev.Flash)
-        → FaultRose Dev.Flash (S.state site.old) (S.state site.new) }
+    ensures reads { ReadsFrom result Dev.Flash (length places.now) (S.state site.old) (S.state site.new) }
     ensures stops { IfErr result (λ stop. (stop ≡ Stop.Device Dev.Flash) ⊎ (stop ≡ Stop.Memory)) }
 {
     let (pages, dirty) = pages_at(alloc, directory, places)?;
@@ -170,9 +142,7 @@ fn contents_at<S: Site>(
     group: u64,
     places: &Places,
 ) -> Result<Vec<Page>, Stop>
-    requires usable { IsUsable ring.now (S.state site.old) }
-    requires device { ring.now.shape.dev ≡ Dev.Flash }
-    requires room { ring.now.shape.room ≡ 32896 }
+    requires ring { IsGroupRing ring.now (S.state site.old) }
     requires live { 0 < length places.now → IsLive ring.now.shape ring.now.hi group }
     requires places { All (λ place. place < 8) places.now }
 
@@ -180,18 +150,7 @@ fn contents_at<S: Site>(
         → IfOk result (λ list. list.items ≡ map (page_at
         (unit_at ring.now.shape (units_in ring.now.shape (S.state site.old)) group)) places.now) }
     ensures count { IfOk result (λ list. length list.items ≡ length places.now) }
-    ensures same { IsTrue (S.state site.old).honest
-        → IsUnchanged (S.state site.old) (S.state site.new) }
-    ensures goes { Preserves (S.state site.old) (S.state site.new) }
-    ensures faults { WorkFaults result (S.state site.old) (S.state site.new) }
-    ensures reads { (S.state site.new).flash_reads
-        ≤ (S.state site.old).flash_reads + length places.now }
-    ensures others { (d : Dev) → d ≢ Dev.Flash
-        → reads_of d (S.state site.new) ≡ reads_of d (S.state site.old) }
-
-    // When each answer comes.
-    ensures device { IsErrOf result (Stop.Device Dev.Flash)
-        → FaultRose Dev.Flash (S.state site.old) (S.state site.new) }
+    ensures reads { ReadsFrom result Dev.Flash (length places.now) (S.state site.old) (S.state site.new) }
     ensures stops { IfErr result (λ stop. (stop ≡ Stop.Device Dev.Flash) ⊎ (stop ≡ Stop.Memory)) }
 {
     let mut contents = Vec::new(alloc);
@@ -207,25 +166,14 @@ fn contents_at<S: Site>(
 
 // The page of a live group's frame, by one read of one page.
 fn read_frame<S: Site>(site: &mut S, ring: &Ring, group: u64, place: u32) -> Result<Page, Stop>
-    requires usable { IsUsable ring.now (S.state site.old) }
-    requires device { ring.now.shape.dev ≡ Dev.Flash }
-    requires room { ring.now.shape.room ≡ 32896 }
+    requires ring { IsGroupRing ring.now (S.state site.old) }
     requires live { IsLive ring.now.shape ring.now.hi group }
     requires place { place < 8 }
 
     ensures page { IsTrue (S.state site.old).honest → RingFits ring.now (S.state site.old)
         → IfOk result (λ page. page ≡ page_at
         (unit_at ring.now.shape (units_in ring.now.shape (S.state site.old)) group) place) }
-    ensures same { IsTrue (S.state site.old).honest
-        → IsUnchanged (S.state site.old) (S.state site.new) }
-    ensures goes { Preserves (S.state site.old) (S.state site.new) }
-    ensures faults { WorkFaults result (S.state site.old) (S.state site.new) }
-    ensures reads { (S.state site.new).flash_reads ≤ (S.state site.old).flash_reads + 1 }
-    ensures others { (d : Dev) → d ≢ Dev.Flash
-        → reads_of d (S.state site.new) ≡ reads_of d (S.state site.old) }
-
-    // When the error comes.
-    ensures device { OnErr result (FaultRose Dev.Flash (S.state site.old) (S.state site.new)) }
+    ensures reads { ReadsFrom result Dev.Flash 1 (S.state site.old) (S.state site.new) }
     ensures stops { IfErr result (λ stop. stop ≡ Stop.Device Dev.Flash) }
 {
     let mut octets = [0u8; PAGE_LEN];

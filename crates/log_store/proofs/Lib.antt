@@ -6,4 +6,5 @@ pub mod NextBlocks
 pub mod OneLog
 pub mod Standing
 pub mod SealLaws
+pub mod SealingCalls
 pub mod TailLaws

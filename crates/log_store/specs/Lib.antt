@@ -1,3 +1,4 @@
 pub mod Laws
 pub mod LogList
 pub mod Representation
+pub mod Sealing

@@ -1,26 +1,22 @@
 // The log: sealed blocks on a ring, and the records that aren't sealed yet.
 ghost use Rattle.std.specs.Prelude.{◌≡◌, ◌≢◌, ◌⊎◌, ◌↔◌, ◌+◌, ◌-◌, ◌*◌, ◌^◌, ◌<◌, ◌≤◌, length, [], ◌∷◌, ◌++◌, ℕ, List};
-ghost use Rattle.std.specs.Prelude.{Bool, true, false, nat_lt, if◌then◌else◌, IsTrue, IfOk, OnOk, OnErr, IfErr};
+ghost use Rattle.std.specs.Prelude.{false, if◌then◌else◌, IsTrue, IfOk, OnOk, IfErr};
 ghost use Rattle.std.specs.Prelude.{IsErrOf, Some, None};
 ghost use Rattle.site.specs.declared.outside.Dev.{Dev};
 ghost use Rattle.site.specs.declared.outside.Stop.{Stop};
 ghost use Rattle.site.specs.Geometry.{HasLimits, HasLengths};
-ghost use Rattle.site.specs.State.{State, reads_of, IsSettled, IsQuiet};
-ghost use Rattle.site.specs.Calls.{Preserves, SameReads, ReadsMore, IsUnchanged};
-ghost use Rattle.site.specs.Faults.{WorkFaults};
-ghost use Rattle.site.specs.Moments.{LeavesOnly};
-ghost use Rattle.sealed_ring.specs.Ring.{IsRing, IsLive, SameOutside};
-ghost use Rattle.sealed_ring.specs.Ready.{FaultRose, ChangesOnly};
+ghost use Rattle.site.specs.State.{State, IsSettled};
+ghost use Rattle.sealed_ring.specs.Ring.{IsRing, IsLive};
+ghost use Rattle.sealed_ring.specs.Reading.{ReadsFrom};
 ghost use Rattle.log_records.specs.declared.log_record.LogRecord.{LogRecord};
 ghost use Rattle.log_records.specs.Spelling.{spelling, used_by, block, HasForm, FitsFields, IsBlock};
 ghost use Rattle.image_changes.specs.Rings.{log_shape};
-ghost use Rattle.image_changes.specs.Changes.{Reaches};
-ghost use Rattle.image_changes.specs.Reached.{LeavesFront};
-ghost use Rattle.log_store.specs.LogList.{LogList, entries, at_lsn, sealed_block, sealed_if, changes_if, with_record};
+ghost use Rattle.log_store.specs.LogList.{LogList, entries, at_lsn, sealed_block, sealed_if, with_record};
 ghost use Rattle.log_store.specs.LogList.{from_block};
 ghost use Rattle.log_store.specs.Representation.{Invariant, HasRoom, has_tail, overflows, end_of, next_lsn, block_on};
-ghost use Rattle.log_store.specs.Representation.{Matches, Finds, IsNext, KeepsNext, HasBlocks, HasTail};
-ghost use Rattle.log_store.specs.Representation.{Represents, LeavesLog, KeepsBeside};
+ghost use Rattle.log_store.specs.Representation.{Matches, Finds, IsNext, HasBlocks, HasTail};
+ghost use Rattle.log_store.specs.Representation.{Represents};
+ghost use Rattle.log_store.specs.Sealing.{SealsTail};
 
 use crate::RECORDS_AT;
 use crate::reading::record_at;
@@ -110,18 +106,7 @@ impl LogStore {
             → HasBlocks geometry.now first blocks (S.state site.old).image
             → IfOk result (λ store. Represents store (S.state site.new).image
             (record { first = first; blocks = blocks; tail = [] })) }
-        ensures same { IsTrue (S.state site.old).honest
-            → IsUnchanged (S.state site.old) (S.state site.new) }
-        ensures goes { Preserves (S.state site.old) (S.state site.new) }
-        ensures faults { WorkFaults result (S.state site.old) (S.state site.new) }
-        ensures reads { reads_of Dev.Log (S.state site.new)
-            ≤ reads_of Dev.Log (S.state site.old) + (geometry.now.blocks + 1) }
-        ensures others { (d : Dev) → (d ≡ Dev.Log → ⊥)
-            → reads_of d (S.state site.new) ≡ reads_of d (S.state site.old) }
-
-        // When each answer comes.
-        ensures device { IsErrOf result (Stop.Device Dev.Log)
-            → FaultRose Dev.Log (S.state site.old) (S.state site.new) }
+        ensures reads { ReadsFrom result Dev.Log (geometry.now.blocks + 1) (S.state site.old) (S.state site.new) }
         ensures foreign { IsErrOf result Stop.Foreign → IsTrue (S.state site.old).honest
             → IsRing (log_shape geometry.now) (S.state site.old).image.log → ⊥ }
         ensures stops { IfErr result (λ stop. (stop ≡ Stop.Device Dev.Log)
@@ -144,6 +129,9 @@ impl LogStore {
         requires form { HasForm rec.now }
         requires room { HasRoom self.old }
 
+        ensures seals { SealsTail result (overflows self.old rec.now) self.old self.new
+            (S.state site.old) (S.state site.new) }
+
         // Of an honest site that the store fits, or whose log it found while ranges of the device are loose.
         ensures holds { (log : LogList)
             → Finds self.old (S.state site.old) → Represents self.old (S.state site.old).image log
@@ -154,62 +142,13 @@ impl LogStore {
             → IfOk result (λ lsn.
             entries (with_record rec.now (sealed_if (overflows self.old rec.now) log))
             ≡ entries log ++ record { lsn = lsn; rec = rec.now } ∷ []) }
-        ensures any_moment { (log : LogList)
-            → Matches self.old (S.state site.old) → Represents self.old (S.state site.old).image log
-            → LeavesOnly (S.state site.old) (S.state site.new)
-            (LeavesLog self.old.geometry (overflows self.old rec.now) log (S.state site.old).told) }
-        ensures front { (log : LogList)
-            → Matches self.old (S.state site.old) → Represents self.old (S.state site.old).image log
-            → IsQuiet (S.state site.old) → LeavesFront self.old.geometry
-            (changes_if (overflows self.old rec.now) log) (S.state site.old) (S.state site.new) }
-        ensures reaches { (log : LogList)
-            → Finds self.old (S.state site.old) → Represents self.old (S.state site.old).image log
-            → OnOk result (Reaches self.old.geometry (changes_if (overflows self.old rec.now) log)
-            (S.state site.old).image (S.state site.new).image) }
-        ensures finds { Finds self.old (S.state site.old) → OnOk result (Finds self.new (S.state site.new)) }
-        ensures fits { Matches self.old (S.state site.old) → OnOk result (Matches self.new (S.state site.new)) }
-        ensures next_block { IsTrue (S.state site.old).honest
-            → KeepsNext result self.old self.new (S.state site.old) (S.state site.new) }
-        ensures outside { IsTrue (S.state site.old).honest
-            → OnOk result (SameOutside (log_shape self.old.geometry)
-            (S.state site.old).image.log (S.state site.new).image.log) }
-        ensures beside { Matches self.old (S.state site.old)
-            → LeavesOnly (S.state site.old) (S.state site.new)
-            (KeepsBeside self.old.geometry (S.state site.old).image) }
-        ensures changes { IsTrue (S.state site.old).honest
-            → ChangesOnly Dev.Log (S.state site.old) (S.state site.new) }
-        ensures quiet { IsTrue (S.state site.old).honest → IsQuiet (S.state site.old)
-            → OnOk result (IsQuiet (S.state site.new)) }
-        ensures past { IsTrue (S.state site.old).honest
-            → OnOk result (length (S.state site.new).past + 5 * self.old.ring.hi
-            ≡ length (S.state site.old).past + 5 * self.new.ring.hi) }
 
         // Of every site.
         ensures lsn { IfOk result (λ lsn. lsn ≡ next_lsn self.old rec.now) }
         ensures rises { IfOk result (λ lsn. (end_of self.old ≤ lsn) × (lsn < end_of self.new)) }
         ensures end { IfOk result (λ lsn. lsn + length (spelling rec.now) ≡ end_of self.new) }
-        ensures next { OnOk result (self.new.ring.hi
-            ≡ (if overflows self.old rec.now then self.old.ring.hi + 1 else self.old.ring.hi)) }
-        ensures at_most_one { (self.old.ring.hi ≤ self.new.ring.hi)
-            × (self.new.ring.hi ≤ self.old.ring.hi + 1) }
-        ensures ended { OnOk result (self.new.ring.ended ≡ self.old.ring.ended) }
-        ensures err { OnErr result (self.new.ring.ended ≡ true) }
-        ensures going { Invariant self.new (S.state site.new) }
-        ensures kept { self.new.kept ≡ self.old.kept }
-        ensures geometry { self.new.geometry ≡ self.old.geometry }
-        ensures goes { Preserves (S.state site.old) (S.state site.new) }
-        ensures faults { WorkFaults result (S.state site.old) (S.state site.new) }
-        ensures reads { SameReads (S.state site.old) (S.state site.new) }
-
-        // When each answer comes.
-        ensures worn { IsErrOf result (Stop.Worn Dev.Log)
-            ↔ ((overflows self.old rec.now ≡ true) × (self.old.ring.hi ≡ 2 ^ 40)) }
         ensures unchanged { (overflows self.old rec.now ≡ false) ⊎ (self.old.ring.hi ≡ 2 ^ 40)
             → site.new ≡ site.old }
-        ensures device { IsErrOf result (Stop.Device Dev.Log)
-            → FaultRose Dev.Log (S.state site.old) (S.state site.new) }
-        ensures stops { IfErr result (λ stop. (stop ≡ Stop.Device Dev.Log)
-            ⊎ (stop ≡ Stop.Worn Dev.Log)) }
     {
         let wanted = self.used + length(rec) > BLOCK_LEN;
         self.seal_if(site, wanted)?;
@@ -221,63 +160,12 @@ impl LogStore {
         requires going { Invariant self.old (S.state site.old) }
         requires room { HasRoom self.old }
 
-        // Of an honest site that the store fits, or whose log it found while ranges of the device are loose.
+        ensures seals { SealsTail result (has_tail self.old) self.old self.new (S.state site.old) (S.state site.new) }
         ensures holds { (log : LogList)
             → Finds self.old (S.state site.old) → Represents self.old (S.state site.old).image log
             → OnOk result (Represents self.new (S.state site.new).image (sealed_if (has_tail self.old) log)) }
-        ensures any_moment { (log : LogList)
-            → Matches self.old (S.state site.old) → Represents self.old (S.state site.old).image log
-            → LeavesOnly (S.state site.old) (S.state site.new)
-            (LeavesLog self.old.geometry (has_tail self.old) log (S.state site.old).told) }
-        ensures front { (log : LogList)
-            → Matches self.old (S.state site.old) → Represents self.old (S.state site.old).image log
-            → IsQuiet (S.state site.old) → LeavesFront self.old.geometry
-            (changes_if (has_tail self.old) log) (S.state site.old) (S.state site.new) }
-        ensures reaches { (log : LogList)
-            → Finds self.old (S.state site.old) → Represents self.old (S.state site.old).image log
-            → OnOk result (Reaches self.old.geometry (changes_if (has_tail self.old) log)
-            (S.state site.old).image (S.state site.new).image) }
-        ensures finds { Finds self.old (S.state site.old) → OnOk result (Finds self.new (S.state site.new)) }
-        ensures fits { Matches self.old (S.state site.old) → OnOk result (Matches self.new (S.state site.new)) }
-        ensures next_block { IsTrue (S.state site.old).honest
-            → KeepsNext result self.old self.new (S.state site.old) (S.state site.new) }
-        ensures outside { IsTrue (S.state site.old).honest
-            → OnOk result (SameOutside (log_shape self.old.geometry)
-            (S.state site.old).image.log (S.state site.new).image.log) }
-        ensures beside { Matches self.old (S.state site.old)
-            → LeavesOnly (S.state site.old) (S.state site.new)
-            (KeepsBeside self.old.geometry (S.state site.old).image) }
-        ensures changes { IsTrue (S.state site.old).honest
-            → ChangesOnly Dev.Log (S.state site.old) (S.state site.new) }
-        ensures quiet { IsTrue (S.state site.old).honest → IsQuiet (S.state site.old)
-            → OnOk result (IsQuiet (S.state site.new)) }
-        ensures past { IsTrue (S.state site.old).honest
-            → OnOk result (length (S.state site.new).past + 5 * self.old.ring.hi
-            ≡ length (S.state site.old).past + 5 * self.new.ring.hi) }
-
-        // Of every site.
         ensures empty { OnOk result (self.new.used ≡ 2) }
-        ensures next { OnOk result (self.new.ring.hi
-            ≡ (if has_tail self.old then self.old.ring.hi + 1 else self.old.ring.hi)) }
-        ensures at_most_one { (self.old.ring.hi ≤ self.new.ring.hi)
-            × (self.new.ring.hi ≤ self.old.ring.hi + 1) }
-        ensures ended { OnOk result (self.new.ring.ended ≡ self.old.ring.ended) }
-        ensures err { OnErr result (self.new.ring.ended ≡ true) }
-        ensures going { Invariant self.new (S.state site.new) }
-        ensures kept { self.new.kept ≡ self.old.kept }
-        ensures geometry { self.new.geometry ≡ self.old.geometry }
-        ensures goes { Preserves (S.state site.old) (S.state site.new) }
-        ensures faults { WorkFaults result (S.state site.old) (S.state site.new) }
-        ensures reads { SameReads (S.state site.old) (S.state site.new) }
-
-        // When each answer comes.
-        ensures worn { IsErrOf result (Stop.Worn Dev.Log)
-            ↔ ((has_tail self.old ≡ true) × (self.old.ring.hi ≡ 2 ^ 40)) }
         ensures unchanged { (has_tail self.old ≡ false) ⊎ (self.old.ring.hi ≡ 2 ^ 40) → site.new ≡ site.old }
-        ensures device { IsErrOf result (Stop.Device Dev.Log)
-            → FaultRose Dev.Log (S.state site.old) (S.state site.new) }
-        ensures stops { IfErr result (λ stop. (stop ≡ Stop.Device Dev.Log)
-            ⊎ (stop ≡ Stop.Worn Dev.Log)) }
     {
         let wanted = self.used > RECORDS_AT;
         self.seal_if(site, wanted)
@@ -289,59 +177,12 @@ impl LogStore {
         requires room { HasRoom self.old }
         requires some { IsTrue wanted → 2 < self.old.used }
 
+        ensures seals { SealsTail result wanted self.old self.new (S.state site.old) (S.state site.new) }
         ensures holds { (log : LogList)
             → Finds self.old (S.state site.old) → Represents self.old (S.state site.old).image log
             → OnOk result (Represents self.new (S.state site.new).image (sealed_if wanted log)) }
-        ensures any_moment { (log : LogList)
-            → Matches self.old (S.state site.old) → Represents self.old (S.state site.old).image log
-            → LeavesOnly (S.state site.old) (S.state site.new)
-            (LeavesLog self.old.geometry wanted log (S.state site.old).told) }
-        ensures front { (log : LogList)
-            → Matches self.old (S.state site.old) → Represents self.old (S.state site.old).image log
-            → IsQuiet (S.state site.old) → LeavesFront self.old.geometry
-            (changes_if wanted log) (S.state site.old) (S.state site.new) }
-        ensures reaches { (log : LogList)
-            → Finds self.old (S.state site.old) → Represents self.old (S.state site.old).image log
-            → OnOk result (Reaches self.old.geometry (changes_if wanted log)
-            (S.state site.old).image (S.state site.new).image) }
-        ensures finds { Finds self.old (S.state site.old) → OnOk result (Finds self.new (S.state site.new)) }
-        ensures fits { Matches self.old (S.state site.old) → OnOk result (Matches self.new (S.state site.new)) }
-        ensures next_block { IsTrue (S.state site.old).honest
-            → KeepsNext result self.old self.new (S.state site.old) (S.state site.new) }
-        ensures outside { IsTrue (S.state site.old).honest
-            → OnOk result (SameOutside (log_shape self.old.geometry)
-            (S.state site.old).image.log (S.state site.new).image.log) }
-        ensures beside { Matches self.old (S.state site.old)
-            → LeavesOnly (S.state site.old) (S.state site.new)
-            (KeepsBeside self.old.geometry (S.state site.old).image) }
-        ensures changes { IsTrue (S.state site.old).honest
-            → ChangesOnly Dev.Log (S.state site.old) (S.state site.new) }
-        ensures quiet { IsTrue (S.state site.old).honest → IsQuiet (S.state site.old)
-            → OnOk result (IsQuiet (S.state site.new)) }
-        ensures past { IsTrue (S.state site.old).honest
-            → OnOk result (length (S.state site.new).past + 5 * self.old.ring.hi
-            ≡ length (S.state site.old).past + 5 * self.new.ring.hi) }
-
         ensures used { OnOk result (self.new.used ≡ (if wanted then 2 else self.old.used)) }
-        ensures next { OnOk result (self.new.ring.hi
-            ≡ (if wanted then self.old.ring.hi + 1 else self.old.ring.hi)) }
-        ensures at_most_one { (self.old.ring.hi ≤ self.new.ring.hi)
-            × (self.new.ring.hi ≤ self.old.ring.hi + 1) }
-        ensures ended { OnOk result (self.new.ring.ended ≡ self.old.ring.ended) }
-        ensures err { OnErr result (self.new.ring.ended ≡ true) }
-        ensures going { Invariant self.new (S.state site.new) }
-        ensures kept { self.new.kept ≡ self.old.kept }
-        ensures geometry { self.new.geometry ≡ self.old.geometry }
-        ensures goes { Preserves (S.state site.old) (S.state site.new) }
-        ensures faults { WorkFaults result (S.state site.old) (S.state site.new) }
-        ensures reads { SameReads (S.state site.old) (S.state site.new) }
-
-        ensures worn { IsErrOf result (Stop.Worn Dev.Log) ↔ ((wanted ≡ true) × (self.old.ring.hi ≡ 2 ^ 40)) }
         ensures unchanged { (wanted ≡ false) ⊎ (self.old.ring.hi ≡ 2 ^ 40) → site.new ≡ site.old }
-        ensures device { IsErrOf result (Stop.Device Dev.Log)
-            → FaultRose Dev.Log (S.state site.old) (S.state site.new) }
-        ensures stops { IfErr result (λ stop. (stop ≡ Stop.Device Dev.Log)
-            ⊎ (stop ≡ Stop.Worn Dev.Log)) }
     {
         if !wanted {
             return Ok(());
@@ -439,15 +280,7 @@ impl LogStore {
             → Finds self.now (S.state site.old) → Represents self.now (S.state site.old).image log
             → 512 * log.first ≤ lsn → IfOk result (λ rec. at_lsn lsn (entries log) ≡ Some rec) }
         ensures form { IfOk result (λ rec. HasForm rec × FitsFields rec) }
-        ensures same { IsTrue (S.state site.old).honest
-            → IsUnchanged (S.state site.old) (S.state site.new) }
-        ensures goes { Preserves (S.state site.old) (S.state site.new) }
-        ensures faults { WorkFaults result (S.state site.old) (S.state site.new) }
-        ensures reads { ReadsMore Dev.Log 511 (S.state site.old) (S.state site.new) }
-
-        // When each answer comes.
-        ensures device { IsErrOf result (Stop.Device Dev.Log)
-            → FaultRose Dev.Log (S.state site.old) (S.state site.new) }
+        ensures reads { ReadsFrom result Dev.Log 1 (S.state site.old) (S.state site.new) }
         ensures foreign { IsErrOf result Stop.Foreign → (log : LogList)
             → Finds self.now (S.state site.old) → Represents self.now (S.state site.old).image log
             → 512 * log.first ≤ lsn → at_lsn lsn (entries log) ≡ None }
@@ -494,15 +327,7 @@ impl LogStore {
             × IsBlock into.new records × (used ≡ used_by records)) }
         ensures within { IfOk result (λ used. (3 ≤ used) × (used ≤ 503)) }
         ensures room { length into.new ≡ 503 }
-        ensures same { IsTrue (S.state site.old).honest
-            → IsUnchanged (S.state site.old) (S.state site.new) }
-        ensures goes { Preserves (S.state site.old) (S.state site.new) }
-        ensures faults { WorkFaults result (S.state site.old) (S.state site.new) }
-        ensures reads { ReadsMore Dev.Log 511 (S.state site.old) (S.state site.new) }
-
-        // When each answer comes.
-        ensures device { IsErrOf result (Stop.Device Dev.Log)
-            → FaultRose Dev.Log (S.state site.old) (S.state site.new) }
+        ensures reads { ReadsFrom result Dev.Log 1 (S.state site.old) (S.state site.new) }
         ensures foreign { IsErrOf result Stop.Foreign → Finds self.now (S.state site.old)
             → (records : List LogRecord)
             → IsBlock (block_on self.now.geometry (S.state site.old).image block) records → ⊥ }

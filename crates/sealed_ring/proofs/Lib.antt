@@ -3,6 +3,7 @@ pub mod Examples
 pub mod Heads
 pub mod Highest
 pub mod InRow
+pub mod Lookups
 pub mod Others
 pub mod Outcome
 pub mod Places

@@ -1,7 +1,10 @@
 -- A ring and the site that it stands on.
-use Rattle.std.specs.Prelude.{◌≡◌, ◌⊎◌, ℕ, ◌+◌, ◌^◌, ◌≤◌, List, length, Result, OnOk}
+use Rattle.std.specs.Prelude.{◌≡◌, ◌⊎◌, ℕ, ◌+◌, ◌^◌, ◌<◌, ◌≤◌, List, length, Result, OnOk, OnErr}
+use Rattle.site.specs.declared.outside.Dev.{Dev}
 use Rattle.site.specs.declared.outside.Failed.{Failed}
 use Rattle.site.specs.State.{State, Snapshot, content_of, IsSettled}
+use Rattle.site.specs.Calls.{Preserves, SameReads}
+use Rattle.site.specs.Faults.{CallFaults}
 use Rattle.site.specs.Moments.{LeavesOnly}
 use Rattle.sealed_ring.specs.declared.slots.Shape.{Shape}
 use Rattle.sealed_ring.specs.declared.ring.Ring.{Ring}
@@ -46,6 +49,19 @@ abbrev pub LeavesOldOrNew : Shape → List ℕ → List ℕ → Snapshot → Typ
 LeavesOldOrNew s old bytes snapshot = OldOrNew s old bytes (region_left s snapshot)
 
 -- within an append, by the number of its unit
+
+-- a unit of this number and content may be put into its slot
+pub record MayAppend (s : Shape) (hi : ℕ) (bytes : List ℕ) (site : State) : Type 0 where
+  pub fits : FitsIn s (length (region s site))
+  pub bounded : hi < 2 ^ 40
+  pub room : length bytes ≡ s.room
+
+-- of every site, what writes and syncs of one device leave, which the first failed one ends
+pub record WritesTo {T : Type 0} (result : Result T Failed) (dev : Dev) (old new : State) : Type 0 where
+  pub goes : Preserves old new
+  pub faults : CallFaults dev result old new
+  pub reads : SameReads old new
+  pub cause : OnErr result (FaultRose dev old new)
 
 -- nothing is loose, and the content is a ring whose next unit is hi
 pub record IsAtRest (s : Shape) (hi : ℕ) (site : State) : Type 0 where

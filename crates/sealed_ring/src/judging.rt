@@ -1,23 +1,14 @@
 // Whether what stands on a device is a ring of the form.
-ghost use Rattle.std.specs.Prelude.{◌≡◌, ◌≢◌, ◌↔◌, ◌+◌, ◌%◌, ◌^◌, ◌<◌, ◌≤◌, length, false, IsTrue, IfOk, IfSome, IfErr};
-ghost use Rattle.sealed_ring.specs.Ring.{FitsIn, gate, number};
+ghost use Rattle.std.specs.Prelude.{◌≡◌, ◌↔◌, ◌+◌, ◌%◌, ◌^◌, ◌<◌, ◌≤◌, length, false, IsTrue, IfOk, IfSome, IfErr};
+ghost use Rattle.sealed_ring.specs.Ring.{FitsIn};
 ghost use Rattle.sealed_ring.specs.Ready.{region, IsUsable};
 ghost use Rattle.site.specs.Work.{OnlyReads};
 ghost use Rattle.sealed_ring.specs.Judged.{Stands, LiveStand, UnusedAreBare, IsJudged};
 
-use crate::ring::Ring;
+use crate::ring::{Head, Ring, read_head};
+use crate::sealing::OPEN;
 use crate::slots::Shape;
-use byte_fields::get_u64;
 use site::{Site, Stop};
-
-// The gate of a unit that counts.
-const OPEN: u8 = 0xA5;
-
-#[derive(Clone, Copy, Debug, PartialEq, Eq, Drop)]
-struct Head {
-    gate: u8,
-    number: u64,
-}
 
 impl Head {
     // Whether the unit `n` of a ring stands behind this head.
@@ -35,28 +26,6 @@ impl Head {
         }
         self.gate == OPEN
     }
-}
-
-// The gate and the number of a slot.
-fn read_head<S: Site>(site: &mut S, shape: Shape, slot: u64) -> Result<Head, Stop>
-    requires fits { FitsIn shape (length (region shape (S.state site.old))) }
-    requires slot { slot < shape.slots }
-    ensures gate { IsTrue (S.state site.old).honest
-        → IfOk result (λ head. head.gate ≡ gate shape (region shape (S.state site.old)) slot) }
-    ensures number { IsTrue (S.state site.old).honest
-        → IfOk result (λ head. head.number ≡ number shape (region shape (S.state site.old)) slot) }
-    ensures reads { OnlyReads result (S.state site.old) (S.state site.new) }
-    ensures stops { IfErr result (λ stop. stop ≡ Stop.Device shape.dev) }
-{
-    let mut head = [0u8; 9];
-    let at = shape.base + slot * shape.stride;
-    let Ok(()) = site.read_at(shape.dev, at, &mut head) else {
-        return Err(Stop::Device(shape.dev));
-    };
-    Ok(Head {
-        gate: head[0],
-        number: get_u64(&head, 1),
-    })
 }
 
 // Whether each live unit of a ring stands in its slot: reads the head of each of their slots once.

@@ -2,10 +2,9 @@
 ghost use Rattle.std.specs.Prelude.{◌≡◌, ◌≢◌, ◌⊎◌, ◌↔◌, ◌+◌, ◌-◌, ◌*◌, ◌/◌, ◌%◌, ◌^◌, ◌<◌, ◌≤◌};
 ghost use Rattle.std.specs.Prelude.{length, take, drop, true, false};
 ghost use Rattle.std.specs.Prelude.{IsTrue, IfOk, OnOk, OnErr, IfErr, IsErrOf};
-ghost use Rattle.site.specs.declared.outside.Dev.{Dev};
-ghost use Rattle.site.specs.State.{reads_of, IsSettled, IsQuiet};
-ghost use Rattle.site.specs.Calls.{Preserves, SameReads, ReadsMore, IsUnchanged};
-ghost use Rattle.site.specs.Faults.{CallFaults, WorkFaults};
+ghost use Rattle.site.specs.State.{IsSettled, IsQuiet};
+ghost use Rattle.site.specs.Calls.{Preserves, SameReads};
+ghost use Rattle.site.specs.Faults.{WorkFaults};
 ghost use Rattle.site.specs.Moments.{LeavesOnly};
 ghost use Rattle.sealed_ring.specs.Ring.{FitsIn, IsRing, SameOutside, Seals, appended, gate, number, first_number};
 ghost use Rattle.sealed_ring.specs.Ring.{unit_at, IsLive};
@@ -13,11 +12,12 @@ ghost use Rattle.sealed_ring.specs.Row.{in_row, HaveContents, HaveNumbers, Stand
 ghost use Rattle.sealed_ring.specs.Near.{IsFirstMissing, IsNear};
 ghost use Rattle.sealed_ring.specs.Ready.{region, units_in, FaultRose, IsUsable, Matches, Finds, IsReady, ChangesOnly};
 ghost use Rattle.sealed_ring.specs.Ready.{LeavesOldOrNew};
+ghost use Rattle.sealed_ring.specs.Reading.{ReadsFrom};
 
 use crate::Shape;
 use crate::sealing::{OPEN, seal};
 use byte_fields::get_u64;
-use site::{Failed, Site, Stop};
+use site::{Site, Stop};
 
 // A ring is worn once it took this many units.
 const HI_MAX: u64 = 1 << 40;
@@ -47,26 +47,16 @@ impl Ring {
         ensures closed { IsTrue (S.state site.old).honest
             → IfOk result (λ ring.
             gate shape (region shape (S.state site.old)) (ring.hi % shape.slots) ≢ 165) }
-        ensures same { IsTrue (S.state site.old).honest
-            → IsUnchanged (S.state site.old) (S.state site.new) }
-        ensures goes { Preserves (S.state site.old) (S.state site.new) }
-        ensures faults { WorkFaults result (S.state site.old) (S.state site.new) }
-        ensures reads { reads_of shape.dev (S.state site.new)
-            ≤ reads_of shape.dev (S.state site.old) + (shape.slots + 1) }
-        ensures others { (d : Dev) → d ≢ shape.dev
-            → reads_of d (S.state site.new) ≡ reads_of d (S.state site.old) }
-
-        // When each answer comes.
-        ensures device { IsErrOf result (Stop.Device shape.dev)
-            → FaultRose shape.dev (S.state site.old) (S.state site.new) }
+        ensures reads { ReadsFrom result shape.dev (shape.slots + 1) (S.state site.old) (S.state site.new) }
         ensures foreign { IsErrOf result Stop.Foreign → IsTrue (S.state site.old).honest
             → IsRing shape (region shape (S.state site.old)) → ⊥ }
         ensures stops { IfErr result (λ e. (e ≡ Stop.Device shape.dev) ⊎ (e ≡ Stop.Foreign)) }
     {
         let mut hi = 0;
         for slot in 0..shape.slots {
-            let Ok(head) = read_head(site, shape, slot) else {
-                return Err(Stop::Device(shape.dev));
+            let head = match read_head(site, shape, slot) {
+                Ok(head) => head,
+                Err(stop) => return Err(stop),
             };
             if head.gate == OPEN && head.number % shape.slots == slot {
                 if head.number >= HI_MAX {
@@ -75,8 +65,9 @@ impl Ring {
                 hi = hi.max(head.number + 1);
             }
         }
-        let Ok(head) = read_head(site, shape, hi % shape.slots) else {
-            return Err(Stop::Device(shape.dev));
+        let head = match read_head(site, shape, hi % shape.slots) {
+            Ok(head) => head,
+            Err(stop) => return Err(stop),
         };
         if head.gate == OPEN {
             return Err(Stop::Foreign);
@@ -106,25 +97,15 @@ impl Ring {
         ensures fits { IsTrue (S.state site.old).honest
             → IsNear shape (region shape (S.state site.old)) first
             → IfOk result (λ ring. Matches ring (S.state site.new)) }
-        ensures same { IsTrue (S.state site.old).honest
-            → IsUnchanged (S.state site.old) (S.state site.new) }
-        ensures goes { Preserves (S.state site.old) (S.state site.new) }
-        ensures faults { WorkFaults result (S.state site.old) (S.state site.new) }
-        ensures reads { reads_of shape.dev (S.state site.new)
-            ≤ reads_of shape.dev (S.state site.old) + 5 }
-        ensures others { (d : Dev) → d ≢ shape.dev
-            → reads_of d (S.state site.new) ≡ reads_of d (S.state site.old) }
-
-        // When each answer comes.
-        ensures device { IsErrOf result (Stop.Device shape.dev)
-            → FaultRose shape.dev (S.state site.old) (S.state site.new) }
+        ensures reads { ReadsFrom result shape.dev 5 (S.state site.old) (S.state site.new) }
         ensures foreign { IsErrOf result Stop.Foreign → IsTrue (S.state site.old).honest
             → IsNear shape (region shape (S.state site.old)) first → ⊥ }
         ensures stops { IfErr result (λ e. (e ≡ Stop.Device shape.dev) ⊎ (e ≡ Stop.Foreign)) }
     {
         for hi in first..first + 5 {
-            let Ok(head) = read_head(site, shape, hi % shape.slots) else {
-                return Err(Stop::Device(shape.dev));
+            let head = match read_head(site, shape, hi % shape.slots) {
+                Ok(head) => head,
+                Err(stop) => return Err(stop),
             };
             if head.gate != OPEN {
                 return Ok(Ring {
@@ -176,15 +157,8 @@ impl Ring {
         ensures unit { IsTrue (S.state site.old).honest → Matches self.now (S.state site.old)
             → OnOk result (drop 8 into.new
             ≡ take (length into.old - 8) (unit_at self.now.shape (units_in self.now.shape (S.state site.old)) n)) }
-        ensures same { IsTrue (S.state site.old).honest
-            → IsUnchanged (S.state site.old) (S.state site.new) }
-        ensures goes { Preserves (S.state site.old) (S.state site.new) }
-        ensures faults { WorkFaults result (S.state site.old) (S.state site.new) }
-        ensures reads { ReadsMore self.now.shape.dev (length into.old) (S.state site.old) (S.state site.new) }
-
-        // When each answer comes.
-        ensures device { IsErrOf result (Stop.Device self.now.shape.dev)
-            → FaultRose self.now.shape.dev (S.state site.old) (S.state site.new) }
+        ensures reads { ReadsFrom result self.now.shape.dev ((length into.old + 4095) / 4096)
+            (S.state site.old) (S.state site.new) }
         ensures read_foreign { IsErrOf result Stop.Foreign → first_number into.new ≢ n }
         ensures read_own { OnOk result (first_number into.new ≡ n) }
         ensures foreign { IsErrOf result Stop.Foreign → IsTrue (S.state site.old).honest
@@ -218,17 +192,9 @@ impl Ring {
         ensures units { IsTrue (S.state site.old).honest → Matches self.now (S.state site.old)
             → IfOk result (λ count.
             HaveContents self.now.shape (units_in self.now.shape (S.state site.old)) n count into.new) }
-        ensures same { IsTrue (S.state site.old).honest
-            → IsUnchanged (S.state site.old) (S.state site.new) }
-        ensures goes { Preserves (S.state site.old) (S.state site.new) }
-        ensures faults { WorkFaults result (S.state site.old) (S.state site.new) }
-        ensures reads { ReadsMore self.now.shape.dev
-            (in_row self.now.shape self.now.hi n (length into.old / self.now.shape.stride) * self.now.shape.stride)
-            (S.state site.old) (S.state site.new) }
-
-        // When each answer comes.
-        ensures device { IsErrOf result (Stop.Device self.now.shape.dev)
-            → FaultRose self.now.shape.dev (S.state site.old) (S.state site.new) }
+        ensures reads { ReadsFrom result self.now.shape.dev
+            ((in_row self.now.shape self.now.hi n (length into.old / self.now.shape.stride) * self.now.shape.stride
+            + 4095) / 4096) (S.state site.old) (S.state site.new) }
         ensures read_foreign { IsErrOf result Stop.Foreign → HaveNumbers self.now.shape n
             (in_row self.now.shape self.now.hi n (length into.old / self.now.shape.stride)) into.new → ⊥ }
         ensures read_own { IfOk result (λ count. HaveNumbers self.now.shape n count into.new) }
@@ -279,15 +245,8 @@ impl Ring {
         ensures part { IsTrue (S.state site.old).honest → Matches self.now (S.state site.old)
             → OnOk result (into.new ≡ take (length into.old) (drop at
             (unit_at self.now.shape (units_in self.now.shape (S.state site.old)) n))) }
-        ensures same { IsTrue (S.state site.old).honest
-            → IsUnchanged (S.state site.old) (S.state site.new) }
-        ensures goes { Preserves (S.state site.old) (S.state site.new) }
-        ensures faults { WorkFaults result (S.state site.old) (S.state site.new) }
-        ensures reads { ReadsMore self.now.shape.dev (length into.old) (S.state site.old) (S.state site.new) }
-
-        // When the error comes.
-        ensures device { OnErr result
-            (FaultRose self.now.shape.dev (S.state site.old) (S.state site.new)) }
+        ensures reads { ReadsFrom result self.now.shape.dev ((length into.old + 4095) / 4096)
+            (S.state site.old) (S.state site.new) }
         ensures stops { IfErr result (λ e. e ≡ Stop.Device self.now.shape.dev) }
     {
         let shape = self.shape;
@@ -382,32 +341,29 @@ fn have_numbers(slots: &[u8], shape: Shape, n: u64, count: u64) -> bool
     true
 }
 
+/// The gate and the number of a slot.
 #[derive(Clone, Copy, Debug, PartialEq, Eq, Drop)]
-struct Head {
-    gate: u8,
-    number: u64,
+pub struct Head {
+    pub gate: u8,
+    pub number: u64,
 }
 
-// The gate and the number of a slot.
-fn read_head<S: Site>(site: &mut S, shape: Shape, slot: u64) -> Result<Head, Failed>
+/// Reads the gate and the number of a slot. The one error is that of the ring's device.
+pub fn read_head<S: Site>(site: &mut S, shape: Shape, slot: u64) -> Result<Head, Stop>
     requires fits { FitsIn shape (length (region shape (S.state site.old))) }
     requires slot { slot < shape.slots }
     ensures gate { IsTrue (S.state site.old).honest
         → IfOk result (λ head. head.gate ≡ gate shape (region shape (S.state site.old)) slot) }
     ensures number { IsTrue (S.state site.old).honest
         → IfOk result (λ head. head.number ≡ number shape (region shape (S.state site.old)) slot) }
-    ensures same { IsTrue (S.state site.old).honest
-        → IsUnchanged (S.state site.old) (S.state site.new) }
-    ensures goes { Preserves (S.state site.old) (S.state site.new) }
-    ensures faults { CallFaults shape.dev result (S.state site.old) (S.state site.new) }
-    ensures reads { reads_of shape.dev (S.state site.new)
-        ≤ reads_of shape.dev (S.state site.old) + 1 }
-    ensures others { (d : Dev) → d ≢ shape.dev
-        → reads_of d (S.state site.new) ≡ reads_of d (S.state site.old) }
-    ensures cause { OnErr result (FaultRose shape.dev (S.state site.old) (S.state site.new)) }
+    ensures reads { ReadsFrom result shape.dev 1 (S.state site.old) (S.state site.new) }
+    ensures stops { IfErr result (λ stop. stop ≡ Stop.Device shape.dev) }
 {
     let mut head = [0u8; 9];
-    site.read_at(shape.dev, shape.base + slot * shape.stride, &mut head)?;
+    let at = shape.base + slot * shape.stride;
+    let Ok(()) = site.read_at(shape.dev, at, &mut head) else {
+        return Err(Stop::Device(shape.dev));
+    };
     Ok(Head {
         gate: head[0],
         number: get_u64(&head, 1),

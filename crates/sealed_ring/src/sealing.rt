@@ -1,12 +1,11 @@
 // A unit is written behind its closed gate and synced; then the gate is opened and synced.
-ghost use Rattle.std.specs.Prelude.{◌≡◌, ◌+◌, ◌^◌, ◌++◌, ◌<◌, ◌≤◌, length, IsTrue, OnOk, OnErr};
+ghost use Rattle.std.specs.Prelude.{◌≡◌, ◌+◌, ◌^◌, ◌++◌, ◌<◌, ◌≤◌, length, IsTrue, OnOk};
 ghost use Rattle.std.specs.Int.{to_be_bytes, w64};
 ghost use Rattle.site.specs.State.{IsSettled};
-ghost use Rattle.site.specs.Calls.{Preserves, SameReads};
-ghost use Rattle.site.specs.Faults.{CallFaults};
 ghost use Rattle.site.specs.Moments.{LeavesOnly};
 ghost use Rattle.sealed_ring.specs.Ring.{FitsIn, IsStaged, Opens};
-ghost use Rattle.sealed_ring.specs.Ready.{region, FaultRose, ChangesOnly, LeavesEither, HasStaged, HasSealed};
+ghost use Rattle.sealed_ring.specs.Ready.{region, ChangesOnly, LeavesEither, HasStaged, HasSealed};
+ghost use Rattle.sealed_ring.specs.Ready.{MayAppend, WritesTo};
 
 use crate::Shape;
 use byte_fields::put_u64;
@@ -22,16 +21,11 @@ const SHORT_ROOM: u64 = 512;
 
 // Appends the unit `hi`.
 pub fn seal<S: Site>(site: &mut S, shape: Shape, hi: u64, content: &[u8]) -> Result<(), Failed>
-    requires fits { FitsIn shape (length (region shape (S.state site.old))) }
-    requires bounded { hi < 2 ^ 40 }
-    requires room { length content.now ≡ shape.room }
+    requires { MayAppend shape hi content.now (S.state site.old) }
 
     ensures sealed { IsTrue (S.state site.old).honest
         → HasSealed shape hi content.now (S.state site.old) (S.state site.new) result }
-    ensures goes { Preserves (S.state site.old) (S.state site.new) }
-    ensures faults { CallFaults shape.dev result (S.state site.old) (S.state site.new) }
-    ensures reads { SameReads (S.state site.old) (S.state site.new) }
-    ensures cause { OnErr result (FaultRose shape.dev (S.state site.old) (S.state site.new)) }
+    ensures writes { WritesTo result shape.dev (S.state site.old) (S.state site.new) }
 {
     stage(site, shape, hi, content)?;
     open(site, shape, hi)
@@ -39,16 +33,11 @@ pub fn seal<S: Site>(site: &mut S, shape: Shape, hi: u64, content: &[u8]) -> Res
 
 // Puts the unit `hi` behind its closed gate, and closes the next gate, by a buffer that is long enough.
 fn stage<S: Site>(site: &mut S, shape: Shape, hi: u64, content: &[u8]) -> Result<(), Failed>
-    requires fits { FitsIn shape (length (region shape (S.state site.old))) }
-    requires bounded { hi < 2 ^ 40 }
-    requires room { length content.now ≡ shape.room }
+    requires { MayAppend shape hi content.now (S.state site.old) }
 
     ensures staged { IsTrue (S.state site.old).honest
         → HasStaged shape hi content.now (S.state site.old) (S.state site.new) result }
-    ensures goes { Preserves (S.state site.old) (S.state site.new) }
-    ensures faults { CallFaults shape.dev result (S.state site.old) (S.state site.new) }
-    ensures reads { SameReads (S.state site.old) (S.state site.new) }
-    ensures cause { OnErr result (FaultRose shape.dev (S.state site.old) (S.state site.new)) }
+    ensures writes { WritesTo result shape.dev (S.state site.old) (S.state site.new) }
 {
     if shape.room <= SHORT_ROOM {
         stage_short(site, shape, hi, content)
@@ -59,17 +48,12 @@ fn stage<S: Site>(site: &mut S, shape: Shape, hi: u64, content: &[u8]) -> Result
 
 #[inline(never)]
 fn stage_short<S: Site>(site: &mut S, shape: Shape, hi: u64, content: &[u8]) -> Result<(), Failed>
-    requires fits { FitsIn shape (length (region shape (S.state site.old))) }
-    requires bounded { hi < 2 ^ 40 }
-    requires room { length content.now ≡ shape.room }
+    requires may { MayAppend shape hi content.now (S.state site.old) }
     requires short { shape.room ≤ SHORT_ROOM }
 
     ensures staged { IsTrue (S.state site.old).honest
         → HasStaged shape hi content.now (S.state site.old) (S.state site.new) result }
-    ensures goes { Preserves (S.state site.old) (S.state site.new) }
-    ensures faults { CallFaults shape.dev result (S.state site.old) (S.state site.new) }
-    ensures reads { SameReads (S.state site.old) (S.state site.new) }
-    ensures cause { OnErr result (FaultRose shape.dev (S.state site.old) (S.state site.new)) }
+    ensures writes { WritesTo result shape.dev (S.state site.old) (S.state site.new) }
 {
     let mut buffer = [0u8; 520];
     stage_by(site, shape, hi, content, &mut buffer[..8 + content.len()])
@@ -77,16 +61,11 @@ fn stage_short<S: Site>(site: &mut S, shape: Shape, hi: u64, content: &[u8]) -> 
 
 #[inline(never)]
 fn stage_long<S: Site>(site: &mut S, shape: Shape, hi: u64, content: &[u8]) -> Result<(), Failed>
-    requires fits { FitsIn shape (length (region shape (S.state site.old))) }
-    requires bounded { hi < 2 ^ 40 }
-    requires room { length content.now ≡ shape.room }
+    requires { MayAppend shape hi content.now (S.state site.old) }
 
     ensures staged { IsTrue (S.state site.old).honest
         → HasStaged shape hi content.now (S.state site.old) (S.state site.new) result }
-    ensures goes { Preserves (S.state site.old) (S.state site.new) }
-    ensures faults { CallFaults shape.dev result (S.state site.old) (S.state site.new) }
-    ensures reads { SameReads (S.state site.old) (S.state site.new) }
-    ensures cause { OnErr result (FaultRose shape.dev (S.state site.old) (S.state site.new)) }
+    ensures writes { WritesTo result shape.dev (S.state site.old) (S.state site.new) }
 {
     let mut buffer = [0u8; 32_904];
     stage_by(site, shape, hi, content, &mut buffer[..8 + content.len()])
@@ -100,17 +79,12 @@ fn stage_by<S: Site>(
     content: &[u8],
     buffer: &mut [u8],
 ) -> Result<(), Failed>
-    requires fits { FitsIn shape (length (region shape (S.state site.old))) }
-    requires bounded { hi < 2 ^ 40 }
-    requires room { length content.now ≡ shape.room }
+    requires may { MayAppend shape hi content.now (S.state site.old) }
     requires buffer { length buffer.old ≡ 8 + shape.room }
 
     ensures staged { IsTrue (S.state site.old).honest
         → HasStaged shape hi content.now (S.state site.old) (S.state site.new) result }
-    ensures goes { Preserves (S.state site.old) (S.state site.new) }
-    ensures faults { CallFaults shape.dev result (S.state site.old) (S.state site.new) }
-    ensures reads { SameReads (S.state site.old) (S.state site.new) }
-    ensures cause { OnErr result (FaultRose shape.dev (S.state site.old) (S.state site.new)) }
+    ensures writes { WritesTo result shape.dev (S.state site.old) (S.state site.new) }
 {
     let slot = shape.base + hi % shape.slots * shape.stride;
     let next = shape.base + (hi + 1) % shape.slots * shape.stride;
@@ -148,10 +122,7 @@ fn open<S: Site>(site: &mut S, shape: Shape, hi: u64) -> Result<(), Failed>
         → OnOk result (IsSettled shape.dev (S.state site.new)) }
     ensures past { IsTrue (S.state site.old).honest
         → OnOk result (length (S.state site.new).past ≡ length (S.state site.old).past + 2) }
-    ensures goes { Preserves (S.state site.old) (S.state site.new) }
-    ensures faults { CallFaults shape.dev result (S.state site.old) (S.state site.new) }
-    ensures reads { SameReads (S.state site.old) (S.state site.new) }
-    ensures cause { OnErr result (FaultRose shape.dev (S.state site.old) (S.state site.new)) }
+    ensures writes { WritesTo result shape.dev (S.state site.old) (S.state site.new) }
 {
     let slot = shape.base + hi % shape.slots * shape.stride;
     site.write_at(shape.dev, slot, &[OPEN])?;

@@ -3,7 +3,6 @@ use Rattle.std.proofs.Common.{◌≡◌, ◌≢◌, inl, inr, ℕ, ◌+◌, ◌*
 use Rattle.std.proofs.lemmas.Bool.{cases_lt, or_from}
 use Rattle.std.proofs.lemmas.List.{length-append, get_or_default}
 use Rattle.std.specs.List.{All, AllPairs, Contains}
-use Rattle.std.specs.Prelude.{Result, Ok, Err, OnErr}
 use Rattle.site.specs.declared.outside.Dev.TheVariants.{Disk}
 use Rattle.site.specs.State.{State, Snapshot, Range, MayLeave, content_of, loose_of, is_loose, is_within, now_of}
 use Rattle.site.specs.Calls.{range, Lies, Adds}
@@ -95,7 +94,3 @@ module _ (pages : List ℕ) (contents : List (List ℕ)) (n : ℕ) (old mid new 
 
       own : (k : ℕ) → k ≡ n → page_on (get_or pages k 0) new.image.disk ≡ get_or contents k []
       own k is = ap (λ (m : ℕ). page_on (get_or pages m 0) new.image.disk) is ∙ ap (page_on page) disk ∙ page_written.here ∙ ap (λ (m : ℕ). get_or contents m []) (sym is)
-
-pub on_err_weaker : {T E : Type 0} (r : Result T E) {P Q : Type 0} → (P → Q) → OnErr r P → OnErr r Q
-on_err_weaker (Ok x) f p = tt
-on_err_weaker (Err e) f p = f p

@@ -1,14 +1,13 @@
 // Pages are written one after the other, and then the disk is synced once.
-ghost use Rattle.std.specs.Prelude.{◌≡◌, ◌≢◌, ◌+◌, ◌<◌, length, get_or, [], IsTrue, IfErr, OnOk, OnErr, IsOk};
+ghost use Rattle.std.specs.Prelude.{◌≡◌, ◌≢◌, ◌+◌, ◌<◌, length, get_or, [], IsTrue, OnOk, IsOk};
 ghost use Rattle.std.specs.List.{All, AllPairs};
 ghost use Rattle.site.specs.declared.geometry.Geometry.{Geometry};
 ghost use Rattle.site.specs.declared.outside.Dev.{Dev};
 ghost use Rattle.site.specs.declared.outside.Stop.{Stop};
 ghost use Rattle.site.specs.Geometry.{HasLengths};
 ghost use Rattle.site.specs.State.{IsSettled, IsQuiet};
-ghost use Rattle.site.specs.Calls.{Preserves, SameReads, FaultRose};
-ghost use Rattle.site.specs.Faults.{WorkFaults};
 ghost use Rattle.site.specs.Moments.{LeavesOnly, ChangesOnly};
+ghost use Rattle.disk_pages.specs.Calls.{WritesDisk};
 ghost use Rattle.disk_pages.specs.Pages.{LiesOn};
 ghost use Rattle.image_changes.specs.Changes.{Reaches};
 ghost use Rattle.image_changes.specs.Reached.{LeavesFront};
@@ -47,13 +46,7 @@ pub fn stage<S: Site>(site: &mut S, pages: &[u32], contents: &[Page]) -> Result<
 
     // Of every site.
     ensures none { pages.now ≡ [] → (site.new ≡ site.old) × IsOk result }
-    ensures goes { Preserves (S.state site.old) (S.state site.new) }
-    ensures faults { WorkFaults result (S.state site.old) (S.state site.new) }
-    ensures reads { SameReads (S.state site.old) (S.state site.new) }
-
-    // When the error comes.
-    ensures device { OnErr result (FaultRose Dev.Disk (S.state site.old) (S.state site.new)) }
-    ensures stops { IfErr result (λ stop. stop ≡ Stop.Device Dev.Disk) }
+    ensures writes { WritesDisk result (S.state site.old) (S.state site.new) }
 {
     if pages.is_empty() {
         return Ok(());
@@ -81,11 +74,7 @@ fn write_all<S: Site>(site: &mut S, pages: &[u32], contents: &[Page]) -> Result<
         → HasLeft pages.now (S.state site.old) (S.state site.new) }
     ensures written { IsTrue (S.state site.old).honest → OnOk result (HasWritten pages.now contents.now
         (length pages.now) (S.state site.old) (S.state site.new)) }
-    ensures goes { Preserves (S.state site.old) (S.state site.new) }
-    ensures faults { WorkFaults result (S.state site.old) (S.state site.new) }
-    ensures reads { SameReads (S.state site.old) (S.state site.new) }
-    ensures device { OnErr result (FaultRose Dev.Disk (S.state site.old) (S.state site.new)) }
-    ensures stops { IfErr result (λ stop. stop ≡ Stop.Device Dev.Disk) }
+    ensures writes { WritesDisk result (S.state site.old) (S.state site.new) }
 {
     for place in 0..pages.len() {
         match write_page(site, pages[place], octets_at(contents, place)) {

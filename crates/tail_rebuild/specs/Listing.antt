@@ -1,13 +1,11 @@
 -- Lists of heads, as they are read one group after the other.
-use Rattle.std.specs.Prelude.{◌≡◌, ◌≢◌, ◌⊎◌, ℕ, ◌+◌, ◌-◌, ◌*◌, ◌≤◌, ◌<◌, max, IsTrue, List, []}
-use Rattle.std.specs.Prelude.{length, take, drop, slice_index_or, Result, IfErr, IsErrOf}
-use Rattle.site.specs.declared.outside.Dev.{Dev}
+use Rattle.std.specs.Prelude.{◌≡◌, ◌⊎◌, ℕ, ◌+◌, ◌-◌, ◌*◌, ◌≤◌, ◌<◌, max, List, []}
+use Rattle.std.specs.Prelude.{length, take, drop, slice_index_or, Result, IfErr}
 use Rattle.site.specs.declared.outside.Dev.TheVariants.{Flash}
 use Rattle.site.specs.declared.outside.Stop.{Stop}
 use Rattle.site.specs.declared.outside.Stop.TheVariants.{Device, Memory, Foreign}
-use Rattle.site.specs.State.{State, reads_of}
-use Rattle.site.specs.Calls.{Preserves, FaultRose, IsUnchanged}
-use Rattle.site.specs.Faults.{WorkFaults}
+use Rattle.site.specs.State.{State}
+use Rattle.sealed_ring.specs.Reading.{ReadsFrom}
 use Rattle.byte_fields.specs.declared.frame_head.FrameHead.{FrameHead}
 use Rattle.byte_fields.specs.FrameHeads.{AreGroupHeads}
 use Rattle.meta_segments.specs.Segments.{heads_of_group, IsSegment}
@@ -37,14 +35,9 @@ abbrev pub RowGoesOn : (ℕ → List FrameHead) → ℕ → ℕ → ℕ → List
 RowGoesOn each count first segment all = (i : ℕ) → i < count
     → GoesOnWith (each i) (first - 4 * (segment + i)) all (max first (4 * (segment + i)) - first)
 
--- What a call that only reads the flash leaves: of an honest site nothing changes but counts, and of each site at most
--- n flash reads are made and no other; an error is that of the flash, want of memory, or content that isn't of the
--- form.
+-- What a call that only reads the flash leaves, by at most n reads: an error is that of the flash, want of memory, or
+-- content that isn't of the form.
 pub record ReadsFlash {T : Type 0} (result : Result T Stop) (n : ℕ) (old new : State) : Type 0 where
-  pub same : IsTrue old.honest → IsUnchanged old new
-  pub goes : Preserves old new
-  pub faults : WorkFaults result old new
-  pub reads : new.flash_reads ≤ old.flash_reads + n
-  pub others : (d : Dev) → d ≢ Flash → reads_of d new ≡ reads_of d old
-  pub device : IsErrOf result (Device Flash) → FaultRose Flash old new
+  pub from : ReadsFrom result Flash n old new
+  pub open from use *
   pub stops : IfErr result (λ stop. (stop ≡ Device Flash) ⊎ ((stop ≡ Memory) ⊎ (stop ≡ Foreign)))

@@ -29,25 +29,25 @@ returns-in-Err-start-clause-readable g c honest newest blocks sound is =
     let old = g.S.Site.state c.args.site.now in
     let mid = g.S.Site.state c.start.new.site in
     let k = c.args.geometry.now in
-    let there = subst (AreOctetsSoundUnder newest k) (sym (c.start.ensures.same honest).image) sound.octets in
-    c.in-Err-start.ensures.foreign (err_again c.in-Err-start.stop Foreign is) (stays_honest old mid c.start.ensures.goes honest) (first_on k mid.image) (groups_on k mid.image) (has_groups k mid.image there.groups) there.segments
+    let there = subst (AreOctetsSoundUnder newest k) (sym (c.start.ensures.reads.same honest).image) sound.octets in
+    c.in-Err-start.ensures.foreign (err_again c.in-Err-start.stop Foreign is) (stays_honest old mid c.start.ensures.reads.goes honest) (first_on k mid.image) (groups_on k mid.image) (has_groups k mid.image there.groups) there.segments
 
 -- Behind all that it reads.
 module _ (g : Over) (c : After-newest g) (honest : IsTrue (g.S.Site.state c.args.site.now).honest) where
   honest_mid : IsTrue (g.S.Site.state c.start.new.site).honest
-  honest_mid = stays_honest (g.S.Site.state c.args.site.now) (g.S.Site.state c.start.new.site) c.start.ensures.goes honest
+  honest_mid = stays_honest (g.S.Site.state c.args.site.now) (g.S.Site.state c.start.new.site) c.start.ensures.reads.goes honest
 
   honest_found : IsTrue (g.S.Site.state c.start-2.new.site).honest
   honest_found = stays_honest (g.S.Site.state c.start.new.site) (g.S.Site.state c.start-2.new.site) c.start-2.ensures.goes honest_mid
 
   unchanged : IsUnchanged (g.S.Site.state c.args.site.now) (g.S.Site.state c.newest.new.site)
-  unchanged = unchanged_in_sequence _ _ _ (c.start.ensures.same honest)
-      (unchanged_in_sequence _ _ _ (c.start-2.ensures.same honest_mid) (c.newest.ensures.same honest_found))
+  unchanged = unchanged_in_sequence _ _ _ (c.start.ensures.reads.same honest)
+      (unchanged_in_sequence _ _ _ (c.start-2.ensures.same honest_mid) (c.newest.ensures.reads.same honest_found))
 
   there : (newest : Option Master) → AreOctetsSoundUnder newest c.args.geometry.now (g.S.Site.state c.args.site.now).image →
       AreOctetsSoundUnder newest c.args.geometry.now (g.S.Site.state c.start-2.new.site).image
   there newest octets = subst (AreOctetsSoundUnder newest c.args.geometry.now)
-      (sym (c.start.ensures.same honest).image ∙ sym (c.start-2.ensures.same honest_mid).image) octets
+      (sym (c.start.ensures.reads.same honest).image ∙ sym (c.start-2.ensures.same honest_mid).image) octets
 
 -- the newest master's kept block is live or the next one
 kept_lives : (newest : Option Master) (k : Geometry) (image : Image) (blocks : List (List LogRecord)) (log : LogStore) (m : Master) → IsSound newest k image blocks → m ≡ saved_by newest → log.ring.hi ≡ hi_of (log_shape k) image.log →
@@ -64,7 +64,7 @@ returns-in-Ok-keep_from-clause-ready g c honest newest blocks table commits soun
     let new = g.S.Site.state c.newest.new.site in
     let k = c.args.geometry.now in
     let s = (goal.at.returns-in-Ok-keep_from-clause-ready g c).After-newest in
-    let same_first = c.start.ensures.same honest in
+    let same_first = c.start.ensures.reads.same honest in
     let honest_mid = honest_mid g s honest in
     let honest_found = honest_found g s honest in
     let there_mid = subst (AreOctetsSoundUnder newest k) (sym same_first.image) sound.octets in
@@ -74,8 +74,8 @@ returns-in-Ok-keep_from-clause-ready g c honest newest blocks table commits soun
     let keeps = c.in-Ok-keep_from.ensures.keeps in
     let finds = subst (λ (log : LogStore). log_store.Finds log mid) (sym keeps) (record { honest = (c.in-Ok.ensures.found honest sound.held.form).honest; form = (c.in-Ok.ensures.found honest sound.held.form).form; hi = (c.in-Ok.ensures.found honest sound.held.form).hi }) in
     let held = c.in-Ok.ensures.holds honest (kept_by newest) blocks sound.held in
-    ready_now c.stays_beside.ensures.fits k c.keep_from.new.log c.in-Ok-start.pages old mid found new c.start.ensures.goes same_first c.start-2.ensures.goes
-    (c.start-2.ensures.same honest_mid) c.newest.ensures.goes (c.newest.ensures.same honest_found)
+    ready_now c.stays_beside.ensures.fits k c.keep_from.new.log c.in-Ok-start.pages old mid found new c.start.ensures.reads.goes same_first c.start-2.ensures.goes
+    (c.start-2.ensures.same honest_mid) c.newest.ensures.reads.goes (c.newest.ensures.reads.same honest_found)
     c.in-Ok-newest.masters master newest blocks table commits c.in-Ok-start.ensures.geometry c.in-Ok-start.ensures.empty (ap (λ (log : LogStore). log.kept) keeps) is
     (c.in-Ok-start.ensures.fits honest_mid (first_on k mid.image) (groups_on k mid.image)
     (has_groups k mid.image there_mid.groups) there_mid.segments there_mid.clean there_mid.versions)
@@ -85,11 +85,11 @@ returns-in-Ok-keep_from-clause-ready g c honest newest blocks table commits soun
 
 pub returns-in-Ok-keep_from-clause-goes : goal.returns-in-Ok-keep_from-clause-goes
 returns-in-Ok-keep_from-clause-goes g c =
-    goes_in_sequence (g.S.Site.state c.args.site.now) _ _ c.start.ensures.goes (goes_in_sequence _ _ _ c.start-2.ensures.goes c.newest.ensures.goes)
+    goes_in_sequence (g.S.Site.state c.args.site.now) _ _ c.start.ensures.reads.goes (goes_in_sequence _ _ _ c.start-2.ensures.goes c.newest.ensures.reads.goes)
 
 pub returns-in-Ok-keep_from-clause-going : goal.returns-in-Ok-keep_from-clause-going
 returns-in-Ok-keep_from-clause-going g c = record {
-  going = both_go_on c.stays_beside.ensures.going c.keep_from.new.log c.in-Ok-start.pages (g.S.Site.state c.start.new.site) (g.S.Site.state c.start-2.new.site) (g.S.Site.state c.newest.new.site) c.start-2.ensures.goes c.newest.ensures.goes
+  going = both_go_on c.stays_beside.ensures.going c.keep_from.new.log c.in-Ok-start.pages (g.S.Site.state c.start.new.site) (g.S.Site.state c.start-2.new.site) (g.S.Site.state c.newest.new.site) c.start-2.ensures.goes c.newest.ensures.reads.goes
       (c.in-Ok-keep_from.ensures.going (g.S.Site.state c.start.new.site) c.in-Ok.ensures.going) c.in-Ok-start.ensures.going
       (ap (λ (log : LogStore). log.geometry) c.in-Ok-keep_from.ensures.keeps ∙ c.in-Ok.ensures.geometry ∙ sym c.in-Ok-start.ensures.geometry) (ap (λ (log : LogStore). log.used) c.in-Ok-keep_from.ensures.keeps ∙ c.in-Ok.ensures.empty);
   ascend = c.in-Ok-newest.ensures.ascend;
@@ -110,7 +110,7 @@ returns-in-Err-keep_from-clause-readable g c honest newest blocks sound is =
     let finds = c.in-Ok.ensures.found honest sound.held.form in
     let hi : c.in-Ok.log.ring.hi ≡ hi_of (log_shape k) old.image.log = finds.hi ∙ ap
     (λ (x : Geometry). hi_of (log_shape x) (g.S.Site.state c.start.new.site).image.log) c.in-Ok.ensures.geometry ∙ ap (λ (i : Image). hi_of (log_shape k) i.log)
-    (c.start.ensures.same honest).image in
+    (c.start.ensures.reads.same honest).image in
     let lives = kept_lives newest k old.image blocks c.in-Ok.log master sound master_is hi c.in-Ok.ensures.kept in
     c.in-Err-keep_from.ensures.live lives.0 lives.1
 
@@ -127,39 +127,39 @@ returns-in-Ok-keep_from-clause-cache g c honest newest blocks sound =
     let old = g.S.Site.state c.args.site.now in
     let mid = g.S.Site.state c.start.new.site in
     let k = c.args.geometry.now in
-    let same = (c.start.ensures.same honest).image in
+    let same = (c.start.ensures.reads.same honest).image in
     let there = subst (AreOctetsSoundUnder newest k) (sym same) sound.octets in
-    c.in-Ok-start.ensures.machine (stays_honest old mid c.start.ensures.goes honest) (first_on k mid.image) (groups_on k mid.image) (has_groups k mid.image there.groups) there.segments ∙ ap (λ (image : Image). cache_on k image) same
+    c.in-Ok-start.ensures.machine (stays_honest old mid c.start.ensures.reads.goes honest) (first_on k mid.image) (groups_on k mid.image) (has_groups k mid.image there.groups) there.segments ∙ ap (λ (image : Image). cache_on k image) same
 
 pub returns-in-Err-clause-flash_reads : goal.returns-in-Err-clause-flash_reads
-returns-in-Err-clause-flash_reads g c = let f = c.start.ensures.others Flash (λ e. cc) in omega (arith, f)
+returns-in-Err-clause-flash_reads g c = let f = c.start.ensures.reads.others Flash (λ e. cc) in omega (arith, f)
 
 pub returns-in-Err-clause-disk_reads : goal.returns-in-Err-clause-disk_reads
-returns-in-Err-clause-disk_reads g c = c.start.ensures.others Disk (λ e. cc)
+returns-in-Err-clause-disk_reads g c = c.start.ensures.reads.others Disk (λ e. cc)
 
 pub returns-in-Err-start-clause-flash_reads : goal.returns-in-Err-start-clause-flash_reads
-returns-in-Err-start-clause-flash_reads g c = let f = c.start.ensures.others Flash (λ e. cc) in let r = c.start-2.ensures.reads in omega (arith, f, r)
+returns-in-Err-start-clause-flash_reads g c = let f = c.start.ensures.reads.others Flash (λ e. cc) in let r = c.start-2.ensures.reads in omega (arith, f, r)
 
 pub returns-in-Err-start-clause-disk_reads : goal.returns-in-Err-start-clause-disk_reads
-returns-in-Err-start-clause-disk_reads g c = c.start-2.ensures.others Disk (λ e. cc) ∙ c.start.ensures.others Disk (λ e. cc)
+returns-in-Err-start-clause-disk_reads g c = c.start-2.ensures.others Disk (λ e. cc) ∙ c.start.ensures.reads.others Disk (λ e. cc)
 
 pub returns-in-Err-newest-clause-flash_reads : goal.returns-in-Err-newest-clause-flash_reads
-returns-in-Err-newest-clause-flash_reads g c = let f = c.start.ensures.others Flash (λ e. cc) in let r = c.start-2.ensures.reads in let n = c.newest.ensures.others Flash (λ e. cc) in omega (arith, f, r, n)
+returns-in-Err-newest-clause-flash_reads g c = let f = c.start.ensures.reads.others Flash (λ e. cc) in let r = c.start-2.ensures.reads in let n = c.newest.ensures.reads.others Flash (λ e. cc) in omega (arith, f, r, n)
 
 pub returns-in-Err-newest-clause-disk_reads : goal.returns-in-Err-newest-clause-disk_reads
-returns-in-Err-newest-clause-disk_reads g c = c.newest.ensures.others Disk (λ e. cc) ∙ c.start-2.ensures.others Disk (λ e. cc) ∙ c.start.ensures.others Disk (λ e. cc)
+returns-in-Err-newest-clause-disk_reads g c = c.newest.ensures.reads.others Disk (λ e. cc) ∙ c.start-2.ensures.others Disk (λ e. cc) ∙ c.start.ensures.reads.others Disk (λ e. cc)
 
 pub returns-in-Ok-keep_from-clause-flash_reads : goal.returns-in-Ok-keep_from-clause-flash_reads
-returns-in-Ok-keep_from-clause-flash_reads g c = let f = c.start.ensures.others Flash (λ e. cc) in let r = c.start-2.ensures.reads in let n = c.newest.ensures.others Flash (λ e. cc) in omega (arith, f, r, n)
+returns-in-Ok-keep_from-clause-flash_reads g c = let f = c.start.ensures.reads.others Flash (λ e. cc) in let r = c.start-2.ensures.reads in let n = c.newest.ensures.reads.others Flash (λ e. cc) in omega (arith, f, r, n)
 
 pub returns-in-Ok-keep_from-clause-disk_reads : goal.returns-in-Ok-keep_from-clause-disk_reads
-returns-in-Ok-keep_from-clause-disk_reads g c = c.newest.ensures.others Disk (λ e. cc) ∙ c.start-2.ensures.others Disk (λ e. cc) ∙ c.start.ensures.others Disk (λ e. cc)
+returns-in-Ok-keep_from-clause-disk_reads g c = c.newest.ensures.reads.others Disk (λ e. cc) ∙ c.start-2.ensures.others Disk (λ e. cc) ∙ c.start.ensures.reads.others Disk (λ e. cc)
 
 pub returns-in-Err-keep_from-clause-flash_reads : goal.returns-in-Err-keep_from-clause-flash_reads
-returns-in-Err-keep_from-clause-flash_reads g c = let f = c.start.ensures.others Flash (λ e. cc) in let r = c.start-2.ensures.reads in let n = c.newest.ensures.others Flash (λ e. cc) in omega (arith, f, r, n)
+returns-in-Err-keep_from-clause-flash_reads g c = let f = c.start.ensures.reads.others Flash (λ e. cc) in let r = c.start-2.ensures.reads in let n = c.newest.ensures.reads.others Flash (λ e. cc) in omega (arith, f, r, n)
 
 pub returns-in-Err-keep_from-clause-disk_reads : goal.returns-in-Err-keep_from-clause-disk_reads
-returns-in-Err-keep_from-clause-disk_reads g c = c.newest.ensures.others Disk (λ e. cc) ∙ c.start-2.ensures.others Disk (λ e. cc) ∙ c.start.ensures.others Disk (λ e. cc)
+returns-in-Err-keep_from-clause-disk_reads g c = c.newest.ensures.reads.others Disk (λ e. cc) ∙ c.start-2.ensures.others Disk (λ e. cc) ∙ c.start.ensures.reads.others Disk (λ e. cc)
 
 pub returns-in-Ok-keep_from-clause-same : goal.returns-in-Ok-keep_from-clause-same
 returns-in-Ok-keep_from-clause-same g c honest = unchanged g (goal.at.returns-in-Ok-keep_from-clause-same g c).After-newest honest
@@ -171,28 +171,28 @@ pub returns-in-Err-newest-clause-same : goal.returns-in-Err-newest-clause-same
 returns-in-Err-newest-clause-same g c honest = unchanged g (goal.at.returns-in-Err-newest-clause-same g c).After-newest honest
 
 pub returns-in-Err-keep_from-clause-goes : goal.returns-in-Err-keep_from-clause-goes
-returns-in-Err-keep_from-clause-goes g c = goes_in_sequence _ _ _ c.start.ensures.goes (goes_in_sequence _ _ _ c.start-2.ensures.goes c.newest.ensures.goes)
+returns-in-Err-keep_from-clause-goes g c = goes_in_sequence _ _ _ c.start.ensures.reads.goes (goes_in_sequence _ _ _ c.start-2.ensures.goes c.newest.ensures.reads.goes)
 
 pub returns-in-Err-clause-log_reads : goal.returns-in-Err-clause-log_reads
-returns-in-Err-clause-log_reads g c = omega (arith, c.start.ensures.reads)
+returns-in-Err-clause-log_reads g c = omega (arith, c.start.ensures.reads.reads)
 
 pub returns-in-Err-start-clause-log_reads : goal.returns-in-Err-start-clause-log_reads
-returns-in-Err-start-clause-log_reads g c = let s = c.start-2.ensures.others Log (λ e. cc) in omega (arith, c.start.ensures.reads, s)
+returns-in-Err-start-clause-log_reads g c = let s = c.start-2.ensures.others Log (λ e. cc) in omega (arith, c.start.ensures.reads.reads, s)
 
 pub returns-in-Err-newest-clause-log_reads : goal.returns-in-Err-newest-clause-log_reads
-returns-in-Err-newest-clause-log_reads g c = let s = c.start-2.ensures.others Log (λ e. cc) in omega (arith, c.start.ensures.reads, s, c.newest.ensures.reads)
+returns-in-Err-newest-clause-log_reads g c = let s = c.start-2.ensures.others Log (λ e. cc) in omega (arith, c.start.ensures.reads.reads, s, c.newest.ensures.reads.reads)
 
 pub returns-in-Ok-keep_from-clause-log_reads : goal.returns-in-Ok-keep_from-clause-log_reads
-returns-in-Ok-keep_from-clause-log_reads g c = let s = c.start-2.ensures.others Log (λ e. cc) in omega (arith, c.start.ensures.reads, s, c.newest.ensures.reads)
+returns-in-Ok-keep_from-clause-log_reads g c = let s = c.start-2.ensures.others Log (λ e. cc) in omega (arith, c.start.ensures.reads.reads, s, c.newest.ensures.reads.reads)
 
 pub returns-in-Err-keep_from-clause-log_reads : goal.returns-in-Err-keep_from-clause-log_reads
-returns-in-Err-keep_from-clause-log_reads g c = let s = c.start-2.ensures.others Log (λ e. cc) in omega (arith, c.start.ensures.reads, s, c.newest.ensures.reads)
+returns-in-Err-keep_from-clause-log_reads g c = let s = c.start-2.ensures.others Log (λ e. cc) in omega (arith, c.start.ensures.reads.reads, s, c.newest.ensures.reads.reads)
 
 pub returns-in-Ok-keep_from-clause-next : goal.returns-in-Ok-keep_from-clause-next
 returns-in-Ok-keep_from-clause-next g c honest =
     let s = (goal.at.returns-in-Ok-keep_from-clause-next g c).After-newest in
     let new = g.S.Site.state c.newest.new.site in
-    let read = (c.newest.ensures.same (honest_found g s honest)).image in
+    let read = (c.newest.ensures.reads.same (honest_found g s honest)).image in
     let behind = read ∙ (c.start-2.ensures.same (honest_mid g s honest)).image in
     let log = c.in-Ok.log in
     let master = c.in-Ok-newest.masters in

@@ -1,7 +1,9 @@
 use Rattle.std.proofs.Common.{◌≡◌, ℕ, ◌+◌, List, length, ◌++◌, ◌∷◌, [], sym, ◌∙◌, ap, arith}
 use Rattle.std.proofs.lemmas.List.{length-append}
 use Rattle.site.specs.State.{State, Image}
-use Rattle.site.specs.Laws.{stays_honest, goes_in_sequence, unchanged_in_sequence}
+use Rattle.site.specs.Laws.{stays_honest}
+use Rattle.site.specs.declared.outside.Dev.TheVariants.{Flash}
+use Rattle.sealed_ring.proofs.Lookups.{reads_then, reads_answered}
 use Rattle.sealed_ring.specs.Ring.{hi_of, unit_at}
 use Rattle.sealed_ring.specs.Ready.{region, units_in, Matches as RingFits}
 use Rattle.flash_cache.specs.Leaving.{page_at}
@@ -21,18 +23,14 @@ loop-index-preserved g c =
     let longer : length c.push.new.self.items ≡ length list + 1 = ap length items ∙ length-append list (c.in-Ok.page ∷ []) in
     record {
       contents = λ honest fits.
-          let same = inv.same honest in
+          let same = inv.reads.same honest in
           let unit : State → List ℕ = λ (s : State). unit_at ring.shape (units_in ring.shape s) group in
           let fits_mid : RingFits ring mid = fits ∙ ap (λ (i : Image). hi_of ring.shape (region ring.shape (record old { image = i }))) (sym same.image) in
-          let is = c.in-Ok.ensures.page (stays_honest old mid inv.goes honest) fits_mid in
+          let is = c.in-Ok.ensures.page (stays_honest old mid inv.reads.goes honest) fits_mid in
           let unit_is : unit mid ≡ unit old = ap (λ (i : Image). unit_at ring.shape (units_in ring.shape (record old { image = i })) group) same.image in
           items
           ∙ (λ i. inv.contents honest fits i ++ (is ∙ ap (λ (u : List ℕ). page_at u c.at.result) unit_is) i ∷ [])
           ∙ sym (mapped_more (page_at (unit old)) c.args.places.now c.loop-index.index c.at.result c.at.ensures);
       count = longer ∙ ap (λ (n : ℕ). n + 1) inv.count;
-      same = λ honest. unchanged_in_sequence old mid new (inv.same honest) (c.read_frame.ensures.same (stays_honest old mid inv.goes honest));
-      goes = goes_in_sequence old mid new inv.goes c.read_frame.ensures.goes;
-      faults = c.in-Ok.ensures.faults ∙ inv.faults;
-      reads = omega (arith, inv.reads, c.read_frame.ensures.reads);
-      others = λ d ne. c.read_frame.ensures.others d ne ∙ inv.others d ne;
+      reads = reads_answered c.in-Ok.page tt Flash (c.loop-index.index + 1) _ old new (omega arith) (reads_then tt _ Flash c.loop-index.index 1 (c.loop-index.index + 1) old mid new (omega arith) inv.reads c.in-Ok.ensures.reads);
     }

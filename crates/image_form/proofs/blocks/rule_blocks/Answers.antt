@@ -50,7 +50,7 @@ loop-block-preserved g c =
     let reads = c.loop-block.invariant.reads in
     let pages : c.geometry-geometry.result.pages ≡ log.geometry.pages = ap (λ (x : Geometry). x.pages) c.geometry-geometry.ensures in
     record {
-      going = going_later log now (g.S.Site.state c.read_block.new.site) c.in-Ok.ensures.goes c.loop-block.invariant.going;
+      going = going_later log now (g.S.Site.state c.read_block.new.site) c.in-Ok.ensures.reads.goes c.loop-block.invariant.going;
       stand = λ finds.
           let same : now.image ≡ old.image = (reads.same finds.honest).image in
           let finds_now : Finds log now = finds_later log old now reads.goes same finds in

@@ -25,7 +25,7 @@ returns-in_default-group_heads-clause-clean g c frames honest found groups on =
 
 pub loop-index-init : goal.loop-index-init
 loop-index-init g c = record {
-  may_read = may_read_later c.args.geometry.now c.args.rings.now (g.S.Site.state c.args.site.now) (g.S.Site.state c.read_part.new.site) c.in_default.ensures.goes c.requires.may_read;
+  may_read = may_read_later c.args.geometry.now c.args.rings.now (g.S.Site.state c.args.site.now) (g.S.Site.state c.read_part.new.site) c.in_default.ensures.reads.goes c.requires.may_read;
   stand = λ frames honest found groups on i below. absurd (omega (arith, below));
   reads = search rules;
 }

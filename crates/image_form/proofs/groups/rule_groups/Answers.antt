@@ -50,7 +50,7 @@ loop-group-preserved g c =
     let now : State = g.S.Site.state c.loop-group.site in
     let reads = c.loop-group.invariant.reads in
     record {
-      may_read = may_read_later geometry c.args.rings.now now (g.S.Site.state c.read_part.new.site) c.in_default.ensures.goes c.loop-group.invariant.may_read;
+      may_read = may_read_later geometry c.args.rings.now now (g.S.Site.state c.read_part.new.site) c.in_default.ensures.reads.goes c.loop-group.invariant.may_read;
       stand = λ honest found.
           let same : now.image ≡ old.image = (reads.same honest).image in
           let honest_now : IsTrue now.honest = stays_honest old now reads.goes honest in

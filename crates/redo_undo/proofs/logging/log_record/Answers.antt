@@ -38,7 +38,7 @@ use Rattle.std.proofs.Common.{length, subst}
 
 pub returns-clause-pages : goal.returns-clause-pages
 returns-clause-pages g c pages newest records table commits h =
-    let changes = c.append.ensures.changes h.log_holds.ready.blocks.honest in
+    let changes = c.append.ensures.seals.changes h.log_holds.ready.blocks.honest in
     record {
       versions = versions_same c.beside_laws.ensures pages _ _ changes;
       current = current_same c.beside_laws.ensures pages _ _ changes;
@@ -49,7 +49,7 @@ module _ (g : Over) (c : After-append g) where
   numbered = if_ok_three c.append.result _ (λ lsn. lsn ≡ next_lsn c.args.log.now c.args.rec.now)
       (λ lsn. (end_of c.args.log.now ≤ lsn) × (lsn < end_of c.append.new.self)) _
       (λ lsn next lsn_is rises. record { lsn_is = lsn_is; next = next; below = rises.1; low = c.requires.going.low })
-      c.append.ensures.next c.append.ensures.lsn c.append.ensures.rises
+      c.append.ensures.seals.next c.append.ensures.lsn c.append.ensures.rises
 
 module _ (g : Over) (c : After-append g) (pages : PageStore) (newest : Option Master) (records : List Entry) (table : List Content) (commits : ℕ)
     (h : Represents c.args.log.now pages (g.S.Site.state c.args.site.now) newest records table commits) where
@@ -77,16 +77,16 @@ module _ (g : Over) (c : After-append g) (pages : PageStore) (newest : Option Ma
   stands : c.args.log.now.geometry ≡ pages.flash.geometry → IfOk c.append.result Stands
   stands sizes =
       let ready = h.log_holds.ready in
-      let changes = c.append.ensures.changes ready.blocks.honest in
+      let changes = c.append.ensures.seals.changes ready.blocks.honest in
       if_ok_four c.append.result _ _ _ (λ lsn. IsNumbered c.args.log.now c.append.new.self lsn sealing) Stands (λ lsn holds finds reaches numbers. record {
         rings = rings_now c.log_laws.ensures c.page_laws.ensures c.beside_laws.ensures c.args.log.now pages site newest records table commits h sizes new
             sealing reaches;
         are_sealed = sealed_now c.log_laws.ensures c.page_laws.ensures c.beside_laws.ensures c.args.log.now pages site newest records table commits h sizes new
             sealing c.append.new.self changes
-            c.append.ensures.geometry finds c.append.ensures.at_most_one.0;
-        appended_is = record { numbers = numbers; kept = c.append.ensures.kept; holds = holds; finds = finds; changes = changes; goes = c.append.ensures.goes };
+            c.append.ensures.seals.geometry finds c.append.ensures.seals.at_most_one.0;
+        appended_is = record { numbers = numbers; kept = c.append.ensures.seals.kept; holds = holds; finds = finds; changes = changes; goes = c.append.ensures.seals.goes };
       })
-      (c.append.ensures.holds list ready.blocks ready.records) (c.append.ensures.finds ready.blocks) (c.append.ensures.reaches list ready.blocks ready.records)
+      (c.append.ensures.holds list ready.blocks ready.records) (c.append.ensures.seals.finds ready.blocks) (c.append.ensures.seals.reaches list ready.blocks ready.records)
       (numbered g c)
 
 pub returns-clause-log_holds : goal.returns-clause-log_holds
@@ -153,16 +153,16 @@ returns-clause-keeps g c pages newest records table commits h =
     let full = c.beside_laws.ensures.full log c.args.rec.now c.requires.form in
     record {
       any_moment = λ going quiet. append_leaves c.log_laws.ensures c.page_laws.ensures c.beside_laws.ensures log pages site newest records table commits h going.sizes new sealing quiet
-          (c.append.ensures.changes ready.blocks.honest) (c.append.ensures.any_moment list (log_fits log site quiet ready.blocks) ready.records)
-          (c.append.ensures.front list (log_fits log site quiet ready.blocks) ready.records quiet) going.pages_going.own full;
+          (c.append.ensures.seals.changes ready.blocks.honest) (c.append.ensures.seals.any_moment list (log_fits log site quiet ready.blocks) ready.records)
+          (c.append.ensures.seals.front list (log_fits log site quiet ready.blocks) ready.records quiet) going.pages_going.own full;
       numbers = λ going quiet. log_skips c.ring_kept.ensures c.append.result log.geometry log c.append.new.self list sealing site new 1 (ready_next pages log list site ready) full
-          (c.append.ensures.any_moment list (log_fits log site quiet ready.blocks) ready.records) (c.append.ensures.front list (log_fits log site quiet ready.blocks) ready.records quiet)
+          (c.append.ensures.seals.any_moment list (log_fits log site quiet ready.blocks) ready.records) (c.append.ensures.seals.front list (log_fits log site quiet ready.blocks) ready.records quiet)
           (ok_by c.append.result _ _ (λ lsn is. most_blocks log c.append.new.self lsn sealing full is) (numbered g c))
-          (log_calls c.append.result log.geometry log.ring.hi c.append.new.self.ring.hi list sealing site new (c.append.ensures.changes ready.blocks.honest) (c.append.ensures.reaches list ready.blocks ready.records) c.append.ensures.next (c.append.ensures.past ready.blocks.honest));
-      quiet = λ quiet. quiet_stops c.append.result new site quiet (λ is. ap g.S.Site.state (c.append.ensures.unchanged (inr (c.append.ensures.worn.0 is).1))) c.append.ensures.stops;
-      worn_log = λ is. (let worn = (c.append.ensures.worn.0 is).1 in log_at_end log site new ready.blocks (ap g.S.Site.state (c.append.ensures.unchanged (inr worn))) worn);
+          (log_calls c.append.result log.geometry log.ring.hi c.append.new.self.ring.hi list sealing site new (c.append.ensures.seals.changes ready.blocks.honest) (c.append.ensures.seals.reaches list ready.blocks ready.records) c.append.ensures.seals.next (c.append.ensures.seals.past ready.blocks.honest));
+      quiet = λ quiet. quiet_stops c.append.result new site quiet (λ is. ap g.S.Site.state (c.append.ensures.unchanged (inr (c.append.ensures.seals.worn.0 is).1))) c.append.ensures.seals.stops;
+      worn_log = λ is. (let worn = (c.append.ensures.seals.worn.0 is).1 in log_at_end log site new ready.blocks (ap g.S.Site.state (c.append.ensures.unchanged (inr worn))) worn);
       masters = ok_as c.append.result _ (KeepsUnits master_shape site.image new.image)
-          (λ reaches. c.ring_kept.ensures log.geometry Masters (changes_if sealing list) site.image new.image (seals_only sealing list) reaches) (c.append.ensures.reaches list ready.blocks ready.records);
+          (λ reaches. c.ring_kept.ensures log.geometry Masters (changes_if sealing list) site.image new.image (seals_only sealing list) reaches) (c.append.ensures.seals.reaches list ready.blocks ready.records);
     }
 
 pub returns-clause-performs : goal.returns-clause-performs
@@ -172,6 +172,6 @@ returns-clause-performs g c pages newest records table commits going h =
     let site = g.S.Site.state c.args.site.now in
     let new = g.S.Site.state c.append.new.site in
     subst (λ (n : ℕ). Performs c.append.result (rules_of_pages pages) (logged n ∷ []) (Mirrors log pages site.image) (Mirrors c.append.new.self pages new.image)) (octets_spelled rec)
-    (logged_performs log c.append.new.self pages site new (record { high = c.requires.going.high; each = h.below }) c.append.result (length (spelling rec)) (λ over. full_tail log.used (length (spelling rec)) (spelling_short rec c.requires.form) over) (record { worn_log = c.append.ensures.worn.0; stops = c.append.ensures.stops }) c.append.ensures.next
-    (logged_used c.append.result (overflows log rec) (length (spelling rec)) log c.append.new.self c.append.ensures.next c.append.ensures.lsn c.append.ensures.end)
-    (returns-clause-pages g c pages newest records table commits h).current (numbers_left c.append.ensures.going going.pages_going))
+    (logged_performs log c.append.new.self pages site new (record { high = c.requires.going.high; each = h.below }) c.append.result (length (spelling rec)) (λ over. full_tail log.used (length (spelling rec)) (spelling_short rec c.requires.form) over) (record { worn_log = c.append.ensures.seals.worn.0; stops = c.append.ensures.seals.stops }) c.append.ensures.seals.next
+    (logged_used c.append.result (overflows log rec) (length (spelling rec)) log c.append.new.self c.append.ensures.seals.next c.append.ensures.lsn c.append.ensures.end)
+    (returns-clause-pages g c pages newest records table commits h).current (numbers_left c.append.ensures.seals.going going.pages_going))

@@ -66,20 +66,20 @@ loop-block-init g c =
     }
 
 pub take_block-requires-clause-going : goal.take_block-requires-clause-going
-take_block-requires-clause-going g c = going_still c.loop-block.log c.loop-block.pages (g.S.Site.state c.loop-block.site) (g.S.Site.state c.read_block.new.site) c.read_block.ensures.goes c.loop-block.invariant.works.going
+take_block-requires-clause-going g c = going_still c.loop-block.log c.loop-block.pages (g.S.Site.state c.loop-block.site) (g.S.Site.state c.read_block.new.site) c.read_block.ensures.reads.goes c.loop-block.invariant.works.going
 
 -- One block more is read.
 
 module _ (g : Over) (c : In-Ok-read_block g) where
   read_one : ReadsOne {T = ℕ} (Ok c.in-Ok-read_block.used) (g.S.Site.state c.loop-block.site) (g.S.Site.state c.read_block.new.site)
   read_one = record {
-    same = c.read_block.ensures.same;
-    goes = c.read_block.ensures.goes;
-    log_reads = c.read_block.ensures.reads.here;
+    same = c.read_block.ensures.reads.same;
+    goes = c.read_block.ensures.reads.goes;
+    log_reads = c.read_block.ensures.reads.reads;
     others = c.read_block.ensures.reads.others;
-    device = c.in-Ok-read_block.ensures.device;
+    device = c.in-Ok-read_block.ensures.reads.device Log;
     stops = tt;
-    faults = c.in-Ok-read_block.ensures.faults;
+    faults = c.in-Ok-read_block.ensures.reads.faults;
   }
 
 module _ (g : Over) (c : In-Ok-read_block g) (newest : Option Master) (blocks : List (List LogRecord)) (table : List Content) (commits : ℕ)
@@ -109,21 +109,21 @@ module _ (g : Over) (c : In-Ok-read_block g) (newest : Option Master) (blocks : 
   next =
       let found = finds c.redo_laws.ensures o c.loop-block.log c.loop-block.pages old mid c.loop-block.so_far c.loop-block.block up in
       next_block c.redo_laws.ensures o c.loop-block.log c.loop-block.pages old mid c.loop-block.so_far c.loop-block.block up read c.read_block.new.into c.in-Ok-read_block.used
-      c.read_block.ensures.goes (c.read_block.ensures.same up.taken.pages_are.ready.blocks.honest) inside
+      c.read_block.ensures.reads.goes (c.read_block.ensures.reads.same up.taken.pages_are.ready.blocks.honest) inside
       (c.in-Ok-read_block.ensures.holds (record { first = kept_by newest; blocks = blocks; tail = [] }) found up.taken.pages_are.ready.records
       (let from = up.from in omega (arith, from)))
 
   asked_now : AsksAtRest {T = ⊤} (Ok tt) (asked_of o (log_from (kept_by newest) (take (c.loop-block.block - kept_by newest) blocks))) c.args.pages.now
       c.loop-block.pages old read
   asked_now = asks_with_read o c.args.pages.now c.loop-block.pages old mid read (log_from (kept_by newest) (take (c.loop-block.block - kept_by newest) blocks))
-      (c.loop-block.invariant.asked newest blocks table commits own h) c.read_block.ensures.reads.others (stages_read c.read_block.ensures.same c.read_block.ensures.goes)
+      (c.loop-block.invariant.asked newest blocks table commits own h) c.read_block.ensures.reads.others (stages_read c.read_block.ensures.reads.same c.read_block.ensures.reads.goes)
 
   kept_now : Keeps (Ok c.in-Ok-read_block.used) c.args.pages.now.flash.geometry c.args.log.now c.loop-block.log old read
       (LeavesTableUnder newest c.args.pages.now.flash.geometry table commits old.told) 0 0
   kept_now =
       let i = c.loop-block.invariant in
       keeps_then h.ready.blocks.honest i.works.geometry refl i.works.calls (i.keeps newest blocks table commits own h)
-      (keeps_opened c.page_laws.ensures c.redo_laws.ensures {r = Ok c.in-Ok-read_block.used} i.works.going.sizes up.taken.pages_are (c.read_block.ensures.same up.taken.pages_are.ready.blocks.honest)
+      (keeps_opened c.page_laws.ensures c.redo_laws.ensures {r = Ok c.in-Ok-read_block.used} i.works.going.sizes up.taken.pages_are (c.read_block.ensures.reads.same up.taken.pages_are.ready.blocks.honest)
       (λ d is. no_error {x = c.in-Ok-read_block.used} {e = Worn d} is) (no_error {x = c.in-Ok-read_block.used} {e = Foreign}))
 
 pub loop-block-preserved : goal.loop-block-preserved
@@ -155,7 +155,7 @@ loop-block-preserved g c =
       owed = omega (arith, i.owed, t.owed);
       blocks = t.logs_nothing.blocks ∙ i.blocks;
       rises = omega (arith, i.rises, t.logs_nothing.hi);
-      log_reads = omega (arith, i.log_reads, t.logs_nothing.log_reads, c.read_block.ensures.reads.here, kept, low);
+      log_reads = omega (arith, i.log_reads, t.logs_nothing.log_reads, c.read_block.ensures.reads.reads, kept, low);
       up_to = λ newest blocks table commits own h. record {
         from = (let low = (up g s newest blocks table commits own h).from in omega (arith, low));
         taken = subst (HasTaken (opening c.args.pages.now old newest blocks table commits) c.take_block.new.log c.take_block.new.pages new
@@ -245,7 +245,7 @@ returns-in-Err-read_block-clause-asks g c newest blocks table commits own h =
     (c.loop-block.invariant.asked newest blocks table commits own h) {A = ⊤} c.in-Err-read_block.stop [] _ (log_from (kept_by newest) blocks)
     (some_group c.requires.going)
     (log_split (kept_by newest) (c.loop-block.block - kept_by newest) c.loop-block.block blocks (omega (arith, from, c.kept-block.ensures, own_kept)) inside)
-    (stops_reading c.in-Err-read_block.stop pages mid read c.read_block.ensures.reads.others (read_refuses c.in-Err-read_block.stop c.in-Err-read_block.ensures.stops) (stages_read c.read_block.ensures.same c.read_block.ensures.goes))
+    (stops_reading c.in-Err-read_block.stop pages mid read c.read_block.ensures.reads.others (read_refuses c.in-Err-read_block.stop c.in-Err-read_block.ensures.stops) (stages_read c.read_block.ensures.reads.same c.read_block.ensures.reads.goes))
 
 pub returns-in-Err-read_block-clause-keeps : goal.returns-in-Err-read_block-clause-keeps
 returns-in-Err-read_block-clause-keeps g c newest blocks table commits own h =
@@ -255,7 +255,7 @@ returns-in-Err-read_block-clause-keeps g c newest blocks table commits own h =
     c.loop-block.pages (g.S.Site.state c.args.site.now)
     (g.S.Site.state c.loop-block.site) c.loop-block.so_far c.loop-block.block up in
     keeps_failed (keeps_then h.ready.blocks.honest i.works.geometry refl i.works.calls (i.keeps newest blocks table commits own h)
-    (keeps_opened c.page_laws.ensures c.redo_laws.ensures {T = ℕ} {r = Err c.in-Err-read_block.stop} i.works.going.sizes up.taken.pages_are (c.read_block.ensures.same up.taken.pages_are.ready.blocks.honest)
+    (keeps_opened c.page_laws.ensures c.redo_laws.ensures {T = ℕ} {r = Err c.in-Err-read_block.stop} i.works.going.sizes up.taken.pages_are (c.read_block.ensures.reads.same up.taken.pages_are.ready.blocks.honest)
     (λ d is. reads_worn d (of_error {T = ℕ} (Err c.in-Err-read_block.stop) (λ stop. (stop ≡ Device Log) ⊎ (stop ≡ Foreign)) (Worn d)
     c.in-Err-read_block.ensures.stops is))
     (λ is. c.in-Err-read_block.ensures.readable (record { first = kept_by newest; blocks = blocks; tail = [] }) found up.taken.pages_are.ready.records

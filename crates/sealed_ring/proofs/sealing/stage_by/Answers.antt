@@ -15,9 +15,9 @@ returns-in_err-write_at-clause-staged g c honest =
     let old = g.S.Site.state c.args.site.now in
     let mid = g.S.Site.state c.write_at.new.self in
     let wrote = c.write_at.ensures.wrote honest in
-    let long : length c.spell.new.into ≡ 8 + s.room = ap length c.spell.ensures ∙ length-append (to_be_bytes w64 c.args.hi) c.args.content.now ∙ omega (arith, c.requires.room) in
+    let long : length c.spell.new.into ≡ 8 + s.room = ap length c.spell.ensures ∙ length-append (to_be_bytes w64 c.args.hi) c.args.content.now ∙ omega (arith, c.requires.may.room) in
     record {
-      any_moment = λ rest. first s c.args.hi old c.requires.fits c.requires.bounded c.spell.new.into mid c.write_at.result long rest wrote;
+      any_moment = λ rest. first s c.args.hi old c.requires.may.fits c.requires.may.bounded c.spell.new.into mid c.write_at.result long rest wrote;
       changes = wrote_changes s.dev _ _ old mid c.write_at.result wrote;
       stages = search rules;
       settled = search rules;
@@ -32,10 +32,10 @@ returns-in_err-write_at-2-clause-staged g c honest =
     let late = g.S.Site.state c.write_at-2.new.self in
     let wrote = c.write_at.ensures.wrote honest in
     let wrote-2 = c.write_at-2.ensures.wrote (stays_honest old mid c.write_at.ensures.goes honest) in
-    let long : length c.spell.new.into ≡ 8 + s.room = ap length c.spell.ensures ∙ length-append (to_be_bytes w64 c.args.hi) c.args.content.now ∙ omega (arith, c.requires.room) in
+    let long : length c.spell.new.into ≡ 8 + s.room = ap length c.spell.ensures ∙ length-append (to_be_bytes w64 c.args.hi) c.args.content.now ∙ omega (arith, c.requires.may.room) in
     record {
-      any_moment = λ rest. second s c.args.hi old c.requires.fits c.requires.bounded c.spell.new.into mid late c.write_at-2.result long rest
-          (first s c.args.hi old c.requires.fits c.requires.bounded c.spell.new.into mid c.write_at.result long rest wrote)
+      any_moment = λ rest. second s c.args.hi old c.requires.may.fits c.requires.may.bounded c.spell.new.into mid late c.write_at-2.result long rest
+          (first s c.args.hi old c.requires.may.fits c.requires.may.bounded c.spell.new.into mid c.write_at.result long rest wrote)
           (c.in_ok-write_at.ensures.wrote honest).written wrote-2;
       changes = changes_in_sequence s.dev old mid late (wrote_changes s.dev _ _ old mid c.write_at.result wrote) (wrote_changes s.dev _ _ mid late c.write_at-2.result wrote-2);
       stages = search rules;
@@ -56,16 +56,16 @@ returns-clause-staged g c honest =
     let synced = c.sync.ensures.synced (stays_honest mid late c.write_at-2.ensures.goes honest-mid) in
     let one = (c.in_ok-write_at.ensures.wrote honest).written in
     let two = (c.in_ok-write_at-2.ensures.wrote honest-mid).written in
-    let long : length c.spell.new.into ≡ 8 + s.room = ap length c.spell.ensures ∙ length-append (to_be_bytes w64 c.args.hi) c.args.content.now ∙ omega (arith, c.requires.room) in
+    let long : length c.spell.new.into ≡ 8 + s.room = ap length c.spell.ensures ∙ length-append (to_be_bytes w64 c.args.hi) c.args.content.now ∙ omega (arith, c.requires.may.room) in
     record {
       any_moment = λ rest. then_sync old late new (LeavesKept s c.args.hi (region s old)) s.dev c.sync.result
-          (second s c.args.hi old c.requires.fits c.requires.bounded c.spell.new.into mid late c.write_at-2.result long rest
-          (first s c.args.hi old c.requires.fits c.requires.bounded c.spell.new.into mid c.write_at.result long rest wrote) one wrote-2) synced;
+          (second s c.args.hi old c.requires.may.fits c.requires.may.bounded c.spell.new.into mid late c.write_at-2.result long rest
+          (first s c.args.hi old c.requires.may.fits c.requires.may.bounded c.spell.new.into mid c.write_at.result long rest wrote) one wrote-2) synced;
       changes = changes_in_sequence s.dev old late new
           (changes_in_sequence s.dev old mid late (wrote_changes s.dev _ _ old mid c.write_at.result wrote) (wrote_changes s.dev _ _ mid late c.write_at-2.result wrote-2))
           (synced_changes s.dev late new c.sync.result synced);
       stages = on_ok c.sync.result (Stages s c.args.hi c.args.content.now (region s old) (region s new))
-          (staged s c.args.hi old c.requires.fits c.requires.bounded c.spell.new.into c.args.content.now mid late new c.sync.result c.spell.ensures c.requires.room one two synced);
+          (staged s c.args.hi old c.requires.may.fits c.requires.may.bounded c.spell.new.into c.args.content.now mid late new c.sync.result c.spell.ensures c.requires.may.room one two synced);
       settled = synced_settles s.dev late new c.sync.result synced;
       past =
           let first = one_call_more _ old mid (c.in_ok-write_at.ensures.wrote honest).past_ok in

@@ -2,8 +2,9 @@ use Rattle.std.proofs.Common.{◌<◌, length, arith}
 use Rattle.std.proofs.lemmas.Result.{on_ok_weaker}
 use Rattle.std_lemmas.proofs.Results.{on_ok}
 use Rattle.site.specs.declared.outside.Dev.TheVariants.{Disk}
-use Rattle.site.specs.Laws.{stays_honest, fault_since, changes_in_sequence, quiet_again}
-use Rattle.stage_out.proofs.Steps.{nothing_left, on_err_weaker}
+use Rattle.site.specs.Laws.{stays_honest, changes_in_sequence, quiet_again}
+use Rattle.disk_pages.proofs.Calling.{writes_then}
+use Rattle.stage_out.proofs.Steps.{nothing_left}
 use Rattle.stage_out.proofs.Done.{left_staged, front, none_front, staged, staged_reaches, sync_left}
 use Rattle.stage_out.proofs.staging.stage.Goals as goal
 
@@ -31,7 +32,7 @@ returns-clause-any_moment g c honest =
     let old = g.S.Site.state c.args.site.now in
     let mid = g.S.Site.state c.write_all.new.site in
     let new = g.S.Site.state c.sync_disk.new.site in
-    let later = stays_honest old mid c.write_all.ensures.goes honest in
+    let later = stays_honest old mid c.write_all.ensures.writes.goes honest in
     left_staged c.args.pages.now old new (sync_left c.args.pages.now old mid new (c.write_all.ensures.left honest) (c.sync_disk.ensures.changes later) (c.sync_disk.ensures.any_moment later))
 
 pub returns-clause-front : goal.returns-clause-front
@@ -39,7 +40,7 @@ returns-clause-front g c geometry honest lengths quiet =
     let old = g.S.Site.state c.args.site.now in
     let mid = g.S.Site.state c.write_all.new.site in
     let new = g.S.Site.state c.sync_disk.new.site in
-    let later = stays_honest old mid c.write_all.ensures.goes honest in
+    let later = stays_honest old mid c.write_all.ensures.writes.goes honest in
     let some : 0 < length c.args.pages.now = grind arith in
     front geometry c.args.pages.now old new some lengths c.requires.lie quiet
     (left_staged c.args.pages.now old new (sync_left c.args.pages.now old mid new (c.write_all.ensures.left honest) (c.sync_disk.ensures.changes later) (c.sync_disk.ensures.any_moment later)))
@@ -49,7 +50,7 @@ returns-clause-reaches g c geometry honest lengths =
     let old = g.S.Site.state c.args.site.now in
     let mid = g.S.Site.state c.write_all.new.site in
     let new = g.S.Site.state c.sync_disk.new.site in
-    let later = stays_honest old mid c.write_all.ensures.goes honest in
+    let later = stays_honest old mid c.write_all.ensures.writes.goes honest in
     let some : 0 < length c.args.pages.now = grind arith in
     let pages = c.args.pages.now in
     let contents = c.args.contents.now in
@@ -62,7 +63,7 @@ returns-clause-changes g c honest =
     let old = g.S.Site.state c.args.site.now in
     let mid = g.S.Site.state c.write_all.new.site in
     let new = g.S.Site.state c.sync_disk.new.site in
-    let later = stays_honest old mid c.write_all.ensures.goes honest in
+    let later = stays_honest old mid c.write_all.ensures.writes.goes honest in
     changes_in_sequence Disk old mid new (c.write_all.ensures.left honest).changes (c.sync_disk.ensures.changes later)
 
 pub returns-clause-quiet : goal.returns-clause-quiet
@@ -70,13 +71,10 @@ returns-clause-quiet g c honest quiet =
     let old = g.S.Site.state c.args.site.now in
     let mid = g.S.Site.state c.write_all.new.site in
     let new = g.S.Site.state c.sync_disk.new.site in
-    let later = stays_honest old mid c.write_all.ensures.goes honest in
+    let later = stays_honest old mid c.write_all.ensures.writes.goes honest in
     let changes = changes_in_sequence Disk old mid new (c.write_all.ensures.left honest).changes (c.sync_disk.ensures.changes later) in
     on_ok_weaker c.sync_disk.result (λ settled. quiet_again Disk old new changes quiet settled) (c.sync_disk.ensures.settled later)
 
-pub returns-clause-device : goal.returns-clause-device
-returns-clause-device g c =
-    let old = g.S.Site.state c.args.site.now in
-    let mid = g.S.Site.state c.write_all.new.site in
-    let new = g.S.Site.state c.sync_disk.new.site in
-    on_err_weaker c.sync_disk.result (λ rose. fault_since Disk old mid new c.write_all.ensures.goes rose) c.sync_disk.ensures.device
+pub returns-clause-writes : goal.returns-clause-writes
+returns-clause-writes g c =
+    writes_then _ c.sync_disk.result (g.S.Site.state c.args.site.now) (g.S.Site.state c.write_all.new.site) (g.S.Site.state c.sync_disk.new.site) c.in_ok-write_all.ensures.writes c.sync_disk.ensures.writes

@@ -1,6 +1,6 @@
-use Rattle.std.proofs.Common.{◌≡◌, IsTrue}
-use Rattle.site.specs.Calls.{Preserves, SameReads}
-use Rattle.site.specs.Faults.{faults_in}
+use Rattle.std.proofs.Common.{IsTrue}
+use Rattle.std.specs.Prelude.{Ok}
+use Rattle.disk_pages.specs.Calls.{WritesDisk}
 use Rattle.stage_out.specs.Staged.{HasWritten, HasLeft}
 use Rattle.stage_out.proofs.staging.write_all.Given as goal
 
@@ -11,7 +11,5 @@ invariant-loop-place g l =
     record {
       left : IsTrue old.honest → HasLeft l.pages old now;
       written : IsTrue old.honest → HasWritten l.pages l.contents l.place old now;
-      goes : Preserves old now;
-      faults : faults_in now ≡ faults_in old;
-      reads : SameReads old now;
+      writes : WritesDisk {T = Unit {0}} (Ok tt) old now;
     }

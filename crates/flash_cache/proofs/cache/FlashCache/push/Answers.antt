@@ -39,7 +39,7 @@ frames_leaving-requires-clause-chances g c =
 
 pub returns-in-Err-clause-any_moment : goal.returns-in-Err-clause-any_moment
 returns-in-Err-clause-any_moment g c groups fits holds quiet =
-    none_pushed c.args.self.now.geometry _ _ _ (g.S.Site.state c.args.site.now) (g.S.Site.state c.frames_leaving.new.site) quiet (c.frames_leaving.ensures.same fits.honest)
+    none_pushed c.args.self.now.geometry _ _ _ (g.S.Site.state c.args.site.now) (g.S.Site.state c.frames_leaving.new.site) quiet (c.frames_leaving.ensures.reads.same fits.honest)
 
 pub returns-in-Err-clause-frames : goal.returns-in-Err-clause-frames
 returns-in-Err-clause-frames g c groups fits holds =
@@ -51,19 +51,16 @@ returns-clause-frames g c groups fits holds =
     pushed_has c.args.self.now (g.S.Site.state c.args.site.now) groups c.requires.going holds c.args.given.now.pages.now c.args.given.now.changed.now c.args.given.now.contents.now
     c.requires.marks c.requires.lists c.requires.some c.requires.few c.requires.exist c.requires.are_frames
 
-pub returns-in-Err-clause-going : goal.returns-in-Err-clause-going
-returns-in-Err-clause-going g c = goes_on_later c.args.self.now (g.S.Site.state c.args.site.now) (g.S.Site.state c.frames_leaving.new.site) c.requires.going c.frames_leaving.ensures.goes
-
 pub returns-in-Err-clause-reads : goal.returns-in-Err-clause-reads
 returns-in-Err-clause-reads g c =
     let few = reads_few c.args.self.now c.args.plan.now.staged c.args.plan.now.chances c.requires.going.sizes c.requires.staged c.requires.chances in
-    let reads = c.frames_leaving.ensures.reads in
+    let reads = c.frames_leaving.ensures.reads.reads in
     omega (arith, few, reads)
 
 pub returns-clause-reads : goal.returns-clause-reads
 returns-clause-reads g c =
     let few = reads_few c.args.self.now c.args.plan.now.staged c.args.plan.now.chances c.requires.going.sizes c.requires.staged c.requires.chances in
-    let reads = c.frames_leaving.ensures.reads in
+    let reads = c.frames_leaving.ensures.reads.reads in
     let same = c.write.ensures.reads Flash in
     omega (arith, few, reads, same)
 
@@ -97,7 +94,7 @@ unreachable-requires g c =
     c.in_default.ensures.bad (heads_of (first ++ frames_given pages changed contents)) (begins_with_heads c.group_content-content.result (first ++ frames_given pages changed contents) has.is_group)
 
 pub write-requires-clause-going : goal.write-requires-clause-going
-write-requires-clause-going g c = goes_on_later c.args.self.now (g.S.Site.state c.args.site.now) (g.S.Site.state c.frames_leaving.new.site) c.requires.going c.frames_leaving.ensures.goes
+write-requires-clause-going g c = goes_on_later c.args.self.now (g.S.Site.state c.args.site.now) (g.S.Site.state c.frames_leaving.new.site) c.requires.going c.frames_leaving.ensures.reads.goes
 
 pub write-requires-clause-once : goal.write-requires-clause-once
 write-requires-clause-once g c =
@@ -153,7 +150,7 @@ returns-clause-any_moment g c groups fits holds quiet =
     let old = g.S.Site.state c.args.site.now in
     let mid = g.S.Site.state c.frames_leaving.new.site in
     let new = g.S.Site.state c.write.new.site in
-    let same = c.frames_leaving.ensures.same fits.honest in
+    let same = c.frames_leaving.ensures.reads.same fits.honest in
     let ring = (ring_found cache old c.requires.going.rings.groups_shape fits).hi in
     let items : c.as_slice-pages.result.now ≡ c.in-Ok.both.0.pages.items = search rules in
     let numbers = items ∙ pages_are cache plan.staged c.in-Ok.both.0 c.in-Ok.ensures.staged c.requires.staged in
@@ -164,7 +161,7 @@ returns-clause-any_moment g c groups fits holds quiet =
     let all = c.group_content-content.ensures.content ∙ (λ i. group (first i ++ made i)) in
     with_parts (λ a b d. LeavesOnly old new (LeavesPush cache.geometry a b d old)) _ _ _ _ _ _ numbers staged all
     (pushed_since cache.geometry c.as_slice-pages.result.now c.as_slice-octets.result.now c.group_content-content.result old mid new same
-    (c.write.ensures.any_moment (fits_read cache old mid fits c.frames_leaving.ensures.goes same) (same.loose ∙ quiet)))
+    (c.write.ensures.any_moment (fits_read cache old mid fits c.frames_leaving.ensures.reads.goes same) (same.loose ∙ quiet)))
 
 pub returns-clause-reaches : goal.returns-clause-reaches
 returns-clause-reaches g c groups fits holds =
@@ -176,7 +173,7 @@ returns-clause-reaches g c groups fits holds =
     let old = g.S.Site.state c.args.site.now in
     let mid = g.S.Site.state c.frames_leaving.new.site in
     let new = g.S.Site.state c.write.new.site in
-    let same = c.frames_leaving.ensures.same fits.honest in
+    let same = c.frames_leaving.ensures.reads.same fits.honest in
     let ring = (ring_found cache old c.requires.going.rings.groups_shape fits).hi in
     let items : c.as_slice-pages.result.now ≡ c.in-Ok.both.0.pages.items = search rules in
     let numbers = items ∙ pages_are cache plan.staged c.in-Ok.both.0 c.in-Ok.ensures.staged c.requires.staged in
@@ -186,7 +183,7 @@ returns-clause-reaches g c groups fits holds =
     on_ok_weaker c.write.result (λ reaches.
     with_parts (λ a b d. Reaches cache.geometry (changes_of_push a d) old.image new.image) _ _ [] [] _ _ numbers refl all
     (subst (λ (i : Image). Reaches cache.geometry (changes_of_push c.as_slice-pages.result.now c.group_content-content.result) i new.image) same.image reaches))
-    (c.write.ensures.reaches (fits_read cache old mid fits c.frames_leaving.ensures.goes same))
+    (c.write.ensures.reaches (fits_read cache old mid fits c.frames_leaving.ensures.reads.goes same))
 
 pub returns-clause-staged : goal.returns-clause-staged
 returns-clause-staged g c groups fits holds =
@@ -195,7 +192,7 @@ returns-clause-staged g c groups fits holds =
     let old = g.S.Site.state c.args.site.now in
     let mid = g.S.Site.state c.frames_leaving.new.site in
     let new = g.S.Site.state c.write.new.site in
-    let same = c.frames_leaving.ensures.same fits.honest in
+    let same = c.frames_leaving.ensures.reads.same fits.honest in
     let ring = (ring_found cache old c.requires.going.rings.groups_shape fits).hi in
     let items : c.as_slice-pages.result.now ≡ c.in-Ok.both.0.pages.items = search rules in
     let numbers = items ∙ pages_are cache plan.staged c.in-Ok.both.0 c.in-Ok.ensures.staged c.requires.staged in
@@ -204,13 +201,13 @@ returns-clause-staged g c groups fits holds =
     on_ok_weaker c.write.result (λ has.
     with_parts (λ a b d. HasStaged a b old.image.disk new.image.disk) _ _ _ _ [] [] numbers staged refl
     (subst (λ (i : Image). HasStaged c.as_slice-pages.result.now c.as_slice-octets.result.now i.disk new.image.disk) same.image has))
-    (c.write.ensures.staged (fits_read cache old mid fits c.frames_leaving.ensures.goes same))
+    (c.write.ensures.staged (fits_read cache old mid fits c.frames_leaving.ensures.reads.goes same))
 
 pub returns-clause-changes : goal.returns-clause-changes
 returns-clause-changes g c honest =
     let old = g.S.Site.state c.args.site.now in
     let mid = g.S.Site.state c.frames_leaving.new.site in
-    pages_in_sequence old mid (g.S.Site.state c.write.new.site) (pages_read old mid (c.frames_leaving.ensures.same honest)) (c.write.ensures.changes (stays_honest old mid c.frames_leaving.ensures.goes honest))
+    pages_in_sequence old mid (g.S.Site.state c.write.new.site) (pages_read old mid (c.frames_leaving.ensures.reads.same honest)) (c.write.ensures.changes (stays_honest old mid c.frames_leaving.ensures.reads.goes honest))
 
 pub returns-clause-alone : goal.returns-clause-alone
 returns-clause-alone g c honest none =
@@ -219,39 +216,52 @@ returns-clause-alone g c honest none =
     let new = g.S.Site.state c.write.new.site in
     let items : c.as_slice-pages.result.now ≡ c.in-Ok.both.0.pages.items = search rules in
     let numbers = items ∙ pages_are c.args.self.now c.args.plan.now.staged c.in-Ok.both.0 c.in-Ok.ensures.staged c.requires.staged in
-    untouched_in_sequence Disk old mid new (read_untouched Disk old mid (c.frames_leaving.ensures.same honest))
-    (c.write.ensures.alone (stays_honest old mid c.frames_leaving.ensures.goes honest) (numbers ∙ none))
+    untouched_in_sequence Disk old mid new (read_untouched Disk old mid (c.frames_leaving.ensures.reads.same honest))
+    (c.write.ensures.alone (stays_honest old mid c.frames_leaving.ensures.reads.goes honest) (numbers ∙ none))
 
 pub returns-clause-shown : goal.returns-clause-shown
 returns-clause-shown g c honest some =
     let old = g.S.Site.state c.args.site.now in
     let mid = g.S.Site.state c.frames_leaving.new.site in
     let new = g.S.Site.state c.write.new.site in
-    let same = c.frames_leaving.ensures.same honest in
+    let same = c.frames_leaving.ensures.reads.same honest in
     let items : c.as_slice-pages.result.now ≡ c.in-Ok.both.0.pages.items = search rules in
     let numbers : c.as_slice-pages.result.now ≡ staged_pages c.args.self.now = items ∙ pages_are c.args.self.now c.args.plan.now.staged c.in-Ok.both.0 c.in-Ok.ensures.staged c.requires.staged in
     on_ok_weaker c.write.result (λ shown. some_after_reads old mid new (SameAt Flash old) same.past
     (some_weaker mid new (SameAt Flash mid) (SameAt Flash old) (λ m is. record { content = is.content ∙ ap (λ (i : Image). i.flash) same.image; loose = is.loose ∙ ap (λ (l : Loose). l.flash) same.loose }) shown))
-    (c.write.ensures.shown (stays_honest old mid c.frames_leaving.ensures.goes honest) (subst (λ (l : List ℕ). 1 ≤ length l) (sym numbers) some))
+    (c.write.ensures.shown (stays_honest old mid c.frames_leaving.ensures.reads.goes honest) (subst (λ (l : List ℕ). 1 ≤ length l) (sym numbers) some))
 
 pub returns-clause-past : goal.returns-clause-past
 returns-clause-past g c honest =
     let old = g.S.Site.state c.args.site.now in
     let mid = g.S.Site.state c.frames_leaving.new.site in
     let new = g.S.Site.state c.write.new.site in
-    let same = ap length (c.frames_leaving.ensures.same honest).past in
+    let same = ap length (c.frames_leaving.ensures.reads.same honest).past in
     let items : c.as_slice-pages.result.now ≡ c.in-Ok.both.0.pages.items = search rules in
     let numbers : c.as_slice-pages.result.now ≡ staged_pages c.args.self.now = items ∙ pages_are c.args.self.now c.args.plan.now.staged c.in-Ok.both.0 c.in-Ok.ensures.staged c.requires.staged in
     let calls = ap calls_of numbers in
-    on_ok_weaker c.write.result (λ wrote. omega (arith, same, calls, wrote)) (c.write.ensures.past (stays_honest old mid c.frames_leaving.ensures.goes honest))
+    on_ok_weaker c.write.result (λ wrote. omega (arith, same, calls, wrote)) (c.write.ensures.past (stays_honest old mid c.frames_leaving.ensures.reads.goes honest))
 
-pub returns-in-Err-clause-next_segment : goal.returns-in-Err-clause-next_segment
-returns-in-Err-clause-next_segment g c honest = record { next = λ is. tt; worn = search rules }
+pub returns-in-Err-clause-keeps : goal.returns-in-Err-clause-keeps
+returns-in-Err-clause-keeps g c = record {
+  ends = search rules;
+  fits = λ fits. tt;
+  next_segment = λ honest. record { next = λ is. tt; worn = search rules };
+  going = goes_on_later c.args.self.now (g.S.Site.state c.args.site.now) (g.S.Site.state c.frames_leaving.new.site) c.requires.going c.frames_leaving.ensures.reads.goes;
+  worn_end = λ fits says. search rules;
+}
 
-pub returns-clause-next_segment : goal.returns-clause-next_segment
-returns-clause-next_segment g c honest =
+pub returns-clause-keeps : goal.returns-clause-keeps
+returns-clause-keeps g c =
     let cache = c.args.self.now in
     let old = g.S.Site.state c.args.site.now in
     let mid = g.S.Site.state c.frames_leaving.new.site in
-    next_then refl (next_elsewhere {T = Unit {0}} (Ok tt) cache cache old mid refl refl (ap (λ (i : Image). i.flash) (c.frames_leaving.ensures.same honest).image) (λ says. no_error says))
-    (c.write.ensures.next_segment (stays_honest old mid c.frames_leaving.ensures.goes honest))
+    let reads = c.frames_leaving.ensures.reads in
+    record {
+      ends = search rules;
+      fits = λ fits. c.write.ensures.keeps.fits (fits_read cache old mid fits reads.goes (reads.same fits.honest));
+      next_segment = λ honest. next_then refl (next_elsewhere {T = Unit {0}} (Ok tt) cache cache old mid refl refl (ap (λ (i : Image). i.flash) (reads.same honest).image) (λ says. no_error says))
+          (c.write.ensures.keeps.next_segment (stays_honest old mid reads.goes honest));
+      going = c.write.ensures.keeps.going;
+      worn_end = λ fits says. c.write.ensures.keeps.worn_end (fits_read cache old mid fits reads.goes (reads.same fits.honest)) says;
+    }

@@ -28,10 +28,6 @@ returns-in-Err-clause-frames g c groups fits holds =
     pushed_has c.args.self.now (g.S.Site.state c.args.site.now) groups c.requires.going holds c.args.pages.now c.args.changed.now c.args.contents.now
     c.requires.marks c.requires.lists c.requires.some c.requires.few c.requires.exist c.heads_given-heads.ensures.are_frames
 
-pub returns-in-Err-clause-going : goal.returns-in-Err-clause-going
-returns-in-Err-clause-going g c =
-    goes_on_saved c.args.self.now c.save_due.new.segments true (g.S.Site.state c.args.site.now) (g.S.Site.state c.save_due.new.site) c.requires.going c.save_due.ensures.goes c.save_due.ensures.rings
-
 pub returns-in-Err-clause-any_moment : goal.returns-in-Err-clause-any_moment
 returns-in-Err-clause-any_moment g c groups fits holds quiet =
     let cache = c.args.self.now in
@@ -117,16 +113,6 @@ returns-in-Err-push-clause-clean_moment g c groups fits holds quiet clean given 
     c.args.pages.now c.args.changed.now c.args.contents.now c.requires.marks c.requires.lists c.requires.apart (returns-in-Err-push-clause-frames g c groups fits holds)
     (g.S.Site.state c.push.new.site) clean given (returns-in-Err-push-clause-any_moment g c groups fits holds quiet)
 
-pub returns-in-Err-push-clause-worn_end : goal.returns-in-Err-push-clause-worn_end
-returns-in-Err-push-clause-worn_end g c fits says =
-    let cache = c.args.self.now in
-    let old = g.S.Site.state c.args.site.now in
-    let mid = g.S.Site.state c.save_due.new.site in
-    let rings = c.requires.going.rings in
-    let found = c.in_default.ensures.fits fits.honest (ring_found cache old rings.groups_shape fits) (segments_found cache old rings.segments_shape fits) in
-    let behind = fits_behind cache c.save_due.new.segments mid c.save_due.ensures.rings (stays_honest old mid c.save_due.ensures.goes fits.honest) found.0 found.1 in
-    c.in-Err-push.ensures.worn_end behind (err_again _ _ says)
-
 pub returns-clause-frames : goal.returns-clause-frames
 returns-clause-frames g c groups fits holds =
     pushed_has c.args.self.now (g.S.Site.state c.args.site.now) groups c.requires.going holds c.args.pages.now c.args.changed.now c.args.contents.now
@@ -207,16 +193,6 @@ returns-clause-last g c groups fits holds quiet =
     (leaves_groups cache.geometry cache.directory.first groups mid (c.in_default.ensures.quiet fits.honest quiet) b.holds.has)
     (c.in_default-push.ensures.shown honest some))) (returns-clause-staged g c groups fits holds)
 
-pub returns-clause-fits : goal.returns-clause-fits
-returns-clause-fits g c fits =
-    let cache = c.args.self.now in
-    let old = g.S.Site.state c.args.site.now in
-    let mid = g.S.Site.state c.save_due.new.site in
-    let rings = c.requires.going.rings in
-    let found = c.in_default.ensures.fits fits.honest (ring_found cache old rings.groups_shape fits) (segments_found cache old rings.segments_shape fits) in
-    let behind = fits_behind cache c.save_due.new.segments mid c.save_due.ensures.rings (stays_honest old mid c.save_due.ensures.goes fits.honest) found.0 found.1 in
-    c.in_default-push.ensures.fits behind
-
 pub returns-clause-gives : goal.returns-clause-gives
 returns-clause-gives g c groups fits holds clean =
     gives_behind c.args.self.now groups (g.S.Site.state c.args.site.now) c.requires.going fits holds
@@ -233,7 +209,7 @@ pub returns-clause-holds : goal.returns-clause-holds
 returns-clause-holds g c groups fits holds =
     holds_behind c.args.self.now groups (g.S.Site.state c.args.site.now) c.requires.going fits holds
     c.args.pages.now c.args.changed.now c.args.contents.now c.requires.marks c.requires.lists c.requires.apart (returns-clause-frames g c groups fits holds)
-    c.push.new.self (g.S.Site.state c.push.new.site).image (returns-clause-staged g c groups fits holds) (returns-clause-reaches g c groups fits holds) c.in_default-push.ensures.directory c.push.ensures.geometry
+    c.push.new.self (g.S.Site.state c.push.new.site).image (returns-clause-staged g c groups fits holds) (returns-clause-reaches g c groups fits holds) c.in_default-push.ensures.directory c.push.ensures.keeps.geometry
 
 pub returns-clause-past : goal.returns-clause-past
 returns-clause-past g c honest =
@@ -242,20 +218,51 @@ returns-clause-past g c honest =
     let nine = calls_few c.args.self.now c.requires.going.sizes in
     omega (arith, saved, pushed, nine)
 
-pub returns-in-Err-clause-next_segment : goal.returns-in-Err-clause-next_segment
-returns-in-Err-clause-next_segment g c honest = record { next = λ is. tt; worn = search rules }
+pub returns-in-Err-clause-keeps : goal.returns-in-Err-clause-keeps
+returns-in-Err-clause-keeps g c = record {
+  ends = search rules;
+  fits = λ fits. tt;
+  next_segment = λ honest. record { next = λ is. tt; worn = search rules };
+  going = goes_on_saved c.args.self.now c.save_due.new.segments true (g.S.Site.state c.args.site.now) (g.S.Site.state c.save_due.new.site) c.requires.going c.save_due.ensures.goes c.save_due.ensures.rings;
+  worn_end = λ fits says. search rules;
+}
 
-pub returns-in-Err-push-clause-next_segment : goal.returns-in-Err-push-clause-next_segment
-returns-in-Err-push-clause-next_segment g c honest =
+pub returns-in-Err-push-clause-keeps : goal.returns-in-Err-push-clause-keeps
+returns-in-Err-push-clause-keeps g c =
+    let cache = c.args.self.now in
     let old = g.S.Site.state c.args.site.now in
     let mid = g.S.Site.state c.save_due.new.site in
-    let saved = next_saved c.args.self.now c.save_due.new.segments old mid c.requires.going.rings c.save_due.ensures.rings (c.in_default.ensures.segments honest) in
-    let both = next_then refl saved (c.in-Err-push.ensures.next_segment (stays_honest old mid c.save_due.ensures.goes honest)) in
-    record { next = λ is. tt; worn = λ is says. both.worn is (err_again _ _ says) }
+    let rings = c.requires.going.rings in
+    let goes = c.save_due.ensures.goes in
+    let keeps = c.in-Err-push.ensures.keeps in
+    record {
+      ends = search rules;
+      fits = λ fits. tt;
+      next_segment = λ honest.
+          let saved = next_saved cache c.save_due.new.segments old mid rings c.save_due.ensures.rings (c.in_default.ensures.segments honest) in
+          record { next = λ is. tt; worn = λ is says. (next_then refl saved (keeps.next_segment (stays_honest old mid goes honest))).worn is (err_again _ _ says) };
+      going = search rules;
+      worn_end = λ fits says.
+          let found = c.in_default.ensures.fits fits.honest (ring_found cache old rings.groups_shape fits) (segments_found cache old rings.segments_shape fits) in
+          keeps.worn_end (fits_behind cache c.save_due.new.segments mid c.save_due.ensures.rings (stays_honest old mid goes fits.honest) found.0 found.1) (err_again _ _ says);
+    }
 
-pub returns-clause-next_segment : goal.returns-clause-next_segment
-returns-clause-next_segment g c honest =
+pub returns-clause-keeps : goal.returns-clause-keeps
+returns-clause-keeps g c =
+    let cache = c.args.self.now in
     let old = g.S.Site.state c.args.site.now in
     let mid = g.S.Site.state c.save_due.new.site in
-    let saved = next_saved c.args.self.now c.save_due.new.segments old mid c.requires.going.rings c.save_due.ensures.rings (c.in_default.ensures.segments honest) in
-    next_answered (next_then refl saved (c.in_default-push.ensures.next_segment (stays_honest old mid c.save_due.ensures.goes honest)))
+    let rings = c.requires.going.rings in
+    let goes = c.save_due.ensures.goes in
+    let keeps = c.in_default-push.ensures.keeps in
+    record {
+      ends = search rules;
+      fits = λ fits.
+          let found = c.in_default.ensures.fits fits.honest (ring_found cache old rings.groups_shape fits) (segments_found cache old rings.segments_shape fits) in
+          keeps.fits (fits_behind cache c.save_due.new.segments mid c.save_due.ensures.rings (stays_honest old mid goes fits.honest) found.0 found.1);
+      next_segment = λ honest.
+          let saved = next_saved cache c.save_due.new.segments old mid rings c.save_due.ensures.rings (c.in_default.ensures.segments honest) in
+          next_answered (next_then refl saved (keeps.next_segment (stays_honest old mid goes honest)));
+      going = keeps.going;
+      worn_end = λ fits says. search rules;
+    }

@@ -28,11 +28,8 @@ returns-in-Err-clause-any_moment g c fits quiet =
 pub returns-in-Err-clause-changes : goal.returns-in-Err-clause-changes
 returns-in-Err-clause-changes g c honest = pages_changed Disk (g.S.Site.state c.args.site.now) (g.S.Site.state c.stage.new.site) (λ h. cc) (c.stage.ensures.changes honest)
 
-pub returns-in-Err-clause-going : goal.returns-in-Err-clause-going
-returns-in-Err-clause-going g c = goes_on_later c.args.self.now (g.S.Site.state c.args.site.now) (g.S.Site.state c.stage.new.site) c.requires.going c.stage.ensures.goes
-
 pub append-requires-clause-going : goal.append-requires-clause-going
-append-requires-clause-going g c = goes_on_later c.args.self.now (g.S.Site.state c.args.site.now) (g.S.Site.state c.stage.new.site) c.requires.going c.stage.ensures.goes
+append-requires-clause-going g c = goes_on_later c.args.self.now (g.S.Site.state c.args.site.now) (g.S.Site.state c.stage.new.site) c.requires.going c.stage.ensures.writes.goes
 
 pub returns-clause-any_moment : goal.returns-clause-any_moment
 returns-clause-any_moment g c fits quiet =
@@ -40,9 +37,9 @@ returns-clause-any_moment g c fits quiet =
     let old = g.S.Site.state c.args.site.now in
     let mid = g.S.Site.state c.stage.new.site in
     let new = g.S.Site.state c.append.new.site in
-    let fits_mid = fits_on cache old mid fits c.stage.ensures.goes (c.stage.ensures.changes fits.honest) in
+    let fits_mid = fits_on cache old mid fits c.stage.ensures.writes.goes (c.stage.ensures.changes fits.honest) in
     push_leaves cache.geometry c.args.staged.now c.args.octets.now c.args.content.now old mid new c.requires.going.limits
-    (lengths_later cache.geometry old mid c.stage.ensures.goes c.requires.going.lengths) (c.in_default.ensures.quiet fits.honest quiet) c.requires.room
+    (lengths_later cache.geometry old mid c.stage.ensures.writes.goes c.requires.going.lengths) (c.in_default.ensures.quiet fits.honest quiet) c.requires.room
     (c.stage.ensures.front cache.geometry fits.honest c.requires.going.lengths quiet) (c.in_default.ensures.reaches cache.geometry fits.honest c.requires.going.lengths)
     (c.in_default.ensures.staged fits.honest) (c.stage.ensures.changes fits.honest).only.now.told (c.append.ensures.any_moment fits_mid (quiet_settled Flash mid (c.in_default.ensures.quiet fits.honest quiet))) (c.append.ensures.changes fits_mid.honest).only
 
@@ -52,7 +49,7 @@ returns-clause-reaches g c fits =
     let old = g.S.Site.state c.args.site.now in
     let mid = g.S.Site.state c.stage.new.site in
     let new = g.S.Site.state c.append.new.site in
-    let fits_mid = fits_on cache old mid fits c.stage.ensures.goes (c.stage.ensures.changes fits.honest) in
+    let fits_mid = fits_on cache old mid fits c.stage.ensures.writes.goes (c.stage.ensures.changes fits.honest) in
     on_ok_weaker c.append.result (all_made cache.geometry c.args.staged.now c.args.content.now old.image mid.image new.image (c.in_default.ensures.reaches cache.geometry fits.honest c.requires.going.lengths))
     (c.append.ensures.appends fits_mid)
 
@@ -60,7 +57,7 @@ pub returns-clause-staged : goal.returns-clause-staged
 returns-clause-staged g c fits =
     let old = g.S.Site.state c.args.site.now in
     let mid = g.S.Site.state c.stage.new.site in
-    let honest_mid = stays_honest old mid c.stage.ensures.goes fits.honest in
+    let honest_mid = stays_honest old mid c.stage.ensures.writes.goes fits.honest in
     on_ok c.append.result _ (subst (HasStaged c.args.staged.now c.args.octets.now old.image.disk) (sym ((c.append.ensures.changes honest_mid).only.now.content Disk (λ h. cc))) (c.in_default.ensures.staged fits.honest))
 
 pub returns-clause-changes : goal.returns-clause-changes
@@ -69,11 +66,7 @@ returns-clause-changes g c honest =
     let mid = g.S.Site.state c.stage.new.site in
     let new = g.S.Site.state c.append.new.site in
     pages_in_sequence old mid new (pages_changed Disk old mid (λ h. cc) (c.stage.ensures.changes honest))
-    (pages_changed Flash mid new (λ h. cc) (c.append.ensures.changes (stays_honest old mid c.stage.ensures.goes honest)))
-
-pub returns-clause-fits : goal.returns-clause-fits
-returns-clause-fits g c fits =
-    c.append.ensures.fits (fits_on c.args.self.now (g.S.Site.state c.args.site.now) (g.S.Site.state c.stage.new.site) fits c.stage.ensures.goes (c.stage.ensures.changes fits.honest))
+    (pages_changed Flash mid new (λ h. cc) (c.append.ensures.changes (stays_honest old mid c.stage.ensures.writes.goes honest)))
 
 pub returns-clause-alone : goal.returns-clause-alone
 returns-clause-alone g c honest none =
@@ -82,7 +75,7 @@ returns-clause-alone g c honest none =
     let new = g.S.Site.state c.append.new.site in
     let same : mid ≡ old = ap g.S.Site.state (c.stage.ensures.none none).0 in
     subst (λ (s : State). Untouched Disk s new) same
-    (others_untouched Flash Disk mid new (λ h. cc) (c.append.ensures.changes (stays_honest old mid c.stage.ensures.goes honest)).only)
+    (others_untouched Flash Disk mid new (λ h. cc) (c.append.ensures.changes (stays_honest old mid c.stage.ensures.writes.goes honest)).only)
 
 pub returns-clause-shown : goal.returns-clause-shown
 returns-clause-shown g c honest some =
@@ -90,7 +83,7 @@ returns-clause-shown g c honest some =
     let mid = g.S.Site.state c.stage.new.site in
     let new = g.S.Site.state c.append.new.site in
     let changes = c.stage.ensures.changes honest in
-    let later = c.append.ensures.changes (stays_honest old mid c.stage.ensures.goes honest) in
+    let later = c.append.ensures.changes (stays_honest old mid c.stage.ensures.writes.goes honest) in
     let calls = c.in_default.ensures.calls honest in
     let one = calls_some c.args.staged.now some in
     on_ok c.append.result _ (some_first old mid new changes.only.grown later.only.grown (SameAt Flash old)
@@ -101,15 +94,28 @@ returns-clause-shown g c honest some =
 pub returns-clause-past : goal.returns-clause-past
 returns-clause-past g c honest =
     let first = c.in_default.ensures.calls honest in
-    ok_as c.append.result _ _ (λ more. omega (arith, first, more)) (c.append.ensures.past (stays_honest (g.S.Site.state c.args.site.now) (g.S.Site.state c.stage.new.site) c.stage.ensures.goes honest))
+    ok_as c.append.result _ _ (λ more. omega (arith, first, more)) (c.append.ensures.past (stays_honest (g.S.Site.state c.args.site.now) (g.S.Site.state c.stage.new.site) c.stage.ensures.writes.goes honest))
 
-pub returns-in-Err-clause-next_segment : goal.returns-in-Err-clause-next_segment
-returns-in-Err-clause-next_segment g c honest = record { next = λ is. tt; worn = search rules }
+pub returns-in-Err-clause-keeps : goal.returns-in-Err-clause-keeps
+returns-in-Err-clause-keeps g c = record {
+  ends = search rules;
+  fits = λ fits. tt;
+  next_segment = λ honest. record { next = λ is. tt; worn = search rules };
+  going = goes_on_later c.args.self.now (g.S.Site.state c.args.site.now) (g.S.Site.state c.stage.new.site) c.requires.going c.stage.ensures.writes.goes;
+  worn_end = λ fits says. search rules;
+}
 
-pub returns-clause-next_segment : goal.returns-clause-next_segment
-returns-clause-next_segment g c honest =
+pub returns-clause-keeps : goal.returns-clause-keeps
+returns-clause-keeps g c =
     let cache = c.args.self.now in
     let old = g.S.Site.state c.args.site.now in
     let mid = g.S.Site.state c.stage.new.site in
-    next_then refl (next_elsewhere {T = Unit {0}} (Ok tt) cache cache old mid refl refl ((c.stage.ensures.changes honest).only.now.content Flash (λ h. cc)) (λ says. no_error says))
-    (c.append.ensures.next_segment (stays_honest old mid c.stage.ensures.goes honest))
+    let goes = c.stage.ensures.writes.goes in
+    record {
+      ends = search rules;
+      fits = λ fits. c.append.ensures.keeps.fits (fits_on cache old mid fits goes (c.stage.ensures.changes fits.honest));
+      next_segment = λ honest. next_then refl (next_elsewhere {T = Unit {0}} (Ok tt) cache cache old mid refl refl ((c.stage.ensures.changes honest).only.now.content Flash (λ h. cc)) (λ says. no_error says))
+          (c.append.ensures.keeps.next_segment (stays_honest old mid goes honest));
+      going = c.append.ensures.keeps.going;
+      worn_end = λ fits says. c.append.ensures.keeps.worn_end (fits_on cache old mid fits goes (c.stage.ensures.changes fits.honest)) says;
+    }

@@ -39,12 +39,12 @@ use Rattle.page_store.proofs.ToldPages.{fits_told, going_told, told_pushed}
 use Rattle.page_store.proofs.store.PageStore.push.Goals as goal
 
 pub returns-in-Err-clause-reads : goal.returns-in-Err-clause-reads
-returns-in-Err-clause-reads g c = omega (arith, c.force_for.ensures.reads Flash)
+returns-in-Err-clause-reads g c = omega (arith, c.force_for.ensures.seals.reads Flash)
 
 pub returns-in-Err-clause-pushes : goal.returns-in-Err-clause-pushes
 returns-in-Err-clause-pushes g c =
-    let log_reads = c.force_for.ensures.reads Log in
-    let next = λ (honest : IsTrue (g.S.Site.state c.args.site.now).honest). next_logged {pages = c.args.self.now} (c.in-Err.ensures.next_block honest) (c.force_for.ensures.changes honest) (search rules) in
+    let log_reads = c.force_for.ensures.seals.reads Log in
+    let next = λ (honest : IsTrue (g.S.Site.state c.args.site.now).honest). next_logged {pages = c.args.self.now} (c.in-Err.ensures.seals.next_block honest) (c.force_for.ensures.seals.changes honest) (search rules) in
     search rules
 
 pub returns-in-Err-clause-keeps : goal.returns-in-Err-clause-keeps
@@ -56,10 +56,10 @@ returns-in-Err-clause-keeps g c list ready =
     let sealing : Bool = forces c.args.log.now c.args.contents.now in
     let first : List Change = changes_if sealing list in
     let sizes = c.requires.going.sizes in
-    let changes = c.force_for.ensures.changes ready.blocks.honest in
+    let changes = c.force_for.ensures.seals.changes ready.blocks.honest in
     let fits = λ (quiet : IsQuiet old). log_fits c.args.log.now old quiet ready.blocks in
-    let leaves = λ (quiet : IsQuiet old). subst (λ (k : Geometry). LeavesOnly old mid (LeavesLog k sealing list old.told)) sizes (c.force_for.ensures.any_moment list (fits quiet) ready.records) in
-    let front = λ (quiet : IsQuiet old). subst (λ (k : Geometry). LeavesFront k first old mid) sizes (c.force_for.ensures.front list (fits quiet) ready.records quiet) in
+    let leaves = λ (quiet : IsQuiet old). subst (λ (k : Geometry). LeavesOnly old mid (LeavesLog k sealing list old.told)) sizes (c.force_for.ensures.seals.any_moment list (fits quiet) ready.records) in
+    let front = λ (quiet : IsQuiet old). subst (λ (k : Geometry). LeavesFront k first old mid) sizes (c.force_for.ensures.seals.front list (fits quiet) ready.records quiet) in
     record {
       any_moment = λ given quiet are clean. force_leaves h sealing list old mid (leaves quiet) changes quiet c.ring_kept.ensures (front quiet)
           (record { first = store.flash.directory.first; groups = ready.pages.groups; has = ready.pages.holds.has; saved = ready.pages.holds.saved }) given ready.pages.clean;
@@ -74,7 +74,7 @@ returns-in-Err-clause-keeps g c list ready =
     }
 
 pub returns-in-Err-clause-stages : goal.returns-in-Err-clause-stages
-returns-in-Err-clause-stages g c = stages_beside tt (omega arith) c.force_for.ensures.changes c.in-Err.ensures.calls refl
+returns-in-Err-clause-stages g c = stages_beside tt (omega arith) c.force_for.ensures.seals.changes c.in-Err.ensures.calls refl
 
 pub returns-in-Ok : goal.returns-in-Ok
 returns-in-Ok g c =
@@ -91,7 +91,7 @@ returns-in-Ok g c =
     let flash : after.flash ≡ cache = ap (λ (s : PageStore). s.flash) told in
     let frames : after.pool.frames ≡ store.pool.frames = ap (λ (s : PageStore). s.pool.frames) told in
     let are_told : AreTold after = told_pushed c.push_group-pushed.result store cache _ c.args.pages.now c.args.changed.now c.tell_marks.new.self after c.requires.going.pages_going.own.told
-    c.push_group-pushed.ensures.directory c.push_group-pushed.ensures.kept c.leaving-count.ensures.marks
+    c.push_group-pushed.ensures.directory c.push_group-pushed.ensures.keeps.kept c.leaving-count.ensures.marks
     (ap (λ (s : PageStore). s.pool.frames) first_told) (ap (λ (s : PageStore). s.pool.frames) c.tell_pages.ensures.kept) c.tell_marks.ensures.told c.tell_pages.ensures.told in
     let h = store.flash.geometry in
     let log = c.args.log.now in
@@ -106,14 +106,14 @@ returns-in-Ok g c =
     let same_sizes : log'.geometry ≡ h = c.force_for.ensures.forces.geometry ∙ sizes in
     let rises = c.force_for.ensures.forces.rises in
     let b = λ (list : LogList) (ready : AreReady store log list old). between store log log' sealing list old mid ready
-    (c.force_for.ensures.changes ready.blocks.honest) c.force_for.ensures.calls.goes (c.in-Ok.ensures.finds ready.blocks)
+    (c.force_for.ensures.seals.changes ready.blocks.honest) c.force_for.ensures.calls.goes (c.in-Ok.ensures.seals.finds ready.blocks)
     (c.in-Ok.ensures.holds list ready.blocks ready.records) in
     let has = λ (list : LogList) (ready : AreReady store log list old). c.push_group-pushed.ensures.frames ready.pages.groups (b list ready).fits
     (b list ready).holds in
     let same = λ (list : LogList) (ready : AreReady store log list old). group_changes_since store.flash pages changed contents old.image mid.image
     (b list ready).flash (b list ready).disk in
     let reached = λ (list : LogList) (ready : AreReady store log list old). subst (λ (k : Geometry). Reaches k (first list) old.image mid.image) sizes
-    (c.in-Ok.ensures.reaches list ready.blocks ready.records) in
+    (c.in-Ok.ensures.seals.reaches list ready.blocks ready.records) in
     let sealed_blocks = λ (list : LogList) (ready : AreReady store log list old).
     subst (λ (k : Geometry). HasBlocks k (sealed_if sealing list).first (sealed_if sealing list).blocks mid.image) same_sizes (b list ready).log_holds.blocks in
     let kept_rings = λ (list : LogList) (ready : AreReady store log list old) (sound : AllByRecursion IsSound contents). pushing_keeps store.flash mid
@@ -125,16 +125,16 @@ returns-in-Ok g c =
     let now : 512 * log'.ring.hi ≡ sealed_end h mid.image = ap (λ (n : ℕ). 512 * n) (b list ready).log_fits.hi ∙ ap (λ (k : Geometry). sealed_end k mid.image) same_sizes in now in
     let before = λ (list : LogList) (ready : AreReady store log list old).
     let now : 512 * log.ring.hi ≡ sealed_end h old.image = ap (λ (n : ℕ). 512 * n) ready.blocks.hi ∙ ap (λ (k : Geometry). sealed_end k old.image) sizes in now in
-    let by_forcing : Stages {T = Unit {0}} (Ok tt) [] (next_group (cache_of store)) store store old mid = stages_beside refl (omega arith) c.force_for.ensures.changes c.in-Ok.ensures.calls refl in
+    let by_forcing : Stages {T = Unit {0}} (Ok tt) [] (next_group (cache_of store)) store store old mid = stages_beside refl (omega arith) c.force_for.ensures.seals.changes c.in-Ok.ensures.calls refl in
     record {
       keeps = λ list ready.
           let b = b list ready in
           let groups = ready.pages.groups in
-          let changes = c.force_for.ensures.changes ready.blocks.honest in
+          let changes = c.force_for.ensures.seals.changes ready.blocks.honest in
           let still = c.in-Ok.ensures.calls.stays_quiet ready.blocks.honest in
           let fits = λ (quiet : IsQuiet old). log_fits log old quiet ready.blocks in
-          let leaves = λ (quiet : IsQuiet old). subst (λ (k : Geometry). LeavesOnly old mid (LeavesLog k sealing list old.told)) sizes (c.force_for.ensures.any_moment list (fits quiet) ready.records) in
-          let front = λ (quiet : IsQuiet old). subst (λ (k : Geometry). LeavesFront k (first list) old mid) sizes (c.force_for.ensures.front list (fits quiet) ready.records quiet) in
+          let leaves = λ (quiet : IsQuiet old). subst (λ (k : Geometry). LeavesOnly old mid (LeavesLog k sealing list old.told)) sizes (c.force_for.ensures.seals.any_moment list (fits quiet) ready.records) in
+          let front = λ (quiet : IsQuiet old). subst (λ (k : Geometry). LeavesFront k (first list) old mid) sizes (c.force_for.ensures.seals.front list (fits quiet) ready.records quiet) in
           let pushing = λ (quiet : IsQuiet old). c.push_group-pushed.ensures.front groups b.fits b.holds (still quiet) in
           let versions = λ (quiet : IsQuiet old). c.push_group-pushed.ensures.versions groups b.fits b.holds (still quiet) b.clean in
           let untouched = (c.push_group-pushed.ensures.changes b.honest).log in
@@ -158,9 +158,9 @@ returns-in-Ok g c =
                 (rings_front newest (c.rings_kept_under.ensures newest) h _ mid new (holds_now old mid (LeavesRings newest h) forced)
                 (kept_rings list ready sound) (pushing quiet));
             front_moment = λ quiet. subst (λ (l : List Change). LeavesFront h (first list ++ l) old new) (same list ready) (c.fronts_add_up.ensures h (first list) second old mid new (front quiet) (reached list ready) b.told (pushing quiet));
-            quiet = λ quiet. c.push_group-pushed.ensures.quiet_err b.honest (still quiet);
+            quiet = λ quiet. c.push_group-pushed.ensures.keeps.quiet_err b.honest (still quiet);
             worn_log = search rules;
-            worn = c.push_group-pushed.ensures.worn_end b.fits;
+            worn = c.push_group-pushed.ensures.keeps.worn_end b.fits;
             readable = c.push_group-pushed.ensures.foreign groups b.fits b.holds;
           };
       -- what stands behind the push, whatever is loose
@@ -180,7 +180,7 @@ returns-in-Ok g c =
             gives = gives;
             reaches = made;
             past = push_calls h list sealing (changes_of_group store.flash old.image pages changed contents) log.ring.hi log'.ring.hi old mid new made (paid_group store.flash old.image pages changed contents)
-                c.in-Ok.ensures.forces.next (c.in-Ok.ensures.past ready.blocks.honest) past (own.told ∙ b.told) (c.force_for.ensures.changes ready.blocks.honest).only.grown own.log.grown;
+                c.in-Ok.ensures.forces.next (c.in-Ok.ensures.seals.past ready.blocks.honest) past (own.told ∙ b.told) (c.force_for.ensures.seals.changes ready.blocks.honest).only.grown own.log.grown;
             leaves = λ given are given_clean. pushed_pages store.flash groups pages changed contents old mid new b.flash b.disk b.told c.ring_kept.ensures
                 (masters_kept c.ring_kept.ensures h (first list) old (snapshot_of mid) (own_sealing sealing list) (reached_all h (first list) old mid b.told (reached list ready))) given sealing list are (sealed_blocks list ready)
                 (snapshot_of new) now (clean (cleaned given_clean)) (reached_all h _ mid new own.told reaches);
@@ -190,32 +190,32 @@ returns-in-Ok g c =
             rings = λ newest rings sound.
                 (c.rings_kept_under.ensures newest) h _ mid.image new.image ((c.rings_kept_under.ensures newest) h (first list) old.image mid.image rings (sealing_keeps h old.image sealing list) (reached list ready)) (kept_rings list ready sound) reaches;
             ready = λ given_clean sound marked. record {
-              pages = fits_told store' after new told (fits_behind store cache log list old ready c.push_group-pushed.ensures.geometry pages contents new _ fits holds (clean (cleaned given_clean)) gives c.requires.lists sound marked);
-              blocks = log_found log' mid new units c.push_group-pushed.ensures.goes b.log_fits;
+              pages = fits_told store' after new told (fits_behind store cache log list old ready c.push_group-pushed.ensures.keeps.geometry pages contents new _ fits holds (clean (cleaned given_clean)) gives c.requires.lists sound marked);
+              blocks = log_found log' mid new units c.push_group-pushed.ensures.keeps.goes b.log_fits;
               records = c.stays_beside.ensures.holds log' mid.image new.image (sealed_if sealing list) units b.log_holds;
             };
           })
           c.push_group-pushed.ensures.directory (c.push_group-pushed.ensures.gives groups b.fits b.holds b.clean) (c.push_group-pushed.ensures.reaches groups b.fits b.holds)
-          (ok_under c.push_group-pushed.result _ _ (c.push_group-pushed.ensures.clean groups b.fits b.holds b.clean)) (c.push_group-pushed.ensures.fits b.fits) (c.push_group-pushed.ensures.holds groups b.fits b.holds)
+          (ok_under c.push_group-pushed.result _ _ (c.push_group-pushed.ensures.clean groups b.fits b.holds b.clean)) (c.push_group-pushed.ensures.keeps.fits b.fits) (c.push_group-pushed.ensures.holds groups b.fits b.holds)
           (c.push_group-pushed.ensures.past b.honest);
       pushes =
-          let log_reads = c.push_group-pushed.ensures.others Log (λ same. cc) ∙ c.force_for.ensures.reads Log in
-          let going : Invariant after new = going_told store cache after old new c.push_group-pushed.ensures.geometry told c.push_group-pushed.ensures.going are_told c.requires.going.pages_going in
+          let log_reads = c.push_group-pushed.ensures.others Log (λ same. cc) ∙ c.force_for.ensures.seals.reads Log in
+          let going : Invariant after new = going_told store cache after old new c.push_group-pushed.ensures.keeps.geometry told c.push_group-pushed.ensures.keeps.going are_told c.requires.going.pages_going in
           record {
             works = record {
               calls = search rules;
               forces = search rules;
               going = going;
               log_going = search rules;
-              geometry = ap (λ (f : FlashCache). f.geometry) flash ∙ c.push_group-pushed.ensures.geometry;
+              geometry = ap (λ (f : FlashCache). f.geometry) flash ∙ c.push_group-pushed.ensures.keeps.geometry;
               size = ap (λ (s : PageStore). s.pool.size) told;
               log_reads = log_reads;
               stops = search rules;
               next = λ honest.
                   let own = c.push_group-pushed.ensures.changes (stays_honest old mid c.force_for.ensures.calls.goes honest) in
                   next_with {middle = store'} refl flash (next_then {a = tt} {between = store} c.force_for.ensures.forces.geometry refl
-                  (next_logged {pages = store} (c.in-Ok.ensures.next_block honest) (c.force_for.ensures.changes honest) (λ says. no_error says))
-                  (next_pushed {pages' = store'} (c.push_group-pushed.ensures.next_segment (stays_honest old mid c.force_for.ensures.calls.goes honest)) own.log.now.content (search rules)));
+                  (next_logged {pages = store} (c.in-Ok.ensures.seals.next_block honest) (c.force_for.ensures.seals.changes honest) (λ says. no_error says))
+                  (next_pushed {pages' = store'} (c.push_group-pushed.ensures.keeps.next_segment (stays_honest old mid c.force_for.ensures.calls.goes honest)) own.log.now.content (search rules)));
             };
             logged = λ all. (let all_told = subst (AllByRecursion (λ (f : Frame). IsLogged (end_forced log) f.content)) (sym frames) all in search rules);
             ended = ap (λ (s : PageStore). s.ended) told;
@@ -223,17 +223,17 @@ returns-in-Ok g c =
           };
       stages = stages_between {mid = store} refl flash (stages_then {more = staged_in_push (rules_for store) store.flash.directory} {next = next_group (cache_of store)} {next' = next_group (cache_of store) + 1} (λ (has : HasQueueOn store old). omega arith)
           by_forcing (record {
-            holds = λ has. queue_pushed c.push_group-pushed.result c.push_group-pushed.new.self store _ new c.push_group-pushed.ensures.going (c.push_group-pushed.ensures.fits has.fits) (c.push_group-pushed.ensures.holds has.groups has.fits has.holds);
-            quiet = λ has quiet. c.push_group-pushed.ensures.quiet has.fits.honest quiet;
+            holds = λ has. queue_pushed c.push_group-pushed.result c.push_group-pushed.new.self store _ new c.push_group-pushed.ensures.keeps.going (c.push_group-pushed.ensures.keeps.fits has.fits) (c.push_group-pushed.ensures.holds has.groups has.fits has.holds);
+            quiet = λ has quiet. c.push_group-pushed.ensures.keeps.quiet has.fits.honest quiet;
             writes = λ has quiet. push_writes store (is_due store.flash.ring.hi store.flash.segments.hi) (groups_on store.flash.geometry mid.image) _ mid new has (c.push_group-pushed.ensures.front has.groups has.fits has.holds quiet);
             last = λ has quiet. c.push_group-pushed.ensures.last has.groups has.fits has.holds quiet;
-            sizes = c.push_group-pushed.ensures.geometry;
+            sizes = c.push_group-pushed.ensures.keeps.geometry;
           }));
       worn = search rules;
       worn_at = λ says.
-          let kept = ap (λ (q : Queue). q.first + length q.groups) (kept_where c.push_group-pushed.result _ _ says c.push_group-pushed.ensures.kept) in
-          ap (λ (f : FlashCache). f.ring.hi) flash ∙ omega (arith, c.push_group-pushed.ensures.worn says, c.push_group-pushed.ensures.going.next, c.requires.going.pages_going.flash.next, kept);
+          let kept = ap (λ (q : Queue). q.first + length q.groups) (kept_where c.push_group-pushed.result _ _ says c.push_group-pushed.ensures.keeps.kept) in
+          ap (λ (f : FlashCache). f.ring.hi) flash ∙ omega (arith, c.push_group-pushed.ensures.keeps.worn says, c.push_group-pushed.ensures.keeps.going.next, c.requires.going.pages_going.flash.next, kept);
       pool = ap (λ (s : PageStore). s.pool) told;
       directory = ok_as c.push_group-pushed.result _ _ (λ is. ap (λ (f : FlashCache). f.directory) flash ∙ is) c.push_group-pushed.ensures.directory;
-      reads = omega (arith, c.force_for.ensures.reads Flash, c.push_group-pushed.ensures.reads);
+      reads = omega (arith, c.force_for.ensures.seals.reads Flash, c.push_group-pushed.ensures.reads);
     }

@@ -22,9 +22,9 @@ use Rattle.page_store.proofs.store.PageStore.read_version.Goals as goal
 
 pub returns-in-Err-clause-reads : goal.returns-in-Err-clause-reads
 returns-in-Err-clause-reads g c =
-    let same = c.fetch.ensures.same in
-    let disk = c.fetch.ensures.others Disk (λ same. cc) in
-    let log = c.fetch.ensures.others Log (λ same. cc) in
+    let same = c.fetch.ensures.reads.same in
+    let disk = c.fetch.ensures.reads.others Disk (λ same. cc) in
+    let log = c.fetch.ensures.reads.others Log (λ same. cc) in
     let going = store_with c.args.self.now c.fetch.new.self (g.S.Site.state c.args.site.now) (g.S.Site.state c.fetch.new.site) c.fetch.ensures.geometry
     (λ n. ap (λ (f : FlashCache). has_frame f.directory n) c.in-Err.ensures.err) c.fetch.ensures.going c.requires.going in
     search rules
@@ -35,9 +35,9 @@ returns-then-found-clause-reads g c =
     let has : has_frame store.flash.directory c.args.page ≡ true = sym c.in-Ok.ensures.found ∙ c.if-found.true in
     record {
       calls = search rules;
-      same = c.fetch.ensures.same;
+      same = c.fetch.ensures.reads.same;
       fits = λ fits.
-          ok_as c.sound_page.result _ (Matches (record store { flash = c.fetch.new.self }) _) (λ x. fits_with store c.fetch.new.self _ _ fits (ap (λ (f : FlashCache). f.geometry) (c.in-Ok.ensures.marked has)) (c.fetch.ensures.same fits.flash.honest)
+          ok_as c.sound_page.result _ (Matches (record store { flash = c.fetch.new.self }) _) (λ x. fits_with store c.fetch.new.self _ _ fits (ap (λ (f : FlashCache). f.geometry) (c.in-Ok.ensures.marked has)) (c.fetch.ensures.reads.same fits.flash.honest)
           (c.in-Ok.ensures.fits fits.flash) (c.in-Ok.ensures.holds fits.groups fits.flash fits.holds)) c.sound_page.ensures.sound;
       going = store_with store c.fetch.new.self (g.S.Site.state c.args.site.now) (g.S.Site.state c.fetch.new.site) (ap (λ (f : FlashCache). f.geometry) (c.in-Ok.ensures.marked has))
           (λ n. ap (λ (f : FlashCache). has_frame f.directory n) (c.in-Ok.ensures.marked has) ∙ read_has c.args.page store.flash.directory n) c.fetch.ensures.going c.requires.going;
@@ -45,8 +45,8 @@ returns-then-found-clause-reads g c =
       segments = c.fetch.ensures.segments;
       ended = refl;
       flash_reads = search rules;
-      disk_reads = omega (arith, c.fetch.ensures.others Disk (λ same. cc));
-      log_reads = c.fetch.ensures.others Log (λ same. cc);
+      disk_reads = omega (arith, c.fetch.ensures.reads.others Disk (λ same. cc));
+      log_reads = c.fetch.ensures.reads.others Log (λ same. cc);
       foreign = λ is fits. kept_where c.sound_page.result Foreign _ is c.sound_page.ensures.unsound
           (subst IsSound (sym (c.in-Ok.ensures.fetched fits.groups fits.flash fits.holds c.if-found.true)) (fits.sound c.args.page c.requires.exists));
     }
@@ -78,8 +78,8 @@ returns-in-Ok-read_disk-clause-reads g c =
       calls = search rules;
       same = search rules;
       fits = λ fits.
-          let first = c.fetch.ensures.same fits.flash.honest in
-          let honest = stays_honest old mid c.fetch.ensures.goes fits.flash.honest in
+          let first = c.fetch.ensures.reads.same fits.flash.honest in
+          let honest = stays_honest old mid c.fetch.ensures.reads.goes fits.flash.honest in
           let second = c.read_disk.ensures.same honest in
           let flash = ap (λ i. i.flash) second.image in
           ok_as c.sound_page-in-Ok-read_disk.result _ (Matches (record store { flash = cache }) new) (λ x. fits_with store cache old new fits (same_geometry g s) (unchanged_in_sequence old mid new first second)
@@ -93,8 +93,8 @@ returns-in-Ok-read_disk-clause-reads g c =
       disk_reads = search rules;
       log_reads = search rules;
       foreign = λ is fits.
-          let first = c.fetch.ensures.same fits.flash.honest in
-          let read = c.in-Ok-read_disk.ensures.read (stays_honest old mid c.fetch.ensures.goes fits.flash.honest) in
+          let first = c.fetch.ensures.reads.same fits.flash.honest in
+          let read = c.in-Ok-read_disk.ensures.read (stays_honest old mid c.fetch.ensures.reads.goes fits.flash.honest) in
           kept_where c.sound_page-in-Ok-read_disk.result Foreign _ is c.sound_page-in-Ok-read_disk.ensures.unsound
           (subst IsSound (sym (read ∙ ap (λ (i : Image). page_on c.args.page i.disk) first.image ∙ sym (c.unframed_is_disk.ensures store.flash old.image fits.groups c.args.page fits.holds (unframed g s)))) (fits.sound c.args.page c.requires.exists));
     }
@@ -112,11 +112,11 @@ returns-in-Err-read_disk-clause-reads g c =
     search rules
 
 pub returns-in-Err-clause-stages : goal.returns-in-Err-clause-stages
-returns-in-Err-clause-stages g c = stages_still tt (omega arith) c.fetch.ensures.same c.fetch.ensures.geometry (λ has. tt)
+returns-in-Err-clause-stages g c = stages_still tt (omega arith) c.fetch.ensures.reads.same c.fetch.ensures.geometry (λ has. tt)
 
 pub returns-then-found-clause-stages : goal.returns-then-found-clause-stages
 returns-then-found-clause-stages g c =
-    stages_still (ok_always c.sound_page.result _ refl) (omega arith) c.fetch.ensures.same c.fetch.ensures.geometry (λ has.
+    stages_still (ok_always c.sound_page.result _ refl) (omega arith) c.fetch.ensures.reads.same c.fetch.ensures.geometry (λ has.
     ok_always c.sound_page.result (HasQueueOn (record c.args.self.now { flash = c.fetch.new.self }) (g.S.Site.state c.fetch.new.site))
     (queue_pushed {T = Bool} (Ok c.in-Ok.found) c.fetch.new.self c.args.self.now has.groups (g.S.Site.state c.fetch.new.site) c.fetch.ensures.going (c.in-Ok.ensures.fits has.fits) (c.in-Ok.ensures.holds has.groups has.fits has.holds)))
 
@@ -127,7 +127,7 @@ returns-in-Ok-read_disk-clause-stages g c =
     let new = g.S.Site.state c.read_disk.new.site in
     let after : PageStore = record store { flash = c.fetch.new.self } in
     stages_still (ok_always c.sound_page-in-Ok-read_disk.result _ refl) (omega arith) (search rules) c.fetch.ensures.geometry (λ has.
-    let honest = stays_honest (g.S.Site.state c.args.site.now) mid c.fetch.ensures.goes has.fits.honest in
+    let honest = stays_honest (g.S.Site.state c.args.site.now) mid c.fetch.ensures.reads.goes has.fits.honest in
     let second = c.read_disk.ensures.same honest in
     ok_always c.sound_page-in-Ok-read_disk.result (HasQueueOn after new)
     (queue_same after after mid new refl (ap (λ i. i.flash) second.image) (stays_honest mid new c.read_disk.ensures.calls.goes honest)

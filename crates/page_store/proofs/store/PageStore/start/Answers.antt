@@ -23,7 +23,7 @@ returns-clause-fits g c honest first groups has saved clean sound =
     let old = g.S.Site.state c.args.site.now in
     let new = g.S.Site.state c.start.new.site in
     let store : PageStore = record { alloc = c.args.alloc; pool = c.in_ok-pool.pool; flash = c.in-Ok.flash; ended = false } in
-    fits_at_start store c.args.geometry.now old new groups c.in-Ok.ensures.geometry (ap (λ (p : Pool). p.frames) c.in_ok-pool.ensures.empty) (c.start.ensures.same honest).image
+    fits_at_start store c.args.geometry.now old new groups c.in-Ok.ensures.geometry (ap (λ (p : Pool). p.frames) c.in_ok-pool.ensures.empty) (c.start.ensures.reads.same honest).image
     (c.in-Ok.ensures.fits honest first groups has saved) (c.in-Ok.ensures.holds honest first groups has saved) clean sound
 
 pub returns-clause-going : goal.returns-clause-going

@@ -92,9 +92,9 @@ module _ (g : Over) (c : After-force g) (newest : Option Master) (records : List
   moments quiet = under_leaves_either_for newest _ _ _ table _ commits _ (either_after newest pages.flash.geometry old mid new table _ commits
       ((c.log_record.ensures.keeps pages newest records table commits held.both).any_moment c.requires.may.going.both quiet)
       (leaves_either c.log_laws.ensures c.page_laws.ensures c.beside_laws.ensures c.commit_laws.ensures log pages mid newest records table commits c.args.txn c.args.number c.in-Ok.lsn last sizes
-      c.in-Ok.ensures.some may new (calm quiet) (c.force.ensures.changes last.ready.blocks.honest)
-      (c.force.ensures.any_moment list (fits quiet) last.ready.records)
-      (c.force.ensures.front list (fits quiet) last.ready.records (calm quiet)) c.requires.may.going.both.pages_going.own))
+      c.in-Ok.ensures.some may new (calm quiet) (c.force.ensures.seals.changes last.ready.blocks.honest)
+      (c.force.ensures.seals.any_moment list (fits quiet) last.ready.records)
+      (c.force.ensures.seals.front list (fits quiet) last.ready.records (calm quiet)) c.requires.may.going.both.pages_going.own))
 
   skips : (r : Result ℕ Stop) → OnOk r (blocks_to c.force.new.self ≤ blocks_to log + 0) → OnOk r (CallsForUnits log.geometry mid new) → IsQuiet old →
       SkipsNone r pages.flash.geometry c.args.self.now.log c.force.new.self old new 1 0
@@ -103,7 +103,7 @@ module _ (g : Over) (c : After-force g) (newest : Option Master) (records : List
       ((c.in-Ok.ensures.keeps pages newest records table commits held.both).numbers c.requires.may.going.both quiet))
       (skips_on r log.geometry pages.flash.geometry log c.force.new.self mid new 0 0 sizes
       (log_skips c.ring_kept.ensures r log.geometry log c.force.new.self list (has_tail log) mid new 0 (ready_next pages log list mid last.ready) (λ tail. tail)
-      (c.force.ensures.any_moment list (fits quiet) last.ready.records) (c.force.ensures.front list (fits quiet) last.ready.records (calm quiet)) few calls)) (omega arith) refl
+      (c.force.ensures.seals.any_moment list (fits quiet) last.ready.records) (c.force.ensures.seals.front list (fits quiet) last.ready.records (calm quiet)) few calls)) (omega arith) refl
 
 pub returns-in-Ok-force-clause-holds : goal.returns-in-Ok-force-clause-holds
 returns-in-Ok-force-clause-holds g c newest records table commits held may =
@@ -119,21 +119,21 @@ returns-in-Ok-force-clause-holds g c newest records table commits held may =
     let sizes = sizes g s newest records table commits held may in
     let m = last g s newest records table commits held may in
     let list : LogList = record { first = kept_by newest; blocks = m.blocks; tail = m.front ++ Commit c.args.txn c.args.number ∷ [] } in
-    let changes = c.force.ensures.changes m.ready.blocks.honest in
-    let finds' = c.in-Ok-force.ensures.finds m.ready.blocks in
-    let reaches = c.in-Ok-force.ensures.reaches list m.ready.blocks m.ready.records in
+    let changes = c.force.ensures.seals.changes m.ready.blocks.honest in
+    let finds' = c.in-Ok-force.ensures.seals.finds m.ready.blocks in
+    let reaches = c.in-Ok-force.ensures.seals.reaches list m.ready.blocks m.ready.records in
     let holds : log_store.Represents log' new.image (sealed_if true list) =
     subst (λ (b : Bool). log_store.Represents log' new.image (sealed_if b list)) some (c.in-Ok-force.ensures.holds list m.ready.blocks m.ready.records) in
-    let next : log'.ring.hi ≡ log.ring.hi + 1 = c.in-Ok-force.ensures.next ∙ ap (λ (b : Bool). if b then log.ring.hi + 1 else log.ring.hi) some in
+    let next : log'.ring.hi ≡ log.ring.hi + 1 = c.in-Ok-force.ensures.seals.next ∙ ap (λ (b : Bool). if b then log.ring.hi + 1 else log.ring.hi) some in
     let first = (c.in-Ok.ensures.keeps pages newest records table commits held.both).masters in
     let second : KeepsUnits master_shape mid.image new.image =
     c.ring_kept.ensures log.geometry Masters (changes_if (has_tail log) list) mid.image new.image (seals_only (has_tail log) list) reaches in
     record {
-      both = commit_holds c.log_laws.ensures c.page_laws.ensures c.beside_laws.ensures c.commit_laws.ensures log pages mid newest records table commits c.args.txn c.args.number _ m sizes some may log' new changes c.force.ensures.goes
+      both = commit_holds c.log_laws.ensures c.page_laws.ensures c.beside_laws.ensures c.commit_laws.ensures log pages mid newest records table commits c.args.txn c.args.number _ m sizes some may log' new changes c.force.ensures.seals.goes
           (rings_then c.log_laws.ensures c.page_laws.ensures c.beside_laws.ensures c.commit_laws.ensures log pages mid newest records table commits c.args.txn c.args.number _ m sizes some may new reaches)
           (sealed_then c.log_laws.ensures c.page_laws.ensures c.beside_laws.ensures c.commit_laws.ensures log pages mid newest records table commits c.args.txn c.args.number _ m sizes some may log' new
-          changes c.force.ensures.geometry finds' c.force.ensures.at_most_one.0)
-          finds' holds next c.force.ensures.kept c.in-Ok-force.ensures.empty c.log_record.ensures.works.log_going.high
+          changes c.force.ensures.seals.geometry finds' c.force.ensures.seals.at_most_one.0)
+          finds' holds next c.force.ensures.seals.kept c.in-Ok-force.ensures.empty c.log_record.ensures.works.log_going.high
           (ap (nat_lt 2) c.in-Ok-force.ensures.empty);
       orderly = ends_orderly c.log_laws.ensures c.orderly_goes_on.ensures.orderly k log pages mid newest records table commits (Commit c.args.txn c.args.number) _ (versions_on k old.image)
           m (c.log_record.ensures.pages pages newest records table commits held.both).versions
@@ -154,19 +154,19 @@ returns-in-Err-force-clause-keeps g c newest records table commits held may =
     record {
       ends = record {
         any_moment = moments g s newest records table commits held may;
-        quiet = λ quiet other. elim c.in-Err-force.ensures.stops [
+        quiet = λ quiet other. elim c.in-Err-force.ensures.seals.stops [
           | inl device ↦ absurd (other Log device)
-          | inr worn ↦ subst IsQuiet (ap g.S.Site.state (sym (c.force.ensures.unchanged (inr (c.in-Err-force.ensures.worn.0 (ap Err worn)).1))))
+          | inr worn ↦ subst IsQuiet (ap g.S.Site.state (sym (c.force.ensures.unchanged (inr (c.in-Err-force.ensures.seals.worn.0 (ap Err worn)).1))))
               (calm g s newest records table commits held may quiet)
         ];
         worn_log = λ is.
             let same : c.in-Err-force.stop ≡ Worn Log = cc in
-            let worn = (c.in-Err-force.ensures.worn.0 (ap Err same)).1 in
+            let worn = (c.in-Err-force.ensures.seals.worn.0 (ap Err same)).1 in
             subst (λ (x : Geometry). IsLogWorn x new.image) (sizes g s newest records table commits held may)
             (log_at_end c.log_record.new.log (g.S.Site.state c.log_record.new.site) new (last g s newest records table commits held may).ready.blocks
             (ap g.S.Site.state (c.force.ensures.unchanged (inr worn))) worn);
-        worn = λ is. absurd (never_worn_flash (Err c.in-Err-force.stop) c.in-Err-force.ensures.stops is);
-        readable = appends_foreign (Err c.in-Err-force.stop) c.in-Err-force.ensures.stops;
+        worn = λ is. absurd (never_worn_flash (Err c.in-Err-force.stop) c.in-Err-force.ensures.seals.stops is);
+        readable = appends_foreign (Err c.in-Err-force.stop) c.in-Err-force.ensures.seals.stops;
       };
       numbers = skips g s newest records table commits held may (Err c.in-Err-force.stop) tt tt;
     }
@@ -178,24 +178,24 @@ returns-in-Ok-force-clause-keeps g c newest records table commits held may =
     let m = last g s newest records table commits held may in
     keeps_ok (moments g s newest records table commits held may)
     (skips g s newest records table commits held may (Ok c.in-Ok.lsn)
-    (same_at_most c.log_record.new.log c.force.new.self c.in-Ok.ensures.some c.in-Ok-force.ensures.next c.in-Ok-force.ensures.empty)
+    (same_at_most c.log_record.new.log c.force.new.self c.in-Ok.ensures.some c.in-Ok-force.ensures.seals.next c.in-Ok-force.ensures.empty)
     (log_calls (Ok c.in-Ok.lsn) log.geometry log.ring.hi c.force.new.self.ring.hi (list g s newest records table commits held may) (has_tail log) (g.S.Site.state c.log_record.new.site) (g.S.Site.state c.force.new.site)
-    (c.force.ensures.changes m.ready.blocks.honest) (c.in-Ok-force.ensures.reaches _ m.ready.blocks m.ready.records) c.in-Ok-force.ensures.next (c.in-Ok-force.ensures.past m.ready.blocks.honest)))
+    (c.force.ensures.seals.changes m.ready.blocks.honest) (c.in-Ok-force.ensures.seals.reaches _ m.ready.blocks m.ready.records) c.in-Ok-force.ensures.seals.next (c.in-Ok-force.ensures.seals.past m.ready.blocks.honest)))
 
 pub returns-in-Err-clause-asks : goal.returns-in-Err-clause-asks
 returns-in-Err-clause-asks g c = asks_nothing _ c.args.self.now.pages _ _ c.log_record.ensures.works.reads (stages_err (stages_log c.in-Err.ensures.works))
 
 pub returns-in-Err-force-clause-asks : goal.returns-in-Err-force-clause-asks
-returns-in-Err-force-clause-asks g c = asks_nothing _ c.args.self.now.pages _ _ (λ d. c.force.ensures.reads d ∙ c.log_record.ensures.works.reads d) (stages_then (λ has. omega arith) (stages_log c.in-Ok.ensures.works) (stages_alone c.in-Err-force.ensures.changes c.in-Err-force.ensures.goes (λ honest quiet. tt)))
+returns-in-Err-force-clause-asks g c = asks_nothing _ c.args.self.now.pages _ _ (λ d. c.force.ensures.seals.reads d ∙ c.log_record.ensures.works.reads d) (stages_then (λ has. omega arith) (stages_log c.in-Ok.ensures.works) (stages_alone c.in-Err-force.ensures.seals.changes c.in-Err-force.ensures.seals.goes (λ honest quiet. tt)))
 
 pub returns-in-Ok-force-clause-asks : goal.returns-in-Ok-force-clause-asks
-returns-in-Ok-force-clause-asks g c = asks_nothing _ c.args.self.now.pages _ _ (λ d. c.force.ensures.reads d ∙ c.log_record.ensures.works.reads d) (stages_then (λ has. omega arith) (stages_log c.in-Ok.ensures.works) (stages_alone c.in-Ok-force.ensures.changes c.in-Ok-force.ensures.goes c.in-Ok-force.ensures.quiet))
+returns-in-Ok-force-clause-asks g c = asks_nothing _ c.args.self.now.pages _ _ (λ d. c.force.ensures.seals.reads d ∙ c.log_record.ensures.works.reads d) (stages_then (λ has. omega arith) (stages_log c.in-Ok.ensures.works) (stages_alone c.in-Ok-force.ensures.seals.changes c.in-Ok-force.ensures.seals.goes c.in-Ok-force.ensures.seals.quiet))
 
 pub returns-in-Err-force-clause-reads : goal.returns-in-Err-force-clause-reads
-returns-in-Err-force-clause-reads g c = λ d. c.force.ensures.reads d ∙ c.log_record.ensures.works.reads d
+returns-in-Err-force-clause-reads g c = λ d. c.force.ensures.seals.reads d ∙ c.log_record.ensures.works.reads d
 
 pub returns-in-Ok-force-clause-reads : goal.returns-in-Ok-force-clause-reads
-returns-in-Ok-force-clause-reads g c = λ d. c.force.ensures.reads d ∙ c.log_record.ensures.works.reads d
+returns-in-Ok-force-clause-reads g c = λ d. c.force.ensures.seals.reads d ∙ c.log_record.ensures.works.reads d
 
 -- The next units of the rings.
 
@@ -212,17 +212,17 @@ module _ (g : Over) (c : After-force g) (honest : IsTrue (g.S.Site.state c.args.
   honest_logged = stays_honest (g.S.Site.state c.args.site.now) (g.S.Site.state c.log_record.new.site) c.in-Ok.ensures.works.calls.goes honest
 
   pub changes_both : ChangesOnly Log (g.S.Site.state c.args.site.now) (g.S.Site.state c.force.new.site)
-  changes_both = changes_in_sequence Log (g.S.Site.state c.args.site.now) (g.S.Site.state c.log_record.new.site) (g.S.Site.state c.force.new.site) (c.in-Ok.ensures.works.changes honest) (c.force.ensures.changes honest_logged)
+  changes_both = changes_in_sequence Log (g.S.Site.state c.args.site.now) (g.S.Site.state c.log_record.new.site) (g.S.Site.state c.force.new.site) (c.in-Ok.ensures.works.changes honest) (c.force.ensures.seals.changes honest_logged)
 
 pub returns-in-Err-force-clause-works : goal.returns-in-Err-force-clause-works
 returns-in-Err-force-clause-works g c =
     let s = (goal.at.returns-in-Err-force-clause-works g c).After-force in
     let works = c.in-Ok.ensures.works in
-    let stops = c.in-Err-force.ensures.stops in
+    let stops = c.in-Err-force.ensures.seals.stops in
     let next : IsTrue (g.S.Site.state c.args.site.now).honest → KeepsNext {T = ℕ} (Err c.in-Err-force.stop) c.args.self.now (record c.args.self.now { log = c.force.new.self })
     (g.S.Site.state c.args.site.now) (g.S.Site.state c.force.new.site) =
     λ honest. store_next c.requires.may.going.both.sizes refl (log_stops c.in-Err-force.stop stops)
-    (next_logged (blocks.next_failed (blocks.next_then works.geometry (works.next honest) (c.in-Err-force.ensures.next_block (honest_logged g s honest)))) (changes_both g s honest) (never_worn_flash (Err c.in-Err-force.stop) stops)) in
+    (next_logged (blocks.next_failed (blocks.next_then works.geometry (works.next honest) (c.in-Err-force.ensures.seals.next_block (honest_logged g s honest)))) (changes_both g s honest) (never_worn_flash (Err c.in-Err-force.stop) stops)) in
     search rules
 
 pub returns-in-Ok-force-clause-works : goal.returns-in-Ok-force-clause-works
@@ -232,7 +232,7 @@ returns-in-Ok-force-clause-works g c =
     let next : IsTrue (g.S.Site.state c.args.site.now).honest → KeepsNext {T = ℕ} (Ok c.in-Ok.lsn) c.args.self.now (record c.args.self.now { log = c.force.new.self; made = c.args.self.now.made + 1 })
     (g.S.Site.state c.args.site.now) (g.S.Site.state c.force.new.site) =
     λ honest. store_next c.requires.may.going.both.sizes refl tt
-    (next_logged (blocks.next_answered (blocks.next_then works.geometry (works.next honest) (c.in-Ok-force.ensures.next_block (honest_logged g s honest)))) (changes_both g s honest) (λ says. no_error says)) in
+    (next_logged (blocks.next_answered (blocks.next_then works.geometry (works.next honest) (c.in-Ok-force.ensures.seals.next_block (honest_logged g s honest)))) (changes_both g s honest) (λ says. no_error says)) in
     search rules
 
 -- What it makes of the machine.
@@ -249,8 +249,8 @@ returns-in-Err-force-clause-performs g c newest records table commits held =
     let last = c.in-Ok.ensures.last pages newest records table commits c.requires.may.going.both.sizes held.both in
     let going = c.in-Ok.ensures.works.log_going in
     performs_then (store_performs {new = record c.args.self.now { log = c.log_record.new.log }} refl refl (c.in-Ok.ensures.performs pages newest records table commits c.requires.may.going.both held.both))
-    (store_performs {old = record c.args.self.now { log = c.log_record.new.log }} {new = record c.args.self.now { log = c.force.new.self }} refl refl (performs_failed {A = Unit {0}} (force_performs c.log_record.new.log c.force.new.self pages mid new (record { high = going.high; each = last.below }) (Err c.in-Err-force.stop) (record { worn_log = c.in-Err-force.ensures.worn.0; stops = c.in-Err-force.ensures.stops }) tt tt going.low
-    (current_same c.beside_laws.ensures pages mid new (c.force.ensures.changes last.ready.blocks.honest)) (numbers_left c.force.ensures.going c.requires.may.going.both.pages_going))))
+    (store_performs {old = record c.args.self.now { log = c.log_record.new.log }} {new = record c.args.self.now { log = c.force.new.self }} refl refl (performs_failed {A = Unit {0}} (force_performs c.log_record.new.log c.force.new.self pages mid new (record { high = going.high; each = last.below }) (Err c.in-Err-force.stop) (record { worn_log = c.in-Err-force.ensures.seals.worn.0; stops = c.in-Err-force.ensures.seals.stops }) tt tt going.low
+    (current_same c.beside_laws.ensures pages mid new (c.force.ensures.seals.changes last.ready.blocks.honest)) (numbers_left c.force.ensures.seals.going c.requires.may.going.both.pages_going))))
 
 pub returns-in-Ok-force-clause-performs : goal.returns-in-Ok-force-clause-performs
 returns-in-Ok-force-clause-performs g c newest records table commits held =
@@ -260,5 +260,5 @@ returns-in-Ok-force-clause-performs g c newest records table commits held =
     let last = c.in-Ok.ensures.last pages newest records table commits c.requires.may.going.both.sizes held.both in
     let going = c.in-Ok.ensures.works.log_going in
     performs_then (store_performs {new = record c.args.self.now { log = c.log_record.new.log }} refl refl (c.in-Ok.ensures.performs pages newest records table commits c.requires.may.going.both held.both))
-    (store_performs {old = record c.args.self.now { log = c.log_record.new.log }} refl refl (force_performs c.log_record.new.log c.force.new.self pages mid new (record { high = going.high; each = last.below }) {T = ℕ} (Ok c.in-Ok.lsn) (record { worn_log = λ says. absurd (no_error says); stops = tt }) c.in-Ok-force.ensures.next c.in-Ok-force.ensures.empty going.low
-    (current_same c.beside_laws.ensures pages mid new (c.force.ensures.changes last.ready.blocks.honest)) (numbers_left c.force.ensures.going c.requires.may.going.both.pages_going)))
+    (store_performs {old = record c.args.self.now { log = c.log_record.new.log }} refl refl (force_performs c.log_record.new.log c.force.new.self pages mid new (record { high = going.high; each = last.below }) {T = ℕ} (Ok c.in-Ok.lsn) (record { worn_log = λ says. absurd (no_error says); stops = tt }) c.in-Ok-force.ensures.seals.next c.in-Ok-force.ensures.empty going.low
+    (current_same c.beside_laws.ensures pages mid new (c.force.ensures.seals.changes last.ready.blocks.honest)) (numbers_left c.force.ensures.seals.going c.requires.may.going.both.pages_going)))
