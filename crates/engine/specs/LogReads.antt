@@ -3,7 +3,8 @@ use Rattle.std.specs.Prelude.{ℕ, ◌+◌, List, length, Option, Some, None}
 use Rattle.site.specs.declared.geometry.Geometry.{Geometry}
 use Rattle.record_model.specs.State.{Session, State, session_at}
 use Rattle.record_model.specs.declared.words.Command.{Command}
-use Rattle.record_model.specs.declared.words.Command.TheVariants.{Abort}
+use Rattle.record_model.specs.declared.words.Command.TheVariants.{Begin, Read, Write, Erase, Scan, Commit, Abort, Get}
+use Rattle.record_model.specs.declared.words.Command.TheVariants.{Set, Checkpoint, Cache, Stat, Quit}
 use Rattle.log_records.specs.declared.log_record.LogRecord.{LogRecord}
 use Rattle.log_records.specs.Unfinished.{pending}
 use Rattle.checkpoint.specs.declared.master.Master.{Master}
@@ -16,8 +17,19 @@ undo_reads (Some session) = length session.writes + 1
 
 -- how often a command reads the log at most: an abort undoes its session
 abbrev pub log_reads_by : State → Command → ℕ
+log_reads_by s (Begin n) = 0
+log_reads_by s (Read n number) = 0
+log_reads_by s (Write n number value) = 0
+log_reads_by s (Erase n number) = 0
+log_reads_by s (Scan n number count) = 0
+log_reads_by s (Commit n) = 0
 log_reads_by s (Abort n) = undo_reads (session_at s n)
-log_reads_by s _ = 0
+log_reads_by s (Get number) = 0
+log_reads_by s (Set number value) = 0
+log_reads_by s Checkpoint = 0
+log_reads_by s Cache = 0
+log_reads_by s Stat = 0
+log_reads_by s Quit = 0
 
 -- A restart over these kept blocks finds the rings on the log's device by one read of each slot of the log's ring and
 -- six more, reads each of the blocks once, and once more the record of each Update that remains to be undone.

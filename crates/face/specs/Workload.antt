@@ -4,7 +4,7 @@ use Rattle.std.specs.Prelude.{Some, None}
 use Rattle.site.specs.declared.geometry.Geometry.{Geometry}
 use Rattle.record_model.specs.declared.words.Command.TheVariants.{Get, Set}
 use Rattle.record_model.specs.declared.words.Reply.{Reply}
-use Rattle.record_model.specs.declared.words.Reply.TheVariants.{Value}
+use Rattle.record_model.specs.declared.words.Reply.TheVariants as reply
 use Rattle.record_model.specs.State.{State}
 use Rattle.record_model.specs.Step.{makes_checkpoint}
 use Rattle.record_model.specs.Run.{Line, Turn, is_committed}
@@ -58,8 +58,19 @@ abbrev pub checkpoints_in : List Turn → ℕ
 checkpoints_in run = count_by (λ t. makes_one t.before t.line) run
 
 abbrev pub is_value : Reply → Bool
-is_value (Value value) = true
-is_value _ = false
+is_value reply.Done = false
+is_value (reply.Value value) = true
+is_value reply.Nothing = false
+is_value (reply.Committed count) = false
+is_value reply.Aborted = false
+is_value reply.Checked = false
+is_value (reply.Items items) = false
+is_value (reply.Listing lines) = false
+is_value (reply.Stat counts) = false
+is_value reply.Bye = false
+is_value (reply.Busy session) = false
+is_value (reply.Full used owed cap) = false
+is_value (reply.Refused why) = false
 
 abbrev pub found_in : List Turn → ℕ
 found_in run = count_by (λ t. is_value t.reply) run

@@ -38,10 +38,19 @@ RefusedChangesNothing = (checkpoints : Bool) (s : State) (command : Command) (li
 
 -- whether a reply says that the command wasn't carried out
 abbrev pub is_refused : Reply → Bool
+is_refused reply.Done = false
+is_refused (reply.Value value) = false
+is_refused reply.Nothing = false
+is_refused (reply.Committed count) = false
+is_refused reply.Aborted = false
+is_refused reply.Checked = false
+is_refused (reply.Items items) = false
+is_refused (reply.Listing lines) = false
+is_refused (reply.Stat counts) = false
+is_refused reply.Bye = false
 is_refused (reply.Busy session) = true
 is_refused (reply.Full used owed cap) = true
 is_refused (reply.Refused why) = true
-is_refused _ = false
 
 -- whether a command was accepted is told by its reply
 abbrev pub RefusalsAreTold : Type 0

@@ -3,7 +3,8 @@ use Rattle.std.specs.Prelude.{ℕ, zero, suc, ◌+◌, ◌-◌, ◌≤◌, Bool,
 use Rattle.std.specs.Prelude.{drop, count_by, slice_index_or, nat_eq, Option, Some, None, if◌then◌else◌}
 use Rattle.std.specs.List.{starts_with}
 use Rattle.record_model.specs.declared.words.Command.{Command}
-use Rattle.record_model.specs.declared.words.Command.TheVariants.{Cache, Quit}
+use Rattle.record_model.specs.declared.words.Command.TheVariants.{Begin, Read, Write, Erase, Scan, Commit, Abort, Get}
+use Rattle.record_model.specs.declared.words.Command.TheVariants.{Set, Checkpoint, Cache, Stat, Quit}
 use Rattle.record_model.specs.declared.words.Why.TheVariants.{BadLine}
 use Rattle.record_model.specs.declared.words.CacheLine.{CacheLine}
 use Rattle.record_model.specs.declared.words.Reply.{Reply}
@@ -21,12 +22,36 @@ line_step checkpoints s None listing = record { after = s; reply = reply.Refused
 line_step checkpoints s (Some command) listing = step checkpoints s command listing
 
 abbrev pub is_quit : Line → Bool
+is_quit None = false
+is_quit (Some (Begin n)) = false
+is_quit (Some (Read n number)) = false
+is_quit (Some (Write n number value)) = false
+is_quit (Some (Erase n number)) = false
+is_quit (Some (Scan n number count)) = false
+is_quit (Some (Commit n)) = false
+is_quit (Some (Abort n)) = false
+is_quit (Some (Get number)) = false
+is_quit (Some (Set number value)) = false
+is_quit (Some Checkpoint) = false
+is_quit (Some Cache) = false
+is_quit (Some Stat) = false
 is_quit (Some Quit) = true
-is_quit _ = false
 
 abbrev pub is_cache : Line → Bool
+is_cache None = false
+is_cache (Some (Begin n)) = false
+is_cache (Some (Read n number)) = false
+is_cache (Some (Write n number value)) = false
+is_cache (Some (Erase n number)) = false
+is_cache (Some (Scan n number count)) = false
+is_cache (Some (Commit n)) = false
+is_cache (Some (Abort n)) = false
+is_cache (Some (Get number)) = false
+is_cache (Some (Set number value)) = false
+is_cache (Some Checkpoint) = false
 is_cache (Some Cache) = true
-is_cache _ = false
+is_cache (Some Stat) = false
+is_cache (Some Quit) = false
 
 -- the first listing is that of the first cache command
 abbrev pub next_listing : List (List CacheLine) → List CacheLine
@@ -75,8 +100,19 @@ replies run = map (λ t. t.reply) run
 -- Commits.
 
 abbrev pub is_committed : Reply → Bool
+is_committed reply.Done = false
+is_committed (reply.Value value) = false
+is_committed reply.Nothing = false
 is_committed (reply.Committed count) = true
-is_committed _ = false
+is_committed reply.Aborted = false
+is_committed reply.Checked = false
+is_committed (reply.Items items) = false
+is_committed (reply.Listing lines) = false
+is_committed (reply.Stat counts) = false
+is_committed reply.Bye = false
+is_committed (reply.Busy session) = false
+is_committed (reply.Full used owed cap) = false
+is_committed (reply.Refused why) = false
 
 -- which turns were commits
 abbrev pub commit_marks : List Turn → List Bool

@@ -4,7 +4,7 @@ use Rattle.std.specs.Prelude.{map, filter, reverse, Option, Some, None, is_some,
 use Rattle.std.specs.List.{list_any}
 use Rattle.record_model.specs.declared.words.Command.{Command}
 use Rattle.record_model.specs.declared.words.Command.TheVariants.{Begin, Read, Write, Erase, Scan, Commit, Abort, Get}
-use Rattle.record_model.specs.declared.words.Command.TheVariants.{Set}
+use Rattle.record_model.specs.declared.words.Command.TheVariants.{Set, Checkpoint, Cache, Stat, Quit}
 use Rattle.record_model.specs.declared.words.CacheLine.{CacheLine}
 use Rattle.record_model.specs.State.{Content, State, content_at, opened, session_at}
 use Rattle.record_model.specs.Step.{found, is_accepted}
@@ -20,7 +20,12 @@ session_of (Erase n number) = Some n
 session_of (Scan n number count) = Some n
 session_of (Commit n) = Some n
 session_of (Abort n) = Some n
-session_of _ = None
+session_of (Get number) = None
+session_of (Set number value) = None
+session_of Checkpoint = None
+session_of Cache = None
+session_of Stat = None
+session_of Quit = None
 
 abbrev pub is_session : ℕ → Option ℕ → Bool
 is_session n None = false
@@ -28,7 +33,18 @@ is_session n (Some m) = m == n
 
 abbrev pub is_begin : Command → Bool
 is_begin (Begin n) = true
-is_begin _ = false
+is_begin (Read n number) = false
+is_begin (Write n number value) = false
+is_begin (Erase n number) = false
+is_begin (Scan n number count) = false
+is_begin (Commit n) = false
+is_begin (Abort n) = false
+is_begin (Get number) = false
+is_begin (Set number value) = false
+is_begin Checkpoint = false
+is_begin Cache = false
+is_begin Stat = false
+is_begin Quit = false
 
 -- whether an accepted command of the session stands on the line, and whether it is its begin
 abbrev pub is_accepted_of : Bool → ℕ → State → Line → Bool

@@ -58,16 +58,28 @@ refusal s (Commit n) = wants_active s n
 refusal s (Abort n) = wants_active s n
 refusal s (Get number) = first_refusal (wants_record s number ∷ may_read s None number ∷ [])
 refusal s (Set number value) = first_refusal (wants_record s number ∷ wants_short value ∷ may_write s None number ∷ [])
-refusal s _ = None
+refusal s Checkpoint = None
+refusal s Cache = None
+refusal s Stat = None
+refusal s Quit = None
 
 -- The log's budget. Where checkpoints are made, a begin and a set make one first where it is due, and the command
 -- itself does.
 
 abbrev pub asks_for_checkpoint : State → Command → Bool
 asks_for_checkpoint s (Begin n) = is_due s
+asks_for_checkpoint s (Read n number) = false
+asks_for_checkpoint s (Write n number value) = false
+asks_for_checkpoint s (Erase n number) = false
+asks_for_checkpoint s (Scan n number count) = false
+asks_for_checkpoint s (Commit n) = false
+asks_for_checkpoint s (Abort n) = false
+asks_for_checkpoint s (Get number) = false
 asks_for_checkpoint s (Set number value) = is_due s
 asks_for_checkpoint s Checkpoint = true
-asks_for_checkpoint s _ = false
+asks_for_checkpoint s Cache = false
+asks_for_checkpoint s Stat = false
+asks_for_checkpoint s Quit = false
 
 abbrev pub wants_checkpoint : Bool → State → Command → Bool
 wants_checkpoint checkpoints s command = checkpoints && asks_for_checkpoint s command
@@ -80,10 +92,18 @@ ready checkpoints s command =
 -- whether the cap has no room for the log records that a command may come to need
 abbrev pub lacks_room : State → Command → Bool
 lacks_room s (Begin n) = nat_lt s.cap (used s + owed s + 2)
+lacks_room s (Read n number) = false
 lacks_room s (Write n number value) = nat_lt s.cap (used s + owed s + 2)
 lacks_room s (Erase n number) = nat_lt s.cap (used s + owed s + 2)
+lacks_room s (Scan n number count) = false
+lacks_room s (Commit n) = false
+lacks_room s (Abort n) = false
+lacks_room s (Get number) = false
 lacks_room s (Set number value) = nat_lt s.cap (used s + owed s + 4)
-lacks_room s _ = false
+lacks_room s Checkpoint = false
+lacks_room s Cache = false
+lacks_room s Stat = false
+lacks_room s Quit = false
 
 abbrev pub full : State → Reply
 full s = reply.Full (used s) (owed s) s.cap
@@ -123,8 +143,12 @@ effect s (Scan n number count) =
     with_session s n (option_map (having_read (range_with_len number count)) (session_at s n))
 effect s (Commit n) = making 1 (with_session (committed s (writes_of (session_at s n))) n None)
 effect s (Abort n) = making (length (writes_of (session_at s n)) + 1) (with_session s n None)
+effect s (Get number) = s
 effect s (Set number value) = making 3 (committed s ((number, Some value) ∷ []))
-effect s _ = s
+effect s Checkpoint = s
+effect s Cache = s
+effect s Stat = s
+effect s Quit = s
 
 -- What an accepted command answers.
 

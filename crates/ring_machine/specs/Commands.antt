@@ -62,7 +62,10 @@ record_work s (command.Abort n) = undoes s.table (writes_of (session_at s n))
 record_work s (command.Get number) = reads number
 record_work s (command.Set number value) =
     begins ++ writes number (content_at s.table number) (Some value) ++ commits
-record_work s _ = []
+record_work s command.Checkpoint = []
+record_work s command.Cache = []
+record_work s command.Stat = []
+record_work s command.Quit = []
 
 -- what it asks with its checkpoint, where it makes one
 abbrev pub command_work : Bool → State → Command → List Work

@@ -1,8 +1,10 @@
 -- How many groups work pushes at most.
-use Rattle.std.specs.Prelude.{◌≡◌, ℕ, ◌+◌, ◌*◌, ◌≤◌, Bool, true, List, [], ◌∷◌, flat_map, Some, if◌then◌else◌}
+use Rattle.std.specs.Prelude.{◌≡◌, ℕ, ◌+◌, ◌*◌, ◌≤◌, Bool, true, List, [], ◌∷◌, flat_map, Some, None}
+use Rattle.std.specs.Prelude.{if◌then◌else◌}
 use Rattle.std.specs.List.{range_with_len}
 use Rattle.record_model.specs.declared.words.CacheLine.{CacheLine}
-use Rattle.record_model.specs.declared.words.Command.TheVariants.{Abort, Begin, Get, Read, Scan, Set, Write}
+use Rattle.record_model.specs.declared.words.Command.TheVariants.{Abort, Begin, Get, Scan, Set, Write}
+use Rattle.record_model.specs.declared.words.Command.TheVariants as command
 use Rattle.record_model.specs.State.{State}
 use Rattle.record_model.specs.Run.{Line, Turn, left_by, turns}
 use Rattle.record_model.specs.Rows.{fresh}
@@ -51,10 +53,20 @@ pub record NearlyAllArePushed : Type 0 where
 
 -- Lines of input. How many records a line reads, and how many the lines of a run do.
 abbrev pub reads_by : Line → ℕ
-reads_by (Some (Read n number)) = 1
-reads_by (Some (Get number)) = 1
-reads_by (Some (Scan n number count)) = count
-reads_by _ = 0
+reads_by None = 0
+reads_by (Some (command.Begin n)) = 0
+reads_by (Some (command.Read n number)) = 1
+reads_by (Some (command.Write n number value)) = 0
+reads_by (Some (command.Erase n number)) = 0
+reads_by (Some (command.Scan n number count)) = count
+reads_by (Some (command.Commit n)) = 0
+reads_by (Some (command.Abort n)) = 0
+reads_by (Some (command.Get number)) = 1
+reads_by (Some (command.Set number value)) = 0
+reads_by (Some command.Checkpoint) = 0
+reads_by (Some command.Cache) = 0
+reads_by (Some command.Stat) = 0
+reads_by (Some command.Quit) = 0
 
 abbrev pub reads_in : List Turn → ℕ
 reads_in [] = 0
