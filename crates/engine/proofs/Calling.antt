@@ -1,5 +1,5 @@
 -- Calls one after the other, each known by its record.
-use Rattle.std.proofs.Common.{◌≡◌, inl, inr, ◌+◌, ◌≤◌, List, [], ◌∷◌, Bool, true, false, refl, sym, subst, ap, ◌∙◌, arith, ⊎_elim, ℕ}
+use Rattle.std.proofs.Common.{◌≡◌, inl, inr, ◌+◌, ◌≤◌, List, [], ◌∷◌, ◌++◌, Bool, true, None, refl, sym, subst, ap, ◌∙◌, arith, ⊎_elim, ℕ}
 use Rattle.std.specs.Prelude.{Result, Ok, Err, OnOk, IfOk, IsErrOf, IsTrue, if◌then◌else◌}
 use Rattle.site.specs.declared.outside.Dev.{Dev}
 use Rattle.site.specs.declared.outside.Stop.{Stop}
@@ -11,8 +11,8 @@ use Rattle.site.specs.Calls.{Preserves, FaultRose, IsUnchanged}
 use Rattle.site.specs.Faults.{Faults, faults_in, after_work, WorkFaults}
 use Rattle.site.specs.Laws.{holds_now, leaves_weaker, stays_honest, fault_since, goes_in_sequence}
 use Rattle.record_model.specs.State.{Content, State, Write, table_with}
-use Rattle.record_model.specs.Step.{Outcome, makes_checkpoint, making, committed}
-use Rattle.record_model.specs.Touches.{CacheWork, command_touches}
+use Rattle.record_model.specs.Step.{Outcome, refusal, asks_for_checkpoint, lacks_room, making, committed}
+use Rattle.record_model.specs.Touches.{CacheWork, flush, command_touches}
 use Rattle.record_model.specs.declared.words.Command.{Command}
 use Rattle.record_model.specs.declared.words.Reply.{Reply}
 use Rattle.image_meaning.specs.Moments as moments
@@ -27,7 +27,7 @@ use Rattle.txn_table.specs.Entries.{IsTable, entry_of, owed}
 use Rattle.engine.specs.declared.engine.Engine.{Engine}
 use Rattle.txn_table.proofs.DistinctBegins.{AreApart}
 use Rattle.engine.specs.Invariant.{Invariant, sizes_of}
-use Rattle.engine.specs.Representation.{Matches, run, run_now, checkpointed_if, with_write}
+use Rattle.engine.specs.Representation.{Matches, IsRefusedWith, run, checkpointed_if, with_write}
 use Rattle.engine.specs.Image.{Stands}
 use Rattle.engine.specs.Leaves.{LeavesTable, LeavesEither}
 use Rattle.engine.specs.Numbers.{checkpoints_by, CountsOn}
@@ -35,7 +35,7 @@ use Rattle.engine.specs.Calls.{Ends, KeepsEngine, KeepsUnread, Does, Answers}
 use Rattle.engine.proofs.Moments.{and_then}
 use Rattle.engine.proofs.Asking.{has_group}
 use Rattle.engine.proofs.RingCounts.{counts, count_failed, count_answered, count_refused, count_then, run_makes, count_nothing}
-use Rattle.engine.proofs.Firsts.{step_where, touches_where}
+use Rattle.engine.proofs.Replies.{none_made, made_as_asked, step_behind, touches_behind, touched, way}
 use Rattle.site.proofs.Working.{calls_nothing, calls_then, calls_failed, calls_answered, calls_refused}
 use Rattle.site.specs.Work.{Calls}
 use Rattle.redo_undo.specs.StoreCalls.{KeepsInvariant, Keeps}
@@ -119,6 +119,10 @@ serves_then {before = before} {between = between} first second = record {
 pub serves_failed : {A B : Type 0} {stop : Stop} {old new : Engine} {before now : Site} → KeepsUnread {T = A} (Err stop) old new before now → KeepsUnread {T = B} (Err stop) old new before now
 serves_failed first = record { keeps = record { calls = calls_failed first.calls; going = tt; sizes = first.sizes; stops = first.stops; next = λ honest. next_failed (first.next honest) }; log_reads = first.log_reads }
 
+-- and no call is lawful then
+pub serves_ended : {A B : Type 0} {stop : Stop} {old new : Engine} {before now : Site} → KeepsUnread {T = A} (Err stop) old new before now → KeepsUnread {T = B} (Err stop) old (record new { ended = true }) before now
+serves_ended first = record { keeps = record { calls = calls_failed first.calls; going = tt; sizes = first.sizes; stops = first.stops; next = λ honest. next_failed (first.next honest) }; log_reads = first.log_reads }
+
 -- log and pages stop
 pub serves_stopped : {A B : Type 0} {stop : Stop} {old new : Engine} {before now : Site} {n : ℕ} → KeepsInvariant {T = A} (Err stop) old.store new.store before now n → now.log_reads ≡ before.log_reads → KeepsUnread {T = B} (Err stop) old new before now
 serves_stopped works read = record { keeps = record { calls = calls_failed works.calls; going = tt; sizes = works.sizes; stops = works.stops; next = λ honest. next_failed (works.next honest) }; log_reads = read }
@@ -197,27 +201,35 @@ pub still : HoldsMoment → {engine : Engine} {site : Site} {s : State} → (fit
 still law {engine = engine} {site = site} {s = s} fits going quiet =
     under_leaves_for fits.newest _ _ _ s.table s.commits _ (law engine.store.log engine.store.pages site fits.newest fits.records s.table s.commits going.store.both.sizes fits.holds.both quiet)
 
--- A command before which a checkpoint is made where one is wanted.
-module _ {s : State} (command : Command) {wanted : Bool} (known : wanted ≡ makes_checkpoint true s command) (R : Outcome → Snapshot → Type 0) where
-  pub first_then : {A : Type 0} {a : A} {r : Result Reply Stop} {old mid new : Engine} {before between now : Site} {P Q : Snapshot → Type 0} → IsTrue before.honest →
-      ((x : Snapshot) → P x → R (run_now (checkpointed_if wanted s) command) x) → (LeavesOnly before between P → (x : Snapshot) → Q x → R (run_now (checkpointed_if wanted s) command) x) →
-      KeepsUnread {T = A} (Ok a) old mid before between → Does {T = A} (Ok a) old mid before between s (checkpointed_if wanted s) P (if wanted then 1 else 0) →
-      StepsMachine {T = A} (Ok a) (if wanted then checkpoint_works else []) old.store.pages mid.store.pages before between →
-      Answers r mid new between now (checkpointed_if wanted s) (run_now (checkpointed_if wanted s) command) (command_touches false (checkpointed_if wanted s) command) Q 0 →
-      Answers r old new before now s (run s command) (command_touches true s command) (R (run s command)) (checkpoints_by s command)
-  first_then {a = a} {r = r} {old = old} {mid = mid} {new = new} {before = before} {between = between} {now = now} honest early late serves does asks second =
-      subst (λ (b : Bool). Answers r old new before now s (run s command) (command_touches true s command) (R (run s command)) (if b then 1 else 0)) known
-      (answered_as R (step_where s command wanted known, (touches_where s command wanted known, tt {0})) (does_then honest (omega arith) early late serves does second.does) second.reply
-      (asks_then a r (if wanted then checkpoint_works else []) (command_touches false (checkpointed_if wanted s) command) old.store.pages mid.store.pages new.store.pages before between now asks second.asks))
+-- a command that is refused
+pub refused_as : (P : Outcome → Snapshot → Type 0) → {engine : Engine} {site : Site} {s : State} (command : Command) {r : Reply} → IsRefusedWith s command r → HoldsMoment → Matches engine site s → Invariant engine site →
+    ((x : Snapshot) → LeavesTable (sizes_of engine.store) s.table s.commits site.told x → P (record { after = s; reply = r }) x) → Answers (Ok r) engine engine site site s (run s command) (command_touches s command) (P (run s command)) (checkpoints_by s command)
+refused_as P {engine = engine} {site = site} {s = s} command {r = r} is law fits going more =
+    subst (λ (b : Bool). Answers (Ok r) engine engine site site s (run s command) (command_touches s command) (P (run s command)) (if b then 1 else 0)) (sym (none_made command is))
+    (answered_as P is (does_weaker more (does_nothing fits going (still law fits going))) refl asks_rest)
 
-  -- it fails
-  pub first_failed : {A : Type 0} {stop : Stop} {old mid : Engine} {before now : Site} {P : Snapshot → Type 0} → Invariant old before → ((x : Snapshot) → P x → R (run_now (checkpointed_if wanted s) command) x) →
-      Does {T = A} (Err stop) old mid before now s (checkpointed_if wanted s) P (if wanted then 1 else 0) → StepsMachine {T = A} (Err stop) (if wanted then checkpoint_works else []) old.store.pages mid.store.pages before now →
-      Answers (Err stop) old mid before now s (run s command) (command_touches true s command) (R (run s command)) (checkpoints_by s command)
-  first_failed {A = A} {stop = stop} {old = old} {mid = mid} {before = before} {now = now} going early does asks =
-      subst (λ (b : Bool). Answers (Err stop) old mid before now s (run s command) (command_touches true s command) (R (run s command)) (if b then 1 else 0)) known
-      (answered_as R (step_where s command wanted known, (touches_where s command wanted known, tt {0})) (does_failed (run_makes (checkpointed_if wanted s) command) (does_weaker early does)) tt
-      (asks_stopped {A = A} {B = Reply} stop (if wanted then checkpoint_works else []) (command_touches false (checkpointed_if wanted s) command) old.store.pages mid.store.pages before now (has_group going) asks))
+-- A command that no test refuses, behind the checkpoint that is made where it asks for one.
+module _ {s : State} (command : Command) {asks : Bool} (known : asks ≡ asks_for_checkpoint s command) (passes : refusal s command ≡ None) (R : Outcome → Snapshot → Type 0) where
+  pub first_then : {A : Type 0} {a : A} {r : Result Reply Stop} {old mid new : Engine} {before between now : Site} {P Q : Snapshot → Type 0} (lacks : Bool) → lacks_room (checkpointed_if asks s) command ≡ lacks → IsTrue before.honest →
+      ((x : Snapshot) → P x → R (way (checkpointed_if asks s) command lacks) x) → (LeavesOnly before between P → (x : Snapshot) → Q x → R (way (checkpointed_if asks s) command lacks) x) →
+      KeepsUnread {T = A} (Ok a) old mid before between → Does {T = A} (Ok a) old mid before between s (checkpointed_if asks s) P (if asks then 1 else 0) →
+      StepsMachine {T = A} (Ok a) (if asks then checkpoint_works else []) old.store.pages mid.store.pages before between →
+      Does r mid new between now (checkpointed_if asks s) (way (checkpointed_if asks s) command lacks).after Q 0 → IfOk r (λ reply. reply ≡ (way (checkpointed_if asks s) command lacks).reply) → StepsMachine r (touched s command lacks) mid.store.pages new.store.pages between now →
+      Answers r old new before now s (run s command) (command_touches s command) (R (run s command)) (checkpoints_by s command)
+  first_then {a = a} {r = r} {old = old} {mid = mid} {new = new} {before = before} {between = between} {now = now} lacks is honest early late serves does asked second reply touches =
+      subst (λ (b : Bool). Answers r old new before now s (run s command) (command_touches s command) (R (run s command)) (if b then 1 else 0)) (made_as_asked s command known passes)
+      (answered_as R (step_behind s command known passes ∙ ap (way (checkpointed_if asks s) command) is, (touches_behind s command known passes ∙ ap (λ (l : Bool). (if asks then flush ∷ [] else []) ++ touched s command l) is, tt {0})) (does_then honest (omega arith) early late serves does second) reply
+      (asks_then a r (if asks then checkpoint_works else []) (touched s command lacks) old.store.pages mid.store.pages new.store.pages before between now asked touches))
+
+  -- that fails
+  pub first_failed : {A : Type 0} {stop : Stop} {old mid : Engine} {before now : Site} {P : Snapshot → Type 0} → Invariant old before → ((x : Snapshot) → P x → R (run s command) x) →
+      Does {T = A} (Err stop) old mid before now s (checkpointed_if asks s) P (if asks then 1 else 0) → StepsMachine {T = A} (Err stop) (if asks then checkpoint_works else []) old.store.pages mid.store.pages before now →
+      Answers (Err stop) old mid before now s (run s command) (command_touches s command) (R (run s command)) (checkpoints_by s command)
+  first_failed {A = A} {stop = stop} {old = old} {mid = mid} {before = before} {now = now} going early does asked =
+      let nothing : run s command ≡ run s command = refl in
+      subst (λ (b : Bool). Answers (Err stop) old mid before now s (run s command) (command_touches s command) (R (run s command)) (if b then 1 else 0)) (made_as_asked s command known passes)
+      (answered_as R (nothing, (touches_behind s command known passes, tt {0})) (does_failed (run_makes s command) (does_weaker early does)) tt
+      (asks_stopped {A = A} {B = Reply} stop (if asks then checkpoint_works else []) (touched s command (lacks_room (checkpointed_if asks s) command)) old.store.pages mid.store.pages before now (has_group going) asked))
 
 -- What a crash leaves of a call behind one that left the table.
 

@@ -7,7 +7,6 @@ pub mod Undoing
 pub mod RestartedRings
 pub mod Checkpoints
 pub mod Commits
-pub mod Firsts
 pub mod Keeping
 pub mod Locks
 pub mod Meanings

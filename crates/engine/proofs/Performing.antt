@@ -1,5 +1,5 @@
 -- What commands make of the machine that mirrors the database.
-use Rattle.std.proofs.Common.{◌≡◌, ℕ, ◌+◌, Bool, true, false, List, [], ◌∷◌, ◌++◌, flat_map, append_assoc, Some, None, sym, ap, ◌∙◌}
+use Rattle.std.proofs.Common.{◌≡◌, ℕ, ◌+◌, Bool, false, List, [], ◌∷◌, ◌++◌, flat_map, append_assoc, Some, None, sym, ap, ◌∙◌}
 use Rattle.std.specs.Prelude.{Result, Ok, Err, if◌then◌else◌}
 use Rattle.std.specs.List.{range_with_len}
 use Rattle.std.proofs.lemmas.Grind.{flat_map-append}
@@ -10,7 +10,7 @@ use Rattle.site.specs.State.{Image, State as Site}
 use Rattle.site.proofs.Working.{no_error}
 use Rattle.record_model.specs.declared.words.Command.{Command}
 use Rattle.record_model.specs.State.{State}
-use Rattle.record_model.specs.Step.{makes_checkpoint}
+use Rattle.record_model.specs.Step.{asks_for_checkpoint, lacks_room, refusal}
 use Rattle.ring_machine.specs.Machine.{Work}
 use Rattle.ring_machine.specs.Commands.{reads, saves, command_work}
 use Rattle.ring_machine.specs.Performing.{Performs}
@@ -19,7 +19,7 @@ use Rattle.page_store.specs.Caching.{rules}
 use Rattle.redo_undo.specs.declared.store.Store.{Store}
 use Rattle.redo_undo.specs.Mirroring.{MirrorsStore}
 use Rattle.engine.specs.Representation.{checkpointed_if}
-use Rattle.engine.proofs.Firsts.{work_where}
+use Rattle.engine.proofs.Replies.{work_behind, worked}
 use Rattle.engine.proofs.Scans.{range_more, range_at}
 use Rattle.std.proofs.Common.{arith, ◌*◌, ◌<◌, ◌≤◌, ◌-◌, ◌==◌, true≢false, IsTrue}
 use Rattle.std.specs.List.{list_any}
@@ -62,15 +62,14 @@ pub store_then : {A B : Type 0} {a : A} {result : Result B Stop} {first later : 
     PerformsOver result (first ++ later) old new before now
 store_then same one two = performs_then one (performs_by (sym same) two)
 
--- A command before which a checkpoint is made where one is wanted.
+-- A command that no test refuses, behind the checkpoint that is made where it asks for one.
+module _ (s : State) (command : Command) {asks : Bool} (known : asks ≡ asks_for_checkpoint s command) (passes : refusal s command ≡ None) where
+  pub performs_first : (lacks : Bool) → lacks_room (checkpointed_if asks s) command ≡ lacks → {A B : Type 0} {a : A} {result : Result B Stop} {old mid new : Store} {before between now : Image} → rules mid.pages ≡ rules old.pages →
+      PerformsOver {T = A} (Ok a) (if asks then saves else []) old mid before between → PerformsOver result (worked s command lacks) mid new between now → PerformsOver result (command_work s command) old new before now
+  performs_first lacks is same first second = performs_as (work_behind s command known passes ∙ ap (λ (l : Bool). (if asks then saves else []) ++ worked s command l) is) (store_then same first second)
 
-pub performs_first : (s : State) (command : Command) {wanted : Bool} → wanted ≡ makes_checkpoint true s command → {A B : Type 0} {a : A} {result : Result B Stop} {old mid new : Store} {before between now : Image} → rules mid.pages ≡ rules old.pages →
-    PerformsOver {T = A} (Ok a) (if wanted then saves else []) old mid before between → PerformsOver result (command_work false (checkpointed_if wanted s) command) mid new between now → PerformsOver result (command_work true s command) old new before now
-performs_first s command {wanted} known same first second = performs_as (work_where s command wanted known) (store_then same first second)
-
-pub performs_unmade : (s : State) (command : Command) {wanted : Bool} → wanted ≡ makes_checkpoint true s command → {A B : Type 0} {stop : Stop} {old mid : Store} {before now : Image} →
-    PerformsOver {T = A} (Err stop) (if wanted then saves else []) old mid before now → PerformsOver {T = B} (Err stop) (command_work true s command) old mid before now
-performs_unmade s command {wanted} known first = performs_as (work_where s command wanted known) (performs_stopped (command_work false (checkpointed_if wanted s) command) first)
+  pub performs_unmade : {A B : Type 0} {stop : Stop} {old mid : Store} {before now : Image} → PerformsOver {T = A} (Err stop) (if asks then saves else []) old mid before now → PerformsOver {T = B} (Err stop) (command_work s command) old mid before now
+  performs_unmade first = performs_as (work_behind s command known passes) (performs_stopped (worked s command (lacks_room (checkpointed_if asks s) command)) first)
 
 -- A scan, record by record.
 

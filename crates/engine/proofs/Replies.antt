@@ -1,9 +1,10 @@
 -- What the model answers, test by test.
 use Rattle.checkpoint.specs.declared.master.Master.{Master}
-use Rattle.std.proofs.Common.{◌≡◌, ℕ, ◌+◌, ◌*◌, ◌<◌, ◌≤◌, Bool, true, false, not, ◌&&◌, true≢false, List, [], ◌∷◌, length, sum_by, filter_map, Option, None, Some, refl, sym, ap, ◌∙◌, arith}
+use Rattle.std.proofs.Common.{◌≡◌, ℕ, ◌+◌, ◌*◌, ◌/◌, ◌<◌, ◌≤◌, Bool, true, false, not, ◌&&◌, true≢false, List, [], ◌∷◌, ◌++◌, length, sum_by, filter_map, Option, None, Some, refl, sym, ap, ◌∙◌, arith}
 use Rattle.std.specs.Prelude.{option_map, slice_index_or, nat_le, nat_lt, is_none, IsSome, if◌then◌else◌}
 use Rattle.std.specs.Option.{option_map_or}
 use Rattle.std.specs.List.{range_with_len}
+use Rattle.std.proofs.Math.Bool.{and-true, and-false}
 use Rattle.std.proofs.lemmas.Bool.{le-leb, lt-leb, lt-ltb, le-ltb}
 use Rattle.std.proofs.Math.Nat.{zero-add}
 use Rattle.std.proofs.lemmas.List.Sums.{sum_by-cons}
@@ -13,44 +14,90 @@ use Rattle.record_model.specs.declared.words.Command.{Command}
 use Rattle.record_model.specs.declared.words.Why.TheVariants.{BadSession, NoRecord, TooLong}
 use Rattle.record_model.specs.declared.words.Reply.{Reply}
 use Rattle.record_model.specs.declared.words.Reply.TheVariants as reply
-use Rattle.record_model.specs.State.{Session, State, session_at, used}
+use Rattle.record_model.specs.State.{Session, State, session_at, used, is_due}
 use Rattle.record_model.specs.State as model
-use Rattle.record_model.specs.Touches.{CacheWork, record_touches}
-use Rattle.record_model.specs.Step.{Outcome, refusal, outcome, effect, answer, full, lacks_room, wants_active, wants_record, wants_short, refuse_if, may_write, may_read}
+use Rattle.record_model.specs.Touches.{CacheWork, flush, command_touches, record_touches}
+use Rattle.record_model.specs.Step.{Outcome, refusal, outcome, effect, answer, full, lacks_room, asks_for_checkpoint, makes_checkpoint, is_accepted, ready, wants_active, wants_record, wants_short, refuse_if, may_write, may_read}
 use Rattle.log_records.specs.Log.{Entry}
 use Rattle.ring_machine.specs.Machine.{Work}
-use Rattle.ring_machine.specs.Commands.{record_work}
+use Rattle.ring_machine.specs.Commands.{saves, command_work, record_work}
 use Rattle.txn_table.specs.declared.active.Active.{Active}
 use Rattle.txn_table.specs.Entries.{IsTable, entry_of}
 use Rattle.txn_table.specs.Entries as entries
 use Rattle.engine.specs.declared.engine.Engine.{Engine}
 use Rattle.engine.specs.Invariant.{sizes_of}
-use Rattle.engine.specs.Representation.{Matches, SessionIs, IsFull, IsRefusedWith, IsCarriedOut}
+use Rattle.engine.specs.Representation.{Matches, SessionIs, IsFull, IsRefusedWith, IsCarriedOut, run, checkpointed_if}
 use Rattle.engine.proofs.Actives.{some_active, none_active}
 use Rattle.lock_table.specs.Locks as locks
 use Rattle.engine.proofs.Meanings.{same_size, busy_write_is, busy_read_is}
 use Rattle.txn_table.proofs.Owing.{owed_at, owed_one, owed_is}
 
 abbrev pub way : State → Command → Bool → Outcome
-way s command b = if b then record { after = s; reply = full s } else record { after = effect s command; reply = answer s command [] }
+way s command lacks = if lacks then record { after = s; reply = full s } else record { after = effect s command; reply = answer s command [] }
 
--- what a command asks of the cache, by its refusal and by the room that it lacks
-abbrev asked : State → Command → Option Reply → Bool → List CacheWork
-asked s command o lacks = if is_none o && not lacks then record_touches s command else []
+-- what it asks of the cache and the log then
+abbrev pub touched : State → Command → Bool → List CacheWork
+touched s command lacks = if not lacks then record_touches s command else []
 
-abbrev worked : State → Command → Option Reply → Bool → List Work
-worked s command o lacks = if is_none o && not lacks then record_work s command else []
+abbrev pub worked : State → Command → Bool → List Work
+worked s command lacks = if not lacks then record_work s command else []
 
+-- and what it asks with its checkpoint, by its refusal
+abbrev all_touches : State → Command → Option Reply → List CacheWork
+all_touches s command o = (if asks_for_checkpoint s command && is_none o then flush ∷ [] else []) ++ (if is_none o && not (lacks_room (ready s command) command) then record_touches s command else [])
+
+abbrev all_work : State → Command → Option Reply → List Work
+all_work s command o = (if asks_for_checkpoint s command && is_none o then saves else []) ++ (if is_none o && not (lacks_room (ready s command) command) then record_work s command else [])
+
+-- a test refuses it
 pub refused : (s : State) (command : Command) (r : Reply) → refusal s command ≡ Some r → IsRefusedWith s command r
-refused s command r is = (ap (outcome false s command []) is, (ap (λ (o : Option Reply). asked s command o (lacks_room s command)) is, ap (λ (o : Option Reply). worked s command o (lacks_room s command)) is))
+refused s command r is =
+    let none = and-false (asks_for_checkpoint s command) in (
+      ap (outcome s command []) is,
+      (ap (all_touches s command) is ∙ ap (λ (b : Bool). (if b then flush ∷ [] else []) ++ []) none, ap (all_work s command) is ∙ ap (λ (b : Bool). (if b then saves else []) ++ []) none),
+    )
 
-pub no_room : (s : State) (command : Command) → refusal s command ≡ None → lacks_room s command ≡ true → IsRefusedWith s command (full s)
-no_room s command none lacks =
-    (ap (outcome false s command []) none ∙ ap (way s command) lacks, (ap (λ (o : Option Reply). asked s command o (lacks_room s command)) none ∙ ap (asked s command None) lacks, ap (λ (o : Option Reply). worked s command o (lacks_room s command)) none ∙ ap (worked s command None) lacks))
+-- then it makes no checkpoint
+pub none_made : {s : State} (command : Command) {r : Reply} → IsRefusedWith s command r → makes_checkpoint s command ≡ false
+none_made {s = s} command is = by (makes_checkpoint s command) is.1.1
+  where
+    by : (b : Bool) → (if b then saves else []) ++ (if is_accepted s command then record_work s command else []) ≡ [] → b ≡ false
+    by true none = absurd cc
+    by false none = refl
 
-pub carried_out : (s : State) (command : Command) → refusal s command ≡ None → lacks_room s command ≡ false → IsCarriedOut s command
-carried_out s command none has =
-    (ap (outcome false s command []) none ∙ ap (way s command) has, (ap (λ (o : Option Reply). asked s command o (lacks_room s command)) none ∙ ap (asked s command None) has, ap (λ (o : Option Reply). worked s command o (lacks_room s command)) none ∙ ap (worked s command None) has))
+-- No test refuses it, and a checkpoint comes first where it asks for one.
+module _ (s : State) (command : Command) {asks : Bool} (known : asks ≡ asks_for_checkpoint s command) (passes : refusal s command ≡ None) where
+  pub made_as_asked : asks ≡ makes_checkpoint s command
+  made_as_asked = known ∙ sym (ap (λ (o : Option Reply). asks_for_checkpoint s command && is_none o) passes ∙ and-true (asks_for_checkpoint s command))
+
+  pub step_behind : run s command ≡ way (checkpointed_if asks s) command (lacks_room (checkpointed_if asks s) command)
+  step_behind = ap (outcome s command []) passes ∙ ap (λ (b : Bool). way (checkpointed_if b s) command (lacks_room (checkpointed_if b s) command)) (sym known)
+
+  pub touches_behind : command_touches s command ≡ (if asks then flush ∷ [] else []) ++ touched s command (lacks_room (checkpointed_if asks s) command)
+  touches_behind =
+      ap (all_touches s command) passes
+      ∙ ap (λ (b : Bool). (if b then flush ∷ [] else []) ++ touched s command (lacks_room (ready s command) command)) (and-true (asks_for_checkpoint s command))
+      ∙ ap (λ (b : Bool). (if b then flush ∷ [] else []) ++ touched s command (lacks_room (checkpointed_if b s) command)) (sym known)
+
+  pub work_behind : command_work s command ≡ (if asks then saves else []) ++ worked s command (lacks_room (checkpointed_if asks s) command)
+  work_behind =
+      ap (all_work s command) passes
+      ∙ ap (λ (b : Bool). (if b then saves else []) ++ worked s command (lacks_room (ready s command) command)) (and-true (asks_for_checkpoint s command))
+      ∙ ap (λ (b : Bool). (if b then saves else []) ++ worked s command (lacks_room (checkpointed_if b s) command)) (sym known)
+
+-- where it asks for none
+pub no_room : (s : State) (command : Command) → asks_for_checkpoint s command ≡ false → refusal s command ≡ None → lacks_room s command ≡ true → IsRefusedWith s command (full s)
+no_room s command plain none lacks =
+    (step_behind s command (sym plain) none ∙ ap (way s command) lacks, (touches_behind s command (sym plain) none ∙ ap (touched s command) lacks, work_behind s command (sym plain) none ∙ ap (worked s command) lacks))
+
+pub carried_out : (s : State) (command : Command) → asks_for_checkpoint s command ≡ false → refusal s command ≡ None → lacks_room s command ≡ false → IsCarriedOut s command
+carried_out s command plain none has =
+    (step_behind s command (sym plain) none ∙ ap (way s command) has, (touches_behind s command (sym plain) none ∙ ap (touched s command) has, work_behind s command (sym plain) none ∙ ap (worked s command) has))
+
+pub due_is : (engine : Engine) (site : Site) (s : State) → Matches engine site s → nat_le (engine.cap / 2) engine.store.made ≡ is_due s
+due_is engine site s fits =
+    let used_is : engine.store.made ≡ used s = omega (arith, fits.counts.made) in
+    λ i. nat_le (fits.counts.cap i / 2) (used_is i)
 
 -- What is owed.
 
@@ -94,11 +141,11 @@ full_is {engine = engine} {site = site} {s = s} more r fits table is =
     (is.full_is ∙ (λ i. reply.Full (used_is i) (owed i) (cap i)), lt-ltb s.cap (used s + model.owed s + more) (omega (arith, is.no_room, owed, used_is, cap)))
 
 pub full_refused : {engine : Engine} {site : Site} {s : State} (command : Command) (more : ℕ) {r : Reply} → Matches engine site s → IsTable engine.active →
-    IsFull engine more r →
+    IsFull engine more r → asks_for_checkpoint s command ≡ false →
     lacks_room s command ≡ nat_lt s.cap (used s + model.owed s + more) → refusal s command ≡ None → IsRefusedWith s command r
-full_refused {s = s} command more fits table is lacks none =
+full_refused {s = s} command more fits table is plain lacks none =
     let both = full_is more _ fits table is in
-    let r = no_room s command none (lacks ∙ both.1) in
+    let r = no_room s command plain none (lacks ∙ both.1) in
     (r.0 ∙ ap (λ (x : Reply). let o : Outcome = record { after = s; reply = x } in o) (sym both.0), r.1)
 
 pub has_room : {engine : Engine} {site : Site} {s : State} (more : ℕ) → Matches engine site s → IsTable engine.active → engine.store.made + entries.owed engine.active + more ≤ engine.cap → nat_lt s.cap (used s + model.owed s + more) ≡ false

@@ -16,7 +16,7 @@ use Rattle.image_changes.proofs.Counting.{calls_then, calls_unchanged}
 use Rattle.record_model.specs.State.{Content, State}
 use Rattle.record_model.specs.declared.words.Command.{Command}
 use Rattle.record_model.specs.declared.words.Reply.{Reply}
-use Rattle.record_model.specs.Step.{refusal, outcome, lacks_room}
+use Rattle.record_model.specs.Step.{refusal, outcome, ready, lacks_room}
 use Rattle.log_records.specs.declared.log_record.LogRecord.{LogRecord}
 use Rattle.log_records.specs.Log.{Entry}
 use Rattle.log_records.specs.Unfinished.{owed}
@@ -28,7 +28,7 @@ use Rattle.redo_laws.specs.Numbers.{HasNumbers, SkipsNone}
 use Rattle.redo_laws.proofs.RingNumbers.{hi_on, leaves_more, leaves_unchanged, skips_answered, skips_nothing, skips_on, then_skips}
 use Rattle.engine.specs.declared.engine.Engine.{Engine}
 use Rattle.engine.specs.declared.restart.Opened.{Opened}
-use Rattle.engine.specs.Representation.{Matches, run_now}
+use Rattle.engine.specs.Representation.{Matches, run}
 use Rattle.engine.specs.Invariant.{Invariant, sizes_of}
 use Rattle.engine.specs.Restarting.{IsReady}
 use Rattle.engine.specs.Numbers.{CountsOn, RestartsWithin}
@@ -86,16 +86,16 @@ count_nothing {E = E} x engine site s after fits going quiet few =
 
 -- A checkpoint comes first.
 
-pub run_makes : (s : State) (command : Command) → s.made ≤ (run_now s command).after.made
+pub run_makes : (s : State) (command : Command) → s.made ≤ (run s command).after.made
 run_makes s command = by (refusal s command)
   where
-    either : (lacks : Bool) → s.made ≤ (way s command lacks).after.made
+    either : (lacks : Bool) → s.made ≤ (way (ready s command) command lacks).after.made
     either true = omega arith
-    either false = effect_makes s command
+    either false = effect_makes (ready s command) command
 
-    by : (o : Option Reply) → s.made ≤ (outcome false s command [] o).after.made
+    by : (o : Option Reply) → s.made ≤ (outcome s command [] o).after.made
     by (Some r) = omega arith
-    by None = either (lacks_room s command)
+    by None = either (lacks_room (ready s command) command)
 
 -- A restart.
 

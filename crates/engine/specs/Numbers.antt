@@ -1,5 +1,5 @@
 -- No number is skipped by the rings on the log's device.
-use Rattle.std.specs.Prelude.{ℕ, ◌+◌, ◌≤◌, true, if◌then◌else◌, List, Result, Ok, OnOk, IfOk}
+use Rattle.std.specs.Prelude.{ℕ, ◌+◌, ◌≤◌, if◌then◌else◌, List, Result, Ok, OnOk, IfOk}
 use Rattle.site.specs.declared.outside.Stop.{Stop}
 use Rattle.site.specs.declared.geometry.Geometry.{Geometry}
 use Rattle.site.specs.State.{State as Site, IsQuiet}
@@ -22,7 +22,7 @@ use Rattle.engine.specs.Representation.{Matches}
 
 -- how many checkpoints a command makes
 abbrev pub checkpoints_by : State → Command → ℕ
-checkpoints_by s command = if makes_checkpoint true s command then 1 else 0
+checkpoints_by s command = if makes_checkpoint s command then 1 else 0
 
 -- A call takes the model from one state to another, with so many checkpoints: it makes no more records than the model
 -- counts.

@@ -1,11 +1,12 @@
 -- The database of an honest site, and the model's state.
 use Rattle.std.specs.Prelude.{◌≡◌, ℕ, ◌+◌, ◌<◌, List, [], ◌∷◌, length, find, Option, Some, None, option_map, IsTrue, ⊤}
-use Rattle.std.specs.Prelude.{Bool, true, false, if◌then◌else◌}
+use Rattle.std.specs.Prelude.{Bool, if◌then◌else◌}
 use Rattle.site.specs.State.{State as Site}
 use Rattle.record_model.specs.State.{Session, State, Write, session_at, kept_by_checkpoint}
 use Rattle.record_model.specs.State as model
 use Rattle.record_model.specs.declared.words.Command.{Command}
-use Rattle.record_model.specs.Step.{Outcome, step, effect, answer, making, with_session, having_written, having_read}
+use Rattle.record_model.specs.Step.{Outcome, step, refusal, effect, answer, making, with_session, having_written}
+use Rattle.record_model.specs.Step.{having_read}
 use Rattle.record_model.specs.Touches.{command_touches, record_touches}
 use Rattle.ring_machine.specs.Commands.{command_work, record_work}
 use Rattle.record_model.specs.declared.words.Reply.{Reply}
@@ -79,11 +80,7 @@ pub record Matches (engine : Engine) (site : Site) (s : State) : Type 0 where
 
 -- what a command answers, and the state that it leaves
 abbrev pub run : State → Command → Outcome
-run s command = step true s command []
-
--- the same where it makes no checkpoint first
-abbrev pub run_now : State → Command → Outcome
-run_now s command = step false s command []
+run s command = step s command []
 
 -- a checkpoint lets the records go that no active session needs
 abbrev pub checkpointed_if : Bool → State → State
@@ -101,16 +98,15 @@ with_read s n number = with_session s n (option_map (having_read (number ∷ [])
 abbrev pub with_reads : State → ℕ → List ℕ → State
 with_reads s n numbers = with_session s n (option_map (having_read numbers) (session_at s n))
 
--- where no checkpoint comes first, a command is refused: it changes nothing, and asks nothing of the cache and the log
+-- a command is refused: it changes nothing, and asks nothing of the cache and the log
 abbrev pub IsRefusedWith : State → Command → Reply → Type 0
-IsRefusedWith s command reply = (run_now s command ≡ record { after = s; reply = reply })
-    × ((command_touches false s command ≡ []) × (command_work false s command ≡ []))
+IsRefusedWith s command reply = (run s command ≡ record { after = s; reply = reply })
+    × ((command_touches s command ≡ []) × (command_work s command ≡ []))
 
--- where no checkpoint comes first, it is carried out, touches the pages of its records, and logs its own
+-- it is carried out, and no checkpoint comes first: it touches the pages of its records, and logs its own
 abbrev pub IsCarriedOut : State → Command → Type 0
-IsCarriedOut s command = (run_now s command ≡ record { after = effect s command; reply = answer s command [] })
-    × ((command_touches false s command ≡ record_touches s command)
-    × (command_work false s command ≡ record_work s command))
+IsCarriedOut s command = (run s command ≡ record { after = effect s command; reply = answer s command [] })
+    × ((command_touches s command ≡ record_touches s command) × (command_work s command ≡ record_work s command))
 
 -- so it is in whatever state the database stands for
 abbrev pub Refuses : Engine → Command → Reply → Type 0
@@ -118,6 +114,10 @@ Refuses engine command reply = (s : State) (site : Site) → Matches engine site
 
 abbrev pub Accepts : Engine → Command → Type 0
 Accepts engine command = (s : State) (site : Site) → Matches engine site s → IsCarriedOut s command
+
+-- no test refuses it, whatever room there is
+abbrev pub Passes : Engine → Command → Type 0
+Passes engine command = (s : State) (site : Site) → Matches engine site s → refusal s command ≡ None
 
 -- so many more log records can't be made
 pub record IsFull (engine : Engine) (more : ℕ) (answered : Reply) : Type 0 where

@@ -1,5 +1,5 @@
 // The database.
-ghost use Rattle.std.specs.Prelude.{Option, ◌≡◌, ◌+◌, ◌*◌, ◌/◌, ◌^◌, ◌<◌, ◌≤◌, nat_le, List, true, false, Some, None};
+ghost use Rattle.std.specs.Prelude.{Option, ◌≡◌, ◌+◌, ◌*◌, ◌/◌, ◌^◌, ◌<◌, ◌≤◌, List, false, Some, None};
 ghost use Rattle.std.specs.Prelude.{option_map, IsTrue, IfSome, IfNone, IfOk, IfErr, OnOk, ℕ};
 ghost use Rattle.site.specs.declared.outside.Stop.{Stop};
 ghost use Rattle.site.specs.declared.geometry.Geometry.{Geometry};
@@ -8,6 +8,7 @@ ghost use Rattle.site.specs.State.{State as Site, IsQuiet};
 ghost use Rattle.record_model.specs.declared.words.Command.{Command};
 ghost use Rattle.record_model.specs.declared.words.Reply.{Reply};
 ghost use Rattle.record_model.specs.State.{State, Content};
+ghost use Rattle.record_model.specs.State as model;
 ghost use Rattle.record_model.specs.Step.{step};
 ghost use Rattle.log_records.specs.declared.log_record.LogRecord.{LogRecord};
 ghost use Rattle.lock_table.specs.Locks.{busy_read, busy_write};
@@ -195,8 +196,8 @@ impl Engine {
     }
 
     /// Whether so many records count that a checkpoint is due.
-    pub(crate) fn is_due(&self) -> bool
-        ensures { result ≡ nat_le (self.now.cap / 2) self.now.store.made }
+    pub fn is_due(&self) -> bool
+        ensures { (s : State) (site : Site) → Matches self.now site s → result ≡ model.is_due s }
     {
         self.store.made >= self.cap / 2
     }
@@ -206,7 +207,7 @@ impl Engine {
     pub fn cache(&self) -> Result<Reply, Stop>
         requires going { (site : Site) × Invariant self.now site }
         ensures listing { IfOk result (λ reply. reply ≡ Reply.Listing (listing_of self.now)) }
-        ensures model { (s : State) → IfOk result (λ reply. step true s Command.Cache (listing_of self.now)
+        ensures model { (s : State) → IfOk result (λ reply. step s Command.Cache (listing_of self.now)
             ≡ record { after = s; reply = reply }) }
         ensures stops { IfErr result (λ stop. stop ≡ Stop.Memory) }
     {

@@ -56,11 +56,11 @@ impl Engine {
         // Of an honest site that the database fits.
         ensures answers { (s : State) → Matches self.old (S.state site.old) s
             → Answers result self.old self.new (S.state site.old) (S.state site.new) s
-            (run s (Command.Read session number)) (command_touches true s (Command.Read session number))
+            (run s (Command.Read session number)) (command_touches s (Command.Read session number))
             (LeavesTable (sizes_of self.old.store) s.table s.commits (S.state site.old).told)
             (checkpoints_by s (Command.Read session number)) }
         ensures performs { (s : State) → Matches self.old (S.state site.old) s
-            → PerformsStore result (command_work true s (Command.Read session number))
+            → PerformsStore result (command_work s (Command.Read session number))
             self.old.store self.new.store (S.state site.old) (S.state site.new) }
 
         // Of every site.
@@ -152,11 +152,11 @@ impl Engine {
         // Of an honest site that the database fits.
         ensures answers { (s : State) → Matches self.old (S.state site.old) s
             → Answers result self.old self.new (S.state site.old) (S.state site.new) s
-            (run s (Command.Scan session number count)) (command_touches true s (Command.Scan session number count))
+            (run s (Command.Scan session number count)) (command_touches s (Command.Scan session number count))
             (LeavesTable (sizes_of self.old.store) s.table s.commits (S.state site.old).told)
             (checkpoints_by s (Command.Scan session number count)) }
         ensures performs { (s : State) → Matches self.old (S.state site.old) s
-            → PerformsStore result (command_work true s (Command.Scan session number count))
+            → PerformsStore result (command_work s (Command.Scan session number count))
             self.old.store self.new.store (S.state site.old) (S.state site.new) }
 
         // Of every site.
@@ -242,11 +242,11 @@ impl Engine {
         // Of an honest site that the database fits.
         ensures answers { (s : State) → Matches self.old (S.state site.old) s
             → Answers result self.old self.new (S.state site.old) (S.state site.new) s (run s (Command.Get number))
-            (command_touches true s (Command.Get number))
+            (command_touches s (Command.Get number))
             (LeavesTable (sizes_of self.old.store) s.table s.commits (S.state site.old).told)
             (checkpoints_by s (Command.Get number)) }
         ensures performs { (s : State) → Matches self.old (S.state site.old) s
-            → PerformsStore result (command_work true s (Command.Get number))
+            → PerformsStore result (command_work s (Command.Get number))
             self.old.store self.new.store (S.state site.old) (S.state site.new) }
 
         // Of every site.

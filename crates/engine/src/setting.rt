@@ -1,5 +1,5 @@
 // A transaction of one write, outside sessions.
-ghost use Rattle.std.specs.Prelude.{Option, ◌≡◌, ◌+◌, ◌/◌, ◌<◌, ◌≤◌, [], ◌∷◌, ◌++◌, length, true, false, Some};
+ghost use Rattle.std.specs.Prelude.{Option, ◌≡◌, ◌+◌, ◌*◌, ◌/◌, ◌<◌, ◌≤◌, [], ◌∷◌, ◌++◌, length, true, Some};
 ghost use Rattle.std.specs.Prelude.{None, IfSome, IfNone, IfOk, OnErr};
 ghost use Rattle.site.specs.declared.outside.Stop.{Stop};
 ghost use Rattle.site.specs.State.{State as Site};
@@ -14,9 +14,10 @@ ghost use Rattle.byte_fields.specs.declared.TheConstants.{VALUE_MAX};
 ghost use Rattle.record_model.specs.Step.{making, committed};
 ghost use Rattle.log_records.specs.Spelling.{IsShort};
 ghost use Rattle.engine.specs.Invariant.{Invariant, sizes_of};
+ghost use Rattle.lock_table.specs.Locks.{busy_write};
 ghost use Rattle.engine.specs.Permits.{MayWrite};
 ghost use Rattle.engine.specs.OneWrite.{HasOneWrite};
-ghost use Rattle.engine.specs.Representation.{Matches, run, run_now, Refuses, Accepts};
+ghost use Rattle.engine.specs.Representation.{Matches, run, Refuses, Passes};
 ghost use Rattle.engine.specs.Leaves.{LeavesTable, LeavesEither};
 ghost use Rattle.record_model.specs.Touches.{command_touches};
 ghost use Rattle.redo_laws.specs.MachineSteps.{StepsMachine, one_change};
@@ -115,13 +116,14 @@ impl Engine {
         }
     }
 
-    // Why a record can't be set, if it can't.
+    // Why a test refuses to set a record, if one does.
     fn set_refusal(&self, number: u32, value: &Octets) -> Option<Reply>
         requires going { (site : Site) × Invariant self.now site }
         ensures refused { IfSome result (λ reply. Refuses self.now (Command.Set number value.now) reply) }
-        ensures accepted { IfNone result (Accepts self.now (Command.Set number value.now)) }
+        ensures passes { IfNone result (Passes self.now (Command.Set number value.now)) }
         ensures short { IfNone result (length value.now ≤ VALUE_MAX) }
-        ensures may { IfNone result (MayWrite self.now None number 4) }
+        ensures there { IfNone result (number < 32 * (sizes_of self.now.store).pages) }
+        ensures free { IfNone result (busy_write self.now.locks None number ≡ None) }
     {
         if self.store.lacks(number) {
             return Some(Reply::Refused(Why::NoRecord));
@@ -132,25 +134,23 @@ impl Engine {
         if let Some(busy) = self.write_busy(None, number) {
             return Some(busy);
         }
-        if let Some(full) = self.full(4) {
-            return Some(full);
-        }
         None
     }
 
-    // Sets a record: a transaction of one write, outside sessions, where no checkpoint comes first.
-    fn set_now<S: Site>(&mut self, site: &mut S, number: u32, value: &Octets) -> Result<Reply, Stop>
+    /// Sets a record: a transaction of one write, outside sessions. Where no test refuses it, a checkpoint comes first
+    /// if one is due, and then the log's room is looked at.
+    pub fn set<S: Site>(&mut self, site: &mut S, number: u32, value: &Octets) -> Result<Reply, Stop>
         requires going { Invariant self.old (S.state site.old) }
 
         // Of an honest site that the database fits.
         ensures answers { (s : State) → Matches self.old (S.state site.old) s
             → Answers result self.old self.new (S.state site.old) (S.state site.new) s
-            (run_now s (Command.Set number value.now))
-            (command_touches false s (Command.Set number value.now))
-            (LeavesEither (sizes_of self.old.store) s (run_now s (Command.Set number value.now)).after
-            (S.state site.old).told) 0 }
+            (run s (Command.Set number value.now))
+            (command_touches s (Command.Set number value.now))
+            (LeavesEither (sizes_of self.old.store) s (run s (Command.Set number value.now)).after
+            (S.state site.old).told) (checkpoints_by s (Command.Set number value.now)) }
         ensures performs { (s : State) → Matches self.old (S.state site.old) s
-            → PerformsStore result (command_work false s (Command.Set number value.now))
+            → PerformsStore result (command_work s (Command.Set number value.now))
             self.old.store self.new.store (S.state site.old) (S.state site.new) }
 
         // Of every site.
@@ -161,6 +161,14 @@ impl Engine {
         if let Some(refused) = self.set_refusal(number, value) {
             return Ok(refused);
         }
+        let due = self.is_due();
+        match self.checkpoint_if(site, due) {
+            Ok(()) => {}
+            Err(stop) => return Err(stop),
+        }
+        if let Some(full) = self.full(4) {
+            return Ok(full);
+        }
         let after = value_of(value);
         match self.carry_out_set(site, number, &after) {
             Ok(reply) => Ok(reply),
@@ -168,32 +176,6 @@ impl Engine {
                 self.ended = true;
                 Err(stop)
             }
-        }
-    }
-
-    /// Sets a record: a transaction of one write, outside sessions. Where a checkpoint is due it comes first.
-    pub fn set<S: Site>(&mut self, site: &mut S, number: u32, value: &Octets) -> Result<Reply, Stop>
-        requires going { Invariant self.old (S.state site.old) }
-
-        // Of an honest site that the database fits.
-        ensures answers { (s : State) → Matches self.old (S.state site.old) s
-            → Answers result self.old self.new (S.state site.old) (S.state site.new) s
-            (run s (Command.Set number value.now))
-            (command_touches true s (Command.Set number value.now))
-            (LeavesEither (sizes_of self.old.store) s (run s (Command.Set number value.now)).after
-            (S.state site.old).told) (checkpoints_by s (Command.Set number value.now)) }
-        ensures performs { (s : State) → Matches self.old (S.state site.old) s
-            → PerformsStore result (command_work true s (Command.Set number value.now))
-            self.old.store self.new.store (S.state site.old) (S.state site.new) }
-
-        // Of every site.
-        ensures serves { KeepsUnread result self.old self.new (S.state site.old) (S.state site.new) }
-        ensures ended { OnErr result (self.new.ended ≡ true) }
-    {
-        let wanted = self.wants_checkpoint_to_set(number, value);
-        match self.checkpoint_if(site, wanted) {
-            Ok(()) => self.set_now(site, number, value),
-            Err(stop) => Err(stop),
         }
     }
 }

@@ -1,6 +1,6 @@
 // Sessions' transactions begin, are committed and are undone.
 ghost use Rattle.std.specs.Prelude.{Option, map, reverse, ◌≡◌, ◌≢◌, ◌⊎◌, ◌+◌, ◌<◌, ◌≤◌, ℕ, List, [], ◌∷◌, ◌++◌, true};
-ghost use Rattle.std.specs.Prelude.{false, Some, None, IfSome, IfNone, IfOk, IfErr, OnOk, OnErr};
+ghost use Rattle.std.specs.Prelude.{Some, None, IfSome, IfNone, IfOk, IfErr, OnOk, OnErr};
 ghost use Rattle.site.specs.declared.outside.Dev.{Dev};
 ghost use Rattle.site.specs.declared.outside.Stop.{Stop};
 ghost use Rattle.site.specs.State.{State as Site};
@@ -23,7 +23,7 @@ ghost use Rattle.engine.specs.Invariant.{Invariant, sizes_of};
 ghost use Rattle.engine.specs.Permits.{MayBegin};
 ghost use Rattle.redo_undo.specs.Stores.{MayLog};
 ghost use Rattle.redo_undo.specs.Stores.{Represents};
-ghost use Rattle.engine.specs.Representation.{Matches, run, run_now, Refuses, Accepts};
+ghost use Rattle.engine.specs.Representation.{Matches, run, Refuses, Passes};
 ghost use Rattle.engine.specs.Leaves.{LeavesTable, LeavesEither};
 ghost use Rattle.record_model.specs.Touches.{command_touches, write_touch};
 ghost use Rattle.redo_laws.specs.MachineSteps.{StepsMachine};
@@ -41,12 +41,12 @@ use site::{Site, Stop};
 use txn_table::Active;
 
 impl Engine {
-    // Why a session can't begin, if it can't.
+    // Why a test refuses a session's begin, if one does.
     fn begin_refusal(&self, session: u32) -> Option<Reply>
-        requires going { (site : Site) × Invariant self.now site }
         ensures refused { IfSome result (λ reply. Refuses self.now (Command.Begin session) reply) }
-        ensures accepted { IfNone result (Accepts self.now (Command.Begin session)) }
-        ensures may { IfNone result (MayBegin self.now session) }
+        ensures passes { IfNone result (Passes self.now (Command.Begin session)) }
+        ensures small { IfNone result (session < 8) }
+        ensures absent { IfNone result (entry_of self.now.active session ≡ None) }
     {
         if session >= SESSIONS {
             return Some(Reply::Refused(Why::BadSession));
@@ -54,33 +54,39 @@ impl Engine {
         if self.active.find(session).is_some() {
             return Some(Reply::Refused(Why::BadSession));
         }
-        if let Some(full) = self.full(2) {
-            return Some(full);
-        }
         None
     }
 
-    // A session begins, where no checkpoint comes first.
-    fn begin_now<S: Site>(&mut self, site: &mut S, session: u32) -> Result<Reply, Stop>
+    /// A session begins. Where no test refuses it, a checkpoint comes first if one is due, and then the log's room is
+    /// looked at.
+    pub fn begin<S: Site>(&mut self, site: &mut S, session: u32) -> Result<Reply, Stop>
         requires going { Invariant self.old (S.state site.old) }
 
         // Of an honest site that the database fits.
         ensures answers { (s : State) → Matches self.old (S.state site.old) s
-            → Answers result self.old self.new (S.state site.old) (S.state site.new) s
-            (run_now s (Command.Begin session)) (command_touches false s (Command.Begin session))
-            (LeavesTable (sizes_of self.old.store) s.table s.commits (S.state site.old).told) 0 }
+            → Answers result self.old self.new (S.state site.old) (S.state site.new) s (run s (Command.Begin session))
+            (command_touches s (Command.Begin session))
+            (LeavesTable (sizes_of self.old.store) s.table s.commits (S.state site.old).told)
+            (checkpoints_by s (Command.Begin session)) }
         ensures performs { (s : State) → Matches self.old (S.state site.old) s
-            → PerformsStore result (command_work false s (Command.Begin session))
+            → PerformsStore result (command_work s (Command.Begin session))
             self.old.store self.new.store (S.state site.old) (S.state site.new) }
 
         // Of every site.
         ensures serves { KeepsUnread result self.old self.new (S.state site.old) (S.state site.new) }
         ensures ended { OnErr result (self.new.ended ≡ true) }
-        ensures stops { IfErr result (λ stop. (stop ≡ Stop.Device Dev.Log) ⊎ (stop ≡ Stop.Worn Dev.Log)) }
     {
         hold_together();
         if let Some(refused) = self.begin_refusal(session) {
             return Ok(refused);
+        }
+        let due = self.is_due();
+        match self.checkpoint_if(site, due) {
+            Ok(()) => {}
+            Err(stop) => return Err(stop),
+        }
+        if let Some(full) = self.full(2) {
+            return Ok(full);
         }
         match self.carry_out_begin(site, session) {
             Ok(reply) => Ok(reply),
@@ -88,31 +94,6 @@ impl Engine {
                 self.ended = true;
                 Err(stop)
             }
-        }
-    }
-
-    /// A session begins. Where a checkpoint is due it comes first.
-    pub fn begin<S: Site>(&mut self, site: &mut S, session: u32) -> Result<Reply, Stop>
-        requires going { Invariant self.old (S.state site.old) }
-
-        // Of an honest site that the database fits.
-        ensures answers { (s : State) → Matches self.old (S.state site.old) s
-            → Answers result self.old self.new (S.state site.old) (S.state site.new) s (run s (Command.Begin session))
-            (command_touches true s (Command.Begin session))
-            (LeavesTable (sizes_of self.old.store) s.table s.commits (S.state site.old).told)
-            (checkpoints_by s (Command.Begin session)) }
-        ensures performs { (s : State) → Matches self.old (S.state site.old) s
-            → PerformsStore result (command_work true s (Command.Begin session))
-            self.old.store self.new.store (S.state site.old) (S.state site.new) }
-
-        // Of every site.
-        ensures serves { KeepsUnread result self.old self.new (S.state site.old) (S.state site.new) }
-        ensures ended { OnErr result (self.new.ended ≡ true) }
-    {
-        let wanted = self.wants_checkpoint_to_begin(session);
-        match self.checkpoint_if(site, wanted) {
-            Ok(()) => self.begin_now(site, session),
-            Err(stop) => Err(stop),
         }
     }
 
@@ -235,11 +216,11 @@ impl Engine {
         // Of an honest site that the database fits.
         ensures answers { (s : State) → Matches self.old (S.state site.old) s
             → Answers result self.old self.new (S.state site.old) (S.state site.new) s (run s (Command.Commit session))
-            (command_touches true s (Command.Commit session))
+            (command_touches s (Command.Commit session))
             (LeavesEither (sizes_of self.old.store) s (run s (Command.Commit session)).after (S.state site.old).told)
             (checkpoints_by s (Command.Commit session)) }
         ensures performs { (s : State) → Matches self.old (S.state site.old) s
-            → PerformsStore result (command_work true s (Command.Commit session))
+            → PerformsStore result (command_work s (Command.Commit session))
             self.old.store self.new.store (S.state site.old) (S.state site.new) }
 
         // Of every site.
@@ -302,13 +283,13 @@ impl Engine {
         // Of an honest site that the database fits.
         ensures answers { (s : State) → Matches self.old (S.state site.old) s
             → Answers result self.old self.new (S.state site.old) (S.state site.new) s (run s (Command.Abort session))
-            (command_touches true s (Command.Abort session))
+            (command_touches s (Command.Abort session))
             (LeavesTable (sizes_of self.old.store) s.table s.commits (S.state site.old).told)
             (checkpoints_by s (Command.Abort session)) }
         ensures log_reads { (s : State) → Matches self.old (S.state site.old) s
             → (S.state site.new).log_reads ≤ (S.state site.old).log_reads + undo_reads (session_at s session) }
         ensures performs { (s : State) → Matches self.old (S.state site.old) s
-            → PerformsStore result (command_work true s (Command.Abort session)) self.old.store self.new.store
+            → PerformsStore result (command_work s (Command.Abort session)) self.old.store self.new.store
             (S.state site.old) (S.state site.new) }
 
         // Of every site.

@@ -132,11 +132,11 @@ impl Engine {
         ensures answers { (s : State) → Matches self.old (S.state site.old) s
             → Answers result self.old self.new (S.state site.old) (S.state site.new) s
             (run s (Command.Write session number value.now))
-            (command_touches true s (Command.Write session number value.now))
+            (command_touches s (Command.Write session number value.now))
             (LeavesTable (sizes_of self.old.store) s.table s.commits (S.state site.old).told)
             (checkpoints_by s (Command.Write session number value.now)) }
         ensures performs { (s : State) → Matches self.old (S.state site.old) s
-            → PerformsStore result (command_work true s (Command.Write session number value.now))
+            → PerformsStore result (command_work s (Command.Write session number value.now))
             self.old.store self.new.store (S.state site.old) (S.state site.new) }
 
         // Of every site.
@@ -188,11 +188,11 @@ impl Engine {
         // Of an honest site that the database fits.
         ensures answers { (s : State) → Matches self.old (S.state site.old) s
             → Answers result self.old self.new (S.state site.old) (S.state site.new) s
-            (run s (Command.Erase session number)) (command_touches true s (Command.Erase session number))
+            (run s (Command.Erase session number)) (command_touches s (Command.Erase session number))
             (LeavesTable (sizes_of self.old.store) s.table s.commits (S.state site.old).told)
             (checkpoints_by s (Command.Erase session number)) }
         ensures performs { (s : State) → Matches self.old (S.state site.old) s
-            → PerformsStore result (command_work true s (Command.Erase session number))
+            → PerformsStore result (command_work s (Command.Erase session number))
             self.old.store self.new.store (S.state site.old) (S.state site.new) }
 
         // Of every site.

@@ -114,17 +114,17 @@ one_makes : (s : State) (line : Line) → (if makes_one s line then 1 else 0) �
 one_makes s None = refl
 one_makes s (Some command) = refl
 
-pub turns_make : (s : State) (lines : List Line) (listings : List (List CacheLine)) → checkpoints_in (turns true s lines listings) ≡ checkpoints_of s (up_to_quit lines)
+pub turns_make : (s : State) (lines : List Line) (listings : List (List CacheLine)) → checkpoints_in (turns s lines listings) ≡ checkpoints_of s (up_to_quit lines)
 turns_make s [] listings = refl
 turns_make s (line ∷ lines) listings =
-    let more : List Turn = if is_quit line then [] else turns true (step s line (next_listing listings)).after lines (later_listings line listings) in
-    let one : checkpoints_in (turn true s line (next_listing listings) ∷ []) ≡ line_checkpoints s line = count_one (λ t. makes_one t.before t.line) (turn true s line (next_listing listings)) ∙ one_makes s line in
+    let more : List Turn = if is_quit line then [] else turns (step s line (next_listing listings)).after lines (later_listings line listings) in
+    let one : checkpoints_in (turn s line (next_listing listings) ∷ []) ≡ line_checkpoints s line = count_one (λ t. makes_one t.before t.line) (turn s line (next_listing listings)) ∙ one_makes s line in
     let rest : checkpoints_in more ≡ checkpoints_of (step s line []).after (if is_quit line then [] else up_to_quit lines) =
     by (is_quit line) (turns_make (step s line (next_listing listings)).after lines (later_listings line listings) ∙ ap (λ (x : State). checkpoints_of x (up_to_quit lines)) (after_same s line (next_listing listings) [])) in
-    count_join (λ t. makes_one t.before t.line) (turn true s line (next_listing listings) ∷ []) more ∙ (λ i. one i + rest i)
+    count_join (λ t. makes_one t.before t.line) (turn s line (next_listing listings) ∷ []) more ∙ (λ i. one i + rest i)
   where
-    by : (b : Bool) → checkpoints_in (turns true (step s line (next_listing listings)).after lines (later_listings line listings)) ≡ checkpoints_of (step s line []).after (up_to_quit lines) →
-        checkpoints_in (if b then [] else turns true (step s line (next_listing listings)).after lines (later_listings line listings)) ≡ checkpoints_of (step s line []).after (if b then [] else up_to_quit lines)
+    by : (b : Bool) → checkpoints_in (turns (step s line (next_listing listings)).after lines (later_listings line listings)) ≡ checkpoints_of (step s line []).after (up_to_quit lines) →
+        checkpoints_in (if b then [] else turns (step s line (next_listing listings)).after lines (later_listings line listings)) ≡ checkpoints_of (step s line []).after (if b then [] else up_to_quit lines)
     by true later = refl
     by false later = later
 

@@ -32,8 +32,8 @@ unfolding chosen
 no_listings line = chosen_none (is_cache line)
 
 -- one line, and those behind it
-turns_cons : (s : State) (line : Line) (lines : List Line) → is_quit line ≡ false → turns true s (line ∷ lines) [] ≡ turn true s line [] ∷ turns true (step s line []).after lines []
-turns_cons s line lines goes = λ i. turn true s line [] ∷ (if goes i then [] else turns true (step s line []).after lines (no_listings line i))
+turns_cons : (s : State) (line : Line) (lines : List Line) → is_quit line ≡ false → turns s (line ∷ lines) [] ≡ turn s line [] ∷ turns (step s line []).after lines []
+turns_cons s line lines goes = λ i. turn s line [] ∷ (if goes i then [] else turns (step s line []).after lines (no_listings line i))
 
 pub after_cons : (s : State) (line : Line) (lines : List Line) → after_lines s (line ∷ lines) [] ≡ after_lines (step s line []).after lines []
 after_cons s line lines = ap (after_lines (step s line []).after lines) (no_listings line)
@@ -53,23 +53,23 @@ take_over (line ∷ first) later n =
 pub works_join : (s : State) (first later : List Line) → works_of s (first ++ later) ≡ works_of s first ++ works_of (after_lines s first []) later
 works_join s [] later = refl
 works_join s (line ∷ first) later =
-    ap (λ (w : List CacheWork). line_touches true s line ++ w) (works_join (step s line []).after first later)
-    ∙ sym (append_assoc (line_touches true s line) (works_of (step s line []).after first) (works_of (after_lines (step s line []).after first []) later))
+    ap (λ (w : List CacheWork). line_touches s line ++ w) (works_join (step s line []).after first later)
+    ∙ sym (append_assoc (line_touches s line) (works_of (step s line []).after first) (works_of (after_lines (step s line []).after first []) later))
     ∙ ap (λ (x : State). works_of s (line ∷ first) ++ works_of x later) (sym (after_cons s line first))
 
-pub turns_join : (s : State) (first later : List Line) → NoneQuits first → turns true s (first ++ later) [] ≡ turns true s first [] ++ turns true (after_lines s first []) later []
+pub turns_join : (s : State) (first later : List Line) → NoneQuits first → turns s (first ++ later) [] ≡ turns s first [] ++ turns (after_lines s first []) later []
 turns_join s [] later goes = refl
 turns_join s (line ∷ first) later goes =
     turns_cons s line (first ++ later) goes.0
-    ∙ ap (λ (l : List Turn). turn true s line [] ∷ l) (turns_join (step s line []).after first later goes.1)
-    ∙ (λ i. sym (turns_cons s line first goes.0) i ++ turns true (sym (after_cons s line first) i) later [])
+    ∙ ap (λ (l : List Turn). turn s line [] ∷ l) (turns_join (step s line []).after first later goes.1)
+    ∙ (λ i. sym (turns_cons s line first goes.0) i ++ turns (sym (after_cons s line first) i) later [])
 
-pub turns_more : (s : State) (first : List Line) (line : Line) → NoneQuits first → turns true s (first ++ line ∷ []) [] ≡ turns true s first [] ++ turn true (after_lines s first []) line [] ∷ []
+pub turns_more : (s : State) (first : List Line) (line : Line) → NoneQuits first → turns s (first ++ line ∷ []) [] ≡ turns s first [] ++ turn (after_lines s first []) line [] ∷ []
 turns_more s first line goes =
     turns_join s first (line ∷ []) goes
-    ∙ ap (λ (l : List Turn). turns true s first [] ++ turn true (after_lines s first []) line [] ∷ l) (none (is_quit line) (turns_none (after_lines s first []) line))
+    ∙ ap (λ (l : List Turn). turns s first [] ++ turn (after_lines s first []) line [] ∷ l) (none (is_quit line) (turns_none (after_lines s first []) line))
   where
-    turns_none : (b : State) (line : Line) → turns true (step b line []).after [] (later_listings line []) ≡ []
+    turns_none : (b : State) (line : Line) → turns (step b line []).after [] (later_listings line []) ≡ []
     turns_none b line = refl
 
     none : (b : Bool) → {l : List Turn} → l ≡ [] → (if b then [] else l) ≡ []
@@ -120,18 +120,18 @@ count_one p x = sym (tally_is p (x ∷ [])) ∙ by (p x)
 
 -- one turn more
 pub count_more : (p : Turn → Bool) (s : State) (first : List Line) (line : Line) → NoneQuits first →
-    count_by p (turns true s (first ++ line ∷ []) []) ≡ count_by p (turns true s first []) + (if p (turn true (after_lines s first []) line []) then 1 else 0)
+    count_by p (turns s (first ++ line ∷ []) []) ≡ count_by p (turns s first []) + (if p (turn (after_lines s first []) line []) then 1 else 0)
 count_more p s first line goes =
-    ap (count_by p) (turns_more s first line goes) ∙ count_join p (turns true s first []) (turn true (after_lines s first []) line [] ∷ [])
-    ∙ ap (λ (n : ℕ). count_by p (turns true s first []) + n) (count_one p (turn true (after_lines s first []) line []))
+    ap (count_by p) (turns_more s first line goes) ∙ count_join p (turns s first []) (turn (after_lines s first []) line [] ∷ [])
+    ∙ ap (λ (n : ℕ). count_by p (turns s first []) + n) (count_one p (turn (after_lines s first []) line []))
 
 -- what no turn is isn't counted
-pub count_none : (p : Turn → Bool) (f : ℕ → Line) (s : State) (xs : List ℕ) → ((x : ℕ) → is_quit (f x) ≡ false) → ((b : State) (x : ℕ) → p (turn true b (f x) []) ≡ false) → count_by p (turns true s (map f xs) []) ≡ 0
+pub count_none : (p : Turn → Bool) (f : ℕ → Line) (s : State) (xs : List ℕ) → ((x : ℕ) → is_quit (f x) ≡ false) → ((b : State) (x : ℕ) → p (turn b (f x) []) ≡ false) → count_by p (turns s (map f xs) []) ≡ 0
 count_none p f s [] goes never = refl
 count_none p f s (x ∷ xs) goes never =
     ap (count_by p) (turns_cons s (f x) (map f xs) (goes x))
-    ∙ count_join p (turn true s (f x) [] ∷ []) (turns true (step s (f x) []).after (map f xs) [])
-    ∙ (λ i. (count_one p (turn true s (f x) []) ∙ ap (λ (b : Bool). if b then 1 else 0) (never s x)) i + count_none p f (step s (f x) []).after xs goes never i)
+    ∙ count_join p (turn s (f x) [] ∷ []) (turns (step s (f x) []).after (map f xs) [])
+    ∙ (λ i. (count_one p (turn s (f x) []) ∙ ap (λ (b : Bool). if b then 1 else 0) (never s x)) i + count_none p f (step s (f x) []).after xs goes never i)
 
 -- Numbers.
 

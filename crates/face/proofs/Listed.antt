@@ -41,7 +41,7 @@ pub never_cache : (line : Line) (command : Command) → is_cache line ≡ false 
 never_cache line command not_cache says is = true≢false (sym (ap is_cache (says ∙ ap Some is)) ∙ not_cache)
 
 -- what the others are answered doesn't depend on it
-same_outcome : (s : State) (command : Command) (listing : List CacheLine) (o : Option Reply) → is_cache (Some command) ≡ false → outcome true s command listing o ≡ outcome true s command [] o
+same_outcome : (s : State) (command : Command) (listing : List CacheLine) (o : Option Reply) → is_cache (Some command) ≡ false → outcome s command listing o ≡ outcome s command [] o
 same_outcome s command listing (Some refused) not_cache = refl
 same_outcome s Cache listing None not_cache = absurd (true≢false not_cache)
 same_outcome s other listing None not_cache = refl

@@ -1,6 +1,6 @@
 -- What is counted of the sets and the gets of a load.
-use Rattle.std.proofs.Common.{◌≡◌, ℕ, suc, ◌+◌, ◌*◌, ◌≤◌, Bool, true, false, List, [], ◌∷◌, ◌++◌, length, map, refl, sym, ◌∙◌, ap, arith}
-use Rattle.std.specs.Prelude.{Option, Some, None, nat_lt, option_map, count_by, if◌then◌else◌}
+use Rattle.std.proofs.Common.{◌≡◌, ℕ, suc, ◌+◌, ◌*◌, ◌≤◌, ◌&&◌, Bool, true, false, List, [], ◌∷◌, ◌++◌, length, map, refl, sym, ◌∙◌, ap, arith}
+use Rattle.std.specs.Prelude.{Option, Some, None, is_none, nat_lt, option_map, count_by, if◌then◌else◌}
 use Rattle.std.specs.List.{AllByRecursion}
 use Rattle.byte_fields.specs.declared.TheConstants.{VALUE_MAX}
 use Rattle.record_model.specs.declared.words.Command.{Command}
@@ -8,7 +8,7 @@ use Rattle.record_model.specs.declared.words.Command.TheVariants.{Get, Set}
 use Rattle.record_model.specs.declared.words.Why.TheVariants.{TooLong}
 use Rattle.record_model.specs.declared.words.Reply.{Reply}
 use Rattle.record_model.specs.declared.words.Reply.TheVariants as reply
-use Rattle.record_model.specs.State.{State, busy_read, busy_write, content_at}
+use Rattle.record_model.specs.State.{State, busy_read, busy_write, content_at, is_due}
 use Rattle.record_model.specs.Step.{Outcome, answer, carried_out, effect, first_refusal, found, full, may_read, may_write, outcome, ready, refusal, refuse_if, lacks_room, wants_record, wants_short}
 use Rattle.record_model.specs.Run.{Line, Turn, is_committed, is_quit, turn, turns}
 use Rattle.workload.specs.Generator.{generated, record_of, value_of}
@@ -16,7 +16,7 @@ use Rattle.site.specs.declared.geometry.Geometry.{Geometry}
 use Rattle.command_line.specs.declared.request.Load.{Load}
 use Rattle.face.specs.Loads.{HasCounted, HasMade}
 use Rattle.face.specs.Run.{after_lines, step}
-use Rattle.face.specs.Workload.{checkpoints_in, committed_in, found_in, get_line, get_lines, is_value, load_run, makes_one, numbers_of, set_line, set_lines}
+use Rattle.face.specs.Workload.{checkpoints_in, committed_in, found_in, get_line, get_lines, has_passed, is_value, load_run, makes_one, numbers_of, set_line, set_lines}
 use Rattle.face.proofs.LinesBeforeQuit.{count_join, count_more, count_none, none_quits_map, one_more, turns_join}
 use Rattle.record_model.proofs.StepLaws.{found_is}
 
@@ -33,11 +33,11 @@ one_line_more f seed i line is = one_more f seed i ∙ ap (λ (l : Line). map f 
 
 -- of lines that are made of numbers, none of which quits, one more is counted where it is to be
 pub counted_more : (p : Turn → Bool) (f : ℕ → Line) → ((x : ℕ) → is_quit (f x) ≡ false) → (seed i : ℕ) (line : Line) → line ≡ f (generated seed (suc i)) → (s : State) (count one : ℕ) →
-    count ≡ count_by p (turns true s (map f (numbers_of seed i)) []) → one ≡ (if p (turn true (after_lines s (map f (numbers_of seed i)) []) line []) then 1 else 0) →
-    count + one ≡ count_by p (turns true s (map f (numbers_of seed (suc i))) [])
+    count ≡ count_by p (turns s (map f (numbers_of seed i)) []) → one ≡ (if p (turn (after_lines s (map f (numbers_of seed i)) []) line []) then 1 else 0) →
+    count + one ≡ count_by p (turns s (map f (numbers_of seed (suc i))) [])
 counted_more p f goes seed i line is s count one so_far more =
     let first = map f (numbers_of seed i) in
-    (λ j. so_far j + more j) ∙ sym (count_more p s first line (none_quits_map f (numbers_of seed i) goes)) ∙ ap (λ (l : List Line). count_by p (turns true s l [])) (sym (one_line_more f seed i line is))
+    (λ j. so_far j + more j) ∙ sym (count_more p s first line (none_quits_map f (numbers_of seed i) goes)) ∙ ap (λ (l : List Line). count_by p (turns s l [])) (sym (one_line_more f seed i line is))
 
 pub set_goes : (records x : ℕ) → is_quit (set_line records x) ≡ false
 set_goes records x = refl
@@ -52,10 +52,10 @@ one_most false n is = omega (arith, is)
 
 -- one set more
 pub made_more : (records seed i : ℕ) (line : Line) → line ≡ set_line records (generated seed (suc i)) → (s : State) (committed checkpoints one other : ℕ) →
-    HasMade (turns true s (set_lines records seed i) []) committed checkpoints →
+    HasMade (turns s (set_lines records seed i) []) committed checkpoints →
     one ≡ (if is_committed (step (after_lines s (set_lines records seed i) []) line []).reply then 1 else 0) →
     other ≡ (if makes_one (after_lines s (set_lines records seed i) []) line then 1 else 0) →
-    HasMade (turns true s (set_lines records seed (suc i)) []) (committed + one) (checkpoints + other)
+    HasMade (turns s (set_lines records seed (suc i)) []) (committed + one) (checkpoints + other)
 made_more records seed i line is s committed checkpoints one other made is_one is_other = record {
   committed_is = counted_more (λ t. is_committed t.reply) (set_line records) (set_goes records) seed i line is s committed one made.committed_is is_one;
   checkpoints_are = counted_more (λ t. makes_one t.before t.line) (set_line records) (set_goes records) seed i line is s checkpoints other made.checkpoints_are is_other;
@@ -63,9 +63,9 @@ made_more records seed i line is s committed checkpoints one other made is_one i
 
 -- one get more
 pub found_more : (records seed i : ℕ) (line : Line) → line ≡ get_line records (generated seed (suc i)) → (s : State) (found one : ℕ) →
-    found ≡ found_in (turns true s (get_lines records seed i) []) →
+    found ≡ found_in (turns s (get_lines records seed i) []) →
     one ≡ (if is_value (step (after_lines s (get_lines records seed i) []) line []).reply then 1 else 0) →
-    found + one ≡ found_in (turns true s (get_lines records seed (suc i)) [])
+    found + one ≡ found_in (turns s (get_lines records seed (suc i)) [])
 found_more records seed i line is s found one so_far is_one = counted_more (λ t. is_value t.reply) (get_line records) (get_goes records) seed i line is s found one so_far is_one
 
 -- A set finds no value, and a get commits nothing and makes no checkpoint.
@@ -93,7 +93,7 @@ module _ (p : Reply → Bool) where
   busy_never None is = refl
 
   -- nor does a command that is carried out
-  outcome_never : (s : State) (command : Command) (o : Option Reply) → Never o → p (carried_out (ready true s command) command []).reply ≡ false → p (outcome true s command [] o).reply ≡ false
+  outcome_never : (s : State) (command : Command) (o : Option Reply) → Never o → p (carried_out (ready s command) command []).reply ≡ false → p (outcome s command [] o).reply ≡ false
   unfolding Never
   outcome_never s command (Some r) never is = never
   outcome_never s command None never is = is
@@ -119,15 +119,30 @@ set_finds_nothing records b x =
     let value = value_of x in
     outcome_never is_value b (Set number value) (refusal b (Set number value))
     (first_never is_value (wants_record b number ∷ wants_short value ∷ may_write b None number ∷ []) (refused_never is_value _ _ refl, (refused_never is_value (nat_lt VALUE_MAX (length value)) (reply.Refused TooLong) refl, (busy_never is_value (busy_write b None number) (λ holder. refl), tt))))
-    (set_carried (ready true b (Set number value)) number value (lacks_room (ready true b (Set number value)) (Set number value)))
+    (set_carried (ready b (Set number value)) number value (lacks_room (ready b (Set number value)) (Set number value)))
+
+-- and its reply tells whether a test refused it, so whether it has made a checkpoint where one was due
+set_passed : (s : State) (number : ℕ) (value : List ℕ) (lacks : Bool) → has_passed (set_outcome s number value lacks).reply ≡ true
+set_passed s number value true = refl
+set_passed s number value false = refl
+
+passed_is : (s : State) (number : ℕ) (value : List ℕ) (o : Option Reply) → Never has_passed o → has_passed (outcome s (Set number value) [] o).reply ≡ is_none o
+unfolding Never
+passed_is s number value (Some r) never = never
+passed_is s number value None never = set_passed (ready s (Set number value)) number value (lacks_room (ready s (Set number value)) (Set number value))
+
+pub set_makes : (s : State) (number : ℕ) (value : List ℕ) → (is_due s && has_passed (step s (Some (Set number value)) []).reply) ≡ makes_one s (Some (Set number value))
+set_makes s number value =
+    ap (λ (b : Bool). is_due s && b) (passed_is s number value (refusal s (Set number value))
+    (first_never has_passed (wants_record s number ∷ wants_short value ∷ may_write s None number ∷ []) (refused_never has_passed _ _ refl, (refused_never has_passed (nat_lt VALUE_MAX (length value)) (reply.Refused TooLong) refl, (busy_never has_passed (busy_write s None number) (λ holder. refl), tt)))))
 
 pub get_makes_none : (records : ℕ) (b : State) (x : ℕ) → makes_one b (get_line records x) ≡ false
 get_makes_none records b x = refl
 
 -- all that is counted of a load
 pub has_counted : (g : Geometry) (opening : State) (load : Load) (committed checkpoints found : ℕ) →
-    HasMade (turns true opening (set_lines (32 * g.pages) load.seed load.count) []) committed checkpoints →
-    found ≡ found_in (turns true (after_lines opening (set_lines (32 * g.pages) load.seed load.count) []) (get_lines (32 * g.pages) load.seed load.count) []) →
+    HasMade (turns opening (set_lines (32 * g.pages) load.seed load.count) []) committed checkpoints →
+    found ≡ found_in (turns (after_lines opening (set_lines (32 * g.pages) load.seed load.count) []) (get_lines (32 * g.pages) load.seed load.count) []) →
     HasCounted (load_run g opening load) committed checkpoints found
 has_counted g opening load committed checkpoints found made is =
     let records = 32 * g.pages in
@@ -137,9 +152,9 @@ has_counted g opening load committed checkpoints found made is =
     let all = turns_join opening sets gets (none_quits_map (set_line records) numbers (set_goes records)) in
     let none = after_lines opening sets [] in
     record {
-      committed_is = made.committed_is ∙ tail_none (λ t. is_committed t.reply) (turns true opening sets []) (turns true none gets []) (count_none (λ t. is_committed t.reply) (get_line records) none numbers (get_goes records) (get_commits_nothing records)) ∙ ap committed_in (sym all);
-      checkpoints_are = made.checkpoints_are ∙ tail_none (λ t. makes_one t.before t.line) (turns true opening sets []) (turns true none gets []) (count_none (λ t. makes_one t.before t.line) (get_line records) none numbers (get_goes records) (get_makes_none records)) ∙ ap checkpoints_in (sym all);
-      found_is = is ∙ front_none (λ t. is_value t.reply) (turns true opening sets []) (turns true none gets []) (count_none (λ t. is_value t.reply) (set_line records) opening numbers (set_goes records) (set_finds_nothing records)) ∙ ap found_in (sym all);
+      committed_is = made.committed_is ∙ tail_none (λ t. is_committed t.reply) (turns opening sets []) (turns none gets []) (count_none (λ t. is_committed t.reply) (get_line records) none numbers (get_goes records) (get_commits_nothing records)) ∙ ap committed_in (sym all);
+      checkpoints_are = made.checkpoints_are ∙ tail_none (λ t. makes_one t.before t.line) (turns opening sets []) (turns none gets []) (count_none (λ t. makes_one t.before t.line) (get_line records) none numbers (get_goes records) (get_makes_none records)) ∙ ap checkpoints_in (sym all);
+      found_is = is ∙ front_none (λ t. is_value t.reply) (turns opening sets []) (turns none gets []) (count_none (λ t. is_value t.reply) (set_line records) opening numbers (set_goes records) (set_finds_nothing records)) ∙ ap found_in (sym all);
     }
   where
     tail_none : (p : Turn → Bool) (xs ys : List Turn) → count_by p ys ≡ 0 → count_by p xs ≡ count_by p (xs ++ ys)

@@ -26,10 +26,10 @@ front_turn : (b : Bool) (t : Turn) (all front : List Turn) → (later : List Tur
 front_turn true t all front rest = ([], refl)
 front_turn false t all front rest = (rest.0, ap (λ (l : List Turn). t ∷ l) rest.1)
 
-pub turns_front : (s : State) (xs more : List Line) (ls : List (List CacheLine)) → (later : List Turn) × (turns true s (xs ++ more) ls ≡ turns true s xs ls ++ later)
-turns_front s [] more ls = (turns true s more ls, refl)
+pub turns_front : (s : State) (xs more : List Line) (ls : List (List CacheLine)) → (later : List Turn) × (turns s (xs ++ more) ls ≡ turns s xs ls ++ later)
+turns_front s [] more ls = (turns s more ls, refl)
 turns_front s (x ∷ xs) more ls =
-    let first = turn true s x (next_listing ls) in
+    let first = turn s x (next_listing ls) in
     front_turn (is_quit x) first _ _ (turns_front first.after xs more (later_listings x ls))
 
 quit_turn : (b rest : Bool) (t : Turn) (all front : List Turn) → (b || rest) ≡ true → (rest ≡ true → all ≡ front) → (t ∷ (if b then [] else all)) ≡ (t ∷ (if b then [] else front))
@@ -37,10 +37,10 @@ quit_turn true rest t all front is same = refl
 quit_turn false rest t all front is same = ap (λ (l : List Turn). t ∷ l) (same is)
 
 -- behind a quit none counts
-turns_quit : (s : State) (xs more : List Line) (ls : List (List CacheLine)) → list_any is_quit xs ≡ true → turns true s (xs ++ more) ls ≡ turns true s xs ls
+turns_quit : (s : State) (xs more : List Line) (ls : List (List CacheLine)) → list_any is_quit xs ≡ true → turns s (xs ++ more) ls ≡ turns s xs ls
 turns_quit s [] more ls is = absurd cc
 turns_quit s (x ∷ xs) more ls is =
-    let first = turn true s x (next_listing ls) in
+    let first = turn s x (next_listing ls) in
     quit_turn (is_quit x) (list_any is_quit xs) first _ _ is (turns_quit first.after xs more (later_listings x ls))
 
 -- Fronts of lists.

@@ -63,13 +63,13 @@ pub after_same : (s : State) (line : Line) (listing other : List CacheLine) → 
 after_same s None listing other = refl
 after_same s (Some command) listing other = by (refusal s command)
   where
-    way : (b : Bool) → (chosen (ready true s command) command listing b).after ≡ (chosen (ready true s command) command other b).after
+    way : (b : Bool) → (chosen (ready s command) command listing b).after ≡ (chosen (ready s command) command other b).after
     way true = refl
     way false = refl
 
-    by : (o : Option Reply) → (outcome true s command listing o).after ≡ (outcome true s command other o).after
+    by : (o : Option Reply) → (outcome s command listing o).after ≡ (outcome s command other o).after
     by (Some refused) = refl
-    by None = way (lacks_room (ready true s command) command)
+    by None = way (lacks_room (ready s command) command)
 
 plain_is : (s : State) (lines : List Line) (listings : List (List CacheLine)) → plain_after s lines ≡ after_lines s lines listings
 unfolding plain_after
@@ -81,24 +81,24 @@ pub same_after : (s : State) (lines : List Line) (listings other : List (List Ca
 same_after s lines listings other = sym (plain_is s lines listings) ∙ plain_is s lines other
 
 -- the work of some turns and of those behind them
-touches_join : (first later : List Turn) → run_touches true (first ++ later) ≡ run_touches true first ++ run_touches true later
+touches_join : (first later : List Turn) → run_touches (first ++ later) ≡ run_touches first ++ run_touches later
 touches_join [] later = refl
 touches_join (t ∷ first) later =
-    ap (λ (w : List CacheWork). line_touches true t.before t.line ++ w) (touches_join first later) ∙ sym (append_assoc (line_touches true t.before t.line) (run_touches true first) (run_touches true later))
+    ap (λ (w : List CacheWork). line_touches t.before t.line ++ w) (touches_join first later) ∙ sym (append_assoc (line_touches t.before t.line) (run_touches first) (run_touches later))
 
 -- the turns of a run ask for what its lines do
-pub turns_ask : (s : State) (lines : List Line) (listings : List (List CacheLine)) → run_touches true (turns true s lines listings) ≡ works_of s (up_to_quit lines)
+pub turns_ask : (s : State) (lines : List Line) (listings : List (List CacheLine)) → run_touches (turns s lines listings) ≡ works_of s (up_to_quit lines)
 turns_ask s [] listings = refl
 turns_ask s (line ∷ lines) listings =
     by (is_quit line) (turns_ask (step s line (next_listing listings)).after lines (later_listings line listings) ∙ ap (λ (x : State). works_of x (up_to_quit lines)) (after_same s line (next_listing listings) []))
   where
-    by : (b : Bool) → run_touches true (turns true (step s line (next_listing listings)).after lines (later_listings line listings)) ≡ works_of (step s line []).after (up_to_quit lines) →
-        line_touches true s line ++ run_touches true (if b then [] else turns true (step s line (next_listing listings)).after lines (later_listings line listings)) ≡ line_touches true s line ++ works_of (step s line []).after (if b then [] else up_to_quit lines)
+    by : (b : Bool) → run_touches (turns (step s line (next_listing listings)).after lines (later_listings line listings)) ≡ works_of (step s line []).after (up_to_quit lines) →
+        line_touches s line ++ run_touches (if b then [] else turns (step s line (next_listing listings)).after lines (later_listings line listings)) ≡ line_touches s line ++ works_of (step s line []).after (if b then [] else up_to_quit lines)
     by true later = refl
-    by false later = ap (λ (w : List CacheWork). line_touches true s line ++ w) later
+    by false later = ap (λ (w : List CacheWork). line_touches s line ++ w) later
 
 -- and its first turns for what its first lines do
-pub first_ask : (n : ℕ) (s : State) (lines : List Line) (listings : List (List CacheLine)) → run_touches true (turns true s (take n lines) listings) ≡ works_of s (take n (up_to_quit lines))
+pub first_ask : (n : ℕ) (s : State) (lines : List Line) (listings : List (List CacheLine)) → run_touches (turns s (take n lines) listings) ≡ works_of s (take n (up_to_quit lines))
 first_ask n s lines listings = turns_ask s (take n lines) listings ∙ ap (works_of s) (first_answered n lines)
 
 -- by lines
@@ -111,14 +111,14 @@ asked_with run listings newest image blocks n = asked_is (record run { listings 
 
 -- a line more asks for its own work behind that of the others
 pub asked_next : (run : Run) (newest : Option Master) (image : Image) (blocks : List (List LogRecord)) (i : ℕ) (line : Line) (rest : List Line) → drop i (answered run) ≡ line ∷ rest →
-    asked_after run newest image blocks (suc i) ≡ asked_after run newest image blocks i ++ line_touches true (state_at run i) line
+    asked_after run newest image blocks (suc i) ≡ asked_after run newest image blocks i ++ line_touches (state_at run i) line
 asked_next run newest image blocks i line rest is =
     let restart = restart_works (picture_under newest run.geometry image blocks) in
     let first = turns_of (first_lines run i) in
-    let own = line_touches true (state_at run i) line in
-    ap (λ (l : List Turn). restart ++ run_touches true l) (turns_next run i line rest is)
-    ∙ ap (λ (w : List CacheWork). restart ++ w) (touches_join first (turn_at run i line rest is ∷ []) ∙ ap (λ (w : List CacheWork). run_touches true first ++ w) (append-nil own))
-    ∙ sym (append_assoc restart (run_touches true first) own)
+    let own = line_touches (state_at run i) line in
+    ap (λ (l : List Turn). restart ++ run_touches l) (turns_next run i line rest is)
+    ∙ ap (λ (w : List CacheWork). restart ++ w) (touches_join first (turn_at run i line rest is ∷ []) ∙ ap (λ (w : List CacheWork). run_touches first ++ w) (append-nil own))
+    ∙ sym (append_assoc restart (run_touches first) own)
 
 -- How often the log is read.
 
@@ -128,18 +128,18 @@ log_reads_join [] later = omega arith
 log_reads_join (t ∷ first) later = let rest = log_reads_join first later in omega (arith, rest)
 
 -- the turns of a run, as its lines
-turns_read_log : (s : State) (lines : List Line) (listings : List (List CacheLine)) → log_reads_in (turns true s lines listings) ≡ log_reads_of s (up_to_quit lines)
+turns_read_log : (s : State) (lines : List Line) (listings : List (List CacheLine)) → log_reads_in (turns s lines listings) ≡ log_reads_of s (up_to_quit lines)
 turns_read_log s [] listings = refl
 turns_read_log s (line ∷ lines) listings =
     by (is_quit line) (turns_read_log (step s line (next_listing listings)).after lines (later_listings line listings) ∙ ap (λ (x : State). log_reads_of x (up_to_quit lines)) (after_same s line (next_listing listings) []))
   where
-    by : (b : Bool) → log_reads_in (turns true (step s line (next_listing listings)).after lines (later_listings line listings)) ≡ log_reads_of (step s line []).after (up_to_quit lines) →
-        line_log_reads s line + log_reads_in (if b then [] else turns true (step s line (next_listing listings)).after lines (later_listings line listings)) ≡ line_log_reads s line + log_reads_of (step s line []).after (if b then [] else up_to_quit lines)
+    by : (b : Bool) → log_reads_in (turns (step s line (next_listing listings)).after lines (later_listings line listings)) ≡ log_reads_of (step s line []).after (up_to_quit lines) →
+        line_log_reads s line + log_reads_in (if b then [] else turns (step s line (next_listing listings)).after lines (later_listings line listings)) ≡ line_log_reads s line + log_reads_of (step s line []).after (if b then [] else up_to_quit lines)
     by true later = refl
     by false later = ap (λ (n : ℕ). line_log_reads s line + n) later
 
 -- its first turns, as its first lines
-pub first_log_reads : (n : ℕ) (s : State) (lines : List Line) (listings : List (List CacheLine)) → log_reads_in (turns true s (take n lines) listings) ≡ log_reads_of s (take n (up_to_quit lines))
+pub first_log_reads : (n : ℕ) (s : State) (lines : List Line) (listings : List (List CacheLine)) → log_reads_in (turns s (take n lines) listings) ≡ log_reads_of s (take n (up_to_quit lines))
 first_log_reads n s lines listings = turns_read_log s (take n lines) listings ∙ ap (log_reads_of s) (first_answered n lines)
 
 -- whatever the cache lists
@@ -223,44 +223,44 @@ module _ (pool : ℕ) (run : Run) (newest : Option Master) (image : Image) (bloc
 
   module _ (add : WorksAddUp) (i : ℕ) (line : Line) (rest : List Line) (is : drop i (answered run) ≡ line ∷ rest) (engine : Engine) (paged : IsPaged pool run newest image blocks engine i) where
     -- what the pages come to by the line's work
-    pub next_is : after_works (rules engine.store.pages) (line_touches true (state_at run i) line) (cache_of engine.store.pages) ≡ after_works r (asked_after run newest image blocks (suc i)) (cache_on run.geometry image)
+    pub next_is : after_works (rules engine.store.pages) (line_touches (state_at run i) line) (cache_of engine.store.pages) ≡ after_works r (asked_after run newest image blocks (suc i)) (cache_on run.geometry image)
     next_is =
-        (λ j. after_works (paged.rules_are j) (line_touches true (state_at run i) line) (paged.machine j))
-        ∙ sym (add r (asked_after run newest image blocks i) (line_touches true (state_at run i) line) (cache_on run.geometry image))
+        (λ j. after_works (paged.rules_are j) (line_touches (state_at run i) line) (paged.machine j))
+        ∙ sym (add r (asked_after run newest image blocks i) (line_touches (state_at run i) line) (cache_on run.geometry image))
         ∙ ap (λ (w : List CacheWork). after_works r w (cache_on run.geometry image)) (sym (asked_next run newest image blocks i line rest is))
 
     -- it is answered
-    pub next_paged : {T : Type 0} (x : T) (engine' : Engine) (before now : Site) → LineStepsMachine {T = T} (Ok x) (line_touches true (state_at run i) line) (line_log_reads (state_at run i) line) engine.store.pages engine'.store.pages before now → IsPaged pool run newest image blocks engine' (suc i)
+    pub next_paged : {T : Type 0} (x : T) (engine' : Engine) (before now : Site) → LineStepsMachine {T = T} (Ok x) (line_touches (state_at run i) line) (line_log_reads (state_at run i) line) engine.store.pages engine'.store.pages before now → IsPaged pool run newest image blocks engine' (suc i)
     next_paged x engine' before now serves = record { machine = serves.machine ∙ next_is; rules_are = serves.rules_are ∙ paged.rules_are }
 
     -- however that ends, no more is read than it asks for
     pub next_reads : ReadsAddUp → (entry mid next new : Site) → entry.image ≡ image → HearsOnly mid next → AsksFew pool run.geometry (asked_after run newest image blocks i) (log_reads_after run newest blocks i) entry mid → engine.store.pages.flash.geometry ≡ run.geometry → 1 ≤ run.geometry.groups - 1 →
-        ReadsFor (rules engine.store.pages) (line_touches true (state_at run i) line) (cache_of engine.store.pages) next new → WritesFrom engine.store.pages.flash.geometry (rules engine.store.pages) (line_touches true (state_at run i) line) (cache_of engine.store.pages) next new →
+        ReadsFor (rules engine.store.pages) (line_touches (state_at run i) line) (cache_of engine.store.pages) next new → WritesFrom engine.store.pages.flash.geometry (rules engine.store.pages) (line_touches (state_at run i) line) (cache_of engine.store.pages) next new →
         new.log_reads ≤ next.log_reads + line_log_reads (state_at run i) line → AsksFew pool run.geometry (asked_after run newest image blocks (suc i)) (log_reads_after run newest blocks (suc i)) entry new
     next_reads reads_add entry mid next new at same so_far sizes some later written read =
         let before : Site = record entry { flash_reads = entry.flash_reads + start_reads run.geometry } in
         let first = reads_still r (asked_after run newest image blocks i) (cache_on run.geometry entry.image) before mid next same.reads so_far.reads in
         let there : cache_of engine.store.pages ≡ after_works r (asked_after run newest image blocks i) (cache_on run.geometry entry.image) =
         paged.machine ∙ ap (λ (x : Image). after_works r (asked_after run newest image blocks i) (cache_on run.geometry x)) (sym at) in
-        let own : ReadsFor r (line_touches true (state_at run i) line) (after_works r (asked_after run newest image blocks i) (cache_on run.geometry entry.image)) next new =
-        subst (λ (c : Cache). ReadsFor r (line_touches true (state_at run i) line) c next new) there (subst (λ (x : Rules). ReadsFor x (line_touches true (state_at run i) line) (cache_of engine.store.pages) next new) paged.rules_are later) in
+        let own : ReadsFor r (line_touches (state_at run i) line) (after_works r (asked_after run newest image blocks i) (cache_on run.geometry entry.image)) next new =
+        subst (λ (c : Cache). ReadsFor r (line_touches (state_at run i) line) c next new) there (subst (λ (x : Rules). ReadsFor x (line_touches (state_at run i) line) (cache_of engine.store.pages) next new) paged.rules_are later) in
         subst (λ (w : List CacheWork). AsksFew pool run.geometry w (log_reads_after run newest blocks (suc i)) entry new) (sym (asked_next run newest image blocks i line rest is))
         (record {
           log_reads = let few = so_far.log_reads in let none : next.log_reads ≡ mid.log_reads = same.reads Log in let more = log_reads_next run newest blocks i line rest is in omega (arith, few, none, read, more);
-          reads = reads_add r (asked_after run newest image blocks i) (line_touches true (state_at run i) line) (cache_on run.geometry entry.image) before next new first own;
-          writes = writes_then run.geometry r (asked_after run newest image blocks i) (line_touches true (state_at run i) line) (cache_on run.geometry entry.image) entry next new some
+          reads = reads_add r (asked_after run newest image blocks i) (line_touches (state_at run i) line) (cache_on run.geometry entry.image) before next new first own;
+          writes = writes_then run.geometry r (asked_after run newest image blocks i) (line_touches (state_at run i) line) (cache_on run.geometry entry.image) entry next new some
               (writes_heard run.geometry r (asked_after run newest image blocks i) (cache_on run.geometry entry.image) entry mid next so_far.writes same)
-              (subst (λ (c : Cache). WritesFrom run.geometry r (line_touches true (state_at run i) line) c next new) there
-              (subst (λ (x : Rules). WritesFrom run.geometry x (line_touches true (state_at run i) line) (cache_of engine.store.pages) next new) paged.rules_are
-              (subst (λ (g : Geometry). WritesFrom g (rules engine.store.pages) (line_touches true (state_at run i) line) (cache_of engine.store.pages) next new) sizes written)));
+              (subst (λ (c : Cache). WritesFrom run.geometry r (line_touches (state_at run i) line) c next new) there
+              (subst (λ (x : Rules). WritesFrom run.geometry x (line_touches (state_at run i) line) (cache_of engine.store.pages) next new) paged.rules_are
+              (subst (λ (g : Geometry). WritesFrom g (rules engine.store.pages) (line_touches (state_at run i) line) (cache_of engine.store.pages) next new) sizes written)));
         })
 
     -- what the disk has behind it
     pub next_last : (entry mid next new : Site) → entry.image ≡ image → HearsOnly mid next → AsksFew pool run.geometry (asked_after run newest image blocks i) (log_reads_after run newest blocks i) entry mid → engine.store.pages.flash.geometry ≡ run.geometry →
-        WritesFrom engine.store.pages.flash.geometry (rules engine.store.pages) (line_touches true (state_at run i) line) (cache_of engine.store.pages) next new → HasLastFrom run.geometry r (asked_after run newest image blocks i) (cache_on run.geometry entry.image) entry mid →
-        HasLastFrom engine.store.pages.flash.geometry (rules engine.store.pages) (line_touches true (state_at run i) line) (cache_of engine.store.pages) next new → HasLastFrom run.geometry r (asked_after run newest image blocks (suc i)) (cache_on run.geometry entry.image) entry new
+        WritesFrom engine.store.pages.flash.geometry (rules engine.store.pages) (line_touches (state_at run i) line) (cache_of engine.store.pages) next new → HasLastFrom run.geometry r (asked_after run newest image blocks i) (cache_on run.geometry entry.image) entry mid →
+        HasLastFrom engine.store.pages.flash.geometry (rules engine.store.pages) (line_touches (state_at run i) line) (cache_of engine.store.pages) next new → HasLastFrom run.geometry r (asked_after run newest image blocks (suc i)) (cache_on run.geometry entry.image) entry new
     next_last entry mid next new at same so_far sizes written last own =
-        let line_works = line_touches true (state_at run i) line in
+        let line_works = line_touches (state_at run i) line in
         let start = cache_on run.geometry entry.image in
         let first = asked_after run newest image blocks i in
         let there : cache_of engine.store.pages ≡ after_works r first start =

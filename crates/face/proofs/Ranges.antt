@@ -130,7 +130,7 @@ rises s o h true is = let one = (h.committed is).1 in omega (arith, one)
 rises s o h false is = let same = (h.others is).1 in omega (arith, same)
 
 step_up : (s : State) (line : Line) (listing : List CacheLine) → s.commits ≤ (step s line listing).after.commits
-step_up s line listing = rises s (step s line listing) (commits_once true s line listing) _ refl
+step_up s line listing = rises s (step s line listing) (commits_once s line listing) _ refl
 
 one_up : (s : State) (lines : List Line) (ls : List (List CacheLine)) (i : ℕ) → (after_lines s (take i lines) ls).commits ≤ (after_lines s (take (suc i) lines) ls).commits
 one_up s [] ls zero = omega arith
@@ -143,7 +143,7 @@ module _ (run : Run) where
   marks = commit_marks (turns_of run)
 
   counted : (i : ℕ) → IsCountedAt run.opening (turns_of run) i
-  counted i = commits_make_the_table true run.opening run.lines run.listings i
+  counted i = commits_make_the_table run.opening run.lines run.listings i
 
   commits_are : (i : ℕ) → (state_at run i).commits ≡ run.opening.commits + commits_among i marks
   commits_are i = ap (λ (s : State). s.commits) (sym (states_are run.opening run.lines run.listings i)) ∙ (counted i).commits

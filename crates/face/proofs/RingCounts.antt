@@ -1,5 +1,5 @@
 -- Where the rings have numbers for so many records, checkpoints and groups, no run appends to one that stands at its end.
-use Rattle.std.proofs.Common.{◌≡◌, ℕ, ◌+◌, ◌^◌, ◌≤◌, true, List, [], ◌∷◌, ◌++◌, Option, Some, None, refl, sym, ap, ◌∙◌, arith}
+use Rattle.std.proofs.Common.{◌≡◌, ℕ, ◌+◌, ◌^◌, ◌≤◌, List, [], ◌∷◌, ◌++◌, Option, Some, None, refl, sym, ap, ◌∙◌, arith}
 use Rattle.site.specs.State.{Image}
 use Rattle.sealed_ring.specs.Ring.{hi_of}
 use Rattle.image_changes.specs.Rings.{log_shape, master_shape}
@@ -39,13 +39,13 @@ lines_log : (s : State) (lines : List Line) → s.made + records_in (rings_of s 
 lines_log s [] = omega arith
 lines_log s (line ∷ lines) =
     let then = (step s line []).after in
-    let one = (commands_log_few true s line []).0 in
+    let one = (commands_log_few s line []).0 in
     let rest = lines_log then lines in
-    let both = records_join (line_work true s line) (rings_of then lines) in
+    let both = records_join (line_work s line) (rings_of then lines) in
     let last = ap (λ (x : State). x.made) (after_cons s line lines) in
     omega (arith, one, rest, both, last)
 
-saved_once : (s : State) (line : Line) → saved_by true s line ≡ line_checkpoints s line
+saved_once : (s : State) (line : Line) → saved_by s line ≡ line_checkpoints s line
 saved_once s None = refl
 saved_once s (Some command) = refl
 
@@ -53,25 +53,25 @@ lines_save : (s : State) (lines : List Line) → saves_in (rings_of s lines) ≡
 lines_save s [] = refl
 lines_save s (line ∷ lines) =
     let then = (step s line []).after in
-    let one = (commands_log_few true s line []).1 ∙ saved_once s line in
+    let one = (commands_log_few s line []).1 ∙ saved_once s line in
     let rest = lines_save then lines in
-    let both = saves_join (line_work true s line) (rings_of then lines) in
+    let both = saves_join (line_work s line) (rings_of then lines) in
     omega (arith, one, rest, both)
 
 -- the machine's cache steps as the cache machine
-line_agrees : (r : Rules) (s : State) (line : Line) (m : Machine) → (after_all r (line_work true s line) m).cache ≡ after_works r (line_touches true s line) m.cache
+line_agrees : (r : Rules) (s : State) (line : Line) (m : Machine) → (after_all r (line_work s line) m).cache ≡ after_works r (line_touches s line) m.cache
 line_agrees r s None m = refl
-line_agrees r s (Some command) m = commands_agree r true s command m
+line_agrees r s (Some command) m = commands_agree r s command m
 
 lines_agree : (r : Rules) (s : State) (lines : List Line) (m : Machine) → (after_all r (rings_of s lines) m).cache ≡ after_works r (works_of s lines) m.cache
 lines_agree r s [] m = refl
 lines_agree r s (line ∷ lines) m =
     let then = (step s line []).after in
-    let own = line_work true s line in
+    let own = line_work s line in
     ap (λ (x : Machine). x.cache) (work_adds_up r own (rings_of then lines) m)
     ∙ lines_agree r then lines (after_all r own m)
     ∙ ap (after_works r (works_of then lines)) (line_agrees r s line m)
-    ∙ sym (works_add_up r (line_touches true s line) (works_of then lines) m.cache)
+    ∙ sym (works_add_up r (line_touches s line) (works_of then lines) m.cache)
 
 -- A run.
 module _ (pool : ℕ) (run : Run) (newest : Option Master) (image : Image) (blocks : List (List LogRecord)) where

@@ -64,12 +64,12 @@ module _ (work_pushes : WorkPushesFew) (lines_push : LinesPushFew) where
       → next_group (cache_by pool run (turns_of run) newest image blocks) ≤ hi_of (group_shape run.geometry) image.flash + (42 * run.geometry.blocks + reads_in (turns_of run) + 2 * made_by run)
   run_pushes pool run limits newest image blocks sound =
       let restart = restart_works (picture_under newest run.geometry image blocks) in
-      let lines = run_touches true (turns_of run) in
+      let lines = run_touches (turns_of run) in
       let all = work_pushes (rules_of pool run.geometry.groups) (restart ++ lines) (cache_on run.geometry image) (omega (arith, limits.groups)) in
       let entry = number_at_entry run.geometry image in
       let join = groups_add_up restart lines in
       let first = restart_few run.geometry newest image blocks sound in
-      let later = lines_push true run.opening run.lines run.listings in
+      let later = lines_push run.opening run.lines run.listings in
       omega (arith, all, entry, join, first, later)
 
 -- One call.

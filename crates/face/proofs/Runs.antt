@@ -1,5 +1,5 @@
 -- One line more of a run.
-use Rattle.std.proofs.Common.{◌≡◌, ℕ, zero, suc, ◌<◌, true, List, [], ◌∷◌, ◌++◌, length, take, drop, get_or, refl, sym, ◌∙◌, ap, arith, append_assoc}
+use Rattle.std.proofs.Common.{◌≡◌, ℕ, zero, suc, ◌<◌, List, [], ◌∷◌, ◌++◌, length, take, drop, get_or, refl, sym, ◌∙◌, ap, arith, append_assoc}
 use Rattle.std.specs.Prelude.{flat_map, map}
 use Rattle.std.proofs.lemmas.List.{append-nil, length-map, length-take-le}
 use Rattle.record_model.specs.declared.words.CacheLine.{CacheLine}
@@ -57,7 +57,7 @@ module _ (run : Run) where
 
     -- the turn that it makes
     abbrev pub turn_at : Turn
-    turn_at = turn true (state_at run i) line (listing_at run i)
+    turn_at = turn (state_at run i) line (listing_at run i)
 
     pub turns_next : turns_of (first_lines run (suc i)) ≡ turns_of (first_lines run i) ++ turn_at ∷ []
     turns_next = next_turn run.opening run.lines run.listings i line rest is

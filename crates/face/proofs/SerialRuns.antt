@@ -1,5 +1,5 @@
 -- A run is one of the record model's, so serial order holds of it.
-use Rattle.std.proofs.Common.{◌≡◌, ℕ, ◌-◌, Bool, true, List, ◌∷◌, ◌++◌, sym, subst}
+use Rattle.std.proofs.Common.{◌≡◌, ℕ, ◌-◌, Bool, List, ◌∷◌, ◌++◌, sym, subst}
 use Rattle.site.specs.State.{State as Site}
 use Rattle.site.specs.declared.geometry.Geometry.{Geometry}
 use Rattle.record_model.specs.declared.words.CacheLine.{CacheLine}
@@ -16,14 +16,14 @@ use Rattle.face.specs.Headline.{IsGood, IsSerialRun, IsSerialTold}
 pub run_is_serial : Serial → (g : Geometry) (opening : State) (site : Site) → IsGood g opening site → (ended : Bool) (octets : List ℕ) (listings : List (List CacheLine)) →
     IsSerialRun (run_of g opening ended octets listings)
 run_is_serial law g opening site good ended octets listings earlier later t e =
-    law true opening.table opening.commits 0 (g.blocks - 1) (commands_of ended octets) listings earlier later t
-    (subst (λ (s : State). turns true s (commands_of ended octets) listings ≡ earlier ++ t ∷ later) good.opens.state e)
+    law opening.table opening.commits 0 (g.blocks - 1) (commands_of ended octets) listings earlier later t
+    (subst (λ (s : State). turns s (commands_of ended octets) listings ≡ earlier ++ t ∷ later) good.opens.state e)
 
 -- and of what it tells
 pub told_is_serial : (g : Geometry) (opening : State) (site : Site) → IsGood g opening site →
     (ended : Bool) (octets : List ℕ) (listings : List (List CacheLine)) → IsSerialTold (run_of g opening ended octets listings)
 told_is_serial g opening site good ended octets listings earlier later t e =
     let lines = commands_of ended octets in
-    subst (λ (s : State). IsToldSerial true s (texts true s lines listings) earlier later t) (sym good.opens.state)
-    (serial_is_told true opening.table opening.commits 0 (g.blocks - 1) lines listings earlier later t
-    (subst (λ (s : State). turns true s lines listings ≡ earlier ++ t ∷ later) good.opens.state e))
+    subst (λ (s : State). IsToldSerial s (texts s lines listings) earlier later t) (sym good.opens.state)
+    (serial_is_told opening.table opening.commits 0 (g.blocks - 1) lines listings earlier later t
+    (subst (λ (s : State). turns s lines listings ≡ earlier ++ t ∷ later) good.opens.state e))

@@ -10,7 +10,7 @@ use Rattle.face.specs.Lines.{up_to_quit}
 use Rattle.face.specs.Run.{step, after_lines}
 
 -- the states between the turns
-pub states_are : (s : State) (lines : List Line) (listings : List (List CacheLine)) (i : ℕ) → model_state (turns true s lines listings) s i ≡ after_lines s (take i (up_to_quit lines)) listings
+pub states_are : (s : State) (lines : List Line) (listings : List (List CacheLine)) (i : ℕ) → model_state (turns s lines listings) s i ≡ after_lines s (take i (up_to_quit lines)) listings
 states_are s lines listings zero = refl
 states_are s [] listings (suc i) = refl
 states_are s (None ∷ lines) listings (suc i) = states_are s lines listings i
@@ -19,14 +19,14 @@ states_are s (Some command.Quit ∷ lines) listings (suc (suc i)) = refl
 states_are s (Some other ∷ lines) listings (suc i) = states_are (step s (Some other) (next_listing listings)).after lines (later_listings (Some other) listings) i
 
 -- and one turn for each line
-pub turns_count : (s : State) (lines : List Line) (listings : List (List CacheLine)) → length (turns true s lines listings) ≡ length (up_to_quit lines)
+pub turns_count : (s : State) (lines : List Line) (listings : List (List CacheLine)) → length (turns s lines listings) ≡ length (up_to_quit lines)
 turns_count s [] listings = refl
 turns_count s (None ∷ lines) listings = ap suc (turns_count s lines listings)
 turns_count s (Some command.Quit ∷ lines) listings = refl
 turns_count s (Some other ∷ lines) listings = ap suc (turns_count (step s (Some other) (next_listing listings)).after lines (later_listings (Some other) listings))
 
 -- the state that they leave
-pub left_are : (s : State) (lines : List Line) (listings : List (List CacheLine)) → left_by s (turns true s lines listings) ≡ after_lines s (up_to_quit lines) listings
+pub left_are : (s : State) (lines : List Line) (listings : List (List CacheLine)) → left_by s (turns s lines listings) ≡ after_lines s (up_to_quit lines) listings
 left_are s [] listings = refl
 left_are s (None ∷ lines) listings = left_are s lines listings
 left_are s (Some command.Quit ∷ lines) listings = refl
@@ -37,16 +37,16 @@ left_are s (Some other ∷ lines) listings = left_are (step s (Some other) (next
 none_of_none : {X : Type 0} (n : ℕ) → take {A = X} n [] ≡ []
 none_of_none n = take_all n [] (omega arith)
 
-pub first_turns : (n : ℕ) (s : State) (lines : List Line) (listings : List (List CacheLine)) → turns true s (take n lines) listings ≡ take n (turns true s lines listings)
+pub first_turns : (n : ℕ) (s : State) (lines : List Line) (listings : List (List CacheLine)) → turns s (take n lines) listings ≡ take n (turns s lines listings)
 first_turns zero s lines listings = refl
 first_turns (suc n) s [] listings = refl
 first_turns (suc n) s (line ∷ lines) listings = by (is_quit line) (first_turns n (step s line (next_listing listings)).after lines (later_listings line listings))
   where
-    by : (b : Bool) → turns true (step s line (next_listing listings)).after (take n lines) (later_listings line listings) ≡ take n (turns true (step s line (next_listing listings)).after lines (later_listings line listings)) →
-        turn true s line (next_listing listings) ∷ (if b then [] else turns true (step s line (next_listing listings)).after (take n lines) (later_listings line listings))
-        ≡ turn true s line (next_listing listings) ∷ take n (if b then [] else turns true (step s line (next_listing listings)).after lines (later_listings line listings))
-    by true same = ap (λ (l : List Turn). turn true s line (next_listing listings) ∷ l) (sym (none_of_none n))
-    by false same = ap (λ (l : List Turn). turn true s line (next_listing listings) ∷ l) same
+    by : (b : Bool) → turns (step s line (next_listing listings)).after (take n lines) (later_listings line listings) ≡ take n (turns (step s line (next_listing listings)).after lines (later_listings line listings)) →
+        turn s line (next_listing listings) ∷ (if b then [] else turns (step s line (next_listing listings)).after (take n lines) (later_listings line listings))
+        ≡ turn s line (next_listing listings) ∷ take n (if b then [] else turns (step s line (next_listing listings)).after lines (later_listings line listings))
+    by true same = ap (λ (l : List Turn). turn s line (next_listing listings) ∷ l) (sym (none_of_none n))
+    by false same = ap (λ (l : List Turn). turn s line (next_listing listings) ∷ l) same
 
 pub first_answered : (n : ℕ) (lines : List Line) → up_to_quit (take n lines) ≡ take n (up_to_quit lines)
 first_answered zero lines = refl
@@ -68,18 +68,18 @@ either_way true t = refl
 either_way false t = refl
 
 pub next_turn : (s : State) (lines : List Line) (listings : List (List CacheLine)) (i : ℕ) (line : Line) (rest : List Line) → drop i (up_to_quit lines) ≡ line ∷ rest →
-    turns true s (take (suc i) lines) listings
-    ≡ turns true s (take i lines) listings ++ turn true (after_lines s (take i (up_to_quit lines)) listings) line (next_listing (listings_after (take i (up_to_quit lines)) listings)) ∷ []
+    turns s (take (suc i) lines) listings
+    ≡ turns s (take i lines) listings ++ turn (after_lines s (take i (up_to_quit lines)) listings) line (next_listing (listings_after (take i (up_to_quit lines)) listings)) ∷ []
 next_turn s [] listings i line rest is = absurd (none_left i line rest is)
-next_turn s (x ∷ lines) listings zero line rest is = let same : x ≡ line = cc in either_way (is_quit x) (turn true s x (next_listing listings)) ∙ ap (λ (l : Line). turn true s l (next_listing listings) ∷ []) same
+next_turn s (x ∷ lines) listings zero line rest is = let same : x ≡ line = cc in either_way (is_quit x) (turn s x (next_listing listings)) ∙ ap (λ (l : Line). turn s l (next_listing listings) ∷ []) same
 next_turn s (x ∷ lines) listings (suc i) line rest is = by (is_quit x) is (next_turn (step s x (next_listing listings)).after lines (later_listings x listings) i line rest)
   where
     by : (b : Bool) → drop i (if b then [] else up_to_quit lines) ≡ line ∷ rest
-        → (drop i (up_to_quit lines) ≡ line ∷ rest → turns true (step s x (next_listing listings)).after (take (suc i) lines) (later_listings x listings)
-        ≡ turns true (step s x (next_listing listings)).after (take i lines) (later_listings x listings)
-        ++ turn true (after_lines (step s x (next_listing listings)).after (take i (up_to_quit lines)) (later_listings x listings)) line (next_listing (listings_after (take i (up_to_quit lines)) (later_listings x listings))) ∷ [])
-        → turn true s x (next_listing listings) ∷ (if b then [] else turns true (step s x (next_listing listings)).after (take (suc i) lines) (later_listings x listings))
-        ≡ (turn true s x (next_listing listings) ∷ (if b then [] else turns true (step s x (next_listing listings)).after (take i lines) (later_listings x listings)))
-        ++ turn true (after_lines (step s x (next_listing listings)).after (take i (if b then [] else up_to_quit lines)) (later_listings x listings)) line (next_listing (listings_after (take i (if b then [] else up_to_quit lines)) (later_listings x listings))) ∷ []
+        → (drop i (up_to_quit lines) ≡ line ∷ rest → turns (step s x (next_listing listings)).after (take (suc i) lines) (later_listings x listings)
+        ≡ turns (step s x (next_listing listings)).after (take i lines) (later_listings x listings)
+        ++ turn (after_lines (step s x (next_listing listings)).after (take i (up_to_quit lines)) (later_listings x listings)) line (next_listing (listings_after (take i (up_to_quit lines)) (later_listings x listings))) ∷ [])
+        → turn s x (next_listing listings) ∷ (if b then [] else turns (step s x (next_listing listings)).after (take (suc i) lines) (later_listings x listings))
+        ≡ (turn s x (next_listing listings) ∷ (if b then [] else turns (step s x (next_listing listings)).after (take i lines) (later_listings x listings)))
+        ++ turn (after_lines (step s x (next_listing listings)).after (take i (if b then [] else up_to_quit lines)) (later_listings x listings)) line (next_listing (listings_after (take i (if b then [] else up_to_quit lines)) (later_listings x listings))) ∷ []
     by true is so = absurd (none_left i line rest is)
-    by false is so = ap (λ (l : List Turn). turn true s x (next_listing listings) ∷ l) (so is)
+    by false is so = ap (λ (l : List Turn). turn s x (next_listing listings) ∷ l) (so is)

@@ -1,5 +1,5 @@
 -- Lines that are carried out while nothing is told: none, some and some more, and some of all.
-use Rattle.std.proofs.Common.{◌≡◌, ⊎_elim, true, ℕ, ◌+◌, ◌≤◌, List, [], ◌∷◌, ◌++◌, length, take, refl, sym, ◌∙◌, ap, subst, arith, length-append}
+use Rattle.std.proofs.Common.{◌≡◌, ⊎_elim, ℕ, ◌+◌, ◌≤◌, List, [], ◌∷◌, ◌++◌, length, take, refl, sym, ◌∙◌, ap, subst, arith, length-append}
 use Rattle.std.specs.Prelude.{Result, Ok, Err, IfErr, OnOk, IsTrue}
 use Rattle.std.proofs.lemmas.List.{append-nil, take-append-le, take_all}
 use Rattle.site.specs.declared.geometry.Geometry.{Geometry}
@@ -298,8 +298,8 @@ leaves_line g s line old new leaves =
 pub last_line : (g : Geometry) (s : State) (line : Line) (old new : Site) → LeavesOnly old new (LeavesEither g s (step s line []).after old.told) → (snapshot : Snapshot) → MayLeave (now_of new) snapshot → (done : ℕ) × (length (line ∷ []) ≤ done + 1) × StandsFor g snapshot.image (after_lines s (take done (line ∷ [])) [])
 last_line g s line old new leaves snapshot left = let l = (leaves_line g s line old new leaves).now snapshot left in (l.done, omega arith, l.stands)
 
-pub serves_line : {T : Type 0} (result : Result T Halt) (s : State) (line : Line) (old new : PageStore) (before now : Site) → LineStepsMachine result (line_touches true s line) (line_log_reads s line) old new before now → LineStepsMachine result (works_of s (line ∷ [])) (log_reads_of s (line ∷ [])) old new before now
+pub serves_line : {T : Type 0} (result : Result T Halt) (s : State) (line : Line) (old new : PageStore) (before now : Site) → LineStepsMachine result (line_touches s line) (line_log_reads s line) old new before now → LineStepsMachine result (works_of s (line ∷ [])) (log_reads_of s (line ∷ [])) old new before now
 serves_line result s line old new before now serves =
     let one : line_log_reads s line ≡ log_reads_of s (line ∷ []) = omega arith in
     subst (λ (n : ℕ). LineStepsMachine result (works_of s (line ∷ [])) n old new before now) one
-    (subst (λ (w : List CacheWork). LineStepsMachine result w (line_log_reads s line) old new before now) (sym (append-nil (line_touches true s line))) serves)
+    (subst (λ (w : List CacheWork). LineStepsMachine result w (line_log_reads s line) old new before now) (sym (append-nil (line_touches s line))) serves)

@@ -1,5 +1,5 @@
 -- Lines that are carried out, as work of the machine of the rings: none, one, and some behind others.
-use Rattle.std.proofs.Common.{◌≡◌, ⊎_elim, ℕ, ◌+◌, ◌-◌, ◌<◌, ◌≤◌, true, List, [], ◌∷◌, ◌++◌, length, take, drop, append-nil, length-append, take-append-drop, None, sym, ap, ◌∙◌, arith}
+use Rattle.std.proofs.Common.{◌≡◌, ⊎_elim, ℕ, ◌+◌, ◌-◌, ◌<◌, ◌≤◌, List, [], ◌∷◌, ◌++◌, length, take, drop, append-nil, length-append, take-append-drop, None, sym, ap, ◌∙◌, arith}
 use Rattle.std.specs.Prelude.{Result, Ok, Err, IsErrOf, ⊤}
 use Rattle.std.proofs.lemmas.Bool.{cases_lt}
 use Rattle.std.proofs.lemmas.List.{take-append-le}
@@ -42,9 +42,9 @@ lines_err {T = T} {U = U} {h = h} one = record { done = tt; worn = λ m is dev s
     again dev says = cc
 
 -- one line
-pub lines_one : {T : Type 0} (result : Result T Halt) (s : State) (line : Line) (a b : Store) (old new : Site) → LinePerforms result (line_work true s line) a b old new → LinesPerform result s (line ∷ []) a b old new
+pub lines_one : {T : Type 0} (result : Result T Halt) (s : State) (line : Line) (a b : Store) (old new : Site) → LinePerforms result (line_work s line) a b old new → LinesPerform result s (line ∷ []) a b old new
 lines_one result s line a b old new one =
-    let own = line_work true s line in
+    let own = line_work s line in
     record {
       done = ok_as result (PerformsStore {T = ⊤} (Ok tt) own a b old new) (PerformsStore {T = ⊤} (Ok tt) (own ++ []) a b old new) (λ p. performs_as (append-nil own) p) one.done;
       worn = λ m is dev says. ap (λ (w : List Work). first_worn (rules a.pages) w m) (append-nil own) ∙ one.worn m is dev says;

@@ -51,14 +51,14 @@ idle : (b : Bool) → ◌≡◌ {A = List Work} (if b then [] else []) []
 idle true = refl
 idle false = refl
 
-pub stat_work : (s : State) → line_work true s (Some Stat) ≡ []
-stat_work s = idle (is_accepted true s Stat)
+pub stat_work : (s : State) → line_work s (Some Stat) ≡ []
+stat_work s = idle (is_accepted s Stat)
 
-pub quit_work : (s : State) → line_work true s (Some Quit) ≡ []
-quit_work s = idle (is_accepted true s Quit)
+pub quit_work : (s : State) → line_work s (Some Quit) ≡ []
+quit_work s = idle (is_accepted s Quit)
 
-pub cache_work : (s : State) → line_work true s (Some Cache) ≡ []
-cache_work s = idle (is_accepted true s Cache)
+pub cache_work : (s : State) → line_work s (Some Cache) ≡ []
+cache_work s = idle (is_accepted s Cache)
 
 pub idle_performs : {T : Type 0} {x : T} {r : Rules} {works : List Work} {P : Machine → Type 0} → works ≡ [] → Performs {T = T} (Ok x) r works P P
 idle_performs {T = T} {x = x} none = performs_as none (performs_nothing (λ m is. is) (λ dev says. absurd (no_error {T = T} {x = x} {e = Worn dev} says)))
@@ -92,14 +92,14 @@ line_untold = record { done = tt; worn = λ m is dev says. absurd cc }
 -- A line more does its own work behind that of the others.
 
 pub rings_next : (run : Run) (newest : Option Master) (image : Image) (blocks : List (List LogRecord)) (i : ℕ) (line : Line) (rest : List Line) → drop i (answered run) ≡ line ∷ rest →
-    rings_by run (turns_of (first_lines run (suc i))) newest image blocks ≡ rings_by run (turns_of (first_lines run i)) newest image blocks ++ line_work true (state_at run i) line
+    rings_by run (turns_of (first_lines run (suc i))) newest image blocks ≡ rings_by run (turns_of (first_lines run i)) newest image blocks ++ line_work (state_at run i) line
 rings_next run newest image blocks i line rest is =
     let restart = restart_work (picture_under newest run.geometry image blocks) in
     let first = turns_of (first_lines run i) in
-    let own = line_work true (state_at run i) line in
-    ap (λ (l : List Turn). restart ++ run_work true l) (turns_next run i line rest is)
-    ∙ ap (λ (w : List Work). restart ++ w) (flat_map-append (λ (t : Turn). line_work true t.before t.line) first (turn_at run i line rest is ∷ []) ∙ ap (λ (w : List Work). run_work true first ++ w) (append-nil own))
-    ∙ sym (append_assoc restart (run_work true first) own)
+    let own = line_work (state_at run i) line in
+    ap (λ (l : List Turn). restart ++ run_work l) (turns_next run i line rest is)
+    ∙ ap (λ (w : List Work). restart ++ w) (flat_map-append (λ (t : Turn). line_work t.before t.line) first (turn_at run i line rest is ∷ []) ∙ ap (λ (w : List Work). run_work first ++ w) (append-nil own))
+    ∙ sym (append_assoc restart (run_work first) own)
 
 -- The opening's line changes no device either, and nothing is asked before the first line.
 pub opened_performs : (run : Run) (newest : Option Master) (image : Image) (blocks : List (List LogRecord)) (engine : Engine) {r : Rules} {start : Machine} {mid now : Image} → now ≡ mid →
@@ -109,17 +109,17 @@ opened_performs run newest image blocks engine {r} {start} same performs =
     (subst (λ (i : Image). Performs {T = ⊤} (Ok tt) r (restart_work (picture_under newest run.geometry image blocks)) (λ m. m ≡ start) (MirrorsStore engine.store i)) (sym same) (performs_answered performs))
 
 -- The work of a run, by its lines: whatever the cache lists.
-pub turns_work : (s : State) (lines : List Line) (listings : List (List CacheLine)) → run_work true (turns true s lines listings) ≡ rings_of s (up_to_quit lines)
+pub turns_work : (s : State) (lines : List Line) (listings : List (List CacheLine)) → run_work (turns s lines listings) ≡ rings_of s (up_to_quit lines)
 turns_work s [] listings = refl
 turns_work s (line ∷ lines) listings =
     by (is_quit line) (turns_work (step s line (next_listing listings)).after lines (later_listings line listings) ∙ ap (λ (x : State). rings_of x (up_to_quit lines)) (after_same s line (next_listing listings) []))
   where
-    by : (b : Bool) → run_work true (turns true (step s line (next_listing listings)).after lines (later_listings line listings)) ≡ rings_of (step s line []).after (up_to_quit lines) →
-        line_work true s line ++ run_work true (if b then [] else turns true (step s line (next_listing listings)).after lines (later_listings line listings)) ≡ line_work true s line ++ rings_of (step s line []).after (if b then [] else up_to_quit lines)
+    by : (b : Bool) → run_work (turns (step s line (next_listing listings)).after lines (later_listings line listings)) ≡ rings_of (step s line []).after (up_to_quit lines) →
+        line_work s line ++ run_work (if b then [] else turns (step s line (next_listing listings)).after lines (later_listings line listings)) ≡ line_work s line ++ rings_of (step s line []).after (if b then [] else up_to_quit lines)
     by true later = refl
-    by false later = ap (λ (w : List Work). line_work true s line ++ w) later
+    by false later = ap (λ (w : List Work). line_work s line ++ w) later
 
-first_work : (n : ℕ) (s : State) (lines : List Line) (listings : List (List CacheLine)) → run_work true (turns true s (take n lines) listings) ≡ rings_of s (take n (up_to_quit lines))
+first_work : (n : ℕ) (s : State) (lines : List Line) (listings : List (List CacheLine)) → run_work (turns s (take n lines) listings) ≡ rings_of s (take n (up_to_quit lines))
 first_work n s lines listings = turns_work s (take n lines) listings ∙ ap (rings_of s) (first_answered n lines)
 
 -- by lines
@@ -130,8 +130,8 @@ rings_are run newest image blocks n = ap (λ (w : List Work). restart_work (pict
 pub rings_join : (s : State) (first later : List Line) → rings_of s (first ++ later) ≡ rings_of s first ++ rings_of (after_lines s first []) later
 rings_join s [] later = refl
 rings_join s (line ∷ first) later =
-    ap (λ (w : List Work). line_work true s line ++ w) (rings_join (step s line []).after first later)
-    ∙ sym (append_assoc (line_work true s line) (rings_of (step s line []).after first) (rings_of (after_lines (step s line []).after first []) later))
+    ap (λ (w : List Work). line_work s line ++ w) (rings_join (step s line []).after first later)
+    ∙ sym (append_assoc (line_work s line) (rings_of (step s line []).after first) (rings_of (after_lines (step s line []).after first []) later))
     ∙ ap (λ (x : State). rings_of s (line ∷ first) ++ rings_of x later) (sym (after_cons s line first))
 
 pub rings_with : (run : Run) (listings : List (List CacheLine)) (newest : Option Master) (image : Image) (blocks : List (List LogRecord)) (n : ℕ) →
@@ -141,7 +141,7 @@ rings_with run listings newest image blocks n =
 
 -- one line more is answered
 pub next_mirrored : (pool : ℕ) (run : Run) (newest : Option Master) (image : Image) (blocks : List (List LogRecord)) (i : ℕ) (line : Line) (rest : List Line) → drop i (answered run) ≡ line ∷ rest → (engine engine' : Engine) (mid next now : Site) → rules engine.store.pages ≡ rules_of pool run.geometry.groups →
-    IsMirrored pool run newest image blocks engine mid i → next.image ≡ mid.image → PerformsStore {T = ⊤} (Ok tt) (line_work true (state_at run i) line) engine.store engine'.store next now → IsMirrored pool run newest image blocks engine' now (suc i)
+    IsMirrored pool run newest image blocks engine mid i → next.image ≡ mid.image → PerformsStore {T = ⊤} (Ok tt) (line_work (state_at run i) line) engine.store engine'.store next now → IsMirrored pool run newest image blocks engine' now (suc i)
 next_mirrored pool run newest image blocks i line rest is engine engine' mid next now rules_are so_far same performs =
     performs_as (rings_next run newest image blocks i line rest is)
     (performs_then (subst (λ (x : Image). Performs {T = ⊤} (Ok tt) (rules_of pool run.geometry.groups) (rings_by run (turns_of (first_lines run i)) newest image blocks) (λ m. m ≡ machine_on run.geometry image) (MirrorsStore engine.store x)) (sym same) so_far)
@@ -157,12 +157,12 @@ none_prefix r first later m none = by (first_worn r first m) refl
 
 -- Where one line more isn't, since a ring is worn.
 pub wears_next : {T : Type 0} {result : Result T Halt} (pool : ℕ) (run : Run) (newest : Option Master) (image : Image) (blocks : List (List LogRecord)) (i : ℕ) (line : Line) (rest : List Line) → drop i (answered run) ≡ line ∷ rest → (engine engine' : Engine) (mid next now : Site) → rules engine.store.pages ≡ rules_of pool run.geometry.groups →
-    IsMirrored pool run newest image blocks engine mid i → next.image ≡ mid.image → LinePerforms result (line_work true (state_at run i) line) engine.store engine'.store next now → (dev : Dev) → IsErrOf result (halt.Stop (Worn dev)) → worn_by pool run (turns_of (first_lines run (suc i))) newest image blocks ≡ Some dev
+    IsMirrored pool run newest image blocks engine mid i → next.image ≡ mid.image → LinePerforms result (line_work (state_at run i) line) engine.store engine'.store next now → (dev : Dev) → IsErrOf result (halt.Stop (Worn dev)) → worn_by pool run (turns_of (first_lines run (suc i))) newest image blocks ≡ Some dev
 wears_next pool run newest image blocks i line rest is engine engine' mid next now rules_are so_far same performs dev says =
     let r = rules_of pool run.geometry.groups in
     let start = machine_on run.geometry image in
     let first = rings_by run (turns_of (first_lines run i)) newest image blocks in
-    let own = line_work true (state_at run i) line in
+    let own = line_work (state_at run i) line in
     let d = so_far.done start refl in
     ap (λ (w : List Work). first_worn r w start) (rings_next run newest image blocks i line rest is)
     ∙ first_then r first own start d.0

@@ -54,13 +54,13 @@ pub record IsToldWhole (run : Run) (fault : List ℕ) (old new : Site) : Type 0 
 abbrev pub IsSerialRun : Run → Type 0
 IsSerialRun run =
     (earlier later : List Turn) (t : Turn) → turns_of run ≡ earlier ++ t ∷ later →
-    IsSerial true run.opening.table run.opening.commits earlier later t
+    IsSerial run.opening.table run.opening.commits earlier later t
 
 -- and the lines of each are told what a run of them alone would tell
 abbrev pub IsSerialTold : Run → Type 0
 IsSerialTold run =
     (earlier later : List Turn) (t : Turn) → turns_of run ≡ earlier ++ t ∷ later →
-    IsToldSerial true run.opening (texts run) earlier later t
+    IsToldSerial run.opening (texts run) earlier later t
 
 -- What a run leaves that opens with this state, and what a crash at any moment of it leaves.
 pub record Durability (g : Geometry) (opening : State) (old new : Site) (status : ℕ) : Type 0 where

@@ -39,7 +39,7 @@ run_of g opening ended octets listings =
 
 -- the opening's text, and one for each turn
 abbrev pub texts : Run → List (List ℕ)
-texts run = run_texts true run.opening run.lines run.listings
+texts run = run_texts run.opening run.lines run.listings
 
 abbrev pub text_at : Run → ℕ → List ℕ
 text_at run i = slice_index_or (texts run) i []
@@ -104,7 +104,7 @@ SkipsNoNumber run old now = (newest : Option Master) (blocks : List (List LogRec
 -- what the run asks of the page cache over this image: the restart's work, then that of these turns
 abbrev pub works_by : Run → List Turn → Option Master → Image → List (List LogRecord) → List CacheWork
 works_by run done newest image blocks =
-    restart_works (picture_under newest run.geometry image blocks) ++ run_touches true done
+    restart_works (picture_under newest run.geometry image blocks) ++ run_touches done
 
 -- where the pool has so many pages the cache machine comes to this by it
 abbrev pub cache_by : ℕ → Run → List Turn → Option Master → Image → List (List LogRecord) → Cache

@@ -18,7 +18,7 @@ use Rattle.face.specs.Lines.{commands_of, up_to_quit}
 
 -- what a line is answered, and the state that it leaves, where the cache has this listing
 abbrev pub step : State → Line → List CacheLine → Outcome
-step s line listing = line_step true s line listing
+step s line listing = line_step s line listing
 
 -- a run: the state that it opens with, its lines, and the cache's listings, one after the other, at its cache commands
 pub record Run : Type 0 where
@@ -29,7 +29,7 @@ pub record Run : Type 0 where
 
 -- its turns, by the record model
 abbrev pub turns_of : Run → List Turn
-turns_of run = turns true run.opening run.lines run.listings
+turns_of run = turns run.opening run.lines run.listings
 
 abbrev pub after_lines : State → List Line → List (List CacheLine) → State
 after_lines s [] listings = s
@@ -62,7 +62,7 @@ IsAsked line listing asked = is_cache line ≡ true → asked ≡ listing
 -- what lines ask of the page cache, whatever it lists
 abbrev pub works_of : State → List Line → List CacheWork
 works_of s [] = []
-works_of s (line ∷ lines) = line_touches true s line ++ works_of (step s line []).after lines
+works_of s (line ∷ lines) = line_touches s line ++ works_of (step s line []).after lines
 
 -- how often a line reads the log at most, and how often lines do, whatever the cache lists
 abbrev pub line_log_reads : State → Line → ℕ

@@ -52,7 +52,7 @@ committed_in run = count_by (λ t. is_committed t.reply) run
 
 abbrev pub makes_one : State → Line → Bool
 makes_one s None = false
-makes_one s (Some command) = makes_checkpoint true s command
+makes_one s (Some command) = makes_checkpoint s command
 
 abbrev pub checkpoints_in : List Turn → ℕ
 checkpoints_in run = count_by (λ t. makes_one t.before t.line) run
@@ -71,6 +71,22 @@ is_value reply.Bye = false
 is_value (reply.Busy session) = false
 is_value (reply.Full used owed cap) = false
 is_value (reply.Refused why) = false
+
+-- whether a reply says that no test refused the command, whatever room there was
+abbrev pub has_passed : Reply → Bool
+has_passed reply.Done = true
+has_passed (reply.Value value) = true
+has_passed reply.Nothing = true
+has_passed (reply.Committed count) = true
+has_passed reply.Aborted = true
+has_passed reply.Checked = true
+has_passed (reply.Items items) = true
+has_passed (reply.Listing lines) = true
+has_passed (reply.Stat counts) = true
+has_passed reply.Bye = true
+has_passed (reply.Busy session) = false
+has_passed (reply.Full used owed cap) = true
+has_passed (reply.Refused why) = false
 
 abbrev pub found_in : List Turn → ℕ
 found_in run = count_by (λ t. is_value t.reply) run

@@ -1,5 +1,5 @@
 -- Which ring a run finds at its end first, by the machine of the rings.
-use Rattle.std.specs.Prelude.{◌≡◌, ℕ, ◌<◌, ◌++◌, true, List, [], ◌∷◌, length, take, Option}
+use Rattle.std.specs.Prelude.{◌≡◌, ℕ, ◌<◌, ◌++◌, List, [], ◌∷◌, length, take, Option}
 use Rattle.std.specs.Prelude.{Some, None, Result, Ok, OnOk, IsErrOf, ⊤}
 use Rattle.site.specs.declared.outside.Dev.{Dev}
 use Rattle.site.specs.declared.outside.Stop.TheVariants.{Worn}
@@ -30,7 +30,7 @@ use Rattle.face.specs.Run.{Run, first_lines, step, turns_of}
 -- what the run asks of log and cache over this image: the restart's work, then that of these turns
 abbrev pub rings_by : Run → List Turn → Option Master → Image → List (List LogRecord) → List Work
 rings_by run done newest image blocks =
-    restart_work (picture_under newest run.geometry image blocks) ++ run_work true done
+    restart_work (picture_under newest run.geometry image blocks) ++ run_work done
 
 -- The device of the first ring that is appended to at its end for it, where the pool has so many pages. The machine
 -- begins with what stands on the devices.
@@ -73,7 +73,7 @@ LeavesItsRings pool run old now = (newest : Option Master) (blocks : List (List 
 -- what lines ask of log and cache, whatever the cache lists
 abbrev pub rings_of : State → List Line → List Work
 rings_of s [] = []
-rings_of s (line ∷ lines) = line_work true s line ++ rings_of (step s line []).after lines
+rings_of s (line ∷ lines) = line_work s line ++ rings_of (step s line []).after lines
 
 -- once so many lines are answered the machine has done their work, and mirrors the store
 abbrev pub IsMirrored : ℕ → Run → Option Master → Image → List (List LogRecord) → Engine → Site → ℕ → Type 0

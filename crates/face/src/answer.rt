@@ -1,5 +1,5 @@
 // A line is carried out, and its reply is told.
-ghost use Rattle.std.specs.Prelude.{◌≡◌, ◌≢◌, true, [], ◌++◌, List, IfErr, IsErrOf, IsTrue, OnOk};
+ghost use Rattle.std.specs.Prelude.{◌≡◌, ◌≢◌, [], ◌++◌, List, IfErr, IsErrOf, IsTrue, OnOk};
 ghost use Rattle.face.specs.Causes.{RunFaults};
 ghost use Rattle.site.specs.State.{IsQuiet};
 ghost use Rattle.site.specs.Calls.{Preserves};
@@ -51,10 +51,10 @@ pub fn answer<S: Site>(engine: &mut Engine, site: &mut S, line: Option<Command>)
         → IsQuiet (S.state site.old)
         → IfErr result (λ halt. halt ≢ Halt.Output → (S.state site.new).told ≡ (S.state site.old).told) }
     ensures asks { (s : State) → Matches engine.old (S.state site.old) s
-        → LineStepsMachine result (line_touches true s line) (line_log_reads s line) engine.old.store.pages
+        → LineStepsMachine result (line_touches s line) (line_log_reads s line) engine.old.store.pages
         engine.new.store.pages (S.state site.old) (S.state site.new) }
     ensures performs { (s : State) → Matches engine.old (S.state site.old) s
-        → LinePerforms result (line_work true s line) engine.old.store engine.new.store (S.state site.old)
+        → LinePerforms result (line_work s line) engine.old.store engine.new.store (S.state site.old)
         (S.state site.new) }
     ensures numbers { (s : State) → Matches engine.old (S.state site.old) s
         → IsQuiet (S.state site.old)

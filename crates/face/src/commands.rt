@@ -1,5 +1,5 @@
 // The commands are carried out.
-ghost use Rattle.std.specs.Prelude.{◌≡◌, ◌≢◌, ◌+◌, ◌≤◌, false, true, [], List, IsTrue, IfOk, IfErr, OnOk, IsErrOf};
+ghost use Rattle.std.specs.Prelude.{◌≡◌, ◌≢◌, ◌+◌, ◌≤◌, false, [], List, IsTrue, IfOk, IfErr, OnOk, IsErrOf};
 ghost use Rattle.site.specs.Faults.{WorkFaults};
 ghost use Rattle.site.specs.declared.outside.Dev.{Dev};
 ghost use Rattle.site.specs.declared.outside.Stop.{Stop};
@@ -45,10 +45,10 @@ fn carry_out_plain<S: Site>(
         → LeavesOnly (S.state site.old) (S.state site.new)
         (LeavesEither (sizes_of engine.old.store) s (step s line []).after (S.state site.old).told) }
     ensures asks { (s : State) → Matches engine.old (S.state site.old) s
-        → StepsMachine result (line_touches true s line) engine.old.store.pages engine.new.store.pages
+        → StepsMachine result (line_touches s line) engine.old.store.pages engine.new.store.pages
         (S.state site.old) (S.state site.new) }
     ensures performs { (s : State) → Matches engine.old (S.state site.old) s
-        → PerformsStore result (line_work true s line) engine.old.store engine.new.store (S.state site.old)
+        → PerformsStore result (line_work s line) engine.old.store engine.new.store (S.state site.old)
         (S.state site.new) }
     ensures log_reads { (s : State) → Matches engine.old (S.state site.old) s
         → (S.state site.new).log_reads ≤ (S.state site.old).log_reads + line_log_reads s line }
@@ -131,10 +131,10 @@ pub fn carry_out<S: Site>(
         → LeavesOnly (S.state site.old) (S.state site.new)
         (LeavesEither (sizes_of engine.old.store) s (step s line listing).after (S.state site.old).told) }
     ensures asks { (s : State) → Matches engine.old (S.state site.old) s
-        → StepsMachine result (line_touches true s line) engine.old.store.pages engine.new.store.pages
+        → StepsMachine result (line_touches s line) engine.old.store.pages engine.new.store.pages
         (S.state site.old) (S.state site.new) }
     ensures performs { (s : State) → Matches engine.old (S.state site.old) s
-        → PerformsStore result (line_work true s line) engine.old.store engine.new.store (S.state site.old)
+        → PerformsStore result (line_work s line) engine.old.store engine.new.store (S.state site.old)
         (S.state site.new) }
     ensures log_reads { (s : State) → Matches engine.old (S.state site.old) s
         → (S.state site.new).log_reads ≤ (S.state site.old).log_reads + line_log_reads s line }

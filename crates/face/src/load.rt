@@ -1,5 +1,5 @@
 // A stated workload: its sets, the gets on the same records, and its summary.
-ghost use Rattle.std.specs.Prelude.{◌≡◌, ◌≢◌, ◌*◌, true, false, [], ◌∷◌, IfOk, IfErr, if◌then◌else◌, OnOk};
+ghost use Rattle.std.specs.Prelude.{◌≡◌, ◌≢◌, ◌*◌, ◌&&◌, false, [], ◌∷◌, IfOk, IfErr, if◌then◌else◌, OnOk};
 ghost use Rattle.face.specs.Causes.{FirstDecides, RunFaults, SameFaults};
 ghost use Rattle.site.specs.Calls.{Preserves};
 ghost use Rattle.site.specs.declared.geometry.Geometry.{Geometry};
@@ -78,6 +78,19 @@ fn is_value(reply: &Reply) -> bool
     matches!(reply, Reply::Value(_))
 }
 
+fn has_passed(reply: &Reply) -> bool
+    ensures { result ≡ stated.has_passed reply.now }
+{
+    !matches!(reply, Reply::Busy(_) | Reply::Refused(_))
+}
+
+// Whether a set with this reply has made a checkpoint: one was due before it, and no test refused it.
+fn made_one(due: bool, reply: &Reply) -> bool
+    ensures { result ≡ (due && stated.has_passed reply.now) }
+{
+    due && has_passed(reply)
+}
+
 fn one_if(test: bool) -> u32
     ensures { result ≡ (if test then 1 else 0) }
 {
@@ -116,7 +129,7 @@ fn make_sets<S: Site>(
     ensures course { CarriesFirst result (set_lines (32 * pages) load.now.seed load.now.count)
         engine.old engine.new (S.state site.old) (S.state site.new) }
     ensures made { (s : State) → Matches engine.old (S.state site.old) s → IfOk result (λ made.
-        HasMade (model.turns true s (set_lines (32 * pages) load.now.seed load.now.count) [])
+        HasMade (model.turns s (set_lines (32 * pages) load.now.seed load.now.count) [])
         made.committed made.checkpoints) }
     ensures faults { RunFaults result (S.state site.old) (S.state site.new) }
 {
@@ -128,13 +141,13 @@ fn make_sets<S: Site>(
     for _set in 0..load.count {
         x = next(x);
         let (number, value) = load_set(x, pages);
-        let due = engine.wants_checkpoint_to_set(number, &value);
+        let due = engine.is_due();
         let reply = match carry_on(engine, site, Some(Command::Set { number, value })) {
             Ok(reply) => reply,
             Err(halt) => return Err(halt),
         };
         committed += one_if(is_committed(&reply));
-        checkpoints += one_if(due);
+        checkpoints += one_if(made_one(due, &reply));
     }
     Ok(Made {
         committed,
@@ -154,7 +167,7 @@ fn make_gets<S: Site>(
     ensures course { CarriesFirst result (get_lines (32 * pages) load.now.seed load.now.count)
         engine.old engine.new (S.state site.old) (S.state site.new) }
     ensures count { (s : State) → Matches engine.old (S.state site.old) s → IfOk result (λ count.
-        count ≡ found_in (model.turns true s (get_lines (32 * pages) load.now.seed load.now.count) [])) }
+        count ≡ found_in (model.turns s (get_lines (32 * pages) load.now.seed load.now.count) [])) }
     ensures faults { RunFaults result (S.state site.old) (S.state site.new) }
 {
     works_add_up();

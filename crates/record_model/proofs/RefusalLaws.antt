@@ -82,12 +82,12 @@ chosen : (b : Bool) (o p : Outcome) → is_refused o.reply ≡ true → is_refus
 chosen true o p h k = ap not (sym h)
 chosen false o p h k = ap not (sym k)
 
-of_tests : (checkpoints : Bool) (s : State) (command : Command) (listing : List CacheLine) (r : Option Reply) → IsRefusal r →
-    (is_none r && not (lacks_room (ready checkpoints s command) command)) ≡ not (is_refused (outcome checkpoints s command listing r).reply)
+of_tests : (s : State) (command : Command) (listing : List CacheLine) (r : Option Reply) → IsRefusal r →
+    (is_none r && not (lacks_room (ready s command) command)) ≡ not (is_refused (outcome s command listing r).reply)
 unfolding IsRefusal
-of_tests checkpoints s command listing (Some refused) h = ap not (sym h)
-of_tests checkpoints s command listing None h =
-    chosen (lacks_room (ready checkpoints s command) command) _ _ refl (answers (ready checkpoints s command) command listing)
+of_tests s command listing (Some refused) h = ap not (sym h)
+of_tests s command listing None h =
+    chosen (lacks_room (ready s command) command) _ _ refl (answers (ready s command) command listing)
 
 pub refusals_are_told : RefusalsAreTold
-refusals_are_told checkpoints s command listing = of_tests checkpoints s command listing (refusal s command) (refusals s command)
+refusals_are_told s command listing = of_tests s command listing (refusal s command) (refusals s command)

@@ -11,85 +11,85 @@ use Rattle.record_model.specs.Laws.{IsCountedIn, EachLineHasATurn, TurnsFollow, 
 use Rattle.record_model.proofs.StepLaws.{commits_once}
 
 pub each_line_has_a_turn : EachLineHasATurn
-each_line_has_a_turn checkpoints s [] listings h = refl
-each_line_has_a_turn checkpoints s (line ∷ lines) listings h =
+each_line_has_a_turn s [] listings h = refl
+each_line_has_a_turn s (line ∷ lines) listings h =
     let quits = or_parts (is_quit line) (list_any is_quit lines) h in
-    rw quits.0 (ap suc (each_line_has_a_turn checkpoints (turn checkpoints s line (next_listing listings)).after lines (later_listings line listings) quits.1))
+    rw quits.0 (ap suc (each_line_has_a_turn (turn s line (next_listing listings)).after lines (later_listings line listings) quits.1))
 
 -- a run goes on where it stopped
-pub turns-append : (checkpoints : Bool) (xs ys : List Line) (s : State) (listings : List (List CacheLine)) → list_any is_quit xs ≡ false →
-    turns checkpoints s (xs ++ ys) listings
-    ≡ turns checkpoints s xs listings ++ turns checkpoints (left_by s (turns checkpoints s xs listings)) ys (listings_after xs listings)
-turns-append checkpoints [] ys s listings h = refl
-turns-append checkpoints (x ∷ xs) ys s listings h =
+pub turns-append : (xs ys : List Line) (s : State) (listings : List (List CacheLine)) → list_any is_quit xs ≡ false →
+    turns s (xs ++ ys) listings
+    ≡ turns s xs listings ++ turns (left_by s (turns s xs listings)) ys (listings_after xs listings)
+turns-append [] ys s listings h = refl
+turns-append (x ∷ xs) ys s listings h =
     let quits = or_parts (is_quit x) (list_any is_quit xs) h in
-    let first = turn checkpoints s x (next_listing listings) in
-    rw quits.0 (ap (λ run. first ∷ run) (turns-append checkpoints xs ys first.after (later_listings x listings) quits.1))
+    let first = turn s x (next_listing listings) in
+    rw quits.0 (ap (λ run. first ∷ run) (turns-append xs ys first.after (later_listings x listings) quits.1))
 
 -- A turn that quits is the last one.
 
-ends : (checkpoints : Bool) (s : State) (line : Line) (lines : List Line) (listings : List (List CacheLine)) → is_quit line ≡ true →
-    turns checkpoints s (line ∷ lines) listings ≡ turn checkpoints s line (next_listing listings) ∷ []
-ends checkpoints s line lines listings h = rw h refl
+ends : (s : State) (line : Line) (lines : List Line) (listings : List (List CacheLine)) → is_quit line ≡ true →
+    turns s (line ∷ lines) listings ≡ turn s line (next_listing listings) ∷ []
+ends s line lines listings h = rw h refl
 
-goes_on : (checkpoints : Bool) (s : State) (line : Line) (lines : List Line) (listings : List (List CacheLine)) → is_quit line ≡ false →
-    turns checkpoints s (line ∷ lines) listings
-    ≡ turn checkpoints s line (next_listing listings) ∷ turns checkpoints (turn checkpoints s line (next_listing listings)).after lines (later_listings line listings)
-goes_on checkpoints s line lines listings h = rw h refl
+goes_on : (s : State) (line : Line) (lines : List Line) (listings : List (List CacheLine)) → is_quit line ≡ false →
+    turns s (line ∷ lines) listings
+    ≡ turn s line (next_listing listings) ∷ turns (turn s line (next_listing listings)).after lines (later_listings line listings)
+goes_on s line lines listings h = rw h refl
 
 -- a turn of a run, with the place after it as a successor
-IsTurnOf : Bool → State → List Turn → ℕ → Line → List CacheLine → Type 0
-IsTurnOf checkpoints s run i line listing =
-    (slice_get run i ≡ Some (turn checkpoints (state_at run s i) line listing))
-    × (state_at run s (suc i) ≡ (line_step checkpoints (state_at run s i) line listing).after)
+IsTurnOf : State → List Turn → ℕ → Line → List CacheLine → Type 0
+IsTurnOf s run i line listing =
+    (slice_get run i ≡ Some (turn (state_at run s i) line listing))
+    × (state_at run s (suc i) ≡ (line_step (state_at run s i) line listing).after)
 
-later_turn : (checkpoints : Bool) (s : State) (x : Line) (lines : List Line) (listings : List (List CacheLine)) (i : ℕ) (line : Line) (b : Bool) → is_quit x ≡ b →
-    let after = (turn checkpoints s x (next_listing listings)).after in
-    let rest = turns checkpoints after lines (later_listings x listings) in
+later_turn : (s : State) (x : Line) (lines : List Line) (listings : List (List CacheLine)) (i : ℕ) (line : Line) (b : Bool) → is_quit x ≡ b →
+    let after = (turn s x (next_listing listings)).after in
+    let rest = turns after lines (later_listings x listings) in
     let listing = next_listing (listings_after (take i lines) (later_listings x listings)) in
-    suc i < length (turns checkpoints s (x ∷ lines) listings) → (i < length rest → IsTurnOf checkpoints after rest i line listing) →
-    IsTurnOf checkpoints s (turns checkpoints s (x ∷ lines) listings) (suc i) line listing
+    suc i < length (turns s (x ∷ lines) listings) → (i < length rest → IsTurnOf after rest i line listing) →
+    IsTurnOf s (turns s (x ∷ lines) listings) (suc i) line listing
 unfolding IsTurnOf
-later_turn checkpoints s x lines listings i line true h below k = absurd (ended (subst (λ (run : List Turn). suc i < length run) (ends checkpoints s x lines listings h) below))
+later_turn s x lines listings i line true h below k = absurd (ended (subst (λ (run : List Turn). suc i < length run) (ends s x lines listings h) below))
   where
     ended : suc i < 1 → ⊥
     ended k = omega (arith, k)
-later_turn checkpoints s x lines listings i line false h below k =
-    let after = (turn checkpoints s x (next_listing listings)).after in
-    let rest = turns checkpoints after lines (later_listings x listings) in
+later_turn s x lines listings i line false h below k =
+    let after = (turn s x (next_listing listings)).after in
+    let rest = turns after lines (later_listings x listings) in
     let listing = next_listing (listings_after (take i lines) (later_listings x listings)) in
-    let long : suc i < suc (length rest) = subst (λ (run : List Turn). suc i < length run) (goes_on checkpoints s x lines listings h) below in
-    subst (λ (run : List Turn). IsTurnOf checkpoints s run (suc i) line listing) (sym (goes_on checkpoints s x lines listings h)) (k (omega (arith, long)))
+    let long : suc i < suc (length rest) = subst (λ (run : List Turn). suc i < length run) (goes_on s x lines listings h) below in
+    subst (λ (run : List Turn). IsTurnOf s run (suc i) line listing) (sym (goes_on s x lines listings h)) (k (omega (arith, long)))
 
-turn_at : (checkpoints : Bool) (s : State) (lines : List Line) (listings : List (List CacheLine)) (i : ℕ) (line : Line) →
-    i < length (turns checkpoints s lines listings) → slice_get lines i ≡ Some line →
-    IsTurnOf checkpoints s (turns checkpoints s lines listings) i line (next_listing (listings_after (take i lines) listings))
+turn_at : (s : State) (lines : List Line) (listings : List (List CacheLine)) (i : ℕ) (line : Line) →
+    i < length (turns s lines listings) → slice_get lines i ≡ Some line →
+    IsTurnOf s (turns s lines listings) i line (next_listing (listings_after (take i lines) listings))
 unfolding IsTurnOf
-turn_at checkpoints s [] listings i line below is = absurd cc
-turn_at checkpoints s (x ∷ lines) listings zero line below is =
+turn_at s [] listings i line below is = absurd cc
+turn_at s (x ∷ lines) listings zero line below is =
     let same : x ≡ line = cc in
-    (ap (λ l. Some (turn checkpoints s l (next_listing listings))) same, ap (λ l. (line_step checkpoints s l (next_listing listings)).after) same)
-turn_at checkpoints s (x ∷ lines) listings (suc i) line below is =
-    later_turn checkpoints s x lines listings i line (is_quit x) refl below (λ inside. turn_at checkpoints (turn checkpoints s x (next_listing listings)).after lines (later_listings x listings) i line inside is)
+    (ap (λ l. Some (turn s l (next_listing listings))) same, ap (λ l. (line_step s l (next_listing listings)).after) same)
+turn_at s (x ∷ lines) listings (suc i) line below is =
+    later_turn s x lines listings i line (is_quit x) refl below (λ inside. turn_at (turn s x (next_listing listings)).after lines (later_listings x listings) i line inside is)
 
 pub turns_follow : TurnsFollow
 unfolding IsTurnOf
-turns_follow checkpoints s lines listings i line below is =
-    let t = turn_at checkpoints s lines listings i line below is in
-    record { turn = t.0; next = ap (state_at (turns checkpoints s lines listings) s) (add-one i) ∙ t.1 }
+turns_follow s lines listings i line below is =
+    let t = turn_at s lines listings i line below is in
+    record { turn = t.0; next = ap (state_at (turns s lines listings) s) (add-one i) ∙ t.1 }
 
 -- Each turn starts from the state before it.
 
-abbrev pub IsRun : Bool → State → List Turn → Type 0
-IsRun checkpoints s [] = Unit {0}
-IsRun checkpoints s (t ∷ run) = (listing : List CacheLine) × (t ≡ turn checkpoints s t.line listing) × IsRun checkpoints t.after run
+abbrev pub IsRun : State → List Turn → Type 0
+IsRun s [] = Unit {0}
+IsRun s (t ∷ run) = (listing : List CacheLine) × (t ≡ turn s t.line listing) × IsRun t.after run
 
-pub turns_are_run : (checkpoints : Bool) (s : State) (lines : List Line) (listings : List (List CacheLine)) → IsRun checkpoints s (turns checkpoints s lines listings)
-turns_are_run checkpoints s [] listings = tt
-turns_are_run checkpoints s (line ∷ lines) listings =
-    (next_listing listings, refl, quit_or (is_quit line) _ _ tt (turns_are_run checkpoints (turn checkpoints s line (next_listing listings)).after lines (later_listings line listings)))
+pub turns_are_run : (s : State) (lines : List Line) (listings : List (List CacheLine)) → IsRun s (turns s lines listings)
+turns_are_run s [] listings = tt
+turns_are_run s (line ∷ lines) listings =
+    (next_listing listings, refl, quit_or (is_quit line) _ _ tt (turns_are_run (turn s line (next_listing listings)).after lines (later_listings line listings)))
   where
-    quit_or : (b : Bool) (s : State) (run : List Turn) → Unit {0} → IsRun checkpoints s run → IsRun checkpoints s (cond b [] run)
+    quit_or : (b : Bool) (s : State) (run : List Turn) → Unit {0} → IsRun s run → IsRun s (cond b [] run)
     quit_or true s run u h = tt
     quit_or false s run u h = h
 
@@ -121,29 +121,29 @@ tables_cons true table default t run n =
 tables_cons false table default t run n = refl
 
 -- what a turn of a run does to the count and to the table
-turn_counts : (checkpoints : Bool) (s : State) (t : Turn) (listing : List CacheLine) → t ≡ turn checkpoints s t.line listing →
+turn_counts : (s : State) (t : Turn) (listing : List CacheLine) → t ≡ turn s t.line listing →
     IsCountedIn s (record { after = t.after; reply = t.reply })
-turn_counts checkpoints s t listing is =
-    let c = commits_once checkpoints s t.line listing in
+turn_counts s t listing is =
+    let c = commits_once s t.line listing in
     subst (λ (u : Turn). IsCountedIn s (record { after = u.after; reply = u.reply })) (sym is) (record { committed = c.committed; others = c.others })
 
-tables_at : (checkpoints : Bool) (s : State) (run : List Turn) (i : ℕ) (table default : List Content) → IsRun checkpoints s run → table ≡ s.table →
+tables_at : (s : State) (run : List Turn) (i : ℕ) (table default : List Content) → IsRun s run → table ≡ s.table →
     slice_index_or (table ∷ committed_tables run) (commits_among i (commit_marks run)) default ≡ (state_at run s i).table
-tables_at checkpoints s run zero table default is e = e
-tables_at checkpoints s [] (suc i) table default is e = e
-tables_at checkpoints s (t ∷ run) (suc i) table default is e =
+tables_at s run zero table default is e = e
+tables_at s [] (suc i) table default is e = e
+tables_at s (t ∷ run) (suc i) table default is e =
     ap (λ n. slice_index_or (table ∷ committed_tables (t ∷ run)) n default) (commits_cons i (is_committed t.reply) (commit_marks run))
     ∙ tables_cons (is_committed t.reply) table default t (filter (λ u. is_committed u.reply) run) (commits_among i (commit_marks run))
     ∙ cond_same (is_committed t.reply) _ _ _
-    (λ h. tables_at checkpoints t.after run i t.after.table default is.2 refl)
-    (λ h. tables_at checkpoints t.after run i table default is.2 (e ∙ sym ((turn_counts checkpoints s t is.0 is.1).others h).0))
+    (λ h. tables_at t.after run i t.after.table default is.2 refl)
+    (λ h. tables_at t.after run i table default is.2 (e ∙ sym ((turn_counts s t is.0 is.1).others h).0))
 
-counts_at : (checkpoints : Bool) (s : State) (run : List Turn) (i : ℕ) → IsRun checkpoints s run →
+counts_at : (s : State) (run : List Turn) (i : ℕ) → IsRun s run →
     (state_at run s i).commits ≡ s.commits + commits_among i (commit_marks run)
-counts_at checkpoints s run zero is = omega arith
-counts_at checkpoints s [] (suc i) is = omega arith
-counts_at checkpoints s (t ∷ run) (suc i) is =
-    counts_at checkpoints t.after run i is.2 ∙ more (is_committed t.reply) (commits_among i (commit_marks run)) (λ h. ((turn_counts checkpoints s t is.0 is.1).committed h).1) (λ h. ((turn_counts checkpoints s t is.0 is.1).others h).1)
+counts_at s run zero is = omega arith
+counts_at s [] (suc i) is = omega arith
+counts_at s (t ∷ run) (suc i) is =
+    counts_at t.after run i is.2 ∙ more (is_committed t.reply) (commits_among i (commit_marks run)) (λ h. ((turn_counts s t is.0 is.1).committed h).1) (λ h. ((turn_counts s t is.0 is.1).others h).1)
     ∙ ap (λ n. s.commits + n) (sym (commits_cons i (is_committed t.reply) (commit_marks run)))
   where
     more : (b : Bool) (n : ℕ) → (b ≡ true → t.after.commits ≡ s.commits + 1) → (b ≡ false → t.after.commits ≡ s.commits) →
@@ -152,9 +152,9 @@ counts_at checkpoints s (t ∷ run) (suc i) is =
     more false n h k = let e = k refl in omega (arith, e)
 
 pub commits_make_the_table : CommitsMakeTheTable
-commits_make_the_table checkpoints s lines listings i = record {
-  table = sym (tables_at checkpoints s (turns checkpoints s lines listings) i s.table s.table (turns_are_run checkpoints s lines listings) refl);
-  commits = counts_at checkpoints s (turns checkpoints s lines listings) i (turns_are_run checkpoints s lines listings);
+commits_make_the_table s lines listings i = record {
+  table = sym (tables_at s (turns s lines listings) i s.table s.table (turns_are_run s lines listings) refl);
+  commits = counts_at s (turns s lines listings) i (turns_are_run s lines listings);
 }
 
 -- the state behind a turn

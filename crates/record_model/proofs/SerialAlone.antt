@@ -13,7 +13,7 @@ use Rattle.record_model.specs.declared.words.Reply.{Reply}
 use Rattle.record_model.specs.declared.words.Reply.TheVariants as reply
 use Rattle.record_model.specs.State.{Content, Session, State, opened, content_at, table_with, last_write, session_at, writes_of, reads_of, seen, is_other, busy_read, busy_write, active_sessions, used, owed, kept_by_checkpoint, is_due}
 use Rattle.record_model.specs.State as state
-use Rattle.record_model.specs.Step.{Outcome, step, outcome, refusal, refuse_if, wants_active, wants_record, wants_short, may_read, may_write, asks_for_checkpoint, wants_checkpoint, ready, lacks_room, effect, answer, found, item, having_read, having_written}
+use Rattle.record_model.specs.Step.{Outcome, step, outcome, refusal, refuse_if, wants_active, wants_record, wants_short, may_read, may_write, asks_for_checkpoint, ready, lacks_room, effect, answer, found, item, having_read, having_written}
 use Rattle.record_model.proofs.SerialLists.{set_set, no_values, get_none, only_one, passes_none, map_of_each, filter_map_same}
 use Rattle.record_model.proofs.SerialLocks.{place, wrote, touched, set_here, set_there, pass_all}
 
@@ -37,27 +37,26 @@ alone table commits cap n writes reads = record {
 
 -- What a command does where its tests let it through.
 
-pub ready_is : (checkpoints : Bool) (s : State) (command : Command) → asks_for_checkpoint s command ≡ false → ready checkpoints s command ≡ s
-ready_is true s command h = ap (λ (b : Bool). record s { kept = if b then kept_by_checkpoint s else s.kept }) h
-ready_is false s command h = refl
+pub ready_is : (s : State) (command : Command) → asks_for_checkpoint s command ≡ false → ready s command ≡ s
+ready_is s command h = ap (λ (b : Bool). record s { kept = if b then kept_by_checkpoint s else s.kept }) h
 
 carried : State → Command → List CacheLine → Outcome
 carried s command listing = record { after = effect s command; reply = answer s command listing }
 
-pub step_through : (checkpoints : Bool) (s : State) (command : Command) (listing : List CacheLine) → refusal s command ≡ None →
-    lacks_room (ready checkpoints s command) command ≡ false →
-    step checkpoints s command listing ≡ record { after = effect (ready checkpoints s command) command; reply = answer (ready checkpoints s command) command listing }
-step_through checkpoints s command listing h room =
-    ap (outcome checkpoints s command listing) h
-    ∙ ap (λ (b : Bool). if b then record { after = ready checkpoints s command; reply = reply.Full (used (ready checkpoints s command)) (owed (ready checkpoints s command)) s.cap } else record { after = effect (ready checkpoints s command) command; reply = answer (ready checkpoints s command) command listing }) room
+pub step_through : (s : State) (command : Command) (listing : List CacheLine) → refusal s command ≡ None →
+    lacks_room (ready s command) command ≡ false →
+    step s command listing ≡ record { after = effect (ready s command) command; reply = answer (ready s command) command listing }
+step_through s command listing h room =
+    ap (outcome s command listing) h
+    ∙ ap (λ (b : Bool). if b then record { after = ready s command; reply = reply.Full (used (ready s command)) (owed (ready s command)) s.cap } else record { after = effect (ready s command) command; reply = answer (ready s command) command listing }) room
 
-step_plain : (checkpoints : Bool) (s : State) (command : Command) (listing : List CacheLine) → refusal s command ≡ None →
+step_plain : (s : State) (command : Command) (listing : List CacheLine) → refusal s command ≡ None →
     asks_for_checkpoint s command ≡ false → lacks_room s command ≡ false →
-    step checkpoints s command listing ≡ carried s command listing
+    step s command listing ≡ carried s command listing
 unfolding carried
-step_plain checkpoints s command listing h asks room =
-    let same = ready_is checkpoints s command asks in
-    step_through checkpoints s command listing h (ap (λ (r : State). lacks_room r command) same ∙ room)
+step_plain s command listing h asks room =
+    let same = ready_is s command asks in
+    step_through s command listing h (ap (λ (r : State). lacks_room r command) same ∙ room)
     ∙ ap (λ (r : State). carried r command listing) same
 
 -- Nobody keeps it off.
@@ -127,28 +126,28 @@ fits cap n h = grind (arith, nat_tests)
 answered : Reply → State → Outcome
 answered answer after = record { after = after; reply = answer }
 
-pub read_alone : (checkpoints : Bool) (table : List Content) (commits cap n : ℕ) (writes : List state.Write) (reads : List ℕ) (number : ℕ) → n < 8 →
+pub read_alone : (table : List Content) (commits cap n : ℕ) (writes : List state.Write) (reads : List ℕ) (number : ℕ) → n < 8 →
     wants_record (alone table commits cap n writes reads) number ≡ None →
-    step checkpoints (alone table commits cap n writes reads) (Read n number) []
+    step (alone table commits cap n writes reads) (Read n number) []
     ≡ record { after = alone table commits cap n writes (reads ++ number ∷ []); reply = found (view table writes number) }
 unfolding carried answered
-read_alone checkpoints table commits cap n writes reads number known small =
+read_alone table commits cap n writes reads number known small =
     let s = alone table commits cap n writes reads in
-    step_plain checkpoints s (Read n number) []
+    step_plain s (Read n number) []
     (pass_all (wants_active s n ∷ wants_record s number ∷ may_read s (Some n) number ∷ []) (active table commits cap n writes reads known, (small, (free_read table commits cap n writes reads known number, tt))))
     refl refl
     ∙ ap (λ (content : Content). answered (found content) (effect s (Read n number))) (sees table commits cap n writes reads known number)
     ∙ ap (answered (found (view table writes number))) (with_reads table commits cap n writes reads (number ∷ []) known)
 
-pub scan_alone : (checkpoints : Bool) (table : List Content) (commits cap n : ℕ) (writes : List state.Write) (reads : List ℕ) (number count : ℕ) → n < 8 →
+pub scan_alone : (table : List Content) (commits cap n : ℕ) (writes : List state.Write) (reads : List ℕ) (number count : ℕ) → n < 8 →
     wants_record (alone table commits cap n writes reads) (number + count - 1) ≡ None →
-    step checkpoints (alone table commits cap n writes reads) (Scan n number count) []
+    step (alone table commits cap n writes reads) (Scan n number count) []
     ≡ record { after = alone table commits cap n writes (reads ++ range_with_len number count); reply = reply.Items (filter_map (item (view table writes)) (range_with_len number count)) }
 unfolding carried answered
-scan_alone checkpoints table commits cap n writes reads number count known small =
+scan_alone table commits cap n writes reads number count known small =
     let s = alone table commits cap n writes reads in
     let numbers = range_with_len number count in
-    step_plain checkpoints s (Scan n number count) []
+    step_plain s (Scan n number count) []
     (pass_all (wants_active s n ∷ wants_record s (number + count - 1) ∷ map (may_read s (Some n)) numbers)
     (active table commits cap n writes reads known, (small, map_of_each (may_read s (Some n)) (λ a. a ≡ None) numbers (each_member (λ q. may_read s (Some n) q ≡ None) numbers (λ q e. free_read table commits cap n writes reads known q)))))
     refl refl
@@ -160,77 +159,77 @@ has_room : (table : List Content) (commits cap n : ℕ) (writes : List state.Wri
     nat_lt cap (used (alone table commits cap n writes reads) + owed (alone table commits cap n writes reads) + 2) ≡ false
 has_room table commits cap n writes reads known room = fits cap _ (omega (arith, owes table commits cap n writes reads known))
 
-pub write_alone : (checkpoints : Bool) (table : List Content) (commits cap n : ℕ) (writes : List state.Write) (reads : List ℕ) (number : ℕ) (value : List ℕ) → n < 8 →
+pub write_alone : (table : List Content) (commits cap n : ℕ) (writes : List state.Write) (reads : List ℕ) (number : ℕ) (value : List ℕ) → n < 8 →
     wants_record (alone table commits cap n writes reads) number ≡ None → wants_short value ≡ None → 4 * (length writes + 2) ≤ cap →
-    step checkpoints (alone table commits cap n writes reads) (Write n number value) []
+    step (alone table commits cap n writes reads) (Write n number value) []
     ≡ record { after = alone table commits cap n (writes ++ (number, Some value) ∷ []) reads; reply = reply.Done }
 unfolding carried answered
-write_alone checkpoints table commits cap n writes reads number value known small short room =
+write_alone table commits cap n writes reads number value known small short room =
     let s = alone table commits cap n writes reads in
-    step_plain checkpoints s (Write n number value) []
+    step_plain s (Write n number value) []
     (pass_all (wants_active s n ∷ wants_record s number ∷ wants_short value ∷ may_write s (Some n) number ∷ []) (active table commits cap n writes reads known, (small, (short, (free_write table commits cap n writes reads known number, tt)))))
     refl (has_room table commits cap n writes reads known room)
     ∙ ap (answered reply.Done) (with_write table commits cap n writes (number, Some value) reads known)
 
-pub erase_alone : (checkpoints : Bool) (table : List Content) (commits cap n : ℕ) (writes : List state.Write) (reads : List ℕ) (number : ℕ) → n < 8 →
+pub erase_alone : (table : List Content) (commits cap n : ℕ) (writes : List state.Write) (reads : List ℕ) (number : ℕ) → n < 8 →
     wants_record (alone table commits cap n writes reads) number ≡ None → 4 * (length writes + 2) ≤ cap →
-    step checkpoints (alone table commits cap n writes reads) (Erase n number) []
+    step (alone table commits cap n writes reads) (Erase n number) []
     ≡ record { after = alone table commits cap n (writes ++ (number, None) ∷ []) reads; reply = reply.Done }
 unfolding carried answered
-erase_alone checkpoints table commits cap n writes reads number known small room =
+erase_alone table commits cap n writes reads number known small room =
     let s = alone table commits cap n writes reads in
-    step_plain checkpoints s (Erase n number) []
+    step_plain s (Erase n number) []
     (pass_all (wants_active s n ∷ wants_record s number ∷ may_write s (Some n) number ∷ []) (active table commits cap n writes reads known, (small, (free_write table commits cap n writes reads known number, tt))))
     refl (has_room table commits cap n writes reads known room)
     ∙ ap (answered reply.Done) (with_write table commits cap n writes (number, None) reads known)
 
-pub commit_alone : (checkpoints : Bool) (table : List Content) (commits cap n : ℕ) (writes : List state.Write) (reads : List ℕ) → n < 8 →
-    ((step checkpoints (alone table commits cap n writes reads) (Commit n) []).reply ≡ reply.Committed (commits + 1))
-    × ((step checkpoints (alone table commits cap n writes reads) (Commit n) []).after.table ≡ table_with table writes)
+pub commit_alone : (table : List Content) (commits cap n : ℕ) (writes : List state.Write) (reads : List ℕ) → n < 8 →
+    ((step (alone table commits cap n writes reads) (Commit n) []).reply ≡ reply.Committed (commits + 1))
+    × ((step (alone table commits cap n writes reads) (Commit n) []).after.table ≡ table_with table writes)
 unfolding carried
-commit_alone checkpoints table commits cap n writes reads known =
-    let same = step_plain checkpoints (alone table commits cap n writes reads) (Commit n) [] (active table commits cap n writes reads known) refl refl in
+commit_alone table commits cap n writes reads known =
+    let same = step_plain (alone table commits cap n writes reads) (Commit n) [] (active table commits cap n writes reads known) refl refl in
     (ap (λ (o : Outcome). o.reply) same, ap (λ (o : Outcome). o.after.table) same ∙ ap (λ (o : Option Session). table_with table (writes_of o)) (here table commits cap n writes reads known))
 
 -- Where no session is active.
 
-ready_first : (checkpoints : Bool) (table : List Content) (commits cap : ℕ) (command : Command) → ready checkpoints (opened table commits 0 cap) command ≡ opened table commits 0 cap
-ready_first checkpoints table commits cap command = ap (λ (kept : ℕ). record (opened table commits 0 cap) { kept = kept }) (nothing (wants_checkpoint checkpoints (opened table commits 0 cap) command))
+ready_first : (table : List Content) (commits cap : ℕ) (command : Command) → ready (opened table commits 0 cap) command ≡ opened table commits 0 cap
+ready_first table commits cap command = ap (λ (kept : ℕ). record (opened table commits 0 cap) { kept = kept }) (nothing (asks_for_checkpoint (opened table commits 0 cap) command))
   where
     nothing : (b : Bool) → (if b then kept_by_checkpoint (opened table commits 0 cap) else 0) ≡ 0
     nothing true = refl
     nothing false = refl
 
-step_first : (checkpoints : Bool) (table : List Content) (commits cap : ℕ) (command : Command) → refusal (opened table commits 0 cap) command ≡ None →
+step_first : (table : List Content) (commits cap : ℕ) (command : Command) → refusal (opened table commits 0 cap) command ≡ None →
     lacks_room (opened table commits 0 cap) command ≡ false →
-    step checkpoints (opened table commits 0 cap) command [] ≡ carried (opened table commits 0 cap) command []
+    step (opened table commits 0 cap) command [] ≡ carried (opened table commits 0 cap) command []
 unfolding carried
-step_first checkpoints table commits cap command h room =
-    let same = ready_first checkpoints table commits cap command in
-    step_through checkpoints (opened table commits 0 cap) command [] h (ap (λ (r : State). lacks_room r command) same ∙ room)
+step_first table commits cap command h room =
+    let same = ready_first table commits cap command in
+    step_through (opened table commits 0 cap) command [] h (ap (λ (r : State). lacks_room r command) same ∙ room)
     ∙ ap (λ (r : State). carried r command []) same
 
 pub unrefused : (b : Bool) (answer : Reply) → refuse_if b answer ≡ None → b ≡ false
 unrefused true answer h = absurd cc
 unrefused false answer h = refl
 
-pub begin_alone : (checkpoints : Bool) (table : List Content) (commits cap n : ℕ) → nat_le 8 n ≡ false → 4 ≤ cap →
-    step checkpoints (opened table commits 0 cap) (Begin n) [] ≡ record { after = alone table commits cap n [] []; reply = reply.Done }
+pub begin_alone : (table : List Content) (commits cap n : ℕ) → nat_le 8 n ≡ false → 4 ≤ cap →
+    step (opened table commits 0 cap) (Begin n) [] ≡ record { after = alone table commits cap n [] []; reply = reply.Done }
 unfolding carried
-begin_alone checkpoints table commits cap n known room =
+begin_alone table commits cap n known room =
     let s = opened table commits 0 cap in
-    step_first checkpoints table commits cap (Begin n)
+    step_first table commits cap (Begin n)
     (ap (λ (b : Bool). refuse_if (b || is_some (place s.sessions n)) (reply.Refused BadSession)) known ∙ ap (λ (o : Option Session). refuse_if (is_some o) (reply.Refused BadSession)) (get_none Session 8 n))
     (fits cap 2 (omega arith))
 
-pub set_alone : (checkpoints : Bool) (table : List Content) (commits cap number : ℕ) (value : List ℕ) →
+pub set_alone : (table : List Content) (commits cap number : ℕ) (value : List ℕ) →
     wants_record (opened table commits 0 cap) number ≡ None → wants_short value ≡ None → 4 ≤ cap →
-    ((step checkpoints (opened table commits 0 cap) (Set number value) []).reply ≡ reply.Committed (commits + 1))
-    × ((step checkpoints (opened table commits 0 cap) (Set number value) []).after.table ≡ slice_set table number (Some value))
+    ((step (opened table commits 0 cap) (Set number value) []).reply ≡ reply.Committed (commits + 1))
+    × ((step (opened table commits 0 cap) (Set number value) []).after.table ≡ slice_set table number (Some value))
 unfolding carried
-set_alone checkpoints table commits cap number value small short room =
+set_alone table commits cap number value small short room =
     let s = opened table commits 0 cap in
-    let same = step_first checkpoints table commits cap (Set number value)
+    let same = step_first table commits cap (Set number value)
     (pass_all (wants_record s number ∷ wants_short value ∷ may_write s None number ∷ []) (small, (short, (ap (option_map reply.Busy) (passes_none _ (range_with_len 0 8) (λ m. ap (λ (o : Option Session). touched o number) (get_none Session 8 m))), tt))))
     (fits cap 4 room) in
     (ap (λ (o : Outcome). o.reply) same, ap (λ (o : Outcome). o.after.table) same)

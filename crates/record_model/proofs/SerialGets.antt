@@ -1,5 +1,5 @@
 -- What a get outside sessions answers: one part of serial order.
-use Rattle.std.proofs.Common.{◌≡◌, ℕ, Bool, List, [], ◌∷◌, ◌++◌, length, ap, sym, ◌∙◌, subst}
+use Rattle.std.proofs.Common.{◌≡◌, ℕ, List, [], ◌∷◌, ◌++◌, length, ap, sym, ◌∙◌, subst}
 use Rattle.std.specs.Prelude.{IsTrue}
 use Rattle.std_lemmas.proofs.Options.{none_if_is_none}
 use Rattle.std.proofs.lemmas.Bool.{and_parts}
@@ -12,27 +12,27 @@ use Rattle.record_model.specs.Serial.{GetsAreSerial, table_before}
 use Rattle.record_model.proofs.RunLaws.{IsRun, turns_are_run, commits_make_the_table}
 
 -- a turn of a run is one of the state before it
-pub turn_of_run : (checkpoints : Bool) (s : State) (earlier later : List Turn) (t : Turn) → IsRun checkpoints s (earlier ++ t ∷ later) →
-    (listing : List CacheLine) × (t ≡ turn checkpoints (state_at (earlier ++ t ∷ later) s (length earlier)) t.line listing)
-turn_of_run checkpoints s [] later t is = (is.0, is.1)
-turn_of_run checkpoints s (u ∷ earlier) later t is = turn_of_run checkpoints u.after earlier later t is.2
+pub turn_of_run : (s : State) (earlier later : List Turn) (t : Turn) → IsRun s (earlier ++ t ∷ later) →
+    (listing : List CacheLine) × (t ≡ turn (state_at (earlier ++ t ∷ later) s (length earlier)) t.line listing)
+turn_of_run s [] later t is = (is.0, is.1)
+turn_of_run s (u ∷ earlier) later t is = turn_of_run u.after earlier later t is.2
 
-get_answers : (checkpoints : Bool) (s : State) (number : ℕ) (listing : List CacheLine) → IsTrue (is_accepted checkpoints s (Get number)) →
-    (step checkpoints s (Get number) listing).reply ≡ found (content_at s.table number)
-get_answers checkpoints s number listing h = ap (λ r. (outcome checkpoints s (Get number) listing r).reply) (none_if_is_none (refusal s (Get number)) (and_parts _ _ h).0)
+get_answers : (s : State) (number : ℕ) (listing : List CacheLine) → IsTrue (is_accepted s (Get number)) →
+    (step s (Get number) listing).reply ≡ found (content_at s.table number)
+get_answers s number listing h = ap (λ r. (outcome s (Get number) listing r).reply) (none_if_is_none (refusal s (Get number)) (and_parts _ _ h).0)
 
 pub gets_are_serial : GetsAreSerial
-gets_are_serial checkpoints table commits made cap lines listings earlier later t e number line accepted =
+gets_are_serial table commits made cap lines listings earlier later t e number line accepted =
     let start = opened table commits made cap in
     let run = earlier ++ t ∷ later in
-    let is = turn_of_run checkpoints start earlier later t (subst (IsRun checkpoints start) e (turns_are_run checkpoints start lines listings)) in
+    let is = turn_of_run start earlier later t (subst (IsRun start) e (turns_are_run start lines listings)) in
     let before : t.before ≡ state_at run start (length earlier) = ap (λ (u : Turn). u.before) is.1 in
     let now : (state_at run start (length earlier)).table ≡ table_before table earlier later t =
     subst (λ (r : List Turn). (state_at r start (length earlier)).table ≡ after_commits table r (commits_among (length earlier) (commit_marks r))) e
-    (commits_make_the_table checkpoints start lines listings (length earlier)).table in
+    (commits_make_the_table start lines listings (length earlier)).table in
     ap (λ (u : Turn). u.reply) is.1
-    ∙ ap (λ (s : State). (turn checkpoints s t.line is.0).reply) (sym before)
-    ∙ ap (λ (l : Line). (turn checkpoints t.before l is.0).reply) line
-    ∙ get_answers checkpoints t.before number is.0 accepted
+    ∙ ap (λ (s : State). (turn s t.line is.0).reply) (sym before)
+    ∙ ap (λ (l : Line). (turn t.before l is.0).reply) line
+    ∙ get_answers t.before number is.0 accepted
     ∙ ap (λ (s : State). found (content_at s.table number)) before
     ∙ ap (λ (table : List Content). found (content_at table number)) now

@@ -170,25 +170,25 @@ with_none s n o writes touches apart = apart_set s.sessions n o apart (λ r h. n
 pub one_is : (number r : ℕ) → list_any (λ read. read == r) (number ∷ []) ≡ true → number ≡ r
 one_is number r h = one_number number r h
 
-pub locks_kept : (checkpoints : Bool) (s : State) (command : Command) → length s.sessions ≡ 8 → refusal s command ≡ None → Apart s.sessions → Apart (effect (ready checkpoints s command) command).sessions
-locks_kept checkpoints s (Begin n) long h apart = with_none s n _ (λ r. refl) (λ r. refl) apart
-locks_kept checkpoints s (Read n number) long h apart =
+pub locks_kept : (s : State) (command : Command) → length s.sessions ≡ 8 → refusal s command ≡ None → Apart s.sessions → Apart (effect (ready s command) command).sessions
+locks_kept s (Begin n) long h apart = with_none s n _ (λ r. refl) (λ r. refl) apart
+locks_kept s (Read n number) long h apart =
     let tests = all_pass (wants_active s n ∷ wants_record s number ∷ may_read s (Some n) number ∷ []) h in
     reading s n (number ∷ []) long apart (λ r e. subst (λ (q : ℕ). may_read s (Some n) q ≡ None) (one_is number r e) tests.1.1.0)
-locks_kept checkpoints s (Write n number value) long h apart =
+locks_kept s (Write n number value) long h apart =
     let tests = all_pass (wants_active s n ∷ wants_record s number ∷ wants_short value ∷ may_write s (Some n) number ∷ []) h in
     writing s n (number, Some value) long apart tests.1.1.1.0
-locks_kept checkpoints s (Erase n number) long h apart =
+locks_kept s (Erase n number) long h apart =
     let tests = all_pass (wants_active s n ∷ wants_record s number ∷ may_write s (Some n) number ∷ []) h in
     writing s n (number, None) long apart tests.1.1.0
-locks_kept checkpoints s (Scan n number count) long h apart =
+locks_kept s (Scan n number count) long h apart =
     let tests = all_pass (wants_active s n ∷ wants_record s (number + count - 1) ∷ map (may_read s (Some n)) (range_with_len number count)) h in
     reading s n (range_with_len number count) long apart (λ r e. all_member (λ q. may_read s (Some n) q ≡ None) (range_with_len number count) r (each_of_map (may_read s (Some n)) (λ a. a ≡ None) (range_with_len number count) tests.1.1) e)
-locks_kept checkpoints s (Commit n) long h apart = with_none s n None (λ r. refl) (λ r. refl) apart
-locks_kept checkpoints s (Abort n) long h apart = with_none s n None (λ r. refl) (λ r. refl) apart
-locks_kept checkpoints s (Get number) long h apart = apart
-locks_kept checkpoints s (Set number value) long h apart = apart
-locks_kept checkpoints s Checkpoint long h apart = apart
-locks_kept checkpoints s Cache long h apart = apart
-locks_kept checkpoints s Stat long h apart = apart
-locks_kept checkpoints s Quit long h apart = apart
+locks_kept s (Commit n) long h apart = with_none s n None (λ r. refl) (λ r. refl) apart
+locks_kept s (Abort n) long h apart = with_none s n None (λ r. refl) (λ r. refl) apart
+locks_kept s (Get number) long h apart = apart
+locks_kept s (Set number value) long h apart = apart
+locks_kept s Checkpoint long h apart = apart
+locks_kept s Cache long h apart = apart
+locks_kept s Stat long h apart = apart
+locks_kept s Quit long h apart = apart

@@ -33,19 +33,19 @@ no_listings (line ∷ lines) = ap (listings_after lines) (none (is_cache line)) 
     none true = refl
     none false = refl
 
-pub one_turn : (checkpoints : Bool) (s : State) (line : Line) → turns checkpoints s (line ∷ []) [] ≡ turn checkpoints s line [] ∷ []
-one_turn checkpoints s line = ap (λ (l : List Turn). turn checkpoints s line [] ∷ l) (none (is_quit line))
+pub one_turn : (s : State) (line : Line) → turns s (line ∷ []) [] ≡ turn s line [] ∷ []
+one_turn s line = ap (λ (l : List Turn). turn s line [] ∷ l) (none (is_quit line))
   where
     none : (b : Bool) → ◌≡◌ {A = List Turn} (if b then [] else []) []
     none true = refl
     none false = refl
 
-pub one_line_more : (checkpoints : Bool) (s : State) (lines : List Line) (line : Line) → list_any is_quit lines ≡ false →
-    turns checkpoints s (lines ++ line ∷ []) [] ≡ turns checkpoints s lines [] ++ turn checkpoints (left_by s (turns checkpoints s lines [])) line [] ∷ []
-one_line_more checkpoints s lines line h =
-    turns-append checkpoints lines (line ∷ []) s [] h
-    ∙ ap (λ listings. turns checkpoints s lines [] ++ turns checkpoints (left_by s (turns checkpoints s lines [])) (line ∷ []) listings) (no_listings lines)
-    ∙ ap (λ l. turns checkpoints s lines [] ++ l) (one_turn checkpoints (left_by s (turns checkpoints s lines [])) line)
+pub one_line_more : (s : State) (lines : List Line) (line : Line) → list_any is_quit lines ≡ false →
+    turns s (lines ++ line ∷ []) [] ≡ turns s lines [] ++ turn (left_by s (turns s lines [])) line [] ∷ []
+one_line_more s lines line h =
+    turns-append lines (line ∷ []) s [] h
+    ∙ ap (λ listings. turns s lines [] ++ turns (left_by s (turns s lines [])) (line ∷ []) listings) (no_listings lines)
+    ∙ ap (λ l. turns s lines [] ++ l) (one_turn (left_by s (turns s lines [])) line)
 
 pub replies_append : (xs ys : List Turn) → replies (xs ++ ys) ≡ replies xs ++ replies ys
 replies_append [] ys = refl
@@ -64,57 +64,57 @@ left_last s (x ∷ xs) t = left_last x.after xs t
 abbrev pub Agrees : List Content → List Content → List state.Write → List ℕ → Type 0
 Agrees table other writes reads = (r : ℕ) → touched (Some (lone writes reads)) r ≡ true → content_at other r ≡ content_at table r
 
-abbrev pub RunsTo : Bool → List Content → ℕ → ℕ → ℕ → List Turn → List state.Write → List ℕ → Type 0
-RunsTo checkpoints other commits cap n own writes reads =
-    (replies (turns checkpoints (opened other commits 0 cap) (lines_of own) []) ≡ replies own)
-    × (left_by (opened other commits 0 cap) (turns checkpoints (opened other commits 0 cap) (lines_of own) []) ≡ alone other commits cap n writes reads)
+abbrev pub RunsTo : List Content → ℕ → ℕ → ℕ → List Turn → List state.Write → List ℕ → Type 0
+RunsTo other commits cap n own writes reads =
+    (replies (turns (opened other commits 0 cap) (lines_of own) []) ≡ replies own)
+    × (left_by (opened other commits 0 cap) (turns (opened other commits 0 cap) (lines_of own) []) ≡ alone other commits cap n writes reads)
 
-pub record Replays (checkpoints : Bool) (n : ℕ) (own : List Turn) (table : List Content) (writes : List state.Write) (reads : List ℕ) : Type 0 where
+pub record Replays (n : ℕ) (own : List Turn) (table : List Content) (writes : List state.Write) (reads : List ℕ) : Type 0 where
   pub known : n < 8
   pub quits : list_any is_quit (lines_of own) ≡ false
   pub begins : StartsWithBegin n own
   pub long : length writes + 1 ≤ length own
   pub again : (other : List Content) (commits cap : ℕ) → length other ≡ length table → Agrees table other writes reads → 4 * length own ≤ cap →
-      RunsTo checkpoints other commits cap n own writes reads
+      RunsTo other commits cap n own writes reads
 
-abbrev pub Standing : Bool → ℕ → List Turn → List Content → Option Session → Type 0
-Standing checkpoints n own table None = Unit {0}
-Standing checkpoints n own table (Some session) = Replays checkpoints n own table session.writes session.reads
+abbrev pub Standing : ℕ → List Turn → List Content → Option Session → Type 0
+Standing n own table None = Unit {0}
+Standing n own table (Some session) = Replays n own table session.writes session.reads
 
 -- the answer of one more line, where the lines before it ran alone
-pub reply_more : (checkpoints : Bool) (s after : State) (own : List Turn) (t : Turn) → list_any is_quit (lines_of own) ≡ false →
-    replies (turns checkpoints s (lines_of own) []) ≡ replies own → left_by s (turns checkpoints s (lines_of own) []) ≡ after →
-    (line_step checkpoints after t.line []).reply ≡ t.reply →
-    replies (turns checkpoints s (lines_of (own ++ t ∷ [])) []) ≡ replies (own ++ t ∷ [])
-reply_more checkpoints s after own t quits same left last =
-    let run = turns checkpoints s (lines_of own) [] in
-    let next = turn checkpoints (left_by s run) t.line [] in
-    ap (λ lines. replies (turns checkpoints s lines [])) (lines_append own (t ∷ []))
-    ∙ ap replies (one_line_more checkpoints s (lines_of own) t.line quits)
+pub reply_more : (s after : State) (own : List Turn) (t : Turn) → list_any is_quit (lines_of own) ≡ false →
+    replies (turns s (lines_of own) []) ≡ replies own → left_by s (turns s (lines_of own) []) ≡ after →
+    (line_step after t.line []).reply ≡ t.reply →
+    replies (turns s (lines_of (own ++ t ∷ [])) []) ≡ replies (own ++ t ∷ [])
+reply_more s after own t quits same left last =
+    let run = turns s (lines_of own) [] in
+    let next = turn (left_by s run) t.line [] in
+    ap (λ lines. replies (turns s lines [])) (lines_append own (t ∷ []))
+    ∙ ap replies (one_line_more s (lines_of own) t.line quits)
     ∙ replies_append run (next ∷ [])
     ∙ ap (λ (l : List Reply). l ++ next.reply ∷ []) same
-    ∙ ap (λ (a : State). replies own ++ (line_step checkpoints a t.line []).reply ∷ []) left
+    ∙ ap (λ (a : State). replies own ++ (line_step a t.line []).reply ∷ []) left
     ∙ ap (λ (r : Reply). replies own ++ r ∷ []) last
     ∙ sym (replies_append own (t ∷ []))
 
-pub state_more : (checkpoints : Bool) (s after : State) (own : List Turn) (t : Turn) → list_any is_quit (lines_of own) ≡ false →
-    left_by s (turns checkpoints s (lines_of own) []) ≡ after →
-    left_by s (turns checkpoints s (lines_of (own ++ t ∷ [])) []) ≡ (line_step checkpoints after t.line []).after
-state_more checkpoints s after own t quits left =
-    let run = turns checkpoints s (lines_of own) [] in
-    ap (λ lines. left_by s (turns checkpoints s lines [])) (lines_append own (t ∷ []))
-    ∙ ap (left_by s) (one_line_more checkpoints s (lines_of own) t.line quits)
-    ∙ left_last s run (turn checkpoints (left_by s run) t.line [])
-    ∙ ap (λ (a : State). (line_step checkpoints a t.line []).after) left
+pub state_more : (s after : State) (own : List Turn) (t : Turn) → list_any is_quit (lines_of own) ≡ false →
+    left_by s (turns s (lines_of own) []) ≡ after →
+    left_by s (turns s (lines_of (own ++ t ∷ [])) []) ≡ (line_step after t.line []).after
+state_more s after own t quits left =
+    let run = turns s (lines_of own) [] in
+    ap (λ lines. left_by s (turns s lines [])) (lines_append own (t ∷ []))
+    ∙ ap (left_by s) (one_line_more s (lines_of own) t.line quits)
+    ∙ left_last s run (turn (left_by s run) t.line [])
+    ∙ ap (λ (a : State). (line_step a t.line []).after) left
 
-one_more : (checkpoints : Bool) (n : ℕ) (own : List Turn) (table : List Content) (writes : List state.Write) (reads : List ℕ) (t : Turn) (command : Command) (writes' : List state.Write) (reads' : List ℕ) →
-    t.line ≡ Some command → is_quit (Some command) ≡ false → Replays checkpoints n own table writes reads →
+one_more : (n : ℕ) (own : List Turn) (table : List Content) (writes : List state.Write) (reads : List ℕ) (t : Turn) (command : Command) (writes' : List state.Write) (reads' : List ℕ) →
+    t.line ≡ Some command → is_quit (Some command) ≡ false → Replays n own table writes reads →
     ((r : ℕ) → touched (Some (lone writes reads)) r ≡ true → touched (Some (lone writes' reads')) r ≡ true) →
     length writes' ≤ length writes + 1 →
     ((other : List Content) (commits cap : ℕ) → length other ≡ length table → Agrees table other writes' reads' → 4 * (length writes + 2) ≤ cap →
-    step checkpoints (alone other commits cap n writes reads) command [] ≡ record { after = alone other commits cap n writes' reads'; reply = t.reply }) →
-    Replays checkpoints n (own ++ t ∷ []) table writes' reads'
-one_more checkpoints n own table writes reads t command writes' reads' line goes replays more few answers = record {
+    step (alone other commits cap n writes reads) command [] ≡ record { after = alone other commits cap n writes' reads'; reply = t.reply }) →
+    Replays n (own ++ t ∷ []) table writes' reads'
+one_more n own table writes reads t command writes' reads' line goes replays more few answers = record {
   known = replays.known;
   quits = ap (list_any is_quit) (lines_append own (t ∷ [])) ∙ list_any-append is_quit (lines_of own) (t.line ∷ []) ∙ ap (λ (b : Bool). b || (is_quit t.line || false)) replays.quits ∙ ap (λ (l : Line). is_quit l || false) line ∙ ap (λ (b : Bool). b || false) goes;
   begins = starts_still n own t replays.begins;
@@ -122,9 +122,9 @@ one_more checkpoints n own table writes reads t command writes' reads' line goes
   again = λ other commits cap sizes agrees room.
       let long = replays.long in
       let before = replays.again other commits cap sizes (λ r e. agrees r (more r e)) (omega (arith, length-append own (t ∷ []), room)) in
-      let last = ap (λ (l : Line). line_step checkpoints (alone other commits cap n writes reads) l []) line ∙ answers other commits cap sizes agrees (omega (arith, length-append own (t ∷ []), room, long)) in (
-        reply_more checkpoints (opened other commits 0 cap) (alone other commits cap n writes reads) own t replays.quits before.0 before.1 (ap (λ (o : Outcome). o.reply) last),
-        state_more checkpoints (opened other commits 0 cap) (alone other commits cap n writes reads) own t replays.quits before.1 ∙ ap (λ (o : Outcome). o.after) last,
+      let last = ap (λ (l : Line). line_step (alone other commits cap n writes reads) l []) line ∙ answers other commits cap sizes agrees (omega (arith, length-append own (t ∷ []), room, long)) in (
+        reply_more (opened other commits 0 cap) (alone other commits cap n writes reads) own t replays.quits before.0 before.1 (ap (λ (o : Outcome). o.reply) last),
+        state_more (opened other commits 0 cap) (alone other commits cap n writes reads) own t replays.quits before.1 ∙ ap (λ (o : Outcome). o.after) last,
       );
 }
 
@@ -145,7 +145,7 @@ touches_write writes write reads r h = elim (or_cases (wrote (Some (lone writes 
   | inr q ↦ or_right (wrote (Some (lone (writes ++ write ∷ []) reads)) r) _ q
 ]
 
-module _ (checkpoints : Bool) (s : State) (n : ℕ) (own : List Turn) (session : Session) (t : Turn) (active : place s.sessions n ≡ Some session) (replays : Replays checkpoints n own s.table session.writes session.reads) where
+module _ (s : State) (n : ℕ) (own : List Turn) (session : Session) (t : Turn) (active : place s.sessions n ≡ Some session) (replays : Replays n own s.table session.writes session.reads) where
   has_record : (number : ℕ) (other : List Content) (commits cap : ℕ) → length other ≡ length s.table → wants_record s number ≡ None →
       wants_record (alone other commits cap n session.writes session.reads) number ≡ None
   has_record number other commits cap sizes h = ap (λ (k : ℕ). refuse_if (nat_le k number) (reply.Refused NoRecord)) sizes ∙ h
@@ -154,22 +154,22 @@ module _ (checkpoints : Bool) (s : State) (n : ℕ) (own : List Turn) (session :
   views number = ap (λ (o : Option Session). unwrap_or (last_write (writes_of o) number) (content_at s.table number)) active
 
   pub read_more : (number : ℕ) → t.line ≡ Some (Read n number) → t.reply ≡ found (seen s n number) → wants_record s number ≡ None →
-      Replays checkpoints n (own ++ t ∷ []) s.table session.writes (session.reads ++ number ∷ [])
-  read_more number line answer h = one_more checkpoints n own s.table session.writes session.reads t (Read n number) session.writes (session.reads ++ number ∷ []) line refl replays
+      Replays n (own ++ t ∷ []) s.table session.writes (session.reads ++ number ∷ [])
+  read_more number line answer h = one_more n own s.table session.writes session.reads t (Read n number) session.writes (session.reads ++ number ∷ []) line refl replays
       (λ r e. touches_more session.writes session.reads (number ∷ []) r e)
       (omega arith)
       (λ other commits cap sizes agrees room.
-      read_alone checkpoints other commits cap n session.writes session.reads number replays.known (has_record number other commits cap sizes h)
+      read_alone other commits cap n session.writes session.reads number replays.known (has_record number other commits cap sizes h)
       ∙ ap (λ (r : Reply). record { after = alone other commits cap n session.writes (session.reads ++ number ∷ []); reply = r })
       (ap found (ap (unwrap_or (last_write session.writes number)) (agrees number (touches_new session.writes session.reads (number ∷ []) number (or_left _ _ (same_is number)))) ∙ sym (views number)) ∙ sym answer))
 
   pub scan_more : (number count : ℕ) → t.line ≡ Some (Scan n number count) → t.reply ≡ reply.Items (filter_map (item (seen s n)) (range_with_len number count)) → wants_record s (number + count - 1) ≡ None →
-      Replays checkpoints n (own ++ t ∷ []) s.table session.writes (session.reads ++ range_with_len number count)
-  scan_more number count line answer h = one_more checkpoints n own s.table session.writes session.reads t (Scan n number count) session.writes (session.reads ++ range_with_len number count) line refl replays
+      Replays n (own ++ t ∷ []) s.table session.writes (session.reads ++ range_with_len number count)
+  scan_more number count line answer h = one_more n own s.table session.writes session.reads t (Scan n number count) session.writes (session.reads ++ range_with_len number count) line refl replays
       (λ r e. touches_more session.writes session.reads (range_with_len number count) r e)
       (omega arith)
       (λ other commits cap sizes agrees room.
-      scan_alone checkpoints other commits cap n session.writes session.reads number count replays.known (has_record (number + count - 1) other commits cap sizes h)
+      scan_alone other commits cap n session.writes session.reads number count replays.known (has_record (number + count - 1) other commits cap sizes h)
       ∙ ap (λ (r : Reply). record { after = alone other commits cap n session.writes (session.reads ++ range_with_len number count); reply = r })
       (ap reply.Items (filter_map_same (item (view other session.writes)) (item (seen s n)) (range_with_len number count)
       (each_member (λ q. item (view other session.writes) q ≡ item (seen s n) q) (range_with_len number count)
@@ -177,34 +177,34 @@ module _ (checkpoints : Bool) (s : State) (n : ℕ) (own : List Turn) (session :
       ∙ sym answer))
 
   pub write_more : (number : ℕ) (value : List ℕ) → t.line ≡ Some (Write n number value) → t.reply ≡ reply.Done → wants_record s number ≡ None → wants_short value ≡ None →
-      Replays checkpoints n (own ++ t ∷ []) s.table (session.writes ++ (number, Some value) ∷ []) session.reads
-  write_more number value line answer h short = one_more checkpoints n own s.table session.writes session.reads t (Write n number value) (session.writes ++ (number, Some value) ∷ []) session.reads line refl replays
+      Replays n (own ++ t ∷ []) s.table (session.writes ++ (number, Some value) ∷ []) session.reads
+  write_more number value line answer h short = one_more n own s.table session.writes session.reads t (Write n number value) (session.writes ++ (number, Some value) ∷ []) session.reads line refl replays
       (λ r e. touches_write session.writes (number, Some value) session.reads r e)
       (omega (arith, length-append session.writes ((number, Some value) ∷ [])))
       (λ other commits cap sizes agrees room.
-      write_alone checkpoints other commits cap n session.writes session.reads number value replays.known (has_record number other commits cap sizes h) short room
+      write_alone other commits cap n session.writes session.reads number value replays.known (has_record number other commits cap sizes h) short room
       ∙ ap (λ (r : Reply). record { after = alone other commits cap n (session.writes ++ (number, Some value) ∷ []) session.reads; reply = r }) (sym answer))
 
   pub erase_more : (number : ℕ) → t.line ≡ Some (Erase n number) → t.reply ≡ reply.Done → wants_record s number ≡ None →
-      Replays checkpoints n (own ++ t ∷ []) s.table (session.writes ++ (number, None) ∷ []) session.reads
-  erase_more number line answer h = one_more checkpoints n own s.table session.writes session.reads t (Erase n number) (session.writes ++ (number, None) ∷ []) session.reads line refl replays
+      Replays n (own ++ t ∷ []) s.table (session.writes ++ (number, None) ∷ []) session.reads
+  erase_more number line answer h = one_more n own s.table session.writes session.reads t (Erase n number) (session.writes ++ (number, None) ∷ []) session.reads line refl replays
       (λ r e. touches_write session.writes (number, None) session.reads r e)
       (omega (arith, length-append session.writes ((number, None) ∷ [])))
       (λ other commits cap sizes agrees room.
-      erase_alone checkpoints other commits cap n session.writes session.reads number replays.known (has_record number other commits cap sizes h) room
+      erase_alone other commits cap n session.writes session.reads number replays.known (has_record number other commits cap sizes h) room
       ∙ ap (λ (r : Reply). record { after = alone other commits cap n (session.writes ++ (number, None) ∷ []) session.reads; reply = r }) (sym answer))
 
-pub begin_first : (checkpoints : Bool) (n : ℕ) (table : List Content) (t : Turn) → t.line ≡ Some (Begin n) → t.reply ≡ reply.Done → nat_le 8 n ≡ false → Replays checkpoints n (t ∷ []) table [] []
-begin_first checkpoints n table t line answer known = record {
+pub begin_first : (n : ℕ) (table : List Content) (t : Turn) → t.line ≡ Some (Begin n) → t.reply ≡ reply.Done → nat_le 8 n ≡ false → Replays n (t ∷ []) table [] []
+begin_first n table t line answer known = record {
   known = below known;
   quits = ap (λ (l : Line). is_quit l || false) line;
   begins = line;
   long = omega arith;
   again = λ other commits cap sizes agrees room.
       let s = opened other commits 0 cap in
-      let first = ap (λ (l : Line). line_step checkpoints s l []) line ∙ begin_alone checkpoints other commits cap n known (omega (arith, room)) in (
-        ap replies (one_turn checkpoints s t.line) ∙ ap (λ (o : Outcome). o.reply ∷ []) first ∙ ap (λ (r : Reply). r ∷ []) (sym answer),
-        ap (left_by s) (one_turn checkpoints s t.line) ∙ ap (λ (o : Outcome). o.after) first,
+      let first = ap (λ (l : Line). line_step s l []) line ∙ begin_alone other commits cap n known (omega (arith, room)) in (
+        ap replies (one_turn s t.line) ∙ ap (λ (o : Outcome). o.reply ∷ []) first ∙ ap (λ (r : Reply). r ∷ []) (sym answer),
+        ap (left_by s) (one_turn s t.line) ∙ ap (λ (o : Outcome). o.after) first,
       );
 }
   where

@@ -14,7 +14,7 @@ use Rattle.record_model.specs.declared.words.Reply.{Reply}
 use Rattle.record_model.specs.declared.words.Reply.TheVariants as reply
 use Rattle.record_model.specs.State.{kept_by_checkpoint, Content, Session, State, table_with, session_at, writes_of, seen, content_at, busy_read, busy_write}
 use Rattle.record_model.specs.State as state
-use Rattle.record_model.specs.Step.{lacks_room, wants_checkpoint, Outcome, outcome, refusal, first_refusal, refuse_if, wants_active, wants_record, wants_short, may_read, may_write, ready, effect, answer, found}
+use Rattle.record_model.specs.Step.{lacks_room, asks_for_checkpoint, Outcome, outcome, refusal, first_refusal, refuse_if, wants_active, wants_record, wants_short, may_read, may_write, ready, effect, answer, found}
 use Rattle.record_model.specs.Run.{is_committed}
 use Rattle.record_model.specs.Laws.{IsCountedIn, KeepsSizes, CommitsOnce, SizesStay, RefusedChangesNothing}
 
@@ -47,17 +47,17 @@ chosen : (P : Outcome → Type 0) (b : Bool) (o p : Outcome) → P o → P p →
 chosen P true o p h k = h
 chosen P false o p h k = k
 
-outcome_keeps : (checkpoints : Bool) (s : State) (command : Command) (listing : List CacheLine) (r : Option Reply) →
-    KeepsSizes s (outcome checkpoints s command listing r).after
-outcome_keeps checkpoints s command listing (Some refused) = record { table = refl; sessions = refl; cap = refl }
-outcome_keeps checkpoints s command listing None =
+outcome_keeps : (s : State) (command : Command) (listing : List CacheLine) (r : Option Reply) →
+    KeepsSizes s (outcome s command listing r).after
+outcome_keeps s command listing (Some refused) = record { table = refl; sessions = refl; cap = refl }
+outcome_keeps s command listing None =
     chosen (λ o. KeepsSizes s o.after) _ _ _
     (record { table = refl; sessions = refl; cap = refl })
-    (let kept = effect_keeps (ready checkpoints s command) command in record { table = kept.table; sessions = kept.sessions; cap = kept.cap })
+    (let kept = effect_keeps (ready s command) command in record { table = kept.table; sessions = kept.sessions; cap = kept.cap })
 
 pub sizes_stay : SizesStay
-sizes_stay checkpoints s None listing = record { table = refl; sessions = refl; cap = refl }
-sizes_stay checkpoints s (Some command) listing = outcome_keeps checkpoints s command listing (refusal s command)
+sizes_stay s None listing = record { table = refl; sessions = refl; cap = refl }
+sizes_stay s (Some command) listing = outcome_keeps s command listing (refusal s command)
 
 -- Commits.
 
@@ -128,35 +128,35 @@ refusals s Cache = tt
 refusals s Stat = tt
 refusals s Quit = tt
 
-counted_outcome : (checkpoints : Bool) (s : State) (command : Command) (listing : List CacheLine) (r : Option Reply) → IsNoCommit r →
-    IsCountedIn s (outcome checkpoints s command listing r)
+counted_outcome : (s : State) (command : Command) (listing : List CacheLine) (r : Option Reply) → IsNoCommit r →
+    IsCountedIn s (outcome s command listing r)
 unfolding carried IsNoCommit
-counted_outcome checkpoints s command listing (Some refused) h = still s _ h refl refl
-counted_outcome checkpoints s command listing None h =
+counted_outcome s command listing (Some refused) h = still s _ h refl refl
+counted_outcome s command listing None h =
     chosen (IsCountedIn s) _ _ _ (still s _ refl refl refl)
-    (let c = counted (ready checkpoints s command) command listing in record { committed = c.committed; others = c.others })
+    (let c = counted (ready s command) command listing in record { committed = c.committed; others = c.others })
 
 pub commits_once : CommitsOnce
-commits_once checkpoints s None listing = still s _ refl refl refl
-commits_once checkpoints s (Some command) listing = counted_outcome checkpoints s command listing (refusal s command) (refusals s command)
+commits_once s None listing = still s _ refl refl refl
+commits_once s (Some command) listing = counted_outcome s command listing (refusal s command) (refusals s command)
 
 -- Refusals.
 
 kept_where : State → Bool → State
 kept_where s b = record s { kept = if b then kept_by_checkpoint s else s.kept }
 
-refused_leaves : (checkpoints : Bool) (s : State) (command : Command) (listing : List CacheLine) (r : Option Reply) →
-    (is_none r && not (lacks_room (ready checkpoints s command) command)) ≡ false →
-    (outcome checkpoints s command listing r).after ≡ kept_where s (wants_checkpoint checkpoints s command && is_none r)
+refused_leaves : (s : State) (command : Command) (listing : List CacheLine) (r : Option Reply) →
+    (is_none r && not (lacks_room (ready s command) command)) ≡ false →
+    (outcome s command listing r).after ≡ kept_where s (asks_for_checkpoint s command && is_none r)
 unfolding kept_where
-refused_leaves checkpoints s command listing (Some refused) h = ap (kept_where s) (sym (and_false (wants_checkpoint checkpoints s command)))
-refused_leaves checkpoints s command listing None h =
-    let full : lacks_room (ready checkpoints s command) command ≡ true = not-false _ h in
-    rw full (ap (kept_where s) (sym (and_true (wants_checkpoint checkpoints s command))))
+refused_leaves s command listing (Some refused) h = ap (kept_where s) (sym (and_false (asks_for_checkpoint s command)))
+refused_leaves s command listing None h =
+    let full : lacks_room (ready s command) command ≡ true = not-false _ h in
+    rw full (ap (kept_where s) (sym (and_true (asks_for_checkpoint s command))))
 
 pub refused_changes_nothing : RefusedChangesNothing
 unfolding kept_where
-refused_changes_nothing checkpoints s command listing h = refused_leaves checkpoints s command listing (refusal s command) h
+refused_changes_nothing s command listing h = refused_leaves s command listing (refusal s command) h
 
 -- no command makes fewer records than there were
 pub effect_makes : (s : State) (command : Command) → s.made ≤ (effect s command).made

@@ -1,5 +1,5 @@
 -- Steps with one thing wrong. Of each there is a run that isn't in serial order.
-use Rattle.std.specs.Prelude.{◌≡◌, ◌≢◌, ℕ, List, [], ◌∷◌, filter, reverse, true, Option, Some, None, option_map}
+use Rattle.std.specs.Prelude.{◌≡◌, ◌≢◌, ℕ, List, [], ◌∷◌, filter, reverse, Option, Some, None, option_map}
 use Rattle.std.specs.Prelude.{is_some, if◌then◌else◌}
 use Rattle.std.specs.List.{range_with_len}
 use Rattle.record_model.specs.declared.words.Command.{Command}
@@ -29,7 +29,7 @@ turns_by does s (line ∷ lines) =
 
 -- The right one.
 abbrev pub rightly : Does
-rightly s command = step true s command []
+rightly s command = step s command []
 
 -- No read lock is taken: what a session has read is forgotten at once.
 abbrev pub without_read_locks : Does
@@ -44,7 +44,7 @@ values_in s n numbers = filter (λ number. is_some (seen s n number)) numbers
 abbrev pub locking_what_it_finds : Does
 locking_what_it_finds s (Scan n number count) = record {
   after =
-      if is_accepted true s (Scan n number count)
+      if is_accepted s (Scan n number count)
       then with_session s n (option_map (having_read (values_in s n (range_with_len number count))) (session_at s n))
       else s;
   reply = (rightly s (Scan n number count)).reply;
@@ -72,7 +72,7 @@ abbrev pub run_by : Does → List Line → List Turn
 run_by does lines = turns_by does (fresh 63) lines
 
 abbrev pub last_transaction : Does → List Line → List Turn
-last_transaction does lines = since_begin true 0 (reverse (run_by does lines))
+last_transaction does lines = since_begin 0 (reverse (run_by does lines))
 
 -- what it is answered in the run, and what it is answered alone, where there was one commit before its own
 abbrev pub among_others : Does → List Line → List Reply

@@ -26,15 +26,13 @@ pub record KeepsSizes (before after : State) : Type 0 where
 
 -- a line commits at most once
 abbrev pub CommitsOnce : Type 0
-CommitsOnce = (checkpoints : Bool) (s : State) (line : Line) (listing : List CacheLine) →
-    IsCountedIn s (line_step checkpoints s line listing)
+CommitsOnce = (s : State) (line : Line) (listing : List CacheLine) → IsCountedIn s (line_step s line listing)
 
 -- a command that isn't carried out changes nothing, but that a checkpoint is made where one comes before the refusal
 abbrev pub RefusedChangesNothing : Type 0
-RefusedChangesNothing = (checkpoints : Bool) (s : State) (command : Command) (listing : List CacheLine) →
-    is_accepted checkpoints s command ≡ false →
-    (step checkpoints s command listing).after
-    ≡ record s { kept = if makes_checkpoint checkpoints s command then kept_by_checkpoint s else s.kept }
+RefusedChangesNothing = (s : State) (command : Command) (listing : List CacheLine) → is_accepted s command ≡ false →
+    (step s command listing).after
+    ≡ record s { kept = if makes_checkpoint s command then kept_by_checkpoint s else s.kept }
 
 -- whether a reply says that the command wasn't carried out
 abbrev pub is_refused : Reply → Bool
@@ -54,29 +52,28 @@ is_refused (reply.Refused why) = true
 
 -- whether a command was accepted is told by its reply
 abbrev pub RefusalsAreTold : Type 0
-RefusalsAreTold = (checkpoints : Bool) (s : State) (command : Command) (listing : List CacheLine) →
-    is_accepted checkpoints s command ≡ not (is_refused (step checkpoints s command listing).reply)
+RefusalsAreTold = (s : State) (command : Command) (listing : List CacheLine) →
+    is_accepted s command ≡ not (is_refused (step s command listing).reply)
 
 abbrev pub SizesStay : Type 0
-SizesStay = (checkpoints : Bool) (s : State) (line : Line) (listing : List CacheLine) →
-    KeepsSizes s (line_step checkpoints s line listing).after
+SizesStay = (s : State) (line : Line) (listing : List CacheLine) → KeepsSizes s (line_step s line listing).after
 
 -- where no line quits, each line has its turn
 abbrev pub EachLineHasATurn : Type 0
-EachLineHasATurn = (checkpoints : Bool) (s : State) (lines : List Line) (listings : List (List CacheLine)) →
-    list_any is_quit lines ≡ false → length (turns checkpoints s lines listings) ≡ length lines
+EachLineHasATurn = (s : State) (lines : List Line) (listings : List (List CacheLine)) →
+    list_any is_quit lines ≡ false → length (turns s lines listings) ≡ length lines
 
 -- a turn of a run that begins at s: it answers its line from the state that the turns before it left
-pub record IsTurnAt (checkpoints : Bool) (s : State) (run : List Turn) (i : ℕ) (line : Line)
+pub record IsTurnAt (s : State) (run : List Turn) (i : ℕ) (line : Line)
     (listing : List CacheLine) : Type 0 where
-  pub turn : slice_get run i ≡ Some (turn_of checkpoints (state_at run s i) line listing)
-  pub next : state_at run s (i + 1) ≡ (line_step checkpoints (state_at run s i) line listing).after
+  pub turn : slice_get run i ≡ Some (turn_of (state_at run s i) line listing)
+  pub next : state_at run s (i + 1) ≡ (line_step (state_at run s i) line listing).after
 
 abbrev pub TurnsFollow : Type 0
-TurnsFollow = (checkpoints : Bool) (s : State) (lines : List Line) (listings : List (List CacheLine)) (i : ℕ)
+TurnsFollow = (s : State) (lines : List Line) (listings : List (List CacheLine)) (i : ℕ)
     (line : Line) →
-    i < length (turns checkpoints s lines listings) → slice_get lines i ≡ Some line →
-    IsTurnAt checkpoints s (turns checkpoints s lines listings) i line
+    i < length (turns s lines listings) → slice_get lines i ≡ Some line →
+    IsTurnAt s (turns s lines listings) i line
     (next_listing (listings_after (take i lines) listings))
 
 -- after the first turns of a run that begins at s, the table is that of the commits among them, and they are counted
@@ -85,5 +82,5 @@ pub record IsCountedAt (s : State) (run : List Turn) (i : ℕ) : Type 0 where
   pub commits : (state_at run s i).commits ≡ s.commits + commits_among i (commit_marks run)
 
 abbrev pub CommitsMakeTheTable : Type 0
-CommitsMakeTheTable = (checkpoints : Bool) (s : State) (lines : List Line) (listings : List (List CacheLine)) (i : ℕ) →
-    IsCountedAt s (turns checkpoints s lines listings) i
+CommitsMakeTheTable = (s : State) (lines : List Line) (listings : List (List CacheLine)) (i : ℕ) →
+    IsCountedAt s (turns s lines listings) i

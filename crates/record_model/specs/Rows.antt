@@ -21,12 +21,8 @@ blank = replicate 512 None
 abbrev pub fresh : ℕ → State
 fresh cap = opened blank 0 0 cap
 
--- with checkpoints, and without
 abbrev pub answers : ℕ → List Line → List Reply
-answers cap lines = replies (turns true (fresh cap) lines [])
-
-abbrev pub plain_answers : ℕ → List Line → List Reply
-plain_answers cap lines = replies (turns false (fresh cap) lines [])
+answers cap lines = replies (turns (fresh cap) lines [])
 
 -- the octet that the rows write
 abbrev pub aa : List ℕ
@@ -101,12 +97,6 @@ CheckpointMakesRoom =
     ≡ replicate 7 reply.Done ++ reply.Full 7 7 15 ∷ reply.Aborted
     ∷ reply.Stat (record { commits = 0; used = 14; owed = 0; cap = 15; active = 0 }) ∷ reply.Committed 1 ∷ []
 
-abbrev pub NoRoomWithoutCheckpoint : Type 0
-NoRoomWithoutCheckpoint =
-    plain_answers 15 one_writer
-    ≡ replicate 7 reply.Done ++ reply.Full 7 7 15 ∷ reply.Aborted
-    ∷ reply.Stat (record { commits = 0; used = 14; owed = 0; cap = 15; active = 0 }) ∷ reply.Full 14 0 15 ∷ []
-
 abbrev pub HundredSets : Type 0
 HundredSets =
     answers 15 (replicate 100 (Some (Set 0 aa)) ++ Some Stat ∷ [])
@@ -126,41 +116,32 @@ EightSessions =
     ≡ replicate 7 reply.Done ++ reply.Full 7 7 15 ∷ reply.Committed 1 ∷ reply.Done
     ∷ reply.Stat (record { commits = 1; used = 8; owed = 7; cap = 15; active = 7 }) ∷ []
 
-abbrev pub SevenSessionsWithoutCheckpoint : Type 0
-SevenSessionsWithoutCheckpoint =
-    plain_answers 15 eight_sessions
-    ≡ replicate 7 reply.Done ++ reply.Full 7 7 15 ∷ reply.Committed 1 ∷ reply.Full 8 6 15 ∷ []
+-- a run that begins on the 12 records of the one before makes a checkpoint before its first set, and none before a get
+abbrev pub RoomFromTheStart : Type 0
+RoomFromTheStart =
+    replies (turns (opened (slice_set blank 0 (Some aa)) 4 12 15) (Some (Get 0) ∷ Some Stat ∷ Some (Set 0 aa)
+    ∷ Some Stat ∷ []) [])
+    ≡ reply.Value aa ∷ reply.Stat (record { commits = 4; used = 12; owed = 0; cap = 15; active = 0 })
+    ∷ reply.Committed 5 ∷ reply.Stat (record { commits = 5; used = 3; owed = 0; cap = 15; active = 0 }) ∷ []
 
--- Without checkpoints four sets fill a log of 16 blocks, and it is full again where a run begins on the 12 records of
--- the one before.
-abbrev pub FourSetsFillTheLog : Type 0
-FourSetsFillTheLog =
-    plain_answers 15 (replicate 5 (Some (Set 0 aa)))
-    ≡ reply.Committed 1 ∷ reply.Committed 2 ∷ reply.Committed 3 ∷ reply.Committed 4 ∷ reply.Full 12 0 15 ∷ []
-
-abbrev pub FullFromTheStart : Type 0
-FullFromTheStart =
-    replies (turns false (opened (slice_set blank 0 (Some aa)) 4 12 15) (Some (Set 0 aa) ∷ Some (Get 0) ∷ []) [])
-    ≡ reply.Full 12 0 15 ∷ reply.Value aa ∷ []
-
--- without checkpoints the command is answered, and frees nothing
-abbrev pub CheckpointOnlyAnswered : Type 0
-CheckpointOnlyAnswered =
-    plain_answers 15 (Some (Set 0 aa) ∷ Some Checkpoint ∷ Some Stat ∷ [])
-    ≡ reply.Committed 1 ∷ reply.Checked
-    ∷ reply.Stat (record { commits = 1; used = 3; owed = 0; cap = 15; active = 0 }) ∷ []
+-- the command frees all that no active session needs, also where none is due
+abbrev pub CheckpointOnDemand : Type 0
+CheckpointOnDemand =
+    answers 15 (Some (Set 0 aa) ∷ Some (Begin 0) ∷ Some (Write 0 1 aa) ∷ Some Checkpoint ∷ Some Stat ∷ [])
+    ≡ reply.Committed 1 ∷ reply.Done ∷ reply.Done ∷ reply.Checked
+    ∷ reply.Stat (record { commits = 1; used = 2; owed = 2; cap = 15; active = 1 }) ∷ []
 
 -- What a run asks of the cache.
 abbrev pub TouchesOfTwoReaders : Type 0
 TouchesOfTwoReaders =
-    run_touches true (turns true (fresh 63) two_readers [])
+    run_touches (turns (fresh 63) two_readers [])
     ≡ touch 0 false ∷ touch 0 false ∷ touch 0 true ∷ touch 0 false ∷ []
 
 -- an abort touches the pages of its writes from the last one back, and the set that finds the log full makes a
 -- checkpoint first
 abbrev pub TouchesOfAnAbort : Type 0
 TouchesOfAnAbort =
-    run_touches true (turns true (fresh 15) (Some (Begin 0) ∷ Some (Write 0 33 aa) ∷ Some (Write 0 64 aa)
+    run_touches (turns (fresh 15) (Some (Begin 0) ∷ Some (Write 0 33 aa) ∷ Some (Write 0 64 aa)
     ∷ Some (Write 0 1 aa) ∷ Some (Abort 0) ∷ Some (Set 511 aa) ∷ []) [])
     ≡ touch 1 true ∷ touch 2 true ∷ touch 0 true ∷ touch 0 true ∷ touch 2 true ∷ touch 1 true ∷ flush
     ∷ touch 15 true ∷ []
@@ -199,10 +180,10 @@ AskedForAll = asked_for (told ++ 4 ∷ 5 ∷ 6 ∷ 7 ∷ 9 ∷ 9 ∷ []) texts m
 
 -- The second transaction of the two readers, and what it is answered alone, on the table that the first one left.
 abbrev pub two_readers_run : List Turn
-two_readers_run = turns true (fresh 63) two_readers []
+two_readers_run = turns (fresh 63) two_readers []
 
 abbrev pub second_transaction : List Turn
-second_transaction = since_begin true 0 (reverse (take 8 two_readers_run))
+second_transaction = since_begin 0 (reverse (take 8 two_readers_run))
 
 abbrev pub SecondTransaction : Type 0
 SecondTransaction = lines_of second_transaction
@@ -215,7 +196,7 @@ abbrev pub AnsweredAmongOthers : Type 0
 AnsweredAmongOthers = replies second_transaction ≡ second_answers
 
 abbrev pub AnsweredAlone : Type 0
-AnsweredAlone = replies (turns true (opened (after_commits blank two_readers_run 1) 1 0 16)
+AnsweredAlone = replies (turns (opened (after_commits blank two_readers_run 1) 1 0 16)
     (lines_of second_transaction) []) ≡ second_answers
 
 -- Three sessions, over a log of 16 blocks. One scans what the two others read and write, one is refused in between, and
@@ -228,7 +209,7 @@ three_sessions =
     ∷ Some (Read 0 2) ∷ None ∷ Some (Scan 0 0 7) ∷ Some (Commit 0) ∷ Some (Get 2) ∷ []
 
 abbrev pub three_sessions_run : List Turn
-three_sessions_run = turns true (fresh 15) three_sessions []
+three_sessions_run = turns (fresh 15) three_sessions []
 
 -- the items that the scans find
 abbrev pub old_item : Item
@@ -248,19 +229,19 @@ ThreeSessions =
 
 -- the transactions of its last three commits, each up to its commit
 abbrev pub scanning : List Turn
-scanning = since_begin true 1 (reverse (take 11 three_sessions_run))
+scanning = since_begin 1 (reverse (take 11 three_sessions_run))
 
 abbrev pub writing : List Turn
-writing = since_begin true 2 (reverse (take 13 three_sessions_run))
+writing = since_begin 2 (reverse (take 13 three_sessions_run))
 
 abbrev pub reading : List Turn
-reading = since_begin true 0 (reverse (take 20 three_sessions_run))
+reading = since_begin 0 (reverse (take 20 three_sessions_run))
 
 -- what each is answered alone, where there were so many commits before its own
 abbrev pub alone_after : ℕ → List Turn → List Reply
 alone_after count own =
     let table = after_commits blank three_sessions_run count in
-    replies (turns true (opened table count 0 (4 * length own)) (lines_of own) [])
+    replies (turns (opened table count 0 (4 * length own)) (lines_of own) [])
 
 abbrev pub ScanningAlone : Type 0
 ScanningAlone =

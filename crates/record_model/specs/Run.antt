@@ -17,9 +17,9 @@ abbrev pub Line : Type 0
 Line = Option Command
 
 -- a line that is no command is refused, and changes nothing
-abbrev pub line_step : Bool → State → Line → List CacheLine → Outcome
-line_step checkpoints s None listing = record { after = s; reply = reply.Refused BadLine }
-line_step checkpoints s (Some command) listing = step checkpoints s command listing
+abbrev pub line_step : State → Line → List CacheLine → Outcome
+line_step s None listing = record { after = s; reply = reply.Refused BadLine }
+line_step s (Some command) listing = step s command listing
 
 abbrev pub is_quit : Line → Bool
 is_quit None = false
@@ -68,16 +68,16 @@ pub record Turn : Type 0 where
   pub reply : Reply
   pub after : State
 
-abbrev pub turn : Bool → State → Line → List CacheLine → Turn
-turn checkpoints s line listing = let o = line_step checkpoints s line listing in
+abbrev pub turn : State → Line → List CacheLine → Turn
+turn s line listing = let o = line_step s line listing in
     record { before = s; line = line; reply = o.reply; after = o.after }
 
 -- the turns of a run, up to the one that quits
-abbrev pub turns : Bool → State → List Line → List (List CacheLine) → List Turn
-turns checkpoints s [] listings = []
-turns checkpoints s (line ∷ lines) listings =
-    let first = turn checkpoints s line (next_listing listings) in
-    first ∷ (if is_quit line then [] else turns checkpoints first.after lines (later_listings line listings))
+abbrev pub turns : State → List Line → List (List CacheLine) → List Turn
+turns s [] listings = []
+turns s (line ∷ lines) listings =
+    let first = turn s line (next_listing listings) in
+    first ∷ (if is_quit line then [] else turns first.after lines (later_listings line listings))
 
 -- the state of a run when so many of its turns are over, which is the last one's where it has no more
 abbrev pub state_at : List Turn → State → ℕ → State

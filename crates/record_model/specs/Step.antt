@@ -63,8 +63,7 @@ refusal s Cache = None
 refusal s Stat = None
 refusal s Quit = None
 
--- The log's budget. Where checkpoints are made, a begin and a set make one first where it is due, and the command
--- itself does.
+-- The log's budget. A begin and a set make a checkpoint first where it is due, and the command itself makes one.
 
 abbrev pub asks_for_checkpoint : State → Command → Bool
 asks_for_checkpoint s (Begin n) = is_due s
@@ -81,13 +80,9 @@ asks_for_checkpoint s Cache = false
 asks_for_checkpoint s Stat = false
 asks_for_checkpoint s Quit = false
 
-abbrev pub wants_checkpoint : Bool → State → Command → Bool
-wants_checkpoint checkpoints s command = checkpoints && asks_for_checkpoint s command
-
 -- the state in which a command that its tests let through is carried out
-abbrev pub ready : Bool → State → Command → State
-ready checkpoints s command =
-    record s { kept = if wants_checkpoint checkpoints s command then kept_by_checkpoint s else s.kept }
+abbrev pub ready : State → Command → State
+ready s command = record s { kept = if asks_for_checkpoint s command then kept_by_checkpoint s else s.kept }
 
 -- whether the cap has no room for the log records that a command may come to need
 abbrev pub lacks_room : State → Command → Bool
@@ -109,12 +104,11 @@ abbrev pub full : State → Reply
 full s = reply.Full (used s) (owed s) s.cap
 
 -- whether a command makes a checkpoint, and whether it is carried out
-abbrev pub makes_checkpoint : Bool → State → Command → Bool
-makes_checkpoint checkpoints s command = wants_checkpoint checkpoints s command && is_none (refusal s command)
+abbrev pub makes_checkpoint : State → Command → Bool
+makes_checkpoint s command = asks_for_checkpoint s command && is_none (refusal s command)
 
-abbrev pub is_accepted : Bool → State → Command → Bool
-is_accepted checkpoints s command = is_none (refusal s command)
-    && not (lacks_room (ready checkpoints s command) command)
+abbrev pub is_accepted : State → Command → Bool
+is_accepted s command = is_none (refusal s command) && not (lacks_room (ready s command) command)
 
 -- What an accepted command leaves.
 
@@ -186,10 +180,10 @@ abbrev pub carried_out : State → Command → List CacheLine → Outcome
 carried_out s command listing = if lacks_room s command then record { after = s; reply = full s }
     else record { after = effect s command; reply = answer s command listing }
 
-abbrev pub outcome : Bool → State → Command → List CacheLine → Option Reply → Outcome
-outcome checkpoints s command listing (Some refused) = record { after = s; reply = refused }
-outcome checkpoints s command listing None = carried_out (ready checkpoints s command) command listing
+abbrev pub outcome : State → Command → List CacheLine → Option Reply → Outcome
+outcome s command listing (Some refused) = record { after = s; reply = refused }
+outcome s command listing None = carried_out (ready s command) command listing
 
--- What a command answers, and the state that it leaves, with this listing of the cache, with checkpoints or without.
-abbrev pub step : Bool → State → Command → List CacheLine → Outcome
-step checkpoints s command listing = outcome checkpoints s command listing (refusal s command)
+-- What a command answers, and the state that it leaves, with this listing of the cache.
+abbrev pub step : State → Command → List CacheLine → Outcome
+step s command listing = outcome s command listing (refusal s command)

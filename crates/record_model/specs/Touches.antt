@@ -41,15 +41,15 @@ record_touches s Stat = []
 record_touches s Quit = []
 
 -- what a command asks of the cache: the flush of its checkpoint, and its touches
-abbrev pub command_touches : Bool → State → Command → List CacheWork
-command_touches checkpoints s command =
-    (if makes_checkpoint checkpoints s command then flush ∷ [] else [])
-    ++ (if is_accepted checkpoints s command then record_touches s command else [])
+abbrev pub command_touches : State → Command → List CacheWork
+command_touches s command =
+    (if makes_checkpoint s command then flush ∷ [] else [])
+    ++ (if is_accepted s command then record_touches s command else [])
 
-abbrev pub line_touches : Bool → State → Line → List CacheWork
-line_touches checkpoints s None = []
-line_touches checkpoints s (Some command) = command_touches checkpoints s command
+abbrev pub line_touches : State → Line → List CacheWork
+line_touches s None = []
+line_touches s (Some command) = command_touches s command
 
 -- what a run asks of the cache
-abbrev pub run_touches : Bool → List Turn → List CacheWork
-run_touches checkpoints run = flat_map (λ t. line_touches checkpoints t.before t.line) run
+abbrev pub run_touches : List Turn → List CacheWork
+run_touches run = flat_map (λ t. line_touches t.before t.line) run

@@ -2,9 +2,9 @@
 // as clauses.
 ghost use Rattle.record_model.specs.Rows.{LongestValue, LastRecord, WriteKeepsReadersOff, ReadKeepsWritersOff};
 ghost use Rattle.record_model.specs.Rows.{SessionsRefused, ScanAmongWrites, ErasedBeforeCommit, QuitEnds};
-ghost use Rattle.record_model.specs.Rows.{CheckpointMakesRoom, NoRoomWithoutCheckpoint, HundredSets, EightSessions};
-ghost use Rattle.record_model.specs.Rows.{SevenSessionsWithoutCheckpoint, FourSetsFillTheLog, FullFromTheStart};
-ghost use Rattle.record_model.specs.Rows.{CheckpointOnlyAnswered, TouchesOfTwoReaders, TouchesOfAnAbort};
+ghost use Rattle.record_model.specs.Rows.{CheckpointMakesRoom, HundredSets, EightSessions};
+ghost use Rattle.record_model.specs.Rows.{RoomFromTheStart, CheckpointOnDemand};
+ghost use Rattle.record_model.specs.Rows.{TouchesOfTwoReaders, TouchesOfAnAbort};
 ghost use Rattle.record_model.specs.Rows.{AcknowledgedNone, AskedForOne, AcknowledgedOne, AskedForTwo, AskedForNone};
 ghost use Rattle.record_model.specs.Rows.{AskedForAll, SecondTransaction, AnsweredAmongOthers, AnsweredAlone};
 ghost use Rattle.record_model.specs.Rows.{ThreeSessions, ScanningAlone, WritingAlone, ReadingAlone};
@@ -27,16 +27,13 @@ pub fn rows_of_sessions()
     ensures quit_ends { QuitEnds }
 {}
 
-/// The log's budget, with checkpoints and without.
+/// The log's budget, and what checkpoints free of it.
 pub fn rows_of_the_budget()
     ensures checkpoint_makes_room { CheckpointMakesRoom }
-    ensures no_room_without_checkpoint { NoRoomWithoutCheckpoint }
     ensures hundred_sets { HundredSets }
     ensures eight_sessions { EightSessions }
-    ensures seven_sessions_without_checkpoint { SevenSessionsWithoutCheckpoint }
-    ensures four_sets_fill_the_log { FourSetsFillTheLog }
-    ensures full_from_the_start { FullFromTheStart }
-    ensures checkpoint_only_answered { CheckpointOnlyAnswered }
+    ensures room_from_the_start { RoomFromTheStart }
+    ensures checkpoint_on_demand { CheckpointOnDemand }
 {}
 
 /// What two runs ask of the page cache.

@@ -104,10 +104,10 @@ saved : (rules : Rules) → Agrees rules saves (flush ∷ [])
 saved rules m = refl
 
 pub commands_agree : CommandsAgree
-commands_agree rules checkpoints s command =
-    in_turn rules (if makes_checkpoint checkpoints s command then saves else []) (if is_accepted checkpoints s command then record_work s command else [])
-    (if makes_checkpoint checkpoints s command then flush ∷ [] else []) (if is_accepted checkpoints s command then record_touches s command else []) (where_wanted rules (makes_checkpoint checkpoints s command) saves (flush ∷ []) (saved rules))
-    (where_wanted rules (is_accepted checkpoints s command) (record_work s command) (record_touches s command) (record_agrees rules s command))
+commands_agree rules s command =
+    in_turn rules (if makes_checkpoint s command then saves else []) (if is_accepted s command then record_work s command else [])
+    (if makes_checkpoint s command then flush ∷ [] else []) (if is_accepted s command then record_touches s command else []) (where_wanted rules (makes_checkpoint s command) saves (flush ∷ []) (saved rules))
+    (where_wanted rules (is_accepted s command) (record_work s command) (record_touches s command) (record_agrees rules s command))
 
 -- A restart.
 

@@ -219,9 +219,9 @@ accepted_saves : (s : State) (command : Command) (b : Bool) → saves_in (accept
 accepted_saves s command true = (record_logs s 0 command).1
 accepted_saves s command false = refl
 
-module _ (checkpoints : Bool) (s : State) (command : Command) (listing : List CacheLine) where
+module _ (s : State) (command : Command) (listing : List CacheLine) where
   abbrev now : State
-  now = ready checkpoints s command
+  now = ready s command
 
   -- what is left of a command that its tests let through
   abbrev chosen : Bool → Outcome
@@ -231,18 +231,18 @@ module _ (checkpoints : Bool) (s : State) (command : Command) (listing : List Ca
   through true = omega arith
   through false = (record_logs s now.kept command).0
 
-  answered : (o : Option Reply) → s.made + records_in (accepted_work s command (is_none o && not (lacks_room now command))) ≤ (outcome checkpoints s command listing o).after.made
+  answered : (o : Option Reply) → s.made + records_in (accepted_work s command (is_none o && not (lacks_room now command))) ≤ (outcome s command listing o).after.made
   answered (Some refused) = omega arith
   answered None = through (lacks_room now command)
 
-  command_logs : (s.made + records_in (command_work checkpoints s command) ≤ (outcome checkpoints s command listing (refusal s command)).after.made) × (saves_in (command_work checkpoints s command) ≡ (if makes_checkpoint checkpoints s command then 1 else 0))
+  command_logs : (s.made + records_in (command_work s command) ≤ (outcome s command listing (refusal s command)).after.made) × (saves_in (command_work s command) ≡ (if makes_checkpoint s command then 1 else 0))
   command_logs =
-      let first = where_saved (makes_checkpoint checkpoints s command) in
+      let first = where_saved (makes_checkpoint s command) in
       let all = answered (refusal s command) in
-      let before = if makes_checkpoint checkpoints s command then saves else [] in
-      let own = accepted_work s command (is_accepted checkpoints s command) in
-      (omega (arith, first.0, all, records_join before own), omega (arith, first.1, accepted_saves s command (is_accepted checkpoints s command), saves_join before own))
+      let before = if makes_checkpoint s command then saves else [] in
+      let own = accepted_work s command (is_accepted s command) in
+      (omega (arith, first.0, all, records_join before own), omega (arith, first.1, accepted_saves s command (is_accepted s command), saves_join before own))
 
 pub commands_log_few : CommandsLogFew
-commands_log_few checkpoints s None listing = (omega arith, refl)
-commands_log_few checkpoints s (Some command) listing = command_logs checkpoints s command listing
+commands_log_few s None listing = (omega arith, refl)
+commands_log_few s (Some command) listing = command_logs s command listing

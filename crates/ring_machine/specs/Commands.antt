@@ -1,5 +1,5 @@
 -- What commands ask of log and cache.
-use Rattle.std.specs.Prelude.{ℕ, Bool, List, [], ◌∷◌, ◌++◌, flat_map, reverse, unwrap_or, Some, None}
+use Rattle.std.specs.Prelude.{ℕ, List, [], ◌∷◌, ◌++◌, flat_map, reverse, unwrap_or, Some, None}
 use Rattle.std.specs.Prelude.{if◌then◌else◌}
 use Rattle.std.specs.List.{range_with_len}
 use Rattle.record_model.specs.declared.words.Command.{Command}
@@ -68,15 +68,15 @@ record_work s command.Stat = []
 record_work s command.Quit = []
 
 -- what it asks with its checkpoint, where it makes one
-abbrev pub command_work : Bool → State → Command → List Work
-command_work checkpoints s command =
-    (if makes_checkpoint checkpoints s command then saves else [])
-    ++ (if is_accepted checkpoints s command then record_work s command else [])
+abbrev pub command_work : State → Command → List Work
+command_work s command =
+    (if makes_checkpoint s command then saves else [])
+    ++ (if is_accepted s command then record_work s command else [])
 
-abbrev pub line_work : Bool → State → Line → List Work
-line_work checkpoints s None = []
-line_work checkpoints s (Some command) = command_work checkpoints s command
+abbrev pub line_work : State → Line → List Work
+line_work s None = []
+line_work s (Some command) = command_work s command
 
 -- what a run asks of log and cache
-abbrev pub run_work : Bool → List Turn → List Work
-run_work checkpoints run = flat_map (λ t. line_work checkpoints t.before t.line) run
+abbrev pub run_work : List Turn → List Work
+run_work run = flat_map (λ t. line_work t.before t.line) run

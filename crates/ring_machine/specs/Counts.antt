@@ -1,6 +1,6 @@
 -- How many numbers some work takes from the rings on the log's device, and that no ring is worn where they have so
 -- many.
-use Rattle.std.specs.Prelude.{◌≡◌, ℕ, ◌+◌, ◌^◌, ◌≤◌, Bool, List, [], ◌∷◌, Some, None, if◌then◌else◌}
+use Rattle.std.specs.Prelude.{◌≡◌, ℕ, ◌+◌, ◌^◌, ◌≤◌, List, [], ◌∷◌, Some, None, if◌then◌else◌}
 use Rattle.record_model.specs.declared.words.CacheLine.{CacheLine}
 use Rattle.record_model.specs.State.{State}
 use Rattle.record_model.specs.Step.{makes_checkpoint}
@@ -34,15 +34,15 @@ FewAreEnough = (rules : Rules) (works : List Work) (m : Machine) → m.tail ≡ 
     → next_group (after_all rules works m).cache ≤ 2 ^ 40 → first_worn rules works m ≡ None
 
 -- how many master units a line saves
-abbrev pub saved_by : Bool → State → Line → ℕ
-saved_by checkpoints s None = 0
-saved_by checkpoints s (Some command) = if makes_checkpoint checkpoints s command then 1 else 0
+abbrev pub saved_by : State → Line → ℕ
+saved_by s None = 0
+saved_by s (Some command) = if makes_checkpoint s command then 1 else 0
 
 -- a line logs no more records than the model counts
 abbrev pub CommandsLogFew : Type 0
-CommandsLogFew = (checkpoints : Bool) (s : State) (line : Line) (listing : List CacheLine)
-    → (s.made + records_in (line_work checkpoints s line) ≤ (line_step checkpoints s line listing).after.made)
-    × (saves_in (line_work checkpoints s line) ≡ saved_by checkpoints s line)
+CommandsLogFew = (s : State) (line : Line) (listing : List CacheLine)
+    → (s.made + records_in (line_work s line) ≤ (line_step s line listing).after.made)
+    × (saves_in (line_work s line) ≡ saved_by s line)
 
 -- a restart logs no more than undo may take, and saves one master unit
 abbrev pub RestartsLogFew : Type 0

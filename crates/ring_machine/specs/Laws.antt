@@ -1,5 +1,5 @@
 -- What follows from the machine, for those who build on it.
-use Rattle.std.specs.Prelude.{◌≡◌, Bool, List, ◌++◌, length}
+use Rattle.std.specs.Prelude.{◌≡◌, List, ◌++◌, length}
 use Rattle.std.specs.Option.{option_or}
 use Rattle.record_model.specs.declared.words.Command.{Command}
 use Rattle.record_model.specs.State.{State}
@@ -31,9 +31,9 @@ OctetsAreSpelled = (rec : LogRecord) → length (spelling rec) ≡ octets_of rec
 
 -- what a command and a restart ask of the cache is what the machine of the cache alone does
 abbrev pub CommandsAgree : Type 0
-CommandsAgree = (rules : Rules) (checkpoints : Bool) (s : State) (command : Command) (m : Machine)
-    → (after_all rules (command_work checkpoints s command) m).cache
-    ≡ after_works rules (command_touches checkpoints s command) m.cache
+CommandsAgree = (rules : Rules) (s : State) (command : Command) (m : Machine)
+    → (after_all rules (command_work s command) m).cache
+    ≡ after_works rules (command_touches s command) m.cache
 
 abbrev pub RestartsAgree : Type 0
 RestartsAgree = (rules : Rules) (p : Picture) (m : Machine)

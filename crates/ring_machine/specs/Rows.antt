@@ -1,5 +1,5 @@
 -- Runs that were worked out by hand. Of each, the units that it appends.
-use Rattle.std.specs.Prelude.{◌≡◌, ℕ, List, [], ◌∷◌, ◌++◌, replicate, true, Some}
+use Rattle.std.specs.Prelude.{◌≡◌, ℕ, List, [], ◌∷◌, ◌++◌, replicate, Some}
 use Rattle.record_model.specs.declared.words.Command.TheVariants.{Begin, Write, Abort, Set, Checkpoint}
 use Rattle.record_model.specs.Run.{Line, turns}
 use Rattle.record_model.specs.Rows.{fresh}
@@ -18,7 +18,7 @@ nothing_written = record {
 
 -- what these lines leave, with a pool of so many pages
 abbrev pub run_with : ℕ → List Line → Machine
-run_with pages lines = after_all (rules_of pages 8) (run_work true (turns true (fresh 63) lines [])) nothing_written
+run_with pages lines = after_all (rules_of pages 8) (run_work (turns (fresh 63) lines [])) nothing_written
 
 -- each set is one block, however short
 abbrev pub OneBlockForEachSet : Type 0

@@ -25,20 +25,20 @@ writes_for [] = omega arith
 writes_for (write ∷ writes) = omega (arith, writes_for writes)
 
 -- A command that is accepted makes its records: a change for each at most.
-command_few : (checkpoints : Bool) (s : State) (command : Command) → groups_for_all (record_touches s command) + 2 * s.made ≤ reads_by (Some command) + 2 * (effect (ready checkpoints s command) command).made
-command_few checkpoints s (Begin n) = omega arith
-command_few checkpoints s (Read n number) = omega arith
-command_few checkpoints s (Write n number value) = omega arith
-command_few checkpoints s (Erase n number) = omega arith
-command_few checkpoints s (Scan n number count) = omega (arith, reads_for (range_with_len number count), length-range_with_len number count)
-command_few checkpoints s (Commit n) = omega arith
-command_few checkpoints s (Abort n) = omega (arith, writes_for (reverse (writes_of (session_at s n))), length-reverse (writes_of (session_at s n)))
-command_few checkpoints s (Get number) = omega arith
-command_few checkpoints s (Set number value) = omega arith
-command_few checkpoints s Checkpoint = omega arith
-command_few checkpoints s Cache = omega arith
-command_few checkpoints s Stat = omega arith
-command_few checkpoints s Quit = omega arith
+command_few : (s : State) (command : Command) → groups_for_all (record_touches s command) + 2 * s.made ≤ reads_by (Some command) + 2 * (effect (ready s command) command).made
+command_few s (Begin n) = omega arith
+command_few s (Read n number) = omega arith
+command_few s (Write n number value) = omega arith
+command_few s (Erase n number) = omega arith
+command_few s (Scan n number count) = omega (arith, reads_for (range_with_len number count), length-range_with_len number count)
+command_few s (Commit n) = omega arith
+command_few s (Abort n) = omega (arith, writes_for (reverse (writes_of (session_at s n))), length-reverse (writes_of (session_at s n)))
+command_few s (Get number) = omega arith
+command_few s (Set number value) = omega arith
+command_few s Checkpoint = omega arith
+command_few s Cache = omega arith
+command_few s Stat = omega arith
+command_few s Quit = omega arith
 
 -- what is left of a command that its tests let through
 abbrev chosen : State → Command → List CacheLine → Bool → Outcome
@@ -48,39 +48,39 @@ flush_pushes_none : (b : Bool) → groups_for_all (if b then flush ∷ [] else [
 flush_pushes_none true = omega arith
 flush_pushes_none false = omega arith
 
-line_few : (checkpoints : Bool) (s : State) (line : Line) (listing : List CacheLine) → groups_for_all (line_touches checkpoints s line) + 2 * s.made ≤ reads_by line + 2 * (line_step checkpoints s line listing).after.made
-line_few checkpoints s None listing = omega arith
-line_few checkpoints s (Some command) listing = by (refusal s command)
+line_few : (s : State) (line : Line) (listing : List CacheLine) → groups_for_all (line_touches s line) + 2 * s.made ≤ reads_by line + 2 * (line_step s line listing).after.made
+line_few s None listing = omega arith
+line_few s (Some command) listing = by (refusal s command)
   where
     beside_flush : (flushes : Bool) (works : List CacheWork) → groups_for_all ((if flushes then flush ∷ [] else []) ++ works) ≡ groups_for_all works
     beside_flush flushes works = omega (arith, groups_add_up (if flushes then flush ∷ [] else []) works, flush_pushes_none flushes)
 
-    through : (b : Bool) → groups_for_all (if not b then record_touches s command else []) + 2 * s.made ≤ reads_by (Some command) + 2 * (chosen (ready checkpoints s command) command listing b).after.made
+    through : (b : Bool) → groups_for_all (if not b then record_touches s command else []) + 2 * s.made ≤ reads_by (Some command) + 2 * (chosen (ready s command) command listing b).after.made
     through true = omega arith
-    through false = command_few checkpoints s command
+    through false = command_few s command
 
-    by : (o : Option Reply) → groups_for_all ((if makes_checkpoint checkpoints s command then flush ∷ [] else []) ++ (if is_none o && not (lacks_room (ready checkpoints s command) command) then record_touches s command else [])) + 2 * s.made
-        ≤ reads_by (Some command) + 2 * (outcome checkpoints s command listing o).after.made
-    by (Some refused) = omega (arith, beside_flush (makes_checkpoint checkpoints s command) [])
-    by None = omega (arith, through (lacks_room (ready checkpoints s command) command), beside_flush (makes_checkpoint checkpoints s command) (if not (lacks_room (ready checkpoints s command) command) then record_touches s command else []))
+    by : (o : Option Reply) → groups_for_all ((if makes_checkpoint s command then flush ∷ [] else []) ++ (if is_none o && not (lacks_room (ready s command) command) then record_touches s command else [])) + 2 * s.made
+        ≤ reads_by (Some command) + 2 * (outcome s command listing o).after.made
+    by (Some refused) = omega (arith, beside_flush (makes_checkpoint s command) [])
+    by None = omega (arith, through (lacks_room (ready s command) command), beside_flush (makes_checkpoint s command) (if not (lacks_room (ready s command) command) then record_touches s command else []))
 
 -- Turn after turn.
 
-abbrev after_line : Bool → State → Line → List (List CacheLine) → State
-after_line checkpoints s line listings = (line_step checkpoints s line (next_listing listings)).after
+abbrev after_line : State → Line → List (List CacheLine) → State
+after_line s line listings = (line_step s line (next_listing listings)).after
 
-abbrev later_turns : Bool → State → Line → List Line → List (List CacheLine) → Bool → List Turn
-later_turns checkpoints s line lines listings quits = if quits then [] else turns checkpoints (after_line checkpoints s line listings) lines (later_listings line listings)
+abbrev later_turns : State → Line → List Line → List (List CacheLine) → Bool → List Turn
+later_turns s line lines listings quits = if quits then [] else turns (after_line s line listings) lines (later_listings line listings)
 
 pub lines_push_few : LinesPushFew
-lines_push_few checkpoints s [] listings = omega arith
-lines_push_few checkpoints s (line ∷ lines) listings = by (is_quit line) (line_few checkpoints s line (next_listing listings)) (lines_push_few checkpoints (after_line checkpoints s line listings) lines (later_listings line listings))
+lines_push_few s [] listings = omega arith
+lines_push_few s (line ∷ lines) listings = by (is_quit line) (line_few s line (next_listing listings)) (lines_push_few (after_line s line listings) lines (later_listings line listings))
   where
-    by : (b : Bool) → groups_for_all (line_touches checkpoints s line) + 2 * s.made ≤ reads_by line + 2 * (after_line checkpoints s line listings).made →
-        groups_for_all (run_touches checkpoints (later_turns checkpoints s line lines listings false)) + 2 * (after_line checkpoints s line listings).made ≤ reads_in (later_turns checkpoints s line lines listings false) + 2 * (left_by (after_line checkpoints s line listings) (later_turns checkpoints s line lines listings false)).made →
-        groups_for_all (line_touches checkpoints s line ++ run_touches checkpoints (later_turns checkpoints s line lines listings b)) + 2 * s.made ≤ (reads_by line + reads_in (later_turns checkpoints s line lines listings b)) + 2 * (left_by (after_line checkpoints s line listings) (later_turns checkpoints s line lines listings b)).made
-    by true own rest = omega (arith, own, groups_add_up (line_touches checkpoints s line) [])
-    by false own rest = omega (arith, own, rest, groups_add_up (line_touches checkpoints s line) (run_touches checkpoints (later_turns checkpoints s line lines listings false)))
+    by : (b : Bool) → groups_for_all (line_touches s line) + 2 * s.made ≤ reads_by line + 2 * (after_line s line listings).made →
+        groups_for_all (run_touches (later_turns s line lines listings false)) + 2 * (after_line s line listings).made ≤ reads_in (later_turns s line lines listings false) + 2 * (left_by (after_line s line listings) (later_turns s line lines listings false)).made →
+        groups_for_all (line_touches s line ++ run_touches (later_turns s line lines listings b)) + 2 * s.made ≤ (reads_by line + reads_in (later_turns s line lines listings b)) + 2 * (left_by (after_line s line listings) (later_turns s line lines listings b)).made
+    by true own rest = omega (arith, own, groups_add_up (line_touches s line) [])
+    by false own rest = omega (arith, own, rest, groups_add_up (line_touches s line) (run_touches (later_turns s line lines listings false)))
 
 pub lines_counted : LinesCounted
 lines_counted = record { groups = refl; reads = refl; made = refl }

@@ -75,17 +75,17 @@ reads_in (t ∷ run) = reads_by t.line + reads_in run
 -- They push at most a group for each of these, and two for each record that they log.
 abbrev pub LinesPushFew : Type 0
 LinesPushFew =
-    (checkpoints : Bool) (s : State) (lines : List Line) (listings : List (List CacheLine)) →
-    let run = turns checkpoints s lines listings in
-    groups_for_all (run_touches checkpoints run) + 2 * s.made ≤ reads_in run + 2 * (left_by s run).made
+    (s : State) (lines : List Line) (listings : List (List CacheLine)) →
+    let run = turns s lines listings in
+    groups_for_all (run_touches run) + 2 * s.made ≤ reads_in run + 2 * (left_by s run).made
 
 -- Worked out by hand: 33 records of two pages are read by a scan, and one by a get; a page is changed by a write, again
 -- by the abort, and another one by a set.
 abbrev pub six_turns : List Turn
-six_turns = turns true (fresh 63) (Some (Begin 0) ∷ Some (Write 0 32 (1 ∷ [])) ∷ Some (Scan 0 0 33) ∷ Some (Abort 0)
+six_turns = turns (fresh 63) (Some (Begin 0) ∷ Some (Write 0 32 (1 ∷ [])) ∷ Some (Scan 0 0 33) ∷ Some (Abort 0)
     ∷ Some (Set 64 (1 ∷ [])) ∷ Some (Get 0) ∷ []) []
 
 pub record LinesCounted : Type 0 where
-  pub groups : groups_for_all (run_touches true six_turns) ≡ 2 + 33 + 2 + 2 + 1
+  pub groups : groups_for_all (run_touches six_turns) ≡ 2 + 33 + 2 + 2 + 1
   pub reads : reads_in six_turns ≡ 33 + 1
   pub made : (left_by (fresh 63) six_turns).made ≡ 1 + 1 + 2 + 3

@@ -21,11 +21,11 @@ blank = opened (record { first = 0; groups = [] })
 -- the listing after the lines of a run on blank devices, and the frames that it staged
 abbrev pub shown : ℕ → Bool → List Line → List CacheLine
 shown pages chances lines = listing
-    (after_works (rules pages chances) (run_touches true (turns true (fresh 63) lines [])) blank)
+    (after_works (rules pages chances) (run_touches (turns (fresh 63) lines [])) blank)
 
 abbrev pub staged : ℕ → Bool → List Line → List Staged
 staged pages chances lines = staged_by_works (rules pages chances)
-    (run_touches true (turns true (fresh 63) lines [])) blank
+    (run_touches (turns (fresh 63) lines [])) blank
 
 -- a set of the first record of a page, and a get of it
 abbrev pub set_in : ℕ → Line

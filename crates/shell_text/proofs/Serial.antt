@@ -61,49 +61,49 @@ commit_is_said (reply.Refused why) = refl
 
 -- Turns of the model.
 
-IsTurn : Bool → Turn → Type 0
-IsTurn checkpoints t = (listing : List CacheLine) × (t ≡ turn checkpoints t.before t.line listing)
+IsTurn : Turn → Type 0
+IsTurn t = (listing : List CacheLine) × (t ≡ turn t.before t.line listing)
 
-AreTurns : Bool → List Turn → Type 0
-AreTurns checkpoints run = AllByRecursion (IsTurn checkpoints) run
+AreTurns : List Turn → Type 0
+AreTurns run = AllByRecursion IsTurn run
 
-turns_append : (checkpoints : Bool) (xs ys : List Turn) → AreTurns checkpoints xs → AreTurns checkpoints ys → AreTurns checkpoints (xs ++ ys)
+turns_append : (xs ys : List Turn) → AreTurns xs → AreTurns ys → AreTurns (xs ++ ys)
 unfolding AreTurns
-turns_append checkpoints [] ys h k = k
-turns_append checkpoints (x ∷ xs) ys h k = (h.0, turns_append checkpoints xs ys h.1 k)
+turns_append [] ys h k = k
+turns_append (x ∷ xs) ys h k = (h.0, turns_append xs ys h.1 k)
 
-turns_reverse : (checkpoints : Bool) (xs : List Turn) → AreTurns checkpoints xs → AreTurns checkpoints (reverse xs)
+turns_reverse : (xs : List Turn) → AreTurns xs → AreTurns (reverse xs)
 unfolding AreTurns
-turns_reverse checkpoints [] h = tt
-turns_reverse checkpoints (x ∷ xs) h =
-    subst (AreTurns checkpoints) (sym (reverse-append (x ∷ []) xs)) (turns_append checkpoints (reverse xs) (x ∷ []) (turns_reverse checkpoints xs h.1) (h.0, tt))
+turns_reverse [] h = tt
+turns_reverse (x ∷ xs) h =
+    subst (AreTurns) (sym (reverse-append (x ∷ []) xs)) (turns_append (reverse xs) (x ∷ []) (turns_reverse xs h.1) (h.0, tt))
 
 -- a turn of a run, and those before it
-turns_before : (checkpoints : Bool) (s : State) (earlier later : List Turn) (t : Turn) → IsRun checkpoints s (earlier ++ t ∷ later) → IsTurn checkpoints t × AreTurns checkpoints earlier
+turns_before : (s : State) (earlier later : List Turn) (t : Turn) → IsRun s (earlier ++ t ∷ later) → IsTurn t × AreTurns earlier
 unfolding IsTurn AreTurns
-turns_before checkpoints s [] later t is = (itself is.0 is.1, tt)
+turns_before s [] later t is = (itself is.0 is.1, tt)
   where
-    itself : (listing : List CacheLine) → t ≡ turn checkpoints s t.line listing → IsTurn checkpoints t
-    itself listing e = (listing, e ∙ ap (λ (s : State). turn checkpoints s t.line listing) (sym (ap (λ (u : Turn). u.before) e)))
-turns_before checkpoints s (u ∷ earlier) later t is =
-    let rest = turns_before checkpoints u.after earlier later t is.2 in
-    (rest.0, ((is.0, is.1 ∙ ap (λ (s : State). turn checkpoints s u.line is.0) (sym (ap (λ (v : Turn). v.before) is.1))), rest.1))
+    itself : (listing : List CacheLine) → t ≡ turn s t.line listing → IsTurn t
+    itself listing e = (listing, e ∙ ap (λ (s : State). turn s t.line listing) (sym (ap (λ (u : Turn). u.before) e)))
+turns_before s (u ∷ earlier) later t is =
+    let rest = turns_before u.after earlier later t is.2 in
+    (rest.0, ((is.0, is.1 ∙ ap (λ (s : State). turn s u.line is.0) (sym (ap (λ (v : Turn). v.before) is.1))), rest.1))
 
 -- Whether a turn is of the session, by what is told.
 
-accepted_is_said : (checkpoints : Bool) (s : State) (command : Command) (listing : List CacheLine) (t : Turn) → t.reply ≡ (turn checkpoints s (Some command) listing).reply →
-    not (says_refused (reply_text t.reply)) ≡ is_accepted checkpoints s command
-accepted_is_said checkpoints s command listing t e =
-    ap not (refused_is_said t.reply) ∙ ap (λ (r : Reply). not (is_refused r)) e ∙ sym (refusals_are_told checkpoints s command listing)
+accepted_is_said : (s : State) (command : Command) (listing : List CacheLine) (t : Turn) → t.reply ≡ (turn s (Some command) listing).reply →
+    not (says_refused (reply_text t.reply)) ≡ is_accepted s command
+accepted_is_said s command listing t e =
+    ap not (refused_is_said t.reply) ∙ ap (λ (r : Reply). not (is_refused r)) e ∙ sym (refusals_are_told s command listing)
 
-own_is_said : (checkpoints : Bool) (n : ℕ) (line : Line) (listing : List CacheLine) (t : Turn) → t.line ≡ line → t.reply ≡ (turn checkpoints t.before line listing).reply →
-    (is_session n (line_session line) && not (says_refused (reply_text t.reply))) ≡ is_accepted_of checkpoints n t.before line
-own_is_said checkpoints n None listing t line e = refl
-own_is_said checkpoints n (Some command) listing t line e = ap (λ (b : Bool). is_session n (line_session (Some command)) && b) (accepted_is_said checkpoints t.before command listing t e)
+own_is_said : (n : ℕ) (line : Line) (listing : List CacheLine) (t : Turn) → t.line ≡ line → t.reply ≡ (turn t.before line listing).reply →
+    (is_session n (line_session line) && not (says_refused (reply_text t.reply))) ≡ is_accepted_of n t.before line
+own_is_said n None listing t line e = refl
+own_is_said n (Some command) listing t line e = ap (λ (b : Bool). is_session n (line_session (Some command)) && b) (accepted_is_said t.before command listing t e)
 
-turn_is_said : (checkpoints : Bool) (n : ℕ) (t : Turn) → IsTurn checkpoints t → is_carried_out n (exchange t) ≡ is_accepted_of checkpoints n t.before t.line
+turn_is_said : (n : ℕ) (t : Turn) → IsTurn t → is_carried_out n (exchange t) ≡ is_accepted_of n t.before t.line
 unfolding IsTurn
-turn_is_said checkpoints n t is = own_is_said checkpoints n t.line is.0 t refl (ap (λ (u : Turn). u.reply) is.1)
+turn_is_said n t is = own_is_said n t.line is.0 t refl (ap (λ (u : Turn). u.reply) is.1)
 
 chosen : (b c : Bool) (t : Turn) (since : List Turn) (said : List Exchange) → map exchange since ≡ said →
     map exchange (if b then (if c then [] else since) ++ t ∷ [] else since) ≡ (if b then (if c then [] else said) ++ exchange t ∷ [] else said)
@@ -111,17 +111,17 @@ chosen true true t since said e = refl
 chosen true false t since said e = map-append exchange since (t ∷ []) ∙ ap (λ (l : List Exchange). l ++ exchange t ∷ []) e
 chosen false c t since said e = e
 
-since_is_said : (checkpoints : Bool) (n : ℕ) (past : List Turn) → AreTurns checkpoints past → map exchange (since_begin checkpoints n past) ≡ carried_out_since n (map exchange past)
+since_is_said : (n : ℕ) (past : List Turn) → AreTurns past → map exchange (since_begin n past) ≡ carried_out_since n (map exchange past)
 unfolding AreTurns
-since_is_said checkpoints n [] h = refl
-since_is_said checkpoints n (t ∷ past) h =
-    chosen (is_accepted_of checkpoints n t.before t.line) (is_begin_line t.line) t (since_begin checkpoints n past) (carried_out_since n (map exchange past)) (since_is_said checkpoints n past h.1)
+since_is_said n [] h = refl
+since_is_said n (t ∷ past) h =
+    chosen (is_accepted_of n t.before t.line) (is_begin_line t.line) t (since_begin n past) (carried_out_since n (map exchange past)) (since_is_said n past h.1)
     ∙ ap (λ (b : Bool). if b then (if is_begin_line t.line then [] else carried_out_since n (map exchange past)) ++ exchange t ∷ [] else carried_out_since n (map exchange past))
-    (sym (turn_is_said checkpoints n t h.0))
+    (sym (turn_is_said n t h.0))
 
-by_is_said : (checkpoints : Bool) (own : Option ℕ) (t : Turn) (past : List Turn) → AreTurns checkpoints (t ∷ past) → map exchange (committed_by checkpoints own t past) ≡ carried_out_by own (exchange t) (map exchange past)
-by_is_said checkpoints None t past h = refl
-by_is_said checkpoints (Some n) t past h = since_is_said checkpoints n (t ∷ past) h
+by_is_said : (own : Option ℕ) (t : Turn) (past : List Turn) → AreTurns (t ∷ past) → map exchange (committed_by own t past) ≡ carried_out_by own (exchange t) (map exchange past)
+by_is_said None t past h = refl
+by_is_said (Some n) t past h = since_is_said n (t ∷ past) h
 
 -- Lines and texts of turns.
 
@@ -142,12 +142,12 @@ length_is [] = refl
 length_is (t ∷ own) = ap suc (length_is own)
 
 -- turns that are answered again are told again
-told_again : (checkpoints : Bool) (alone : State) (own : List Turn) (said : List Exchange) → map exchange own ≡ said →
-    replies (turns checkpoints alone (lines_of own) []) ≡ replies own →
-    texts checkpoints alone (map line_of_exchange said) [] ≡ open_text alone.commits ∷ map text_of_exchange said
-told_again checkpoints alone own said e again =
-    subst (λ (l : List Exchange). texts checkpoints alone (map line_of_exchange l) [] ≡ open_text alone.commits ∷ map text_of_exchange l) e
-    (ap (λ (lines : List Line). texts checkpoints alone lines []) (lines_are own)
+told_again : (alone : State) (own : List Turn) (said : List Exchange) → map exchange own ≡ said →
+    replies (turns alone (lines_of own) []) ≡ replies own →
+    texts alone (map line_of_exchange said) [] ≡ open_text alone.commits ∷ map text_of_exchange said
+told_again alone own said e again =
+    subst (λ (l : List Exchange). texts alone (map line_of_exchange l) [] ≡ open_text alone.commits ∷ map text_of_exchange l) e
+    (ap (λ (lines : List Line). texts alone lines []) (lines_are own)
     ∙ ap (λ (l : List Reply). open_text alone.commits ∷ map reply_text l) again
     ∙ ap (λ (l : List (List ℕ)). open_text alone.commits ∷ l) (sym (texts_are own)))
 
@@ -155,13 +155,13 @@ told_again checkpoints alone own said e again =
 
 pub serial_is_told : SerialIsTold
 unfolding IsTurn AreTurns
-serial_is_told checkpoints table commits made cap lines listings earlier later t e =
+serial_is_told table commits made cap lines listings earlier later t e =
     let start = opened table commits made cap in
-    let serial = serial_order checkpoints table commits made cap lines listings earlier later t e in
-    let turns_are = turns_before checkpoints start earlier later t (subst (IsRun checkpoints start) e (turns_are_run checkpoints start lines listings)) in
-    let own = transaction checkpoints t (reverse earlier) in
+    let serial = serial_order table commits made cap lines listings earlier later t e in
+    let turns_are = turns_before start earlier later t (subst (IsRun start) e (turns_are_run start lines listings)) in
+    let own = transaction t (reverse earlier) in
     let said : map exchange own ≡ told_transaction (exchange t) (map exchange (reverse earlier)) =
-    by_is_said checkpoints (line_session t.line) t (reverse earlier) (turns_are.0, turns_reverse checkpoints earlier turns_are.1) in
+    by_is_said (line_session t.line) t (reverse earlier) (turns_are.0, turns_reverse earlier turns_are.1) in
     record {
       place = ap (λ (run : List Turn). open_text commits ∷ map reply_text (replies run)) e
           ∙ ap (λ (l : List (List ℕ)). open_text commits ∷ l) (texts_of_are (earlier ++ t ∷ later) ∙ map-append (λ (u : Turn). reply_text u.reply) earlier (t ∷ later));
@@ -169,16 +169,16 @@ serial_is_told checkpoints table commits made cap lines listings earlier later t
       alone = λ committed cap room.
           let alone = opened (table_before table earlier later t) (commits + commits_before earlier later t) 0 cap in
           let room' : 4 * length own ≤ cap = subst (λ (n : ℕ). 4 * n ≤ cap) (ap length (sym said) ∙ length_is own) room in
-          told_again checkpoints alone own _ said (serial.alone (sym (commit_is_said t.reply) ∙ committed) cap room');
+          told_again alone own _ said (serial.alone (sym (commit_is_said t.reply) ∙ committed) cap room');
       so_far = λ n active cap room.
-          let since = since_begin checkpoints n (t ∷ reverse earlier) in
-          let said = since_is_said checkpoints n (t ∷ reverse earlier) (turns_are.0, turns_reverse checkpoints earlier turns_are.1) in
+          let since = since_begin n (t ∷ reverse earlier) in
+          let said = since_is_said n (t ∷ reverse earlier) (turns_are.0, turns_reverse earlier turns_are.1) in
           let count = commits_among (length earlier + 1) (commit_marks (earlier ++ t ∷ later)) in
           let alone = opened (after_commits table (earlier ++ t ∷ later) count) (commits + count) 0 cap in
           let room' : 4 * length since ≤ cap = subst (λ (n : ℕ). 4 * n ≤ cap) (ap length (sym said) ∙ length_is since) room in
-          told_again checkpoints alone since _ said (serial.so_far n active cap room');
+          told_again alone since _ said (serial.so_far n active cap room');
       get = λ number line carried.
           let turned = turns_are.0.1 in
-          let answered = ap (λ (u : Turn). u.reply) turned ∙ ap (λ (l : Line). (turn checkpoints t.before l turns_are.0.0).reply) line in
-          ap reply_text (serial.get number line (sym (accepted_is_said checkpoints t.before (Get number) turns_are.0.0 t answered) ∙ ap not carried));
+          let answered = ap (λ (u : Turn). u.reply) turned ∙ ap (λ (l : Line). (turn t.before l turns_are.0.0).reply) line in
+          ap reply_text (serial.get number line (sym (accepted_is_said t.before (Get number) turns_are.0.0 t answered) ∙ ap not carried));
     }

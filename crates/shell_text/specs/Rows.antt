@@ -15,7 +15,7 @@ blank = replicate 512 None
 
 -- what a run on blank devices tells, with what the cache lists; its input is heard to its end
 abbrev pub told_with : List (List CacheLine) → List ℕ → List ℕ
-told_with listings input = run_text true (opened blank 0 0 63) (commands_of true input) listings
+told_with listings input = run_text (opened blank 0 0 63) (commands_of true input) listings
 
 abbrev pub told : List ℕ → List ℕ
 told input = told_with [] input
@@ -92,7 +92,7 @@ ThreeSessions =
 
 abbrev pub LastAlone : Type 0
 LastAlone =
-    run_text true (opened (slice_set (slice_set blank 2 (Some (170 ∷ []))) 5 (Some (187 ∷ []))) 3 0 63)
+    run_text (opened (slice_set (slice_set blank 2 (Some (170 ∷ []))) 5 (Some (187 ∷ []))) 3 0 63)
     (commands_of true (typed (codes "begin 0" ∷ codes "read 0 2" ∷ codes "write 0 2 cc" ∷ codes "read 0 2"
     ∷ codes "scan 0 0 7" ∷ codes "commit 0" ∷ []))) []
     ≡ codes "open 3\nok\nvalue aa\nok\nvalue cc\nitem 2 cc\nitem 5 bb\nend 2\ncommitted 4\n"

@@ -22,11 +22,11 @@ abbrev pub commands_of : Bool → List ℕ → List Line
 commands_of ended octets = map line_of (lines_of ended octets)
 
 -- The texts of a run from an opening state over these lines: the opening's, and one for each line up to a quit. The
--- first argument says whether checkpoints are made, the last what the cache lists at each cache command.
-abbrev pub texts : Bool → State → List Line → List (List CacheLine) → List (List ℕ)
-texts checkpoints opening lines listings =
-    open_text opening.commits ∷ map reply_text (replies (turns checkpoints opening lines listings))
+-- last argument says what the cache lists at each cache command.
+abbrev pub texts : State → List Line → List (List CacheLine) → List (List ℕ)
+texts opening lines listings =
+    open_text opening.commits ∷ map reply_text (replies (turns opening lines listings))
 
 -- all that the run tells
-abbrev pub run_text : Bool → State → List Line → List (List CacheLine) → List ℕ
-run_text checkpoints opening lines listings = concat (texts checkpoints opening lines listings)
+abbrev pub run_text : State → List Line → List (List CacheLine) → List ℕ
+run_text opening lines listings = concat (texts opening lines listings)

@@ -60,25 +60,25 @@ texts_of run = map (λ t. reply_text t.reply) run
 
 -- A run of the lines of a commit's transaction alone, on the table of the commits before it and with room enough in the
 -- log, tells its opening and then, line by line, what they were told among the others.
-abbrev pub ToldAlone : Bool → State → List Turn → List Turn → Turn → Type 0
-ToldAlone checkpoints opening earlier later t =
+abbrev pub ToldAlone : State → List Turn → List Turn → Turn → Type 0
+ToldAlone opening earlier later t =
     let own = told_transaction (exchange t) (map exchange (reverse earlier)) in
     IsTrue (says_committed (reply_text t.reply)) → (cap : ℕ) → 4 * length own ≤ cap →
     let count = opening.commits + commits_before earlier later t in
     let alone = opened (table_before opening.table earlier later t) count 0 cap in
-    texts checkpoints alone (map line_of_exchange own) [] ≡ open_text alone.commits ∷ map text_of_exchange own
+    texts alone (map line_of_exchange own) [] ≡ open_text alone.commits ∷ map text_of_exchange own
 
 -- what was carried out of a session that is active behind a turn was told so far what it is told alone, on the table of
 -- that moment
-abbrev pub ToldSoFar : Bool → State → List Turn → List Turn → Turn → Type 0
-ToldSoFar checkpoints opening earlier later t =
+abbrev pub ToldSoFar : State → List Turn → List Turn → Turn → Type 0
+ToldSoFar opening earlier later t =
     (n : ℕ) → IsTrue (is_some (session_at t.after n)) → (cap : ℕ) →
     let own = carried_out_since n (exchange t ∷ map exchange (reverse earlier)) in
     4 * length own ≤ cap →
     let marks = commit_marks (earlier ++ t ∷ later) in
     let made = commits_among (length earlier + 1) marks in
     let alone = opened (after_commits opening.table (earlier ++ t ∷ later) made) (opening.commits + made) 0 cap in
-    texts checkpoints alone (map line_of_exchange own) [] ≡ open_text alone.commits ∷ map text_of_exchange own
+    texts alone (map line_of_exchange own) [] ≡ open_text alone.commits ∷ map text_of_exchange own
 
 -- a get that isn't refused tells what the table of the commits before it has
 abbrev pub GetIsTold : State → List Turn → List Turn → Turn → Type 0
@@ -87,22 +87,22 @@ GetIsTold opening earlier later t =
     reply_text t.reply ≡ reply_text (found (content_at (table_before opening.table earlier later t) number))
 
 -- serial order at a turn of a run with these texts
-pub record IsToldSerial (checkpoints : Bool) (opening : State) (told : List (List ℕ)) (earlier later : List Turn)
+pub record IsToldSerial (opening : State) (told : List (List ℕ)) (earlier later : List Turn)
     (t : Turn) :
     Type 0 where
   -- its text is told behind the opening's and those of the turns before it
   pub place : told ≡ (open_text opening.commits ∷ texts_of earlier) ++ reply_text t.reply ∷ texts_of later
   -- and says whether it is a commit
   pub commits : says_committed (reply_text t.reply) ≡ is_committed t.reply
-  pub alone : ToldAlone checkpoints opening earlier later t
-  pub so_far : ToldSoFar checkpoints opening earlier later t
+  pub alone : ToldAlone opening earlier later t
+  pub so_far : ToldSoFar opening earlier later t
   pub get : GetIsTold opening earlier later t
 
 -- serial order of what each run tells
 abbrev pub SerialIsTold : Type 0
 SerialIsTold =
-    (checkpoints : Bool) (table : List Content) (commits made cap : ℕ) →
+    (table : List Content) (commits made cap : ℕ) →
     (lines : List Line) (listings : List (List CacheLine)) (earlier later : List Turn) (t : Turn) →
     let opening = opened table commits made cap in
-    turns checkpoints opening lines listings ≡ earlier ++ t ∷ later →
-    IsToldSerial checkpoints opening (texts checkpoints opening lines listings) earlier later t
+    turns opening lines listings ≡ earlier ++ t ∷ later →
+    IsToldSerial opening (texts opening lines listings) earlier later t

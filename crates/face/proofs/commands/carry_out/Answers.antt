@@ -63,7 +63,7 @@ returns-clause-any_moment g c s listing asked fits quiet =
 pub returns-then-asks_for_listing-clause-asks : goal.returns-then-asks_for_listing-clause-asks
 returns-then-asks_for_listing-clause-asks g c s fits =
     let asks = sym c.asks_for_listing.ensures ∙ c.if-asks_for_listing.true in
-    subst (λ (l : Line). StepsMachine c.cache.result (line_touches true s l) c.args.engine.now.store.pages c.args.engine.now.store.pages (g.S.Site.state c.args.site.now) (g.S.Site.state c.args.site.now)) (sym (cache_line c.args.line asks))
+    subst (λ (l : Line). StepsMachine c.cache.result (line_touches s l) c.args.engine.now.store.pages c.args.engine.now.store.pages (g.S.Site.state c.args.site.now) (g.S.Site.state c.args.site.now)) (sym (cache_line c.args.line asks))
     (listing_asks c.cache.result c.args.engine.now.store.pages (g.S.Site.state c.args.site.now) c.cache.ensures.stops)
 
 pub returns-then-asks_for_listing-clause-numbers : goal.returns-then-asks_for_listing-clause-numbers
@@ -80,4 +80,4 @@ returns-then-asks_for_listing-clause-next g c honest is = ok_always c.cache.resu
 pub returns-then-asks_for_listing-clause-performs : goal.returns-then-asks_for_listing-clause-performs
 returns-then-asks_for_listing-clause-performs g c s fits =
     let asks = sym c.asks_for_listing.ensures ∙ c.if-asks_for_listing.true in
-    listing_performs c.cache.result c.cache.ensures.stops (ap (line_work true s) (cache_line c.args.line asks) ∙ cache_work s)
+    listing_performs c.cache.result c.cache.ensures.stops (ap (line_work s) (cache_line c.args.line asks) ∙ cache_work s)

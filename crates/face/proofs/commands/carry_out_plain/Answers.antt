@@ -1,7 +1,7 @@
 use Rattle.face.proofs.Pagings.{idle_line}
 use Rattle.redo_laws.specs.MachineSteps.{StepsMachine}
 use Rattle.record_model.specs.Touches.{line_touches}
-use Rattle.std.proofs.Common.{◌≡◌, IfOk, OnOk, sym, ap, subst, ◌∙◌, true, ◌≤◌, ◌+◌, arith}
+use Rattle.std.proofs.Common.{◌≡◌, IfOk, OnOk, sym, ap, subst, ◌∙◌, ◌≤◌, ◌+◌, arith}
 use Rattle.std.specs.Prelude.{Some, []}
 use Rattle.site.specs.Moments.{LeavesOnly}
 use Rattle.record_model.specs.Run.{Line}
@@ -146,45 +146,45 @@ returns-in-Quit-clause-any_moment g c s fits quiet = no_change (sizes_of c.args.
 
 pub returns-in-Begin-clause-asks : goal.returns-in-Begin-clause-asks
 returns-in-Begin-clause-asks g c s fits =
-    subst (λ (l : Line). StepsMachine c.begin.result (line_touches true s l) c.args.engine.now.store.pages c.begin.new.self.store.pages (g.S.Site.state c.args.site.now) (g.S.Site.state c.begin.new.site)) (sym (c.in-Some.is ∙ ap Some c.in-Begin.is)) ((c.begin.ensures.answers s fits).asks)
+    subst (λ (l : Line). StepsMachine c.begin.result (line_touches s l) c.args.engine.now.store.pages c.begin.new.self.store.pages (g.S.Site.state c.args.site.now) (g.S.Site.state c.begin.new.site)) (sym (c.in-Some.is ∙ ap Some c.in-Begin.is)) ((c.begin.ensures.answers s fits).asks)
 
 pub returns-in-Read-clause-asks : goal.returns-in-Read-clause-asks
 returns-in-Read-clause-asks g c s fits =
-    subst (λ (l : Line). StepsMachine c.read.result (line_touches true s l) c.args.engine.now.store.pages c.read.new.self.store.pages (g.S.Site.state c.args.site.now) (g.S.Site.state c.read.new.site)) (sym (c.in-Some.is ∙ ap Some c.in-Read.is)) ((c.read.ensures.answers s fits).asks)
+    subst (λ (l : Line). StepsMachine c.read.result (line_touches s l) c.args.engine.now.store.pages c.read.new.self.store.pages (g.S.Site.state c.args.site.now) (g.S.Site.state c.read.new.site)) (sym (c.in-Some.is ∙ ap Some c.in-Read.is)) ((c.read.ensures.answers s fits).asks)
 
 pub returns-in-Write-clause-asks : goal.returns-in-Write-clause-asks
 returns-in-Write-clause-asks g c s fits =
-    subst (λ (l : Line). StepsMachine c.write.result (line_touches true s l) c.args.engine.now.store.pages c.write.new.self.store.pages (g.S.Site.state c.args.site.now) (g.S.Site.state c.write.new.site)) (sym (c.in-Some.is ∙ ap Some c.in-Write.is)) ((c.write.ensures.answers s fits).asks)
+    subst (λ (l : Line). StepsMachine c.write.result (line_touches s l) c.args.engine.now.store.pages c.write.new.self.store.pages (g.S.Site.state c.args.site.now) (g.S.Site.state c.write.new.site)) (sym (c.in-Some.is ∙ ap Some c.in-Write.is)) ((c.write.ensures.answers s fits).asks)
 
 pub returns-in-Erase-clause-asks : goal.returns-in-Erase-clause-asks
 returns-in-Erase-clause-asks g c s fits =
-    subst (λ (l : Line). StepsMachine c.erase.result (line_touches true s l) c.args.engine.now.store.pages c.erase.new.self.store.pages (g.S.Site.state c.args.site.now) (g.S.Site.state c.erase.new.site)) (sym (c.in-Some.is ∙ ap Some c.in-Erase.is)) ((c.erase.ensures.answers s fits).asks)
+    subst (λ (l : Line). StepsMachine c.erase.result (line_touches s l) c.args.engine.now.store.pages c.erase.new.self.store.pages (g.S.Site.state c.args.site.now) (g.S.Site.state c.erase.new.site)) (sym (c.in-Some.is ∙ ap Some c.in-Erase.is)) ((c.erase.ensures.answers s fits).asks)
 
 pub returns-in-Scan-clause-asks : goal.returns-in-Scan-clause-asks
 returns-in-Scan-clause-asks g c s fits =
-    subst (λ (l : Line). StepsMachine c.scan.result (line_touches true s l) c.args.engine.now.store.pages c.scan.new.self.store.pages (g.S.Site.state c.args.site.now) (g.S.Site.state c.scan.new.site)) (sym (c.in-Some.is ∙ ap Some c.in-Scan.is)) ((c.scan.ensures.answers s fits).asks)
+    subst (λ (l : Line). StepsMachine c.scan.result (line_touches s l) c.args.engine.now.store.pages c.scan.new.self.store.pages (g.S.Site.state c.args.site.now) (g.S.Site.state c.scan.new.site)) (sym (c.in-Some.is ∙ ap Some c.in-Scan.is)) ((c.scan.ensures.answers s fits).asks)
 
 pub returns-in-Commit-clause-asks : goal.returns-in-Commit-clause-asks
 returns-in-Commit-clause-asks g c s fits =
-    subst (λ (l : Line). StepsMachine c.commit.result (line_touches true s l) c.args.engine.now.store.pages c.commit.new.self.store.pages (g.S.Site.state c.args.site.now) (g.S.Site.state c.commit.new.site)) (sym (c.in-Some.is ∙ ap Some c.in-Commit.is)) ((c.commit.ensures.answers s fits).asks)
+    subst (λ (l : Line). StepsMachine c.commit.result (line_touches s l) c.args.engine.now.store.pages c.commit.new.self.store.pages (g.S.Site.state c.args.site.now) (g.S.Site.state c.commit.new.site)) (sym (c.in-Some.is ∙ ap Some c.in-Commit.is)) ((c.commit.ensures.answers s fits).asks)
 
 pub returns-in-Abort-clause-asks : goal.returns-in-Abort-clause-asks
 returns-in-Abort-clause-asks g c s fits =
-    subst (λ (l : Line). StepsMachine c.abort.result (line_touches true s l) c.args.engine.now.store.pages c.abort.new.self.store.pages (g.S.Site.state c.args.site.now) (g.S.Site.state c.abort.new.site)) (sym (c.in-Some.is ∙ ap Some c.in-Abort.is)) ((c.abort.ensures.answers s fits).asks)
+    subst (λ (l : Line). StepsMachine c.abort.result (line_touches s l) c.args.engine.now.store.pages c.abort.new.self.store.pages (g.S.Site.state c.args.site.now) (g.S.Site.state c.abort.new.site)) (sym (c.in-Some.is ∙ ap Some c.in-Abort.is)) ((c.abort.ensures.answers s fits).asks)
 
 pub returns-in-Get-clause-asks : goal.returns-in-Get-clause-asks
 returns-in-Get-clause-asks g c s fits =
-    subst (λ (l : Line). StepsMachine c.get.result (line_touches true s l) c.args.engine.now.store.pages c.get.new.self.store.pages (g.S.Site.state c.args.site.now) (g.S.Site.state c.get.new.site)) (sym (c.in-Some.is ∙ ap Some c.in-Get.is)) ((c.get.ensures.answers s fits).asks)
+    subst (λ (l : Line). StepsMachine c.get.result (line_touches s l) c.args.engine.now.store.pages c.get.new.self.store.pages (g.S.Site.state c.args.site.now) (g.S.Site.state c.get.new.site)) (sym (c.in-Some.is ∙ ap Some c.in-Get.is)) ((c.get.ensures.answers s fits).asks)
 
 pub returns-in-Set-clause-asks : goal.returns-in-Set-clause-asks
 returns-in-Set-clause-asks g c s fits =
-    subst (λ (l : Line). StepsMachine c.set.result (line_touches true s l) c.args.engine.now.store.pages c.set.new.self.store.pages (g.S.Site.state c.args.site.now) (g.S.Site.state c.set.new.site)) (sym (c.in-Some.is ∙ ap Some c.in-Set.is)) ((c.set.ensures.answers s fits).asks)
+    subst (λ (l : Line). StepsMachine c.set.result (line_touches s l) c.args.engine.now.store.pages c.set.new.self.store.pages (g.S.Site.state c.args.site.now) (g.S.Site.state c.set.new.site)) (sym (c.in-Some.is ∙ ap Some c.in-Set.is)) ((c.set.ensures.answers s fits).asks)
 
 pub returns-in-Stat-clause-asks : goal.returns-in-Stat-clause-asks
-returns-in-Stat-clause-asks g c s fits = idle_line _ _ c.args.engine.now.store.pages _ (ap (line_touches true s) (c.in-Some.is ∙ ap Some c.in-Stat.is))
+returns-in-Stat-clause-asks g c s fits = idle_line _ _ c.args.engine.now.store.pages _ (ap (line_touches s) (c.in-Some.is ∙ ap Some c.in-Stat.is))
 
 pub returns-in-Quit-clause-asks : goal.returns-in-Quit-clause-asks
-returns-in-Quit-clause-asks g c s fits = idle_line _ _ c.args.engine.now.store.pages _ (ap (line_touches true s) (c.in-Some.is ∙ ap Some c.in-Quit.is))
+returns-in-Quit-clause-asks g c s fits = idle_line _ _ c.args.engine.now.store.pages _ (ap (line_touches s) (c.in-Some.is ∙ ap Some c.in-Quit.is))
 
 pub returns-in-Checkpoint-clause-reply : goal.returns-in-Checkpoint-clause-reply
 returns-in-Checkpoint-clause-reply g c s fits = subst (λ (l : Line). IfOk c.checkpoint.result (λ reply. reply ≡ (step s l []).reply)) (sym (c.in-Some.is ∙ ap Some c.in-Checkpoint.is)) ((c.checkpoint.ensures.answers s fits).reply)
@@ -194,7 +194,7 @@ returns-in-Checkpoint-clause-after g c s fits = subst (λ (l : Line). OnOk c.che
 
 pub returns-in-Checkpoint-clause-asks : goal.returns-in-Checkpoint-clause-asks
 returns-in-Checkpoint-clause-asks g c s fits =
-    subst (λ (l : Line). StepsMachine c.checkpoint.result (line_touches true s l) c.args.engine.now.store.pages c.checkpoint.new.self.store.pages (g.S.Site.state c.args.site.now) (g.S.Site.state c.checkpoint.new.site)) (sym (c.in-Some.is ∙ ap Some c.in-Checkpoint.is)) ((c.checkpoint.ensures.answers s fits).asks)
+    subst (λ (l : Line). StepsMachine c.checkpoint.result (line_touches s l) c.args.engine.now.store.pages c.checkpoint.new.self.store.pages (g.S.Site.state c.args.site.now) (g.S.Site.state c.checkpoint.new.site)) (sym (c.in-Some.is ∙ ap Some c.in-Checkpoint.is)) ((c.checkpoint.ensures.answers s fits).asks)
 
 pub returns-in-Checkpoint-clause-any_moment : goal.returns-in-Checkpoint-clause-any_moment
 returns-in-Checkpoint-clause-any_moment g c s fits quiet = table_stays (sizes_of c.args.engine.now.store) (g.S.Site.state c.args.site.now) (g.S.Site.state c.checkpoint.new.site) s _ ((c.checkpoint.ensures.answers s fits).does.any_moment quiet)
@@ -206,7 +206,7 @@ pub returns-in_default-clause-any_moment : goal.returns-in_default-clause-any_mo
 returns-in_default-clause-any_moment g c s fits quiet = no_change (sizes_of c.args.engine.now.store) (g.S.Site.state c.args.site.now) s _ quiet (fits_stands c.args.engine.now (g.S.Site.state c.args.site.now) s c.requires.going.store.both.sizes fits)
 
 pub returns-in_default-clause-asks : goal.returns-in_default-clause-asks
-returns-in_default-clause-asks g c s fits = idle_line _ _ c.args.engine.now.store.pages _ (ap (line_touches true s) c.in_default.is)
+returns-in_default-clause-asks g c s fits = idle_line _ _ c.args.engine.now.store.pages _ (ap (line_touches s) c.in_default.is)
 
 pub returns-in-Begin-clause-numbers : goal.returns-in-Begin-clause-numbers
 returns-in-Begin-clause-numbers g c s fits quiet =
@@ -366,49 +366,49 @@ returns-in-Set-clause-next g c honest is = (c.set.ensures.serves.next honest).ne
 
 pub returns-in-Begin-clause-performs : goal.returns-in-Begin-clause-performs
 returns-in-Begin-clause-performs g c s fits =
-    subst (λ (l : Line). PerformsStore c.begin.result (line_work true s l) c.args.engine.now.store c.begin.new.self.store (g.S.Site.state c.args.site.now) (g.S.Site.state c.begin.new.site)) (sym (c.in-Some.is ∙ ap Some c.in-Begin.is)) (c.begin.ensures.performs s fits)
+    subst (λ (l : Line). PerformsStore c.begin.result (line_work s l) c.args.engine.now.store c.begin.new.self.store (g.S.Site.state c.args.site.now) (g.S.Site.state c.begin.new.site)) (sym (c.in-Some.is ∙ ap Some c.in-Begin.is)) (c.begin.ensures.performs s fits)
 
 pub returns-in-Read-clause-performs : goal.returns-in-Read-clause-performs
 returns-in-Read-clause-performs g c s fits =
-    subst (λ (l : Line). PerformsStore c.read.result (line_work true s l) c.args.engine.now.store c.read.new.self.store (g.S.Site.state c.args.site.now) (g.S.Site.state c.read.new.site)) (sym (c.in-Some.is ∙ ap Some c.in-Read.is)) (c.read.ensures.performs s fits)
+    subst (λ (l : Line). PerformsStore c.read.result (line_work s l) c.args.engine.now.store c.read.new.self.store (g.S.Site.state c.args.site.now) (g.S.Site.state c.read.new.site)) (sym (c.in-Some.is ∙ ap Some c.in-Read.is)) (c.read.ensures.performs s fits)
 
 pub returns-in-Write-clause-performs : goal.returns-in-Write-clause-performs
 returns-in-Write-clause-performs g c s fits =
-    subst (λ (l : Line). PerformsStore c.write.result (line_work true s l) c.args.engine.now.store c.write.new.self.store (g.S.Site.state c.args.site.now) (g.S.Site.state c.write.new.site)) (sym (c.in-Some.is ∙ ap Some c.in-Write.is)) (c.write.ensures.performs s fits)
+    subst (λ (l : Line). PerformsStore c.write.result (line_work s l) c.args.engine.now.store c.write.new.self.store (g.S.Site.state c.args.site.now) (g.S.Site.state c.write.new.site)) (sym (c.in-Some.is ∙ ap Some c.in-Write.is)) (c.write.ensures.performs s fits)
 
 pub returns-in-Erase-clause-performs : goal.returns-in-Erase-clause-performs
 returns-in-Erase-clause-performs g c s fits =
-    subst (λ (l : Line). PerformsStore c.erase.result (line_work true s l) c.args.engine.now.store c.erase.new.self.store (g.S.Site.state c.args.site.now) (g.S.Site.state c.erase.new.site)) (sym (c.in-Some.is ∙ ap Some c.in-Erase.is)) (c.erase.ensures.performs s fits)
+    subst (λ (l : Line). PerformsStore c.erase.result (line_work s l) c.args.engine.now.store c.erase.new.self.store (g.S.Site.state c.args.site.now) (g.S.Site.state c.erase.new.site)) (sym (c.in-Some.is ∙ ap Some c.in-Erase.is)) (c.erase.ensures.performs s fits)
 
 pub returns-in-Scan-clause-performs : goal.returns-in-Scan-clause-performs
 returns-in-Scan-clause-performs g c s fits =
-    subst (λ (l : Line). PerformsStore c.scan.result (line_work true s l) c.args.engine.now.store c.scan.new.self.store (g.S.Site.state c.args.site.now) (g.S.Site.state c.scan.new.site)) (sym (c.in-Some.is ∙ ap Some c.in-Scan.is)) (c.scan.ensures.performs s fits)
+    subst (λ (l : Line). PerformsStore c.scan.result (line_work s l) c.args.engine.now.store c.scan.new.self.store (g.S.Site.state c.args.site.now) (g.S.Site.state c.scan.new.site)) (sym (c.in-Some.is ∙ ap Some c.in-Scan.is)) (c.scan.ensures.performs s fits)
 
 pub returns-in-Commit-clause-performs : goal.returns-in-Commit-clause-performs
 returns-in-Commit-clause-performs g c s fits =
-    subst (λ (l : Line). PerformsStore c.commit.result (line_work true s l) c.args.engine.now.store c.commit.new.self.store (g.S.Site.state c.args.site.now) (g.S.Site.state c.commit.new.site)) (sym (c.in-Some.is ∙ ap Some c.in-Commit.is)) (c.commit.ensures.performs s fits)
+    subst (λ (l : Line). PerformsStore c.commit.result (line_work s l) c.args.engine.now.store c.commit.new.self.store (g.S.Site.state c.args.site.now) (g.S.Site.state c.commit.new.site)) (sym (c.in-Some.is ∙ ap Some c.in-Commit.is)) (c.commit.ensures.performs s fits)
 
 pub returns-in-Abort-clause-performs : goal.returns-in-Abort-clause-performs
 returns-in-Abort-clause-performs g c s fits =
-    subst (λ (l : Line). PerformsStore c.abort.result (line_work true s l) c.args.engine.now.store c.abort.new.self.store (g.S.Site.state c.args.site.now) (g.S.Site.state c.abort.new.site)) (sym (c.in-Some.is ∙ ap Some c.in-Abort.is)) (c.abort.ensures.performs s fits)
+    subst (λ (l : Line). PerformsStore c.abort.result (line_work s l) c.args.engine.now.store c.abort.new.self.store (g.S.Site.state c.args.site.now) (g.S.Site.state c.abort.new.site)) (sym (c.in-Some.is ∙ ap Some c.in-Abort.is)) (c.abort.ensures.performs s fits)
 
 pub returns-in-Get-clause-performs : goal.returns-in-Get-clause-performs
 returns-in-Get-clause-performs g c s fits =
-    subst (λ (l : Line). PerformsStore c.get.result (line_work true s l) c.args.engine.now.store c.get.new.self.store (g.S.Site.state c.args.site.now) (g.S.Site.state c.get.new.site)) (sym (c.in-Some.is ∙ ap Some c.in-Get.is)) (c.get.ensures.performs s fits)
+    subst (λ (l : Line). PerformsStore c.get.result (line_work s l) c.args.engine.now.store c.get.new.self.store (g.S.Site.state c.args.site.now) (g.S.Site.state c.get.new.site)) (sym (c.in-Some.is ∙ ap Some c.in-Get.is)) (c.get.ensures.performs s fits)
 
 pub returns-in-Set-clause-performs : goal.returns-in-Set-clause-performs
 returns-in-Set-clause-performs g c s fits =
-    subst (λ (l : Line). PerformsStore c.set.result (line_work true s l) c.args.engine.now.store c.set.new.self.store (g.S.Site.state c.args.site.now) (g.S.Site.state c.set.new.site)) (sym (c.in-Some.is ∙ ap Some c.in-Set.is)) (c.set.ensures.performs s fits)
+    subst (λ (l : Line). PerformsStore c.set.result (line_work s l) c.args.engine.now.store c.set.new.self.store (g.S.Site.state c.args.site.now) (g.S.Site.state c.set.new.site)) (sym (c.in-Some.is ∙ ap Some c.in-Set.is)) (c.set.ensures.performs s fits)
 
 pub returns-in-Checkpoint-clause-performs : goal.returns-in-Checkpoint-clause-performs
 returns-in-Checkpoint-clause-performs g c s fits =
-    subst (λ (l : Line). PerformsStore c.checkpoint.result (line_work true s l) c.args.engine.now.store c.checkpoint.new.self.store (g.S.Site.state c.args.site.now) (g.S.Site.state c.checkpoint.new.site)) (sym (c.in-Some.is ∙ ap Some c.in-Checkpoint.is)) (c.checkpoint.ensures.performs s fits)
+    subst (λ (l : Line). PerformsStore c.checkpoint.result (line_work s l) c.args.engine.now.store c.checkpoint.new.self.store (g.S.Site.state c.args.site.now) (g.S.Site.state c.checkpoint.new.site)) (sym (c.in-Some.is ∙ ap Some c.in-Checkpoint.is)) (c.checkpoint.ensures.performs s fits)
 
 pub returns-in-Stat-clause-performs : goal.returns-in-Stat-clause-performs
-returns-in-Stat-clause-performs g c s fits = idle_performs (ap (line_work true s) (c.in-Some.is ∙ ap Some c.in-Stat.is) ∙ stat_work s)
+returns-in-Stat-clause-performs g c s fits = idle_performs (ap (line_work s) (c.in-Some.is ∙ ap Some c.in-Stat.is) ∙ stat_work s)
 
 pub returns-in-Quit-clause-performs : goal.returns-in-Quit-clause-performs
-returns-in-Quit-clause-performs g c s fits = idle_performs (ap (line_work true s) (c.in-Some.is ∙ ap Some c.in-Quit.is) ∙ quit_work s)
+returns-in-Quit-clause-performs g c s fits = idle_performs (ap (line_work s) (c.in-Some.is ∙ ap Some c.in-Quit.is) ∙ quit_work s)
 
 pub returns-in_default-clause-performs : goal.returns-in_default-clause-performs
-returns-in_default-clause-performs g c s fits = idle_performs (ap (line_work true s) c.in_default.is)
+returns-in_default-clause-performs g c s fits = idle_performs (ap (line_work s) c.in_default.is)

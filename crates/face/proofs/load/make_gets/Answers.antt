@@ -42,7 +42,7 @@ loop-get-preserved g c =
           (carries_more c.works_add_up.ensures.works c.works_add_up.ensures.reads 0 (Ok c.in-Ok.reply) (get_lines records seed i) (line ∷ []) c.args.engine.now c.loop-get.engine c.carry_on.new.engine entry mid new inv.course c.in-Ok.ensures.course)));
       found = λ s fits.
           let at = inv.course.fits s fits in
-          subst (λ (n : ℕ). c.loop-get.found + c.one_if-found.result ≡ found_in (turns true s (get_lines records seed n) [])) (sym (add-one i))
+          subst (λ (n : ℕ). c.loop-get.found + c.one_if-found.result ≡ found_in (turns s (get_lines records seed n) [])) (sym (add-one i))
           (found_more records seed i line line_is s c.loop-get.found c.one_if-found.result (inv.found s fits)
           (c.one_if-found.ensures ∙ ap (λ (b : Bool). if b then 1 else 0) (c.is_value.ensures ∙ ap is_value (c.in-Ok.ensures.reply _ at))));
       few = let one = one_most _ c.one_if-found.result c.one_if-found.ensures in let so_far = inv.few in omega (arith, one, so_far);
@@ -79,7 +79,7 @@ returns-clause-course g c =
 pub returns-clause-count : goal.returns-clause-count
 returns-clause-count g c s fits =
     let end : c.loop-get._get ≡ c.args.load.now.count = omega (arith, c.loop-get-test.false, c.loop-get.auto._get-end) in
-    subst (λ (n : ℕ). c.loop-get.found ≡ found_in (turns true s (get_lines (32 * c.args.pages) c.args.load.now.seed n) [])) end (c.loop-get.invariant.found s fits)
+    subst (λ (n : ℕ). c.loop-get.found ≡ found_in (turns s (get_lines (32 * c.args.pages) c.args.load.now.seed n) [])) end (c.loop-get.invariant.found s fits)
 
 pub overflow_add-found : goal.overflow_add-found
 overflow_add-found g c =

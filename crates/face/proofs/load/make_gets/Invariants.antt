@@ -1,4 +1,4 @@
-use Rattle.std.proofs.Common.{◌≡◌, ◌≤◌, ◌*◌, ℕ, [], true}
+use Rattle.std.proofs.Common.{◌≡◌, ◌≤◌, ◌*◌, ℕ, []}
 use Rattle.std.specs.Prelude.{Ok}
 use Rattle.record_model.specs.State.{State}
 use Rattle.record_model.specs.Run.{turns}
@@ -17,6 +17,6 @@ invariant-loop-get g l =
       faults : SameFaults old now;
       number : l.x ≡ generated l.load.seed l._get;
       course : CarriesOut {T = ℕ} (Ok 0) (get_lines (32 * l.pages) l.load.seed l._get) l.fn.engine l.engine old now;
-      found : (s : State) → Matches l.fn.engine old s → l.found ≡ found_in (turns true s (get_lines (32 * l.pages) l.load.seed l._get) []);
+      found : (s : State) → Matches l.fn.engine old s → l.found ≡ found_in (turns s (get_lines (32 * l.pages) l.load.seed l._get) []);
       few : l.found ≤ l._get;
     }

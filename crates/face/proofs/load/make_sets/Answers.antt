@@ -1,4 +1,4 @@
-use Rattle.std.proofs.Common.{◌≡◌, ◌*◌, ◌+◌, ◌∙◌, ℕ, Bool, true, List, [], ◌∷◌, ◌++◌, suc, ap, sym, subst, arith, add-one, refl}
+use Rattle.std.proofs.Common.{◌≡◌, ◌*◌, ◌+◌, ◌∙◌, ℕ, Bool, ◌&&◌, List, [], ◌∷◌, ◌++◌, suc, ap, sym, subst, arith, add-one, refl}
 use Rattle.std.specs.Prelude.{Ok, Err, Some, if◌then◌else◌}
 use Rattle.record_model.specs.declared.words.Command.TheVariants.{Set}
 use Rattle.record_model.specs.declared.words.Reply.{Reply}
@@ -6,10 +6,11 @@ use Rattle.record_model.specs.Run.{Line, is_committed, turns}
 use Rattle.workload.specs.Generator.{following, generated}
 use Rattle.face.specs.declared.load.Made.{Made}
 use Rattle.face.specs.Loads.{CarriesFirst, CarriesOut, HasMade}
-use Rattle.face.specs.Workload.{set_line, set_lines}
+use Rattle.face.specs.Run.{after_lines}
+use Rattle.face.specs.Workload.{has_passed, set_line, set_lines}
 use Rattle.face.proofs.UntoldLines.{carries_all, carries_more, carries_none, carries_some, carries_with}
 use Rattle.face.proofs.LinesBeforeQuit.{front_lines}
-use Rattle.face.proofs.LoadCounts.{is_set, made_more, one_line_more, one_most}
+use Rattle.face.proofs.LoadCounts.{is_set, made_more, one_line_more, one_most, set_makes}
 use Rattle.face.proofs.load.make_sets.Goals as goal
 
 pub loop-set-init : goal.loop-set-init
@@ -44,10 +45,10 @@ loop-set-preserved g c =
           (carries_more c.works_add_up.ensures.works c.works_add_up.ensures.reads 0 (Ok c.in-Ok.reply) (set_lines records seed i) (line ∷ []) c.args.engine.now c.loop-set.engine c.carry_on.new.engine entry mid new inv.course c.in-Ok.ensures.course)));
       made = λ s fits.
           let at = inv.course.fits s fits in
-          subst (λ (n : ℕ). HasMade (turns true s (set_lines records seed n) []) (c.loop-set.committed + c.one_if-committed.result) (c.loop-set.checkpoints + c.one_if-checkpoints.result)) (sym (add-one i))
+          subst (λ (n : ℕ). HasMade (turns s (set_lines records seed n) []) (c.loop-set.committed + c.one_if-committed.result) (c.loop-set.checkpoints + c.one_if-checkpoints.result)) (sym (add-one i))
           (made_more records seed i line line_is s c.loop-set.committed c.loop-set.checkpoints c.one_if-committed.result c.one_if-checkpoints.result (inv.made s fits)
           (c.one_if-committed.ensures ∙ ap (λ (b : Bool). if b then 1 else 0) (c.is_committed.ensures ∙ ap is_committed (c.in-Ok.ensures.reply _ at)))
-          (c.one_if-checkpoints.ensures ∙ ap (λ (b : Bool). if b then 1 else 0) (c.wants_checkpoint_to_set-due.ensures _ mid at)));
+          (c.one_if-checkpoints.ensures ∙ ap (λ (b : Bool). if b then 1 else 0) (c.made_one.ensures ∙ (λ j. c.is_due-due.ensures _ mid at j && has_passed (c.in-Ok.ensures.reply _ at j)) ∙ set_makes (after_lines s (set_lines records seed i) []) c.load_set-number.result.0 c.load_set-number.result.1)));
       committed = let few = one_most _ c.one_if-committed.result c.one_if-committed.ensures in let so_far = inv.committed in omega (arith, few, so_far);
       checkpoints = let few = one_most _ c.one_if-checkpoints.result c.one_if-checkpoints.ensures in let so_far = inv.checkpoints in omega (arith, few, so_far);
     }
@@ -84,7 +85,7 @@ returns-clause-course g c =
 pub returns-clause-made : goal.returns-clause-made
 returns-clause-made g c s fits =
     let end : c.loop-set._set ≡ c.args.load.now.count = omega (arith, c.loop-set-test.false, c.loop-set.auto._set-end) in
-    subst (λ (n : ℕ). HasMade (turns true s (set_lines (32 * c.args.pages) c.args.load.now.seed n) []) c.loop-set.committed c.loop-set.checkpoints) end (c.loop-set.invariant.made s fits)
+    subst (λ (n : ℕ). HasMade (turns s (set_lines (32 * c.args.pages) c.args.load.now.seed n) []) c.loop-set.committed c.loop-set.checkpoints) end (c.loop-set.invariant.made s fits)
 
 pub overflow_add-committed : goal.overflow_add-committed
 overflow_add-committed g c =

@@ -1,4 +1,4 @@
-use Rattle.std.proofs.Common.{◌≡◌, ◌≤◌, ◌*◌, ℕ, [], true}
+use Rattle.std.proofs.Common.{◌≡◌, ◌≤◌, ◌*◌, ℕ, []}
 use Rattle.std.specs.Prelude.{Ok}
 use Rattle.record_model.specs.State.{State}
 use Rattle.record_model.specs.Run.{turns}
@@ -17,7 +17,7 @@ invariant-loop-set g l =
       faults : SameFaults old now;
       number : l.x ≡ generated l.load.seed l._set;
       course : CarriesOut {T = ℕ} (Ok 0) (set_lines (32 * l.pages) l.load.seed l._set) l.fn.engine l.engine old now;
-      made : (s : State) → Matches l.fn.engine old s → HasMade (turns true s (set_lines (32 * l.pages) l.load.seed l._set) []) l.committed l.checkpoints;
+      made : (s : State) → Matches l.fn.engine old s → HasMade (turns s (set_lines (32 * l.pages) l.load.seed l._set) []) l.committed l.checkpoints;
       committed : l.committed ≤ l._set;
       checkpoints : l.checkpoints ≤ l._set;
     }

@@ -77,8 +77,8 @@ returns-in-Ok-make_gets-clause-counts g c geometry opening good =
     let going = c.in-Ok.ensures.going run start in
     let pages : c.pages_of-pages.result ≡ geometry.pages = c.pages_of-pages.ensures.pages ∙ ap (λ (x : Geometry). x.pages) going.geometry in
     has_counted geometry opening load c.in-Ok-make_sets.made.committed c.in-Ok-make_sets.made.checkpoints c.in-Ok-make_gets.found
-    (subst (λ (n : ℕ). HasMade (turns true opening (set_lines (32 * n) load.seed load.count) []) c.in-Ok-make_sets.made.committed c.in-Ok-make_sets.made.checkpoints) pages (c.in-Ok-make_sets.ensures.made opening going.fits))
-    (subst (λ (n : ℕ). c.in-Ok-make_gets.found ≡ found_in (turns true (after_lines opening (set_lines (32 * n) load.seed load.count) []) (get_lines (32 * n) load.seed load.count) [])) pages
+    (subst (λ (n : ℕ). HasMade (turns opening (set_lines (32 * n) load.seed load.count) []) c.in-Ok-make_sets.made.committed c.in-Ok-make_sets.made.checkpoints) pages (c.in-Ok-make_sets.ensures.made opening going.fits))
+    (subst (λ (n : ℕ). c.in-Ok-make_gets.found ≡ found_in (turns (after_lines opening (set_lines (32 * n) load.seed load.count) []) (get_lines (32 * n) load.seed load.count) [])) pages
     (c.in-Ok-make_gets.ensures.count _ ((all_carried c.in-Ok-make_sets.made (set_lines (32 * c.pages_of-pages.result) load.seed load.count) c.in-Ok.engine c.make_sets.new.engine (g.S.Site.state c.open.new.site) (g.S.Site.state c.make_sets.new.site) c.in-Ok-make_sets.ensures.course).fits opening going.fits)))
 
 pub returns-in-Err-make_sets-clause-cause : goal.returns-in-Err-make_sets-clause-cause

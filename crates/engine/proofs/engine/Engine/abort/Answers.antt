@@ -1,5 +1,5 @@
 use Rattle.engine.specs.LogReads.{undo_reads}
-use Rattle.std.proofs.Common.{◌≡◌, ℕ, true, Some, refl, sym, ap, subst, ◌∙◌, arith, ◌≤◌, ◌+◌}
+use Rattle.std.proofs.Common.{◌≡◌, ℕ, Some, refl, sym, ap, subst, ◌∙◌, arith, ◌≤◌, ◌+◌}
 use Rattle.std.specs.Prelude.{Result}
 use Rattle.site.specs.declared.outside.Stop.{Stop}
 use Rattle.site.specs.State.{State as Site, Snapshot}
@@ -25,7 +25,7 @@ use Rattle.engine.proofs.engine.Engine.abort.Goals as goal
 runs : (engine : Engine) (site : Site) (s : State) (n : ℕ) (entry : Active) → Matches engine site s → entry_of engine.active n ≡ Some entry → IsCarriedOut s (Abort n)
 runs engine site s n entry fits at =
     let found = some_active fits.newest fits.records engine.active s fits.sessions n entry at in
-    carried_out s (Abort n) (wants_active_is s n found.session found.is) refl
+    carried_out s (Abort n) refl (wants_active_is s n found.session found.is) refl
 
 of_session : {r : Result Reply Stop} {old new : Engine} {before now : Site} {s : State} {P : Snapshot → Type 0} (n k : ℕ) → n ≡ k → Does r old new before now s (effect s (Abort n)) P 0 → Does r old new before now s (effect s (Abort k)) P 0
 of_session {r = r} {old = old} {new = new} {before = before} {now = now} {s = s} {P = P} n k same does = subst (λ (j : ℕ). Does r old new before now s (effect s (Abort j)) P 0) same does
@@ -64,7 +64,7 @@ returns-in-Err-clause-log_reads g c s fits =
 
 -- What it makes of the machine.
 
-asked : (engine : Engine) (site : Site) (s : State) (n : ℕ) (entry : Active) (fits : Matches engine site s) → IsTable engine.active → entry_of engine.active n ≡ Some entry → command_work true s (Abort n) ≡ undoes s.table (writes_of (session_at s entry.session))
+asked : (engine : Engine) (site : Site) (s : State) (n : ℕ) (entry : Active) (fits : Matches engine site s) → IsTable engine.active → entry_of engine.active n ≡ Some entry → command_work s (Abort n) ≡ undoes s.table (writes_of (session_at s entry.session))
 asked engine site s n entry fits table at = (runs engine site s n entry fits at).1.1 ∙ ap (λ (k : ℕ). record_work s (Abort k)) (sym (entry_is engine.active n entry table at).session)
 
 pub returns-in_default-clause-performs : goal.returns-in_default-clause-performs

@@ -1,5 +1,6 @@
-use Rattle.std.specs.Prelude.{Ok}
-use Rattle.std.proofs.Common.{Err, ◌≤◌, ◌+◌, List, refl, sym, subst, arith, ℕ}
+use Rattle.std.specs.Prelude.{Ok, option_map}
+use Rattle.txn_table.specs.Entries.{counted_from}
+use Rattle.std.proofs.Common.{Err, ◌≤◌, ◌+◌, ◌∙◌, List, refl, sym, ap, subst, arith, ℕ}
 use Rattle.site.specs.Laws.{stays_honest}
 use Rattle.checkpoint.specs.declared.pairs.Pair.{Pair}
 use Rattle.image_meaning.specs.Flushed.{first_block}
@@ -50,6 +51,8 @@ returns-in-Ok g c =
     let new = g.S.Site.state c.checkpoint.new.site in
     let go = subst (LetsGo engine) (sym c.unwrap_or-first.ensures) (lets_go engine old c.oldest_born.result c.requires.going c.oldest_born.ensures) in
     record {
+      locks = refl;
+      absent = λ n none. c.count_from.ensures.entries n ∙ ap (option_map (counted_from c.unwrap_or-first.result)) none;
       does = λ s fits.
           let holds = subst (λ (n : ℕ). both.Represents engine.store.log engine.store.pages old fits.newest fits.records s.table n) (sym fits.counts.commits) fits.holds.both in
           let may = subst (MayBeMade engine.store.masters old fits.records) (sym c.named-named.ensures.named) (may_be_made engine old s fits c.requires.going.table) in

@@ -1,4 +1,4 @@
-use Rattle.std.proofs.Common.{◌≡◌, Bool, true, false, sym, subst, rules, arith}
+use Rattle.std.proofs.Common.{◌≡◌, Bool, true, false, refl, sym, subst, rules, arith}
 use Rattle.std.specs.Prelude.{Ok, Err, [], if◌then◌else◌}
 use Rattle.engine.specs.Invariant.{sizes_of}
 use Rattle.engine.specs.Representation.{checkpointed_if}
@@ -22,6 +22,8 @@ returns-then-not-wanted g c =
           subst (λ (b : Bool). Does {T = Unit {0}} (Ok tt) c.args.self.now c.args.self.now old old s (checkpointed_if b s) (LeavesTable (sizes_of c.args.self.now.store) s.table s.commits old.told) (if b then 1 else 0)) (sym is)
           (does_nothing fits c.requires.going (still c.hold_together.ensures.moment fits c.requires.going));
       serves = serves_nothing c.requires.going;
+      locks = refl;
+      absent = λ n none. none;
       ended = search rules;
       asks = subst (λ (b : Bool). StepsMachine {T = Unit {0}} (Ok tt) (if b then checkpoint_works else []) pages pages old old) (sym is) asks_rest;
       performs = λ s fits. performs_rest (ap (λ (b : Bool). if b then saves else []) is);

@@ -1,32 +1,124 @@
-use Rattle.std.proofs.Common.{refl}
+use Rattle.std.proofs.Common.{◌≡◌, ◌<◌, ◌*◌, ◌∷◌, ◌++◌, [], None, true, false, refl, sym, ap, subst, arith, ℕ, List}
+use Rattle.std.specs.Prelude.{Result}
+use Rattle.site.specs.declared.outside.Stop.{Stop}
+use Rattle.site.specs.declared.geometry.Geometry.{Geometry}
+use Rattle.site.specs.State.{State as Site}
+use Rattle.record_model.specs.State.{Content, State, content_at}
+use Rattle.record_model.specs.Step.{making, committed}
+use Rattle.record_model.specs.declared.words.Reply.{Reply}
 use Rattle.record_model.specs.declared.words.Command.TheVariants.{Set}
+use Rattle.lock_table.specs.declared.lock.Lock.{Lock}
+use Rattle.lock_table.specs.Locks.{busy_write}
+use Rattle.ring_machine.specs.Commands.{begins, writes, commits}
+use Rattle.ring_machine.proofs.Performing.{performs_as}
+use Rattle.engine.specs.declared.engine.Engine.{Engine}
 use Rattle.engine.specs.Invariant.{sizes_of}
 use Rattle.engine.specs.Representation.{checkpointed_if}
 use Rattle.engine.specs.Leaves.{LeavesEither}
-use Rattle.engine.proofs.Calling.{serves_then, first_then, first_failed, early, late_either}
+use Rattle.engine.specs.Calls.{Does}
+use Rattle.engine.proofs.Replies.{full_is, has_room}
+use Rattle.engine.proofs.Calling.{serves_then, serves_failed, serves_ended, serves_nothing, refused_as, first_then, first_failed, does_nothing, does_weaker, does_failed, asks_rest, early, late_either, still}
+use Rattle.engine.proofs.Performing.{performs_rest, performs_first, performs_unmade}
 use Rattle.engine.proofs.engine.Engine.set.Goals as goal
-use Rattle.engine.proofs.Performing.{performs_first, performs_unmade}
 
-pub returns-in-Ok-clause-answers : goal.returns-in-Ok-clause-answers
-returns-in-Ok-clause-answers g c s fits =
+-- what is written is the value
+written : {r : Result Reply Stop} {old new : Engine} {before now : Site} {s : State} (number : ℕ) {x y : Content} → x ≡ y →
+    Does r old new before now s (making 3 (committed s ((number, x) ∷ []))) (LeavesEither (sizes_of old.store) s (making 3 (committed s ((number, x) ∷ []))) before.told) 0 →
+    Does r old new before now s (making 3 (committed s ((number, y) ∷ []))) (LeavesEither (sizes_of old.store) s (making 3 (committed s ((number, y) ∷ []))) before.told) 0
+written {r = r} {old = old} {new = new} {before = before} {now = now} {s = s} number is does =
+    subst (λ (x : Content). Does r old new before now s (making 3 (committed s ((number, x) ∷ []))) (LeavesEither (sizes_of old.store) s (making 3 (committed s ((number, x) ∷ []))) before.told) 0) is does
+
+pub carry_out_set-requires-clause-may : goal.carry_out_set-requires-clause-may
+carry_out_set-requires-clause-may g c = record {
+  number = subst (λ (k : Geometry). c.args.number < 32 * k.pages) (sym c.in-Ok.ensures.serves.sizes) c.in_default.ensures.there;
+  free = subst (λ (ls : List Lock). busy_write ls None c.args.number ≡ None) (sym c.checkpoint_if.ensures.locks) c.in_default.ensures.free;
+  room = c.in_default-full.ensures.room;
+}
+
+-- refused by a test
+
+pub returns-in-Some-clause-answers : goal.returns-in-Some-clause-answers
+returns-in-Some-clause-answers g c s fits =
     let old = g.S.Site.state c.args.site.now in
-    first_then (Set c.args.number c.args.value.now) (c.wants_checkpoint_to_set-wanted.ensures s old fits) (λ o. LeavesEither (sizes_of c.args.self.now.store) s o.after old.told) fits.honest
-    (early (sizes_of c.args.self.now.store) s _ old.told) (late_either refl refl c.in-Ok.ensures.serves.sizes) c.in-Ok.ensures.serves (c.in-Ok.ensures.does s fits) c.in-Ok.ensures.asks
-    (c.set_now.ensures.answers (checkpointed_if c.wants_checkpoint_to_set-wanted.result s) (c.in-Ok.ensures.does s fits).after_fits)
+    refused_as (λ o. LeavesEither (sizes_of c.args.self.now.store) s o.after old.told) (Set c.args.number c.args.value.now) (c.in-Some.ensures.refused s old fits) c.hold_together.ensures.moment fits c.requires.going (early (sizes_of c.args.self.now.store) s s old.told)
+
+pub returns-in-Some-clause-performs : goal.returns-in-Some-clause-performs
+returns-in-Some-clause-performs g c s fits = performs_rest (c.in-Some.ensures.refused s (g.S.Site.state c.args.site.now) fits).1.1
+
+-- the checkpoint stops
 
 pub returns-in-Err-clause-answers : goal.returns-in-Err-clause-answers
 returns-in-Err-clause-answers g c s fits =
     let old = g.S.Site.state c.args.site.now in
-    first_failed (Set c.args.number c.args.value.now) (c.wants_checkpoint_to_set-wanted.ensures s old fits) (λ o. LeavesEither (sizes_of c.args.self.now.store) s o.after old.told) c.requires.going
+    first_failed (Set c.args.number c.args.value.now) (c.is_due-due.ensures s old fits) (c.in_default.ensures.passes s old fits) (λ o. LeavesEither (sizes_of c.args.self.now.store) s o.after old.told) c.requires.going
     (early (sizes_of c.args.self.now.store) s _ old.told) (c.in-Err.ensures.does s fits) c.in-Err.ensures.asks
 
-pub returns-in-Ok-clause-serves : goal.returns-in-Ok-clause-serves
-returns-in-Ok-clause-serves g c = serves_then c.in-Ok.ensures.serves c.set_now.ensures.serves
-
-pub returns-in-Ok-clause-performs : goal.returns-in-Ok-clause-performs
-returns-in-Ok-clause-performs g c s fits =
-    performs_first s (Set c.args.number c.args.value.now) (c.wants_checkpoint_to_set-wanted.ensures s (g.S.Site.state c.args.site.now) fits) c.in-Ok.ensures.asks.rules_are (c.in-Ok.ensures.performs s fits)
-    (c.set_now.ensures.performs (checkpointed_if c.wants_checkpoint_to_set-wanted.result s) (c.in-Ok.ensures.does s fits).after_fits)
+pub returns-in-Err-clause-serves : goal.returns-in-Err-clause-serves
+returns-in-Err-clause-serves g c = serves_failed c.in-Err.ensures.serves
 
 pub returns-in-Err-clause-performs : goal.returns-in-Err-clause-performs
-returns-in-Err-clause-performs g c s fits = performs_unmade s (Set c.args.number c.args.value.now) (c.wants_checkpoint_to_set-wanted.ensures s (g.S.Site.state c.args.site.now) fits) (c.in-Err.ensures.performs s fits)
+returns-in-Err-clause-performs g c s fits =
+    let old = g.S.Site.state c.args.site.now in
+    performs_unmade s (Set c.args.number c.args.value.now) (c.is_due-due.ensures s old fits) (c.in_default.ensures.passes s old fits) (c.in-Err.ensures.performs s fits)
+
+-- there is no room
+
+pub returns-in-Some-full-clause-answers : goal.returns-in-Some-full-clause-answers
+returns-in-Some-full-clause-answers g c s fits =
+    let old = g.S.Site.state c.args.site.now in
+    let mid = g.S.Site.state c.checkpoint_if.new.site in
+    let going = c.in-Ok.ensures.serves.going in
+    let behind = (c.in-Ok.ensures.does s fits).after_fits in
+    let full = full_is 4 c.in-Some-full.full behind going.table c.in-Some-full.ensures.full in
+    first_then (Set c.args.number c.args.value.now) (c.is_due-due.ensures s old fits) (c.in_default.ensures.passes s old fits) (λ o. LeavesEither (sizes_of c.args.self.now.store) s o.after old.told) true full.1 fits.honest
+    (early (sizes_of c.args.self.now.store) s _ old.told) (late_either refl refl c.in-Ok.ensures.serves.sizes) c.in-Ok.ensures.serves (c.in-Ok.ensures.does s fits) c.in-Ok.ensures.asks
+    (does_weaker (early (sizes_of c.checkpoint_if.new.self.store) (checkpointed_if c.is_due-due.result s) _ mid.told) (does_nothing behind going (still c.hold_together.ensures.moment behind going))) full.0 asks_rest
+
+pub returns-in-Some-full-clause-serves : goal.returns-in-Some-full-clause-serves
+returns-in-Some-full-clause-serves g c = serves_then c.in-Ok.ensures.serves (serves_nothing c.in-Ok.ensures.serves.going)
+
+pub returns-in-Some-full-clause-performs : goal.returns-in-Some-full-clause-performs
+returns-in-Some-full-clause-performs g c s fits =
+    let old = g.S.Site.state c.args.site.now in
+    let full = full_is 4 c.in-Some-full.full (c.in-Ok.ensures.does s fits).after_fits c.in-Ok.ensures.serves.going.table c.in-Some-full.ensures.full in
+    performs_first s (Set c.args.number c.args.value.now) (c.is_due-due.ensures s old fits) (c.in_default.ensures.passes s old fits) true full.1 c.in-Ok.ensures.asks.rules_are (c.in-Ok.ensures.performs s fits) (performs_rest refl)
+
+-- it is carried out
+
+pub returns-in-Ok-carry_out_set-clause-answers : goal.returns-in-Ok-carry_out_set-clause-answers
+returns-in-Ok-carry_out_set-clause-answers g c s fits =
+    let old = g.S.Site.state c.args.site.now in
+    let behind = (c.in-Ok.ensures.does s fits).after_fits in
+    first_then (Set c.args.number c.args.value.now) (c.is_due-due.ensures s old fits) (c.in_default.ensures.passes s old fits) (λ o. LeavesEither (sizes_of c.args.self.now.store) s o.after old.told) false
+    (has_room 4 behind c.in-Ok.ensures.serves.going.table c.in_default-full.ensures.room) fits.honest
+    (early (sizes_of c.args.self.now.store) s _ old.told) (late_either refl refl c.in-Ok.ensures.serves.sizes) c.in-Ok.ensures.serves (c.in-Ok.ensures.does s fits) c.in-Ok.ensures.asks
+    (written c.args.number c.value_of-after.ensures (c.in-Ok-carry_out_set.ensures.does _ behind)) (c.in-Ok-carry_out_set.ensures.reply _ behind) c.in-Ok-carry_out_set.ensures.asks
+
+pub returns-in-Err-carry_out_set-clause-answers : goal.returns-in-Err-carry_out_set-clause-answers
+returns-in-Err-carry_out_set-clause-answers g c s fits =
+    let old = g.S.Site.state c.args.site.now in
+    let behind = (c.in-Ok.ensures.does s fits).after_fits in
+    first_then (Set c.args.number c.args.value.now) (c.is_due-due.ensures s old fits) (c.in_default.ensures.passes s old fits) (λ o. LeavesEither (sizes_of c.args.self.now.store) s o.after old.told) false
+    (has_room 4 behind c.in-Ok.ensures.serves.going.table c.in_default-full.ensures.room) fits.honest
+    (early (sizes_of c.args.self.now.store) s _ old.told) (late_either refl refl c.in-Ok.ensures.serves.sizes) c.in-Ok.ensures.serves (c.in-Ok.ensures.does s fits) c.in-Ok.ensures.asks
+    (does_failed (omega arith) (written c.args.number c.value_of-after.ensures (c.in-Err-carry_out_set.ensures.does _ behind))) tt c.in-Err-carry_out_set.ensures.asks
+
+pub returns-in-Ok-carry_out_set-clause-serves : goal.returns-in-Ok-carry_out_set-clause-serves
+returns-in-Ok-carry_out_set-clause-serves g c = serves_then c.in-Ok.ensures.serves c.in-Ok-carry_out_set.ensures.serves
+
+pub returns-in-Err-carry_out_set-clause-serves : goal.returns-in-Err-carry_out_set-clause-serves
+returns-in-Err-carry_out_set-clause-serves g c = serves_then c.in-Ok.ensures.serves (serves_ended c.in-Err-carry_out_set.ensures.serves)
+
+pub returns-in-Ok-carry_out_set-clause-performs : goal.returns-in-Ok-carry_out_set-clause-performs
+returns-in-Ok-carry_out_set-clause-performs g c s fits =
+    let old = g.S.Site.state c.args.site.now in
+    let behind = (c.in-Ok.ensures.does s fits).after_fits in
+    performs_first s (Set c.args.number c.args.value.now) (c.is_due-due.ensures s old fits) (c.in_default.ensures.passes s old fits) false (has_room 4 behind c.in-Ok.ensures.serves.going.table c.in_default-full.ensures.room) c.in-Ok.ensures.asks.rules_are (c.in-Ok.ensures.performs s fits)
+    (performs_as (ap (λ (x : Content). (begins ++ writes c.args.number (content_at s.table c.args.number) x) ++ commits) (sym c.value_of-after.ensures)) (c.in-Ok-carry_out_set.ensures.performs _ behind))
+
+pub returns-in-Err-carry_out_set-clause-performs : goal.returns-in-Err-carry_out_set-clause-performs
+returns-in-Err-carry_out_set-clause-performs g c s fits =
+    let old = g.S.Site.state c.args.site.now in
+    let behind = (c.in-Ok.ensures.does s fits).after_fits in
+    performs_first s (Set c.args.number c.args.value.now) (c.is_due-due.ensures s old fits) (c.in_default.ensures.passes s old fits) false (has_room 4 behind c.in-Ok.ensures.serves.going.table c.in_default-full.ensures.room) c.in-Ok.ensures.asks.rules_are (c.in-Ok.ensures.performs s fits)
+    (performs_as (ap (λ (x : Content). (begins ++ writes c.args.number (content_at s.table c.args.number) x) ++ commits) (sym c.value_of-after.ensures)) (c.in-Err-carry_out_set.ensures.performs _ behind))

@@ -1,7 +1,7 @@
-use Rattle.std.proofs.Common.{[], ◌∷◌, None, rules, refl}
+use Rattle.std.proofs.Common.{[], ◌∷◌, None, rules}
 use Rattle.record_model.specs.declared.words.Command.TheVariants.{Set}
 use Rattle.record_model.specs.Step.{first_refusal, may_write, wants_short}
-use Rattle.engine.proofs.Replies.{refused, full_refused, carried_out, has_room, has_record, lacks_record, is_short, is_long, may_write_is}
+use Rattle.engine.proofs.Replies.{refused, has_record, lacks_record, is_short, is_long, may_write_is}
 use Rattle.engine.proofs.engine.Engine.set_refusal.Goals as goal
 
 pub returns-then-lacks-clause-refused : goal.returns-then-lacks-clause-refused
@@ -21,15 +21,8 @@ returns-in-Some-clause-refused c s site fits =
     let busy = may_write_is None c.args.number fits c.write_busy.ensures c.in-Some.is in
     refused s (Set c.args.number c.args.value.now) _ (λ i. first_refusal (there i ∷ (is_short c.args.value.now (search rules)) i ∷ busy i ∷ []))
 
-pub returns-in-Some-full-clause-refused : goal.returns-in-Some-full-clause-refused
-returns-in-Some-full-clause-refused c s site fits =
+pub returns-clause-passes : goal.returns-clause-passes
+returns-clause-passes c s site fits =
     let there = has_record c.args.number fits (search rules) in
     let free = may_write_is None c.args.number fits c.write_busy.ensures c.in_default.is in
-    full_refused (Set c.args.number c.args.value.now) 4 fits c.requires.going.1.table c.in-Some-full.ensures.full refl
-    (λ i. first_refusal (there i ∷ (is_short c.args.value.now (search rules)) i ∷ free i ∷ []))
-
-pub returns-clause-accepted : goal.returns-clause-accepted
-returns-clause-accepted c s site fits =
-    let there = has_record c.args.number fits (search rules) in
-    let free = may_write_is None c.args.number fits c.write_busy.ensures c.in_default.is in
-    carried_out s (Set c.args.number c.args.value.now) (λ i. first_refusal (there i ∷ (is_short c.args.value.now (search rules)) i ∷ free i ∷ [])) (has_room 4 fits c.requires.going.1.table c.in_default-full.ensures.room)
+    λ i. first_refusal (there i ∷ (is_short c.args.value.now (search rules)) i ∷ free i ∷ [])

@@ -29,14 +29,14 @@ pub returns-in-Some-full-clause-refused : goal.returns-in-Some-full-clause-refus
 returns-in-Some-full-clause-refused c s site fits =
     let there = has_record c.args.number fits (search rules) in
     let free = may_write_is (Some c.args.session) c.args.number fits c.write_busy.ensures c.in_default.is in
-    full_refused (Write c.args.session c.args.number c.args.value.now) 2 fits c.find.ensures.table c.in-Some-full.ensures.full refl
+    full_refused (Write c.args.session c.args.number c.args.value.now) 2 fits c.find.ensures.table c.in-Some-full.ensures.full refl refl
     (λ i. first_refusal ((is_active c.args.session fits (search rules)) i ∷ there i ∷ (is_short c.args.value.now (search rules)) i ∷ free i ∷ []))
 
 pub returns-clause-accepted : goal.returns-clause-accepted
 returns-clause-accepted c s site fits =
     let there = has_record c.args.number fits (search rules) in
     let free = may_write_is (Some c.args.session) c.args.number fits c.write_busy.ensures c.in_default.is in
-    carried_out s (Write c.args.session c.args.number c.args.value.now)
+    carried_out s (Write c.args.session c.args.number c.args.value.now) refl
     (λ i. first_refusal ((is_active c.args.session fits (search rules)) i ∷ there i ∷ (is_short c.args.value.now (search rules)) i ∷ free i ∷ []))
     (has_room 2 fits c.find.ensures.table c.in_default-full.ensures.room)
 
