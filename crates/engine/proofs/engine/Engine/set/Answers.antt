@@ -1,4 +1,4 @@
-use Rattle.std.proofs.Common.{◌≡◌, ◌<◌, ◌*◌, ◌∷◌, ◌++◌, [], None, true, false, refl, sym, ap, subst, arith, ℕ, List}
+use Rattle.std.proofs.Common.{◌≡◌, ◌<◌, ◌*◌, ◌∷◌, ◌++◌, [], None, true, false, refl, sym, ap, subst, rules, arith, ℕ, List}
 use Rattle.std.specs.Prelude.{Result}
 use Rattle.site.specs.declared.outside.Stop.{Stop}
 use Rattle.site.specs.declared.geometry.Geometry.{Geometry}
@@ -35,90 +35,79 @@ carry_out_set-requires-clause-may g c = record {
   room = c.in_default-full.ensures.room;
 }
 
--- refused by a test
-
-pub returns-in-Some-clause-answers : goal.returns-in-Some-clause-answers
-returns-in-Some-clause-answers g c s fits =
+-- a test refuses it
+pub returns-in-Some : goal.returns-in-Some
+returns-in-Some g c =
     let old = g.S.Site.state c.args.site.now in
-    refused_as (λ o. LeavesEither (sizes_of c.args.self.now.store) s o.after old.told) (Set c.args.number c.args.value.now) (c.in-Some.ensures.refused s old fits) c.hold_together.ensures.moment fits c.requires.going (early (sizes_of c.args.self.now.store) s s old.told)
-
-pub returns-in-Some-clause-performs : goal.returns-in-Some-clause-performs
-returns-in-Some-clause-performs g c s fits = performs_rest (c.in-Some.ensures.refused s (g.S.Site.state c.args.site.now) fits).1.1
+    record {
+      answers = λ s fits.
+          refused_as (λ o. LeavesEither (sizes_of c.args.self.now.store) s o.after old.told) (Set c.args.number c.args.value.now) (c.in-Some.ensures.refused s old fits) c.hold_together.ensures.moment fits c.requires.going (early (sizes_of c.args.self.now.store) s s old.told);
+      performs = λ s fits. performs_rest (c.in-Some.ensures.refused s old fits).1.1;
+      serves = serves_nothing c.requires.going;
+      ended = search rules;
+    }
 
 -- the checkpoint stops
-
-pub returns-in-Err-clause-answers : goal.returns-in-Err-clause-answers
-returns-in-Err-clause-answers g c s fits =
+pub returns-in-Err : goal.returns-in-Err
+returns-in-Err g c =
     let old = g.S.Site.state c.args.site.now in
-    first_failed (Set c.args.number c.args.value.now) (c.is_due-due.ensures s old fits) (c.in_default.ensures.passes s old fits) (λ o. LeavesEither (sizes_of c.args.self.now.store) s o.after old.told) c.requires.going
-    (early (sizes_of c.args.self.now.store) s _ old.told) (c.in-Err.ensures.does s fits) c.in-Err.ensures.asks
-
-pub returns-in-Err-clause-serves : goal.returns-in-Err-clause-serves
-returns-in-Err-clause-serves g c = serves_failed c.in-Err.ensures.serves
-
-pub returns-in-Err-clause-performs : goal.returns-in-Err-clause-performs
-returns-in-Err-clause-performs g c s fits =
-    let old = g.S.Site.state c.args.site.now in
-    performs_unmade s (Set c.args.number c.args.value.now) (c.is_due-due.ensures s old fits) (c.in_default.ensures.passes s old fits) (c.in-Err.ensures.performs s fits)
+    record {
+      answers = λ s fits.
+          first_failed (Set c.args.number c.args.value.now) (c.is_due-due.ensures s old fits) (c.in_default.ensures.passes s old fits) (λ o. LeavesEither (sizes_of c.args.self.now.store) s o.after old.told) c.requires.going (early (sizes_of c.args.self.now.store) s _ old.told) (c.in-Err.ensures.does s fits) c.in-Err.ensures.asks;
+      performs = λ s fits. performs_unmade s (Set c.args.number c.args.value.now) (c.is_due-due.ensures s old fits) (c.in_default.ensures.passes s old fits) (c.in-Err.ensures.performs s fits);
+      serves = serves_failed c.in-Err.ensures.serves;
+      ended = search rules;
+    }
 
 -- there is no room
-
-pub returns-in-Some-full-clause-answers : goal.returns-in-Some-full-clause-answers
-returns-in-Some-full-clause-answers g c s fits =
+pub returns-in-Some-full : goal.returns-in-Some-full
+returns-in-Some-full g c =
     let old = g.S.Site.state c.args.site.now in
     let mid = g.S.Site.state c.checkpoint_if.new.site in
     let going = c.in-Ok.ensures.serves.going in
-    let behind = (c.in-Ok.ensures.does s fits).after_fits in
-    let full = full_is 4 c.in-Some-full.full behind going.table c.in-Some-full.ensures.full in
-    first_then (Set c.args.number c.args.value.now) (c.is_due-due.ensures s old fits) (c.in_default.ensures.passes s old fits) (λ o. LeavesEither (sizes_of c.args.self.now.store) s o.after old.told) true full.1 fits.honest
-    (early (sizes_of c.args.self.now.store) s _ old.told) (late_either refl refl c.in-Ok.ensures.serves.sizes) c.in-Ok.ensures.serves (c.in-Ok.ensures.does s fits) c.in-Ok.ensures.asks
-    (does_weaker (early (sizes_of c.checkpoint_if.new.self.store) (checkpointed_if c.is_due-due.result s) _ mid.told) (does_nothing behind going (still c.hold_together.ensures.moment behind going))) full.0 asks_rest
-
-pub returns-in-Some-full-clause-serves : goal.returns-in-Some-full-clause-serves
-returns-in-Some-full-clause-serves g c = serves_then c.in-Ok.ensures.serves (serves_nothing c.in-Ok.ensures.serves.going)
-
-pub returns-in-Some-full-clause-performs : goal.returns-in-Some-full-clause-performs
-returns-in-Some-full-clause-performs g c s fits =
-    let old = g.S.Site.state c.args.site.now in
-    let full = full_is 4 c.in-Some-full.full (c.in-Ok.ensures.does s fits).after_fits c.in-Ok.ensures.serves.going.table c.in-Some-full.ensures.full in
-    performs_first s (Set c.args.number c.args.value.now) (c.is_due-due.ensures s old fits) (c.in_default.ensures.passes s old fits) true full.1 c.in-Ok.ensures.asks.rules_are (c.in-Ok.ensures.performs s fits) (performs_rest refl)
+    record {
+      answers = λ s fits.
+          let behind = (c.in-Ok.ensures.does s fits).after_fits in
+          first_then (Set c.args.number c.args.value.now) (c.is_due-due.ensures s old fits) (c.in_default.ensures.passes s old fits) (λ o. LeavesEither (sizes_of c.args.self.now.store) s o.after old.told) true (full_is 4 _ (c.in-Ok.ensures.does s fits).after_fits c.in-Ok.ensures.serves.going.table c.in-Some-full.ensures.full).1 fits.honest
+          (early (sizes_of c.args.self.now.store) s _ old.told) (late_either refl refl c.in-Ok.ensures.serves.sizes) c.in-Ok.ensures.serves (c.in-Ok.ensures.does s fits) c.in-Ok.ensures.asks
+          (does_weaker (early (sizes_of c.checkpoint_if.new.self.store) (checkpointed_if c.is_due-due.result s) _ mid.told) (does_nothing behind going (still c.hold_together.ensures.moment behind going))) (full_is 4 _ (c.in-Ok.ensures.does s fits).after_fits c.in-Ok.ensures.serves.going.table c.in-Some-full.ensures.full).0 asks_rest;
+      performs = λ s fits.
+          performs_first s (Set c.args.number c.args.value.now) (c.is_due-due.ensures s old fits) (c.in_default.ensures.passes s old fits) true (full_is 4 _ (c.in-Ok.ensures.does s fits).after_fits c.in-Ok.ensures.serves.going.table c.in-Some-full.ensures.full).1 c.in-Ok.ensures.asks.rules_are (c.in-Ok.ensures.performs s fits)
+          (performs_rest refl);
+      serves = serves_then c.in-Ok.ensures.serves (serves_nothing going);
+      ended = search rules;
+    }
 
 -- it is carried out
 
-pub returns-in-Ok-carry_out_set-clause-answers : goal.returns-in-Ok-carry_out_set-clause-answers
-returns-in-Ok-carry_out_set-clause-answers g c s fits =
+pub returns-in-Ok-carry_out_set : goal.returns-in-Ok-carry_out_set
+returns-in-Ok-carry_out_set g c =
     let old = g.S.Site.state c.args.site.now in
-    let behind = (c.in-Ok.ensures.does s fits).after_fits in
-    first_then (Set c.args.number c.args.value.now) (c.is_due-due.ensures s old fits) (c.in_default.ensures.passes s old fits) (λ o. LeavesEither (sizes_of c.args.self.now.store) s o.after old.told) false
-    (has_room 4 behind c.in-Ok.ensures.serves.going.table c.in_default-full.ensures.room) fits.honest
-    (early (sizes_of c.args.self.now.store) s _ old.told) (late_either refl refl c.in-Ok.ensures.serves.sizes) c.in-Ok.ensures.serves (c.in-Ok.ensures.does s fits) c.in-Ok.ensures.asks
-    (written c.args.number c.value_of-after.ensures (c.in-Ok-carry_out_set.ensures.does _ behind)) (c.in-Ok-carry_out_set.ensures.reply _ behind) c.in-Ok-carry_out_set.ensures.asks
+    record {
+      answers = λ s fits.
+          let behind = (c.in-Ok.ensures.does s fits).after_fits in
+          first_then (Set c.args.number c.args.value.now) (c.is_due-due.ensures s old fits) (c.in_default.ensures.passes s old fits) (λ o. LeavesEither (sizes_of c.args.self.now.store) s o.after old.told) false (has_room 4 (c.in-Ok.ensures.does s fits).after_fits c.in-Ok.ensures.serves.going.table c.in_default-full.ensures.room) fits.honest
+          (early (sizes_of c.args.self.now.store) s _ old.told) (late_either refl refl c.in-Ok.ensures.serves.sizes) c.in-Ok.ensures.serves (c.in-Ok.ensures.does s fits) c.in-Ok.ensures.asks
+          (written c.args.number c.value_of-after.ensures (c.in-Ok-carry_out_set.ensures.does _ behind)) (c.in-Ok-carry_out_set.ensures.reply _ behind) c.in-Ok-carry_out_set.ensures.asks;
+      performs = λ s fits.
+          performs_first s (Set c.args.number c.args.value.now) (c.is_due-due.ensures s old fits) (c.in_default.ensures.passes s old fits) false (has_room 4 (c.in-Ok.ensures.does s fits).after_fits c.in-Ok.ensures.serves.going.table c.in_default-full.ensures.room) c.in-Ok.ensures.asks.rules_are (c.in-Ok.ensures.performs s fits)
+          (performs_as (ap (λ (x : Content). (begins ++ writes c.args.number (content_at s.table c.args.number) x) ++ commits) (sym c.value_of-after.ensures)) (c.in-Ok-carry_out_set.ensures.performs _ (c.in-Ok.ensures.does s fits).after_fits));
+      serves = serves_then c.in-Ok.ensures.serves c.in-Ok-carry_out_set.ensures.serves;
+      ended = search rules;
+    }
 
-pub returns-in-Err-carry_out_set-clause-answers : goal.returns-in-Err-carry_out_set-clause-answers
-returns-in-Err-carry_out_set-clause-answers g c s fits =
+pub returns-in-Err-carry_out_set : goal.returns-in-Err-carry_out_set
+returns-in-Err-carry_out_set g c =
     let old = g.S.Site.state c.args.site.now in
-    let behind = (c.in-Ok.ensures.does s fits).after_fits in
-    first_then (Set c.args.number c.args.value.now) (c.is_due-due.ensures s old fits) (c.in_default.ensures.passes s old fits) (λ o. LeavesEither (sizes_of c.args.self.now.store) s o.after old.told) false
-    (has_room 4 behind c.in-Ok.ensures.serves.going.table c.in_default-full.ensures.room) fits.honest
-    (early (sizes_of c.args.self.now.store) s _ old.told) (late_either refl refl c.in-Ok.ensures.serves.sizes) c.in-Ok.ensures.serves (c.in-Ok.ensures.does s fits) c.in-Ok.ensures.asks
-    (does_failed (omega arith) (written c.args.number c.value_of-after.ensures (c.in-Err-carry_out_set.ensures.does _ behind))) tt c.in-Err-carry_out_set.ensures.asks
-
-pub returns-in-Ok-carry_out_set-clause-serves : goal.returns-in-Ok-carry_out_set-clause-serves
-returns-in-Ok-carry_out_set-clause-serves g c = serves_then c.in-Ok.ensures.serves c.in-Ok-carry_out_set.ensures.serves
-
-pub returns-in-Err-carry_out_set-clause-serves : goal.returns-in-Err-carry_out_set-clause-serves
-returns-in-Err-carry_out_set-clause-serves g c = serves_then c.in-Ok.ensures.serves (serves_ended c.in-Err-carry_out_set.ensures.serves)
-
-pub returns-in-Ok-carry_out_set-clause-performs : goal.returns-in-Ok-carry_out_set-clause-performs
-returns-in-Ok-carry_out_set-clause-performs g c s fits =
-    let old = g.S.Site.state c.args.site.now in
-    let behind = (c.in-Ok.ensures.does s fits).after_fits in
-    performs_first s (Set c.args.number c.args.value.now) (c.is_due-due.ensures s old fits) (c.in_default.ensures.passes s old fits) false (has_room 4 behind c.in-Ok.ensures.serves.going.table c.in_default-full.ensures.room) c.in-Ok.ensures.asks.rules_are (c.in-Ok.ensures.performs s fits)
-    (performs_as (ap (λ (x : Content). (begins ++ writes c.args.number (content_at s.table c.args.number) x) ++ commits) (sym c.value_of-after.ensures)) (c.in-Ok-carry_out_set.ensures.performs _ behind))
-
-pub returns-in-Err-carry_out_set-clause-performs : goal.returns-in-Err-carry_out_set-clause-performs
-returns-in-Err-carry_out_set-clause-performs g c s fits =
-    let old = g.S.Site.state c.args.site.now in
-    let behind = (c.in-Ok.ensures.does s fits).after_fits in
-    performs_first s (Set c.args.number c.args.value.now) (c.is_due-due.ensures s old fits) (c.in_default.ensures.passes s old fits) false (has_room 4 behind c.in-Ok.ensures.serves.going.table c.in_default-full.ensures.room) c.in-Ok.ensures.asks.rules_are (c.in-Ok.ensures.performs s fits)
-    (performs_as (ap (λ (x : Content). (begins ++ writes c.args.number (content_at s.table c.args.number) x) ++ commits) (sym c.value_of-after.ensures)) (c.in-Err-carry_out_set.ensures.performs _ behind))
+    record {
+      answers = λ s fits.
+          let behind = (c.in-Ok.ensures.does s fits).after_fits in
+          first_then (Set c.args.number c.args.value.now) (c.is_due-due.ensures s old fits) (c.in_default.ensures.passes s old fits) (λ o. LeavesEither (sizes_of c.args.self.now.store) s o.after old.told) false (has_room 4 (c.in-Ok.ensures.does s fits).after_fits c.in-Ok.ensures.serves.going.table c.in_default-full.ensures.room) fits.honest
+          (early (sizes_of c.args.self.now.store) s _ old.told) (late_either refl refl c.in-Ok.ensures.serves.sizes) c.in-Ok.ensures.serves (c.in-Ok.ensures.does s fits) c.in-Ok.ensures.asks
+          (does_failed (omega arith) (written c.args.number c.value_of-after.ensures (c.in-Err-carry_out_set.ensures.does _ behind))) tt c.in-Err-carry_out_set.ensures.asks;
+      performs = λ s fits.
+          performs_first s (Set c.args.number c.args.value.now) (c.is_due-due.ensures s old fits) (c.in_default.ensures.passes s old fits) false (has_room 4 (c.in-Ok.ensures.does s fits).after_fits c.in-Ok.ensures.serves.going.table c.in_default-full.ensures.room) c.in-Ok.ensures.asks.rules_are (c.in-Ok.ensures.performs s fits)
+          (performs_as (ap (λ (x : Content). (begins ++ writes c.args.number (content_at s.table c.args.number) x) ++ commits) (sym c.value_of-after.ensures)) (c.in-Err-carry_out_set.ensures.performs _ (c.in-Ok.ensures.does s fits).after_fits));
+      serves = serves_then c.in-Ok.ensures.serves (serves_ended c.in-Err-carry_out_set.ensures.serves);
+      ended = search rules;
+    }
