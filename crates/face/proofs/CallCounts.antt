@@ -5,7 +5,7 @@ use Rattle.site.specs.State.{State as Site}
 use Rattle.site.specs.Moments.{works_in}
 use Rattle.site.specs.Telling.{TellsOnly}
 use Rattle.image_changes.specs.Costs.{CallsForUnits, cost_of}
-use Rattle.face.specs.Lines.{HearsOnly}
+use Rattle.front_end.specs.Lines.{HearsOnly}
 
 -- while only is heard
 pub calls_heard : (g : Geometry) (mid now : Site) → HearsOnly mid now → CallsForUnits g mid now

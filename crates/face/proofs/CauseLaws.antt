@@ -9,9 +9,9 @@ use Rattle.site.specs.Laws.{rose_then}
 use Rattle.site.specs.Telling.{SameDevices}
 use Rattle.flash_cache.specs.Representation.{IsWorn}
 use Rattle.redo_laws.specs.Holding.{IsLogWorn, IsSpent}
-use Rattle.face.specs.declared.halt.Halt.{Halt}
-use Rattle.face.specs.declared.halt.Halt.TheVariants as halt
-use Rattle.face.specs.Texts.{status_of}
+use Rattle.front_end.specs.declared.halt.Halt.{Halt}
+use Rattle.front_end.specs.declared.halt.Halt.TheVariants as halt
+use Rattle.front_end.specs.Texts.{status_of}
 use Rattle.face.specs.Causes.{HasCause, HasCauses, IsWornOut}
 
 -- a cause holds still when a line was told

@@ -20,7 +20,7 @@ use Rattle.redo_undo.specs.declared.store.Store.{Store}
 use Rattle.engine.specs.Restarting.{LeavesNext}
 use Rattle.engine.specs.Image.{Stands}
 use Rattle.engine.specs.Representation.{Matches}
-use Rattle.face.specs.declared.halt.Halt.TheVariants as halt
+use Rattle.front_end.specs.declared.halt.Halt.TheVariants as halt
 use Rattle.engine.specs.Calls.{Ends}
 use Rattle.engine.specs.Leaves.{LeavesTable}
 use Rattle.face.specs.Causes.{FailsBy, HasCause}

@@ -30,7 +30,7 @@ use Rattle.engine.specs.Invariant.{Invariant, sizes_of}
 use Rattle.engine.specs.Image.{log_under}
 use Rattle.engine.specs.Numbers.{CountsOn, RestartsWithin}
 use Rattle.face.specs.Going.{IsCounted}
-use Rattle.face.specs.Lines.{HearsOnly, up_to_quit}
+use Rattle.front_end.specs.Lines.{HearsOnly, up_to_quit}
 use Rattle.face.specs.Range.{GivesNumbers, SkipsNoNumber, blocks_by, made_by, masters_by}
 use Rattle.face.proofs.CallCounts.{calls_heard}
 use Rattle.face.proofs.Writings.{images_heard, images_told}

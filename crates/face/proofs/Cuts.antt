@@ -5,9 +5,9 @@ use Rattle.std.specs.List.{AllByRecursion, list_any}
 use Rattle.std.proofs.lemmas.List.{append-nil, take_at, drop_at, take_all}
 use Rattle.site.specs.State.{Input, State as Site}
 use Rattle.record_model.specs.Run.{Line, is_quit}
-use Rattle.face.specs.declared.source.Source.{Source}
+use Rattle.front_end.specs.declared.source.Source.{Source}
 use Rattle.shell_text.specs.Reading.{line_of}
-use Rattle.face.specs.Lines.{commands_of, up_to_quit, answered_of, limit, pending, to_hear, IsSource, HasEnded, total, AreLines, HearsLine}
+use Rattle.front_end.specs.Lines.{commands_of, up_to_quit, answered_of, limit, pending, to_hear, IsSource, HasEnded, total, AreLines, HearsLine}
 use Rattle.face.specs.Working.{HasHeard}
 use Rattle.shell_text.proofs.Lines.{lines_of-waits}
 use Rattle.face.proofs.Fronts.{up_append, none_quit, some_quit}

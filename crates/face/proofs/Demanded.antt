@@ -12,12 +12,12 @@ use Rattle.site.specs.Telling.{TellsPart}
 use Rattle.record_model.specs.Run.{left_by}
 use Rattle.engine.specs.Paging.{cache_on}
 use Rattle.engine.specs.SeenVersions.{VersionsAreSeen}
-use Rattle.face.specs.declared.halt.Halt.{Halt}
-use Rattle.face.specs.declared.halt.Halt.TheVariants as halt
+use Rattle.front_end.specs.declared.halt.Halt.{Halt}
+use Rattle.front_end.specs.declared.halt.Halt.TheVariants as halt
 use Rattle.face.specs.Headline.{Resources}
 use Rattle.face.specs.Range.{AsksNoMore, LeavesItsQueue, LeavesStaged, LeavesVersions, SkipsNoNumber, cache_by, staged_by_run}
 use Rattle.face.specs.Run.{Run, answered, first_lines, turns_of}
-use Rattle.face.specs.Texts.{fault_line}
+use Rattle.front_end.specs.Texts.{fault_line}
 use Rattle.face.specs.Working.{Demands}
 use Rattle.face.specs.Worn.{HasRings, LeavesItsRings, WearsFirst, WearsNone, WearsNoneBefore, machine_by}
 use Rattle.face.proofs.Counted.{skips_still}

@@ -16,14 +16,14 @@ use Rattle.site.specs.Geometry.{HasLimits, HasLengths}
 use Rattle.redo_laws.specs.Holding.{IsLogWorn, IsSpent}
 use Rattle.redo_undo.specs.StoreCalls.{AreNext}
 use Rattle.record_model.specs.Run.{Line, is_quit}
-use Rattle.face.specs.declared.halt.Halt.{Halt}
-use Rattle.face.specs.declared.halt.Halt.TheVariants as halt
-use Rattle.face.specs.declared.source.Source.{Source}
-use Rattle.face.specs.declared.source.Heard.{Heard}
-use Rattle.face.specs.declared.source.Heard.TheVariants as heard
+use Rattle.front_end.specs.declared.halt.Halt.{Halt}
+use Rattle.front_end.specs.declared.halt.Halt.TheVariants as halt
+use Rattle.front_end.specs.declared.source.Source.{Source}
+use Rattle.front_end.specs.declared.source.Heard.{Heard}
+use Rattle.front_end.specs.declared.source.Heard.TheVariants as heard
 use Rattle.engine.specs.declared.engine.Engine.{Engine}
 use Rattle.face.specs.Causes.{HasCause, AnswerFailsBy}
-use Rattle.face.specs.Lines.{HasEnded, to_hear, total, IsSource, HearsLine, Hears, IsCutOff}
+use Rattle.front_end.specs.Lines.{HasEnded, to_hear, total, IsSource, HearsLine, Hears, IsCutOff}
 use Rattle.site.specs.declared.outside.Dev.TheVariants.{Log, Flash, Disk}
 use Rattle.face.specs.Range.{AsksNoMore, HasBegun, IsLeft, LeavesItsQueue, LeavesStaged, LeavesVersions, ListsTheMachine, SkipsNoNumber, WritesAsTold}
 use Rattle.face.specs.Worn.{LeavesItsRings, WearsFirst, WearsNone, WearsNoneBefore}

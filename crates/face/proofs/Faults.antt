@@ -15,22 +15,23 @@ use Rattle.record_model.specs.State.{State}
 use Rattle.record_model.specs.Run.{Line, Turn, after_commits, commit_marks, is_quit, replies}
 use Rattle.record_model.specs.Serial.{Serial}
 use Rattle.std.specs.List.{AllByRecursion, list_any}
-use Rattle.face.specs.declared.halt.Halt.{Halt}
-use Rattle.face.specs.declared.halt.Halt.TheVariants as halt
-use Rattle.face.specs.Texts.{fault_line, status_of}
+use Rattle.front_end.specs.declared.halt.Halt.{Halt}
+use Rattle.front_end.specs.declared.halt.Halt.TheVariants as halt
+use Rattle.front_end.specs.Texts.{fault_line, status_of}
 use Rattle.shell_text.specs.Texts.{open_text, reply_text}
 use Rattle.engine.specs.Image.{Stands}
-use Rattle.face.specs.Causes.{HasCause, HasCauses, NoFaultRose, EndsInTime}
+use Rattle.face.specs.Causes.{HasCause, HasCauses, EndsInTime}
+use Rattle.front_end.specs.Faults.{NoFaultRose}
 use Rattle.face.proofs.WornFronts.{earlier_same, never_worn}
-use Rattle.face.specs.Lines.{commands_of, up_to_quit, answered_of, limit}
+use Rattle.front_end.specs.Lines.{commands_of, up_to_quit, answered_of, limit}
 use Rattle.face.specs.Run.{Run, answered, first_lines, Begins}
 use Rattle.face.specs.Working.{Demands, HasHeard, HasTakenAll, IsBetween, StandsNear, StopsTaking, TakingFails, RunOutcome}
 use Rattle.face.proofs.Waits.{answers_still}
 use Rattle.face.specs.Range.{IsLeft, IsWhole, ListsTheMachine}
 use Rattle.face.specs.Worn.{WearsFirst, WearsNone}
 use Rattle.face.specs.Range.{first_texts, run_of, run_text, texts}
-use Rattle.face.specs.Tells.{EndsBehind, Tells}
-use Rattle.face.proofs.Endings.{ends_whole, ends_with}
+use Rattle.front_end.specs.Tells.{EndsBehind, Tells}
+use Rattle.front_end.proofs.Endings.{ends_whole, ends_with}
 use Rattle.face.proofs.Demanded.{asked_done, asked_halted, demands_failed}
 use Rattle.face.specs.TopCall.{RunContract}
 use Rattle.face.specs.Headline.{Durability, IsGood, IsToldWhole, Headline, TellsFault}

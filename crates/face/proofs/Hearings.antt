@@ -5,12 +5,12 @@ use Rattle.std.proofs.lemmas.List.{length-append}
 use Rattle.site.specs.State.{State as Site, Input}
 use Rattle.site.specs.declared.outside.Stop.TheVariants.{Device, Memory, Worn, Foreign}
 use Rattle.record_model.specs.Run.{Line, is_quit}
-use Rattle.face.specs.declared.halt.Halt.{Halt}
-use Rattle.face.specs.declared.halt.Halt.TheVariants as halt
-use Rattle.face.specs.declared.source.Source.{Source}
+use Rattle.front_end.specs.declared.halt.Halt.{Halt}
+use Rattle.front_end.specs.declared.halt.Halt.TheVariants as halt
+use Rattle.front_end.specs.declared.source.Source.{Source}
 use Rattle.face.specs.Hearing.{EndsHearing, HasTaken, HearsInTime, IsTooLong, WorkHears}
-use Rattle.face.specs.Lines.{HasEnded, HearsLine, IsCutOff, IsSource, limit, pending, to_hear, total}
-use Rattle.face.specs.Texts.{status_of}
+use Rattle.front_end.specs.Lines.{HasEnded, HearsLine, IsCutOff, IsSource, limit, pending, to_hear, total}
+use Rattle.front_end.specs.Texts.{status_of}
 use Rattle.face.specs.Working.{HasHeard}
 use Rattle.face.proofs.Cuts.{Cut, has_heard_all, heard_line, input_failed, over_limit, quit_is_last, taken_by}
 

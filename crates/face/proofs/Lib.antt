@@ -1,16 +1,12 @@
 mod CallCounts
 mod CauseLaws
-mod CheckLaws
 mod CommandLaws
 mod Counted
 mod Cuts
 mod Demanded
-pub mod Endings
 mod Ends
 mod Faults
-pub mod Firsts
 mod Fronts
-mod Heard
 mod Hearings
 mod Lefts
 mod LinesBeforeQuit
@@ -24,18 +20,18 @@ mod Logs
 mod Longer
 mod Meanings
 mod MemoryLaws
-mod NewLaws
 mod NextUnits
+mod Openings
 mod Pagings
 mod Quiet
 mod Ranges
-mod Replies
 mod RestartGroups
 mod RingCounts
 mod RingLives
 mod Runs
 mod RunsSoFar
 mod SerialRuns
+mod ToldFaults
 mod Trials
 mod Turns
 mod UntoldLines
@@ -45,4 +41,3 @@ mod WornLines
 mod WornRuns
 mod Writings
 mod Written
-mod Zeros

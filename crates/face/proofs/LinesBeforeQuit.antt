@@ -9,7 +9,7 @@ use Rattle.record_model.specs.declared.words.CacheLine.{CacheLine}
 use Rattle.record_model.specs.State.{State}
 use Rattle.record_model.specs.Touches.{CacheWork, line_touches}
 use Rattle.record_model.specs.Run.{Line, Turn, is_quit, is_cache, later_listings, turn, turns}
-use Rattle.face.specs.Lines.{up_to_quit}
+use Rattle.front_end.specs.Lines.{up_to_quit}
 use Rattle.face.specs.Run.{step, after_lines, works_of}
 use Rattle.face.specs.Workload.{numbers_of}
 use Rattle.workload.specs.Generator.{generated}

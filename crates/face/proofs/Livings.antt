@@ -8,12 +8,12 @@ use Rattle.record_model.specs.State.{State, opened}
 use Rattle.record_model.specs.Run.{IsInRange, Line, after_commits, commit_marks}
 use Rattle.engine.specs.Image.{Opens}
 use Rattle.face.specs.Headline.{Durability, ran}
-use Rattle.face.specs.Lines.{commands_of}
+use Rattle.front_end.specs.Lines.{commands_of}
 use Rattle.face.specs.Lives.{LawOfLives, OpensAgain}
 use Rattle.face.specs.Living.{Finds, HasLivedOne, IsFoundAfter}
 use Rattle.face.specs.Range.{IsLeft, IsToldOf, run_text, texts}
 use Rattle.face.specs.Run.{Run, turns_of}
-use Rattle.face.specs.Texts.{IsLineOf}
+use Rattle.front_end.specs.Texts.{IsLineOf}
 use Rattle.face.specs.Trial.{Between, IsTextOf, life_run}
 use Rattle.face.proofs.Longer.{all_heard, lines_longer, range_all, run_with, table_all, told_all}
 use Rattle.face.proofs.Ranges.{IsFault}

@@ -13,10 +13,11 @@ use Rattle.site.specs.Telling.{SameDevices, TellsOnly, TellsPart}
 use Rattle.site.specs.declared.outside.Failed.{Failed}
 use Rattle.record_model.specs.State.{State}
 use Rattle.record_model.specs.Run.{commit_marks, commits_among}
-use Rattle.face.specs.declared.halt.Halt.{Halt}
-use Rattle.face.specs.declared.halt.Halt.TheVariants as halt
+use Rattle.front_end.specs.declared.halt.Halt.{Halt}
+use Rattle.front_end.specs.declared.halt.Halt.TheVariants as halt
 use Rattle.command_line.specs.declared.request.Load.{Load}
-use Rattle.face.specs.Causes.{HasCause, HasCauses, NoFaultRose}
+use Rattle.face.specs.Causes.{HasCause, HasCauses}
+use Rattle.front_end.specs.Faults.{NoFaultRose}
 use Rattle.face.proofs.WornFronts.{never_worn_within}
 use Rattle.face.specs.TopCall.{LoadContract}
 use Rattle.face.specs.Headline.{IsGood, TellsFault}
@@ -24,11 +25,11 @@ use Rattle.face.specs.Loads.{Allows, HasBegunLoad, IsLeftOf, IsOpened, IsUntold,
 use Rattle.face.specs.Range.{StandsAfter, all_commits}
 use Rattle.face.specs.Worn.{WearsFirst, WearsNone}
 use Rattle.face.specs.Run.{IsFront, Run, first_lines, turns_of}
-use Rattle.face.specs.Texts.{fault_line, status_of}
-use Rattle.face.specs.Tells.{EndsBehind, Tells}
+use Rattle.front_end.specs.Texts.{fault_line, status_of}
+use Rattle.front_end.specs.Tells.{EndsBehind, Tells}
 use Rattle.face.specs.Workload.{load_run, load_texts, opening_text, summary_text}
 use Rattle.face.proofs.CallCounts.{calls_told}
-use Rattle.face.proofs.Endings.{ends_whole, ends_with}
+use Rattle.front_end.proofs.Endings.{ends_whole, ends_with}
 use Rattle.face.proofs.Demanded.{asked_done, asked_halted, demands_done, demands_err, demands_failed, demands_lost}
 use Rattle.face.proofs.Faults.{not_zero, worn_by, output_or_not}
 use Rattle.face.proofs.Meanings.{stands_by}

@@ -38,8 +38,8 @@ use Rattle.engine.specs.Listings.{QueueIsOnFlash}
 use Rattle.engine.specs.SeenVersions.{VersionsAreSeen, WhereItFits}
 use Rattle.engine.specs.Numbers.{CountsOn}
 use Rattle.engine.specs.Paging.{cache_on, restart_works}
-use Rattle.face.specs.declared.halt.Halt.{Halt}
-use Rattle.face.specs.declared.halt.Halt.TheVariants as halt
+use Rattle.front_end.specs.declared.halt.Halt.{Halt}
+use Rattle.front_end.specs.declared.halt.Halt.TheVariants as halt
 use Rattle.command_line.specs.declared.request.Load.{Load}
 use Rattle.face.specs.Going.{Going, IsCounted, IsPaged}
 use Rattle.face.specs.Loads.{CarriesFirst, CarriesOut, HasBegunLoad, IsLeftOf, IsOpened, IsUntold, LeavesSome, LoadStops, LoadWorks}
@@ -54,7 +54,7 @@ use Rattle.face.proofs.WornRuns.{rings_are, rings_of_store}
 use Rattle.face.specs.Range.{AsksNoMore, IsLeft, LeavesStaged, SkipsNoNumber, StandsAfter, all_commits, cache_by, first_texts, run_of, staged_by_run, texts}
 use Rattle.face.specs.Run.{AsksFew, Run, StandsFor, after_lines, answered, checkpoints_of, first_lines, works_of, turns_of, log_reads_of}
 use Rattle.face.specs.Working.{StandsNear, Stops, asked_after, log_reads_after}
-use Rattle.face.specs.Texts.{status_of}
+use Rattle.front_end.specs.Texts.{status_of}
 use Rattle.face.specs.Workload.{get_line, load_run, numbers_of, opening_text, set_line, set_lines, get_lines}
 use Rattle.face.proofs.Counted.{skips_course}
 use Rattle.face.proofs.Logs.{fits_stands}

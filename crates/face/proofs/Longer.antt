@@ -14,7 +14,7 @@ use Rattle.record_model.specs.State.{Content, State}
 use Rattle.record_model.specs.Run.{IsInRange, Line, Turn, after_commits, commit_marks, commits_among, committed_tables, is_committed, is_quit, later_listings, next_listing, replies, turn, turns, whole_texts}
 use Rattle.engine.specs.Image.{Stands}
 use Rattle.shell_text.specs.Texts.{open_text, reply_text}
-use Rattle.face.specs.Lines.{HeardAll, commands_of}
+use Rattle.front_end.specs.Lines.{HeardAll, commands_of}
 use Rattle.face.specs.Range.{IsLeft, IsToldOf, first_texts, run_of, run_text, texts}
 use Rattle.face.specs.Run.{IsFront, Run, turns_of}
 use Rattle.face.proofs.Fronts.{first_commands}

@@ -8,23 +8,23 @@ use Rattle.site.specs.Moments.{Leaves, LeavesOnly}
 use Rattle.site.specs.declared.outside.Failed.{Failed}
 use Rattle.record_model.specs.State.{State}
 use Rattle.record_model.specs.Serial.{Serial}
-use Rattle.face.specs.declared.halt.Halt.{Halt}
-use Rattle.face.specs.declared.halt.Halt.TheVariants as halt
+use Rattle.front_end.specs.declared.halt.Halt.{Halt}
+use Rattle.front_end.specs.declared.halt.Halt.TheVariants as halt
 use Rattle.face.specs.TopCall.{LoadContract, NewContract, RunContract}
 use Rattle.face.specs.Headline.{IsGood, Headline}
-use Rattle.face.specs.Tells.{Tells}
+use Rattle.front_end.specs.Tells.{Tells}
 use Rattle.face.specs.Run.{Run, first_lines}
 use Rattle.face.specs.Working.{RunOutcome}
 use Rattle.face.proofs.Pagings.{none_read}
 use Rattle.redo_laws.specs.MachineSteps.{NumbersRise}
-use Rattle.face.specs.New.{New, NewCauses}
-use Rattle.face.specs.Refusals.{LacksMemory, memory_fault}
+use Rattle.front_end.specs.New.{New, NewCauses}
+use Rattle.front_end.specs.Refusals.{LacksMemory, memory_fault}
 use Rattle.face.specs.Range.{AsksNoMore, run_of}
 use Rattle.command_line.specs.declared.request.Load.{Load}
 use Rattle.face.specs.Loads.{LoadHeadline, LoadWorks}
 use Rattle.face.specs.Workload.{load_run, summary_text}
 use Rattle.face.proofs.Counted.{counts_nothing}
-use Rattle.face.proofs.Endings.{tells_fault}
+use Rattle.face.proofs.ToldFaults.{tells_fault}
 use Rattle.face.proofs.LoadFaults.{load_contract, load_halted, stopped_before}
 use Rattle.face.proofs.Loadings.{load_never_opened}
 use Rattle.face.proofs.CauseLaws.{status_causes}

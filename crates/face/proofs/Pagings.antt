@@ -28,7 +28,7 @@ use Rattle.site.specs.Laws.{unchanged}
 use Rattle.site.specs.State.{IsQuiet}
 use Rattle.page_store.proofs.StagingLaws.{stages_none}
 use Rattle.engine.proofs.Asking.{still_writes}
-use Rattle.face.specs.Lines.{HearsOnly}
+use Rattle.front_end.specs.Lines.{HearsOnly}
 use Rattle.face.proofs.Writings.{last_heard, last_told, last_works, writes_told, writes_heard, writes_then}
 use Rattle.redo_laws.specs.MachineSteps.{StepsMachine, NumbersRise, ReadsAddUp, ReadsFor, WorksAddUp}
 use Rattle.engine.specs.declared.engine.Engine.{Engine}
@@ -37,8 +37,8 @@ use Rattle.engine.specs.Invariant.{sizes_of}
 use Rattle.engine.specs.Listings.{QueueIsOnFlash}
 use Rattle.engine.specs.SeenVersions.{VersionsAreSeen, WhereItFits}
 use Rattle.engine.specs.Paging.{HasLastFrom, WritesFrom, AsksFrom, restart_works, cache_on}
-use Rattle.face.specs.declared.halt.Halt.TheVariants as halt
-use Rattle.face.specs.Lines.{commands_of, up_to_quit}
+use Rattle.front_end.specs.declared.halt.Halt.TheVariants as halt
+use Rattle.front_end.specs.Lines.{commands_of, up_to_quit}
 use Rattle.face.proofs.Fronts.{first_commands, state_by_turns, whole_turns}
 use Rattle.face.proofs.Runs.{turn_at, turns_next}
 use Rattle.face.proofs.Turns.{first_answered}

@@ -18,11 +18,11 @@ use Rattle.record_model.specs.declared.words.CacheLine.{CacheLine}
 use Rattle.record_model.specs.declared.words.Reply.{Reply}
 use Rattle.record_model.specs.declared.words.Reply.TheVariants as reply
 use Rattle.record_model.specs.declared.words.CacheLine.TheVariants.{Frame, Pool}
-use Rattle.face.specs.declared.halt.Halt.{Halt}
-use Rattle.face.specs.declared.halt.Halt.TheVariants as halt
+use Rattle.front_end.specs.declared.halt.Halt.{Halt}
+use Rattle.front_end.specs.declared.halt.Halt.TheVariants as halt
 use Rattle.engine.specs.Image.{Stands}
 use Rattle.shell_text.specs.Texts.{open_text, reply_text}
-use Rattle.face.specs.Texts.{fault_line}
+use Rattle.front_end.specs.Texts.{fault_line}
 use Rattle.face.specs.Run.{Run, answered, step, after_lines, state_at, StandsAt, IsFront, turns_of}
 use Rattle.face.specs.Range.{texts, text_at, first_texts, run_text, all_commits, StandsAfter, IsToldOf, IsLeft}
 use Rattle.face.specs.Working.{StandsNear}

@@ -15,10 +15,10 @@ use Rattle.engine.specs.Leaves.{LeavesTable}
 use Rattle.engine.specs.Representation.{Matches}
 use Rattle.engine.specs.Invariant.{sizes_of}
 use Rattle.shell_text.specs.Texts.{open_text, reply_text}
-use Rattle.face.specs.declared.halt.Halt.{Halt}
-use Rattle.face.specs.declared.halt.Halt.TheVariants.{Output}
-use Rattle.face.specs.Texts.{status_of}
-use Rattle.face.specs.Lines.{HearsOnly}
+use Rattle.front_end.specs.declared.halt.Halt.{Halt}
+use Rattle.front_end.specs.declared.halt.Halt.TheVariants.{Output}
+use Rattle.front_end.specs.Texts.{status_of}
+use Rattle.front_end.specs.Lines.{HearsOnly}
 use Rattle.face.specs.Range.{HasBegun, IsLeft, IsWhole, StandsAfter, first_texts, text_at}
 use Rattle.face.specs.Run.{Run, answered, first_lines, step, state_at, listing_at, StandsFor, StandsAt, LeavesAnswer}
 use Rattle.face.specs.Working.{StandsNear, Stops}

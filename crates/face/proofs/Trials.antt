@@ -16,16 +16,16 @@ use Rattle.mem_site.specs.declared.mem.MemSite.{MemSite}
 use Rattle.workload.specs.declared.scripts.Life.{Life}
 use Rattle.workload.specs.declared.scripts.StopLine.{StopLine}
 use Rattle.workload.specs.Scripts.{lives_between, lives_of as lives_in, stops_from}
-use Rattle.face.specs.declared.halt.Halt.{Halt}
-use Rattle.face.specs.declared.halt.Halt.TheVariants as halt
+use Rattle.front_end.specs.declared.halt.Halt.{Halt}
+use Rattle.front_end.specs.declared.halt.Halt.TheVariants as halt
 use Rattle.face.specs.Image.{BlankLaw, blank_table}
-use Rattle.face.specs.Lines.{HearsOnly}
+use Rattle.front_end.specs.Lines.{HearsOnly}
 use Rattle.face.specs.Living.{Ends, Finds, HasLivedOne, IsGivenUp, IsHaltOfTrial, IsReady}
 use Rattle.face.specs.Run.{IsFront}
-use Rattle.face.specs.Tells.{Tells}
-use Rattle.face.specs.Texts.{fault_line, status_of}
+use Rattle.front_end.specs.Tells.{Tells}
+use Rattle.front_end.specs.Texts.{fault_line, status_of}
 use Rattle.face.specs.Trial.{Between, HaveLived, IsLife, IsNewSite, IsStatus, LeavesDevices, Lives, TellsAll, TellsSome, TrialCauses, TrialContract, at_first, is_within, life_line, numbers_of, script_limit}
-use Rattle.face.proofs.Endings.{ends_with}
+use Rattle.front_end.proofs.Endings.{ends_with}
 use Rattle.face.proofs.Longer.{front_more}
 
 -- How many lives a script has.

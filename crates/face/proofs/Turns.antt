@@ -6,7 +6,7 @@ use Rattle.record_model.specs.declared.words.Command.TheVariants as command
 use Rattle.record_model.specs.declared.words.CacheLine.{CacheLine}
 use Rattle.record_model.specs.State.{State}
 use Rattle.record_model.specs.Run.{Line, Turn, turn, turns, is_quit, left_by, listings_after, next_listing, later_listings, state_at as model_state}
-use Rattle.face.specs.Lines.{up_to_quit}
+use Rattle.front_end.specs.Lines.{up_to_quit}
 use Rattle.face.specs.Run.{step, after_lines}
 
 -- the states between the turns

@@ -28,8 +28,8 @@ use Rattle.engine.specs.Representation.{Matches}
 use Rattle.engine.specs.Invariant.{Invariant, sizes_of}
 use Rattle.engine.specs.Leaves.{LeavesEither}
 use Rattle.engine.specs.Numbers.{CountsOn}
-use Rattle.face.specs.declared.halt.Halt.{Halt}
-use Rattle.face.specs.declared.halt.Halt.TheVariants as halt
+use Rattle.front_end.specs.declared.halt.Halt.{Halt}
+use Rattle.front_end.specs.declared.halt.Halt.TheVariants as halt
 use Rattle.face.specs.Causes.{AnswerFailsBy}
 use Rattle.face.specs.Going.{LineStepsMachine}
 use Rattle.face.specs.Loads.{CarriesFirst, CarriesOut, LeavesSome}

@@ -1,49 +1,16 @@
 -- When input is asked for.
-use Rattle.std.proofs.Common.{◌≡◌, ◌≢◌, ℕ, ◌+◌, ◌≤◌, true, false, List, [], ◌++◌, length, take, refl, sym, ◌∙◌, ap, subst, arith, append_assoc, length-append}
+use Rattle.std.proofs.Common.{◌≡◌, ℕ, ◌+◌, ◌≤◌, false, List, [], ◌++◌, length, take, sym, ◌∙◌, ap, subst, arith, append_assoc, length-append}
 use Rattle.std.proofs.lemmas.List.{append-nil}
 use Rattle.std_lemmas.proofs.AllOf.{all_append, all_weaker}
 use Rattle.site.specs.State.{Input, State as Site}
 use Rattle.site.specs.declared.outside.Take.{Take}
-use Rattle.face.specs.declared.source.Source.{Source}
-use Rattle.face.specs.Lines.{answered_of, pending, to_hear, IsSource, TookWithin, TakesWithin}
+use Rattle.front_end.specs.declared.source.Source.{Source}
+use Rattle.front_end.specs.Lines.{answered_of, pending, to_hear, IsSource, TookWithin, TakesWithin}
 use Rattle.face.specs.Range.{first_texts}
 use Rattle.face.specs.Run.{Run}
 use Rattle.face.specs.Waiting.{IsAnswered}
 use Rattle.face.specs.Working.{AnswersFirst, IsEarly}
 use Rattle.face.proofs.Cuts.{Cut, whole_before}
-use Rattle.face.proofs.Heard.{HeardSoFar}
-
--- Within a line.
-
--- octets of the line were heard, and then input was asked for again
-pub takes_then : (source source' : Source) (old mid new : Site) (line : List ℕ) (len n : ℕ) → HeardSoFar (to_hear source old) (to_hear source' mid) line len n → mid.told ≡ old.told → source'.ended ≡ source.ended
-    → TakesWithin source old mid → TakesWithin source' mid new → TakesWithin source old new
-takes_then source source' old mid new line len n h told same first second = record {
-  takes = first.takes ++ second.takes;
-  are = second.are ∙ ap (λ (l : List Take). l ++ second.takes) first.are ∙ append_assoc old.input.takes first.takes second.takes;
-  within = all_append (TookWithin source old) first.takes second.takes first.within (all_weaker (TookWithin source' mid) (TookWithin source old) later second.takes second.within);
-  count = second.count ∙ first.count;
-}
-  where
-    later : (t : Take) → TookWithin source' mid t → TookWithin source old t
-    later t took = record {
-      octets = h.octets ++ took.octets;
-      none = all_append (λ x. x ≢ 10) h.octets took.octets h.none took.none;
-      rest = took.rest;
-      all = h.all ∙ ap (λ (l : List ℕ). h.octets ++ l) took.all ∙ sym (append_assoc h.octets took.octets took.rest);
-      here =
-          let here = took.here in
-          let count = first.count in
-          let before = length-append (pending source) old.input.left in
-          let after = length-append (pending source') mid.input.left in
-          let all = ap length h.all ∙ length-append h.octets (to_hear source' mid) in
-          let both = length-append h.octets took.octets in
-          omega (arith, here, count, before, after, all, both);
-      told = took.told ∙ ap length told;
-      going = sym same ∙ took.going;
-    }
-
--- Of a run.
 
 -- none yet
 pub answers_none : (run : Run) (old now : Site) → now.input ≡ old.input → AnswersFirst run 0 old now

@@ -17,8 +17,8 @@ use Rattle.ring_machine.proofs.Works.{first_then}
 use Rattle.page_store.specs.Caching.{rules}
 use Rattle.redo_undo.specs.declared.store.Store.{Store}
 use Rattle.redo_undo.specs.Mirroring.{MirrorsStore, PerformsStore}
-use Rattle.face.specs.declared.halt.Halt.{Halt}
-use Rattle.face.specs.declared.halt.Halt.TheVariants.{Stop}
+use Rattle.front_end.specs.declared.halt.Halt.{Halt}
+use Rattle.front_end.specs.declared.halt.Halt.TheVariants.{Stop}
 use Rattle.face.specs.Run.{after_lines}
 use Rattle.face.specs.Worn.{LinePerforms, LinesPerform, rings_of}
 use Rattle.face.proofs.LinesBeforeQuit.{take_over}

@@ -34,9 +34,9 @@ use Rattle.redo_undo.specs.declared.store.Store.{Store}
 use Rattle.redo_undo.specs.Mirroring.{MirrorsStore, PerformsStore}
 use Rattle.engine.specs.declared.engine.Engine.{Engine}
 use Rattle.engine.specs.RingWork.{machine_on}
-use Rattle.face.specs.declared.halt.Halt.{Halt}
-use Rattle.face.specs.declared.halt.Halt.TheVariants as halt
-use Rattle.face.specs.Lines.{up_to_quit}
+use Rattle.front_end.specs.declared.halt.Halt.{Halt}
+use Rattle.front_end.specs.declared.halt.Halt.TheVariants as halt
+use Rattle.front_end.specs.Lines.{up_to_quit}
 use Rattle.face.specs.Run.{Run, after_lines, answered, first_lines, state_at, step, turns_of}
 use Rattle.face.specs.Worn.{HasRings, IsMirrored, LeavesItsRings, LinePerforms, WearsNone, machine_by, rings_by, rings_of, worn_by}
 use Rattle.face.proofs.Fronts.{whole_turns}

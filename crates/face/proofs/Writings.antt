@@ -18,7 +18,7 @@ use Rattle.engine.specs.declared.engine.Engine.{Engine}
 use Rattle.engine.specs.Representation.{Matches}
 use Rattle.engine.specs.Invariant.{Invariant}
 use Rattle.engine.specs.Paging.{HasLastFrom, WritesFrom}
-use Rattle.face.specs.Lines.{HearsOnly}
+use Rattle.front_end.specs.Lines.{HearsOnly}
 
 -- the queue of a database that fits is the one on flash
 pub engine_queue : (engine : Engine) (site : Site) (s : State) → Invariant engine site → Matches engine site s → HasQueueOn engine.store.pages site

@@ -15,7 +15,7 @@ use Rattle.page_store.specs.Caching.{cache_of, rules}
 use Rattle.redo_laws.specs.MachineSteps.{ReadsFor}
 use Rattle.engine.specs.Paging.{HasLastFrom, WritesFrom, cache_on}
 use Rattle.page_store.specs.Staging.{HasQueueOn}
-use Rattle.face.specs.declared.halt.Halt.{Halt}
+use Rattle.front_end.specs.declared.halt.Halt.{Halt}
 use Rattle.log_records.specs.Log.{Entry}
 use Rattle.redo_laws.specs.Holding.{blocks_to}
 use Rattle.image_changes.specs.Costs.{CallsForUnits}

@@ -7,18 +7,18 @@ use Rattle.site.specs.Moments.{LeavesOnly}
 use Rattle.site.specs.declared.geometry.Geometry.{Geometry}
 use Rattle.record_model.specs.declared.words.CacheLine.{CacheLine}
 use Rattle.record_model.specs.State.{State}
-use Rattle.face.specs.declared.halt.Halt.{Halt}
-use Rattle.face.specs.declared.halt.Halt.TheVariants.{Stop}
-use Rattle.face.specs.Texts.{IsLineOf, fault_line, status_of}
+use Rattle.front_end.specs.declared.halt.Halt.{Halt}
+use Rattle.front_end.specs.declared.halt.Halt.TheVariants.{Stop}
+use Rattle.front_end.specs.Texts.{IsLineOf, fault_line, status_of}
 use Rattle.image_changes.specs.Costs.{CallsForUnits}
 use Rattle.engine.specs.Image.{Opens}
 use Rattle.face.specs.Causes.{HasCause}
-use Rattle.face.specs.Tells.{EndsWith, EndsBehind}
+use Rattle.front_end.specs.Tells.{EndsWith, EndsBehind}
 use Rattle.std.specs.List.{list_any}
 use Rattle.record_model.specs.Run.{Turn, is_quit}
 use Rattle.record_model.specs.Serial.{IsSerial}
 use Rattle.shell_text.specs.Serial.{IsToldSerial}
-use Rattle.face.specs.Lines.{HeardAll, limit, commands_of}
+use Rattle.front_end.specs.Lines.{HeardAll, limit, commands_of}
 use Rattle.face.specs.Run.{Run, IsFront, first_lines, turns_of}
 use Rattle.face.specs.Range.{run_of, texts, run_text, IsLeft, IsWhole}
 use Rattle.face.specs.Waiting.{NobodyWaits}

@@ -4,9 +4,9 @@ use Rattle.std.specs.Prelude.{IfErr}
 use Rattle.std.specs.List.{list_any}
 use Rattle.site.specs.State.{State as Site}
 use Rattle.record_model.specs.Run.{is_quit}
-use Rattle.face.specs.declared.halt.Halt.{Halt}
-use Rattle.face.specs.declared.halt.Halt.TheVariants.{Limit}
-use Rattle.face.specs.Lines.{HeardAll, commands_of, limit}
+use Rattle.front_end.specs.declared.halt.Halt.{Halt}
+use Rattle.front_end.specs.declared.halt.Halt.TheVariants.{Limit}
+use Rattle.front_end.specs.Lines.{HeardAll, commands_of, limit}
 
 -- these are more octets than a run may take, and there is no quit among the first of them
 abbrev pub IsTooLong : List ℕ → Type 0

@@ -7,8 +7,8 @@ use Rattle.mem_site.specs.MemState.{state_of}
 use Rattle.mem_site.specs.declared.mem.MemSite.{MemSite}
 use Rattle.record_model.specs.declared.words.CacheLine.{CacheLine}
 use Rattle.record_model.specs.State.{Content, opened}
-use Rattle.face.specs.declared.halt.Halt.{Halt}
-use Rattle.face.specs.declared.halt.Halt.TheVariants as halt
+use Rattle.front_end.specs.declared.halt.Halt.{Halt}
+use Rattle.front_end.specs.declared.halt.Halt.TheVariants as halt
 use Rattle.face.specs.Headline.{IsGood}
 use Rattle.face.specs.Run.{Run}
 use Rattle.face.specs.Trial.{Between, GoesOn, HaveLived, IsTextOf, TellsAll, TellsSome, life_run}

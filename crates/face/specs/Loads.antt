@@ -13,18 +13,18 @@ use Rattle.redo_undo.specs.StoreCalls.{AreNext}
 use Rattle.engine.specs.declared.engine.Engine.{Engine}
 use Rattle.engine.specs.Representation.{Matches}
 use Rattle.engine.specs.Invariant.{Invariant, sizes_of}
-use Rattle.face.specs.declared.halt.Halt.{Halt}
-use Rattle.face.specs.declared.halt.Halt.TheVariants.{Stop, Output}
+use Rattle.front_end.specs.declared.halt.Halt.{Halt}
+use Rattle.front_end.specs.declared.halt.Halt.TheVariants.{Stop, Output}
 use Rattle.command_line.specs.declared.request.Load.{Load}
 use Rattle.face.specs.Causes.{AnswerFailsBy}
 use Rattle.face.specs.Going.{LineStepsMachine}
 use Rattle.face.specs.Headline.{IsFaultOf, Resources}
-use Rattle.face.specs.Tells.{EndsBehind}
+use Rattle.front_end.specs.Tells.{EndsBehind}
 use Rattle.face.specs.Range.{all_commits, StandsAfter}
 use Rattle.face.specs.Run.{Run, IsFront, StandsFor, after_lines, answered, first_lines, works_of, checkpoints_of}
 use Rattle.face.specs.Run.{log_reads_of, turns_of}
 use Rattle.engine.specs.Numbers.{CountsOn}
-use Rattle.face.specs.Texts.{IsLineOf, status_of}
+use Rattle.front_end.specs.Texts.{IsLineOf, status_of}
 use Rattle.face.specs.Working.{Demands}
 use Rattle.face.specs.Worn.{LinesPerform, WearsNoneBefore}
 use Rattle.face.specs.Workload.{committed_in, checkpoints_in, found_in, load_run, load_texts, opening_text}

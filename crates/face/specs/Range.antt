@@ -29,7 +29,7 @@ use Rattle.log_records.specs.Log.{Entry}
 use Rattle.log_records.specs.Unfinished.{owed}
 use Rattle.face.specs.Workload.{checkpoints_in}
 use Rattle.shell_text.specs.Runs.{texts as run_texts}
-use Rattle.face.specs.Lines.{commands_of}
+use Rattle.front_end.specs.Lines.{commands_of}
 use Rattle.face.specs.Run.{Run, IsFront, AsksFew, line_log_reads, first_lines, turns_of}
 
 -- the run that opens with this state, over the lines of these octets, with these listings of the cache

@@ -10,7 +10,8 @@ use Rattle.record_model.specs.State.{State}
 use Rattle.second_chance.specs.Groups.{reads_in}
 use Rattle.command_line.specs.declared.request.Load.{Load}
 use Rattle.redo_laws.specs.Numbers.{HasNumbers}
-use Rattle.face.specs.Causes.{EndsInTime, NoFaultRose}
+use Rattle.face.specs.Causes.{EndsInTime}
+use Rattle.front_end.specs.Faults.{NoFaultRose}
 use Rattle.face.specs.Headline.{Headline, IsGood, ran}
 use Rattle.face.specs.Loads.{LoadHeadline}
 use Rattle.face.specs.Range.{made_by, run_of}

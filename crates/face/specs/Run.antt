@@ -14,7 +14,7 @@ use Rattle.engine.specs.Paging.{WritesFrom, cache_on}
 use Rattle.engine.specs.Image.{Stands, Opens}
 use Rattle.engine.specs.Numbers.{checkpoints_by}
 use Rattle.engine.specs.LogReads.{log_reads_by}
-use Rattle.face.specs.Lines.{commands_of, up_to_quit}
+use Rattle.front_end.specs.Lines.{commands_of, up_to_quit}
 
 -- what a line is answered, and the state that it leaves, where the cache has this listing
 abbrev pub step : State → Line → List CacheLine → Outcome

@@ -4,10 +4,11 @@ use Rattle.site.specs.State.{State as Site}
 use Rattle.site.specs.declared.geometry.Geometry.{Geometry}
 use Rattle.record_model.specs.State.{State}
 use Rattle.command_line.specs.declared.request.Load.{Load}
-use Rattle.face.specs.Causes.{EndsInTime, HasCauses, NoFaultRose}
+use Rattle.face.specs.Causes.{EndsInTime, HasCauses}
+use Rattle.front_end.specs.Faults.{NoFaultRose}
 use Rattle.face.specs.Headline.{Headline, IsGood, TellsFault}
 use Rattle.face.specs.Loads.{LoadHeadline}
-use Rattle.face.specs.New.{New, NewCauses}
+use Rattle.front_end.specs.New.{New, NewCauses}
 use Rattle.face.specs.Range.{run_of}
 use Rattle.face.specs.Workload.{load_run}
 use Rattle.face.specs.Worn.{WearsNone}

@@ -15,12 +15,12 @@ use Rattle.record_model.specs.State.{Content, opened}
 use Rattle.record_model.specs.Run.{IsInRange, after_commits, commit_marks}
 use Rattle.workload.specs.declared.scripts.Life.{Life}
 use Rattle.workload.specs.Scripts.{lives_of as lives_in}
-use Rattle.face.specs.declared.halt.Halt.{Halt}
+use Rattle.front_end.specs.declared.halt.Halt.{Halt}
 use Rattle.face.specs.Image.{blank_table}
 use Rattle.face.specs.Range.{IsToldOf, run_of, run_text, texts}
 use Rattle.face.specs.Run.{IsFront, Run, turns_of}
-use Rattle.face.specs.Tells.{EndsWith}
-use Rattle.face.specs.Texts.{IsLineOf, fault_line, status_of}
+use Rattle.front_end.specs.Tells.{EndsWith}
+use Rattle.front_end.specs.Texts.{IsLineOf, fault_line, status_of}
 
 -- What stands between two lives: what was told of those before, how many changes each of them asked for, and the table
 -- and the number of commits that the next one finds.

@@ -3,7 +3,7 @@ use Rattle.std.specs.Prelude.{◌≡◌, ℕ, ◌+◌, ◌≤◌, List, ◌++◌
 use Rattle.std.specs.List.{AllByRecursion}
 use Rattle.site.specs.State.{State as Site}
 use Rattle.site.specs.declared.outside.Take.{Take}
-use Rattle.face.specs.Lines.{answered_of}
+use Rattle.front_end.specs.Lines.{answered_of}
 use Rattle.face.specs.Run.{Run}
 use Rattle.face.specs.Range.{first_texts}
 

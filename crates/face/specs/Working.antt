@@ -12,14 +12,14 @@ use Rattle.record_model.specs.Run.{commit_marks, commits_among, is_quit}
 use Rattle.record_model.specs.Touches.{CacheWork}
 use Rattle.log_records.specs.declared.log_record.LogRecord.{LogRecord}
 use Rattle.checkpoint.specs.declared.master.Master.{Master}
-use Rattle.face.specs.declared.halt.Halt.{Halt}
-use Rattle.face.specs.declared.halt.Halt.TheVariants.{Stop, Output, Input, Limit}
-use Rattle.face.specs.Lines.{HeardAll, answered_of, commands_of, limit}
+use Rattle.front_end.specs.declared.halt.Halt.{Halt}
+use Rattle.front_end.specs.declared.halt.Halt.TheVariants.{Stop, Output, Input, Limit}
+use Rattle.front_end.specs.Lines.{HeardAll, answered_of, commands_of, limit}
 use Rattle.face.specs.Range.{AsksNoMore, HasBegun, IsLeft, IsWhole, LeavesItsQueue, LeavesStaged, LeavesVersions}
 use Rattle.face.specs.Range.{ListsTheMachine, SkipsNoNumber, StandsAfter, WritesAsTold, first_texts}
 use Rattle.face.specs.Range.{log_reads_by_turns, texts, works_by}
 use Rattle.face.specs.Run.{Run, first_lines, turns_of}
-use Rattle.face.specs.Texts.{status_of}
+use Rattle.front_end.specs.Texts.{status_of}
 use Rattle.face.specs.Waiting.{NobodyWaits}
 use Rattle.face.specs.Worn.{LeavesItsRings, WearsFirst, WearsNone, WearsNoneBefore}
 

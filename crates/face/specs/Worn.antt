@@ -23,8 +23,8 @@ use Rattle.redo_undo.specs.Mirroring.{MirrorsStore, PerformsStore}
 use Rattle.engine.specs.declared.engine.Engine.{Engine}
 use Rattle.engine.specs.Image.{IsSound}
 use Rattle.engine.specs.RingWork.{machine_on}
-use Rattle.face.specs.declared.halt.Halt.{Halt}
-use Rattle.face.specs.declared.halt.Halt.TheVariants.{Stop}
+use Rattle.front_end.specs.declared.halt.Halt.{Halt}
+use Rattle.front_end.specs.declared.halt.Halt.TheVariants.{Stop}
 use Rattle.face.specs.Run.{Run, first_lines, step, turns_of}
 
 -- what the run asks of log and cache over this image: the restart's work, then that of these turns

@@ -1,6 +1,6 @@
 // A line is carried out, and its reply is told.
 ghost use Rattle.std.specs.Prelude.{◌≡◌, ◌≢◌, [], ◌++◌, List, IfErr, IsErrOf, IsTrue, OnOk};
-ghost use Rattle.face.specs.Causes.{RunFaults};
+ghost use Rattle.front_end.specs.Faults.{RunFaults};
 ghost use Rattle.site.specs.State.{IsQuiet};
 ghost use Rattle.site.specs.Calls.{Preserves};
 ghost use Rattle.site.specs.Moments.{LeavesOnly};
@@ -22,9 +22,8 @@ ghost use Rattle.face.specs.Worn.{LinePerforms};
 ghost use Rattle.ring_machine.specs.Commands.{line_work};
 
 use crate::commands::carry_out;
-use crate::halt::Halt;
-use crate::text::tell_reply;
 use engine::Engine;
+use front_end::{Halt, tell_reply};
 use record_model::Command;
 use site::Site;
 

@@ -1,5 +1,5 @@
 // Laws on what an image stands for; their lemmas stand in proofs/.
-ghost use Rattle.face.specs.Check.{OpeningIsSound, SoundOpens};
+ghost use Rattle.face.specs.Openings.{OpeningIsSound, SoundOpens};
 ghost use Rattle.face.specs.Image.{OneMeaning, OneOpening, OpensWhereItStands, BlankLaw};
 ghost use Rattle.face.specs.Lives.{LawOfLives, LawOfLoads};
 ghost use Rattle.face.specs.RingNumbers.{LivesHaveRoom, LoadsAreComplete, NumbersOfLives, RunsAreComplete};

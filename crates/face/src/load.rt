@@ -1,11 +1,11 @@
 // A stated workload: its sets, the gets on the same records, and its summary.
 ghost use Rattle.std.specs.Prelude.{◌≡◌, ◌≢◌, ◌*◌, ◌&&◌, false, [], ◌∷◌, IfOk, IfErr, if◌then◌else◌, OnOk};
-ghost use Rattle.face.specs.Causes.{FirstDecides, RunFaults, SameFaults};
+ghost use Rattle.front_end.specs.Faults.{FirstDecides, RunFaults, SameFaults};
 ghost use Rattle.site.specs.Calls.{Preserves};
 ghost use Rattle.site.specs.declared.geometry.Geometry.{Geometry};
 ghost use Rattle.site.specs.declared.outside.Dev.{Dev};
 ghost use Rattle.site.specs.declared.outside.Stop.{Stop};
-ghost use Rattle.face.specs.declared.halt.Halt.{Halt};
+ghost use Rattle.front_end.specs.declared.halt.Halt.{Halt};
 ghost use Rattle.record_model.specs.State.{State};
 ghost use Rattle.record_model.specs.Run as model;
 ghost use Rattle.record_model.specs.Run.{is_cache};
@@ -17,17 +17,16 @@ ghost use Rattle.face.specs.TopCall.{LoadContract};
 ghost use Rattle.face.specs.Run.{step};
 ghost use Rattle.face.specs.Headline.{IsGood};
 ghost use Rattle.command_line.specs.Words.{HasLoadLimits};
-ghost use Rattle.face.specs.Refusals.{RefusesDevices};
+ghost use Rattle.front_end.specs.Refusals.{RefusesDevices};
 ghost use Rattle.face.specs.Workload as stated;
 ghost use Rattle.face.specs.Workload.{found_in, get_lines, load_run, set_lines, summary_of, summary_text};
 ghost use Rattle.face.specs.Loads.{CarriesFirst, CarriesOut, HasCounted, HasMade, LoadWorks};
 
 use crate::commands::carry_out;
-use crate::fault_lines::tell_halt;
-use crate::halt::Halt;
 use crate::opening::open;
 use command_line::Load;
 use engine::{Engine, queue_is_on_flash, rest_counts_nothing, versions_are_seen};
+use front_end::{Halt, tell_halt};
 use record_model::{Command, Reply};
 use redo_undo::works_add_up;
 use shell_text::Line;

@@ -1,8 +1,8 @@
 // How a run or a load begins.
 ghost use Rattle.std.specs.Prelude.{◌≡◌, ◌≢◌, ◌≤◌, ℕ, List, Option, IsTrue, IfOk, IfErr, IsErrOf, OnOk};
-ghost use Rattle.face.specs.Causes.{RunFaults};
+ghost use Rattle.front_end.specs.Faults.{RunFaults};
 ghost use Rattle.site.specs.Calls.{Preserves};
-ghost use Rattle.face.specs.declared.halt.Halt.{Halt};
+ghost use Rattle.front_end.specs.declared.halt.Halt.{Halt};
 ghost use Rattle.site.specs.declared.geometry.Geometry.{Geometry};
 ghost use Rattle.record_model.specs.State.{State, Content};
 ghost use Rattle.engine.specs.Image.{IsSound, Stands, log_under};
@@ -22,8 +22,8 @@ ghost use Rattle.face.specs.Working.{Stops};
 ghost use Rattle.face.specs.Going.{Going, IsPaged, IsCounted};
 ghost use Rattle.face.specs.Worn.{IsMirrored, WearsFirst};
 
-use crate::halt::Halt;
 use engine::Engine;
+use front_end::Halt;
 use shell_text::open_line;
 use site::{Site, tell_all};
 use std::alloc::Global;

@@ -1,8 +1,8 @@
 // The work of `run`, that of `trial` on a site of its own, and what comes of want of memory.
 ghost use Rattle.std.specs.Prelude.{◌≡◌, ◌≤◌, ◌∷◌, [], ℕ, List, Option, IfErr, IsTrue};
-ghost use Rattle.face.specs.Causes.{FirstDecides, RunFaults, SameFaults};
+ghost use Rattle.front_end.specs.Faults.{FirstDecides, RunFaults, SameFaults};
 ghost use Rattle.site.specs.Calls.{Preserves};
-ghost use Rattle.face.specs.declared.halt.Halt.{Halt};
+ghost use Rattle.front_end.specs.declared.halt.Halt.{Halt};
 ghost use Rattle.site.specs.declared.geometry.Geometry.{Geometry};
 ghost use Rattle.record_model.specs.declared.words.CacheLine.{CacheLine};
 ghost use Rattle.record_model.specs.Run.{is_quit};
@@ -16,19 +16,17 @@ ghost use Rattle.command_line.specs.declared.request.Load.{Load};
 ghost use Rattle.command_line.specs.declared.request.Simulation.{Simulation};
 ghost use Rattle.command_line.specs.declared.request.TrialSizes.{TrialSizes};
 ghost use Rattle.command_line.specs.Words.{HasTrialLimits};
-ghost use Rattle.face.specs.Check.{CheckContract};
+ghost use Rattle.front_end.specs.Check.{CheckContract};
 ghost use Rattle.trace_report.specs.Contract.{SimulateContract};
 ghost use Rattle.face.specs.Trial.{TrialContract};
-ghost use Rattle.face.specs.Refusals.{RefusesDevices, LacksMemory};
+ghost use Rattle.front_end.specs.Refusals.{RefusesDevices, LacksMemory};
 
 use crate::answer::answer;
-use crate::fault_lines::{tell_halt, tell_memory};
-use crate::halt::Halt;
 use crate::opening::open;
-use crate::source::{Heard, Source};
 use crate::trial::trial;
 use command_line::TrialSizes;
 use engine::{queue_is_on_flash, versions_are_seen};
+use front_end::{Halt, Heard, Source, tell_halt, tell_memory};
 use mem_site::MemSite;
 use record_model::{Command, serial_order};
 use redo_undo::works_add_up;

@@ -1,12 +1,12 @@
 // The words make a site, the top call works on it, and what is to be said is said.
 ghost use Rattle.std.specs.Prelude.{◌≡◌};
 ghost use Rattle.site.specs.declared.outside.Stop.{Stop};
-ghost use Rattle.face.specs.declared.halt.Halt.{Halt};
-ghost use Rattle.face.specs.Texts.{status_of};
+ghost use Rattle.front_end.specs.declared.halt.Halt.{Halt};
+ghost use Rattle.front_end.specs.Texts.{status_of};
 
 use command_line::{Request, Unread, read_words, sizes};
-use face::Halt;
 use file_site::{FileSite, LockFile, tell_line};
+use front_end::Halt;
 use image_check::{Verdict, check_image};
 use image_form::Place;
 use notices::{say, see};

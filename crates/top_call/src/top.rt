@@ -1,6 +1,6 @@
 // The top call: words in, a status out.
 ghost use Rattle.std.specs.Prelude.{◌≡◌, ◌⊎◌, ℕ, List, IsTrue};
-ghost use Rattle.face.specs.Causes.{FirstDecides, SameFaults};
+ghost use Rattle.front_end.specs.Faults.{FirstDecides, SameFaults};
 ghost use Rattle.site.specs.Calls.{Preserves};
 ghost use Rattle.site.specs.declared.geometry.Geometry.{Geometry};
 ghost use Rattle.engine.specs.Leaves.{HasNoSizes};
@@ -11,13 +11,14 @@ ghost use Rattle.command_line.specs.declared.request.Simulation.{Simulation};
 ghost use Rattle.command_line.specs.declared.request.TrialSizes.{TrialSizes};
 ghost use Rattle.command_line.specs.Words.{IsCheck, IsRun, IsNew, IsLoad, IsSimulate, IsTrial, IsRight};
 ghost use Rattle.command_line.specs.Words.{HasDash, words_of};
-ghost use Rattle.face.specs.Check.{CheckContract};
+ghost use Rattle.front_end.specs.Check.{CheckContract};
 ghost use Rattle.trace_report.specs.Contract.{SimulateContract};
 ghost use Rattle.face.specs.Trial.{TrialContract};
-ghost use Rattle.face.specs.Refusals.{RefusesWords, RefusesDevices, LacksMemory};
+ghost use Rattle.front_end.specs.Refusals.{RefusesWords, RefusesDevices, LacksMemory};
 
 use command_line::{Request, Unread, read_words};
-use face::{lack_memory, make_new, serve, serve_check, serve_load, serve_trial, tell_words};
+use face::{lack_memory, serve, serve_load, serve_trial};
+use front_end::{make_new, serve_check, tell_words};
 use site::Site;
 use std::alloc::Global;
 use trace_report::simulate;

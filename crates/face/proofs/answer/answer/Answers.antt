@@ -10,7 +10,7 @@ use Rattle.site.specs.Telling.{TellsPart}
 use Rattle.shell_text.specs.Texts.{reply_text}
 use Rattle.engine.specs.Invariant.{sizes_of}
 use Rattle.engine.specs.Listings.{listing_of}
-use Rattle.face.specs.declared.halt.Halt.TheVariants as halt
+use Rattle.front_end.specs.declared.halt.Halt.TheVariants as halt
 use Rattle.face.specs.Run.{step, StandsFor}
 use Rattle.face.proofs.Quiet.{not_told, is_told}
 use Rattle.face.proofs.Logs.{still_fits, fits_stands, goes_on}

@@ -1,4 +1,4 @@
-use Rattle.face.proofs.CheckLaws.{opening_is_sound, sound_opens}
+use Rattle.face.proofs.Openings.{opening_is_sound, sound_opens}
 use Rattle.face.proofs.laws.sound_opens.Goals as goal
 
 pub returns-clause-opens : goal.returns-clause-opens

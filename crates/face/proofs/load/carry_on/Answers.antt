@@ -1,6 +1,6 @@
 use Rattle.std.proofs.Common.{◌∙◌, ap, refl, sym, true≢false, []}
 use Rattle.engine.specs.Invariant.{sizes_of}
-use Rattle.face.specs.declared.halt.Halt.TheVariants as halt
+use Rattle.front_end.specs.declared.halt.Halt.TheVariants as halt
 use Rattle.face.proofs.Writings.{tells_none}
 use Rattle.face.proofs.WornLines.{lines_one}
 use Rattle.face.proofs.WornRuns.{line_answered, line_stopped}

@@ -6,7 +6,7 @@ use Rattle.engine.specs.Representation.{Matches}
 use Rattle.workload.specs.Generator.{generated}
 use Rattle.face.specs.Loads.{CarriesOut, HasMade}
 use Rattle.face.specs.Workload.{set_lines}
-use Rattle.face.specs.Causes.{SameFaults}
+use Rattle.front_end.specs.Faults.{SameFaults}
 use Rattle.face.proofs.load.make_sets.Given as goal
 
 abbrev pub invariant-loop-set : goal.invariant-loop-set

@@ -1,9 +1,10 @@
 use Rattle.std.proofs.Common.{arith}
 use Rattle.site.specs.Laws.{stays_honest}
 use Rattle.face.proofs.CauseLaws.{cause_then, no_causes, status_causes}
-use Rattle.face.proofs.Endings.{refuses_devices, tells_fault, tells_none}
+use Rattle.front_end.proofs.Endings.{refuses_devices}
+use Rattle.face.proofs.ToldFaults.{tells_fault, tells_none}
 use Rattle.face.proofs.LoadFaults.{load_contract, load_done, load_halted, not_taken}
-use Rattle.face.proofs.Firsts.{first_halted, first_none}
+use Rattle.front_end.proofs.Firsts.{first_halted, first_none}
 use Rattle.face.proofs.load.serve_load.Goals as goal
 
 pub returns-in-Ok-clause-load : goal.returns-in-Ok-clause-load

@@ -14,8 +14,8 @@ use Rattle.std.proofs.Common.{◌∙◌, ap, ◌≡◌, List, refl, subst, sym}
 use Rattle.site.specs.Laws.{stays_honest, goes_in_sequence}
 use Rattle.face.proofs.NextUnits.{next_later}
 use Rattle.shell_text.specs.Texts.{open_text}
-use Rattle.face.specs.Texts.{status_of}
-use Rattle.face.specs.declared.halt.Halt.TheVariants as halt
+use Rattle.front_end.specs.Texts.{status_of}
+use Rattle.front_end.specs.declared.halt.Halt.TheVariants as halt
 use Rattle.face.proofs.Meanings.{stands_by, opens_where_it_stands}
 use Rattle.face.proofs.RunsSoFar.{not_opened, opening_lost, opened}
 use Rattle.face.proofs.Logs.{goes_on, still_fits}

@@ -1,12 +1,12 @@
 use Rattle.std.proofs.Common.{arith, refl, rules, ℕ}
 use Rattle.site.specs.declared.outside.Stop.TheVariants.{Memory}
-use Rattle.face.specs.declared.halt.Halt.TheVariants as halt
+use Rattle.front_end.specs.declared.halt.Halt.TheVariants as halt
 use Rattle.face.proofs.Hearings.{heard_halted, hears_nothing}
-use Rattle.face.specs.Refusals.{LacksMemory}
+use Rattle.front_end.specs.Refusals.{LacksMemory}
 use Rattle.trace_report.proofs.Lacking.{lacked}
-use Rattle.face.proofs.Endings.{only_tells}
-use Rattle.face.proofs.CheckLaws.{lacked_check}
-use Rattle.face.proofs.Firsts.{first_line}
+use Rattle.front_end.proofs.Endings.{only_tells}
+use Rattle.front_end.proofs.CheckLaws.{lacked_check}
+use Rattle.front_end.proofs.Firsts.{first_line}
 use Rattle.face.proofs.MemoryLaws.{lacked_contract, lacked_load_run, lacked_run}
 use Rattle.face.proofs.Trials.{lacked_trial}
 use Rattle.face.proofs.running.lack_memory.Goals as goal

@@ -1,9 +1,10 @@
 use Rattle.std.proofs.Common.{refl}
 use Rattle.site.specs.Laws.{stays_honest}
 use Rattle.face.proofs.CauseLaws.{cause_then, status_causes, no_causes}
-use Rattle.face.proofs.Endings.{refuses_devices, tells_fault, tells_none}
+use Rattle.front_end.proofs.Endings.{refuses_devices}
+use Rattle.face.proofs.ToldFaults.{tells_fault, tells_none}
 use Rattle.face.proofs.Faults.{begins, halted, finished, run_contract}
-use Rattle.face.proofs.Firsts.{first_halted, first_none}
+use Rattle.front_end.proofs.Firsts.{first_halted, first_none}
 use Rattle.face.proofs.Hearings.{heard_done, heard_halted}
 use Rattle.face.proofs.running.serve.Goals as goal
 

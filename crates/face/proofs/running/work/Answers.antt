@@ -17,11 +17,11 @@ use Rattle.face.proofs.Counted.{counted_on, counts_next, counts_still, next_coun
 use Rattle.face.proofs.Writings.{engine_queue, last_heard}
 use Rattle.face.proofs.Pagings.{asked_with, log_reads_with, next_last, next_paged, next_reads, paged_queue, paged_versions, few_heard}
 use Rattle.engine.specs.Listings.{listing_of}
-use Rattle.face.specs.Lines.{up_to_quit}
+use Rattle.front_end.specs.Lines.{up_to_quit}
 use Rattle.face.specs.Range.{AsksNoMore, ListsTheMachine, WritesAsTold}
 use Rattle.face.specs.Run.{Run, Begins, AsksFew, first_lines, state_at, listings_left, listing_at}
 use Rattle.face.specs.Working.{AnswersFirst, asked_after, log_reads_after}
-use Rattle.face.specs.Texts.{status_of}
+use Rattle.front_end.specs.Texts.{status_of}
 use Rattle.face.proofs.Cuts.{Cut, no_cut, cut_more, cut_stays, line_is, cut_few_octets}
 use Rattle.face.proofs.Ends.{lists_nothing, never_opened, taking_failed, finished, answer_failed, heard_end, line_heard, quitted, taking_cause, answer_takes_nothing, answer_cause}
 use Rattle.face.proofs.Hearings.{hears_answer, hears_cut, hears_end, hears_nothing, hears_quit}

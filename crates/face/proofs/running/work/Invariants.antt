@@ -13,9 +13,9 @@ use Rattle.face.specs.Run.{Run, Begins, first_lines}
 use Rattle.face.specs.Range.{AsksNoMore, LeavesStaged}
 use Rattle.log_records.specs.declared.log_record.LogRecord.{LogRecord}
 use Rattle.engine.specs.Invariant.{Invariant, sizes_of}
-use Rattle.face.specs.Lines.{IsSource}
+use Rattle.front_end.specs.Lines.{IsSource}
 use Rattle.face.proofs.Cuts.{Cut}
-use Rattle.face.specs.Causes.{SameFaults}
+use Rattle.front_end.specs.Faults.{SameFaults}
 use Rattle.face.proofs.running.work.Given as goal
 
 abbrev pub invariant-loop-line : goal.invariant-loop-line

@@ -2,7 +2,7 @@ use Rattle.std.proofs.Common.{◌≡◌, ◌<◌, IsTrue, length}
 use Rattle.site.specs.Calls.{Preserves, SameReads}
 use Rattle.site.specs.declared.geometry.Geometry.{Geometry}
 use Rattle.workload.specs.Scripts.{lives_of}
-use Rattle.face.specs.Causes.{SameFaults}
+use Rattle.front_end.specs.Faults.{SameFaults}
 use Rattle.face.specs.Trial.{IsNewSite, LeavesDevices}
 use Rattle.face.proofs.Trials.{Reached}
 use Rattle.face.proofs.trial.live_script.Given as goal

@@ -1,13 +1,13 @@
 use Rattle.std.proofs.Common.{◌∙◌, ap, inl, inr, subst, ⊎_elim}
 use Rattle.std.specs.Prelude.{Err, IfErr, Result}
 use Rattle.site.specs.Laws.{stays_honest}
-use Rattle.face.specs.Causes.{RunFaults}
+use Rattle.front_end.specs.Faults.{RunFaults}
 use Rattle.face.specs.Living.{Ends, IsHaltOfTrial}
-use Rattle.face.specs.Texts.{fault_line}
+use Rattle.front_end.specs.Texts.{fault_line}
 use Rattle.face.specs.Trial.{numbers_of}
-use Rattle.face.specs.declared.halt.Halt.{Halt}
+use Rattle.front_end.specs.declared.halt.Halt.{Halt}
 use Rattle.face.proofs.Trials.{caused_by, devices_then, devices_told, numbers_unbegun, told_and_fault}
-use Rattle.face.proofs.Firsts.{first_halted, first_none}
+use Rattle.front_end.proofs.Firsts.{first_halted, first_none}
 use Rattle.face.proofs.trial.trial.Goals as goal
 
 pub returns-in-Err-clause-trial : goal.returns-in-Err-clause-trial

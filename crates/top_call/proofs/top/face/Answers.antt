@@ -7,9 +7,10 @@ use Rattle.command_line.specs.declared.request.TrialSizes.{TrialSizes}
 use Rattle.face.specs.Trial.{TrialContract}
 use Rattle.trace_report.specs.Contract.{SimulateContract}
 use Rattle.command_line.specs.Words.{IsLoad, IsNew, IsRight, IsSimulate, IsTrial, words_of, IsRun}
-use Rattle.face.proofs.Endings.{only_tells}
+use Rattle.front_end.proofs.Endings.{only_tells}
 use Rattle.command_line.proofs.WordLaws.{one_geometry, one_load, one_pool, one_simulation, one_trial}
-use Rattle.face.proofs.Firsts.{first_line, first_simulated}
+use Rattle.front_end.proofs.Firsts.{first_line}
+use Rattle.top_call.proofs.Simulated.{first_simulated}
 use Rattle.top_call.proofs.top.face.Goals as goal
 
 pub returns-in-Ok-Run-clause-run : goal.returns-in-Ok-Run-clause-run

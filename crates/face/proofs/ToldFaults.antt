@@ -1,0 +1,19 @@
+-- The line of a halt is told last.
+use Rattle.std.proofs.Common.{◌≡◌, inl, inr, ℕ, [], refl, IsTrue}
+use Rattle.std.specs.Prelude.{Result}
+use Rattle.site.specs.State.{State}
+use Rattle.site.specs.Calls.{Preserves}
+use Rattle.site.specs.declared.outside.Failed.{Failed}
+use Rattle.front_end.specs.declared.halt.Halt.{Halt}
+use Rattle.face.specs.Causes.{HasCause}
+use Rattle.face.specs.Headline.{TellsFault}
+use Rattle.front_end.specs.Tells.{Tells}
+use Rattle.front_end.specs.Texts.{fault_line, status_of}
+use Rattle.front_end.proofs.Endings.{ends_done, ends_with}
+
+-- the line of a halt, over every honest site
+pub tells_fault : {T : Type 0} (h : Halt) (status : ℕ) (old mid new : State) (result : Result T Failed) → status ≡ status_of h → HasCause h old new → Preserves old mid → IsTrue mid.honest → Tells (fault_line h) mid new result → TellsFault status old new
+tells_fault h status old mid new result is cause goes honest tells = (fault_line h, inr (h, is, refl, cause), mid.told, ends_with mid.told (fault_line h) old mid new result goes honest refl tells)
+
+pub tells_none : (old new : State) → TellsFault 0 old new
+tells_none old new = ([], inl (refl, refl), new.told, ends_done new.told old new refl)

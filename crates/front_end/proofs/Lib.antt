@@ -1,0 +1,8 @@
+pub mod CheckLaws
+pub mod Endings
+pub mod Firsts
+mod LineOctets
+mod NewLaws
+mod Replies
+mod Takes
+mod Zeros

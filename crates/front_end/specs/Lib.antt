@@ -1,0 +1,7 @@
+pub mod Check
+pub mod Faults
+pub mod Lines
+pub mod New
+pub mod Refusals
+pub mod Tells
+pub mod Texts

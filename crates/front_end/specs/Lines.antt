@@ -1,0 +1,123 @@
+-- How the input is cut into lines.
+use Rattle.std.specs.Prelude.{◌≡◌, ◌≢◌, ◌⊎◌, ℕ, ◌+◌, ◌-◌, ◌^◌, ◌≤◌, Bool, true, false, List, [], ◌∷◌, ◌++◌, length}
+use Rattle.std.specs.Prelude.{take, drop, map, Option, Some, None, if◌then◌else◌, ⊤}
+use Rattle.std.specs.List.{AllByRecursion, list_any}
+use Rattle.site.specs.State.{State}
+use Rattle.site.specs.declared.outside.Take.{Take}
+use Rattle.site.specs.Calls.{SameReads}
+use Rattle.record_model.specs.Run.{Line, is_quit}
+use Rattle.shell_text.specs.Reading.{line_of}
+use Rattle.shell_text.specs.Runs.{lines_of}
+use Rattle.front_end.specs.declared.halt.Halt.{Halt}
+use Rattle.front_end.specs.declared.halt.Halt.TheVariants.{Input, Limit}
+use Rattle.front_end.specs.declared.source.Source.{Source}
+use Rattle.front_end.specs.declared.source.Heard.{Heard}
+use Rattle.front_end.specs.declared.source.Heard.TheVariants as heard
+
+-- what each line says
+abbrev pub commands_of : Bool → List ℕ → List Line
+commands_of ended octets = map line_of (lines_of ended octets)
+
+-- a quit is the last line that is answered
+abbrev pub up_to_quit : List Line → List Line
+up_to_quit [] = []
+up_to_quit (line ∷ lines) = line ∷ (if is_quit line then [] else up_to_quit lines)
+
+-- the lines of octets that are answered
+abbrev pub answered_of : Bool → List ℕ → List Line
+answered_of ended octets = up_to_quit (commands_of ended octets)
+
+-- the input was heard to its end, or to a quit
+abbrev pub HeardAll : Bool → List ℕ → Type 0
+HeardAll ended octets = (ended ≡ true) ⊎ (list_any is_quit (commands_of ended octets) ≡ true)
+
+-- at most so many octets of the input are cut into lines
+abbrev pub limit : ℕ
+limit = 2 ^ 40
+
+-- the octets that were taken and not cut yet, and with them those left to take
+abbrev pub pending : Source → List ℕ
+pending source = take (source.to - source.from) (drop source.from source.buffer)
+
+abbrev pub to_hear : Source → State → List ℕ
+to_hear source site = pending source ++ site.input.left
+
+-- of every site
+pub record IsSource (source : Source) : Type 0 where
+  pub order : source.from ≤ source.to
+  pub inside : source.to ≤ 4096
+  pub long : length source.buffer ≡ 4096
+  pub few : source.taken ≤ limit
+  pub behind : source.to ≤ source.from + source.taken
+  pub emptied : source.ended ≡ true → source.from ≡ source.to
+
+-- of an honest site: where a take has answered that the input ended, nothing is left
+abbrev pub HasEnded : Source → State → Type 0
+HasEnded source site = source.ended ≡ true → site.input.left ≡ []
+
+-- the octets that were taken and those that are left
+abbrev pub total : Source → State → ℕ
+total source site = source.taken + length site.input.left
+
+-- nothing but the octets left to hear changed
+pub record HearsOnly (old new : State) : Type 0 where
+  pub image : new.image ≡ old.image
+  pub loose : new.loose ≡ old.loose
+  pub told : new.told ≡ old.told
+  pub past : new.past ≡ old.past
+  pub reads : SameReads old new
+
+-- Input was asked for within a line: of what was to hear these octets were heard by then, none of them a newline, and
+-- no more was told than before.
+pub record TookWithin (source : Source) (before : State) (t : Take) : Type 0 where
+  pub octets : List ℕ
+  pub none : AllByRecursion (λ x. x ≢ 10) octets
+  pub rest : List ℕ
+  pub all : to_hear source before ≡ octets ++ rest
+  pub here : t.heard + length (pending source) ≡ before.input.heard + length octets
+  pub told : t.told ≡ length before.told
+  pub going : source.ended ≡ false
+
+-- input was asked for within a line only, and each octet that isn't left any more was heard
+pub record TakesWithin (source : Source) (before now : State) : Type 0 where
+  pub takes : List Take
+  pub are : now.input.takes ≡ before.input.takes ++ takes
+  pub within : AllByRecursion (TookWithin source before) takes
+  pub count : now.input.heard + length now.input.left ≡ before.input.heard + length before.input.left
+
+-- these octets are so many lines, whatever comes behind them; where the input has ended nothing comes
+abbrev pub AreLines : List ℕ → List Line → Bool → Type 0
+AreLines octets lines ended = (more : List ℕ) (e : Bool) → (ended ≡ true → (more ≡ []) × (e ≡ true)) →
+    commands_of e (octets ++ more) ≡ lines ++ commands_of e more
+
+-- a line was heard, or the end of the input
+pub record HearsLine (line : Line) (was ended : Bool) (before after : List ℕ) : Type 0 where
+  pub octets : List ℕ
+  pub all : before ≡ octets ++ after
+  pub some : 1 ≤ length octets
+  pub is_line : AreLines octets (line ∷ []) ended
+  pub going : was ≡ false
+
+abbrev pub Hears : Heard → Bool → Bool → List ℕ → List ℕ → Type 0
+Hears (heard.Line line) was ended before after = HearsLine line was ended before after
+Hears heard.End was ended before after = (before ≡ []) × (ended ≡ true)
+
+-- the first octet was heard, or there is none
+abbrev pub HearsOctet : Option ℕ → Bool → Bool → List ℕ → List ℕ → Type 0
+HearsOctet (Some x) was ended before after = (before ≡ x ∷ after) × (was ≡ false) × (ended ≡ false)
+HearsOctet None was ended before after = (before ≡ []) × (after ≡ []) × (ended ≡ true)
+
+-- Taking failed at once, or one octet too many was taken.
+abbrev pub CutsOff : Halt → ℕ → List ℕ → List ℕ → Type 0
+CutsOff Input all before left = (before ≡ left) × (all ≤ limit + length left)
+CutsOff Limit all before left = (extra : ℕ) × (before ≡ extra ∷ left) × (all ≡ limit + 1 + length left)
+CutsOff _ all before left = ⊤
+
+-- and it failed within a line, of which these octets were read, and before the end of the input
+pub record IsCutOff (halt : Halt) (was : Bool) (all : ℕ) (before left : List ℕ) : Type 0 where
+  pub octets : List ℕ
+  pub none : AllByRecursion (λ x. x ≢ 10) octets
+  pub rest : List ℕ
+  pub all_of_it : before ≡ octets ++ rest
+  pub ends : CutsOff halt all rest left
+  pub going : was ≡ false
