@@ -10,7 +10,7 @@ use Rattle.log_records.specs.declared.log_record.LogRecord.{LogRecord}
 use Rattle.log_records.specs.declared.log_record.LogRecord.TheVariants.{Begin, Update, Clr, Commit, End}
 use Rattle.log_records.specs.Log.{Entry, txn_of, is_of, is_update, is_closing, is_closed, is_loser}
 use Rattle.log_records.specs.Unfinished.{is_begin, left_open, open_updates}
-use Rattle.log_records.specs.Sound.{Picture, IsSound, is_known, last_number}
+use Rattle.log_records.specs.Sound.{LogicalImage, IsSound, is_known, last_number}
 use Rattle.analysis.specs.Open.{Open}
 use Rattle.analysis.specs.Read.{is_active, last_named, open_at, open_in}
 use Rattle.analysis.specs.Laws.{has_begun}
@@ -21,7 +21,7 @@ use Rattle.analysis.proofs.Taking.{any_chosen, any_left, active_new}
 use Rattle.analysis.proofs.Takes.{all_map, own_any, chain, begun, open_still, all_taken, entries_taken, taken_is_loser}
 
 -- by the log alone the active transactions are the losers
-active_by_log : (p : Picture) (sound : IsSound p) (t : ℕ) → is_active [] p.log t ≡ is_loser p.log t
+active_by_log : (p : LogicalImage) (sound : IsSound p) (t : ℕ) → is_active [] p.log t ≡ is_loser p.log t
 active_by_log p sound t = by (is_active [] p.log t) (is_loser p.log t) refl refl
   where
     by : (a b : Bool) → is_active [] p.log t ≡ a → is_loser p.log t ≡ b → is_active [] p.log t ≡ is_loser p.log t
@@ -33,7 +33,7 @@ active_by_log p sound t = by (is_active [] p.log t) (is_loser p.log t) refl refl
     by false false is loser = is ∙ sym loser
 
 -- of a loser the log says what is taken of it
-same_open : (p : Picture) (sound : IsSound p) (t : ℕ) → is_loser p.log t ≡ true → open_at [] p.log t ≡ open_at p.master.active (taken p) t
+same_open : (p : LogicalImage) (sound : IsSound p) (t : ℕ) → is_loser p.log t ≡ true → open_at [] p.log t ≡ open_at p.master.active (taken p) t
 same_open p sound t loser =
     let same = chain p sound t loser in
     ap (λ (es : List Entry). by_entries 0 es) same.begins ∙ sym (ap (λ (es : List Entry). by_entries (last_named p.master.active t) es) (entries_taken p sound t loser ∙ same.begins))
@@ -100,7 +100,7 @@ none_of_closed records x closed =
     ap (λ b. is_update x.rec && not b && list_any (λ u. u.lsn == x.lsn) (left_open records (txn_of x))) closed
     ∙ ap (λ b. b && list_any (λ u. u.lsn == x.lsn) (left_open records (txn_of x))) (and_false (is_update x.rec))
 
-module _ (p : Picture) (sound : IsSound p) (x : Entry) (at : IsIn p.log x) where
+module _ (p : LogicalImage) (sound : IsSound p) (x : Entry) (at : IsIn p.log x) where
   -- of a loser
   module _ (loser : is_loser p.log (txn_of x) ≡ true) where
     is_there : is_taken p.master x ≡ true

@@ -9,7 +9,7 @@ use Rattle.log_records.specs.declared.log_record.LogRecord.{LogRecord}
 use Rattle.log_records.specs.declared.log_record.LogRecord.TheVariants.{Begin, Update, Clr, Commit, End}
 use Rattle.log_records.specs.Log.{Entry, txn_of, is_of, is_closing, is_closed, entries_of, is_loser}
 use Rattle.log_records.specs.Unfinished.{is_begin}
-use Rattle.log_records.specs.Sound.{Master, Picture, IsSound, IsInOrder, IsLoserChain, is_known, before_block, commit_number, commit_number_by, commit_numbers}
+use Rattle.log_records.specs.Sound.{Master, LogicalImage, IsSound, IsInOrder, IsLoserChain, is_known, before_block, commit_number, commit_number_by, commit_numbers}
 use Rattle.analysis.specs.Read.{is_active}
 use Rattle.analysis.specs.Laws.{has_begun}
 use Rattle.analysis.specs.Taken.{is_named, is_taken, taken, TakenEntries, TakenIsLoser, TakenCommits}
@@ -106,7 +106,7 @@ pub own_any : (t : ℕ) (xs : List Entry) → list_any (begins_as t) xs ≡ true
 own_any t [] h = h
 own_any t (x ∷ xs) h = elim (or_cases (begins_as t x) (list_any (begins_as t) xs) h) [ inl here ↦ or_left (is_of t x) (list_any (is_of t) xs) (own_begin t x here) | inr later ↦ or_right (is_of t x) (list_any (is_of t) xs) (own_any t xs later) ]
 
-module _ (p : Picture) (sound : IsSound p) where
+module _ (p : LogicalImage) (sound : IsSound p) where
   abbrev m : Master
   m = p.master
 
@@ -257,7 +257,7 @@ same_commits a b (x ∷ xs) h = by (a x) (b x) (commit_number x) refl refl refl 
     by false true (Some n) here there is rest = absurd (true≢false (sym there ∙ sym (h.0 n is) ∙ here))
     by false false o here there is rest = rest
 
-module _ (p : Picture) (sound : IsSound p) where
+module _ (p : LogicalImage) (sound : IsSound p) where
   -- a record before the redo block of a transaction that wasn't closed there doesn't close it
   none_closes : AllByRecursion (λ x. is_closed (before_block p.master.redo p.log) (txn_of x) ≡ false → nat_lt x.lsn (512 * p.master.redo) ≡ true → (is_of (txn_of x) x && is_closing x.rec) ≡ false) p.log
   none_closes =

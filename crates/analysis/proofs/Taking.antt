@@ -9,7 +9,7 @@ use Rattle.log_records.specs.declared.log_record.LogRecord.{LogRecord}
 use Rattle.log_records.specs.declared.log_record.LogRecord.TheVariants.{Begin, Update, Clr, Commit, End}
 use Rattle.log_records.specs.Log.{Entry, txn_of, txn_by, is_of, is_closing, is_closed, entries_of}
 use Rattle.log_records.specs.Unfinished.{is_begin, losers}
-use Rattle.log_records.specs.Sound.{Active, Master, Picture, IsSound, IsInOrder, IsOfOpenTransaction, InTurn, is_known, before_block, from_block, last_lsn}
+use Rattle.log_records.specs.Sound.{Active, Master, LogicalImage, IsSound, IsInOrder, IsOfOpenTransaction, InTurn, is_known, before_block, from_block, last_lsn}
 use Rattle.analysis.specs.Read.{is_active}
 use Rattle.analysis.specs.Laws.{has_begun, HaveBegun}
 use Rattle.analysis.specs.Taken.{is_named, is_taken, taken, Steps, StepsOn, TakenInOrder, TakenBegin}
@@ -146,7 +146,7 @@ any_named : (f : ℕ → ℕ) (ns : List ℕ) (t : ℕ) → is_named (map (λ n.
 any_named f [] t = refl
 any_named f (n ∷ ns) t = ap (λ b. (n == t) || b) (any_named f ns t)
 
-module _ (p : Picture) (sound : IsSound p) where
+module _ (p : LogicalImage) (sound : IsSound p) where
   abbrev pub m : Master
   m = p.master
 

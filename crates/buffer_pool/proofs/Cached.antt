@@ -10,27 +10,27 @@ use Rattle.std_lemmas.proofs.Bools.{eq_turned}
 use Rattle.lru.specs.LruCache.{LruCache, put_entries, last_entry}
 use Rattle.slotted_page.specs.Layout.{IsSound, slots_of, lsn_of}
 use Rattle.buffer_pool.specs.declared.frame.Frame.{Frame}
-use Rattle.buffer_pool.specs.declared.kept.Kept.{Kept}
+use Rattle.buffer_pool.specs.declared.pool_entry.PoolEntry.{PoolEntry}
 use Rattle.buffer_pool.specs.Entries.{frame_in, frames_in, framed_pages, state_in}
 use Rattle.buffer_pool.specs.Frames.{State, IsPool, AreDistinct, frame_of, without, in_front, touched, cleared, clear, front_of, ChangesFront}
 use Rattle.buffer_pool.proofs.Order.{Others, absent, others_stay, others_marked, distinct-without, length-without, distinct-front}
 
 abbrev pub Entry : Type 0
-Entry = ℕ × Kept
+Entry = ℕ × PoolEntry
 
 abbrev pub state : ℕ → List ℕ → List Frame → State
 state n framed frames = record { size = n; frames = frames; framed = framed }
 
 -- A page's frame.
 
-pub frame_of-lookup : (es : List Entry) (page : ℕ) → frame_of (frames_in es) page ≡ option_map (λ (kept : Kept). frame_in (page, kept)) (lookup (nat_eq page) es)
+pub frame_of-lookup : (es : List Entry) (page : ℕ) → frame_of (frames_in es) page ≡ option_map (λ (kept : PoolEntry). frame_in (page, kept)) (lookup (nat_eq page) es)
 frame_of-lookup [] page = refl
 frame_of-lookup (e ∷ es) page =
     ap (λ b. cond b (Some (frame_in e)) (frame_of (frames_in es) page)) (eq_turned e.0 page) ∙ by (page == e.0) refl (frame_of-lookup es page)
   where
     by : (b : Bool) → (page == e.0) ≡ b
-        → frame_of (frames_in es) page ≡ option_map (λ (kept : Kept). frame_in (page, kept)) (lookup (nat_eq page) es)
-        → cond b (Some (frame_in e)) (frame_of (frames_in es) page) ≡ option_map (λ (kept : Kept). frame_in (page, kept)) (cond b (Some e.1) (lookup (nat_eq page) es))
+        → frame_of (frames_in es) page ≡ option_map (λ (kept : PoolEntry). frame_in (page, kept)) (lookup (nat_eq page) es)
+        → cond b (Some (frame_in e)) (frame_of (frames_in es) page) ≡ option_map (λ (kept : PoolEntry). frame_in (page, kept)) (cond b (Some e.1) (lookup (nat_eq page) es))
     by true is rest = ap (λ n. Some (frame_in (n, e.1))) (sym (eqb-true _ _ is))
     by false is rest = rest
 
@@ -45,19 +45,19 @@ frame_of-lookup_entry (e ∷ es) page =
     by false rest = rest
 
 pub content-lookup : (es : List Entry) (page : ℕ)
-    → option_map (λ (frame : Frame). frame.content) (frame_of (frames_in es) page) ≡ option_map (λ (kept : Kept). kept.content.value) (lookup (nat_eq page) es)
+    → option_map (λ (frame : Frame). frame.content) (frame_of (frames_in es) page) ≡ option_map (λ (kept : PoolEntry). kept.content.value) (lookup (nat_eq page) es)
 content-lookup es page = ap (option_map (λ (frame : Frame). frame.content)) (frame_of-lookup es page) ∙ by (lookup (nat_eq page) es)
   where
-    by : (found : Option Kept) → option_map (λ (frame : Frame). frame.content) (option_map (λ (kept : Kept). frame_in (page, kept)) found)
-        ≡ option_map (λ (kept : Kept). kept.content.value) found
+    by : (found : Option PoolEntry) → option_map (λ (frame : Frame). frame.content) (option_map (λ (kept : PoolEntry). frame_in (page, kept)) found)
+        ≡ option_map (λ (kept : PoolEntry). kept.content.value) found
     by None = refl
     by (Some kept) = refl
 
-pub found : (es : List Entry) (page : ℕ) (kept : Kept) → lookup (nat_eq page) es ≡ Some kept → frame_of (frames_in es) page ≡ Some (frame_in (page, kept))
-found es page kept is = frame_of-lookup es page ∙ ap (option_map (λ (kept : Kept). frame_in (page, kept))) is
+pub found : (es : List Entry) (page : ℕ) (kept : PoolEntry) → lookup (nat_eq page) es ≡ Some kept → frame_of (frames_in es) page ≡ Some (frame_in (page, kept))
+found es page kept is = frame_of-lookup es page ∙ ap (option_map (λ (kept : PoolEntry). frame_in (page, kept))) is
 
 pub missing : (es : List Entry) (page : ℕ) → lookup (nat_eq page) es ≡ None → frame_of (frames_in es) page ≡ None
-missing es page is = frame_of-lookup es page ∙ ap (option_map (λ (kept : Kept). frame_in (page, kept))) is
+missing es page is = frame_of-lookup es page ∙ ap (option_map (λ (kept : PoolEntry). frame_in (page, kept))) is
 
 not_entry : (es : List Entry) (page : ℕ) → frame_of (frames_in es) page ≡ None → lookup_entry (nat_eq page) es ≡ None
 not_entry es page none = by (lookup_entry (nat_eq page) es) (sym (frame_of-lookup_entry es page) ∙ none)
@@ -118,13 +118,13 @@ some-promoted frames page some = by (frame_of frames page) some
 
 -- An entry more.
 
-pub frames-put : (c : LruCache ℕ Kept) (page : ℕ) (kept : Kept) → frame_of (frames_in c.entries) page ≡ None → length c.entries < c.cap
+pub frames-put : (c : LruCache ℕ PoolEntry) (page : ℕ) (kept : PoolEntry) → frame_of (frames_in c.entries) page ≡ None → length c.entries < c.cap
     → put_entries nat_eq c page kept ≡ (page, kept) ∷ c.entries
 frames-put c page kept none room =
     ap (λ o. option_map_or (λ e. (e.0, kept) ∷ remove_entry (nat_eq page) c.entries) o ((page, kept) ∷ take (c.cap - 1) c.entries)) (not_entry c.entries page none)
     ∙ ap (λ (es : List Entry). (page, kept) ∷ es) (take_all (c.cap - 1) c.entries (omega (arith, room)))
 
-pub pool-put : (n : ℕ) (es : List Entry) (page : ℕ) (kept : Kept) → frame_of (frames_in es) page ≡ None → length (frames_in es) < n
+pub pool-put : (n : ℕ) (es : List Entry) (page : ℕ) (kept : PoolEntry) → frame_of (frames_in es) page ≡ None → length (frames_in es) < n
     → IsPool (state_in n es) → IsPool (state_in n ((page, kept) ∷ es))
 pool-put n es page kept none room pool = record { few = omega (arith, room); distinct = (absent (frames_in es) page none, pool.distinct) }
 
@@ -153,7 +153,7 @@ pool-last n es e is pool =
 -- What is kept of a page is another.
 
 -- with the same marks for the pool
-pub frames-kept : (es : List Entry) (page : ℕ) (kept now : Kept) → now.changed ≡ kept.changed → now.content ≡ kept.content → lookup (nat_eq page) es ≡ Some kept
+pub frames-kept : (es : List Entry) (page : ℕ) (kept now : PoolEntry) → now.changed ≡ kept.changed → now.content ≡ kept.content → lookup (nat_eq page) es ≡ Some kept
     → frames_in (set_value (nat_eq page) es now) ≡ frames_in es
 frames-kept [] page kept now changed content is = refl
 frames-kept (e ∷ es) page kept now changed content is = by (nat_eq page e.0) is (frames-kept es page kept now changed content)
@@ -164,11 +164,11 @@ frames-kept (e ∷ es) page kept now changed content is = by (nat_eq page e.0) i
     by true is rest =
         let same : e.1 ≡ kept = cc in
         (λ i. let f : Frame = record { page = e.0; changed = changed i; content = (content i).value } in f ∷ frames_in es)
-        ∙ ap (λ (k : Kept). frame_in (e.0, k) ∷ frames_in es) (sym same)
+        ∙ ap (λ (k : PoolEntry). frame_in (e.0, k) ∷ frames_in es) (sym same)
     by false is rest = ap (λ (xs : List Frame). frame_in e ∷ xs) (rest is)
 
 -- no longer marked as changed
-pub frames-cleared : (es : List Entry) (page : ℕ) (kept now : Kept) → now.changed ≡ false → now.content ≡ kept.content → AreDistinct (frames_in es) → lookup (nat_eq page) es ≡ Some kept
+pub frames-cleared : (es : List Entry) (page : ℕ) (kept now : PoolEntry) → now.changed ≡ false → now.content ≡ kept.content → AreDistinct (frames_in es) → lookup (nat_eq page) es ≡ Some kept
     → frames_in (set_value (nat_eq page) es now) ≡ cleared (frames_in es) page
 frames-cleared [] page kept now changed content distinct is = refl
 frames-cleared (e ∷ es) page kept now changed content distinct is = by (page == e.0) refl is (frames-cleared es page kept now changed content distinct.1)
@@ -179,14 +179,14 @@ frames-cleared (e ∷ es) page kept now changed content distinct is = by (page =
     by true at is rest =
         let same : e.1 ≡ kept = cc in
         (λ i. let f : Frame = record { page = e.0; changed = changed i; content = (content i).value } in f ∷ frames_in es)
-        ∙ ap (λ (k : Kept). clear (frame_in (e.0, k)) ∷ frames_in es) (sym same)
+        ∙ ap (λ (k : PoolEntry). clear (frame_in (e.0, k)) ∷ frames_in es) (sym same)
         ∙ ap (λ (xs : List Frame). clear (frame_in e) ∷ xs) (sym (others_marked page (frames_in es) (let P : ℕ → Type 0 = λ n. Others n (frames_in es) in subst P (sym (eqb-true _ _ at)) distinct.0)))
         ∙ ap (λ b. cond b (clear (frame_in e)) (frame_in e) ∷ cleared (frames_in es) page) (sym (eq_turned e.0 page ∙ at))
     by false at is rest =
         ap (λ (xs : List Frame). frame_in e ∷ xs) (rest is)
         ∙ ap (λ b. cond b (clear (frame_in e)) (frame_in e) ∷ cleared (frames_in es) page) (sym (eq_turned e.0 page ∙ at))
 
-pub pool-kept : (n : ℕ) (es : List Entry) (page : ℕ) (now : Kept) → IsPool (state_in n es) → IsPool (state_in n (set_value (nat_eq page) es now))
+pub pool-kept : (n : ℕ) (es : List Entry) (page : ℕ) (now : PoolEntry) → IsPool (state_in n es) → IsPool (state_in n (set_value (nat_eq page) es now))
 pool-kept n es page now pool = record {
   few = omega (arith, length_frames es, length_frames (set_value (nat_eq page) es now), length-set_value (nat_eq page) es now, pool.few);
   distinct = distinct-kept es pool.distinct;
@@ -224,14 +224,14 @@ lookup-first (f ∷ es) e is =
     let same : f ≡ e = cc in
     cond-true _ (Some f.1) (lookup (nat_eq e.0) es) (eq-eqb e.0 f.0 (ap (λ (x : Entry). x.0) (sym same))) ∙ ap (λ (x : Entry). Some x.1) same
 
-pub set-first : (es : List Entry) (e : Entry) (w : Kept) → slice_get es 0 ≡ Some e → set_value (nat_eq e.0) es w ≡ (e.0, w) ∷ drop 1 es
+pub set-first : (es : List Entry) (e : Entry) (w : PoolEntry) → slice_get es 0 ≡ Some e → set_value (nat_eq e.0) es w ≡ (e.0, w) ∷ drop 1 es
 set-first [] e w is = absurd (none-some e is)
 set-first (f ∷ es) e w is =
     let same : f ≡ e = cc in
     cond-true _ ((f.0, w) ∷ es) (f ∷ set_value (nat_eq e.0) es w) (eq-eqb e.0 f.0 (ap (λ (x : Entry). x.0) (sym same))) ∙ ap (λ (x : Entry). (x.0, w) ∷ es) same
 
 -- the entry in front has another value
-pub changes_front : (es : List Entry) (e : Entry) (now : Kept) (slot : ℕ) (content : Option (List ℕ)) (lsn : ℕ) → slice_get es 0 ≡ Some e
+pub changes_front : (es : List Entry) (e : Entry) (now : PoolEntry) (slot : ℕ) (content : Option (List ℕ)) (lsn : ℕ) → slice_get es 0 ≡ Some e
     → now.changed ≡ true → IsSound now.content.value → slots_of now.content.value ≡ slice_set (slots_of (front_of (frames_in es)).content) slot content → lsn_of now.content.value ≡ lsn
     → ChangesFront (frames_in es) (frames_in (set_value (nat_eq e.0) es now)) slot content lsn
 changes_front [] e now slot content lsn is changed sound slots at = absurd (none-some e is)
@@ -249,9 +249,9 @@ changes_front (f ∷ es) e now slot content lsn is changed sound slots at =
     })
 
 -- what the page in front holds
-pub front_content : (pool : State) (n : ℕ) (es : List Entry) (e : Entry) (kept : Kept) → state_in n es ≡ pool → slice_get es 0 ≡ Some e
+pub front_content : (pool : State) (n : ℕ) (es : List Entry) (e : Entry) (kept : PoolEntry) → state_in n es ≡ pool → slice_get es 0 ≡ Some e
     → Some kept ≡ lookup (nat_eq e.0) es → (front_of pool.frames).content ≡ kept.content.value
 front_content pool n es e kept view is there =
     let both : Some kept ≡ Some e.1 = there ∙ lookup-first es e is in
     let same : e.1 ≡ kept = cc in
-    ap (λ (p : State). (front_of p.frames).content) (sym view) ∙ ap (λ (f : Frame). f.content) (front-first es e is) ∙ ap (λ (k : Kept). k.content.value) same
+    ap (λ (p : State). (front_of p.frames).content) (sym view) ∙ ap (λ (f : Frame). f.content) (front-first es e is) ∙ ap (λ (k : PoolEntry). k.content.value) same

@@ -8,7 +8,7 @@ use Rattle.std.specs.Cmp.{nat_eq_equiv}
 use Rattle.std.proofs.lemmas.Bool.{eqb-true, eq-eqb, ne_eqb}
 use Rattle.std.proofs.lemmas.Map.{lookup-set_value, lookup-remove_entry}
 use Rattle.lru.specs.LruCache.{promoted, last_entry}
-use Rattle.buffer_pool.specs.declared.kept.Kept.{Kept}
+use Rattle.buffer_pool.specs.declared.pool_entry.PoolEntry.{PoolEntry}
 use Rattle.buffer_pool.specs.Entries.{frames_in, framed_pages, state_in}
 use Rattle.buffer_pool.specs.declared.frame.Frame.{Frame}
 use Rattle.buffer_pool.specs.Frames.{IsPool, AreDistinct, in_front, touched, without, is_framed, KnowsSame, Knows}
@@ -18,7 +18,7 @@ use Rattle.buffer_pool.proofs.Cached.{Entry, found, frames-remove_entry, length_
 
 -- as a look-up of the page tells it
 abbrev pub framed_in : List Entry → ℕ → Bool
-framed_in es n = option_map_or (λ (kept : Kept). kept.framed) (lookup (nat_eq n) es) false
+framed_in es n = option_map_or (λ (kept : PoolEntry). kept.framed) (lookup (nat_eq n) es) false
 
 missing_key : (n : ℕ) (es : List Entry) → Others n (frames_in es) → lookup (nat_eq n) es ≡ None
 missing_key n [] all = refl
@@ -30,11 +30,11 @@ known size (e ∷ es) distinct n = by e.1.framed refl (n == e.0) refl (known siz
   where
     by : (f : Bool) → e.1.framed ≡ f → (b : Bool) → (n == e.0) ≡ b → list_any (λ m. m == n) (framed_pages es) ≡ framed_in es n
         → list_any (λ m. m == n) (map (λ (x : Entry). x.0) (cond f (e ∷ filter (λ (x : Entry). x.1.framed) es) (filter (λ (x : Entry). x.1.framed) es)))
-        ≡ option_map_or (λ (kept : Kept). kept.framed) (cond b (Some e.1) (lookup (nat_eq n) es)) false
+        ≡ option_map_or (λ (kept : PoolEntry). kept.framed) (cond b (Some e.1) (lookup (nat_eq n) es)) false
     by true on true at rest = ap (λ b. b || list_any (λ m. m == n) (framed_pages es)) (eq_turned e.0 n ∙ at) ∙ sym on
     by true on false at rest = ap (λ b. b || list_any (λ m. m == n) (framed_pages es)) (eq_turned e.0 n ∙ at) ∙ rest
     by false off true at rest =
-        rest ∙ ap (λ (o : Option Kept). option_map_or (λ (kept : Kept). kept.framed) o false)
+        rest ∙ ap (λ (o : Option PoolEntry). option_map_or (λ (kept : PoolEntry). kept.framed) o false)
         (missing_key n es (let P : ℕ → Type 0 = λ m. Others m (frames_in es) in subst P (sym (eqb-true n e.0 at)) distinct.0))
         ∙ sym off
     by false off false at rest = rest
@@ -61,40 +61,40 @@ keys_apart (e ∷ es) distinct = (key_apart e.0 es distinct.0, keys_apart es dis
 one_key : (page x y : ℕ) → nat_eq page x ≡ true → nat_eq page y ≡ nat_eq x y
 one_key page x y at = ap (λ m. nat_eq m y) (eqb-true page x at)
 
-of_option : (b : Bool) (kept : Kept) (o : Option Kept)
-    → option_map_or (λ (k : Kept). k.framed) (cond b (Some kept) o) false ≡ cond b kept.framed (option_map_or (λ (k : Kept). k.framed) o false)
+of_option : (b : Bool) (kept : PoolEntry) (o : Option PoolEntry)
+    → option_map_or (λ (k : PoolEntry). k.framed) (cond b (Some kept) o) false ≡ cond b kept.framed (option_map_or (λ (k : PoolEntry). k.framed) o false)
 of_option true kept o = refl
 of_option false kept o = refl
 
-of_none : (b : Bool) (o : Option Kept) → option_map_or (λ (k : Kept). k.framed) (cond b None o) false ≡ cond b false (option_map_or (λ (k : Kept). k.framed) o false)
+of_none : (b : Bool) (o : Option PoolEntry) → option_map_or (λ (k : PoolEntry). k.framed) (cond b None o) false ≡ cond b false (option_map_or (λ (k : PoolEntry). k.framed) o false)
 of_none true o = refl
 of_none false o = refl
 
 -- What each change of the entries does.
 
-pub framed-put : (es : List Entry) (page : ℕ) (kept : Kept) (n : ℕ) → framed_in ((page, kept) ∷ es) n ≡ cond (n == page) kept.framed (framed_in es n)
+pub framed-put : (es : List Entry) (page : ℕ) (kept : PoolEntry) (n : ℕ) → framed_in ((page, kept) ∷ es) n ≡ cond (n == page) kept.framed (framed_in es n)
 framed-put es page kept n = of_option (n == page) kept (lookup (nat_eq n) es)
 
 pub framed-removed : (es : List Entry) (page : ℕ) → AreDistinct (frames_in es) → (n : ℕ) → framed_in (remove_entry (nat_eq page) es) n ≡ cond (n == page) false (framed_in es n)
 framed-removed es page distinct n =
-    ap (λ (o : Option Kept). option_map_or (λ (k : Kept). k.framed) o false) (lookup-remove_entry nat_eq_equiv (nat_eq page) (one_key page) n es (keys_apart es distinct))
+    ap (λ (o : Option PoolEntry). option_map_or (λ (k : PoolEntry). k.framed) o false) (lookup-remove_entry nat_eq_equiv (nat_eq page) (one_key page) n es (keys_apart es distinct))
     ∙ of_none (nat_eq page n) (lookup (nat_eq n) es)
     ∙ ap (λ b. cond b false (framed_in es n)) (eq_turned page n)
 
-pub framed-set : (es : List Entry) (page : ℕ) (kept now : Kept) → lookup (nat_eq page) es ≡ Some kept → (n : ℕ)
+pub framed-set : (es : List Entry) (page : ℕ) (kept now : PoolEntry) → lookup (nat_eq page) es ≡ Some kept → (n : ℕ)
     → framed_in (set_value (nat_eq page) es now) n ≡ cond (n == page) now.framed (framed_in es n)
 framed-set es page kept now is n =
-    ap (λ (o : Option Kept). option_map_or (λ (k : Kept). k.framed) o false) (lookup-set_value nat_eq_equiv (nat_eq page) (one_key page) n now es (subst IsSome (sym is) refl))
+    ap (λ (o : Option PoolEntry). option_map_or (λ (k : PoolEntry). k.framed) o false) (lookup-set_value nat_eq_equiv (nat_eq page) (one_key page) n now es (subst IsSome (sym is) refl))
     ∙ of_option (nat_eq page n) now (lookup (nat_eq n) es)
     ∙ ap (λ b. cond b now.framed (framed_in es n)) (eq_turned page n)
 
-pub framed-same : (es : List Entry) (page : ℕ) (kept now : Kept) → lookup (nat_eq page) es ≡ Some kept → now.framed ≡ kept.framed → (n : ℕ)
+pub framed-same : (es : List Entry) (page : ℕ) (kept now : PoolEntry) → lookup (nat_eq page) es ≡ Some kept → now.framed ≡ kept.framed → (n : ℕ)
     → framed_in (set_value (nat_eq page) es now) n ≡ framed_in es n
 framed-same es page kept now is same n = framed-set es page kept now is n ∙ by (n == page) refl
   where
     by : (b : Bool) → (n == page) ≡ b → cond b now.framed (framed_in es n) ≡ framed_in es n
     by true at =
-        same ∙ ap (λ (o : Option Kept). option_map_or (λ (k : Kept). k.framed) o false) (sym is)
+        same ∙ ap (λ (o : Option PoolEntry). option_map_or (λ (k : PoolEntry). k.framed) o false) (sym is)
         ∙ ap (framed_in es) (sym (eqb-true n page at))
     by false at = refl
 
@@ -116,7 +116,7 @@ framed-last es e is distinct n =
     ap (λ (l : List Entry). framed_in l n) (sym left) ∙ framed-removed es e.0 distinct n
 
 -- a page that is there comes to the front, with another entry
-found_entry : (es : List Entry) (page : ℕ) (kept : Kept) → lookup (nat_eq page) es ≡ Some kept → lookup_entry (nat_eq page) es ≡ Some (page, kept)
+found_entry : (es : List Entry) (page : ℕ) (kept : PoolEntry) → lookup (nat_eq page) es ≡ Some kept → lookup_entry (nat_eq page) es ≡ Some (page, kept)
 found_entry [] page kept is = absurd cc
 found_entry (e ∷ es) page kept is = by (page == e.0) refl is (found_entry es page kept)
   where
@@ -125,19 +125,19 @@ found_entry (e ∷ es) page kept is = by (page == e.0) refl is (found_entry es p
     by true at is rest = let same : e.1 ≡ kept = cc in λ i. Some (sym (eqb-true page e.0 at) i, same i)
     by false at is rest = rest is
 
-pub set_promoted : (es : List Entry) (page : ℕ) (kept now : Kept) → lookup (nat_eq page) es ≡ Some kept
+pub set_promoted : (es : List Entry) (page : ℕ) (kept now : PoolEntry) → lookup (nat_eq page) es ≡ Some kept
     → set_value (nat_eq page) (promoted (nat_eq page) es) now ≡ (page, now) ∷ remove_entry (nat_eq page) es
 set_promoted es page kept now is =
     ap (λ (o : Option Entry). set_value (nat_eq page) (option_map_or (λ (e : Entry). e ∷ remove_entry (nat_eq page) es) o es) now) (found_entry es page kept is)
     ∙ ap (λ b. cond b ((page, now) ∷ remove_entry (nat_eq page) es) ((page, kept) ∷ set_value (nat_eq page) (remove_entry (nat_eq page) es) now)) (eq-eqb page page refl)
 
-pub frames-renewed : (es : List Entry) (page : ℕ) (kept now : Kept) → AreDistinct (frames_in es) → lookup (nat_eq page) es ≡ Some kept → now.changed ≡ kept.changed → now.content ≡ kept.content
+pub frames-renewed : (es : List Entry) (page : ℕ) (kept now : PoolEntry) → AreDistinct (frames_in es) → lookup (nat_eq page) es ≡ Some kept → now.changed ≡ kept.changed → now.content ≡ kept.content
     → frames_in ((page, now) ∷ remove_entry (nat_eq page) es) ≡ touched (frames_in es) page
 frames-renewed es page kept now distinct is changed content =
     (λ i. let f : Frame = record { page = page; changed = changed i; content = (content i).value } in f ∷ frames-remove_entry es page distinct i)
     ∙ ap (λ (o : Option Frame). in_front o (without (frames_in es) page)) (sym (found es page kept is))
 
-pub pool-renewed : (n : ℕ) (es : List Entry) (page : ℕ) (kept now : Kept) → lookup (nat_eq page) es ≡ Some kept → now.changed ≡ kept.changed → now.content ≡ kept.content
+pub pool-renewed : (n : ℕ) (es : List Entry) (page : ℕ) (kept now : PoolEntry) → lookup (nat_eq page) es ≡ Some kept → now.changed ≡ kept.changed → now.content ≡ kept.content
     → IsPool (state_in n es) → IsPool (state_in n ((page, now) ∷ remove_entry (nat_eq page) es))
 pool-renewed n es page kept now is changed content pool =
     let frames = frames-renewed es page kept now pool.distinct is changed content in
@@ -155,7 +155,7 @@ pool-renewed n es page kept now is changed content pool =
         by true is rest = omega arith
         by false is rest = let less = rest is in omega (arith, less)
 
-pub framed-promoted : (es : List Entry) (page : ℕ) (kept now : Kept) → AreDistinct (frames_in es) → lookup (nat_eq page) es ≡ Some kept → now.framed ≡ kept.framed → (n : ℕ)
+pub framed-promoted : (es : List Entry) (page : ℕ) (kept now : PoolEntry) → AreDistinct (frames_in es) → lookup (nat_eq page) es ≡ Some kept → now.framed ≡ kept.framed → (n : ℕ)
     → framed_in ((page, now) ∷ remove_entry (nat_eq page) es) n ≡ framed_in es n
 framed-promoted es page kept now distinct is same n =
     framed-put (remove_entry (nat_eq page) es) page now n
@@ -164,7 +164,7 @@ framed-promoted es page kept now distinct is same n =
   where
     by : (b : Bool) → (n == page) ≡ b → cond b now.framed (cond b false (framed_in es n)) ≡ framed_in es n
     by true at =
-        same ∙ ap (λ (o : Option Kept). option_map_or (λ (k : Kept). k.framed) o false) (sym is)
+        same ∙ ap (λ (o : Option PoolEntry). option_map_or (λ (k : PoolEntry). k.framed) o false) (sym is)
         ∙ ap (framed_in es) (sym (eqb-true n page at))
     by false at = refl
 
@@ -172,7 +172,7 @@ framed-promoted es page kept now distinct is same n =
 pub each_known : (es : List Entry) → AreDistinct (frames_in es) → AllByRecursion (λ (e : Entry). framed_in es e.0 ≡ e.1.framed) es
 each_known [] distinct = tt
 each_known (e ∷ es) distinct = (
-  ap (λ b. option_map_or (λ (k : Kept). k.framed) (cond b (Some e.1) (lookup (nat_eq e.0) es)) false) (eq-eqb e.0 e.0 refl),
+  ap (λ b. option_map_or (λ (k : PoolEntry). k.framed) (cond b (Some e.1) (lookup (nat_eq e.0) es)) false) (eq-eqb e.0 e.0 refl),
   behind es distinct.0 (each_known es distinct.1),
 )
   where
@@ -180,6 +180,6 @@ each_known (e ∷ es) distinct = (
         → AllByRecursion (λ (x : Entry). framed_in (e ∷ es) x.0 ≡ x.1.framed) rest
     behind [] others all = tt
     behind (x ∷ rest) others all = (
-      ap (λ b. option_map_or (λ (k : Kept). k.framed) (cond b (Some e.1) (lookup (nat_eq x.0) es)) false) (ne_eqb x.0 e.0 (λ same. others.0 (sym same))) ∙ all.0,
+      ap (λ b. option_map_or (λ (k : PoolEntry). k.framed) (cond b (Some e.1) (lookup (nat_eq x.0) es)) false) (ne_eqb x.0 e.0 (λ same. others.0 (sym same))) ∙ all.0,
       behind rest others.1 all.1,
     )

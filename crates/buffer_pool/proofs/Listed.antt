@@ -9,7 +9,7 @@ use Rattle.std.proofs.lemmas.List.{map-append, reverse-append, take_all, take_at
 use Rattle.std.proofs.lemmas.List.Elements.{filter-append}
 use Rattle.std_lemmas.proofs.Entries.{at_same, AreBelow, below_append, below_weaker, insert_before, insert_last, kept_behind, skipped}
 use Rattle.buffer_pool.specs.declared.frame.Frame.{Frame}
-use Rattle.buffer_pool.specs.declared.kept.Kept.{Kept}
+use Rattle.buffer_pool.specs.declared.pool_entry.PoolEntry.{PoolEntry}
 use Rattle.buffer_pool.specs.declared.index.Index.{Index}
 use Rattle.buffer_pool.specs.Entries.{frame_in, frames_in, state_in}
 use Rattle.buffer_pool.specs.Frames.{State, AreDistinct, is_framed, is_movable, coldest_movable, mark_of}
@@ -45,13 +45,13 @@ stamped_removed bound k (e ∷ es) stamped = by (nat_eq k e.0) (stamped_removed 
     by true rest = let less = stamped.0 in stamped_weaker e.1.stamp bound es (omega (arith, less)) stamped.1
     by false rest = (stamped.0, rest)
 
-stamped_set : (bound k : ℕ) (kept now : Kept) (es : List Entry) → now.stamp ≡ kept.stamp → AreStamped bound es → lookup (nat_eq k) es ≡ Some kept → AreStamped bound (set_value (nat_eq k) es now)
+stamped_set : (bound k : ℕ) (kept now : PoolEntry) (es : List Entry) → now.stamp ≡ kept.stamp → AreStamped bound es → lookup (nat_eq k) es ≡ Some kept → AreStamped bound (set_value (nat_eq k) es now)
 stamped_set bound k kept now [] at stamped is = tt
 stamped_set bound k kept now (e ∷ es) at stamped is = by (nat_eq k e.0) is (stamped_set e.1.stamp k kept now es at stamped.1)
   where
     by : (b : Bool) → cond b (Some e.1) (lookup (nat_eq k) es) ≡ Some kept → (lookup (nat_eq k) es ≡ Some kept → AreStamped e.1.stamp (set_value (nat_eq k) es now))
         → AreStamped bound (cond b ((e.0, now) ∷ es) (e ∷ set_value (nat_eq k) es now))
-    by true here later = let same : e.1 ≡ kept = cc in subst (λ (s : ℕ). (s < bound) × AreStamped s es) (ap (λ (x : Kept). x.stamp) same ∙ sym at) stamped
+    by true here later = let same : e.1 ≡ kept = cc in subst (λ (s : ℕ). (s < bound) × AreStamped s es) (ap (λ (x : PoolEntry). x.stamp) same ∙ sym at) stamped
     by false there later = (stamped.0, later there)
 
 stamped_front : (bound : ℕ) (front : List Entry) (e : Entry) → AreStamped bound (front ++ e ∷ []) → AreStamped bound front
@@ -59,12 +59,12 @@ stamped_front bound [] e stamped = tt
 stamped_front bound (f ∷ front) e stamped = (stamped.0, stamped_front f.1.stamp front e stamped.1)
 
 -- what is kept of a page is older than the next touch
-found_below : (bound k : ℕ) (kept : Kept) (es : List Entry) → AreStamped bound es → lookup (nat_eq k) es ≡ Some kept → kept.stamp < bound
+found_below : (bound k : ℕ) (kept : PoolEntry) (es : List Entry) → AreStamped bound es → lookup (nat_eq k) es ≡ Some kept → kept.stamp < bound
 found_below bound k kept [] stamped is = absurd cc
 found_below bound k kept (e ∷ es) stamped is = by (nat_eq k e.0) is (found_below e.1.stamp k kept es stamped.1)
   where
     by : (b : Bool) → cond b (Some e.1) (lookup (nat_eq k) es) ≡ Some kept → (lookup (nat_eq k) es ≡ Some kept → kept.stamp < e.1.stamp) → kept.stamp < bound
-    by true here later = let same : e.1 ≡ kept = cc in subst (λ (x : Kept). x.stamp < bound) same stamped.0
+    by true here later = let same : e.1 ≡ kept = cc in subst (λ (x : PoolEntry). x.stamp < bound) same stamped.0
     by false there later = let less = stamped.0 in let rest = later there in omega (arith, less, rest)
 
 -- Taking off the list.
@@ -84,7 +84,7 @@ struck_later s wanted e xs less = by wanted (is_listed e.1)
     by true true = kept_behind s xs (e.1.stamp, (e.0, e.1.changed)) less
     by true false = ap (remove_entry (is_at (nat_cmp s))) (append-nil xs) ∙ sym (append-nil (remove_entry (is_at (nat_cmp s)) xs))
 
-struck_of : (bound k : ℕ) (kept : Kept) (es : List Entry) → AreStamped bound es → lookup (nat_eq k) es ≡ Some kept
+struck_of : (bound k : ℕ) (kept : PoolEntry) (es : List Entry) → AreStamped bound es → lookup (nat_eq k) es ≡ Some kept
     → struck kept.stamp (is_listed kept) (listed_of es) ≡ listed_of (remove_entry (nat_eq k) es)
 struck_of bound k kept [] stamped is = absurd cc
 struck_of bound k kept (e ∷ es) stamped is = by (nat_eq k e.0) is (struck_of e.1.stamp k kept es stamped.1)
@@ -94,7 +94,7 @@ struck_of bound k kept (e ∷ es) stamped is = by (nat_eq k e.0) is (struck_of e
         → struck kept.stamp (is_listed kept) (listed_of es ++ if_listed e) ≡ listed_of (cond b es (e ∷ remove_entry (nat_eq k) es))
     by true here rest =
         let same : e.1 ≡ kept = cc in
-        ap (λ (x : Kept). struck x.stamp (is_listed x) (listed_of es ++ if_listed e)) (sym same) ∙ struck_here e (listed_of es) (listed_below e.1.stamp es stamped.1)
+        ap (λ (x : PoolEntry). struck x.stamp (is_listed x) (listed_of es ++ if_listed e)) (sym same) ∙ struck_here e (listed_of es) (listed_below e.1.stamp es stamped.1)
     by false there rest =
         struck_later kept.stamp (is_listed kept) e (listed_of es) (found_below e.1.stamp k kept es stamped.1 there)
         ∙ ap (λ (l : Listed). l ++ if_listed e) (rest there)
@@ -114,7 +114,7 @@ struck_coldest front e = ap (struck e.1.stamp (is_listed e.1)) (coldest_first fr
 -- Putting on the list.
 
 -- a page that comes to the front
-enlisted_front : (k : ℕ) (kept : Kept) (es : List Entry) → AreStamped kept.stamp es → enlisted kept.stamp (k, kept.changed) (is_listed kept) (listed_of es) ≡ listed_of ((k, kept) ∷ es)
+enlisted_front : (k : ℕ) (kept : PoolEntry) (es : List Entry) → AreStamped kept.stamp es → enlisted kept.stamp (k, kept.changed) (is_listed kept) (listed_of es) ≡ listed_of ((k, kept) ∷ es)
 enlisted_front k kept es stamped = by (is_listed kept)
   where
     by : (b : Bool) → enlisted kept.stamp (k, kept.changed) b (listed_of es) ≡ listed_of es ++ one_listed (k, kept) b
@@ -130,7 +130,7 @@ enlisted_before s v wanted e xs less = by wanted (is_listed e.1)
     by true false = ap (λ (l : Listed). insert_entry nat_cmp l s v) (append-nil xs) ∙ sym (append-nil (insert_entry nat_cmp xs s v))
 
 -- a page that stays at its place
-enlisted_again : (bound k : ℕ) (kept now : Kept) (es : List Entry) → now.stamp ≡ kept.stamp → AreStamped bound es → lookup (nat_eq k) es ≡ Some kept
+enlisted_again : (bound k : ℕ) (kept now : PoolEntry) (es : List Entry) → now.stamp ≡ kept.stamp → AreStamped bound es → lookup (nat_eq k) es ≡ Some kept
     → enlisted now.stamp (k, now.changed) (is_listed now) (listed_of (remove_entry (nat_eq k) es)) ≡ listed_of (set_value (nat_eq k) es now)
 enlisted_again bound k kept now [] at stamped is = absurd cc
 enlisted_again bound k kept now (e ∷ es) at stamped is = by (nat_eq k e.0) refl is (enlisted_again e.1.stamp k kept now es at stamped.1)
@@ -140,7 +140,7 @@ enlisted_again bound k kept now (e ∷ es) at stamped is = by (nat_eq k e.0) ref
         → enlisted now.stamp (k, now.changed) (is_listed now) (listed_of (cond b es (e ∷ remove_entry (nat_eq k) es))) ≡ listed_of (cond b ((e.0, now) ∷ es) (e ∷ set_value (nat_eq k) es now))
     by true test here rest =
         let same : e.1 ≡ kept = cc in
-        enlisted_front k now es (subst (λ (s : ℕ). AreStamped s es) (ap (λ (x : Kept). x.stamp) same ∙ sym at) stamped.1)
+        enlisted_front k now es (subst (λ (s : ℕ). AreStamped s es) (ap (λ (x : PoolEntry). x.stamp) same ∙ sym at) stamped.1)
         ∙ ap (λ (n : ℕ). listed_of ((n, now) ∷ es)) (eqb-true k e.0 test)
     by false test there rest =
         let less = found_below e.1.stamp k kept es stamped.1 there in
@@ -149,7 +149,7 @@ enlisted_again bound k kept now (e ∷ es) at stamped is = by (nat_eq k e.0) ref
 
 -- The index beside each change of the entries: the page is struck, and put on the list where it is listed now.
 
-pub index_stays : (a b c : Index) (es : List Entry) (k : ℕ) (kept now : Kept) → now.stamp ≡ kept.stamp → lookup (nat_eq k) es ≡ Some kept → IsIndex a es
+pub index_stays : (a b c : Index) (es : List Entry) (k : ℕ) (kept now : PoolEntry) → now.stamp ≡ kept.stamp → lookup (nat_eq k) es ≡ Some kept → IsIndex a es
     → b.listed.entries ≡ struck kept.stamp (is_listed kept) a.listed.entries → b.next ≡ a.next → b.whole ≡ a.whole
     → (c.whole ≡ true → c.listed.entries ≡ enlisted kept.stamp (k, now.changed) (is_listed now) b.listed.entries) → c.next ≡ b.next → (c.whole ≡ true → b.whole ≡ true)
     → IsIndex c (set_value (nat_eq k) es now)
@@ -165,7 +165,7 @@ index_stays a b c es k kept now at is index off next whole on next' whole' = rec
 }
 
 -- nor is there anything to do where what counts stays
-listed_same : (k : ℕ) (kept now : Kept) (es : List Entry) → now.stamp ≡ kept.stamp → now.changed ≡ kept.changed → now.framed ≡ kept.framed → lookup (nat_eq k) es ≡ Some kept → listed_of (set_value (nat_eq k) es now) ≡ listed_of es
+listed_same : (k : ℕ) (kept now : PoolEntry) (es : List Entry) → now.stamp ≡ kept.stamp → now.changed ≡ kept.changed → now.framed ≡ kept.framed → lookup (nat_eq k) es ≡ Some kept → listed_of (set_value (nat_eq k) es now) ≡ listed_of es
 listed_same k kept now [] at changed framed is = refl
 listed_same k kept now (e ∷ es) at changed framed is = by (nat_eq k e.0) is (listed_same k kept now es at changed framed)
   where
@@ -173,17 +173,17 @@ listed_same k kept now (e ∷ es) at changed framed is = by (nat_eq k e.0) is (l
         → listed_of (cond b ((e.0, now) ∷ es) (e ∷ set_value (nat_eq k) es now)) ≡ listed_of (e ∷ es)
     by true here rest =
         let same : e.1 ≡ kept = cc in
-        (λ i. listed_of es ++ cond (changed i || not (framed i)) ((at i, (e.0, changed i)) ∷ []) []) ∙ ap (λ (x : Kept). listed_of es ++ if_listed (e.0, x)) (sym same)
+        (λ i. listed_of es ++ cond (changed i || not (framed i)) ((at i, (e.0, changed i)) ∷ []) []) ∙ ap (λ (x : PoolEntry). listed_of es ++ if_listed (e.0, x)) (sym same)
     by false there rest = ap (λ (l : Listed). l ++ if_listed e) (rest there)
 
-pub index_same : (a : Index) (es : List Entry) (k : ℕ) (kept now : Kept) → now.stamp ≡ kept.stamp → now.changed ≡ kept.changed → now.framed ≡ kept.framed → lookup (nat_eq k) es ≡ Some kept → IsIndex a es
+pub index_same : (a : Index) (es : List Entry) (k : ℕ) (kept now : PoolEntry) → now.stamp ≡ kept.stamp → now.changed ≡ kept.changed → now.framed ≡ kept.framed → lookup (nat_eq k) es ≡ Some kept → IsIndex a es
     → IsIndex a (set_value (nat_eq k) es now)
 index_same a es k kept now at changed framed is index = record {
   listed = λ w. index.listed w ∙ sym (listed_same k kept now es at changed framed is);
   stamped = λ w. stamped_set a.next k kept now es at (index.stamped w) is;
 }
 
-pub index_leaves : (a b : Index) (es : List Entry) (k : ℕ) (kept : Kept) → lookup (nat_eq k) es ≡ Some kept → IsIndex a es
+pub index_leaves : (a b : Index) (es : List Entry) (k : ℕ) (kept : PoolEntry) → lookup (nat_eq k) es ≡ Some kept → IsIndex a es
     → b.listed.entries ≡ struck kept.stamp (is_listed kept) a.listed.entries → b.next ≡ a.next → b.whole ≡ a.whole → IsIndex b (remove_entry (nat_eq k) es)
 index_leaves a b es k kept is index off next whole = record {
   listed = λ w. let was = sym whole ∙ w in off ∙ ap (struck kept.stamp (is_listed kept)) (index.listed was) ∙ struck_of a.next k kept es (index.stamped was) is;
@@ -201,7 +201,7 @@ index_last a b es front e split index off next whole = record {
       subst (λ (n : ℕ). AreStamped n front) (sym next) (stamped_front a.next front e (subst (λ (l : List Entry). AreStamped a.next l) split (index.stamped was)));
 }
 
-pub index_enters : (a b : Index) (es : List Entry) (k : ℕ) (kept : Kept) → kept.stamp ≡ a.next → IsIndex a es
+pub index_enters : (a b : Index) (es : List Entry) (k : ℕ) (kept : PoolEntry) → kept.stamp ≡ a.next → IsIndex a es
     → (b.whole ≡ true → b.listed.entries ≡ enlisted a.next (k, kept.changed) (is_listed kept) a.listed.entries) → (b.whole ≡ true → b.next ≡ a.next + 1) → (b.whole ≡ true → a.whole ≡ true)
     → IsIndex b ((k, kept) ∷ es)
 index_enters a b es k kept at index on next whole = record {

@@ -3,7 +3,7 @@ use Rattle.std.proofs.Common.{◌≡◌, ℕ, zero, suc, ◌<◌, ◌≤◌, Boo
 use Rattle.std.proofs.lemmas.List.{reverse-append, take-append-le, take_all, length-take, length-map, map-append, append_assoc}
 use Rattle.std.proofs.lemmas.List.Elements.{filter-append}
 use Rattle.buffer_pool.specs.declared.frame.Frame.{Frame}
-use Rattle.buffer_pool.specs.declared.kept.Kept.{Kept}
+use Rattle.buffer_pool.specs.declared.pool_entry.PoolEntry.{PoolEntry}
 use Rattle.buffer_pool.specs.Entries.{frame_in, frames_in}
 use Rattle.buffer_pool.specs.Frames.{mark_of, coldest_changed}
 
@@ -42,13 +42,13 @@ abbrev numbers : List Frame → List ℕ
 numbers frames = map (λ (f : Frame). f.page) frames
 
 -- Some entries are still to be looked at, and the pages are those of the frames behind them.
-pub record IsWalked (most : ℕ) (frames : List Frame) (warmer : List (ℕ × Kept)) (pages : List ℕ) : Type 0 where
+pub record IsWalked (most : ℕ) (frames : List Frame) (warmer : List (ℕ × PoolEntry)) (pages : List ℕ) : Type 0 where
   pub behind : List Frame
   pub split : frames ≡ frames_in warmer ++ behind
   pub few : length pages ≤ most
   pub pages_are : pages ≡ numbers (coldest_changed most behind)
 
-pub walk_begins : (most : ℕ) (frames : List Frame) (warmer : List (ℕ × Kept)) → frames_in warmer ≡ frames → IsWalked most frames warmer []
+pub walk_begins : (most : ℕ) (frames : List Frame) (warmer : List (ℕ × PoolEntry)) → frames_in warmer ≡ frames → IsWalked most frames warmer []
 walk_begins most frames warmer is = record {
   behind = [];
   split = sym is ∙ sym (append-nil (frames_in warmer));
@@ -70,7 +70,7 @@ numbers_if frame = by frame.changed
     by true = refl
     by false = refl
 
-pub walk_goes_on : (most : ℕ) (frames : List Frame) (warmer rest : List (ℕ × Kept)) (e : ℕ × Kept) (pages more : List ℕ) → IsWalked most frames warmer pages
+pub walk_goes_on : (most : ℕ) (frames : List Frame) (warmer rest : List (ℕ × PoolEntry)) (e : ℕ × PoolEntry) (pages more : List ℕ) → IsWalked most frames warmer pages
     → warmer ≡ rest ++ e ∷ [] → (length pages ≡ most → ⊥) → more ≡ pages ++ cond e.1.changed (e.0 ∷ []) [] → IsWalked most frames rest more
 walk_goes_on most frames warmer rest e pages more walked is not_enough more_is =
     let count : length pages ≡ length (coldest_changed most walked.behind) = walked_length most walked.behind pages walked.pages_are in
@@ -83,39 +83,39 @@ walk_goes_on most frames warmer rest e pages more walked is not_enough more_is =
     record {
       behind = frame_in e ∷ walked.behind;
       split =
-          walked.split ∙ ap (λ (l : List (ℕ × Kept)). frames_in l ++ walked.behind) is
+          walked.split ∙ ap (λ (l : List (ℕ × PoolEntry)). frames_in l ++ walked.behind) is
           ∙ ap (λ (l : List Frame). l ++ walked.behind) (map-append frame_in rest (e ∷ []))
           ∙ append_assoc (frames_in rest) (frame_in e ∷ []) walked.behind;
       few = omega (arith, ap length pages_then, length-map (coldest_changed most (frame_in e ∷ walked.behind)) (λ (f : Frame). f.page), length-take most (changed_frames (frame_in e ∷ walked.behind)));
       pages_are = pages_then;
     }
 
-pub walk_has_enough : (most : ℕ) (frames : List Frame) (warmer : List (ℕ × Kept)) (pages : List ℕ) → IsWalked most frames warmer pages → length pages ≡ most
+pub walk_has_enough : (most : ℕ) (frames : List Frame) (warmer : List (ℕ × PoolEntry)) (pages : List ℕ) → IsWalked most frames warmer pages → length pages ≡ most
     → pages ≡ map (λ (f : Frame). f.page) (coldest_changed most frames)
 walk_has_enough most frames warmer pages walked enough =
     let count : length pages ≡ length (coldest_changed most walked.behind) = walked_length most walked.behind pages walked.pages_are in
     walked.pages_are
     ∙ ap numbers (sym (coldest_enough most (frames_in warmer) walked.behind (sym count ∙ enough)) ∙ ap (coldest_changed most) (sym walked.split))
 
-pub walk_ends : (most : ℕ) (frames : List Frame) (warmer : List (ℕ × Kept)) (pages : List ℕ) → IsWalked most frames warmer pages → warmer ≡ []
+pub walk_ends : (most : ℕ) (frames : List Frame) (warmer : List (ℕ × PoolEntry)) (pages : List ℕ) → IsWalked most frames warmer pages → warmer ≡ []
     → pages ≡ map (λ (f : Frame). f.page) (coldest_changed most frames)
 walk_ends most frames warmer pages walked none =
-    walked.pages_are ∙ ap (λ (l : List Frame). numbers (coldest_changed most l)) (sym (walked.split ∙ ap (λ (l : List (ℕ × Kept)). frames_in l ++ walked.behind) none))
+    walked.pages_are ∙ ap (λ (l : List Frame). numbers (coldest_changed most l)) (sym (walked.split ∙ ap (λ (l : List (ℕ × PoolEntry)). frames_in l ++ walked.behind) none))
 
 -- What is told of each.
 
-abbrev pub told : ℕ × Kept → ℕ × Bool
+abbrev pub told : ℕ × PoolEntry → ℕ × Bool
 told e = (e.0, e.1.changed)
 
-pub marks_told : (es : List (ℕ × Kept)) → map told es ≡ map mark_of (frames_in es)
+pub marks_told : (es : List (ℕ × PoolEntry)) → map told es ≡ map mark_of (frames_in es)
 marks_told [] = refl
 marks_told (e ∷ es) = ap (λ (l : List (ℕ × Bool)). told e ∷ l) (marks_told es)
 
-pub one_more_told : (all marks more : List (ℕ × Bool)) (colder rest : List (ℕ × Kept)) (e : ℕ × Kept) → all ≡ marks ++ map told colder → colder ≡ e ∷ rest
+pub one_more_told : (all marks more : List (ℕ × Bool)) (colder rest : List (ℕ × PoolEntry)) (e : ℕ × PoolEntry) → all ≡ marks ++ map told colder → colder ≡ e ∷ rest
     → more ≡ marks ++ told e ∷ [] → all ≡ more ++ map told rest
 one_more_told all marks more colder rest e is first more_is =
-    is ∙ ap (λ (l : List (ℕ × Kept)). marks ++ map told l) first ∙ sym (append_assoc marks (told e ∷ []) (map told rest))
+    is ∙ ap (λ (l : List (ℕ × PoolEntry)). marks ++ map told l) first ∙ sym (append_assoc marks (told e ∷ []) (map told rest))
     ∙ ap (λ (l : List (ℕ × Bool)). l ++ map told rest) (sym more_is)
 
-pub all_told : (all marks : List (ℕ × Bool)) (colder : List (ℕ × Kept)) → all ≡ marks ++ map told colder → colder ≡ [] → marks ≡ all
-all_told all marks colder is none = sym (is ∙ ap (λ (l : List (ℕ × Kept)). marks ++ map told l) none ∙ append-nil marks)
+pub all_told : (all marks : List (ℕ × Bool)) (colder : List (ℕ × PoolEntry)) → all ≡ marks ++ map told colder → colder ≡ [] → marks ≡ all
+all_told all marks colder is none = sym (is ∙ ap (λ (l : List (ℕ × PoolEntry)). marks ++ map told l) none ∙ append-nil marks)

@@ -3,28 +3,28 @@ use Rattle.std.specs.Prelude.{◌≡◌, ℕ, ◌<◌, Bool, true, not, ◌||◌
 use Rattle.std.specs.Map.{remove_entry}
 use Rattle.std.specs.Ordering.{nat_cmp}
 use Rattle.std.specs.BTreeMap.{insert_entry, is_at}
-use Rattle.buffer_pool.specs.declared.kept.Kept.{Kept}
+use Rattle.buffer_pool.specs.declared.pool_entry.PoolEntry.{PoolEntry}
 use Rattle.buffer_pool.specs.declared.index.Index.{Index}
 
 -- whether a page is listed: it is changed, or has no frame in the queue
-abbrev pub is_listed : Kept → Bool
+abbrev pub is_listed : PoolEntry → Bool
 is_listed kept = kept.changed || not kept.framed
 
 -- The pages that are listed, each with the number of its last touch and whether it is changed: the coldest in front.
-abbrev pub if_listed : ℕ × Kept → List (ℕ × (ℕ × Bool))
+abbrev pub if_listed : ℕ × PoolEntry → List (ℕ × (ℕ × Bool))
 if_listed e = if is_listed e.1 then (e.1.stamp, (e.0, e.1.changed)) ∷ [] else []
 
-abbrev pub listed_of : List (ℕ × Kept) → List (ℕ × (ℕ × Bool))
+abbrev pub listed_of : List (ℕ × PoolEntry) → List (ℕ × (ℕ × Bool))
 listed_of [] = []
 listed_of (e ∷ es) = listed_of es ++ if_listed e
 
 -- the numbers of the last touches fall from the front on, and are below this
-abbrev pub AreStamped : ℕ → List (ℕ × Kept) → Type 0
+abbrev pub AreStamped : ℕ → List (ℕ × PoolEntry) → Type 0
 AreStamped bound [] = ⊤
 AreStamped bound (e ∷ es) = (e.1.stamp < bound) × AreStamped e.1.stamp es
 
 -- where the index is whole it lists these pages
-pub record IsIndex (index : Index) (entries : List (ℕ × Kept)) : Type 0 where
+pub record IsIndex (index : Index) (entries : List (ℕ × PoolEntry)) : Type 0 where
   pub listed : index.whole ≡ true → index.listed.entries ≡ listed_of entries
   pub stamped : index.whole ≡ true → AreStamped index.next entries
 

@@ -3,9 +3,9 @@
 
 mod frame;
 mod index;
-mod kept;
 mod laws;
 mod pool;
+mod pool_entry;
 
 pub use frame::Frame;
 pub use laws::frames_of_pages;

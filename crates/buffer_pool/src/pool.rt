@@ -1,12 +1,12 @@
 ghost use Rattle.std.specs.Prelude.{◌≡◌, ◌<◌, ◌≤◌, ◌==◌, ◌↔◌, ◌∷◌, ◌++◌, [], ℕ, List, length, map, IsTrue, true, false};
 ghost use Rattle.std.specs.Prelude.{Some, None, IsSome, IsNone, is_some, if◌then◌else◌, IfOk, IfErr, IfSome, IfNone};
 ghost use Rattle.std.specs.Prelude.{OnOk, OnErr, OnSome, slice_get, option_map, option_copied};
-ghost use Rattle.slotted_page.specs.Layout.{slots_of, content_length, IsSound, Matches};
+ghost use Rattle.slotted_page.specs.Layout.{slots_of, content_length, IsSound, FitsPage};
 ghost use Rattle.buffer_pool.specs.Frames.{IsPool, frame_of, without, touched, cleared, mark_of, front_of};
 ghost use Rattle.buffer_pool.specs.Frames.{coldest_changed, coldest_movable, KnowsSame, Knows, ChangesFront};
 
 use crate::index::Index;
-use crate::kept::Kept;
+use crate::pool_entry::PoolEntry;
 use byte_fields::VALUE_MAX;
 use lru::LruCache;
 use site::Stop;
@@ -20,7 +20,7 @@ use std::num::NonZeroUsize;
 #[derive(Drop)]
 pub struct Pool {
     size: u32,
-    pages: LruCache<u32, Kept>,
+    pages: LruCache<u32, PoolEntry>,
     index: Index,
 }
 
@@ -143,7 +143,7 @@ impl Pool {
         ensures memory { IfErr result (λ stop. stop ≡ Stop.Memory) }
         ensures err { OnErr result (self.new ≡ self.old) }
     {
-        let kept = Kept {
+        let kept = PoolEntry {
             changed: false,
             framed,
             stamp: self.index.next,
@@ -171,7 +171,7 @@ impl Pool {
         requires sound { IsSound (front_of self.old.frames).content }
         requires slot { slot < 32 }
         requires short { content_length (option_copied value) ≤ VALUE_MAX }
-        requires fits { Matches (slots_of (front_of self.old.frames).content) slot (option_copied value) }
+        requires fits { FitsPage (slots_of (front_of self.old.frames).content) slot (option_copied value) }
         ensures front { ChangesFront self.old.frames self.new.frames slot (option_copied value.entry) lsn }
         ensures size { self.new.size ≡ self.old.size }
         ensures framed { KnowsSame self.old self.new }

@@ -138,7 +138,7 @@ pub fn save<S: Site>(site: &mut S, ring: &mut Ring, master: &Master) -> Result<(
     ensures settled { IsTrue (S.state site.old).honest → OnOk result (IsSettled Dev.Log (S.state site.new)) }
     ensures quiet { IsTrue (S.state site.old).honest → IsQuiet (S.state site.old)
         → OnOk result (IsQuiet (S.state site.new)) }
-    ensures past { IsTrue (S.state site.old).honest
+    ensures device_calls { IsTrue (S.state site.old).honest
         → OnOk result (length (S.state site.new).past ≡ length (S.state site.old).past + 5) }
 
     // Of every site.
@@ -147,7 +147,7 @@ pub fn save<S: Site>(site: &mut S, ring: &mut Ring, master: &Master) -> Result<(
     ensures err { OnErr result (ring.new ≡ record ring.old { ended = true }) }
     ensures shape { ring.new.shape ≡ master_shape }
     ensures usable { IsUsable ring.new (S.state site.new) }
-    ensures goes { Preserves (S.state site.old) (S.state site.new) }
+    ensures preserves { Preserves (S.state site.old) (S.state site.new) }
     ensures faults { WorkFaults result (S.state site.old) (S.state site.new) }
     ensures reads { SameReads (S.state site.old) (S.state site.new) }
 

@@ -15,9 +15,9 @@ on_err_weaker (Err e) f p = f p
 -- one call behind others that were Ok
 pub writes_then : {A B : Type 0} (x : A) (r : Result B Stop) (a b c : State) → WritesDisk {T = A} (Ok x) a b → WritesDisk r b c → WritesDisk r a c
 writes_then x r a b c first second = record {
-  goes = goes_in_sequence a b c first.goes second.goes;
+  preserves = goes_in_sequence a b c first.preserves second.preserves;
   faults = second.faults ∙ ap (after_work r) first.faults;
   reads = λ d. second.reads d ∙ first.reads d;
-  device = on_err_weaker r (fault_since Disk a b c first.goes) second.device;
+  device = on_err_weaker r (fault_since Disk a b c first.preserves) second.device;
   stops = second.stops;
 }

@@ -9,7 +9,7 @@ use Rattle.site.specs.Faults.{WorkFaults}
 
 -- of every site: nothing is read, and the one error is that of the disk
 pub record WritesDisk {T : Type 0} (result : Result T Stop) (old new : State) : Type 0 where
-  pub goes : Preserves old new
+  pub preserves : Preserves old new
   pub faults : WorkFaults result old new
   pub reads : SameReads old new
   pub device : OnErr result (FaultRose Disk old new)

@@ -15,7 +15,7 @@ use Rattle.lock_table.specs.Locks.{ReleasesAll}
 use Rattle.txn_table.specs.declared.active.Active.{Active}
 use Rattle.txn_table.specs.Entries.{IsTable, entry_of, ChangesOnly}
 use Rattle.txn_table.specs.Entries as entries
-use Rattle.redo_undo.specs.declared.store.Store.{Store}
+use Rattle.redo_undo.specs.declared.store.TransactionStore.{TransactionStore}
 use Rattle.engine.specs.declared.engine.Engine.{Engine}
 use Rattle.redo_undo.specs.Stores.{Represents}
 use Rattle.redo_undo.specs.StoreRollback.{ConcernsOnly, RollsBack}
@@ -82,7 +82,7 @@ pub aborted_fits : (engine mid last : Engine) (old new : Site) (s : State) (entr
 aborted_fits engine mid last old new s entry fits table at honest back rest made releases changes owed_is store_is commits_is cap_is =
     let n = entry.session in
     let small = (entry_is engine.active n entry table at).small in
-    let made_last : last.store.made ≡ engine.store.made + (entry.writes + 1) = ap (λ (j : Store). j.made) store_is ∙ made in
+    let made_last : last.store.made ≡ engine.store.made + (entry.writes + 1) = ap (λ (j : TransactionStore). j.made) store_is ∙ made in
     let done : SessionsAre fits.newest back.log last.active (with_session s n None) =
     dropped fits.newest fits.records back.log engine.active last.active s n entry fits.sessions small at
     (subst (λ (a : List Active). ChangesOnly a last.active n None) (ap (λ (x : Engine). x.active) rest) changes) (owed_is ∙ ap (λ (x : Engine). entries.owed x.active) rest)
@@ -91,7 +91,7 @@ aborted_fits engine mid last old new s entry fits table at honest back rest made
       honest = honest;
       newest = fits.newest;
       records = back.log;
-      holds = subst (λ (j : Store). Represents j new fits.newest back.log s.table s.commits) (sym store_is) back.holds;
+      holds = subst (λ (j : TransactionStore). Represents j new fits.newest back.log s.table s.commits) (sym store_is) back.holds;
       counts = record {
         commits = commits_is ∙ ap (λ (x : Engine). x.commits) rest ∙ fits.counts.commits;
         made = omega (arith, made_last, fits.counts.made, count_is engine old s entry fits at);

@@ -16,13 +16,13 @@ use Rattle.std.proofs.lemmas.List.{length-map}
 use Rattle.site.specs.Calls.{SameReads, IsUnchanged}
 use Rattle.std.specs.List.{range_with_len}
 use Rattle.std.proofs.lemmas.List.{map-append}
-use Rattle.record_model.specs.Touches.{CacheWork, read_touch}
+use Rattle.record_model.specs.Touches.{CacheOp, read_touch}
 use Rattle.engine.proofs.Scans.{range_more, range_at}
 use Rattle.second_chance.specs.Machine.{Rules, Cache, after_works, staged_by_works}
 use Rattle.page_store.specs.declared.store.PageStore.{PageStore}
 use Rattle.page_store.specs.Caching.{cache_of, rules, with_change, next_group}
 use Rattle.redo_laws.specs.MachineSteps.{one_touch, StepsMachine, NumbersRise, one_change}
-use Rattle.redo_undo.specs.declared.store.Store.{Store}
+use Rattle.redo_undo.specs.declared.store.TransactionStore.{TransactionStore}
 use Rattle.engine.specs.declared.engine.Engine.{Engine}
 use Rattle.engine.specs.Invariant.{Invariant}
 use Rattle.engine.specs.Paging.{AsksFrom, HasLastFrom, WritesFrom, cache_on}
@@ -41,7 +41,7 @@ change_ok {A} {B} a b page old mid new before between now some law asks changed 
 -- What is asked of each call.
 
 -- a queue on flash has room for a group
-pub store_has_group : {store : Store} {site : Site} → MayWork store site → 1 ≤ (rules store.pages).groups
+pub store_has_group : {store : TransactionStore} {site : Site} → MayWork store site → 1 ≤ (rules store.pages).groups
 store_has_group may = let least = may.both.pages_going.flash.limits.groups in omega (arith, least)
 
 pub has_group : {engine : Engine} {site : Site} → Invariant engine site → 1 ≤ (rules engine.store.pages).groups
@@ -69,7 +69,7 @@ scan_stops {A} {B} stop number offset count old new before now some less asks =
 -- A restart.
 
 -- a call that opens pages was Ok
-pub from_ok : {A B : Type 0} (a : A) (x : B) (pages : B → PageStore) (works : List CacheWork) (old new : PageStore) (before between now : Site) → pages x ≡ new → SameReads between now →
+pub from_ok : {A B : Type 0} (a : A) (x : B) (pages : B → PageStore) (works : List CacheOp) (old new : PageStore) (before between now : Site) → pages x ≡ new → SameReads between now →
     StepsMachine {T = A} (Ok a) works old new before between → AsksFrom {T = B} (Ok x) pages (rules old) works (cache_of old) 0 before now
 from_ok {A} {B} a x pages works old new before between now same still asks = record {
   machine = (ap cache_of same ∙ asks.machine, ap rules same ∙ asks.rules_are);
@@ -78,7 +78,7 @@ from_ok {A} {B} a x pages works old new before between now same still asks = rec
 }
 
 -- it stopped
-pub from_err : {A B : Type 0} (stop : Stop) (pages : B → PageStore) (works : List CacheWork) (old new : PageStore) (before now : Site) →
+pub from_err : {A B : Type 0} (stop : Stop) (pages : B → PageStore) (works : List CacheOp) (old new : PageStore) (before now : Site) →
     StepsMachine {T = A} (Err stop) works old new before now → AsksFrom {T = B} (Err stop) pages (rules old) works (cache_of old) 0 before now
 from_err stop pages works old new before now asks = record {
   machine = tt;
@@ -87,23 +87,23 @@ from_err stop pages works old new before now asks = record {
 }
 
 -- what is written however it ends
-pub writes_stopped : {A : Type 0} (stop : Stop) (first later : List CacheWork) (old new : PageStore) (before now : Site) → 1 ≤ (rules old).groups → StepsMachine {T = A} (Err stop) first old new before now → HasQueueOn old before → IsQuiet before →
+pub writes_stopped : {A : Type 0} (stop : Stop) (first later : List CacheOp) (old new : PageStore) (before now : Site) → 1 ≤ (rules old).groups → StepsMachine {T = A} (Err stop) first old new before now → HasQueueOn old before → IsQuiet before →
     WritesFrom old.flash.geometry (rules old) (first ++ later) (cache_of old) before now
 writes_stopped {A} stop first later old new before now some asks has quiet = (asks_stopped {A = A} {B = A} stop first later old new before now some asks).stages.writes has quiet
 
 -- it stopped before all of the work was done
-pub from_stopped : {A B : Type 0} (stop : Stop) (pages : B → PageStore) (first later : List CacheWork) (old new : PageStore) (before now : Site) → 1 ≤ (rules old).groups →
+pub from_stopped : {A B : Type 0} (stop : Stop) (pages : B → PageStore) (first later : List CacheOp) (old new : PageStore) (before now : Site) → 1 ≤ (rules old).groups →
     StepsMachine {T = A} (Err stop) first old new before now → AsksFrom {T = B} (Err stop) pages (rules old) (first ++ later) (cache_of old) 0 before now
 from_stopped {A} {B} stop pages first later old new before now some asks =
     let all : StepsMachine {T = B} (Err stop) (first ++ later) old new before now = asks_stopped stop first later old new before now some asks in
     from_err stop pages (first ++ later) old new before now all
 
 -- the queue was found before
-pub from_found : {T : Type 0} (result : Result T Stop) (pages : T → PageStore) (r r' : Rules) (works works' : List CacheWork) (start start' : Cache) (scanned : ℕ) (old mid new : Site) → r ≡ r' → works ≡ works' → start ≡ start' →
+pub from_found : {T : Type 0} (result : Result T Stop) (pages : T → PageStore) (r r' : Rules) (works works' : List CacheOp) (start start' : Cache) (scanned : ℕ) (old mid new : Site) → r ≡ r' → works ≡ works' → start ≡ start' →
     mid.flash_reads ≤ old.flash_reads + scanned → mid.disk_reads ≡ old.disk_reads → AsksFrom result pages r works start 0 mid new → AsksFrom result pages r' works' start' scanned old new
 from_found result pages r r' works works' start start' scanned old mid new same_rules same_works same_start flash disk asks =
     subst (λ (x : Rules). AsksFrom result pages x works' start' scanned old new) same_rules
-    (subst (λ (x : List CacheWork). AsksFrom result pages r x start' scanned old new) same_works
+    (subst (λ (x : List CacheOp). AsksFrom result pages r x start' scanned old new) same_works
     (subst (λ (x : Cache). AsksFrom result pages r works x scanned old new) same_start (record {
       machine = asks.machine;
       flash = (let reads = asks.flash in omega (arith, reads, flash));
@@ -111,7 +111,7 @@ from_found result pages r r' works works' start start' scanned old mid new same_
     })))
 
 -- the queue wasn't found
-pub not_found : NumbersRise → {T : Type 0} (stop : Stop) (pages : T → PageStore) (r : Rules) (works : List CacheWork) (start : Cache) (scanned : ℕ) (old new : Site) → 1 ≤ r.groups →
+pub not_found : NumbersRise → {T : Type 0} (stop : Stop) (pages : T → PageStore) (r : Rules) (works : List CacheOp) (start : Cache) (scanned : ℕ) (old new : Site) → 1 ≤ r.groups →
     new.flash_reads ≤ old.flash_reads + scanned → new.disk_reads ≡ old.disk_reads → AsksFrom {T = T} (Err stop) pages r works start scanned old new
 not_found rise stop pages r works start scanned old new some flash disk = record {
   machine = tt;
@@ -120,7 +120,7 @@ not_found rise stop pages r works start scanned old new some flash disk = record
 }
 
 -- another answer of the same call
-pub from_other : {A B : Type 0} (a : A) (b : B) (pages : A → PageStore) (others : B → PageStore) (r : Rules) (works : List CacheWork) (start : Cache) (scanned : ℕ) (old new : Site) → others b ≡ pages a →
+pub from_other : {A B : Type 0} (a : A) (b : B) (pages : A → PageStore) (others : B → PageStore) (r : Rules) (works : List CacheOp) (start : Cache) (scanned : ℕ) (old new : Site) → others b ≡ pages a →
     AsksFrom {T = A} (Ok a) pages r works start scanned old new → AsksFrom {T = B} (Ok b) others r works start scanned old new
 from_other {A} {B} a b pages others r works start scanned old new same asks = record {
   machine = (ap cache_of same ∙ asks.machine.0, ap rules same ∙ asks.machine.1);
@@ -128,7 +128,7 @@ from_other {A} {B} a b pages others r works start scanned old new same asks = re
   disk = asks.disk;
 }
 
-pub from_other_fails : {A B : Type 0} (a : A) (stop : Stop) (pages : A → PageStore) (others : B → PageStore) (r : Rules) (works : List CacheWork) (start : Cache) (scanned : ℕ) (old new : Site) →
+pub from_other_fails : {A B : Type 0} (a : A) (stop : Stop) (pages : A → PageStore) (others : B → PageStore) (r : Rules) (works : List CacheOp) (start : Cache) (scanned : ℕ) (old new : Site) →
     AsksFrom {T = A} (Ok a) pages r works start scanned old new → AsksFrom {T = B} (Err stop) others r works start scanned old new
 from_other_fails a stop pages others r works start scanned old new asks = record { machine = tt; flash = asks.flash; disk = asks.disk }
 
@@ -139,12 +139,12 @@ opened_next : (g : Geometry) (image : Image) → hi_of (group_shape g) image.fla
 opened_next g image =
     omega (arith, length-map (map frames_in (units_on (group_shape g) image).live) (map (λ (frame : Frame). known_of frame.page frame.dirty)))
 
-pub still_writes : NumbersRise → (g : Geometry) (r : Rules) (works : List CacheWork) (old now : Site) → 1 ≤ r.groups → IsQuiet old → IsUnchanged old now → WritesFrom g r works (cache_on g old.image) old now
+pub still_writes : NumbersRise → (g : Geometry) (r : Rules) (works : List CacheOp) (old now : Site) → 1 ≤ r.groups → IsQuiet old → IsUnchanged old now → WritesFrom g r works (cache_on g old.image) old now
 still_writes rise g r works old now some quiet same =
     let up = rise r works (cache_on g old.image) some in
     still_leaves g (staged_by_works r works (cache_on g old.image)) (next_group (after_works r works (cache_on g old.image))) old now (omega (arith, up, opened_next g old.image)) quiet same
 
-pub writes_found : NumbersRise → (g : Geometry) (r : Rules) (works : List CacheWork) (h : Geometry) (r' : Rules) (works' : List CacheWork) (start : Cache) (old mid new : Site) → 1 ≤ r.groups → IsQuiet old → IsUnchanged old mid → h ≡ g → r' ≡ r → works' ≡ works →
+pub writes_found : NumbersRise → (g : Geometry) (r : Rules) (works : List CacheOp) (h : Geometry) (r' : Rules) (works' : List CacheOp) (start : Cache) (old mid new : Site) → 1 ≤ r.groups → IsQuiet old → IsUnchanged old mid → h ≡ g → r' ≡ r → works' ≡ works →
     start ≡ cache_on g old.image → WritesFrom h r' works' start mid new → WritesFrom g r works (cache_on g old.image) old new
 writes_found rise g r works h r' works' start old mid new some quiet same sizes same_rules same_works same_start writes =
     let staged = staged_by_works r works (cache_on g old.image) in
@@ -153,14 +153,14 @@ writes_found rise g r works h r' works' start old mid new some quiet same sizes 
     let there : LeavesOnly mid new P =
     subst (λ (i : Image). LeavesOnly mid new (λ (s : Snapshot). WritesOnly g staged next i s.image)) same.image
     (subst (λ (k : Cache). LeavesOnly mid new (λ (s : Snapshot). WritesOnly g (staged_by_works r works k) (next_group (after_works r works k)) mid.image s.image)) same_start
-    (subst (λ (w : List CacheWork). WritesFrom g r w start mid new) same_works (subst (λ (x : Rules). WritesFrom g x works' start mid new) same_rules (subst (λ (x : Geometry). WritesFrom x r' works' start mid new) sizes writes)))) in
+    (subst (λ (w : List CacheOp). WritesFrom g r w start mid new) same_works (subst (λ (x : Rules). WritesFrom g x works' start mid new) same_rules (subst (λ (x : Geometry). WritesFrom x r' works' start mid new) sizes writes)))) in
     in_sequence old mid new (Leaves P) (still_writes rise g r works old mid some quiet same) there
 
 -- what the disk has behind it
-pub last_found : (g : Geometry) (r : Rules) (works : List CacheWork) (h : Geometry) (r' : Rules) (works' : List CacheWork) (start : Cache) (old mid new : Site) → IsUnchanged old mid → h ≡ g → r' ≡ r → works' ≡ works → start ≡ cache_on g old.image →
+pub last_found : (g : Geometry) (r : Rules) (works : List CacheOp) (h : Geometry) (r' : Rules) (works' : List CacheOp) (start : Cache) (old mid new : Site) → IsUnchanged old mid → h ≡ g → r' ≡ r → works' ≡ works → start ≡ cache_on g old.image →
     HasLastFrom h r' works' start mid new → HasLastFrom g r works (cache_on g old.image) old new
 last_found g r works h r' works' start old mid new same sizes same_rules same_works same_start last =
     let there : HasLastFrom g r works (cache_on g old.image) mid new =
     subst (λ (k : Cache). HasLastFrom g r works k mid new) same_start
-    (subst (λ (w : List CacheWork). HasLastFrom g r w start mid new) same_works (subst (λ (x : Rules). HasLastFrom g x works' start mid new) same_rules (subst (λ (x : Geometry). HasLastFrom x r' works' start mid new) sizes last))) in
+    (subst (λ (w : List CacheOp). HasLastFrom g r w start mid new) same_works (subst (λ (x : Rules). HasLastFrom g x works' start mid new) same_rules (subst (λ (x : Geometry). HasLastFrom x r' works' start mid new) sizes last))) in
     last_after_reads g (staged_by_works r works (cache_on g old.image)) old mid new same.past there

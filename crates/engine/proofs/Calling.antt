@@ -12,7 +12,7 @@ use Rattle.site.specs.Faults.{Faults, faults_in, after_work, WorkFaults}
 use Rattle.site.specs.Laws.{holds_now, leaves_weaker, stays_honest, fault_since, goes_in_sequence}
 use Rattle.record_model.specs.State.{Content, State, Write, table_with}
 use Rattle.record_model.specs.Step.{Outcome, refusal, asks_for_checkpoint, lacks_room, making, committed}
-use Rattle.record_model.specs.Touches.{CacheWork, flush, command_touches}
+use Rattle.record_model.specs.Touches.{CacheOp, flush, command_touches}
 use Rattle.record_model.specs.declared.words.Command.{Command}
 use Rattle.record_model.specs.declared.words.Reply.{Reply}
 use Rattle.image_meaning.specs.Moments as moments
@@ -31,7 +31,7 @@ use Rattle.engine.specs.Representation.{Matches, IsRefusedWith, run, checkpointe
 use Rattle.engine.specs.Image.{Stands}
 use Rattle.engine.specs.Leaves.{LeavesTable, LeavesEither}
 use Rattle.engine.specs.Numbers.{checkpoints_by, CountsOn}
-use Rattle.engine.specs.Calls.{Ends, KeepsEngine, KeepsUnread, Does, Answers}
+use Rattle.engine.specs.Calls.{Ends, KeepsEngine, KeepsUnread, CommandEffect, CommandContract}
 use Rattle.engine.proofs.Moments.{and_then}
 use Rattle.engine.proofs.Asking.{has_group}
 use Rattle.engine.proofs.RingCounts.{counts, count_failed, count_answered, count_refused, count_then, run_makes, count_nothing}
@@ -48,12 +48,12 @@ use Rattle.redo_laws.proofs.Asking.{asks_nothing, asks_same, asks_then, asks_sto
 
 -- where a call stops, an honest site is as it was
 pub calls_stopped : {T : Type 0} {stop : Stop} {before now : Site} → Preserves before now → (IsTrue before.honest → IsUnchanged before now) → ((d : Dev) → IsErrOf {T = T} (Err stop) (Device d) → FaultRose d before now) → WorkFaults {T = T} (Err stop) before now → Calls {T = T} (Err stop) before now
-calls_stopped goes same device faults = record { goes = goes; left = λ honest. (same honest).left; stays_quiet = λ honest quiet. tt; device = device; faults = faults }
+calls_stopped goes same device faults = record { preserves = goes; left = λ honest. (same honest).left; stays_quiet = λ honest quiet. tt; device = device; faults = faults }
 
 -- a call behind one that left an honest site as it was
 pub calls_behind : {T : Type 0} {r : Result T Stop} {before between now : Site} → Preserves before between → (IsTrue before.honest → IsUnchanged before between) → faults_in between ≡ faults_in before → Calls r between now → Calls r before now
 calls_behind {r = r} {before = before} {between = between} {now = now} goes same faults second = record {
-  goes = goes_in_sequence before between now goes second.goes;
+  preserves = goes_in_sequence before between now goes second.preserves;
   left = λ honest. second.left (stays_honest before between goes honest) ∙ (same honest).left;
   stays_quiet = λ honest quiet. second.stays_quiet (stays_honest before between goes honest) ((same honest).loose ∙ quiet);
   device = λ d is. fault_since d before between now goes (second.device d is);
@@ -111,7 +111,7 @@ serves_then {before = before} {between = between} first second = record {
     going = second.going;
     sizes = second.sizes ∙ first.sizes;
     stops = second.stops;
-    next = λ honest. next_then first.sizes (first.next honest) (second.next (stays_honest before between first.calls.goes honest));
+    next = λ honest. next_then first.sizes (first.next honest) (second.next (stays_honest before between first.calls.preserves honest));
   };
   log_reads = second.log_reads ∙ first.log_reads;
 }
@@ -135,7 +135,7 @@ serves_nothing going = record { keeps = record { calls = calls_nothing; going = 
 
 -- what log and pages keep, as what the database does
 pub does_of : {T : Type 0} {r : Result T Stop} {old new : Engine} {before now : Site} {s after : State} {P : Snapshot → Type 0} {n m : ℕ} → s.made + n ≤ after.made → OnOk r (Matches new now after) →
-    Keeps r old.store new.store before now P n m → Does r old new before now s after P m
+    Keeps r old.store new.store before now P n m → CommandEffect r old new before now s after P m
 does_of {r = r} {old = old} {new = new} {before = before} {now = now} {s = s} {after = after} {n = n} {m = m} few fits keeps = record {
   after_fits = fits;
   ends = keeps.ends;
@@ -143,19 +143,19 @@ does_of {r = r} {old = old} {new = new} {before = before} {now = now} {s = s} {a
 }
 
 pub does_ok : {T : Type 0} {x : T} {old new : Engine} {before now : Site} {s after : State} {P : Snapshot → Type 0} {m : ℕ} → Matches new now after → (IsQuiet before → LeavesOnly before now P) →
-    (IsQuiet before → CountsOn {T = T} {E = Stop} (Ok x) old new before now s after m) → Does {T = T} (Ok x) old new before now s after P m
+    (IsQuiet before → CountsOn {T = T} {E = Stop} (Ok x) old new before now s after m) → CommandEffect {T = T} (Ok x) old new before now s after P m
 does_ok fits moments numbers = record { after_fits = fits; ends = ends_ok moments; numbers = numbers }
 
-pub does_weaker : {T : Type 0} {r : Result T Stop} {old new : Engine} {before now : Site} {s after : State} {P R : Snapshot → Type 0} {m : ℕ} → ((x : Snapshot) → P x → R x) → Does r old new before now s after P m → Does r old new before now s after R m
+pub does_weaker : {T : Type 0} {r : Result T Stop} {old new : Engine} {before now : Site} {s after : State} {P R : Snapshot → Type 0} {m : ℕ} → ((x : Snapshot) → P x → R x) → CommandEffect r old new before now s after P m → CommandEffect r old new before now s after R m
 does_weaker {before = before} {now = now} {P = P} {R = R} more first = record { after_fits = first.after_fits; ends = ends_leaving (leaves_weaker before now P R more) first.ends; numbers = first.numbers }
 
 -- another value of its caller
-pub does_answered : {A B : Type 0} {a : A} {b : B} {old new : Engine} {before now : Site} {s after : State} {P : Snapshot → Type 0} {m : ℕ} → Does {T = A} (Ok a) old new before now s after P m → Does {T = B} (Ok b) old new before now s after P m
+pub does_answered : {A B : Type 0} {a : A} {b : B} {old new : Engine} {before now : Site} {s after : State} {P : Snapshot → Type 0} {m : ℕ} → CommandEffect {T = A} (Ok a) old new before now s after P m → CommandEffect {T = B} (Ok b) old new before now s after P m
 does_answered {A = A} {B = B} {a = a} {b = b} {old = old} {new = new} {before = before} {now = now} {s = s} {after = after} {m = m} first =
     does_ok first.after_fits first.any_moment (λ quiet. count_answered {T = B} {A = A} a b old new before now s after m (first.numbers quiet))
 
 -- the error of a call is the error of its caller, whatever that leaves in memory
-pub does_failed : {A B : Type 0} {stop : Stop} {old new new' : Engine} {before now : Site} {s after after' : State} {P : Snapshot → Type 0} {m : ℕ} → after.made ≤ after'.made → Does {T = A} (Err stop) old new before now s after P m → Does {T = B} (Err stop) old new' before now s after' P m
+pub does_failed : {A B : Type 0} {stop : Stop} {old new new' : Engine} {before now : Site} {s after after' : State} {P : Snapshot → Type 0} {m : ℕ} → after.made ≤ after'.made → CommandEffect {T = A} (Err stop) old new before now s after P m → CommandEffect {T = B} (Err stop) old new' before now s after' P m
 does_failed {A = A} {B = B} {stop = stop} {old = old} {new = new} {new' = new'} {before = before} {now = now} {s = s} {after = after} {after' = after'} {m = m} few first = record {
   after_fits = tt;
   ends = ends_failed first.ends;
@@ -165,7 +165,7 @@ does_failed {A = A} {B = B} {stop = stop} {old = old} {new = new} {new' = new'} 
 -- a call behind one that was Ok
 pub does_then : {A B : Type 0} {a : A} {r : Result B Stop} {old mid new : Engine} {before between now : Site} {s u after : State} {P Q R : Snapshot → Type 0} {m m' k : ℕ} → IsTrue before.honest → m + m' ≡ k →
     ((x : Snapshot) → P x → R x) → (LeavesOnly before between P → (x : Snapshot) → Q x → R x) →
-    KeepsUnread {T = A} (Ok a) old mid before between → Does {T = A} (Ok a) old mid before between s u P m → Does r mid new between now u after Q m' → Does r old new before now s after R k
+    KeepsUnread {T = A} (Ok a) old mid before between → CommandEffect {T = A} (Ok a) old mid before between s u P m → CommandEffect r mid new between now u after Q m' → CommandEffect r old new before now s after R k
 does_then {a = a} {r = r} {old = old} {mid = mid} {new = new} {before = before} {between = between} {now = now} {s = s} {u = u} {after = after} {P = P} {Q = Q} {R = R} {m = m} {m' = m'} {k = k} honest sum early late serves first second = record {
   after_fits = second.after_fits;
   ends = ends_behind (serves.calls.stays_quiet honest) serves.sizes (λ quiet. leaves_late early late (first.any_moment quiet)) second.ends;
@@ -175,17 +175,17 @@ does_then {a = a} {r = r} {old = old} {mid = mid} {new = new} {before = before} 
 -- Commands.
 
 -- what is carried out is what the model says
-pub answered_as : (P : Outcome → Snapshot → Type 0) → {r : Result Reply Stop} {old new : Engine} {before now : Site} {s : State} {o known : Outcome} {works other : List CacheWork} {m : ℕ} {More : Type 0} → (o ≡ known) × ((works ≡ other) × More) →
-    Does r old new before now s known.after (P known) m → IfOk r (λ reply. reply ≡ known.reply) → StepsMachine r other old.store.pages new.store.pages before now → Answers r old new before now s o works (P o) m
+pub answered_as : (P : Outcome → Snapshot → Type 0) → {r : Result Reply Stop} {old new : Engine} {before now : Site} {s : State} {o known : Outcome} {works other : List CacheOp} {m : ℕ} {More : Type 0} → (o ≡ known) × ((works ≡ other) × More) →
+    CommandEffect r old new before now s known.after (P known) m → IfOk r (λ reply. reply ≡ known.reply) → StepsMachine r other old.store.pages new.store.pages before now → CommandContract r old new before now s o works (P o) m
 answered_as P {r = r} {old = old} {new = new} {before = before} {now = now} {s = s} {o = o} {known = known} {works = works} {other = other} {m = m} is does reply asks = record {
   reply = subst (λ (x : Outcome). IfOk r (λ (y : Reply). y ≡ x.reply)) (sym is.0) reply;
   asks = asks_same r works other old.store.pages new.store.pages before now is.1.0 asks;
-  does = subst (λ (x : Outcome). Does r old new before now s x.after (P x) m) (sym is.0) does;
+  does = subst (λ (x : Outcome). CommandEffect r old new before now s x.after (P x) m) (sym is.0) does;
 }
 
 -- that leaves the table
-pub answered : {r : Result Reply Stop} {old new : Engine} {before now : Site} {s : State} {o known : Outcome} {works other : List CacheWork} {P : Snapshot → Type 0} {m : ℕ} {More : Type 0} → (o ≡ known) × ((works ≡ other) × More) →
-    Does r old new before now s known.after P m → IfOk r (λ reply. reply ≡ known.reply) → StepsMachine r other old.store.pages new.store.pages before now → Answers r old new before now s o works P m
+pub answered : {r : Result Reply Stop} {old new : Engine} {before now : Site} {s : State} {o known : Outcome} {works other : List CacheOp} {P : Snapshot → Type 0} {m : ℕ} {More : Type 0} → (o ≡ known) × ((works ≡ other) × More) →
+    CommandEffect r old new before now s known.after P m → IfOk r (λ reply. reply ≡ known.reply) → StepsMachine r other old.store.pages new.store.pages before now → CommandContract r old new before now s o works P m
 answered {P = P} is does reply asks = answered_as (λ o. P) is does reply asks
 
 -- nothing is asked
@@ -193,7 +193,7 @@ pub asks_rest : {T : Type 0} {x : T} {pages : PageStore} {site : Site} → Steps
 asks_rest {T = T} {x = x} {pages = pages} {site = site} = asks_nothing {T = T} (Ok x) pages site site (λ dev. refl) (stages_none refl (omega arith) refl)
 
 -- a command that is refused, or only answers: nothing is called
-pub does_nothing : {T : Type 0} {x : T} {engine : Engine} {site : Site} {s : State} {P : Snapshot → Type 0} → Matches engine site s → Invariant engine site → (IsQuiet site → LeavesOnly site site P) → Does {T = T} (Ok x) engine engine site site s s P 0
+pub does_nothing : {T : Type 0} {x : T} {engine : Engine} {site : Site} {s : State} {P : Snapshot → Type 0} → Matches engine site s → Invariant engine site → (IsQuiet site → LeavesOnly site site P) → CommandEffect {T = T} (Ok x) engine engine site site s s P 0
 does_nothing {T = T} {x = x} {engine = engine} {site = site} {s = s} fits going still = does_ok fits still (λ quiet. count_nothing x engine site s s fits going quiet (omega arith))
 
 -- what stands already stands
@@ -203,31 +203,31 @@ still law {engine = engine} {site = site} {s = s} fits going quiet =
 
 -- a command that is refused
 pub refused_as : (P : Outcome → Snapshot → Type 0) → {engine : Engine} {site : Site} {s : State} (command : Command) {r : Reply} → IsRefusedWith s command r → HoldsMoment → Matches engine site s → Invariant engine site →
-    ((x : Snapshot) → LeavesTable (sizes_of engine.store) s.table s.commits site.told x → P (record { after = s; reply = r }) x) → Answers (Ok r) engine engine site site s (run s command) (command_touches s command) (P (run s command)) (checkpoints_by s command)
+    ((x : Snapshot) → LeavesTable (sizes_of engine.store) s.table s.commits site.told x → P (record { after = s; reply = r }) x) → CommandContract (Ok r) engine engine site site s (run s command) (command_touches s command) (P (run s command)) (checkpoints_by s command)
 refused_as P {engine = engine} {site = site} {s = s} command {r = r} is law fits going more =
-    subst (λ (b : Bool). Answers (Ok r) engine engine site site s (run s command) (command_touches s command) (P (run s command)) (if b then 1 else 0)) (sym (none_made command is))
+    subst (λ (b : Bool). CommandContract (Ok r) engine engine site site s (run s command) (command_touches s command) (P (run s command)) (if b then 1 else 0)) (sym (none_made command is))
     (answered_as P is (does_weaker more (does_nothing fits going (still law fits going))) refl asks_rest)
 
 -- A command that no test refuses, behind the checkpoint that is made where it asks for one.
 module _ {s : State} (command : Command) {asks : Bool} (known : asks ≡ asks_for_checkpoint s command) (passes : refusal s command ≡ None) (R : Outcome → Snapshot → Type 0) where
   pub first_then : {A : Type 0} {a : A} {r : Result Reply Stop} {old mid new : Engine} {before between now : Site} {P Q : Snapshot → Type 0} (lacks : Bool) → lacks_room (checkpointed_if asks s) command ≡ lacks → IsTrue before.honest →
       ((x : Snapshot) → P x → R (way (checkpointed_if asks s) command lacks) x) → (LeavesOnly before between P → (x : Snapshot) → Q x → R (way (checkpointed_if asks s) command lacks) x) →
-      KeepsUnread {T = A} (Ok a) old mid before between → Does {T = A} (Ok a) old mid before between s (checkpointed_if asks s) P (if asks then 1 else 0) →
+      KeepsUnread {T = A} (Ok a) old mid before between → CommandEffect {T = A} (Ok a) old mid before between s (checkpointed_if asks s) P (if asks then 1 else 0) →
       StepsMachine {T = A} (Ok a) (if asks then checkpoint_works else []) old.store.pages mid.store.pages before between →
-      Does r mid new between now (checkpointed_if asks s) (way (checkpointed_if asks s) command lacks).after Q 0 → IfOk r (λ reply. reply ≡ (way (checkpointed_if asks s) command lacks).reply) → StepsMachine r (touched s command lacks) mid.store.pages new.store.pages between now →
-      Answers r old new before now s (run s command) (command_touches s command) (R (run s command)) (checkpoints_by s command)
+      CommandEffect r mid new between now (checkpointed_if asks s) (way (checkpointed_if asks s) command lacks).after Q 0 → IfOk r (λ reply. reply ≡ (way (checkpointed_if asks s) command lacks).reply) → StepsMachine r (touched s command lacks) mid.store.pages new.store.pages between now →
+      CommandContract r old new before now s (run s command) (command_touches s command) (R (run s command)) (checkpoints_by s command)
   first_then {a = a} {r = r} {old = old} {mid = mid} {new = new} {before = before} {between = between} {now = now} lacks is honest early late serves does asked second reply touches =
-      subst (λ (b : Bool). Answers r old new before now s (run s command) (command_touches s command) (R (run s command)) (if b then 1 else 0)) (made_as_asked s command known passes)
+      subst (λ (b : Bool). CommandContract r old new before now s (run s command) (command_touches s command) (R (run s command)) (if b then 1 else 0)) (made_as_asked s command known passes)
       (answered_as R (step_behind s command known passes ∙ ap (way (checkpointed_if asks s) command) is, (touches_behind s command known passes ∙ ap (λ (l : Bool). (if asks then flush ∷ [] else []) ++ touched s command l) is, tt {0})) (does_then honest (omega arith) early late serves does second) reply
       (asks_then a r (if asks then checkpoint_works else []) (touched s command lacks) old.store.pages mid.store.pages new.store.pages before between now asked touches))
 
   -- that fails
   pub first_failed : {A : Type 0} {stop : Stop} {old mid : Engine} {before now : Site} {P : Snapshot → Type 0} → Invariant old before → ((x : Snapshot) → P x → R (run s command) x) →
-      Does {T = A} (Err stop) old mid before now s (checkpointed_if asks s) P (if asks then 1 else 0) → StepsMachine {T = A} (Err stop) (if asks then checkpoint_works else []) old.store.pages mid.store.pages before now →
-      Answers (Err stop) old mid before now s (run s command) (command_touches s command) (R (run s command)) (checkpoints_by s command)
+      CommandEffect {T = A} (Err stop) old mid before now s (checkpointed_if asks s) P (if asks then 1 else 0) → StepsMachine {T = A} (Err stop) (if asks then checkpoint_works else []) old.store.pages mid.store.pages before now →
+      CommandContract (Err stop) old mid before now s (run s command) (command_touches s command) (R (run s command)) (checkpoints_by s command)
   first_failed {A = A} {stop = stop} {old = old} {mid = mid} {before = before} {now = now} going early does asked =
       let nothing : run s command ≡ run s command = refl in
-      subst (λ (b : Bool). Answers (Err stop) old mid before now s (run s command) (command_touches s command) (R (run s command)) (if b then 1 else 0)) (made_as_asked s command known passes)
+      subst (λ (b : Bool). CommandContract (Err stop) old mid before now s (run s command) (command_touches s command) (R (run s command)) (if b then 1 else 0)) (made_as_asked s command known passes)
       (answered_as R (nothing, (touches_behind s command known passes, tt {0})) (does_failed (run_makes s command) (does_weaker early does)) tt
       (asks_stopped {A = A} {B = Reply} stop (if asks then checkpoint_works else []) (touched s command (lacks_room (checkpointed_if asks s) command)) old.store.pages mid.store.pages before now (has_group going) asked))
 
@@ -249,9 +249,9 @@ late_either {g = g} {g' = g'} {old = old} {mid = mid} {s = s} {u = u} {after = a
 
 -- what a session writes
 pub written : {T : Type 0} {r : Result T Stop} {old new : Engine} {before now : Site} {s : State} {P : Snapshot → Type 0} {m n k : ℕ} {x y : Content} (number : ℕ) → n ≡ k → x ≡ y →
-    Does r old new before now s (with_write s n (number, x)) P m → Does r old new before now s (with_write s k (number, y)) P m
+    CommandEffect r old new before now s (with_write s n (number, x)) P m → CommandEffect r old new before now s (with_write s k (number, y)) P m
 written {r = r} {old = old} {new = new} {before = before} {now = now} {s = s} {P = P} {m = m} {k = k} {x = x} number session is does =
-    subst (λ (v : Content). Does r old new before now s (with_write s k (number, v)) P m) is (subst (λ (j : ℕ). Does r old new before now s (with_write s j (number, x)) P m) session does)
+    subst (λ (v : Content). CommandEffect r old new before now s (with_write s k (number, v)) P m) is (subst (λ (j : ℕ). CommandEffect r old new before now s (with_write s j (number, x)) P m) session does)
 
 -- Memory gives out behind a call that was Ok.
 
@@ -277,7 +277,7 @@ serves_no_memory memory first = record {
     never is = cc
 
 pub does_no_memory : {A B : Type 0} {a : A} {stop : Stop} {old new : Engine} {before now : Site} {s after after' : State} {P : Snapshot → Type 0} {m : ℕ} → stop ≡ Memory → IsTrue before.honest → after.made ≤ after'.made →
-    KeepsUnread {T = A} (Ok a) old new before now → Does {T = A} (Ok a) old new before now s after P m → Does {T = B} (Err stop) old new before now s after' P m
+    KeepsUnread {T = A} (Ok a) old new before now → CommandEffect {T = A} (Ok a) old new before now s after P m → CommandEffect {T = B} (Err stop) old new before now s after' P m
 does_no_memory {A = A} {B = B} {a = a} {stop = stop} {old = old} {new = new} {before = before} {now = now} {s = s} {after = after} {after' = after'} {m = m} memory honest few serves first = record {
   after_fits = tt;
   ends = ends_no_memory memory (serves.calls.stays_quiet honest) first.ends;

@@ -14,7 +14,7 @@ use Rattle.txn_table.specs.Entries.{IsTable, entry_of, ChangesOnly}
 use Rattle.txn_table.specs.Entries as entries
 use Rattle.image_meaning.specs.Moments as moments
 use Rattle.redo_laws.specs.Committing.{MayCommit}
-use Rattle.redo_undo.specs.declared.store.Store.{Store}
+use Rattle.redo_undo.specs.declared.store.TransactionStore.{TransactionStore}
 use Rattle.engine.specs.Invariant.{sizes_of}
 use Rattle.engine.specs.declared.engine.Engine.{Engine}
 use Rattle.engine.specs.Image.{Stands}
@@ -64,11 +64,11 @@ committed_fits engine mid last old new s entry lsn fits table at honest holds re
       honest = honest;
       newest = fits.newest;
       records = fits.records ++ e ∷ [];
-      holds = subst (λ (j : Store). Represents j new fits.newest (fits.records ++ e ∷ []) (table_with s.table (writes_of (session_at s n))) (s.commits + 1)) (sym store_is)
+      holds = subst (λ (j : TransactionStore). Represents j new fits.newest (fits.records ++ e ∷ []) (table_with s.table (writes_of (session_at s n))) (s.commits + 1)) (sym store_is)
           (subst (λ (ws : List Write). Represents mid.store new fits.newest (fits.records ++ e ∷ []) (table_with s.table ws) (s.commits + 1)) (writes_are engine old s entry fits at) holds);
       counts = record {
         commits = commits_is ∙ commits ∙ ap (λ (k : ℕ). k + 1) fits.counts.commits;
-        made = let store_made = ap (λ (j : Store). j.made) store_is in let before = fits.counts.made in omega (arith, store_made, made, before);
+        made = let store_made = ap (λ (j : TransactionStore). j.made) store_is in let before = fits.counts.made in omega (arith, store_made, made, before);
         cap = cap_is ∙ ap (λ (x : Engine). x.cap) rest ∙ fits.counts.cap;
       };
       sessions = record { count = done.count; each = done.each; all = done.all; owes = done.owes; differ = done.differ };

@@ -24,9 +24,9 @@ use Rattle.lock_table.specs.declared.lock.Lock.{Lock}
 use Rattle.lock_table.specs.Locks as locks
 use Rattle.txn_table.specs.declared.active.Active.{Active}
 use Rattle.txn_table.specs.Entries.{IsTable, entry_of}
-use Rattle.image_meaning.specs.Meaning.{picture_under, master_of, versions_on}
+use Rattle.image_meaning.specs.Meaning.{logical_image_under, master_of, versions_on}
 use Rattle.image_meaning.proofs.UnchangedImages.{next_block_is}
-use Rattle.redo_undo.specs.declared.store.Store.{Store}
+use Rattle.redo_undo.specs.declared.store.TransactionStore.{TransactionStore}
 use Rattle.engine.specs.declared.engine.Engine.{Engine}
 use Rattle.engine.specs.Invariant.{sizes_of}
 use Rattle.redo_undo.specs.Stores.{Represents, shown_in}
@@ -47,17 +47,17 @@ busy_write_is held s are (Some own) number = λ i. find (λ n. not (own == n) &&
 -- The table.
 
 -- what is sealed and what isn't stand for the same table
-pub table_is : (store : Store) (site : Site) (newest : Option Master) (records : List Entry) (table : List Content) (commits : ℕ) (h : Represents store site newest records table commits) → table ≡ table_of records (versions_on (sizes_of store) site.image)
+pub table_is : (store : TransactionStore) (site : Site) (newest : Option Master) (records : List Entry) (table : List Content) (commits : ℕ) (h : Represents store site newest records table commits) → table ≡ table_of records (versions_on (sizes_of store) site.image)
 table_is store site newest records table commits h =
     let log = h.both.log_holds in
-    let p = picture_under newest (sizes_of store) site.image log.blocks in
+    let p = logical_image_under newest (sizes_of store) site.image log.blocks in
     log.runs_on.means.table_is ∙ sym (tail_without_commit p log.tail log.runs_on.carries log.runs_on.no_commit)
     ∙ ap (λ (l : List Entry). table_of l (versions_on (sizes_of store) site.image)) log.runs_on.records_are
 
-pub undoable : (store : Store) (site : Site) (newest : Option Master) (records : List Entry) (table : List Content) (commits : ℕ) (h : Represents store site newest records table commits) → IsUndoable records
+pub undoable : (store : TransactionStore) (site : Site) (newest : Option Master) (records : List Entry) (table : List Content) (commits : ℕ) (h : Represents store site newest records table commits) → IsUndoable records
 undoable store site newest records table commits h =
     let log = h.both.log_holds in
-    subst IsUndoable log.runs_on.records_are (whole_is_undoable (picture_under newest (sizes_of store) site.image log.blocks) log.tail log.runs_on.carries)
+    subst IsUndoable log.runs_on.records_are (whole_is_undoable (logical_image_under newest (sizes_of store) site.image log.blocks) log.tail log.runs_on.carries)
 
 pub same_size : (engine : Engine) (site : Site) (s : State) → Matches engine site s → length s.table ≡ 32 * (sizes_of engine.store).pages
 same_size engine site s fits =
@@ -67,8 +67,8 @@ same_size engine site s fits =
     ∙ ap (λ (n : ℕ). 32 * n) (length-versions (sizes_of engine.store) site.image)
 
 -- the log's end is that of its records
-pub ends_behind : (store : Store) (site : Site) (newest : Option Master) (records : List Entry) (table : List Content) (commits lsn : ℕ) (h : Represents store site newest records table commits) → end_of store.log ≤ lsn →
-    let log = h.both.log_holds in let p = picture_under newest (sizes_of store) site.image log.blocks in (next_lsn p log.tail ≤ lsn) × (512 * p.hi ≤ lsn)
+pub ends_behind : (store : TransactionStore) (site : Site) (newest : Option Master) (records : List Entry) (table : List Content) (commits lsn : ℕ) (h : Represents store site newest records table commits) → end_of store.log ≤ lsn →
+    let log = h.both.log_holds in let p = logical_image_under newest (sizes_of store) site.image log.blocks in (next_lsn p log.tail ≤ lsn) × (512 * p.hi ≤ lsn)
 ends_behind store site newest records table commits lsn h behind =
     let log = h.both.log_holds in
     let hi = log.ready.blocks.hi in
@@ -77,16 +77,16 @@ ends_behind store site newest records table commits lsn h behind =
     (omega (arith, hi, next, log.ready.records.tail.end, behind, last), omega (arith, hi, next, behind, last))
 
 -- a record behind the last one begins a new transaction
-pub fresh_behind : (store : Store) (site : Site) (newest : Option Master) (records : List Entry) (table : List Content) (commits lsn : ℕ) (h : Represents store site newest records table commits) → end_of store.log ≤ lsn → IsFresh lsn records
+pub fresh_behind : (store : TransactionStore) (site : Site) (newest : Option Master) (records : List Entry) (table : List Content) (commits lsn : ℕ) (h : Represents store site newest records table commits) → end_of store.log ≤ lsn → IsFresh lsn records
 fresh_behind store site newest records table commits lsn h behind =
     let log = h.both.log_holds in
-    let p = picture_under newest (sizes_of store) site.image log.blocks in
+    let p = logical_image_under newest (sizes_of store) site.image log.blocks in
     subst (IsFresh lsn) log.runs_on.records_are
     (orderly.fresh_behind (512 * p.master.kept) (whole p log.tail) (next_lsn p log.tail) lsn (whole_in_order p log.tail log.runs_on.carries)
     (subst AreOrderly (sym log.runs_on.records_are) h.orderly) (ends_behind store site newest records table commits lsn h behind).0)
 
 -- which redo doesn't leave out
-pub begins_late : (store : Store) (site : Site) (newest : Option Master) (records : List Entry) (table : List Content) (commits lsn : ℕ) (h : Represents store site newest records table commits) → end_of store.log ≤ lsn → 512 * (master_of newest).redo ≤ lsn
+pub begins_late : (store : TransactionStore) (site : Site) (newest : Option Master) (records : List Entry) (table : List Content) (commits lsn : ℕ) (h : Represents store site newest records table commits) → end_of store.log ≤ lsn → 512 * (master_of newest).redo ≤ lsn
 begins_late store site newest records table commits lsn h behind =
     omega (arith, h.both.log_holds.runs_on.carries.sound.redo_before_end, (ends_behind store site newest records table commits lsn h behind).1)
 

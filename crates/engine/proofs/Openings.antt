@@ -32,7 +32,7 @@ use Rattle.log_store.specs.Representation.{has_tail}
 use Rattle.page_store.specs.declared.store.PageStore.{PageStore}
 use Rattle.page_store.specs.Representation as page_store
 use Rattle.page_store.specs.Laws.{FitsBeside, GoesOnBeside}
-use Rattle.image_meaning.specs.Meaning.{IsUnused, AreGroups, HasNewest, saved_by, kept_by, picture_under}
+use Rattle.image_meaning.specs.Meaning.{IsUnused, AreGroups, HasNewest, saved_by, kept_by, logical_image_under}
 use Rattle.redo_laws.specs.Holding as both
 use Rattle.engine.specs.Image.{IsSound, Stands}
 use Rattle.engine.specs.Leaves.{LeavesTable}
@@ -105,7 +105,7 @@ module _ (law : FitsBeside) (g : Geometry) (log : LogStore) (pages : PageStore) 
       }
 
   pub ready_now : (masters : Ring) (m : Master) (newest : Option Master) (blocks : List (List LogRecord)) (table : List Content) (commits : ℕ) → pages.flash.geometry ≡ g → pages.pool.frames ≡ [] → log.kept ≡ m.kept → m ≡ saved_by newest → page_store.Matches pages c → Finds masters d → log_store.Finds log b →
-      log_store.HasBlocks log.geometry (kept_by newest) blocks b.image → log_store.HasTail log.tail log.used [] → IsSound newest g a.image blocks → Means (picture_under newest g a.image blocks) table commits →
+      log_store.HasBlocks log.geometry (kept_by newest) blocks b.image → log_store.HasTail log.tail log.used [] → IsSound newest g a.image blocks → Means (logical_image_under newest g a.image blocks) table commits →
       IsReady (record { log = log; pages = pages; masters = masters; master = m }) d newest blocks table commits
   ready_now masters m newest blocks table commits sizes empty keeps is fits ring finds held tail sound means =
       let back : d.image ≡ b.image = same_third.image ∙ same_second.image in
@@ -126,7 +126,7 @@ module _ (law : FitsBeside) (g : Geometry) (log : LogStore) (pages : PageStore) 
             };
           };
           sound = subst (λ (k : Geometry). IsSound newest k d.image blocks) (sym sizes) (subst (λ (i : Image). IsSound newest g i blocks) (sym all) sound);
-          means = subst (λ (k : Geometry). Means (picture_under newest k d.image blocks) table commits) (sym sizes) (subst (λ (i : Image). Means (picture_under newest g i blocks) table commits) (sym all) means);
+          means = subst (λ (k : Geometry). Means (logical_image_under newest k d.image blocks) table commits) (sym sizes) (subst (λ (i : Image). Means (logical_image_under newest g i blocks) table commits) (sym all) means);
           empty = empty;
         };
       }

@@ -11,12 +11,12 @@ use Rattle.site.proofs.Working.{no_error}
 use Rattle.record_model.specs.declared.words.Command.{Command}
 use Rattle.record_model.specs.State.{State}
 use Rattle.record_model.specs.Step.{asks_for_checkpoint, lacks_room, refusal}
-use Rattle.ring_machine.specs.Machine.{Work}
+use Rattle.ring_machine.specs.Machine.{RingOp}
 use Rattle.ring_machine.specs.Commands.{reads, saves, command_work}
 use Rattle.ring_machine.specs.Performing.{Performs}
 use Rattle.ring_machine.proofs.Performing.{performs_as, performs_by, performs_then, performs_stopped, performs_nothing}
 use Rattle.page_store.specs.Caching.{rules}
-use Rattle.redo_undo.specs.declared.store.Store.{Store}
+use Rattle.redo_undo.specs.declared.store.TransactionStore.{TransactionStore}
 use Rattle.redo_undo.specs.Mirroring.{MirrorsStore}
 use Rattle.engine.specs.Representation.{checkpointed_if}
 use Rattle.engine.proofs.Replies.{work_behind, worked}
@@ -46,11 +46,11 @@ use Rattle.site.specs.declared.geometry.Geometry.{Geometry}
 use Rattle.engine.proofs.Settings.{begin_at, free_begun, unwritten}
 use Rattle.engine.proofs.Writes.{may_read_too, touched_fits}
 
-abbrev PerformsOver : {T : Type 0} → Result T Stop → List Work → Store → Store → Image → Image → Type 0
+abbrev PerformsOver : {T : Type 0} → Result T Stop → List RingOp → TransactionStore → TransactionStore → Image → Image → Type 0
 PerformsOver result works old new image image' = Performs result (rules old.pages) works (MirrorsStore old image) (MirrorsStore new image')
 
 -- a command that is refused, or only answers
-pub performs_rest : {T : Type 0} {x : T} {works : List Work} {store : Store} {image : Image} → works ≡ [] → PerformsOver {T = T} (Ok x) works store store image image
+pub performs_rest : {T : Type 0} {x : T} {works : List RingOp} {store : TransactionStore} {image : Image} → works ≡ [] → PerformsOver {T = T} (Ok x) works store store image image
 performs_rest {T = T} {x = x} none = performs_as none (performs_nothing (λ m is. is) (λ dev says. absurd (no_error {T = T} {x = x} {e = Worn dev} says)))
 
 -- memory is wanting: no device is worn
@@ -58,17 +58,17 @@ pub memory_refuses : (stop : Stop) → stop ≡ Memory → (dev : Dev) → stop 
 memory_refuses stop memory dev = λ worn. cc
 
 -- one call on a store after another one
-pub store_then : {A B : Type 0} {a : A} {result : Result B Stop} {first later : List Work} {old mid new : Store} {before between now : Image} → rules mid.pages ≡ rules old.pages → PerformsOver {T = A} (Ok a) first old mid before between → PerformsOver result later mid new between now →
+pub store_then : {A B : Type 0} {a : A} {result : Result B Stop} {first later : List RingOp} {old mid new : TransactionStore} {before between now : Image} → rules mid.pages ≡ rules old.pages → PerformsOver {T = A} (Ok a) first old mid before between → PerformsOver result later mid new between now →
     PerformsOver result (first ++ later) old new before now
 store_then same one two = performs_then one (performs_by (sym same) two)
 
 -- A command that no test refuses, behind the checkpoint that is made where it asks for one.
 module _ (s : State) (command : Command) {asks : Bool} (known : asks ≡ asks_for_checkpoint s command) (passes : refusal s command ≡ None) where
-  pub performs_first : (lacks : Bool) → lacks_room (checkpointed_if asks s) command ≡ lacks → {A B : Type 0} {a : A} {result : Result B Stop} {old mid new : Store} {before between now : Image} → rules mid.pages ≡ rules old.pages →
+  pub performs_first : (lacks : Bool) → lacks_room (checkpointed_if asks s) command ≡ lacks → {A B : Type 0} {a : A} {result : Result B Stop} {old mid new : TransactionStore} {before between now : Image} → rules mid.pages ≡ rules old.pages →
       PerformsOver {T = A} (Ok a) (if asks then saves else []) old mid before between → PerformsOver result (worked s command lacks) mid new between now → PerformsOver result (command_work s command) old new before now
   performs_first lacks is same first second = performs_as (work_behind s command known passes ∙ ap (λ (l : Bool). (if asks then saves else []) ++ worked s command l) is) (store_then same first second)
 
-  pub performs_unmade : {A B : Type 0} {stop : Stop} {old mid : Store} {before now : Image} → PerformsOver {T = A} (Err stop) (if asks then saves else []) old mid before now → PerformsOver {T = B} (Err stop) (command_work s command) old mid before now
+  pub performs_unmade : {A B : Type 0} {stop : Stop} {old mid : TransactionStore} {before now : Image} → PerformsOver {T = A} (Err stop) (if asks then saves else []) old mid before now → PerformsOver {T = B} (Err stop) (command_work s command) old mid before now
   performs_unmade first = performs_as (work_behind s command known passes) (performs_stopped (worked s command (lacks_room (checkpointed_if asks s) command)) first)
 
 -- A scan, record by record.
@@ -78,7 +78,7 @@ reads_one_more number offset =
     ap (flat_map reads) (range_more number offset) ∙ flat_map-append reads (range_with_len number offset) ((number + offset) ∷ [])
 
 -- one stops the scan, and others would follow
-pub reads_split : (number offset count : ℕ) → offset < count → (rest : List Work) × (flat_map reads (range_with_len number count) ≡ (flat_map reads (range_with_len number offset) ++ reads (number + offset)) ++ rest)
+pub reads_split : (number offset count : ℕ) → offset < count → (rest : List RingOp) × (flat_map reads (range_with_len number count) ≡ (flat_map reads (range_with_len number offset) ++ reads (number + offset)) ++ rest)
 reads_split number offset count less =
     let rest = flat_map reads (range_with_len (number + offset + 1) (count - offset - 1)) in (
       rest,
@@ -87,7 +87,7 @@ reads_split number offset count less =
     )
 
 -- What stands before a write: what its session sees there.
-pub seen_there : (engine : Engine) (store : Store) (old new : Site) (s : State) (entry : Active) (number : ℕ) (fits : Matches engine old s) → IsTrue new.honest → IsTable engine.active → entry_of engine.active entry.session ≡ Some entry → number < 32 * (sizes_of store).pages →
+pub seen_there : (engine : Engine) (store : TransactionStore) (old new : Site) (s : State) (entry : Active) (number : ℕ) (fits : Matches engine old s) → IsTrue new.honest → IsTable engine.active → entry_of engine.active entry.session ≡ Some entry → number < 32 * (sizes_of store).pages →
     locks.busy_write engine.locks (Some entry.session) number ≡ None → Represents store new fits.newest fits.records s.table s.commits → store.made ≡ engine.store.made → seen s entry.session number ≡ shown_in store new fits.records number
 seen_there engine store old new s entry number fits honest table at less free holds made =
     seen_is (record engine { store = store }) new s (touched_fits engine store old new s fits honest holds made) entry.session number entry table less at
@@ -95,7 +95,7 @@ seen_there engine store old new s entry number fits honest table at less free ho
 
 -- and of a transaction that only begins what the table has
 pub set_there : (engine : Engine) (old : Site) (s : State) (number : ℕ) (fits : Matches engine old s) → IsTable engine.active → number < 32 * (sizes_of engine.store).pages → locks.busy_write engine.locks None number ≡ None → (txn : ℕ) → end_of engine.store.log ≤ txn →
-    (store : Store) (site : Site) → sizes_of store ≡ sizes_of engine.store → Represents store site fits.newest (fits.records ++ begin_at txn ∷ []) s.table s.commits → content_at s.table number ≡ shown_in store site (fits.records ++ begin_at txn ∷ []) number
+    (store : TransactionStore) (site : Site) → sizes_of store ≡ sizes_of engine.store → Represents store site fits.newest (fits.records ++ begin_at txn ∷ []) s.table s.commits → content_at s.table number ≡ shown_in store site (fits.records ++ begin_at txn ∷ []) number
 set_there engine old s number fits table less unlocked txn behind store site sizes holds =
     ap (λ (t : List Content). content_at t number) (table_is store site fits.newest log s.table s.commits holds)
     ∙ content_of_table log versions number (omega (arith, less, length-versions (sizes_of store) site.image, ap (λ (g : Geometry). g.pages) sizes))

@@ -21,7 +21,7 @@ use Rattle.analysis.specs.Taken.{taken, TakenCommits}
 use Rattle.analysis.specs.Laws.{OneTable, TableOfUnfinished, OwedOfUnfinished}
 use Rattle.log_store.specs.declared.store.LogStore.{LogStore}
 use Rattle.log_store.specs.Representation.{has_tail}
-use Rattle.image_meaning.specs.Meaning.{picture_under, next_block_under, master_of}
+use Rattle.image_meaning.specs.Meaning.{logical_image_under, next_block_under, master_of}
 use Rattle.image_meaning.proofs.UnchangedImages.{next_block_is}
 use Rattle.engine.specs.Image.{IsSound, log_under}
 use Rattle.page_store.specs.declared.store.PageStore.{PageStore}
@@ -50,7 +50,7 @@ pub owed_found : OneTable → TableOfUnfinished → OwedOfUnfinished → (newest
     owed_for (listed found.table) ≡ owed (log_under newest blocks)
 owed_found one unfinished all newest g image blocks found sound read =
     let log = log_under newest blocks in
-    let p = picture_under newest g image blocks in
+    let p = logical_image_under newest g image blocks in
     ap owed_for (one [] log (listed found.table) _ read (unfinished [] log (512 * p.master.kept) (512 * p.hi) tt sound.records.in_order)) ∙ all [] log
 
 -- the blocks of an opened log are those of the ring
@@ -78,9 +78,9 @@ commits_fit log pages site newest records table commits h =
 
 -- analysis counts them
 pub commits_found : TakenCommits → (opened : Opened) (site : State) (newest : Option Master) (blocks : List (List LogRecord)) (table : List Content) (commits : ℕ) (found : Analysis) → IsReady opened site newest blocks table commits →
-    IsAnalysis (master_of newest) (taken (picture_under newest opened.pages.flash.geometry site.image blocks)) found → opened.log.ring.hi ≤ 2 ^ 40 → found.commits ≡ commits
+    IsAnalysis (master_of newest) (taken (logical_image_under newest opened.pages.flash.geometry site.image blocks)) found → opened.log.ring.hi ≤ 2 ^ 40 → found.commits ≡ commits
 commits_found law opened site newest blocks table commits found h read bounded =
-    let p = picture_under newest opened.pages.flash.geometry site.image blocks in
+    let p = logical_image_under newest opened.pages.flash.geometry site.image blocks in
     let few = few_commits opened site newest blocks table commits h in
     let count = h.opened_is.means.count_is in
     let all = law p h.opened_is.sound.records in

@@ -16,10 +16,10 @@ use Rattle.record_model.specs.declared.words.Reply.{Reply}
 use Rattle.record_model.specs.declared.words.Reply.TheVariants as reply
 use Rattle.record_model.specs.State.{Session, State, session_at, used, is_due}
 use Rattle.record_model.specs.State as model
-use Rattle.record_model.specs.Touches.{CacheWork, flush, command_touches, record_touches}
+use Rattle.record_model.specs.Touches.{CacheOp, flush, command_touches, record_touches}
 use Rattle.record_model.specs.Step.{Outcome, refusal, outcome, effect, answer, full, lacks_room, asks_for_checkpoint, makes_checkpoint, is_accepted, ready, wants_active, wants_record, wants_short, refuse_if, may_write, may_read}
 use Rattle.log_records.specs.Log.{Entry}
-use Rattle.ring_machine.specs.Machine.{Work}
+use Rattle.ring_machine.specs.Machine.{RingOp}
 use Rattle.ring_machine.specs.Commands.{saves, command_work, record_work}
 use Rattle.txn_table.specs.declared.active.Active.{Active}
 use Rattle.txn_table.specs.Entries.{IsTable, entry_of}
@@ -36,17 +36,17 @@ abbrev pub way : State → Command → Bool → Outcome
 way s command lacks = if lacks then record { after = s; reply = full s } else record { after = effect s command; reply = answer s command [] }
 
 -- what it asks of the cache and the log then
-abbrev pub touched : State → Command → Bool → List CacheWork
+abbrev pub touched : State → Command → Bool → List CacheOp
 touched s command lacks = if not lacks then record_touches s command else []
 
-abbrev pub worked : State → Command → Bool → List Work
+abbrev pub worked : State → Command → Bool → List RingOp
 worked s command lacks = if not lacks then record_work s command else []
 
 -- and what it asks with its checkpoint, by its refusal
-abbrev all_touches : State → Command → Option Reply → List CacheWork
+abbrev all_touches : State → Command → Option Reply → List CacheOp
 all_touches s command o = (if asks_for_checkpoint s command && is_none o then flush ∷ [] else []) ++ (if is_none o && not (lacks_room (ready s command) command) then record_touches s command else [])
 
-abbrev all_work : State → Command → Option Reply → List Work
+abbrev all_work : State → Command → Option Reply → List RingOp
 all_work s command o = (if asks_for_checkpoint s command && is_none o then saves else []) ++ (if is_none o && not (lacks_room (ready s command) command) then record_work s command else [])
 
 -- a test refuses it

@@ -12,13 +12,13 @@ use Rattle.sealed_ring.specs.Ring.{hi_of}
 use Rattle.buffer_pool.specs.declared.frame.Frame.{Frame}
 use Rattle.buffer_pool.specs.Frames.{frame_of}
 use Rattle.record_model.specs.State.{Content}
-use Rattle.record_model.specs.Touches.{CacheWork}
+use Rattle.record_model.specs.Touches.{CacheOp}
 use Rattle.log_records.specs.Log.{Entry, is_of, txn_of, number_of, before_of}
 use Rattle.log_records.specs.Unfinished.{pending}
 use Rattle.log_laws.proofs.Lists.{all_find}
 use Rattle.second_chance.specs.Machine.{Rules}
 use Rattle.ring_machine.specs.Tail.{empty_at}
-use Rattle.ring_machine.specs.Machine.{Machine, Work, cached, logged, after_all}
+use Rattle.ring_machine.specs.Machine.{Machine, RingOp, cached, logged, after_all}
 use Rattle.ring_machine.specs.Restart.{clr_work, undoing_one, undoing_work, undo_work, only_ends}
 use Rattle.ring_machine.specs.Performing.{Performs}
 use Rattle.ring_machine.proofs.Ends.{saves_one, masters_stay, clr_saves_none}
@@ -35,7 +35,7 @@ use Rattle.redo_laws.specs.Holding.{Invariant, Represents, blocks_to}
 use Rattle.redo_laws.proofs.Touched.{tail_blocks}
 use Rattle.redo_undo.specs.Mirroring.{resting, Mirrors, MirrorsStore}
 use Rattle.redo_undo.specs.Redoing.{AsksAtRest}
-use Rattle.redo_undo.specs.declared.store.Store.{Store}
+use Rattle.redo_undo.specs.declared.store.TransactionStore.{TransactionStore}
 use Rattle.redo_undo.proofs.PushedPages.{sealed_off}
 use Rattle.engine.specs.declared.restart.Opened.{Opened}
 use Rattle.engine.specs.Paging.{cache_on}
@@ -73,7 +73,7 @@ resting_mirrors log pages site newest records table commits sizes h none low nex
 
 -- Redo and undo save no master unit.
 
-touches_save_none : (works : List CacheWork) → list_any saves_one (map cached works) ≡ false
+touches_save_none : (works : List CacheOp) → list_any saves_one (map cached works) ≡ false
 touches_save_none [] = refl
 touches_save_none (work ∷ works) = touches_save_none works
 
@@ -94,7 +94,7 @@ undoing_saves_none (u ∷ earlier) =
         last true = refl
         last false = refl
 
-pub restart_saves_none : (works : List CacheWork) (log : List Entry) → list_any saves_one (map cached works ++ undo_work log) ≡ false
+pub restart_saves_none : (works : List CacheOp) (log : List Entry) → list_any saves_one (map cached works ++ undo_work log) ≡ false
 restart_saves_none works log =
     list_any-append saves_one (map cached works) (undo_work log)
     ∙ or_from (list_any saves_one (map cached works)) (list_any saves_one (undo_work log)) (touches_save_none works)
@@ -102,7 +102,7 @@ restart_saves_none works log =
     ∙ or_from (list_any saves_one (replicate (length (only_ends log)) (logged 9))) (list_any saves_one (undoing_work (reverse (pending log)))) (ends_save_none (length (only_ends log))) (undoing_saves_none (reverse (pending log))))
 
 -- what is done on log and pages from one machine on, as what is done on a store
-pub store_from : {T : Type 0} {result : Result T Stop} {r : Rules} {works : List Work} {start : Machine} {log : LogStore} {pages : PageStore} {image : Image} (store : Store) → store.log ≡ log → store.pages ≡ pages → list_any saves_one works ≡ false → start.masters ≡ store.masters.hi →
+pub store_from : {T : Type 0} {result : Result T Stop} {r : Rules} {works : List RingOp} {start : Machine} {log : LogStore} {pages : PageStore} {image : Image} (store : TransactionStore) → store.log ≡ log → store.pages ≡ pages → list_any saves_one works ≡ false → start.masters ≡ store.masters.hi →
     Performs result r works (λ m. m ≡ start) (Mirrors log pages image) → Performs result r works (λ m. m ≡ start) (MirrorsStore store image)
 store_from {r = r} {works = works} {log = log} {pages = pages} {image = image} store log_is pages_is none masters performs =
     performs_with (λ m is. is)
@@ -113,7 +113,7 @@ store_from {r = r} {works = works} {log = log} {pages = pages} {image = image} s
 
 -- Redo, from what was opened on.
 
-pub redo_performs : {T : Type 0} (result : Result T Stop) (opened : Opened) (log : LogStore) (pages : PageStore) (before now : State) (newest : Option Master) (records : List Entry) (table : List Content) (commits : ℕ) (works : List CacheWork) →
+pub redo_performs : {T : Type 0} (result : Result T Stop) (opened : Opened) (log : LogStore) (pages : PageStore) (before now : State) (newest : Option Master) (records : List Entry) (table : List Content) (commits : ℕ) (works : List CacheOp) →
     Invariant opened.log opened.pages before → opened.log.used ≡ 2 → opened.masters.hi ≤ 2 ^ 40 → AsksAtRest result works opened.pages pages before now → OnOk result (Represents log pages now newest records table commits) → OnOk result (blocks_to log ≡ blocks_to opened.log) →
     OnOk result (opened.log.ring.hi ≤ log.ring.hi) → OnOk result (Invariant log pages now) → Performs result (rules opened.pages) (map cached works) (λ m. m ≡ found_machine opened) (Mirrors log pages now.image)
 redo_performs (Err stop) opened log pages before now newest records table commits works going empty few asks holds blocks rises still = performs_failed (asks.performs.from opened.log.ring.hi opened.masters.hi going.log_going.usable.bounded few)
@@ -128,9 +128,9 @@ redo_performs (Ok x) opened log pages before now newest records table commits wo
 pub found_on : (opened : Opened) (g : Geometry) (image : Image) → cache_of opened.pages ≡ cache_on g image → opened.log.ring.hi ≡ hi_of (log_shape g) image.log → opened.masters.hi ≡ hi_of master_shape image.log → found_machine opened ≡ machine_on g image
 found_on opened g image queue next masters = λ i. record { cache = queue i; tail = empty_at (next i); masters = masters i }
 
-pub performs_found : {T : Type 0} {result : Result T Stop} {r r' : Rules} {works works' : List Work} {start start' : Machine} {After : Machine → Type 0} → r ≡ r' → works ≡ works' → start ≡ start' → Performs result r works (λ m. m ≡ start) After → Performs result r' works' (λ m. m ≡ start') After
+pub performs_found : {T : Type 0} {result : Result T Stop} {r r' : Rules} {works works' : List RingOp} {start start' : Machine} {After : Machine → Type 0} → r ≡ r' → works ≡ works' → start ≡ start' → Performs result r works (λ m. m ≡ start) After → Performs result r' works' (λ m. m ≡ start') After
 performs_found rules_are works_are starts performs = performs_by (sym rules_are) (performs_as (sym works_are) (performs_from (λ m is. is ∙ sym starts) performs))
 
 -- the answer that a call gave
-pub performs_of : {T : Type 0} {result given : Result T Stop} {r : Rules} {works : List Work} {Before After : Machine → Type 0} → result ≡ given → Performs result r works Before After → Performs given r works Before After
+pub performs_of : {T : Type 0} {result given : Result T Stop} {r : Rules} {works : List RingOp} {Before After : Machine → Type 0} → result ≡ given → Performs result r works Before After → Performs given r works Before After
 performs_of {r = r} {works = works} {Before = Before} {After = After} is performs = subst (λ x. Performs x r works Before After) is performs

@@ -53,7 +53,7 @@ pub count_failed : {T E A : Type 0} (e : E) (old new new' : Engine) (before now 
 count_failed e old new new' before now s u after m few first = record {
   records = first.records;
   made = let made = first.made in omega (arith, made, few);
-  skips = record { log = tt; any_moment = first.any_moment; past = tt };
+  skips = record { log = tt; any_moment = first.any_moment; device_calls = tt };
 }
 
 -- an error of the caller behind a call that was Ok
@@ -61,7 +61,7 @@ pub count_refused : {T E A F : Type 0} (x : A) (e : E) (old new new' : Engine) (
 count_refused x e old new new' before now s after m first = record {
   records = first.records;
   made = first.made;
-  skips = record { log = tt; any_moment = first.any_moment; past = tt };
+  skips = record { log = tt; any_moment = first.any_moment; device_calls = tt };
 }
 
 -- a call behind one that was Ok
@@ -115,7 +115,7 @@ restart_failed e f g records old new before now n m is few one first =
     record {
       log = tt;
       any_moment = leaves_more g before now _ (hi_of (log_shape g) before.image.log + owed records) (hi_of master_shape before.image.log + m) (hi_of master_shape before.image.log + 1) blocks (omega (arith, one)) first.any_moment;
-      past = tt;
+      device_calls = tt;
     }
 
 -- it is done
@@ -124,21 +124,21 @@ pub restart_done : {T A : Type 0} (x : A) (y : T) (f : T → LogStore) (g : Geom
 restart_done x y f g records old new before now n is few last first = record {
   log = let more = first.log in let same = ap blocks_to last in omega (arith, more, is, few, same);
   any_moment = leaves_more g before now _ (hi_of (log_shape g) before.image.log + owed records) _ _ (omega (arith, is, few)) (omega arith) first.any_moment;
-  past = first.past;
+  device_calls = first.device_calls;
 }
 
 -- a restart within a call
 pub restart_again : {T A : Type 0} (e : Stop) (f : A → LogStore) (h : T → LogStore) (g : Geometry) (records : List Entry) (before now : Site) → RestartsWithin {T = A} (Err e) f g records before now → RestartsWithin {T = T} (Err e) h g records before now
-restart_again e f h g records before now first = record { log = tt; any_moment = first.any_moment; past = tt }
+restart_again e f h g records before now first = record { log = tt; any_moment = first.any_moment; device_calls = tt }
 
 pub restart_stopped : {T A : Type 0} (x : A) (e : Stop) (f : A → LogStore) (h : T → LogStore) (g : Geometry) (records : List Entry) (before now : Site) → RestartsWithin {T = A} (Ok x) f g records before now → RestartsWithin {T = T} (Err e) h g records before now
-restart_stopped x e f h g records before now first = record { log = tt; any_moment = first.any_moment; past = tt }
+restart_stopped x e f h g records before now first = record { log = tt; any_moment = first.any_moment; device_calls = tt }
 
 pub restart_answered : {T A : Type 0} (x : A) (y : T) (f : A → LogStore) (h : T → LogStore) (g : Geometry) (records : List Entry) (before now : Site) → h y ≡ f x → RestartsWithin {T = A} (Ok x) f g records before now → RestartsWithin {T = T} (Ok y) h g records before now
 restart_answered x y f h g records before now same first = record {
   log = let more = first.log in let last = ap blocks_to same in omega (arith, more, last);
   any_moment = first.any_moment;
-  past = first.past;
+  device_calls = first.device_calls;
 }
 
 -- while only is read
@@ -147,7 +147,7 @@ reads_numbers g records before now quiet same = leaves_unchanged before now (λ 
 
 -- it stops there
 pub restart_unmoved : {T : Type 0} (e : Stop) (f : T → LogStore) (g : Geometry) (records : List Entry) (before now : Site) → IsQuiet before → IsUnchanged before now → RestartsWithin {T = T} (Err e) f g records before now
-restart_unmoved e f g records before now quiet same = record { log = tt; any_moment = reads_numbers g records before now quiet same; past = tt }
+restart_unmoved e f g records before now quiet same = record { log = tt; any_moment = reads_numbers g records before now quiet same; device_calls = tt }
 
 -- it goes on
 pub restart_behind : {T : Type 0} (r : Result T Stop) (f : T → LogStore) (g g' : Geometry) (records : List Entry) (before middle now : Site) → g ≡ g' → IsQuiet before → IsUnchanged before middle → RestartsWithin r f g records middle now → RestartsWithin r f g' records before now
@@ -159,5 +159,5 @@ restart_behind r f g g' records before middle now sizes quiet same first =
       log = if_ok_one r _ _ (λ x more. omega (arith, more, blocks)) all.log;
       any_moment = in_sequence before middle now (Leaves (λ s. HasNumbers g' (hi_of (log_shape g') before.image.log + owed records) (hi_of master_shape before.image.log + 1) s.image)) (reads_numbers g' records before middle quiet same)
           (leaves_more g' middle now _ (hi_of (log_shape g') before.image.log + owed records) _ (hi_of master_shape before.image.log + 1) (omega (arith, blocks)) (omega (arith, masters)) all.any_moment);
-      past = ok_as r _ _ (λ more. calls_then g' before middle now (calls_unchanged g' before middle same) more) all.past;
+      device_calls = ok_as r _ _ (λ more. calls_then g' before middle now (calls_unchanged g' before middle same) more) all.device_calls;
     }

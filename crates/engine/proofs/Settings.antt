@@ -29,7 +29,7 @@ use Rattle.txn_table.specs.Entries as entries
 use Rattle.image_meaning.specs.Meaning.{master_of, versions_on}
 use Rattle.redo_laws.specs.Holding.{blocks_to}
 use Rattle.redo_laws.specs.Committing.{MayCommit}
-use Rattle.redo_undo.specs.declared.store.Store.{Store}
+use Rattle.redo_undo.specs.declared.store.TransactionStore.{TransactionStore}
 use Rattle.engine.specs.declared.engine.Engine.{Engine}
 use Rattle.engine.specs.Invariant.{sizes_of}
 use Rattle.redo_undo.specs.Stores.{Represents, MayGrow, shown_in, update_by}
@@ -100,7 +100,7 @@ module _ (engine : Engine) (old : Site) (s : State) (number : ℕ) (fits : Match
   place = div-add-mod number 32
 
   -- behind its Begin its Update may be logged
-  pub may_update : (store : Store) (site : Site) (lsn : ℕ) (after : Content) → sizes_of store ≡ sizes_of engine.store → store.log.kept ≡ engine.store.log.kept → blocks_to store.log ≤ blocks_to engine.store.log + 1 →
+  pub may_update : (store : TransactionStore) (site : Site) (lsn : ℕ) (after : Content) → sizes_of store ≡ sizes_of engine.store → store.log.kept ≡ engine.store.log.kept → blocks_to store.log ≤ blocks_to engine.store.log + 1 →
       MayGrow store site fits.newest (fits.records ++ begin_at txn ∷ []) (update_at txn lsn number (shown_in store site (fits.records ++ begin_at txn ∷ []) number) after)
   may_update store site lsn after same kept more =
       let log = fits.records ++ begin_at txn ∷ [] in
@@ -118,7 +118,7 @@ module _ (engine : Engine) (old : Site) (s : State) (number : ℕ) (fits : Match
       }
 
   -- both are logged
-  pub one_write : (store : Store) (site : Site) (lsn : ℕ) (before after : Content) →
+  pub one_write : (store : TransactionStore) (site : Site) (lsn : ℕ) (before after : Content) →
       Represents store site fits.newest ((fits.records ++ begin_at txn ∷ []) ++ update_at txn lsn number before after ∷ []) s.table s.commits → HasOneWrite store site fits.newest fits.records s.table s.commits txn number after
   one_write store site lsn before after holds =
       let log = fits.records ++ begin_at txn ∷ [] in
@@ -148,7 +148,7 @@ unconcerned newest records log active s txn are fresh concerns closed same = rec
 }
 
 -- It may be committed.
-pub may_commit_one : (store : Store) (site : Site) (newest : Option Master) (records : List Entry) (table : List Content) (commits txn number next : ℕ) (after : Content) (w : HasOneWrite store site newest records table commits txn number after) → next ≡ commits → MayCommit newest w.log txn (next + 1) commits
+pub may_commit_one : (store : TransactionStore) (site : Site) (newest : Option Master) (records : List Entry) (table : List Content) (commits txn number next : ℕ) (after : Content) (w : HasOneWrite store site newest records table commits txn number after) → next ≡ commits → MayCommit newest w.log txn (next + 1) commits
 may_commit_one store site newest records table commits txn number next after w is = record { begun = w.active.lives; chain = w.active.chain; number_is = ap (λ (n : ℕ). n + 1) is }
 
 -- It is committed.

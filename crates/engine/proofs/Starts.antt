@@ -12,7 +12,7 @@ use Rattle.log_records.specs.Unfinished.{owed}
 use Rattle.log_laws.specs.RoomLaws.{OwedNone}
 use Rattle.lock_table.specs.declared.lock.Lock.{Lock}
 use Rattle.txn_table.specs.declared.active.Active.{Active}
-use Rattle.redo_undo.specs.declared.store.Store.{Store}
+use Rattle.redo_undo.specs.declared.store.TransactionStore.{TransactionStore}
 use Rattle.engine.specs.declared.engine.Engine.{Engine}
 use Rattle.engine.specs.declared.restart.Restarted.{Restarted}
 use Rattle.engine.specs.Image.{Opens}
@@ -58,13 +58,13 @@ started law g image site s restarted engine honest opening done blocks store_is 
       honest = honest;
       newest = done.newest;
       records = done.records;
-      holds = subst (λ (j : Store). Represents j site done.newest done.records s.table s.commits) (sym store_is) done.holds;
+      holds = subst (λ (j : TransactionStore). Represents j site done.newest done.records s.table s.commits) (sym store_is) done.holds;
       counts = record {
         commits = commits_is ∙ done.commits_are;
         made =
             let made = ap (λ (x : State). x.made) opening.state in
             let none : s.kept ≡ 0 = ap (λ (x : State). x.kept) opening.state in
-            omega (arith, ap (λ (j : Store). j.made) store_is, done.made, made, none);
+            omega (arith, ap (λ (j : TransactionStore). j.made) store_is, done.made, made, none);
         cap = cap_is ∙ ap (λ (n : ℕ). n - 1) blocks ∙ sym (ap (λ (x : State). x.cap) opening.state);
       };
       sessions = sessions;

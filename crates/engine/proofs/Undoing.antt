@@ -23,8 +23,8 @@ use Rattle.log_laws.proofs.Losers.{left_keep}
 use Rattle.log_laws.proofs.Tables.{content_of_table}
 use Rattle.log_laws.proofs.Tails.{whole_in_table}
 use Rattle.log_laws.proofs.Values.{value_held}
-use Rattle.image_meaning.specs.Meaning.{master_of, picture_under, versions_on}
-use Rattle.ring_machine.specs.Machine.{Work}
+use Rattle.image_meaning.specs.Meaning.{master_of, logical_image_under, versions_on}
+use Rattle.ring_machine.specs.Machine.{RingOp}
 use Rattle.ring_machine.specs.Commands.{takes_back, ends, stands_at, stood_before, undoes}
 use Rattle.ring_machine.specs.Restart.{clr_on, clr_work}
 use Rattle.redo_undo.specs.Mirroring.{undo_one_work}
@@ -131,7 +131,7 @@ taken_back table (u ∷ earlier) there = by (number_of u.rec) refl (taken_back t
     by None on rest = rest ∙ ap (λ (l : List Write). flat_map takes_back (reverse (stood_before table [] l))) (sym (append-nil (writes_left earlier)))
     by (Some n) on rest =
         ap (λ (b : Content). takes_back (n, b) ++ flat_map clr_work earlier) (there.0 n on)
-        ∙ ap (λ (w : List Work). takes_back (n, stands_at table (writes_left earlier) n) ++ w) rest
+        ∙ ap (λ (w : List RingOp). takes_back (n, stands_at table (writes_left earlier) n) ++ w) rest
         ∙ sym (ap (λ (l : List Write). flat_map takes_back (reverse l)) (stood_more table [] (writes_left earlier) (n, after_of u.rec))
         ∙ ap (flat_map takes_back) (reverse-append (stood_before table [] (writes_left earlier)) ((n, stands_at table (writes_left earlier) n) ∷ [])))
 
@@ -184,7 +184,7 @@ module _ (log : List Entry) (versions : List Version) (table : List Content) (t 
 
   pub undone_is : (last : ℕ) (writes : List Write) (m : Saved) → IsActive m log t last writes → RunOn (left_open log t) → AllByRecursion (IsInTable versions) log → undo_one_work log t ≡ undoes table writes
   undone_is last writes m active runs within =
-      ap (λ (w : List Work). w ++ ends)
+      ap (λ (w : List RingOp). w ++ ends)
       (taken_back table (left_open log t) (stood_there [] (left_open log t) refl runs (left_keep (IsInTable versions) log t within))
       ∙ ap (λ (l : List Write). flat_map takes_back (reverse (stood_before table [] l))) (all_writes (entries_of t log) [] no_clrs ∙ sym active.writes_are))
 
@@ -195,7 +195,7 @@ abort_is engine site s entry fits at =
     let active = found.under_way.is_active in
     let log = fits.holds.both.log_holds in
     let within : AllByRecursion (IsInTable (versions_on (sizes_of engine.store) site.image)) fits.records =
-    subst (AllByRecursion (IsInTable (versions_on (sizes_of engine.store) site.image))) log.runs_on.records_are (whole_in_table (picture_under fits.newest (sizes_of engine.store) site.image log.blocks) log.tail log.runs_on.carries) in
+    subst (AllByRecursion (IsInTable (versions_on (sizes_of engine.store) site.image))) log.runs_on.records_are (whole_in_table (logical_image_under fits.newest (sizes_of engine.store) site.image log.blocks) log.tail log.runs_on.carries) in
     ap (λ o. undoes s.table (writes_of o)) found.is
     ∙ sym (undone_is fits.records (versions_on (sizes_of engine.store) site.image) s.table entry.begin
     (undoable engine.store site fits.newest fits.records s.table s.commits fits.holds).held active.lives.not_closed (table_is engine.store site fits.newest fits.records s.table s.commits fits.holds) active.no_clrs

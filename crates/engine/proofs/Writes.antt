@@ -26,7 +26,7 @@ use Rattle.txn_table.specs.Entries as entries
 use Rattle.engine.specs.declared.engine.Engine.{Engine}
 use Rattle.image_meaning.specs.Meaning.{master_of, versions_on}
 use Rattle.redo_laws.specs.Holding.{blocks_to}
-use Rattle.redo_undo.specs.declared.store.Store.{Store}
+use Rattle.redo_undo.specs.declared.store.TransactionStore.{TransactionStore}
 use Rattle.engine.specs.Invariant.{sizes_of}
 use Rattle.redo_undo.specs.Stores.{Represents, MayGrow, shown_in, update_by}
 use Rattle.engine.specs.Representation.{Matches, LocksAre, SessionIs, SessionsAre, with_write, with_read}
@@ -204,7 +204,7 @@ read_more newest records active s n number entry are small at =
     }
 
 -- A page was touched.
-abbrev pub touched_fits : (engine : Engine) (store : Store) (old new : Site) (s : State) (fits : Matches engine old s) → IsTrue new.honest → Represents store new fits.newest fits.records s.table s.commits → store.made ≡ engine.store.made → Matches (record engine { store = store }) new s
+abbrev pub touched_fits : (engine : Engine) (store : TransactionStore) (old new : Site) (s : State) (fits : Matches engine old s) → IsTrue new.honest → Represents store new fits.newest fits.records s.table s.commits → store.made ≡ engine.store.made → Matches (record engine { store = store }) new s
 touched_fits engine store old new s fits honest holds made = record {
   honest = honest;
   newest = fits.newest;

@@ -4,7 +4,7 @@ use Rattle.site.specs.declared.outside.Stop.{Stop}
 use Rattle.site.specs.State.{State as Site, Snapshot, IsQuiet}
 use Rattle.record_model.specs.State.{State}
 use Rattle.record_model.specs.Step.{Outcome}
-use Rattle.record_model.specs.Touches.{CacheWork}
+use Rattle.record_model.specs.Touches.{CacheOp}
 use Rattle.record_model.specs.declared.words.Reply.{Reply}
 use Rattle.page_store.specs.Stopping.{MayStop}
 use Rattle.redo_laws.specs.MachineSteps.{StepsMachine}
@@ -32,7 +32,7 @@ pub record KeepsUnread {T : Type 0} (result : Result T Stop) (old new : Engine) 
 
 -- A call of the database on an honest site that it fits in this state: it comes to that state, each crash meanwhile
 -- leaves P, and no error comes but for its cause.
-pub record Does {T : Type 0} (result : Result T Stop) (old new : Engine) (before now : Site) (s after : State)
+pub record CommandEffect {T : Type 0} (result : Result T Stop) (old new : Engine) (before now : Site) (s after : State)
     (P : Snapshot → Type 0) (checkpoints : ℕ) : Type 0 where
   pub after_fits : OnOk result (Matches new now after)
   pub ends : Ends result (sizes_of old.store) before now P
@@ -40,8 +40,8 @@ pub record Does {T : Type 0} (result : Result T Stop) (old new : Engine) (before
   pub numbers : IsQuiet before → CountsOn result old new before now s after checkpoints
 
 -- A command: it answers what the model answers, and does and asks what the model does and asks.
-pub record Answers (result : Result Reply Stop) (old new : Engine) (before now : Site) (s : State) (o : Outcome)
-    (works : List CacheWork) (P : Snapshot → Type 0) (checkpoints : ℕ) : Type 0 where
+pub record CommandContract (result : Result Reply Stop) (old new : Engine) (before now : Site) (s : State) (o : Outcome)
+    (works : List CacheOp) (P : Snapshot → Type 0) (checkpoints : ℕ) : Type 0 where
   pub reply : IfOk result (λ reply. reply ≡ o.reply)
   pub asks : StepsMachine result works old.store.pages new.store.pages before now
-  pub does : Does result old new before now s o.after P checkpoints
+  pub does : CommandEffect result old new before now s o.after P checkpoints

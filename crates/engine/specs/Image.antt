@@ -7,7 +7,7 @@ use Rattle.log_records.specs.declared.log_record.LogRecord.{LogRecord}
 use Rattle.log_records.specs.Log.{Entry, log_from}
 use Rattle.log_records.specs.Sound.{Means}
 use Rattle.checkpoint.specs.declared.master.Master.{Master}
-use Rattle.image_meaning.specs.Meaning.{kept_by, picture_under}
+use Rattle.image_meaning.specs.Meaning.{kept_by, logical_image_under}
 use Rattle.image_meaning.specs.Meaning as meaning
 
 -- an image is sound under its newest master, with these blocks in its log from the oldest kept one on
@@ -27,5 +27,5 @@ pub record Opens (g : Geometry) (image : Image) (s : State) : Type 0 where
   pub newest : Option Master
   pub blocks : List (List LogRecord)
   pub sound : IsSound newest g image blocks
-  pub means : Means (picture_under newest g image blocks) s.table s.commits
+  pub means : Means (logical_image_under newest g image blocks) s.table s.commits
   pub state : s ≡ opened s.table s.commits 0 (g.blocks - 1)

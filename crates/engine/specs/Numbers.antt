@@ -42,7 +42,7 @@ pub record RestartsWithin {T : Type 0} (result : Result T Stop) (log_of : T
   pub log : IfOk result (λ x. blocks_to (log_of x) ≤ hi_of (log_shape g) before.image.log + unfinished.owed records)
   pub any_moment : LeavesOnly before now (λ s. HasNumbers g (hi_of (log_shape g) before.image.log
       + unfinished.owed records) (hi_of master_shape before.image.log + 1) s.image)
-  pub past : OnOk result (CallsForUnits g before now)
+  pub device_calls : OnOk result (CallsForUnits g before now)
 
 -- where nothing is called, nothing is counted
 abbrev pub RestCountsNothing : Type 0

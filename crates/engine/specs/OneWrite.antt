@@ -7,12 +7,12 @@ use Rattle.log_records.specs.Unfinished.{owed}
 use Rattle.log_laws.specs.Follow.{IsActive, IsFresh}
 use Rattle.checkpoint.specs.declared.master.Master.{Master}
 use Rattle.image_meaning.specs.Meaning.{master_of}
-use Rattle.redo_undo.specs.declared.store.Store.{Store}
+use Rattle.redo_undo.specs.declared.store.TransactionStore.{TransactionStore}
 use Rattle.redo_undo.specs.Stores.{Represents}
 use Rattle.redo_undo.specs.StoreRollback.{ConcernsOnly}
 
 -- Behind these records a new transaction has written one record of the table, and isn't committed yet.
-pub record HasOneWrite (store : Store) (site : State) (newest : Option Master) (records : List Entry)
+pub record HasOneWrite (store : TransactionStore) (site : State) (newest : Option Master) (records : List Entry)
     (table : List Content) (commits txn number : ℕ) (after : Content) : Type 0 where
   pub log : List Entry
   pub fresh : IsFresh txn records

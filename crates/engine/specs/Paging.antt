@@ -4,8 +4,8 @@ use Rattle.site.specs.declared.outside.Stop.{Stop}
 use Rattle.site.specs.declared.geometry.Geometry.{Geometry}
 use Rattle.site.specs.State.{State, Image}
 use Rattle.image_changes.specs.Rings.{group_shape, units_on}
-use Rattle.record_model.specs.Touches.{CacheWork}
-use Rattle.log_records.specs.Sound.{Picture}
+use Rattle.record_model.specs.Touches.{CacheOp}
+use Rattle.log_records.specs.Sound.{LogicalImage}
 use Rattle.frame_group.specs.Groups.{frames_in}
 use Rattle.second_chance.specs.Queue.{Queue}
 use Rattle.flash_cache.specs.Representation.{queue_of}
@@ -29,24 +29,24 @@ abbrev pub cache_on : Geometry → Image → Cache
 cache_on g image = record { pool = []; queue = queue_on g image }
 
 -- a restart: redo, then undo, then a checkpoint
-abbrev pub restart_works : Picture → List CacheWork
+abbrev pub restart_works : LogicalImage → List CacheOp
 restart_works p = redo_works p ++ undo_works p.log ++ checkpoint_works
 
 -- A crash meanwhile leaves no more groups than this work appends, beginning with a cache, and each disk page that it
 -- doesn't stage as it was.
-abbrev pub WritesFrom : Geometry → Rules → List CacheWork → Cache → State → State → Type 0
+abbrev pub WritesFrom : Geometry → Rules → List CacheOp → Cache → State → State → Type 0
 WritesFrom g r works start before now =
     LeavesOnly before now (λ s. WritesOnly g (staged_by_works r works start) (next_group (after_works r works start))
     before.image s.image)
 
 -- and behind it the disk has of the frames that this work stages those that were staged last
-abbrev pub HasLastFrom : Geometry → Rules → List CacheWork → Cache → State → State → Type 0
+abbrev pub HasLastFrom : Geometry → Rules → List CacheOp → Cache → State → State → Type 0
 HasLastFrom g r works start before now = HasLastStaged g (staged_by_works r works start) before now
 
 -- A call that opens pages asks for this work, beginning with a cache. At Ok the machine has done it. Beside so many
 -- reads of flash that find the queue it reads no more pages than the work needs.
 pub record AsksFrom {T : Type 0} (result : Result T Stop) (pages : T
-    → PageStore) (r : Rules) (works : List CacheWork) (start : Cache) (scanned : ℕ) (before now : State) : Type 0 where
+    → PageStore) (r : Rules) (works : List CacheOp) (start : Cache) (scanned : ℕ) (before now : State) : Type 0 where
   pub machine : IfOk result (λ x. (cache_of (pages x) ≡ after_works r works start) × (rules (pages x) ≡ r))
   pub flash : now.flash_reads + 12 * next_group start
       ≤ before.flash_reads + scanned + 12 * next_group (after_works r works start) + finds_in r works start

@@ -13,7 +13,7 @@ use Rattle.log_records.specs.Log.{Entry, is_loser}
 use Rattle.log_records.specs.Unfinished.{pending}
 use Rattle.checkpoint.specs.Actives.{Ascend}
 use Rattle.checkpoint.specs.declared.master.Master.{Master}
-use Rattle.image_meaning.specs.Meaning.{saved_by, picture_under}
+use Rattle.image_meaning.specs.Meaning.{saved_by, logical_image_under}
 use Rattle.log_store.specs.Representation.{end_of}
 use Rattle.page_store.specs.Stopping.{MayStop}
 use Rattle.page_store.specs.Caching.{cache_of, rules}
@@ -25,7 +25,7 @@ use Rattle.engine.specs.declared.restart.Restarted.{Restarted}
 use Rattle.engine.specs.Invariant.{sizes_of}
 use Rattle.redo_undo.specs.Stores.{MayWork, Represents}
 use Rattle.redo_undo.specs.StoreCalls.{AreNext}
-use Rattle.redo_undo.specs.declared.store.Store.{Store}
+use Rattle.redo_undo.specs.declared.store.TransactionStore.{TransactionStore}
 use Rattle.engine.specs.Image.{log_under}
 use Rattle.engine.specs.Leaves.{LeavesTable}
 use Rattle.engine.specs.Calls.{Ends}
@@ -81,23 +81,23 @@ pub record Recovers (result : Result Restarted Stop) (opened : Opened) (before n
   pub numbers : IsQuiet before → RestartsWithin result (λ restarted. restarted.store.log) opened.pages.flash.geometry
       (log_under newest blocks) before now
   pub asks : AsksFrom result (λ restarted. restarted.store.pages) (rules opened.pages)
-      (restart_works (picture_under newest opened.pages.flash.geometry before.image blocks))
+      (restart_works (logical_image_under newest opened.pages.flash.geometry before.image blocks))
       (cache_of opened.pages) 0 before now
   pub log_reads : now.log_reads ≤ before.log_reads + (length blocks + length (pending (log_under newest blocks)))
   pub writes : IsQuiet before → WritesFrom opened.pages.flash.geometry (rules opened.pages)
-      (restart_works (picture_under newest opened.pages.flash.geometry before.image blocks))
+      (restart_works (logical_image_under newest opened.pages.flash.geometry before.image blocks))
       (cache_of opened.pages) before now
   pub last : IsQuiet before → OnOk result (HasLastFrom opened.pages.flash.geometry (rules opened.pages)
-      (restart_works (picture_under newest opened.pages.flash.geometry before.image blocks))
+      (restart_works (logical_image_under newest opened.pages.flash.geometry before.image blocks))
       (cache_of opened.pages) before now)
 
 -- what was opened, as a store of which nothing was redone yet
-abbrev pub found_store : Opened → Store
+abbrev pub found_store : Opened → TransactionStore
 found_store opened = record { log = opened.log; pages = opened.pages; masters = opened.masters; made = 0 }
 
 -- What a restart leaves of an honest site of these sizes, whatever stood there: the next units of the rings are those
 -- of the content, and a device is worn only where a ring of it is spent.
-pub record LeavesNext {T : Type 0} (result : Result T Stop) (store_of : T → Store) (g : Geometry)
+pub record LeavesNext {T : Type 0} (result : Result T Stop) (store_of : T → TransactionStore) (g : Geometry)
     (now : State) : Type 0 where
   pub next : IfOk result (λ x. AreNext (store_of x) now × (sizes_of (store_of x) ≡ g))
   pub worn : (dev : Dev) → IsErrOf result (Worn dev) → IsSpent dev g now.image

@@ -7,10 +7,10 @@ use Rattle.image_changes.specs.Rings.{log_shape, master_shape}
 use Rattle.sealed_ring.specs.Ring.{hi_of}
 use Rattle.second_chance.specs.Machine.{Rules}
 use Rattle.ring_machine.specs.Tail.{empty_at}
-use Rattle.ring_machine.specs.Machine.{Machine, Work}
+use Rattle.ring_machine.specs.Machine.{Machine, RingOp}
 use Rattle.ring_machine.specs.Performing.{Performs}
 use Rattle.page_store.specs.Caching.{cache_of}
-use Rattle.redo_undo.specs.declared.store.Store.{Store}
+use Rattle.redo_undo.specs.declared.store.TransactionStore.{TransactionStore}
 use Rattle.redo_undo.specs.Mirroring.{MirrorsStore}
 use Rattle.engine.specs.declared.restart.Opened.{Opened}
 use Rattle.engine.specs.Paging.{cache_on}
@@ -33,6 +33,7 @@ found_machine opened = record {
 }
 
 -- a call that opens a store does this work, beginning with this machine, which mirrors the store at Ok
-abbrev pub PerformsFrom : {T : Type 0} → Result T Stop → (T → Store) → Rules → List Work → Machine → State → Type 0
+abbrev pub PerformsFrom : {T : Type 0} → Result T Stop → (T → TransactionStore) → Rules → List RingOp → Machine
+    → State → Type 0
 PerformsFrom result store r works start now =
     Performs result r works (λ m. m ≡ start) (λ m. IfOk result (λ x. MirrorsStore (store x) now.image m))

@@ -13,7 +13,7 @@ ghost use Rattle.engine.specs.Representation.{Matches, run, checkpointed_if};
 ghost use Rattle.engine.specs.Leaves.{LeavesTable};
 ghost use Rattle.record_model.specs.Touches.{command_touches};
 ghost use Rattle.redo_laws.specs.MachineSteps.{StepsMachine, checkpoint_works};
-ghost use Rattle.engine.specs.Calls.{KeepsUnread, Does, Answers};
+ghost use Rattle.engine.specs.Calls.{KeepsUnread, CommandEffect, CommandContract};
 ghost use Rattle.engine.specs.Numbers.{checkpoints_by};
 
 use crate::engine::Engine;
@@ -30,7 +30,7 @@ impl Engine {
 
         // Of an honest site that the database fits.
         ensures does { (s : State) → Matches self.old (S.state site.old) s
-            → Does result self.old self.new (S.state site.old) (S.state site.new) s (checkpointed_if true s)
+            → CommandEffect result self.old self.new (S.state site.old) (S.state site.new) s (checkpointed_if true s)
             (LeavesTable (sizes_of self.old.store) s.table s.commits (S.state site.old).told) 1 }
         ensures performs { (s : State) → Matches self.old (S.state site.old) s
             → PerformsStore result saves self.old.store self.new.store (S.state site.old) (S.state site.new) }
@@ -60,7 +60,7 @@ impl Engine {
 
         // Of an honest site that the database fits.
         ensures does { (s : State) → Matches self.old (S.state site.old) s
-            → Does result self.old self.new (S.state site.old) (S.state site.new) s (checkpointed_if wanted s)
+            → CommandEffect result self.old self.new (S.state site.old) (S.state site.new) s (checkpointed_if wanted s)
             (LeavesTable (sizes_of self.old.store) s.table s.commits (S.state site.old).told)
             (if wanted then 1 else 0) }
         ensures performs { (s : State) → Matches self.old (S.state site.old) s
@@ -96,7 +96,8 @@ impl Engine {
 
         // Of an honest site that the database fits.
         ensures answers { (s : State) → Matches self.old (S.state site.old) s
-            → Answers result self.old self.new (S.state site.old) (S.state site.new) s (run s Command.Checkpoint)
+            → CommandContract result self.old self.new (S.state site.old) (S.state site.new) s
+            (run s Command.Checkpoint)
             (command_touches s Command.Checkpoint)
             (LeavesTable (sizes_of self.old.store) s.table s.commits (S.state site.old).told)
             (checkpoints_by s Command.Checkpoint) }

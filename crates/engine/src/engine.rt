@@ -25,7 +25,7 @@ ghost use Rattle.ring_machine.specs.Restart.{restart_work};
 ghost use Rattle.engine.specs.RingWork.{PerformsFrom, machine_on};
 ghost use Rattle.second_chance.specs.Machine.{rules_of};
 ghost use Rattle.checkpoint.specs.declared.master.Master.{Master};
-ghost use Rattle.image_meaning.specs.Meaning.{picture_under};
+ghost use Rattle.image_meaning.specs.Meaning.{logical_image_under};
 ghost use Rattle.engine.specs.Listings.{listing_of};
 ghost use Rattle.engine.specs.Calls.{Ends};
 ghost use Rattle.engine.specs.Numbers.{RestartsWithin};
@@ -37,7 +37,7 @@ use crate::restart::restart;
 use lock_table::LockTable;
 use log_laws::owed_none;
 use record_model::{Reply, Stat, Why};
-use redo_undo::Store;
+use redo_undo::TransactionStore;
 use site::{Site, Stop};
 use std::alloc::Global;
 use txn_table::TxnTable;
@@ -49,7 +49,7 @@ pub(crate) const SESSIONS: u32 = 8;
 #[derive(Drop)]
 pub struct Engine {
     pub(crate) alloc: Global,
-    pub(crate) store: Store,
+    pub(crate) store: TransactionStore,
     // How many blocks of the log may be used.
     pub(crate) cap: u64,
     pub(crate) locks: LockTable,
@@ -83,7 +83,7 @@ impl Engine {
             → (g : Geometry) (newest : Option Master) (blocks : List (List LogRecord))
             → IsSound newest g (S.state site.old).image blocks
             → AsksFrom result (λ engine. engine.store.pages) (rules_of pool g.groups)
-            (restart_works (picture_under newest g (S.state site.old).image blocks))
+            (restart_works (logical_image_under newest g (S.state site.old).image blocks))
             (cache_on g (S.state site.old).image)
             (start_reads g) (S.state site.old) (S.state site.new) }
         ensures log_reads { IsTrue (S.state site.old).honest
@@ -94,19 +94,19 @@ impl Engine {
             → (g : Geometry) (newest : Option Master) (blocks : List (List LogRecord))
             → IsSound newest g (S.state site.old).image blocks
             → WritesFrom g (rules_of pool g.groups)
-            (restart_works (picture_under newest g (S.state site.old).image blocks))
+            (restart_works (logical_image_under newest g (S.state site.old).image blocks))
             (cache_on g (S.state site.old).image) (S.state site.old) (S.state site.new) }
         ensures last { IsTrue (S.state site.old).honest → IsQuiet (S.state site.old)
             → (g : Geometry) (newest : Option Master) (blocks : List (List LogRecord))
             → IsSound newest g (S.state site.old).image blocks
             → OnOk result (HasLastFrom g (rules_of pool g.groups)
-            (restart_works (picture_under newest g (S.state site.old).image blocks))
+            (restart_works (logical_image_under newest g (S.state site.old).image blocks))
             (cache_on g (S.state site.old).image) (S.state site.old) (S.state site.new)) }
         ensures performs { IsTrue (S.state site.old).honest
             → (g : Geometry) (newest : Option Master) (blocks : List (List LogRecord))
             → IsSound newest g (S.state site.old).image blocks
             → PerformsFrom result (λ engine. engine.store) (rules_of pool g.groups)
-            (restart_work (picture_under newest g (S.state site.old).image blocks))
+            (restart_work (logical_image_under newest g (S.state site.old).image blocks))
             (machine_on g (S.state site.old).image) (S.state site.new) }
 
         // Of every honest site of these sizes.

@@ -19,7 +19,7 @@ ghost use Rattle.engine.specs.Leaves.{LeavesTable};
 ghost use Rattle.record_model.specs.Touches.{command_touches, read_touch};
 ghost use Rattle.redo_laws.specs.MachineSteps.{StepsMachine, one_touch};
 ghost use Rattle.engine.specs.Scans.{first_busy, items_seen};
-ghost use Rattle.engine.specs.Calls.{KeepsUnread, Does, Answers};
+ghost use Rattle.engine.specs.Calls.{KeepsUnread, CommandEffect, CommandContract};
 ghost use Rattle.engine.specs.Numbers.{checkpoints_by};
 
 use crate::engine::Engine;
@@ -55,7 +55,7 @@ impl Engine {
 
         // Of an honest site that the database fits.
         ensures answers { (s : State) → Matches self.old (S.state site.old) s
-            → Answers result self.old self.new (S.state site.old) (S.state site.new) s
+            → CommandContract result self.old self.new (S.state site.old) (S.state site.new) s
             (run s (Command.Read session number)) (command_touches s (Command.Read session number))
             (LeavesTable (sizes_of self.old.store) s.table s.commits (S.state site.old).told)
             (checkpoints_by s (Command.Read session number)) }
@@ -94,7 +94,8 @@ impl Engine {
         ensures content { (s : State) → Matches self.old (S.state site.old) s
             → IfOk result (λ content. content ≡ seen s session number) }
         ensures does { (s : State) → Matches self.old (S.state site.old) s
-            → Does result self.old self.new (S.state site.old) (S.state site.new) s (with_read s session number)
+            → CommandEffect result self.old self.new (S.state site.old) (S.state site.new) s
+            (with_read s session number)
             (LeavesTable (sizes_of self.old.store) s.table s.commits (S.state site.old).told) 0 }
         ensures performs { (s : State) → Matches self.old (S.state site.old) s
             → PerformsStore result (reads number) self.old.store self.new.store (S.state site.old) (S.state site.new) }
@@ -151,7 +152,7 @@ impl Engine {
 
         // Of an honest site that the database fits.
         ensures answers { (s : State) → Matches self.old (S.state site.old) s
-            → Answers result self.old self.new (S.state site.old) (S.state site.new) s
+            → CommandContract result self.old self.new (S.state site.old) (S.state site.new) s
             (run s (Command.Scan session number count)) (command_touches s (Command.Scan session number count))
             (LeavesTable (sizes_of self.old.store) s.table s.commits (S.state site.old).told)
             (checkpoints_by s (Command.Scan session number count)) }
@@ -191,7 +192,7 @@ impl Engine {
         ensures items { (s : State) → Matches self.old (S.state site.old) s
             → IfOk result (λ items. items ≡ items_seen s session (range_with_len number count)) }
         ensures does { (s : State) → Matches self.old (S.state site.old) s
-            → Does result self.old self.new (S.state site.old) (S.state site.new) s
+            → CommandEffect result self.old self.new (S.state site.old) (S.state site.new) s
             (with_reads s session (range_with_len number count))
             (LeavesTable (sizes_of self.old.store) s.table s.commits (S.state site.old).told) 0 }
         ensures performs { (s : State) → Matches self.old (S.state site.old) s
@@ -241,7 +242,8 @@ impl Engine {
 
         // Of an honest site that the database fits.
         ensures answers { (s : State) → Matches self.old (S.state site.old) s
-            → Answers result self.old self.new (S.state site.old) (S.state site.new) s (run s (Command.Get number))
+            → CommandContract result self.old self.new (S.state site.old) (S.state site.new) s
+            (run s (Command.Get number))
             (command_touches s (Command.Get number))
             (LeavesTable (sizes_of self.old.store) s.table s.commits (S.state site.old).told)
             (checkpoints_by s (Command.Get number)) }
@@ -275,7 +277,7 @@ impl Engine {
         ensures reply { (s : State) → Matches self.old (S.state site.old) s
             → IfOk result (λ reply. reply ≡ found (content_at s.table number)) }
         ensures does { (s : State) → Matches self.old (S.state site.old) s
-            → Does result self.old self.new (S.state site.old) (S.state site.new) s s
+            → CommandEffect result self.old self.new (S.state site.old) (S.state site.new) s s
             (LeavesTable (sizes_of self.old.store) s.table s.commits (S.state site.old).told) 0 }
         ensures performs { (s : State) → Matches self.old (S.state site.old) s
             → PerformsStore result (reads number) self.old.store self.new.store (S.state site.old) (S.state site.new) }

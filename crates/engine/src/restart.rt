@@ -16,7 +16,7 @@ ghost use Rattle.analysis.specs.Open.{owed_for};
 ghost use Rattle.analysis.specs.Table.{listed};
 ghost use Rattle.analysis.specs.Read as analysis;
 ghost use Rattle.page_store.specs.Stopping.{MayStop};
-ghost use Rattle.image_meaning.specs.Meaning.{picture_under};
+ghost use Rattle.image_meaning.specs.Meaning.{logical_image_under};
 ghost use Rattle.engine.specs.Invariant.{sizes_of};
 ghost use Rattle.engine.specs.Image.{log_under, IsSound, Stands};
 ghost use Rattle.engine.specs.Leaves.{HasNoSizes, IsRefused, LeavesTable};
@@ -38,7 +38,7 @@ use analysis::{Analysis, losers_are_taken, table_of_records};
 use checkpoint::{Master, Pairs, newest, one_master};
 use log_store::LogStore;
 use page_store::{PageStore, stays_beside};
-use redo_undo::{Store, redo, undo_all, works_add_up};
+use redo_undo::{TransactionStore, ops_compose, redo, undo_all};
 use sealed_ring::Ring;
 use site::{Dev, Geometry, Site, Stop};
 use std::alloc::Global;
@@ -56,7 +56,7 @@ pub struct Opened {
 #[derive(Drop)]
 pub struct Restarted {
     pub blocks: u32,
-    pub store: Store,
+    pub store: TransactionStore,
     pub commits: u64,
 }
 
@@ -111,7 +111,7 @@ fn open<S: Site>(
     ensures ready { IsTrue (S.state site.old).honest
         → (newest : Option Master) (blocks : List (List LogRecord)) (table : List Content) (commits : ℕ)
         → IsSound newest geometry.now (S.state site.old).image blocks
-        → Means (picture_under newest geometry.now (S.state site.old).image blocks) table commits
+        → Means (logical_image_under newest geometry.now (S.state site.old).image blocks) table commits
         → IfOk result (λ opened. IsReady opened (S.state site.new) newest blocks table commits) }
     ensures readable { IsTrue (S.state site.old).honest
         → (newest : Option Master) (blocks : List (List LogRecord))
@@ -134,7 +134,7 @@ fn open<S: Site>(
     ensures sizes { IfOk result (λ opened. opened.pages.flash.geometry ≡ geometry.now) }
     ensures pool { IfOk result (λ opened. opened.pages.pool.size ≡ pool) }
     ensures empty { IfOk result (λ opened. opened.log.used ≡ 2) }
-    ensures goes { Preserves (S.state site.old) (S.state site.new) }
+    ensures preserves { Preserves (S.state site.old) (S.state site.new) }
     ensures faults { WorkFaults result (S.state site.old) (S.state site.new) }
 
     // When each answer comes.
@@ -200,7 +200,7 @@ fn recover<S: Site>(alloc: Global, site: &mut S, opened: Opened) -> Result<Resta
     ensures performs { (newest : Option Master) (blocks : List (List LogRecord)) (table : List Content) (commits : ℕ)
         → IsReady opened (S.state site.old) newest blocks table commits
         → PerformsFrom result (λ restarted. restarted.store) (rules opened.pages)
-        (restart_work (picture_under newest opened.pages.flash.geometry (S.state site.old).image blocks))
+        (restart_work (logical_image_under newest opened.pages.flash.geometry (S.state site.old).image blocks))
         (found_machine opened) (S.state site.new) }
 
     // Of every honest site on which the next units are those that were found.
@@ -237,7 +237,7 @@ fn recover<S: Site>(alloc: Global, site: &mut S, opened: Opened) -> Result<Resta
         return Err(Stop::Foreign);
     }
     let made = records + owed;
-    let mut store = Store {
+    let mut store = TransactionStore {
         log,
         pages,
         masters,
@@ -262,7 +262,7 @@ pub fn restart<S: Site>(alloc: Global, site: &mut S, pool: u32) -> Result<Restar
     ensures opens { IsTrue (S.state site.old).honest
         → (g : Geometry) (newest : Option Master) (blocks : List (List LogRecord)) (table : List Content) (commits : ℕ)
         → IsSound newest g (S.state site.old).image blocks
-        → Means (picture_under newest g (S.state site.old).image blocks) table commits
+        → Means (logical_image_under newest g (S.state site.old).image blocks) table commits
         → IfOk result (λ restarted. RestartedAs restarted (S.state site.new) table commits
         × (sizes_of restarted.store ≡ g)) }
     ensures ends { IsTrue (S.state site.old).honest
@@ -278,7 +278,8 @@ pub fn restart<S: Site>(alloc: Global, site: &mut S, pool: u32) -> Result<Restar
         → (g : Geometry) (newest : Option Master) (blocks : List (List LogRecord))
         → IsSound newest g (S.state site.old).image blocks
         → AsksFrom result (λ restarted. restarted.store.pages) (rules_of pool g.groups)
-        (restart_works (picture_under newest g (S.state site.old).image blocks)) (cache_on g (S.state site.old).image)
+        (restart_works (logical_image_under newest g (S.state site.old).image blocks))
+        (cache_on g (S.state site.old).image)
         (start_reads g) (S.state site.old) (S.state site.new) }
     ensures log_reads { IsTrue (S.state site.old).honest
         → (g : Geometry) (newest : Option Master) (blocks : List (List LogRecord))
@@ -287,20 +288,21 @@ pub fn restart<S: Site>(alloc: Global, site: &mut S, pool: u32) -> Result<Restar
     ensures writes { IsTrue (S.state site.old).honest → IsQuiet (S.state site.old)
         → (g : Geometry) (newest : Option Master) (blocks : List (List LogRecord))
         → IsSound newest g (S.state site.old).image blocks
-        → WritesFrom g (rules_of pool g.groups) (restart_works (picture_under newest g (S.state site.old).image blocks))
+        → WritesFrom g (rules_of pool g.groups)
+        (restart_works (logical_image_under newest g (S.state site.old).image blocks))
         (cache_on g (S.state site.old).image) (S.state site.old) (S.state site.new) }
     ensures last { IsTrue (S.state site.old).honest → IsQuiet (S.state site.old)
         → (g : Geometry) (newest : Option Master) (blocks : List (List LogRecord))
         → IsSound newest g (S.state site.old).image blocks
         → OnOk result (HasLastFrom g (rules_of pool g.groups)
-        (restart_works (picture_under newest g (S.state site.old).image blocks))
+        (restart_works (logical_image_under newest g (S.state site.old).image blocks))
         (cache_on g (S.state site.old).image) (S.state site.old) (S.state site.new)) }
 
     ensures performs { IsTrue (S.state site.old).honest
         → (g : Geometry) (newest : Option Master) (blocks : List (List LogRecord))
         → IsSound newest g (S.state site.old).image blocks
         → PerformsFrom result (λ restarted. restarted.store) (rules_of pool g.groups)
-        (restart_work (picture_under newest g (S.state site.old).image blocks))
+        (restart_work (logical_image_under newest g (S.state site.old).image blocks))
         (machine_on g (S.state site.old).image) (S.state site.new) }
 
     // Of every honest site of these sizes.
@@ -312,7 +314,7 @@ pub fn restart<S: Site>(alloc: Global, site: &mut S, pool: u32) -> Result<Restar
     ensures restarts { Restarts result pool (S.state site.old) (S.state site.new) }
     ensures refuses { HasNoSizes (S.state site.old) → IsRefused result site.old site.new }
 {
-    works_add_up();
+    ops_compose();
     let geometry = match geometry_of(site) {
         Ok(geometry) => geometry,
         Err(stop) => return Err(stop),

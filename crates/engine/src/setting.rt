@@ -21,7 +21,7 @@ ghost use Rattle.engine.specs.Representation.{Matches, run, Refuses, Passes};
 ghost use Rattle.engine.specs.Leaves.{LeavesTable, LeavesEither};
 ghost use Rattle.record_model.specs.Touches.{command_touches};
 ghost use Rattle.redo_laws.specs.MachineSteps.{StepsMachine, one_change};
-ghost use Rattle.engine.specs.Calls.{KeepsUnread, Does, Answers};
+ghost use Rattle.engine.specs.Calls.{KeepsUnread, CommandEffect, CommandContract};
 ghost use Rattle.engine.specs.Numbers.{checkpoints_by};
 ghost use Rattle.redo_undo.specs.StoreCalls.{KeepsInvariant, Keeps};
 
@@ -93,7 +93,7 @@ impl Engine {
         ensures reply { (s : State) → Matches self.old (S.state site.old) s
             → IfOk result (λ reply. reply ≡ Reply.Committed (s.commits + 1)) }
         ensures does { (s : State) → Matches self.old (S.state site.old) s
-            → Does result self.old self.new (S.state site.old) (S.state site.new) s
+            → CommandEffect result self.old self.new (S.state site.old) (S.state site.new) s
             (making 3 (committed s ((number, after.now) ∷ [])))
             (LeavesEither (sizes_of self.old.store) s (making 3 (committed s ((number, after.now) ∷ [])))
             (S.state site.old).told) 0 }
@@ -144,7 +144,7 @@ impl Engine {
 
         // Of an honest site that the database fits.
         ensures answers { (s : State) → Matches self.old (S.state site.old) s
-            → Answers result self.old self.new (S.state site.old) (S.state site.new) s
+            → CommandContract result self.old self.new (S.state site.old) (S.state site.new) s
             (run s (Command.Set number value.now))
             (command_touches s (Command.Set number value.now))
             (LeavesEither (sizes_of self.old.store) s (run s (Command.Set number value.now)).after

@@ -28,7 +28,7 @@ ghost use Rattle.engine.specs.Leaves.{LeavesTable, LeavesEither};
 ghost use Rattle.record_model.specs.Touches.{command_touches, write_touch};
 ghost use Rattle.redo_laws.specs.MachineSteps.{StepsMachine};
 ghost use Rattle.checkpoint.specs.declared.master.Master.{Master};
-ghost use Rattle.engine.specs.Calls.{KeepsEngine, KeepsUnread, Does, Answers};
+ghost use Rattle.engine.specs.Calls.{KeepsEngine, KeepsUnread, CommandEffect, CommandContract};
 ghost use Rattle.engine.specs.Numbers.{checkpoints_by};
 ghost use Rattle.engine.specs.LogReads.{undo_reads};
 ghost use Rattle.redo_undo.specs.StoreCalls.{KeepsInvariant, Keeps};
@@ -64,7 +64,8 @@ impl Engine {
 
         // Of an honest site that the database fits.
         ensures answers { (s : State) → Matches self.old (S.state site.old) s
-            → Answers result self.old self.new (S.state site.old) (S.state site.new) s (run s (Command.Begin session))
+            → CommandContract result self.old self.new (S.state site.old) (S.state site.new) s
+            (run s (Command.Begin session))
             (command_touches s (Command.Begin session))
             (LeavesTable (sizes_of self.old.store) s.table s.commits (S.state site.old).told)
             (checkpoints_by s (Command.Begin session)) }
@@ -105,7 +106,8 @@ impl Engine {
         // Of an honest site that the database fits.
         ensures done { IfOk result (λ reply. reply ≡ Reply.Done) }
         ensures does { (s : State) → Matches self.old (S.state site.old) s
-            → Does result self.old self.new (S.state site.old) (S.state site.new) s (effect s (Command.Begin session))
+            → CommandEffect result self.old self.new (S.state site.old) (S.state site.new) s
+            (effect s (Command.Begin session))
             (LeavesTable (sizes_of self.old.store) s.table s.commits (S.state site.old).told) 0 }
         ensures performs { (s : State) → Matches self.old (S.state site.old) s
             → PerformsStore result begins self.old.store self.new.store (S.state site.old) (S.state site.new) }
@@ -186,7 +188,7 @@ impl Engine {
         ensures done { (s : State) → Matches self.old (S.state site.old) s
             → IfOk result (λ reply. reply ≡ Reply.Committed (s.commits + 1)) }
         ensures does { (s : State) → Matches self.old (S.state site.old) s
-            → Does result self.old self.new (S.state site.old) (S.state site.new) s
+            → CommandEffect result self.old self.new (S.state site.old) (S.state site.new) s
             (effect s (Command.Commit entry.session))
             (LeavesEither (sizes_of self.old.store) s (effect s (Command.Commit entry.session))
             (S.state site.old).told) 0 }
@@ -215,7 +217,8 @@ impl Engine {
 
         // Of an honest site that the database fits.
         ensures answers { (s : State) → Matches self.old (S.state site.old) s
-            → Answers result self.old self.new (S.state site.old) (S.state site.new) s (run s (Command.Commit session))
+            → CommandContract result self.old self.new (S.state site.old) (S.state site.new) s
+            (run s (Command.Commit session))
             (command_touches s (Command.Commit session))
             (LeavesEither (sizes_of self.old.store) s (run s (Command.Commit session)).after (S.state site.old).told)
             (checkpoints_by s (Command.Commit session)) }
@@ -249,7 +252,7 @@ impl Engine {
         // Of an honest site that the database fits.
         ensures done { IfOk result (λ reply. reply ≡ Reply.Aborted) }
         ensures does { (s : State) → Matches self.old (S.state site.old) s
-            → Does result self.old self.new (S.state site.old) (S.state site.new) s
+            → CommandEffect result self.old self.new (S.state site.old) (S.state site.new) s
             (effect s (Command.Abort entry.session))
             (LeavesTable (sizes_of self.old.store) s.table s.commits (S.state site.old).told) 0 }
         ensures asks { (s : State) → Matches self.old (S.state site.old) s
@@ -282,7 +285,8 @@ impl Engine {
 
         // Of an honest site that the database fits.
         ensures answers { (s : State) → Matches self.old (S.state site.old) s
-            → Answers result self.old self.new (S.state site.old) (S.state site.new) s (run s (Command.Abort session))
+            → CommandContract result self.old self.new (S.state site.old) (S.state site.new) s
+            (run s (Command.Abort session))
             (command_touches s (Command.Abort session))
             (LeavesTable (sizes_of self.old.store) s.table s.commits (S.state site.old).told)
             (checkpoints_by s (Command.Abort session)) }

@@ -18,7 +18,7 @@ ghost use Rattle.engine.specs.Representation.{Matches, run, with_write, Refuses,
 ghost use Rattle.engine.specs.Leaves.{LeavesTable};
 ghost use Rattle.record_model.specs.Touches.{command_touches};
 ghost use Rattle.redo_laws.specs.MachineSteps.{StepsMachine, one_change};
-ghost use Rattle.engine.specs.Calls.{KeepsUnread, Does, Answers};
+ghost use Rattle.engine.specs.Calls.{KeepsUnread, CommandEffect, CommandContract};
 ghost use Rattle.engine.specs.Numbers.{checkpoints_by};
 
 use crate::engine::Engine;
@@ -47,7 +47,7 @@ impl Engine {
         // Of an honest site that the database fits.
         ensures done { IfOk result (λ reply. reply ≡ Reply.Done) }
         ensures does { (s : State) → Matches self.old (S.state site.old) s
-            → Does result self.old self.new (S.state site.old) (S.state site.new) s
+            → CommandEffect result self.old self.new (S.state site.old) (S.state site.new) s
             (with_write s entry.session (number, after.now))
             (LeavesTable (sizes_of self.old.store) s.table s.commits (S.state site.old).told) 0 }
         ensures performs { (s : State) → Matches self.old (S.state site.old) s
@@ -130,7 +130,7 @@ impl Engine {
 
         // Of an honest site that the database fits.
         ensures answers { (s : State) → Matches self.old (S.state site.old) s
-            → Answers result self.old self.new (S.state site.old) (S.state site.new) s
+            → CommandContract result self.old self.new (S.state site.old) (S.state site.new) s
             (run s (Command.Write session number value.now))
             (command_touches s (Command.Write session number value.now))
             (LeavesTable (sizes_of self.old.store) s.table s.commits (S.state site.old).told)
@@ -187,7 +187,7 @@ impl Engine {
 
         // Of an honest site that the database fits.
         ensures answers { (s : State) → Matches self.old (S.state site.old) s
-            → Answers result self.old self.new (S.state site.old) (S.state site.new) s
+            → CommandContract result self.old self.new (S.state site.old) (S.state site.new) s
             (run s (Command.Erase session number)) (command_touches s (Command.Erase session number))
             (LeavesTable (sizes_of self.old.store) s.table s.commits (S.state site.old).told)
             (checkpoints_by s (Command.Erase session number)) }

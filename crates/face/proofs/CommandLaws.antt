@@ -16,7 +16,7 @@ use Rattle.flash_cache.specs.Representation.{IsWorn}
 use Rattle.site.specs.Geometry.{HasLimits, HasLengths}
 use Rattle.redo_laws.specs.Holding.{IsLogWorn}
 use Rattle.redo_undo.specs.StoreCalls.{KeepsNext}
-use Rattle.redo_undo.specs.declared.store.Store.{Store}
+use Rattle.redo_undo.specs.declared.store.TransactionStore.{TransactionStore}
 use Rattle.engine.specs.Restarting.{LeavesNext}
 use Rattle.engine.specs.Image.{Stands}
 use Rattle.engine.specs.Representation.{Matches}
@@ -26,7 +26,7 @@ use Rattle.engine.specs.Leaves.{LeavesTable}
 use Rattle.face.specs.Causes.{FailsBy, HasCause}
 
 -- why a command fails
-pub fails_by : {T : Type 0} (result : Result T Stop) (engine : Engine) {after : Store} (old new : Site) → IfErr result MayStop → (IsTrue old.honest → KeepsNext result engine.store after old new) → ((d : Dev) → IsErrOf result (Device d) → FaultRose d old new)
+pub fails_by : {T : Type 0} (result : Result T Stop) (engine : Engine) {after : TransactionStore} (old new : Site) → IfErr result MayStop → (IsTrue old.honest → KeepsNext result engine.store after old new) → ((d : Dev) → IsErrOf result (Device d) → FaultRose d old new)
     → ((s : State) → Matches engine old s → IsErrOf result (Worn Log) → IsLogWorn (sizes_of engine.store) new.image) → ((s : State) → Matches engine old s → IsErrOf result (Worn Flash) → IsWorn (sizes_of engine.store) new.image)
     → (IsErrOf result Foreign → (s : State) → Matches engine old s → ⊥) → IfErr result (λ stop. FailsBy stop engine old new)
 fails_by (Ok done) engine old new stops next rose log flash foreign = tt
@@ -38,14 +38,14 @@ fails_by (Err (Worn Disk)) engine old new stops next rose log flash foreign = ab
 fails_by (Err Foreign) engine old new stops next rose log flash foreign = foreign refl
 
 -- a command that makes no call on pages
-pub log_fails : {T : Type 0} (result : Result T Stop) (engine : Engine) {after : Store} (old new : Site) → IfErr result (λ stop. (stop ≡ Device Log) ⊎ (stop ≡ Worn Log)) → (IsTrue old.honest → KeepsNext result engine.store after old new) → ((d : Dev) → IsErrOf result (Device d) → FaultRose d old new)
+pub log_fails : {T : Type 0} (result : Result T Stop) (engine : Engine) {after : TransactionStore} (old new : Site) → IfErr result (λ stop. (stop ≡ Device Log) ⊎ (stop ≡ Worn Log)) → (IsTrue old.honest → KeepsNext result engine.store after old new) → ((d : Dev) → IsErrOf result (Device d) → FaultRose d old new)
     → ((s : State) → Matches engine old s → IsErrOf result (Worn Log) → IsLogWorn (sizes_of engine.store) new.image) → IfErr result (λ stop. FailsBy stop engine old new)
 log_fails (Ok done) engine old new stops next rose log = tt
 log_fails (Err stop) engine old new stops next rose log =
     ⊎_elim (λ device. subst (λ (x : Stop). FailsBy x engine old new) (sym device) (rose Log (ap Err device))) (λ worn. subst (λ (x : Stop). FailsBy x engine old new) (sym worn) (λ honest is. (next honest).worn is Log (ap Err worn), λ s fits. log s fits (ap Err worn))) stops
 
 -- why restart stops
-pub start_cause : {T : Type 0} {store_of : T → Store} (result : Result T Stop) (stop : Stop) (old new : Site) → result ≡ Err stop → MayStop stop → ((d : Dev) → IsErrOf result (Device d) → FaultRose d old new)
+pub start_cause : {T : Type 0} {store_of : T → TransactionStore} (result : Result T Stop) (stop : Stop) (old new : Site) → result ≡ Err stop → MayStop stop → ((d : Dev) → IsErrOf result (Device d) → FaultRose d old new)
     → (IsTrue old.honest → (g : Geometry) (table : List Content) (commits : ℕ) → Stands g old.image table commits → Ends result g old new (LeavesTable g table commits old.told))
     → (IsTrue old.honest → (g : Geometry) → HasLimits g → HasLengths g old.image → LeavesNext result store_of g new) → HasCause (halt.Stop stop) old new
 start_cause result (Device dev) old new failed stops rose ends next = rose dev failed

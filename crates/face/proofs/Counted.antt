@@ -29,9 +29,9 @@ use Rattle.engine.specs.Representation.{Matches}
 use Rattle.engine.specs.Invariant.{Invariant, sizes_of}
 use Rattle.engine.specs.Image.{log_under}
 use Rattle.engine.specs.Numbers.{CountsOn, RestartsWithin}
-use Rattle.face.specs.Going.{IsCounted}
+use Rattle.face.specs.RunInProgress.{IsCounted}
 use Rattle.front_end.specs.Lines.{HearsOnly, up_to_quit}
-use Rattle.face.specs.Range.{GivesNumbers, SkipsNoNumber, blocks_by, made_by, masters_by}
+use Rattle.face.specs.RunMeaning.{GivesNumbers, SkipsNoNumber, blocks_by, made_by, masters_by}
 use Rattle.face.proofs.CallCounts.{calls_heard}
 use Rattle.face.proofs.Writings.{images_heard, images_told}
 use Rattle.face.specs.Run.{Run, after_lines, answered, checkpoints_of, first_lines, line_checkpoints, listing_at, state_at, step, turns_of}
@@ -50,7 +50,7 @@ pub counts_as : {A B E F : Type 0} (x : A) (r : Result B F) (old new : Engine) (
 counts_as x r old new before now s after n c = record {
   records = c.records;
   made = c.made;
-  skips = record { log = on_ok r _ c.log; any_moment = c.any_moment; past = on_ok r _ c.past };
+  skips = record { log = on_ok r _ c.log; any_moment = c.any_moment; device_calls = on_ok r _ c.device_calls };
 }
 
 -- behind which something is told
@@ -62,7 +62,7 @@ counts_told x r old new piece before mid now s after n tells calls c = record {
   skips = record {
     log = on_ok r _ c.log;
     any_moment = images_told (λ (i : Image). HasNumbers (sizes_of old.store) (blocks_to old.store.log + c.records) (hi_of master_shape before.image.log + n) i) piece before mid now c.any_moment tells;
-    past = ok_as r _ _ (calls_then (sizes_of old.store) before mid now c.past) calls;
+    device_calls = ok_as r _ _ (calls_then (sizes_of old.store) before mid now c.device_calls) calls;
   };
 }
 
@@ -71,7 +71,7 @@ pub counts_err : {A B E F : Type 0} (e : E) (f : F) (old new : Engine) (before n
 counts_err e f old new before now s after n c = record {
   records = c.records;
   made = c.made;
-  skips = record { log = tt; any_moment = c.any_moment; past = tt };
+  skips = record { log = tt; any_moment = c.any_moment; device_calls = tt };
 }
 
 -- no call
@@ -169,7 +169,7 @@ module _ (run : Run) (records : List Entry) (entry : Site) where
   first_counted engine piece mid now tells calls within = record {
     log = let few = within.log in omega (arith, few);
     numbers = restart_told (Ok engine) (λ e. e.store.log) piece mid now tells within;
-    calls = calls_then run.geometry entry mid now within.past calls;
+    calls = calls_then run.geometry entry mid now within.device_calls calls;
   }
 
   -- while only is heard
@@ -212,7 +212,7 @@ module _ (run : Run) (records : List Entry) (entry : Site) where
           log = let few = c.log in omega (arith, few, log, was, made, some);
           numbers = counts_next (Ok x) c;
           calls = calls_then run.geometry entry mid new counted.calls
-              (calls_then run.geometry mid next new (calls_heard run.geometry mid next same) (subst (λ (g : Geometry). CallsForUnits g next new) sizes c.past));
+              (calls_then run.geometry mid next new (calls_heard run.geometry mid next same) (subst (λ (g : Geometry). CallsForUnits g next new) sizes c.device_calls));
         }
 
 -- it doesn't depend on what the cache lists

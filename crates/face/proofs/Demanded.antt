@@ -15,7 +15,7 @@ use Rattle.engine.specs.SeenVersions.{VersionsAreSeen}
 use Rattle.front_end.specs.declared.halt.Halt.{Halt}
 use Rattle.front_end.specs.declared.halt.Halt.TheVariants as halt
 use Rattle.face.specs.Headline.{Resources}
-use Rattle.face.specs.Range.{AsksNoMore, LeavesItsQueue, LeavesStaged, LeavesVersions, SkipsNoNumber, cache_by, staged_by_run}
+use Rattle.face.specs.RunMeaning.{AsksNoMore, LeavesItsQueue, LeavesStaged, LeavesVersions, SkipsNoNumber, cache_by, staged_by_run}
 use Rattle.face.specs.Run.{Run, answered, first_lines, turns_of}
 use Rattle.front_end.specs.Texts.{fault_line}
 use Rattle.face.specs.Working.{Demands}

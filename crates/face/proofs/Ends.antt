@@ -25,12 +25,12 @@ use Rattle.engine.specs.declared.engine.Engine.{Engine}
 use Rattle.face.specs.Causes.{HasCause, AnswerFailsBy}
 use Rattle.front_end.specs.Lines.{HasEnded, to_hear, total, IsSource, HearsLine, Hears, IsCutOff}
 use Rattle.site.specs.declared.outside.Dev.TheVariants.{Log, Flash, Disk}
-use Rattle.face.specs.Range.{AsksNoMore, HasBegun, IsLeft, LeavesItsQueue, LeavesStaged, LeavesVersions, ListsTheMachine, SkipsNoNumber, WritesAsTold}
+use Rattle.face.specs.RunMeaning.{AsksNoMore, HasBegun, IsLeft, LeavesItsQueue, LeavesStaged, LeavesVersions, ListsTheMachine, SkipsNoNumber, WritesAsTold}
 use Rattle.face.specs.Worn.{LeavesItsRings, WearsFirst, WearsNone, WearsNoneBefore}
 use Rattle.image_changes.specs.Costs.{CallsForUnits}
 use Rattle.face.specs.Run.{Run, first_lines}
 use Rattle.face.specs.Working.{AnswersFirst, HasHeard, Stops, StopsTaking, TakingFails, RunOutcome}
-use Rattle.face.specs.Going.{Going}
+use Rattle.face.specs.RunInProgress.{RunInProgress}
 use Rattle.face.proofs.Cuts.{Cut, has_heard_all, input_failed, over_limit, taken_by, heard_line, quit_is_last}
 use Rattle.face.proofs.RunsSoFar.{begun_before, stopped, ended}
 use Rattle.face.proofs.Demanded.{demands_err, demands_ok}
@@ -86,7 +86,7 @@ never_opened {T} pool run old new h stops ne left worn numbers reads = record {
   answers = answers_none run old new left;
 }
 
-module _ (pool : ℕ) (run : Run) (old mid new : Site) (engine : Engine) (source : Source) (i : ℕ) (cut : Cut old.input.left source mid i) (is_source : IsSource source) (going : Going run old new engine i) (listed : ListsTheMachine pool (first_lines run i) old.image) (reads : AsksNoMore pool (first_lines run i) old new) (answers : AnswersFirst run i old new) (written : WritesAsTold pool run i old new) (room : WearsNone pool (first_lines run i) old.image) where
+module _ (pool : ℕ) (run : Run) (old mid new : Site) (engine : Engine) (source : Source) (i : ℕ) (cut : Cut old.input.left source mid i) (is_source : IsSource source) (going : RunInProgress run old new engine i) (listed : ListsTheMachine pool (first_lines run i) old.image) (reads : AsksNoMore pool (first_lines run i) old new) (answers : AnswersFirst run i old new) (written : WritesAsTold pool run i old new) (room : WearsNone pool (first_lines run i) old.image) where
   -- none in front of them did either
   earlier : WearsNoneBefore pool run i old.image
   earlier lines less = none_first pool run lines i old.image (omega (arith, less)) room
@@ -178,7 +178,7 @@ module _ (pool : ℕ) (run : Run) (old mid next new : Site) (source source' : So
   }
 
   -- a quit was answered
-  pub quitted : {T : Type 0} (x : T) (engine : Engine) → is_quit line ≡ true → Going run old new engine (suc i) → WearsNone pool (first_lines run (suc i)) old.image → LeavesItsQueue pool (first_lines run (suc i)) old.image new.image → LeavesVersions pool (first_lines run (suc i)) old.image new.image → LeavesStaged pool (first_lines run (suc i)) old new → LeavesItsRings pool (first_lines run (suc i)) old.image new.image → CallsForUnits run.geometry old new → SkipsNoNumber (first_lines run (suc i)) old new →
+  pub quitted : {T : Type 0} (x : T) (engine : Engine) → is_quit line ≡ true → RunInProgress run old new engine (suc i) → WearsNone pool (first_lines run (suc i)) old.image → LeavesItsQueue pool (first_lines run (suc i)) old.image new.image → LeavesVersions pool (first_lines run (suc i)) old.image new.image → LeavesStaged pool (first_lines run (suc i)) old new → LeavesItsRings pool (first_lines run (suc i)) old.image new.image → CallsForUnits run.geometry old new → SkipsNoNumber (first_lines run (suc i)) old new →
       RunOutcome pool run old new (Ok x)
   quitted x engine quits going whole queue versions staged rings calls numbers =
       let all = quit_is_last old.input.left source mid i cut is_source source' next line h last is' quits in

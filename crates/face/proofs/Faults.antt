@@ -27,9 +27,9 @@ use Rattle.front_end.specs.Lines.{commands_of, up_to_quit, answered_of, limit}
 use Rattle.face.specs.Run.{Run, answered, first_lines, Begins}
 use Rattle.face.specs.Working.{Demands, HasHeard, HasTakenAll, IsBetween, StandsNear, StopsTaking, TakingFails, RunOutcome}
 use Rattle.face.proofs.Waits.{answers_still}
-use Rattle.face.specs.Range.{IsLeft, IsWhole, ListsTheMachine}
+use Rattle.face.specs.RunMeaning.{IsLeft, IsWhole, ListsTheMachine}
 use Rattle.face.specs.Worn.{WearsFirst, WearsNone}
-use Rattle.face.specs.Range.{first_texts, run_of, run_text, texts}
+use Rattle.face.specs.RunMeaning.{first_texts, run_of, run_text, texts}
 use Rattle.front_end.specs.Tells.{EndsBehind, Tells}
 use Rattle.front_end.proofs.Endings.{ends_whole, ends_with}
 use Rattle.face.proofs.Demanded.{asked_done, asked_halted, demands_failed}

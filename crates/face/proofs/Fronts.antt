@@ -11,7 +11,7 @@ use Rattle.shell_text.specs.Runs.{lines_of, in_front}
 use Rattle.shell_text.specs.Reading.{line_of}
 use Rattle.shell_text.specs.Texts.{open_text, reply_text}
 use Rattle.front_end.specs.Lines.{answered_of, commands_of, up_to_quit}
-use Rattle.face.specs.Range.{HasBegun, first_texts, text_at, texts}
+use Rattle.face.specs.RunMeaning.{HasBegun, first_texts, text_at, texts}
 use Rattle.face.specs.Run.{Run, answered, after_lines, first_lines, state_at, turns_of}
 use Rattle.face.specs.Waiting.{IsAnswered, NobodyWaits}
 use Rattle.face.specs.Working.{AnswersFirst, IsEarly}

@@ -10,7 +10,7 @@ use Rattle.record_model.specs.declared.words.CacheLine.{CacheLine}
 use Rattle.record_model.specs.State.{State}
 use Rattle.record_model.specs.Run.{Line, commits_among, whole_texts}
 use Rattle.shell_text.specs.Texts.{open_text, reply_text}
-use Rattle.face.specs.Range.{IsLeft, IsToldOf, first_texts, text_at, texts}
+use Rattle.face.specs.RunMeaning.{IsLeft, IsToldOf, first_texts, text_at, texts}
 use Rattle.face.specs.Run.{Run, answered, first_lines, step, state_at, listing_at, IsFront, LeavesAnswer, StandsAt, StandsFor}
 use Rattle.face.specs.Working.{StandsNear}
 use Rattle.face.proofs.Fronts.{lines_first, state_first, text_first, told_first}

@@ -7,7 +7,7 @@ use Rattle.std.proofs.lemmas.Bool.{cases_lt}
 use Rattle.std.proofs.lemmas.List.Recursion.{is_count_by}
 use Rattle.record_model.specs.declared.words.CacheLine.{CacheLine}
 use Rattle.record_model.specs.State.{State}
-use Rattle.record_model.specs.Touches.{CacheWork, line_touches}
+use Rattle.record_model.specs.Touches.{CacheOp, line_touches}
 use Rattle.record_model.specs.Run.{Line, Turn, is_quit, is_cache, later_listings, turn, turns}
 use Rattle.front_end.specs.Lines.{up_to_quit}
 use Rattle.face.specs.Run.{step, after_lines, works_of}
@@ -53,7 +53,7 @@ take_over (line ∷ first) later n =
 pub works_join : (s : State) (first later : List Line) → works_of s (first ++ later) ≡ works_of s first ++ works_of (after_lines s first []) later
 works_join s [] later = refl
 works_join s (line ∷ first) later =
-    ap (λ (w : List CacheWork). line_touches s line ++ w) (works_join (step s line []).after first later)
+    ap (λ (w : List CacheOp). line_touches s line ++ w) (works_join (step s line []).after first later)
     ∙ sym (append_assoc (line_touches s line) (works_of (step s line []).after first) (works_of (after_lines (step s line []).after first []) later))
     ∙ ap (λ (x : State). works_of s (line ∷ first) ++ works_of x later) (sym (after_cons s line first))
 

@@ -19,10 +19,10 @@ use Rattle.checkpoint.specs.declared.master.Master.{Master}
 use Rattle.log_records.specs.declared.log_record.LogRecord.{LogRecord}
 use Rattle.second_chance.specs.Machine.{listing}
 use Rattle.face.specs.Causes.{FailsBy}
-use Rattle.face.specs.Range.{ListsTheMachine, WritesAsTold, cache_by}
+use Rattle.face.specs.RunMeaning.{ListsTheMachine, WritesAsTold, cache_by}
 use Rattle.face.specs.Run.{Run, Begins, IsAsked, step, answered, first_lines, listings_left, listing_at, state_at, turns_of}
 use Rattle.face.specs.Working.{AnswersFirst}
-use Rattle.face.specs.Going.{Going, IsPaged, IsUnderWay}
+use Rattle.face.specs.RunInProgress.{RunInProgress, IsPaged, IsUnderWay}
 use Rattle.face.proofs.Runs.{left_next, turn_at, turns_next}
 
 -- Which lines ask for it.
@@ -99,7 +99,7 @@ module _ (pool : ℕ) (entry mid : Site) (engine : Engine) (i : ℕ) (so_far : I
     before : run.listings ≡ so_far.listings ++ (asked line (listing_of engine) ++ later)
     before = is ∙ append_assoc so_far.listings (asked line (listing_of engine)) later
 
-    pub going_before : Going run entry mid engine i
+    pub going_before : RunInProgress run entry mid engine i
     going_before = so_far.going run (asked line (listing_of engine) ++ later) begins before
 
     pub answers_before : AnswersFirst run i entry mid

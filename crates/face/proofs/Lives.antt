@@ -7,7 +7,7 @@ use Rattle.engine.specs.Image.{Opens}
 use Rattle.face.specs.Headline.{ran}
 use Rattle.face.specs.Lives.{LawOfLives, LawOfLoads, LoadOpensAgain, OpensAfter, OpensAgain}
 use Rattle.face.specs.Loads.{IsLeftOf}
-use Rattle.face.specs.Range.{IsLeft, StandsAfter}
+use Rattle.face.specs.RunMeaning.{IsLeft, StandsAfter}
 use Rattle.face.specs.Run.{Run, turns_of}
 use Rattle.face.specs.Workload.{load_run, summary_text}
 use Rattle.face.proofs.Meanings.{opens_where_it_stands}

@@ -11,7 +11,7 @@ use Rattle.face.specs.Headline.{Durability, ran}
 use Rattle.front_end.specs.Lines.{commands_of}
 use Rattle.face.specs.Lives.{LawOfLives, OpensAgain}
 use Rattle.face.specs.Living.{Finds, HasLivedOne, IsFoundAfter}
-use Rattle.face.specs.Range.{IsLeft, IsToldOf, run_text, texts}
+use Rattle.face.specs.RunMeaning.{IsLeft, IsToldOf, run_text, texts}
 use Rattle.face.specs.Run.{Run, turns_of}
 use Rattle.front_end.specs.Texts.{IsLineOf}
 use Rattle.face.specs.Trial.{Between, IsTextOf, life_run}

@@ -22,7 +22,7 @@ use Rattle.face.proofs.WornFronts.{never_worn_within}
 use Rattle.face.specs.TopCall.{LoadContract}
 use Rattle.face.specs.Headline.{IsGood, TellsFault}
 use Rattle.face.specs.Loads.{Allows, HasBegunLoad, IsLeftOf, IsOpened, IsUntold, LoadHeadline, LoadStops, LoadWorks}
-use Rattle.face.specs.Range.{StandsAfter, all_commits}
+use Rattle.face.specs.RunMeaning.{StandsAfter, all_commits}
 use Rattle.face.specs.Worn.{WearsFirst, WearsNone}
 use Rattle.face.specs.Run.{IsFront, Run, first_lines, turns_of}
 use Rattle.front_end.specs.Texts.{fault_line, status_of}

@@ -16,7 +16,7 @@ use Rattle.site.specs.Moments.{Leaves, LeavesOnly}
 use Rattle.site.specs.Laws.{holds_now, in_sequence, leaves_weaker}
 use Rattle.record_model.specs.State.{State}
 use Rattle.record_model.specs.Run.{Line, commit_marks, commits_among, left_by}
-use Rattle.record_model.specs.Touches.{CacheWork}
+use Rattle.record_model.specs.Touches.{CacheOp}
 use Rattle.checkpoint.specs.declared.master.Master.{Master}
 use Rattle.log_records.specs.declared.log_record.LogRecord.{LogRecord}
 use Rattle.log_records.specs.Log.{Entry}
@@ -25,12 +25,12 @@ use Rattle.sealed_ring.specs.Ring.{hi_of}
 use Rattle.image_changes.specs.Rings.{log_shape, master_shape}
 use Rattle.redo_laws.specs.Numbers.{HasNumbers}
 use Rattle.redo_laws.proofs.RingNumbers.{leaves_more}
-use Rattle.image_meaning.specs.Meaning.{picture_under}
+use Rattle.image_meaning.specs.Meaning.{logical_image_under}
 use Rattle.second_chance.specs.Machine.{Cache, Rules, after_works, opened, rules_of}
 use Rattle.page_store.specs.Caching.{cache_of, rules}
 use Rattle.engine.specs.Paging.{HasLastFrom, WritesFrom}
 use Rattle.face.proofs.Writings.{engine_queue, last_works, writes_then}
-use Rattle.redo_laws.specs.MachineSteps.{ReadsAddUp, ReadsFor, WorksAddUp}
+use Rattle.redo_laws.specs.MachineSteps.{ReadsAddUp, ReadsFor, OpsCompose}
 use Rattle.engine.specs.declared.engine.Engine.{Engine}
 use Rattle.engine.specs.Invariant.{Invariant, sizes_of}
 use Rattle.engine.specs.Image.{IsSound, log_under}
@@ -41,17 +41,17 @@ use Rattle.engine.specs.Paging.{cache_on, restart_works}
 use Rattle.front_end.specs.declared.halt.Halt.{Halt}
 use Rattle.front_end.specs.declared.halt.Halt.TheVariants as halt
 use Rattle.command_line.specs.declared.request.Load.{Load}
-use Rattle.face.specs.Going.{Going, IsCounted, IsPaged}
+use Rattle.face.specs.RunInProgress.{RunInProgress, IsCounted, IsPaged}
 use Rattle.face.specs.Loads.{CarriesFirst, CarriesOut, HasBegunLoad, IsLeftOf, IsOpened, IsUntold, LeavesSome, LoadStops, LoadWorks}
 use Rattle.flash_cache.specs.OnDisk.{HasLastStaged}
 use Rattle.site.proofs.Working.{ok_as}
 use Rattle.face.specs.Worn.{HasRings, IsMirrored, WearsFirst, WearsNoneBefore, machine_by, rings_by, rings_of, worn_by}
 use Rattle.engine.specs.RingWork.{machine_on}
-use Rattle.ring_machine.specs.Machine.{Machine, Work, after_all, first_worn}
+use Rattle.ring_machine.specs.Machine.{Machine, RingOp, after_all, first_worn}
 use Rattle.ring_machine.specs.Restart.{restart_work}
-use Rattle.ring_machine.proofs.Works.{first_then, work_adds_up}
+use Rattle.ring_machine.proofs.Works.{first_then, ring_ops_compose}
 use Rattle.face.proofs.WornRuns.{rings_are, rings_of_store}
-use Rattle.face.specs.Range.{AsksNoMore, IsLeft, LeavesStaged, SkipsNoNumber, StandsAfter, all_commits, cache_by, first_texts, run_of, staged_by_run, texts}
+use Rattle.face.specs.RunMeaning.{AsksNoMore, IsLeft, LeavesStaged, SkipsNoNumber, StandsAfter, all_commits, cache_by, first_texts, run_of, staged_by_run, texts}
 use Rattle.face.specs.Run.{AsksFew, Run, StandsFor, after_lines, answered, checkpoints_of, first_lines, works_of, turns_of, log_reads_of}
 use Rattle.face.specs.Working.{StandsNear, Stops, asked_after, log_reads_after}
 use Rattle.front_end.specs.Texts.{status_of}
@@ -144,9 +144,9 @@ module _ (g : Geometry) (opening : State) (load : Load) where
     -- what its first lines ask, behind what the restart has asked
     first_asked : (n : ℕ) (newest : Option Master) (image : Image) (blocks : List (List LogRecord)) → asked_after run newest image blocks n ≡ asked_after opening_run newest image blocks 0 ++ works_of opening (take n run.lines)
     first_asked n newest image blocks =
-        let restart = restart_works (picture_under newest g image blocks) in
-        ap (λ (w : List CacheWork). restart ++ w) (first_ask n opening run.lines [] ∙ ap (λ (l : List Line). works_of opening (take n l)) all_lines)
-        ∙ ap (λ (w : List CacheWork). w ++ works_of opening (take n run.lines)) (sym (append-nil restart))
+        let restart = restart_works (logical_image_under newest g image blocks) in
+        ap (λ (w : List CacheOp). restart ++ w) (first_ask n opening run.lines [] ∙ ap (λ (l : List Line). works_of opening (take n l)) all_lines)
+        ∙ ap (λ (w : List CacheOp). w ++ works_of opening (take n run.lines)) (sym (append-nil restart))
 
     -- and how often they read the log
     first_read : (n : ℕ) (newest : Option Master) (blocks : List (List LogRecord)) → log_reads_after run newest blocks n ≡ log_reads_after opening_run newest blocks 0 + log_reads_of opening (take n run.lines)
@@ -157,9 +157,9 @@ module _ (g : Geometry) (opening : State) (load : Load) where
     -- what its first lines ask of the machine of the rings, and where that stands once the restart has asked
     first_rings : (n : ℕ) (newest : Option Master) (image : Image) (blocks : List (List LogRecord)) → rings_by run (turns_of (first_lines run n)) newest image blocks ≡ rings_by opening_run (turns_of (first_lines opening_run 0)) newest image blocks ++ rings_of opening (take n run.lines)
     first_rings n newest image blocks =
-        let restart = restart_work (picture_under newest g image blocks) in
+        let restart = restart_work (logical_image_under newest g image blocks) in
         rings_are run newest image blocks n ∙ ap (λ (l : List Line). restart ++ rings_of opening (take n l)) all_lines
-        ∙ ap (λ (w : List Work). w ++ rings_of opening (take n run.lines)) (sym (append-nil restart))
+        ∙ ap (λ (w : List RingOp). w ++ rings_of opening (take n run.lines)) (sym (append-nil restart))
 
     abbrev opened_machine : Option Master → Image → List (List LogRecord) → Machine
     opened_machine newest image blocks = after_all (rules_of load.pool g.groups) (rings_by opening_run (turns_of (first_lines opening_run 0)) newest image blocks) (machine_on g image)
@@ -169,7 +169,7 @@ module _ (g : Geometry) (opening : State) (load : Load) where
     found_behind newest image blocks before mid rules_are at n =
         let r = rules_of load.pool g.groups in
         let start = machine_on g image in
-        ap (λ (w : List Work). first_worn r w start) (first_rings n newest image blocks)
+        ap (λ (w : List RingOp). first_worn r w start) (first_rings n newest image blocks)
         ∙ first_then r (rings_by opening_run (turns_of (first_lines opening_run 0)) newest image blocks) (rings_of opening (take n run.lines)) start (at.done start refl).0
         ∙ ap (λ (x : Rules). first_worn x (rings_of opening (take n run.lines)) (opened_machine newest image blocks)) (sym rules_are)
 
@@ -178,8 +178,8 @@ module _ (g : Geometry) (opening : State) (load : Load) where
     machine_behind newest image blocks before rules_are n =
         let r = rules_of load.pool g.groups in
         let start = machine_on g image in
-        ap (λ (w : List Work). after_all r w start) (first_rings n newest image blocks)
-        ∙ work_adds_up r (rings_by opening_run (turns_of (first_lines opening_run 0)) newest image blocks) (rings_of opening (take n run.lines)) start
+        ap (λ (w : List RingOp). after_all r w start) (first_rings n newest image blocks)
+        ∙ ring_ops_compose r (rings_by opening_run (turns_of (first_lines opening_run 0)) newest image blocks) (rings_of opening (take n run.lines)) start
         ∙ ap (λ (x : Rules). after_all x (rings_of opening (take n run.lines)) (opened_machine newest image blocks)) (sym rules_are)
 
     -- where it never opened no line was begun
@@ -204,7 +204,7 @@ module _ (g : Geometry) (opening : State) (load : Load) where
     }
 
     -- Once it is told.
-    module _ (add : WorksAddUp) (reads_add : ReadsAddUp) (mid new : Site) (before after : Engine) (going : Going opening_run old mid before 0)
+    module _ (add : OpsCompose) (reads_add : ReadsAddUp) (mid new : Site) (before after : Engine) (going : RunInProgress opening_run old mid before 0)
         (paged : (newest : Option Master) (blocks : List (List LogRecord)) → IsSound newest g old.image blocks → IsPaged load.pool opening_run newest old.image blocks before 0)
         (mirrored : (newest : Option Master) (blocks : List (List LogRecord)) → IsSound newest g old.image blocks → IsMirrored load.pool opening_run newest old.image blocks before mid 0)
         (counted : (newest : Option Master) (blocks : List (List LogRecord)) → IsSound newest g old.image blocks → IsCounted opening_run (log_under newest blocks) old mid before 0)
@@ -271,7 +271,7 @@ module _ (g : Geometry) (opening : State) (load : Load) where
             let p = paged newest blocks sound in
             (λ j. after_works (p.rules_are j) (works_of opening (take n run.lines)) (p.machine j))
             ∙ sym (add (rules_of load.pool g.groups) (asked_after opening_run newest old.image blocks 0) (works_of opening (take n run.lines)) (cache_on g old.image))
-            ∙ ap (λ (w : List CacheWork). after_works (rules_of load.pool g.groups) w (cache_on g old.image)) (sym (first_asked n newest old.image blocks))
+            ∙ ap (λ (w : List CacheOp). after_works (rules_of load.pool g.groups) w (cache_on g old.image)) (sym (first_asked n newest old.image blocks))
 
         next_is : (newest : Option Master) (blocks : List (List LogRecord)) → IsSound newest g old.image blocks →
             after_works (rules before.store.pages) (works_of opening first) (cache_of before.store.pages) ≡ cache_by load.pool run (turns_of (first_lines run some.begun)) newest old.image blocks
@@ -309,7 +309,7 @@ module _ (g : Geometry) (opening : State) (load : Load) where
             let p = paged newest blocks sound in
             let r = rules_of load.pool g.groups in
             let opening_works = asked_after opening_run newest old.image blocks 0 in
-            subst (λ (w : List CacheWork). AsksFew load.pool g w (log_reads_after run newest blocks some.begun) old new) (sym (first_asked some.begun newest old.image blocks))
+            subst (λ (w : List CacheOp). AsksFew load.pool g w (log_reads_after run newest blocks some.begun) old new) (sym (first_asked some.begun newest old.image blocks))
             (record {
               log_reads = (let opened = (read newest blocks sound).log_reads in let later = (some.course.serves opening going.fits).log_reads in let all = first_read some.begun newest blocks in omega (arith, opened, later, all));
               reads = reads_add r opening_works (works_of opening first) (cache_on g old.image) (record old { flash_reads = old.flash_reads + start_reads g }) mid new (read newest blocks sound).reads
@@ -337,7 +337,7 @@ module _ (g : Geometry) (opening : State) (load : Load) where
             (subst (λ (x : Rules). OnOk result (HasLastFrom g x (works_of opening first) (cache_of before.store.pages) mid new)) p.rules_are
             (subst (λ (x : Geometry). OnOk result (HasLastFrom x (rules before.store.pages) (works_of opening first) (cache_of before.store.pages) mid new)) going.geometry (serves.last has going.quiet))) in
             ok_as result _ (HasLastStaged g (staged_by_run load.pool run (turns_of (first_lines run some.begun)) newest old.image blocks) old new)
-            (λ more. subst (λ (w : List CacheWork). HasLastFrom g r w (cache_on g old.image) old new) (sym (first_asked some.begun newest old.image blocks))
+            (λ more. subst (λ (w : List CacheOp). HasLastFrom g r w (cache_on g old.image) old new) (sym (first_asked some.begun newest old.image blocks))
             (last_works g r opening_works (works_of opening first) (cache_on g old.image) old mid new (read newest blocks sound).writes written (staged newest blocks sound) more)) own
 
         left_new : new.input ≡ old.input
@@ -404,7 +404,7 @@ module _ (g : Geometry) (opening : State) (load : Load) where
                 subst (λ (m : Machine). HasRings g m new.image) (sym (machine_behind newest old.image blocks before (paged newest blocks sound).rules_are some.begun))
                 (rings_of_store g after new (after_lines opening run.lines []) (after_all (rules before.store.pages) (rings_of opening (take some.begun run.lines)) (opened_machine newest old.image blocks))
                 ((some.course.performs opening going.fits).done.done (opened_machine newest old.image blocks) d.1).1 (course.fits opening going.fits) course.going (course.sizes ∙ going.geometry)))
-                (calls_then g old mid new calls (subst (λ (y : Geometry). CallsForUnits y mid new) going.geometry (course.numbers opening going.fits going.quiet).past))
+                (calls_then g old mid new calls (subst (λ (y : Geometry). CallsForUnits y mid new) going.geometry (course.numbers opening going.fits going.quiet).device_calls))
                 (numbers_are (Ok x) some) (reads_are (Ok x) some);
             left = left_new (Ok x) some;
           }

@@ -27,7 +27,7 @@ use Rattle.page_store.specs.Representation as page_store
 use Rattle.page_store.specs.Representation.{current}
 use Rattle.page_store.proofs.Versions.{pages_later}
 use Rattle.page_store.specs.Ahead.{IsAhead}
-use Rattle.image_meaning.specs.Meaning.{kept_by, picture_under}
+use Rattle.image_meaning.specs.Meaning.{kept_by, logical_image_under}
 use Rattle.image_meaning.specs.Beside.{AreRingsSoundUnder}
 use Rattle.redo_laws.specs.Running.{RunsOn}
 use Rattle.redo_laws.specs.Holding.{RepresentsLog, RepresentsIn, ShowRecords}
@@ -127,7 +127,7 @@ module _ (a b : Site) (goes : Preserves a b) (image : b.image ≡ a.image) where
       records = same (λ x. log_store.Represents log x (record { first = kept_by newest; blocks = h.blocks; tail = h.tail })) h.ready.records;
     };
     rings = same (AreRingsSoundUnder newest g) h.rings;
-    runs_on = same (λ x. RunsOn (picture_under newest g x h.blocks) h.tail records table commits) h.runs_on;
+    runs_on = same (λ x. RunsOn (logical_image_under newest g x h.blocks) h.tail records table commits) h.runs_on;
     ahead = same (IsAhead log pages) h.ahead;
     room = h.room;
   }

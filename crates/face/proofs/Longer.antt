@@ -15,7 +15,7 @@ use Rattle.record_model.specs.Run.{IsInRange, Line, Turn, after_commits, commit_
 use Rattle.engine.specs.Image.{Stands}
 use Rattle.shell_text.specs.Texts.{open_text, reply_text}
 use Rattle.front_end.specs.Lines.{HeardAll, commands_of}
-use Rattle.face.specs.Range.{IsLeft, IsToldOf, first_texts, run_of, run_text, texts}
+use Rattle.face.specs.RunMeaning.{IsLeft, IsToldOf, first_texts, run_of, run_text, texts}
 use Rattle.face.specs.Run.{IsFront, Run, turns_of}
 use Rattle.face.proofs.Fronts.{first_commands}
 use Rattle.face.proofs.Ranges.{IsFault, IsPart, Plain, begins_not, counts, not_in_fault, plain_replies, plain_texts}

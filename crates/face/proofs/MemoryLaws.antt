@@ -19,7 +19,7 @@ use Rattle.face.proofs.Pagings.{none_read}
 use Rattle.redo_laws.specs.MachineSteps.{NumbersRise}
 use Rattle.front_end.specs.New.{New, NewCauses}
 use Rattle.front_end.specs.Refusals.{LacksMemory, memory_fault}
-use Rattle.face.specs.Range.{AsksNoMore, run_of}
+use Rattle.face.specs.RunMeaning.{AsksNoMore, run_of}
 use Rattle.command_line.specs.declared.request.Load.{Load}
 use Rattle.face.specs.Loads.{LoadHeadline, LoadWorks}
 use Rattle.face.specs.Workload.{load_run, summary_text}

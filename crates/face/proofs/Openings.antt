@@ -2,14 +2,14 @@
 use Rattle.std.proofs.Common.{refl, sym, ◌∙◌, ap}
 use Rattle.std.specs.Prelude.{count_by, is_some}
 use Rattle.log_records.specs.Log.{table_of}
-use Rattle.image_form.specs.Verdict.{picture_of}
+use Rattle.image_form.specs.Verdict.{logical_image_of}
 use Rattle.image_check.specs.Laws.{SoundStands, StandingIsSound}
 use Rattle.face.specs.Openings.{OpeningIsSound, SoundOpens}
 use Rattle.face.proofs.Meanings.{opens_where_it_stands, stands_by}
 
 pub sound_opens : SoundStands → SoundOpens
 sound_opens stands image records commits sound =
-    let table = table_of (picture_of sound.reading image).log (picture_of sound.reading image).pages in
+    let table = table_of (logical_image_of sound.reading image).log (logical_image_of sound.reading image).pages in
     let opens = opens_where_it_stands sound.reading.g image table commits (stands sound.reading image table commits sound.reads sound.rules (record { table_is = refl; count_is = sound.count })) in
     record { g = sound.reading.g; opening = opens.0; opens = opens.1; values = sound.values ∙ ap (count_by is_some) (sym opens.2); count = sym opens.3 }
 

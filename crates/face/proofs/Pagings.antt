@@ -15,10 +15,10 @@ use Rattle.record_model.specs.Step.{Outcome, refusal, outcome, ready, effect, an
 use Rattle.record_model.specs.declared.words.CacheLine.{CacheLine}
 use Rattle.record_model.specs.declared.words.Reply.{Reply}
 use Rattle.record_model.specs.declared.words.Command.{Command}
-use Rattle.record_model.specs.Touches.{CacheWork, line_touches, run_touches}
+use Rattle.record_model.specs.Touches.{CacheOp, line_touches, run_touches}
 use Rattle.log_records.specs.declared.log_record.LogRecord.{LogRecord}
 use Rattle.checkpoint.specs.declared.master.Master.{Master}
-use Rattle.image_meaning.specs.Meaning.{picture_under}
+use Rattle.image_meaning.specs.Meaning.{logical_image_under}
 use Rattle.second_chance.specs.Machine.{Rules, Cache, rules_of, after_works, opened}
 use Rattle.page_store.specs.declared.store.PageStore.{PageStore}
 use Rattle.page_store.specs.Caching.{cache_of, rules}
@@ -30,7 +30,7 @@ use Rattle.page_store.proofs.StagingLaws.{stages_none}
 use Rattle.engine.proofs.Asking.{still_writes}
 use Rattle.front_end.specs.Lines.{HearsOnly}
 use Rattle.face.proofs.Writings.{last_heard, last_told, last_works, writes_told, writes_heard, writes_then}
-use Rattle.redo_laws.specs.MachineSteps.{StepsMachine, NumbersRise, ReadsAddUp, ReadsFor, WorksAddUp}
+use Rattle.redo_laws.specs.MachineSteps.{StepsMachine, NumbersRise, ReadsAddUp, ReadsFor, OpsCompose}
 use Rattle.engine.specs.declared.engine.Engine.{Engine}
 use Rattle.engine.specs.Representation.{Matches}
 use Rattle.engine.specs.Invariant.{sizes_of}
@@ -43,9 +43,9 @@ use Rattle.face.proofs.Fronts.{first_commands, state_by_turns, whole_turns}
 use Rattle.face.proofs.Runs.{turn_at, turns_next}
 use Rattle.face.proofs.Turns.{first_answered}
 use Rattle.site.specs.declared.geometry.Geometry.{Geometry}
-use Rattle.face.specs.Going.{IsPaged, LineStepsMachine}
+use Rattle.face.specs.RunInProgress.{IsPaged, LineStepsMachine}
 use Rattle.flash_cache.specs.OnDisk.{HasLastStaged}
-use Rattle.face.specs.Range.{cache_by, staged_by_run, LeavesItsQueue, LeavesStaged, LeavesVersions, log_reads_in}
+use Rattle.face.specs.RunMeaning.{cache_by, staged_by_run, LeavesItsQueue, LeavesStaged, LeavesVersions, log_reads_in}
 use Rattle.face.specs.Run.{Run, answered, first_lines, step, after_lines, state_at, works_of, AsksFew, turns_of, line_log_reads, log_reads_of}
 use Rattle.face.specs.Working.{asked_after, log_reads_after}
 
@@ -84,7 +84,7 @@ same_after s lines listings other = sym (plain_is s lines listings) ∙ plain_is
 touches_join : (first later : List Turn) → run_touches (first ++ later) ≡ run_touches first ++ run_touches later
 touches_join [] later = refl
 touches_join (t ∷ first) later =
-    ap (λ (w : List CacheWork). line_touches t.before t.line ++ w) (touches_join first later) ∙ sym (append_assoc (line_touches t.before t.line) (run_touches first) (run_touches later))
+    ap (λ (w : List CacheOp). line_touches t.before t.line ++ w) (touches_join first later) ∙ sym (append_assoc (line_touches t.before t.line) (run_touches first) (run_touches later))
 
 -- the turns of a run ask for what its lines do
 pub turns_ask : (s : State) (lines : List Line) (listings : List (List CacheLine)) → run_touches (turns s lines listings) ≡ works_of s (up_to_quit lines)
@@ -95,15 +95,15 @@ turns_ask s (line ∷ lines) listings =
     by : (b : Bool) → run_touches (turns (step s line (next_listing listings)).after lines (later_listings line listings)) ≡ works_of (step s line []).after (up_to_quit lines) →
         line_touches s line ++ run_touches (if b then [] else turns (step s line (next_listing listings)).after lines (later_listings line listings)) ≡ line_touches s line ++ works_of (step s line []).after (if b then [] else up_to_quit lines)
     by true later = refl
-    by false later = ap (λ (w : List CacheWork). line_touches s line ++ w) later
+    by false later = ap (λ (w : List CacheOp). line_touches s line ++ w) later
 
 -- and its first turns for what its first lines do
 pub first_ask : (n : ℕ) (s : State) (lines : List Line) (listings : List (List CacheLine)) → run_touches (turns s (take n lines) listings) ≡ works_of s (take n (up_to_quit lines))
 first_ask n s lines listings = turns_ask s (take n lines) listings ∙ ap (works_of s) (first_answered n lines)
 
 -- by lines
-pub asked_is : (run : Run) (newest : Option Master) (image : Image) (blocks : List (List LogRecord)) (n : ℕ) → asked_after run newest image blocks n ≡ restart_works (picture_under newest run.geometry image blocks) ++ works_of run.opening (take n (answered run))
-asked_is run newest image blocks n = ap (λ (w : List CacheWork). restart_works (picture_under newest run.geometry image blocks) ++ w) (first_ask n run.opening run.lines run.listings)
+pub asked_is : (run : Run) (newest : Option Master) (image : Image) (blocks : List (List LogRecord)) (n : ℕ) → asked_after run newest image blocks n ≡ restart_works (logical_image_under newest run.geometry image blocks) ++ works_of run.opening (take n (answered run))
+asked_is run newest image blocks n = ap (λ (w : List CacheOp). restart_works (logical_image_under newest run.geometry image blocks) ++ w) (first_ask n run.opening run.lines run.listings)
 
 -- whatever the cache lists
 pub asked_with : (run : Run) (listings : List (List CacheLine)) (newest : Option Master) (image : Image) (blocks : List (List LogRecord)) (n : ℕ) → asked_after (record run { listings = listings }) newest image blocks n ≡ asked_after run newest image blocks n
@@ -113,11 +113,11 @@ asked_with run listings newest image blocks n = asked_is (record run { listings 
 pub asked_next : (run : Run) (newest : Option Master) (image : Image) (blocks : List (List LogRecord)) (i : ℕ) (line : Line) (rest : List Line) → drop i (answered run) ≡ line ∷ rest →
     asked_after run newest image blocks (suc i) ≡ asked_after run newest image blocks i ++ line_touches (state_at run i) line
 asked_next run newest image blocks i line rest is =
-    let restart = restart_works (picture_under newest run.geometry image blocks) in
+    let restart = restart_works (logical_image_under newest run.geometry image blocks) in
     let first = turns_of (first_lines run i) in
     let own = line_touches (state_at run i) line in
     ap (λ (l : List Turn). restart ++ run_touches l) (turns_next run i line rest is)
-    ∙ ap (λ (w : List CacheWork). restart ++ w) (touches_join first (turn_at run i line rest is ∷ []) ∙ ap (λ (w : List CacheWork). run_touches first ++ w) (append-nil own))
+    ∙ ap (λ (w : List CacheOp). restart ++ w) (touches_join first (turn_at run i line rest is ∷ []) ∙ ap (λ (w : List CacheOp). run_touches first ++ w) (append-nil own))
     ∙ sym (append_assoc restart (run_touches first) own)
 
 -- How often the log is read.
@@ -161,7 +161,7 @@ log_reads_next run newest blocks i line rest is =
 -- Reads.
 
 -- where nothing is read
-pub reads_still : (r : Rules) (works : List CacheWork) (cache : Cache) (before mid now : Site) → SameReads mid now → ReadsFor r works cache before mid → ReadsFor r works cache before now
+pub reads_still : (r : Rules) (works : List CacheOp) (cache : Cache) (before mid now : Site) → SameReads mid now → ReadsFor r works cache before mid → ReadsFor r works cache before now
 reads_still r works cache before mid now same few =
     let flash : now.flash_reads ≡ mid.flash_reads = same Flash in
     let disk : now.disk_reads ≡ mid.disk_reads = same Disk in
@@ -171,7 +171,7 @@ reads_still r works cache before mid now same few =
     }
 
 -- where something is told
-pub few_told : (pool : ℕ) (g : Geometry) (works : List CacheWork) (n : ℕ) (piece : List ℕ) (old mid now : Site) → SameReads mid now → EachMoment mid now (TellsPart piece mid) → AsksFew pool g works n old mid → AsksFew pool g works n old now
+pub few_told : (pool : ℕ) (g : Geometry) (works : List CacheOp) (n : ℕ) (piece : List ℕ) (old mid now : Site) → SameReads mid now → EachMoment mid now (TellsPart piece mid) → AsksFew pool g works n old mid → AsksFew pool g works n old now
 few_told pool g works n piece old mid now same tells few = record {
   log_reads = let read = few.log_reads in let none : now.log_reads ≡ mid.log_reads = same Log in omega (arith, read, none);
   reads = reads_still (rules_of pool g.groups) works (cache_on g old.image) (record old { flash_reads = old.flash_reads + start_reads g }) mid now same few.reads;
@@ -179,20 +179,20 @@ few_told pool g works n piece old mid now same tells few = record {
 }
 
 -- or heard
-pub few_heard : (pool : ℕ) (g : Geometry) (works : List CacheWork) (n : ℕ) (old mid now : Site) → HearsOnly mid now → AsksFew pool g works n old mid → AsksFew pool g works n old now
+pub few_heard : (pool : ℕ) (g : Geometry) (works : List CacheOp) (n : ℕ) (old mid now : Site) → HearsOnly mid now → AsksFew pool g works n old mid → AsksFew pool g works n old now
 few_heard pool g works n old mid now same few = record {
   log_reads = let read = few.log_reads in let none : now.log_reads ≡ mid.log_reads = same.reads Log in omega (arith, read, none);
   reads = reads_still (rules_of pool g.groups) works (cache_on g old.image) (record old { flash_reads = old.flash_reads + start_reads g }) mid now same.reads few.reads;
   writes = writes_heard g (rules_of pool g.groups) works (cache_on g old.image) old mid now few.writes same;
 }
 
-none_read_there : (r : Rules) (works : List CacheWork) (cache : Cache) (extra : ℕ) (site : Site) → NumbersRise → 1 ≤ r.groups → ReadsFor r works cache (record site { flash_reads = site.flash_reads + extra }) site
+none_read_there : (r : Rules) (works : List CacheOp) (cache : Cache) (extra : ℕ) (site : Site) → NumbersRise → 1 ≤ r.groups → ReadsFor r works cache (record site { flash_reads = site.flash_reads + extra }) site
 none_read_there r works cache extra site rise some = record {
   flash = let more = rise r works cache some in omega (arith, more);
   disk = omega arith;
 }
 
-pub none_read : (pool : ℕ) (g : Geometry) (works : List CacheWork) (n : ℕ) (site : Site) → NumbersRise → 1 ≤ g.groups - 1 → IsQuiet site → AsksFew pool g works n site site
+pub none_read : (pool : ℕ) (g : Geometry) (works : List CacheOp) (n : ℕ) (site : Site) → NumbersRise → 1 ≤ g.groups - 1 → IsQuiet site → AsksFew pool g works n site site
 none_read pool g works n site rise some quiet = record {
   log_reads = omega arith;
   reads = none_read_there (rules_of pool g.groups) works (cache_on g site.image) (start_reads g) site rise some;
@@ -206,28 +206,28 @@ module _ (pool : ℕ) (run : Run) (newest : Option Master) (image : Image) (bloc
   r = rules_of pool run.geometry.groups
 
   -- the restart
-  pub first_paged : (engine : Engine) (scanned : ℕ) (old new : Site) → AsksFrom {T = Engine} (Ok engine) (λ e. e.store.pages) r (restart_works (picture_under newest run.geometry image blocks)) (cache_on run.geometry image) scanned old new →
+  pub first_paged : (engine : Engine) (scanned : ℕ) (old new : Site) → AsksFrom {T = Engine} (Ok engine) (λ e. e.store.pages) r (restart_works (logical_image_under newest run.geometry image blocks)) (cache_on run.geometry image) scanned old new →
       IsPaged pool run newest image blocks engine 0
   first_paged engine scanned old new asks = record {
-    machine = asks.machine.0 ∙ ap (λ (w : List CacheWork). after_works r w (cache_on run.geometry image)) (sym (append-nil (restart_works (picture_under newest run.geometry image blocks))));
+    machine = asks.machine.0 ∙ ap (λ (w : List CacheOp). after_works r w (cache_on run.geometry image)) (sym (append-nil (restart_works (logical_image_under newest run.geometry image blocks))));
     rules_are = asks.machine.1;
   }
 
-  pub first_reads : {T : Type 0} (result : Result T Stop) (pages : T → PageStore) (old mid new : Site) → SameReads mid new → WritesFrom run.geometry r (restart_works (picture_under newest run.geometry image blocks)) (cache_on run.geometry old.image) old new → AsksFrom result pages r (restart_works (picture_under newest run.geometry image blocks)) (cache_on run.geometry old.image) (start_reads run.geometry) old mid →
+  pub first_reads : {T : Type 0} (result : Result T Stop) (pages : T → PageStore) (old mid new : Site) → SameReads mid new → WritesFrom run.geometry r (restart_works (logical_image_under newest run.geometry image blocks)) (cache_on run.geometry old.image) old new → AsksFrom result pages r (restart_works (logical_image_under newest run.geometry image blocks)) (cache_on run.geometry old.image) (start_reads run.geometry) old mid →
       mid.log_reads ≤ old.log_reads + restart_log_reads run.geometry newest blocks → AsksFew pool run.geometry (asked_after run newest image blocks 0) (log_reads_after run newest blocks 0) old new
   first_reads result pages old mid new same writes asks read =
-      let restart = restart_works (picture_under newest run.geometry image blocks) in
+      let restart = restart_works (logical_image_under newest run.geometry image blocks) in
       let none : new.log_reads ≡ mid.log_reads = same Log in
-      subst (λ (w : List CacheWork). AsksFew pool run.geometry w (log_reads_after run newest blocks 0) old new) (sym (append-nil restart))
+      subst (λ (w : List CacheOp). AsksFew pool run.geometry w (log_reads_after run newest blocks 0) old new) (sym (append-nil restart))
       (record { log_reads = omega (arith, read, none); reads = reads_still r restart (cache_on run.geometry old.image) (record old { flash_reads = old.flash_reads + start_reads run.geometry }) mid new same (record { flash = asks.flash; disk = asks.disk }); writes = writes })
 
-  module _ (add : WorksAddUp) (i : ℕ) (line : Line) (rest : List Line) (is : drop i (answered run) ≡ line ∷ rest) (engine : Engine) (paged : IsPaged pool run newest image blocks engine i) where
+  module _ (add : OpsCompose) (i : ℕ) (line : Line) (rest : List Line) (is : drop i (answered run) ≡ line ∷ rest) (engine : Engine) (paged : IsPaged pool run newest image blocks engine i) where
     -- what the pages come to by the line's work
     pub next_is : after_works (rules engine.store.pages) (line_touches (state_at run i) line) (cache_of engine.store.pages) ≡ after_works r (asked_after run newest image blocks (suc i)) (cache_on run.geometry image)
     next_is =
         (λ j. after_works (paged.rules_are j) (line_touches (state_at run i) line) (paged.machine j))
         ∙ sym (add r (asked_after run newest image blocks i) (line_touches (state_at run i) line) (cache_on run.geometry image))
-        ∙ ap (λ (w : List CacheWork). after_works r w (cache_on run.geometry image)) (sym (asked_next run newest image blocks i line rest is))
+        ∙ ap (λ (w : List CacheOp). after_works r w (cache_on run.geometry image)) (sym (asked_next run newest image blocks i line rest is))
 
     -- it is answered
     pub next_paged : {T : Type 0} (x : T) (engine' : Engine) (before now : Site) → LineStepsMachine {T = T} (Ok x) (line_touches (state_at run i) line) (line_log_reads (state_at run i) line) engine.store.pages engine'.store.pages before now → IsPaged pool run newest image blocks engine' (suc i)
@@ -244,7 +244,7 @@ module _ (pool : ℕ) (run : Run) (newest : Option Master) (image : Image) (bloc
         paged.machine ∙ ap (λ (x : Image). after_works r (asked_after run newest image blocks i) (cache_on run.geometry x)) (sym at) in
         let own : ReadsFor r (line_touches (state_at run i) line) (after_works r (asked_after run newest image blocks i) (cache_on run.geometry entry.image)) next new =
         subst (λ (c : Cache). ReadsFor r (line_touches (state_at run i) line) c next new) there (subst (λ (x : Rules). ReadsFor x (line_touches (state_at run i) line) (cache_of engine.store.pages) next new) paged.rules_are later) in
-        subst (λ (w : List CacheWork). AsksFew pool run.geometry w (log_reads_after run newest blocks (suc i)) entry new) (sym (asked_next run newest image blocks i line rest is))
+        subst (λ (w : List CacheOp). AsksFew pool run.geometry w (log_reads_after run newest blocks (suc i)) entry new) (sym (asked_next run newest image blocks i line rest is))
         (record {
           log_reads = let few = so_far.log_reads in let none : next.log_reads ≡ mid.log_reads = same.reads Log in let more = log_reads_next run newest blocks i line rest is in omega (arith, few, none, read, more);
           reads = reads_add r (asked_after run newest image blocks i) (line_touches (state_at run i) line) (cache_on run.geometry entry.image) before next new first own;
@@ -265,7 +265,7 @@ module _ (pool : ℕ) (run : Run) (newest : Option Master) (image : Image) (bloc
         let first = asked_after run newest image blocks i in
         let there : cache_of engine.store.pages ≡ after_works r first start =
         paged.machine ∙ ap (λ (x : Image). after_works r first (cache_on run.geometry x)) (sym at) in
-        subst (λ (w : List CacheWork). HasLastFrom run.geometry r w start entry new) (sym (asked_next run newest image blocks i line rest is))
+        subst (λ (w : List CacheOp). HasLastFrom run.geometry r w start entry new) (sym (asked_next run newest image blocks i line rest is))
         (last_works run.geometry r first line_works start entry next new
         (writes_heard run.geometry r first start entry mid next so_far.writes same)
         (subst (λ (c : Cache). WritesFrom run.geometry r line_works c next new) there
@@ -294,8 +294,8 @@ module _ (pool : ℕ) (run : Run) (newest : Option Master) (image : Image) (bloc
 pub idle_asks : {T : Type 0} (x : T) (pages : PageStore) (now : Site) → StepsMachine {T = T} (Ok x) [] pages pages now now
 idle_asks {T} x pages now = record { machine = refl; reads = record { flash = omega arith; disk = omega arith }; rules_are = refl; stages = stages_none refl (omega arith) refl }
 
-pub idle_line : {T : Type 0} (x : T) (works : List CacheWork) (pages : PageStore) (now : Site) → works ≡ [] → StepsMachine {T = T} (Ok x) works pages pages now now
-idle_line {T} x works pages now none = subst (λ (w : List CacheWork). StepsMachine {T = T} (Ok x) w pages pages now now) (sym none) (idle_asks x pages now)
+pub idle_line : {T : Type 0} (x : T) (works : List CacheOp) (pages : PageStore) (now : Site) → works ≡ [] → StepsMachine {T = T} (Ok x) works pages pages now now
+idle_line {T} x works pages now none = subst (λ (w : List CacheOp). StepsMachine {T = T} (Ok x) w pages pages now now) (sym none) (idle_asks x pages now)
 
 pub idle_stops : {T : Type 0} (stop : Stop) (pages : PageStore) (now : Site) → stop ≡ Memory → StepsMachine {T = T} (Err stop) [] pages pages now now
 idle_stops {T} stop pages now memory = record { machine = tt; reads = record { flash = omega arith; disk = omega arith }; rules_are = refl; stages = stages_none tt (omega arith) refl }
@@ -305,13 +305,13 @@ listing_asks (Ok x) pages now stops = idle_asks x pages now
 listing_asks (Err stop) pages now stops = idle_stops stop pages now stops
 
 -- a call of the engine, as a line is served
-pub serves_ok : {A B : Type 0} (a : A) (b : B) (works : List CacheWork) (n : ℕ) (old new : PageStore) (before mid now : Site) → SameReads mid now → mid.log_reads ≤ before.log_reads + n → {piece : List ℕ} → (IsTrue before.honest → EachMoment mid now (TellsPart piece mid)) → StepsMachine {T = A} (Ok a) works old new before mid → LineStepsMachine {T = B} (Ok b) works n old new before now
+pub serves_ok : {A B : Type 0} (a : A) (b : B) (works : List CacheOp) (n : ℕ) (old new : PageStore) (before mid now : Site) → SameReads mid now → mid.log_reads ≤ before.log_reads + n → {piece : List ℕ} → (IsTrue before.honest → EachMoment mid now (TellsPart piece mid)) → StepsMachine {T = A} (Ok a) works old new before mid → LineStepsMachine {T = B} (Ok b) works n old new before now
 serves_ok {A} {B} a b works n old new before mid now same read {piece} tells asks = record { log_reads = let none : now.log_reads ≡ mid.log_reads = same Log in omega (arith, read, none); machine = asks.machine; reads = reads_still (rules old) works (cache_of old) before mid now same asks.reads; rules_are = asks.rules_are; writes = λ has quiet. writes_told old.flash.geometry (rules old) works (cache_of old) piece before mid now (asks.stages.writes has quiet) (tells has.fits.honest); last = λ has quiet. last_told old.flash.geometry (rules old) works (cache_of old) piece before mid now (asks.stages.writes has quiet).grown (tells has.fits.honest) (asks.stages.last has quiet); geometry = asks.stages.sizes }
 
-pub serves_err : {A B : Type 0} (stop : Stop) (works : List CacheWork) (n : ℕ) (old new : PageStore) (before now : Site) → now.log_reads ≤ before.log_reads + n → StepsMachine {T = A} (Err stop) works old new before now → LineStepsMachine {T = B} (Err (halt.Stop stop)) works n old new before now
+pub serves_err : {A B : Type 0} (stop : Stop) (works : List CacheOp) (n : ℕ) (old new : PageStore) (before now : Site) → now.log_reads ≤ before.log_reads + n → StepsMachine {T = A} (Err stop) works old new before now → LineStepsMachine {T = B} (Err (halt.Stop stop)) works n old new before now
 serves_err {A} {B} stop works n old new before now read asks = record { log_reads = read; machine = tt; reads = asks.reads; rules_are = asks.rules_are; writes = asks.stages.writes; last = λ has quiet. tt; geometry = asks.stages.sizes }
 
-pub serves_lost : {A B : Type 0} (a : A) (works : List CacheWork) (n : ℕ) (old new : PageStore) (before mid now : Site) → SameReads mid now → mid.log_reads ≤ before.log_reads + n → {piece : List ℕ} → (IsTrue before.honest → EachMoment mid now (TellsPart piece mid)) → StepsMachine {T = A} (Ok a) works old new before mid → LineStepsMachine {T = B} (Err halt.Output) works n old new before now
+pub serves_lost : {A B : Type 0} (a : A) (works : List CacheOp) (n : ℕ) (old new : PageStore) (before mid now : Site) → SameReads mid now → mid.log_reads ≤ before.log_reads + n → {piece : List ℕ} → (IsTrue before.honest → EachMoment mid now (TellsPart piece mid)) → StepsMachine {T = A} (Ok a) works old new before mid → LineStepsMachine {T = B} (Err halt.Output) works n old new before now
 serves_lost {A} {B} a works n old new before mid now same read {piece} tells asks = record { log_reads = let none : now.log_reads ≡ mid.log_reads = same Log in omega (arith, read, none); machine = tt; reads = reads_still (rules old) works (cache_of old) before mid now same asks.reads; rules_are = asks.rules_are; writes = λ has quiet. writes_told old.flash.geometry (rules old) works (cache_of old) piece before mid now (asks.stages.writes has quiet) (tells has.fits.honest); last = λ has quiet. tt; geometry = asks.stages.sizes }
 
 -- Whole runs.

@@ -24,7 +24,7 @@ use Rattle.engine.specs.Image.{Stands}
 use Rattle.shell_text.specs.Texts.{open_text, reply_text}
 use Rattle.front_end.specs.Texts.{fault_line}
 use Rattle.face.specs.Run.{Run, answered, step, after_lines, state_at, StandsAt, IsFront, turns_of}
-use Rattle.face.specs.Range.{texts, text_at, first_texts, run_text, all_commits, StandsAfter, IsToldOf, IsLeft}
+use Rattle.face.specs.RunMeaning.{texts, text_at, first_texts, run_text, all_commits, StandsAfter, IsToldOf, IsLeft}
 use Rattle.face.specs.Working.{StandsNear}
 use Rattle.face.proofs.Turns.{states_are, turns_count}
 use Rattle.face.proofs.Runs.{texts_count}

@@ -9,21 +9,21 @@ use Rattle.record_model.specs.Touches.{page_of, touch, write_touch}
 use Rattle.log_records.specs.declared.log_record.LogRecord.{LogRecord}
 use Rattle.log_records.specs.Log.{Entry, log_from, number_of, version_at}
 use Rattle.log_records.specs.Restart.{redo_touch, undo_touch}
-use Rattle.log_records.specs.Sound.{Picture, from_block}
+use Rattle.log_records.specs.Sound.{LogicalImage, from_block}
 use Rattle.log_records.specs.Sound as lists
 use Rattle.log_records.specs.Spelling.{AreBlock}
 use Rattle.log_records.specs.Unfinished.{pending}
 use Rattle.log_records.proofs.ChangeCounts.{changes_few, changes_filter, changes_in}
 use Rattle.log_laws.proofs.PendingCounts.{pending_few}
 use Rattle.checkpoint.specs.declared.master.Master.{Master}
-use Rattle.image_meaning.specs.Meaning.{kept_by, picture_under}
+use Rattle.image_meaning.specs.Meaning.{kept_by, logical_image_under}
 use Rattle.second_chance.specs.Groups.{groups_for_all}
 use Rattle.second_chance.proofs.GroupCounts.{groups_add_up}
 use Rattle.redo_laws.specs.MachineSteps.{checkpoint_works}
 use Rattle.engine.specs.Image.{IsSound}
 use Rattle.engine.specs.Paging.{restart_works}
 
-redo_few : (p : Picture) (log : List Entry) → groups_for_all (filter_map (redo_touch p) log) ≤ 2 * changes_in log
+redo_few : (p : LogicalImage) (log : List Entry) → groups_for_all (filter_map (redo_touch p) log) ≤ 2 * changes_in log
 redo_few p [] = omega arith
 redo_few p (e ∷ log) = by (number_of e.rec) (redo_few p log)
   where
@@ -46,7 +46,7 @@ undo_few (e ∷ log) =
     by None rest = omega (arith, rest)
     by (Some number) rest = omega (arith, rest)
 
-works_few : (p : Picture) (first : ℕ) (blocks : List (List LogRecord)) → p.log ≡ log_from first blocks → lists.IsSound p → AllByRecursion AreBlock blocks → length blocks ≤ p.blocks - 1
+works_few : (p : LogicalImage) (first : ℕ) (blocks : List (List LogRecord)) → p.log ≡ log_from first blocks → lists.IsSound p → AllByRecursion AreBlock blocks → length blocks ≤ p.blocks - 1
     → groups_for_all ((filter_map (redo_touch p) (from_block p.master.redo p.log) ++ filter_map undo_touch (reverse (pending p.log))) ++ checkpoint_works) ≤ 42 * p.blocks
 works_few p first blocks same records are few =
     let log = p.log in
@@ -63,5 +63,5 @@ works_few p first blocks same records are few =
     omega (arith, redo, from_redo, changes, few, undo, turned, left, room, join, join', counted)
 
 pub restart_few : (g : Geometry) (newest : Option Master) (image : Image) (blocks : List (List LogRecord)) → IsSound newest g image blocks
-    → groups_for_all (restart_works (picture_under newest g image blocks)) ≤ 42 * g.blocks
-restart_few g newest image blocks sound = works_few (picture_under newest g image blocks) (kept_by newest) blocks refl sound.records sound.held.are_blocks sound.held.few
+    → groups_for_all (restart_works (logical_image_under newest g image blocks)) ≤ 42 * g.blocks
+restart_few g newest image blocks sound = works_few (logical_image_under newest g image blocks) (kept_by newest) blocks refl sound.records sound.held.are_blocks sound.held.few

@@ -5,26 +5,26 @@ use Rattle.sealed_ring.specs.Ring.{hi_of}
 use Rattle.image_changes.specs.Rings.{log_shape, master_shape}
 use Rattle.record_model.specs.State.{State}
 use Rattle.record_model.specs.Run.{Line}
-use Rattle.record_model.specs.Touches.{CacheWork, line_touches}
+use Rattle.record_model.specs.Touches.{CacheOp, line_touches}
 use Rattle.log_records.specs.declared.log_record.LogRecord.{LogRecord}
 use Rattle.log_records.specs.Unfinished.{owed}
 use Rattle.checkpoint.specs.declared.master.Master.{Master}
-use Rattle.image_meaning.specs.Meaning.{picture_under}
+use Rattle.image_meaning.specs.Meaning.{logical_image_under}
 use Rattle.second_chance.specs.Machine.{Rules, after_works, rules_of}
-use Rattle.ring_machine.specs.Machine.{Machine, Work, after_all}
+use Rattle.ring_machine.specs.Machine.{Machine, RingOp, after_all}
 use Rattle.ring_machine.specs.Commands.{line_work}
 use Rattle.ring_machine.specs.Counts.{records_in, saved_by, saves_in}
 use Rattle.ring_machine.specs.Restart.{restart_work}
 use Rattle.ring_machine.proofs.Agreeing.{commands_agree, restarts_agree}
 use Rattle.ring_machine.proofs.Counts.{commands_log_few, few_are_enough, records_join, saves_join}
 use Rattle.ring_machine.proofs.RestartCounts.{restarts_log_few}
-use Rattle.ring_machine.proofs.Works.{work_adds_up}
+use Rattle.ring_machine.proofs.Works.{ring_ops_compose}
 use Rattle.redo_laws.specs.MachineSteps.{next_group}
-use Rattle.redo_laws.proofs.Costs.{works_add_up}
+use Rattle.redo_laws.proofs.Costs.{ops_compose}
 use Rattle.engine.specs.Image.{IsSound, log_under}
 use Rattle.engine.specs.Paging.{cache_on, restart_works}
 use Rattle.engine.specs.RingWork.{machine_on}
-use Rattle.face.specs.Range.{cache_by, made_by}
+use Rattle.face.specs.RunMeaning.{cache_by, made_by}
 use Rattle.face.specs.Run.{Run, after_lines, answered, checkpoints_of, line_checkpoints, step, turns_of, works_of}
 use Rattle.face.specs.Workload.{checkpoints_in}
 use Rattle.face.specs.Worn.{rings_of, worn_by}
@@ -68,20 +68,20 @@ lines_agree r s [] m = refl
 lines_agree r s (line ∷ lines) m =
     let then = (step s line []).after in
     let own = line_work s line in
-    ap (λ (x : Machine). x.cache) (work_adds_up r own (rings_of then lines) m)
+    ap (λ (x : Machine). x.cache) (ring_ops_compose r own (rings_of then lines) m)
     ∙ lines_agree r then lines (after_all r own m)
     ∙ ap (after_works r (works_of then lines)) (line_agrees r s line m)
-    ∙ sym (works_add_up r (line_touches s line) (works_of then lines) m.cache)
+    ∙ sym (ops_compose r (line_touches s line) (works_of then lines) m.cache)
 
 -- A run.
 module _ (pool : ℕ) (run : Run) (newest : Option Master) (image : Image) (blocks : List (List LogRecord)) where
   abbrev r : Rules
   r = rules_of pool run.geometry.groups
 
-  abbrev restart : List Work
-  restart = restart_work (picture_under newest run.geometry image blocks)
+  abbrev restart : List RingOp
+  restart = restart_work (logical_image_under newest run.geometry image blocks)
 
-  abbrev own : List Work
+  abbrev own : List RingOp
   own = rings_of run.opening (answered run)
 
   abbrev start : Machine
@@ -89,17 +89,17 @@ module _ (pool : ℕ) (run : Run) (newest : Option Master) (image : Image) (bloc
 
   cache_is : (after_all r (restart ++ own) start).cache ≡ cache_by pool run (turns_of run) newest image blocks
   cache_is =
-      let asked = restart_works (picture_under newest run.geometry image blocks) in
-      ap (λ (x : Machine). x.cache) (work_adds_up r restart own start)
+      let asked = restart_works (logical_image_under newest run.geometry image blocks) in
+      ap (λ (x : Machine). x.cache) (ring_ops_compose r restart own start)
       ∙ lines_agree r run.opening (answered run) (after_all r restart start)
-      ∙ ap (after_works r (works_of run.opening (answered run))) (restarts_agree r (picture_under newest run.geometry image blocks) start)
-      ∙ sym (works_add_up r asked (works_of run.opening (answered run)) (cache_on run.geometry image))
-      ∙ ap (λ (w : List CacheWork). after_works r (asked ++ w) (cache_on run.geometry image)) (sym (turns_ask run.opening run.lines run.listings))
+      ∙ ap (after_works r (works_of run.opening (answered run))) (restarts_agree r (logical_image_under newest run.geometry image blocks) start)
+      ∙ sym (ops_compose r asked (works_of run.opening (answered run)) (cache_on run.geometry image))
+      ∙ ap (λ (w : List CacheOp). after_works r (asked ++ w) (cache_on run.geometry image)) (sym (turns_ask run.opening run.lines run.listings))
 
   pub never_by_counts : IsSound newest run.geometry image blocks → hi_of (log_shape run.geometry) image.log + owed (log_under newest blocks) + made_by run ≤ 2 ^ 40 → hi_of master_shape image.log + 1 + checkpoints_in (turns_of run) ≤ 2 ^ 40 → next_group (cache_by pool run (turns_of run) newest image blocks) ≤ 2 ^ 40 →
       worn_by pool run (turns_of run) newest image blocks ≡ None
   never_by_counts sound few less groups =
-      let restarted = restarts_log_few (picture_under newest run.geometry image blocks) sound.records in
+      let restarted = restarts_log_few (logical_image_under newest run.geometry image blocks) sound.records in
       let logged = records_join restart own in
       let saved = saves_join restart own in
       let lines = lines_log run.opening (answered run) in

@@ -20,7 +20,7 @@ use Rattle.record_model.specs.Touches.{run_touches}
 use Rattle.log_records.specs.declared.log_record.LogRecord.{LogRecord}
 use Rattle.checkpoint.specs.declared.master.Master.{Master}
 use Rattle.image_meaning.proofs.Blanks.{unused}
-use Rattle.image_meaning.specs.Meaning.{picture_under}
+use Rattle.image_meaning.specs.Meaning.{logical_image_under}
 use Rattle.second_chance.specs.Groups.{LinesPushFew, WorkPushesFew, reads_in}
 use Rattle.second_chance.specs.Machine.{rules_of}
 use Rattle.second_chance.specs.Queue.{frame_of as known_of}
@@ -31,7 +31,7 @@ use Rattle.redo_laws.specs.MachineSteps.{next_group}
 use Rattle.redo_laws.specs.Numbers.{HasNumbers}
 use Rattle.page_store.specs.Staging.{WritesOnly}
 use Rattle.face.specs.Headline.{IsGood}
-use Rattle.face.specs.Range.{AsksNoMore, GivesNumbers, SkipsNoNumber, cache_by, made_by, run_of, staged_by_run}
+use Rattle.face.specs.RunMeaning.{AsksNoMore, GivesNumbers, SkipsNoNumber, cache_by, made_by, run_of, staged_by_run}
 use Rattle.face.specs.RingNumbers.{Call, of_load, of_run, HasGiven, HaveLives, IsLifeOf, LivesHaveRoom, LoadsAreComplete, MayBeLeft, NumbersOfLives, RingsSuffice, RunsAreComplete, Work, begun_by, both, no_work, work_of}
 use Rattle.face.specs.Run.{Run, turns_of}
 use Rattle.face.specs.Workload.{load_run}
@@ -63,7 +63,7 @@ module _ (work_pushes : WorkPushesFew) (lines_push : LinesPushFew) where
   run_pushes : (pool : ℕ) (run : Run) → HasLimits run.geometry → (newest : Option Master) (image : Image) (blocks : List (List LogRecord)) → IsSound newest run.geometry image blocks
       → next_group (cache_by pool run (turns_of run) newest image blocks) ≤ hi_of (group_shape run.geometry) image.flash + (42 * run.geometry.blocks + reads_in (turns_of run) + 2 * made_by run)
   run_pushes pool run limits newest image blocks sound =
-      let restart = restart_works (picture_under newest run.geometry image blocks) in
+      let restart = restart_works (logical_image_under newest run.geometry image blocks) in
       let lines = run_touches (turns_of run) in
       let all = work_pushes (rules_of pool run.geometry.groups) (restart ++ lines) (cache_on run.geometry image) (omega (arith, limits.groups)) in
       let entry = number_at_entry run.geometry image in

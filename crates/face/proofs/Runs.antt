@@ -6,7 +6,7 @@ use Rattle.record_model.specs.declared.words.CacheLine.{CacheLine}
 use Rattle.record_model.specs.State.{State}
 use Rattle.record_model.specs.Run.{Line, Turn, turn, replies, next_listing, later_listings, listings_after}
 use Rattle.shell_text.specs.Texts.{reply_text}
-use Rattle.face.specs.Range.{first_texts, text_at, texts}
+use Rattle.face.specs.RunMeaning.{first_texts, text_at, texts}
 use Rattle.face.specs.Run.{Run, answered, step, after_lines, first_lines, state_at, listings_left, listing_at, turns_of}
 use Rattle.face.proofs.Fronts.{lines_first, text_first}
 use Rattle.face.proofs.Turns.{next_turn, turns_count}

@@ -19,10 +19,10 @@ use Rattle.front_end.specs.declared.halt.Halt.{Halt}
 use Rattle.front_end.specs.declared.halt.Halt.TheVariants.{Output}
 use Rattle.front_end.specs.Texts.{status_of}
 use Rattle.front_end.specs.Lines.{HearsOnly}
-use Rattle.face.specs.Range.{HasBegun, IsLeft, IsWhole, StandsAfter, first_texts, text_at}
+use Rattle.face.specs.RunMeaning.{HasBegun, IsLeft, IsWhole, StandsAfter, first_texts, text_at}
 use Rattle.face.specs.Run.{Run, answered, first_lines, step, state_at, listing_at, StandsFor, StandsAt, LeavesAnswer}
 use Rattle.face.specs.Working.{StandsNear, Stops}
-use Rattle.face.specs.Going.{Going}
+use Rattle.face.specs.RunInProgress.{RunInProgress}
 use Rattle.face.proofs.Logs.{still_fits, fits_stands}
 use Rattle.face.proofs.Fronts.{lines_first, told_first}
 use Rattle.face.proofs.Lefts.{answer_more, between, first_after, first_before, front_count, stands_first, within}
@@ -34,7 +34,7 @@ use Rattle.face.proofs.Turns.{turns_count}
 stands_now : (run : Run) (now : Site) (i : ℕ) → now.loose ≡ no_loose → StandsAt run i now.image → (s : Snapshot) → MayLeave (now_of now) s → StandsAt run i s.image
 stands_now run now i quiet stands s left = subst (λ (x : Image). StandsAt run i x) (sym (image_is (now_of now) s quiet left)) stands
 
-going_stands : (run : Run) (entry now : Site) (engine : Engine) (i : ℕ) → Going run entry now engine i → StandsAt run i now.image
+going_stands : (run : Run) (entry now : Site) (engine : Engine) (i : ℕ) → RunInProgress run entry now engine i → StandsAt run i now.image
 going_stands run entry now engine i going =
     subst (λ (g : Geometry). StandsFor g now.image (state_at run i)) going.geometry (fits_stands engine now (state_at run i) going.same going.fits)
 
@@ -79,7 +79,7 @@ module _ (run : Run) (entry mid : Site) (leaves : LeavesOnly entry mid (LeavesTa
     pub opening_lost : IsQuiet new → Stops run 0 entry new Output
     opening_lost quiet = record { any_moment = opening; between = λ ne. absurd (ne refl); quiet = λ ne. quiet }
 
-    pub opened : (engine : Engine) → Preserves mid new → SameDevices mid new → IsQuiet new → new.told ≡ mid.told ++ text → Matches engine mid run.opening → sizes_of engine.store ≡ run.geometry → engine.store.log.geometry ≡ sizes_of engine.store → Going run entry new engine 0
+    pub opened : (engine : Engine) → Preserves mid new → SameDevices mid new → IsQuiet new → new.told ≡ mid.told ++ text → Matches engine mid run.opening → sizes_of engine.store ≡ run.geometry → engine.store.log.geometry ≡ sizes_of engine.store → RunInProgress run entry new engine 0
     opened engine goes devices quiet told fits geometry same = record {
       fits = still_fits engine mid new run.opening fits goes devices.image;
       quiet = quiet;
@@ -92,7 +92,7 @@ module _ (run : Run) (entry mid : Site) (leaves : LeavesOnly entry mid (LeavesTa
 
 -- a line is heard
 
-pub moved : (run : Run) (entry mid new : Site) (engine : Engine) (i : ℕ) → Going run entry mid engine i → Preserves mid new → HearsOnly mid new → Going run entry new engine i
+pub moved : (run : Run) (entry mid new : Site) (engine : Engine) (i : ℕ) → RunInProgress run entry mid engine i → Preserves mid new → HearsOnly mid new → RunInProgress run entry new engine i
 moved run entry mid new engine i going goes hears = record {
   fits = still_fits engine mid new (state_at run i) going.fits goes hears.image;
   quiet = hears.loose ∙ going.quiet;
@@ -103,7 +103,7 @@ moved run entry mid new engine i going goes hears = record {
   moments = calm entry mid new (Leaves (IsLeft (first_lines run i) entry.told [])) going.moments hears.past (now_same mid new hears.told hears.image hears.loose);
 }
 
-module _ (run : Run) (entry mid : Site) (engine : Engine) (i : ℕ) (going : Going run entry mid engine i) where
+module _ (run : Run) (entry mid : Site) (engine : Engine) (i : ℕ) (going : RunInProgress run entry mid engine i) where
   -- it stops there
   pub stopped : (halt : Halt) → Stops run i entry mid halt
   stopped halt = record {
@@ -187,7 +187,7 @@ module _ (run : Run) (entry mid : Site) (engine : Engine) (i : ℕ) (going : Goi
           };
         }
 
-    pub goes_on : (engine' : Engine) → sizes_of engine'.store ≡ sizes_of engine.store → engine'.store.log.geometry ≡ sizes_of engine'.store → Matches engine' new (step (state_at run i) line (listing_at run i)).after → new.loose ≡ no_loose → new.told ≡ mid.told ++ reply_text (step (state_at run i) line (listing_at run i)).reply → Going run entry new engine' (suc i)
+    pub goes_on : (engine' : Engine) → sizes_of engine'.store ≡ sizes_of engine.store → engine'.store.log.geometry ≡ sizes_of engine'.store → Matches engine' new (step (state_at run i) line (listing_at run i)).after → new.loose ≡ no_loose → new.told ≡ mid.told ++ reply_text (step (state_at run i) line (listing_at run i)).reply → RunInProgress run entry new engine' (suc i)
     goes_on engine' geometry same fits quiet told = record {
       fits = subst (Matches engine' new) (sym (state_next run i line rest is)) fits;
       quiet = quiet;

@@ -7,7 +7,7 @@ use Rattle.record_model.specs.State.{State}
 use Rattle.record_model.specs.Run.{turns}
 use Rattle.record_model.specs.Serial.{Serial}
 use Rattle.front_end.specs.Lines.{commands_of}
-use Rattle.face.specs.Range.{run_of}
+use Rattle.face.specs.RunMeaning.{run_of}
 use Rattle.shell_text.specs.Runs.{texts}
 use Rattle.shell_text.specs.Serial.{IsToldSerial}
 use Rattle.shell_text.proofs.Serial.{serial_is_told}

@@ -367,7 +367,7 @@ lacked_trial {T} g old new result tells = record {
     output = λ e. absurd (not_memory_output e);
     few = λ e. absurd (not_memory_output e);
     limit = λ e. absurd (not_memory_limit e);
-  }) tells.goes (λ honest. (tells.devices honest).left);
+  }) tells.preserves (λ honest. (tells.devices honest).left);
   devices = λ honest. devices_told (fault_line (halt.Stop Memory)) old new (tells.any_moment honest);
   reads = tells.reads;
 }

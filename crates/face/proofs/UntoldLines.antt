@@ -11,7 +11,7 @@ use Rattle.site.specs.Moments.{Leaves, LeavesOnly}
 use Rattle.site.specs.Laws.{goes_in_sequence, goes_nowhere, holds_now, image_is, in_sequence, leaves_weaker, no_call, rose_since, stays_honest, told_is}
 use Rattle.record_model.specs.State.{State}
 use Rattle.record_model.specs.Run.{Line}
-use Rattle.record_model.specs.Touches.{CacheWork, line_touches}
+use Rattle.record_model.specs.Touches.{CacheOp, line_touches}
 use Rattle.second_chance.specs.Machine.{Cache, Rules, after_works}
 use Rattle.page_store.specs.declared.store.PageStore.{PageStore}
 use Rattle.page_store.specs.Caching.{cache_of, rules}
@@ -22,7 +22,7 @@ use Rattle.engine.specs.Paging.{HasLastFrom, WritesFrom}
 use Rattle.site.proofs.Working.{ok_as}
 use Rattle.page_store.proofs.StagingLaws.{last_none}
 use Rattle.face.proofs.Writings.{engine_queue, last_works, writes_then, writes_nothing}
-use Rattle.redo_laws.specs.MachineSteps.{ReadsAddUp, ReadsFor, WorksAddUp}
+use Rattle.redo_laws.specs.MachineSteps.{ReadsAddUp, ReadsFor, OpsCompose}
 use Rattle.engine.specs.declared.engine.Engine.{Engine}
 use Rattle.engine.specs.Representation.{Matches}
 use Rattle.engine.specs.Invariant.{Invariant, sizes_of}
@@ -31,7 +31,7 @@ use Rattle.engine.specs.Numbers.{CountsOn}
 use Rattle.front_end.specs.declared.halt.Halt.{Halt}
 use Rattle.front_end.specs.declared.halt.Halt.TheVariants as halt
 use Rattle.face.specs.Causes.{AnswerFailsBy}
-use Rattle.face.specs.Going.{LineStepsMachine}
+use Rattle.face.specs.RunInProgress.{LineStepsMachine}
 use Rattle.face.specs.Loads.{CarriesFirst, CarriesOut, LeavesSome}
 use Rattle.face.specs.Run.{StandsFor, after_lines, checkpoints_of, step, works_of, log_reads_of, line_log_reads}
 use Rattle.engine.specs.Numbers.{RestCountsNothing}
@@ -101,7 +101,7 @@ carries_none {T} x engine site rest going = record {
   going = going;
   cause = tt;
   next = λ honest is. is;
-  goes = goes_nowhere site;
+  preserves = goes_nowhere site;
   sizes = refl;
 }
 
@@ -120,7 +120,7 @@ carries_with {T} {U} x y lines a b old new one = record {
   going = one.going;
   cause = tt;
   next = one.next;
-  goes = one.goes;
+  preserves = one.preserves;
   sizes = one.sizes;
 }
 
@@ -133,7 +133,7 @@ log_reads_of_both s (line ∷ first) later =
     omega (arith, rest, same)
 
 -- some lines, and then some more
-module _ {T U : Type 0} (add : WorksAddUp) (reads_add : ReadsAddUp) (x : T) (result : Result U Halt) (first later : List Line) (a b c : Engine) (old mid new : Site) (one : CarriesOut (Ok x) first a b old mid) (two : CarriesOut result later b c mid new) where
+module _ {T U : Type 0} (add : OpsCompose) (reads_add : ReadsAddUp) (x : T) (result : Result U Halt) (first later : List Line) (a b c : Engine) (old mid new : Site) (one : CarriesOut (Ok x) first a b old mid) (two : CarriesOut result later b c mid new) where
   moments_join : (s : State) → Matches a old s → IsQuiet old → LeavesOnly old new (LeavesSome (sizes_of a.store) s (first ++ later) old.told)
   moments_join s fits quiet =
       let so_far = one.any_moment s fits quiet in
@@ -163,11 +163,11 @@ module _ {T U : Type 0} (add : WorksAddUp) (reads_add : ReadsAddUp) (x : T) (res
       let same : after_works (rules b.store.pages) (works_of (after_lines s first []) later) (cache_of b.store.pages) ≡ after_works (rules a.store.pages) (works_of s (first ++ later)) (cache_of a.store.pages) =
       (λ i. after_works (front.rules_are i) (works_of (after_lines s first []) later) (front.machine i))
       ∙ sym (add (rules a.store.pages) (works_of s first) (works_of (after_lines s first []) later) (cache_of a.store.pages))
-      ∙ ap (λ (w : List CacheWork). after_works (rules a.store.pages) w (cache_of a.store.pages)) (sym (works_join s first later)) in
+      ∙ ap (λ (w : List CacheOp). after_works (rules a.store.pages) w (cache_of a.store.pages)) (sym (works_join s first later)) in
       record {
         log_reads = (let one_read = front.log_reads in let two_read = back.log_reads in let all = log_reads_of_both s first later in omega (arith, one_read, two_read, all));
         machine = subst (λ (z : Cache). OnOk result (cache_of c.store.pages ≡ z)) same back.machine;
-        reads = subst (λ (w : List CacheWork). ReadsFor (rules a.store.pages) w (cache_of a.store.pages) old new) (sym (works_join s first later))
+        reads = subst (λ (w : List CacheOp). ReadsFor (rules a.store.pages) w (cache_of a.store.pages) old new) (sym (works_join s first later))
             (reads_add (rules a.store.pages) (works_of s first) (works_of (after_lines s first []) later) (cache_of a.store.pages) old mid new front.reads
             (subst (λ (z : Cache). ReadsFor (rules a.store.pages) (works_of (after_lines s first []) later) z mid new) front.machine
             (subst (λ (r : Rules). ReadsFor r (works_of (after_lines s first []) later) (cache_of b.store.pages) mid new) front.rules_are back.reads)));
@@ -179,7 +179,7 @@ module _ {T U : Type 0} (add : WorksAddUp) (reads_add : ReadsAddUp) (x : T) (res
             (subst (λ (r : Rules). WritesFrom a.store.pages.flash.geometry r (works_of (after_lines s first []) later) (cache_of b.store.pages) mid new) front.rules_are
             (subst (λ (g : Geometry). WritesFrom g (rules b.store.pages) (works_of (after_lines s first []) later) (cache_of b.store.pages) mid new) front.geometry
             (back.writes (engine_queue b mid (after_lines s first []) one.going mine) (one.stays_quiet fits.honest quiet)))) in
-            subst (λ (w : List CacheWork). WritesFrom a.store.pages.flash.geometry (rules a.store.pages) w (cache_of a.store.pages) old new) (sym (works_join s first later))
+            subst (λ (w : List CacheOp). WritesFrom a.store.pages.flash.geometry (rules a.store.pages) w (cache_of a.store.pages) old new) (sym (works_join s first later))
             (writes_then a.store.pages.flash.geometry (rules a.store.pages) (works_of s first) (works_of (after_lines s first []) later) (cache_of a.store.pages) old mid new has.room (front.writes has quiet) second);
         last = λ has quiet.
             let mine = one.fits s fits in
@@ -193,7 +193,7 @@ module _ {T U : Type 0} (add : WorksAddUp) (reads_add : ReadsAddUp) (x : T) (res
             (subst (λ (g : Geometry). OnOk result (HasLastFrom g (rules b.store.pages) (works_of (after_lines s first []) later) (cache_of b.store.pages) mid new)) front.geometry
             (back.last (engine_queue b mid (after_lines s first []) one.going mine) (one.stays_quiet fits.honest quiet)))) in
             ok_as result _ (HasLastFrom a.store.pages.flash.geometry (rules a.store.pages) (works_of s (first ++ later)) (cache_of a.store.pages) old new)
-            (λ more. subst (λ (w : List CacheWork). HasLastFrom a.store.pages.flash.geometry (rules a.store.pages) w (cache_of a.store.pages) old new) (sym (works_join s first later))
+            (λ more. subst (λ (w : List CacheOp). HasLastFrom a.store.pages.flash.geometry (rules a.store.pages) w (cache_of a.store.pages) old new) (sym (works_join s first later))
             (last_works a.store.pages.flash.geometry (rules a.store.pages) (works_of s first) (works_of (after_lines s first []) later) (cache_of a.store.pages) old mid new (front.writes has quiet) second (front.last has quiet) more)) own;
         geometry = back.geometry ∙ front.geometry;
       }
@@ -213,13 +213,13 @@ module _ {T U : Type 0} (add : WorksAddUp) (reads_add : ReadsAddUp) (x : T) (res
     serves = serves_join;
     numbers = numbers_join;
     performs = λ s fits. lines_then x result s first later a.store b.store c.store old mid new (one.serves s fits).rules_are (one.performs s fits) (two.performs (after_lines s first []) (one.fits s fits));
-    left = λ honest. two.left (stays_honest old mid one.goes honest) ∙ one.left honest;
-    stays_quiet = λ honest quiet. two.stays_quiet (stays_honest old mid one.goes honest) (one.stays_quiet honest quiet);
+    left = λ honest. two.left (stays_honest old mid one.preserves honest) ∙ one.left honest;
+    stays_quiet = λ honest quiet. two.stays_quiet (stays_honest old mid one.preserves honest) (one.stays_quiet honest quiet);
     quiet = λ s fits quiet. two.quiet (after_lines s first []) (one.fits s fits) (one.stays_quiet fits.honest quiet);
     going = two.going;
-    cause = if_err result (λ h. AnswerFailsBy h b mid new) (λ h. AnswerFailsBy h a old new) (λ h fails. fails_since h a b old mid new fails one.goes one.sizes (λ s fits. (after_lines s first [], one.fits s fits)) one.next) two.cause;
-    next = λ honest is. two.next (stays_honest old mid one.goes honest) (one.next honest is);
-    goes = goes_in_sequence old mid new one.goes two.goes;
+    cause = if_err result (λ h. AnswerFailsBy h b mid new) (λ h. AnswerFailsBy h a old new) (λ h fails. fails_since h a b old mid new fails one.preserves one.sizes (λ s fits. (after_lines s first [], one.fits s fits)) one.next) two.cause;
+    next = λ honest is. two.next (stays_honest old mid one.preserves honest) (one.next honest is);
+    preserves = goes_in_sequence old mid new one.preserves two.preserves;
     sizes = two.sizes ∙ one.sizes;
   }
 
@@ -238,7 +238,7 @@ carries_err {T} {U} h lines a b old new one = record {
   going = tt;
   cause = one.cause;
   next = λ honest is. tt;
-  goes = one.goes;
+  preserves = one.preserves;
   sizes = one.sizes;
 }
 
@@ -278,7 +278,7 @@ if_ok (Ok x) P Q f p = f p
 if_ok (Err h) P Q f p = tt
 
 -- behind lines that were carried out
-pub carries_on : {T U : Type 0} (add : WorksAddUp) (reads_add : ReadsAddUp) (x : T) (result : Result U Halt) (first later : List Line) (a b c : Engine) (old mid new : Site) → CarriesOut (Ok x) first a b old mid → CarriesFirst result later b c mid new → CarriesFirst result (first ++ later) a c old new
+pub carries_on : {T U : Type 0} (add : OpsCompose) (reads_add : ReadsAddUp) (x : T) (result : Result U Halt) (first later : List Line) (a b c : Engine) (old mid new : Site) → CarriesOut (Ok x) first a b old mid → CarriesFirst result later b c mid new → CarriesFirst result (first ++ later) a c old new
 carries_on add reads_add x result first later a b c old mid new one f =
     let long = length-append first later in
     record {
@@ -302,4 +302,4 @@ pub serves_line : {T : Type 0} (result : Result T Halt) (s : State) (line : Line
 serves_line result s line old new before now serves =
     let one : line_log_reads s line ≡ log_reads_of s (line ∷ []) = omega arith in
     subst (λ (n : ℕ). LineStepsMachine result (works_of s (line ∷ [])) n old new before now) one
-    (subst (λ (w : List CacheWork). LineStepsMachine result w (line_log_reads s line) old new before now) (sym (append-nil (line_touches s line))) serves)
+    (subst (λ (w : List CacheOp). LineStepsMachine result w (line_log_reads s line) old new before now) (sym (append-nil (line_touches s line))) serves)

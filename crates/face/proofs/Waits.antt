@@ -6,7 +6,7 @@ use Rattle.site.specs.State.{Input, State as Site}
 use Rattle.site.specs.declared.outside.Take.{Take}
 use Rattle.front_end.specs.declared.source.Source.{Source}
 use Rattle.front_end.specs.Lines.{answered_of, pending, to_hear, IsSource, TookWithin, TakesWithin}
-use Rattle.face.specs.Range.{first_texts}
+use Rattle.face.specs.RunMeaning.{first_texts}
 use Rattle.face.specs.Run.{Run}
 use Rattle.face.specs.Waiting.{IsAnswered}
 use Rattle.face.specs.Working.{AnswersFirst, IsEarly}

@@ -9,14 +9,14 @@ use Rattle.record_model.specs.State.{State}
 use Rattle.record_model.specs.Run.{Line}
 use Rattle.checkpoint.specs.declared.master.Master.{Master}
 use Rattle.log_records.specs.declared.log_record.LogRecord.{LogRecord}
-use Rattle.image_meaning.specs.Meaning.{picture_under}
+use Rattle.image_meaning.specs.Meaning.{logical_image_under}
 use Rattle.second_chance.specs.Machine.{rules_of}
-use Rattle.ring_machine.specs.Machine.{Work, first_worn}
+use Rattle.ring_machine.specs.Machine.{RingOp, first_worn}
 use Rattle.ring_machine.specs.Restart.{restart_work}
 use Rattle.ring_machine.proofs.Works.{first_stopped}
 use Rattle.engine.specs.Image.{IsSound}
 use Rattle.engine.specs.RingWork.{machine_on}
-use Rattle.face.specs.Range.{run_of}
+use Rattle.face.specs.RunMeaning.{run_of}
 use Rattle.face.specs.Run.{Run, after_lines, answered, first_lines, turns_of}
 use Rattle.face.specs.Worn.{WearsFirst, WearsNone, WearsNoneBefore, rings_of, worn_by}
 use Rattle.face.proofs.Fronts.{first_same}
@@ -24,16 +24,16 @@ use Rattle.face.proofs.Pagings.{taken_first}
 use Rattle.face.proofs.WornRuns.{none_prefix, rings_are, rings_join, turns_work}
 
 module _ (pool : ℕ) (g : Geometry) (opening : State) (newest : Option Master) (image : Image) (blocks : List (List LogRecord)) where
-  abbrev restart : List Work
-  restart = restart_work (picture_under newest g image blocks)
+  abbrev restart : List RingOp
+  restart = restart_work (logical_image_under newest g image blocks)
 
-  abbrev worn_after : List Work → Option Dev
+  abbrev worn_after : List RingOp → Option Dev
   worn_after works = first_worn (rules_of pool g.groups) (restart ++ works) (machine_on g image)
 
   both : (first later : List Line) → worn_after (rings_of opening (first ++ later)) ≡ first_worn (rules_of pool g.groups) ((restart ++ rings_of opening first) ++ rings_of (after_lines opening first []) later) (machine_on g image)
   both first later =
-      ap (λ (w : List Work). first_worn (rules_of pool g.groups) w (machine_on g image))
-      (ap (λ (w : List Work). restart ++ w) (rings_join opening first later) ∙ sym (append_assoc restart (rings_of opening first) (rings_of (after_lines opening first []) later)))
+      ap (λ (w : List RingOp). first_worn (rules_of pool g.groups) w (machine_on g image))
+      (ap (λ (w : List RingOp). restart ++ w) (rings_join opening first later) ∙ sym (append_assoc restart (rings_of opening first) (rings_of (after_lines opening first []) later)))
 
   pub front_worn : (first later : List Line) (dev : Dev) → worn_after (rings_of opening first) ≡ Some dev → worn_after (rings_of opening (first ++ later)) ≡ Some dev
   front_worn first later dev is = both first later ∙ first_stopped (rules_of pool g.groups) (restart ++ rings_of opening first) (rings_of (after_lines opening first []) later) (machine_on g image) dev is
@@ -44,7 +44,7 @@ module _ (pool : ℕ) (g : Geometry) (opening : State) (newest : Option Master) 
 
 -- by lines
 worn_first : (pool : ℕ) (run : Run) (newest : Option Master) (image : Image) (blocks : List (List LogRecord)) (n : ℕ) → worn_by pool run (turns_of (first_lines run n)) newest image blocks ≡ worn_after pool run.geometry run.opening newest image blocks (rings_of run.opening (take n (answered run)))
-worn_first pool run newest image blocks n = ap (λ (w : List Work). first_worn (rules_of pool run.geometry.groups) w (machine_on run.geometry image)) (rings_are run newest image blocks n)
+worn_first pool run newest image blocks n = ap (λ (w : List RingOp). first_worn (rules_of pool run.geometry.groups) w (machine_on run.geometry image)) (rings_are run newest image blocks n)
 
 pub worn_all : (pool : ℕ) (run : Run) (newest : Option Master) (image : Image) (blocks : List (List LogRecord)) → worn_by pool run (turns_of run) newest image blocks ≡ worn_after pool run.geometry run.opening newest image blocks (rings_of run.opening (answered run))
 worn_all pool run newest image blocks = ap (worn_after pool run.geometry run.opening newest image blocks) (turns_work run.opening run.lines run.listings)

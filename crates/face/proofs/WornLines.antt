@@ -10,12 +10,12 @@ use Rattle.site.proofs.Working.{ok_as}
 use Rattle.record_model.specs.State.{State}
 use Rattle.record_model.specs.Run.{Line}
 use Rattle.second_chance.specs.Machine.{Rules}
-use Rattle.ring_machine.specs.Machine.{Machine, Work, after_all, first_worn}
+use Rattle.ring_machine.specs.Machine.{Machine, RingOp, after_all, first_worn}
 use Rattle.ring_machine.specs.Commands.{line_work}
 use Rattle.ring_machine.proofs.Performing.{performs_as, performs_by, performs_nothing, performs_then}
 use Rattle.ring_machine.proofs.Works.{first_then}
 use Rattle.page_store.specs.Caching.{rules}
-use Rattle.redo_undo.specs.declared.store.Store.{Store}
+use Rattle.redo_undo.specs.declared.store.TransactionStore.{TransactionStore}
 use Rattle.redo_undo.specs.Mirroring.{MirrorsStore, PerformsStore}
 use Rattle.front_end.specs.declared.halt.Halt.{Halt}
 use Rattle.front_end.specs.declared.halt.Halt.TheVariants.{Stop}
@@ -24,7 +24,7 @@ use Rattle.face.specs.Worn.{LinePerforms, LinesPerform, rings_of}
 use Rattle.face.proofs.LinesBeforeQuit.{take_over}
 use Rattle.face.proofs.WornRuns.{none_prefix, rings_join}
 
-pub lines_none : {T : Type 0} (x : T) (s : State) (store : Store) (site : Site) → LinesPerform {T = T} (Ok x) s [] store store site site
+pub lines_none : {T : Type 0} (x : T) (s : State) (store : TransactionStore) (site : Site) → LinesPerform {T = T} (Ok x) s [] store store site site
 lines_none {T} x s store site = record {
   done = performs_nothing (λ m is. is) (λ dev says. absurd cc);
   worn = λ m is dev says. absurd cc;
@@ -32,29 +32,29 @@ lines_none {T} x s store site = record {
 }
 
 -- another answer
-pub lines_with : {T U : Type 0} (x : T) (y : U) {s : State} {lines : List Line} {a b : Store} {old new : Site} → LinesPerform {T = T} (Ok x) s lines a b old new → LinesPerform {T = U} (Ok y) s lines a b old new
+pub lines_with : {T U : Type 0} (x : T) (y : U) {s : State} {lines : List Line} {a b : TransactionStore} {old new : Site} → LinesPerform {T = T} (Ok x) s lines a b old new → LinesPerform {T = U} (Ok y) s lines a b old new
 lines_with x y one = record { done = one.done; worn = λ m is dev says. absurd cc; earlier = one.earlier }
 
-pub lines_err : {T U : Type 0} {h : Halt} {s : State} {lines : List Line} {a b : Store} {old new : Site} → LinesPerform {T = T} (Err h) s lines a b old new → LinesPerform {T = U} (Err h) s lines a b old new
+pub lines_err : {T U : Type 0} {h : Halt} {s : State} {lines : List Line} {a b : TransactionStore} {old new : Site} → LinesPerform {T = T} (Err h) s lines a b old new → LinesPerform {T = U} (Err h) s lines a b old new
 lines_err {T = T} {U = U} {h = h} one = record { done = tt; worn = λ m is dev says. one.worn m is dev (again dev says); earlier = one.earlier }
   where
     again : (dev : Dev) → IsErrOf {T = U} (Err h) (Stop (Worn dev)) → IsErrOf {T = T} (Err h) (Stop (Worn dev))
     again dev says = cc
 
 -- one line
-pub lines_one : {T : Type 0} (result : Result T Halt) (s : State) (line : Line) (a b : Store) (old new : Site) → LinePerforms result (line_work s line) a b old new → LinesPerform result s (line ∷ []) a b old new
+pub lines_one : {T : Type 0} (result : Result T Halt) (s : State) (line : Line) (a b : TransactionStore) (old new : Site) → LinePerforms result (line_work s line) a b old new → LinesPerform result s (line ∷ []) a b old new
 lines_one result s line a b old new one =
     let own = line_work s line in
     record {
       done = ok_as result (PerformsStore {T = ⊤} (Ok tt) own a b old new) (PerformsStore {T = ⊤} (Ok tt) (own ++ []) a b old new) (λ p. performs_as (append-nil own) p) one.done;
-      worn = λ m is dev says. ap (λ (w : List Work). first_worn (rules a.pages) w m) (append-nil own) ∙ one.worn m is dev says;
+      worn = λ m is dev says. ap (λ (w : List RingOp). first_worn (rules a.pages) w m) (append-nil own) ∙ one.worn m is dev says;
       earlier = λ m is n less.
           let none : n ≡ 0 = omega (arith, less) in
           ap (λ (k : ℕ). first_worn (rules a.pages) (rings_of s (take k (line ∷ []))) m) none;
     }
 
 -- some lines behind others
-module _ {T U : Type 0} (x : T) (result : Result U Halt) (s : State) (first later : List Line) (a b c : Store) (old mid new : Site) (rules_are : rules b.pages ≡ rules a.pages) (one : LinesPerform {T = T} (Ok x) s first a b old mid) (two : LinesPerform result (after_lines s first []) later b c mid new) where
+module _ {T U : Type 0} (x : T) (result : Result U Halt) (s : State) (first later : List Line) (a b c : TransactionStore) (old mid new : Site) (rules_are : rules b.pages ≡ rules a.pages) (one : LinesPerform {T = T} (Ok x) s first a b old mid) (two : LinesPerform result (after_lines s first []) later b c mid new) where
   abbrev r : Rules
   r = rules a.pages
 
@@ -64,7 +64,7 @@ module _ {T U : Type 0} (x : T) (result : Result U Halt) (s : State) (first late
   -- what the later ones find is found by all
   found : (m : Machine) → MirrorsStore a old.image m → (some : List Line) → first_worn r (rings_of s (first ++ some)) m ≡ first_worn (rules b.pages) (rings_of then some) (after_all r (rings_of s first) m)
   found m is some =
-      ap (λ (w : List Work). first_worn r w m) (rings_join s first some)
+      ap (λ (w : List RingOp). first_worn r w m) (rings_join s first some)
       ∙ first_then r (rings_of s first) (rings_of then some) m (one.done.done m is).0
       ∙ ap (λ (y : Rules). first_worn y (rings_of then some) (after_all r (rings_of s first) m)) (sym rules_are)
 
@@ -73,7 +73,7 @@ module _ {T U : Type 0} (x : T) (result : Result U Halt) (s : State) (first late
       let front = take n first in
       ap (λ (l : List Line). first_worn r (rings_of s l) m) (take-append-le n first later few)
       ∙ none_prefix r (rings_of s front) (rings_of (after_lines s front []) (drop n first)) m
-      (ap (λ (w : List Work). first_worn r w m) (sym (rings_join s front (drop n first)))
+      (ap (λ (w : List RingOp). first_worn r w m) (sym (rings_join s front (drop n first)))
       ∙ ap (λ (l : List Line). first_worn r (rings_of s l) m) (take-append-drop n first) ∙ (one.done.done m is).0)
 
   none_behind : (m : Machine) → MirrorsStore a old.image m → (n : ℕ) → length first < n → n < length (first ++ later) → first_worn r (rings_of s (take n (first ++ later))) m ≡ None

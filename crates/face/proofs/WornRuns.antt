@@ -14,7 +14,7 @@ use Rattle.record_model.specs.declared.words.Command.TheVariants.{Stat, Quit, Ca
 use Rattle.record_model.specs.Step.{is_accepted}
 use Rattle.log_records.specs.declared.log_record.LogRecord.{LogRecord}
 use Rattle.checkpoint.specs.declared.master.Master.{Master}
-use Rattle.image_meaning.specs.Meaning.{picture_under}
+use Rattle.image_meaning.specs.Meaning.{logical_image_under}
 use Rattle.second_chance.specs.Machine.{Rules, rules_of}
 use Rattle.sealed_ring.specs.declared.slots.Shape.{Shape}
 use Rattle.sealed_ring.specs.Ring.{hi_of}
@@ -23,14 +23,14 @@ use Rattle.redo_laws.proofs.RingNumbers.{hi_on}
 use Rattle.engine.specs.Representation.{Matches}
 use Rattle.engine.specs.Invariant.{Invariant, sizes_of}
 use Rattle.site.specs.declared.geometry.Geometry.{Geometry}
-use Rattle.ring_machine.specs.Machine.{Machine, Work, after_all, first_worn}
+use Rattle.ring_machine.specs.Machine.{Machine, RingOp, after_all, first_worn}
 use Rattle.ring_machine.proofs.Works.{first_stopped, first_then}
 use Rattle.ring_machine.specs.Commands.{line_work, run_work}
 use Rattle.ring_machine.specs.Restart.{restart_work}
 use Rattle.ring_machine.specs.Performing.{Performs}
 use Rattle.ring_machine.proofs.Performing.{performs_as, performs_by, performs_nothing, performs_answered, performs_then}
 use Rattle.page_store.specs.Caching.{rules}
-use Rattle.redo_undo.specs.declared.store.Store.{Store}
+use Rattle.redo_undo.specs.declared.store.TransactionStore.{TransactionStore}
 use Rattle.redo_undo.specs.Mirroring.{MirrorsStore, PerformsStore}
 use Rattle.engine.specs.declared.engine.Engine.{Engine}
 use Rattle.engine.specs.RingWork.{machine_on}
@@ -47,7 +47,7 @@ use Rattle.face.proofs.Runs.{turn_at, turns_next}
 
 -- Lines that log nothing and touch no page.
 
-idle : (b : Bool) → ◌≡◌ {A = List Work} (if b then [] else []) []
+idle : (b : Bool) → ◌≡◌ {A = List RingOp} (if b then [] else []) []
 idle true = refl
 idle false = refl
 
@@ -60,11 +60,11 @@ quit_work s = idle (is_accepted s Quit)
 pub cache_work : (s : State) → line_work s (Some Cache) ≡ []
 cache_work s = idle (is_accepted s Cache)
 
-pub idle_performs : {T : Type 0} {x : T} {r : Rules} {works : List Work} {P : Machine → Type 0} → works ≡ [] → Performs {T = T} (Ok x) r works P P
+pub idle_performs : {T : Type 0} {x : T} {r : Rules} {works : List RingOp} {P : Machine → Type 0} → works ≡ [] → Performs {T = T} (Ok x) r works P P
 idle_performs {T = T} {x = x} none = performs_as none (performs_nothing (λ m is. is) (λ dev says. absurd (no_error {T = T} {x = x} {e = Worn dev} says)))
 
 -- a listing may want memory
-pub listing_performs : {T : Type 0} (result : Result T Stop) {r : Rules} {works : List Work} {P : Machine → Type 0} → IfErr result (λ stop. stop ≡ Memory) → works ≡ [] → Performs result r works P P
+pub listing_performs : {T : Type 0} (result : Result T Stop) {r : Rules} {works : List RingOp} {P : Machine → Type 0} → IfErr result (λ stop. stop ≡ Memory) → works ≡ [] → Performs result r works P P
 listing_performs {T = T} (Ok x) memory none = idle_performs none
 listing_performs {T = T} (Err stop) memory none = performs_as none (performs_nothing (λ m is. tt) (λ dev says. other dev (of_error {T = T} (Err stop) (λ s. s ≡ Memory) (Worn dev) memory says)))
   where
@@ -73,20 +73,20 @@ listing_performs {T = T} (Err stop) memory none = performs_as none (performs_not
 
 -- The answer to a line: telling changes no device.
 
-pub line_answered : {A B : Type 0} {a : A} {b : B} {works : List Work} {old new : Store} {image : Image} (before now : Site) → now.image ≡ image → Performs {T = A} (Ok a) (rules old.pages) works (MirrorsStore old before.image) (MirrorsStore new image) →
+pub line_answered : {A B : Type 0} {a : A} {b : B} {works : List RingOp} {old new : TransactionStore} {image : Image} (before now : Site) → now.image ≡ image → Performs {T = A} (Ok a) (rules old.pages) works (MirrorsStore old before.image) (MirrorsStore new image) →
     LinePerforms {T = B} (Ok b) works old new before now
 line_answered {works = works} {old = old} {new = new} before now same performs = record {
   done = subst (λ (i : Image). Performs {T = ⊤} (Ok tt) (rules old.pages) works (MirrorsStore old before.image) (MirrorsStore new i)) (sym same) (performs_answered performs);
   worn = λ m is dev says. absurd cc;
 }
 
-pub line_stopped : {A B : Type 0} {stop : Stop} {works : List Work} {old new : Store} (before now : Site) → Performs {T = A} (Err stop) (rules old.pages) works (MirrorsStore old before.image) (MirrorsStore new now.image) → LinePerforms {T = B} (Err (halt.Stop stop)) works old new before now
+pub line_stopped : {A B : Type 0} {stop : Stop} {works : List RingOp} {old new : TransactionStore} (before now : Site) → Performs {T = A} (Err stop) (rules old.pages) works (MirrorsStore old before.image) (MirrorsStore new now.image) → LinePerforms {T = B} (Err (halt.Stop stop)) works old new before now
 line_stopped {A = A} {B = B} {stop = stop} before now performs = record { done = tt; worn = λ m is dev says. performs.worn m is dev (again dev says) }
   where
     again : (dev : Dev) → IsErrOf {T = B} (Err (halt.Stop stop)) (halt.Stop (Worn dev)) → IsErrOf {T = A} (Err stop) (Worn dev)
     again dev says = cc
 
-pub line_untold : {B : Type 0} {works : List Work} {old new : Store} {before now : Site} → LinePerforms {T = B} (Err halt.Output) works old new before now
+pub line_untold : {B : Type 0} {works : List RingOp} {old new : TransactionStore} {before now : Site} → LinePerforms {T = B} (Err halt.Output) works old new before now
 line_untold = record { done = tt; worn = λ m is dev says. absurd cc }
 
 -- A line more does its own work behind that of the others.
@@ -94,19 +94,19 @@ line_untold = record { done = tt; worn = λ m is dev says. absurd cc }
 pub rings_next : (run : Run) (newest : Option Master) (image : Image) (blocks : List (List LogRecord)) (i : ℕ) (line : Line) (rest : List Line) → drop i (answered run) ≡ line ∷ rest →
     rings_by run (turns_of (first_lines run (suc i))) newest image blocks ≡ rings_by run (turns_of (first_lines run i)) newest image blocks ++ line_work (state_at run i) line
 rings_next run newest image blocks i line rest is =
-    let restart = restart_work (picture_under newest run.geometry image blocks) in
+    let restart = restart_work (logical_image_under newest run.geometry image blocks) in
     let first = turns_of (first_lines run i) in
     let own = line_work (state_at run i) line in
     ap (λ (l : List Turn). restart ++ run_work l) (turns_next run i line rest is)
-    ∙ ap (λ (w : List Work). restart ++ w) (flat_map-append (λ (t : Turn). line_work t.before t.line) first (turn_at run i line rest is ∷ []) ∙ ap (λ (w : List Work). run_work first ++ w) (append-nil own))
+    ∙ ap (λ (w : List RingOp). restart ++ w) (flat_map-append (λ (t : Turn). line_work t.before t.line) first (turn_at run i line rest is ∷ []) ∙ ap (λ (w : List RingOp). run_work first ++ w) (append-nil own))
     ∙ sym (append_assoc restart (run_work first) own)
 
 -- The opening's line changes no device either, and nothing is asked before the first line.
 pub opened_performs : (run : Run) (newest : Option Master) (image : Image) (blocks : List (List LogRecord)) (engine : Engine) {r : Rules} {start : Machine} {mid now : Image} → now ≡ mid →
-    Performs {T = Engine} (Ok engine) r (restart_work (picture_under newest run.geometry image blocks)) (λ m. m ≡ start) (MirrorsStore engine.store mid) → Performs {T = ⊤} (Ok tt) r (rings_by run (turns_of (first_lines run 0)) newest image blocks) (λ m. m ≡ start) (MirrorsStore engine.store now)
+    Performs {T = Engine} (Ok engine) r (restart_work (logical_image_under newest run.geometry image blocks)) (λ m. m ≡ start) (MirrorsStore engine.store mid) → Performs {T = ⊤} (Ok tt) r (rings_by run (turns_of (first_lines run 0)) newest image blocks) (λ m. m ≡ start) (MirrorsStore engine.store now)
 opened_performs run newest image blocks engine {r} {start} same performs =
-    performs_as (append-nil (restart_work (picture_under newest run.geometry image blocks)))
-    (subst (λ (i : Image). Performs {T = ⊤} (Ok tt) r (restart_work (picture_under newest run.geometry image blocks)) (λ m. m ≡ start) (MirrorsStore engine.store i)) (sym same) (performs_answered performs))
+    performs_as (append-nil (restart_work (logical_image_under newest run.geometry image blocks)))
+    (subst (λ (i : Image). Performs {T = ⊤} (Ok tt) r (restart_work (logical_image_under newest run.geometry image blocks)) (λ m. m ≡ start) (MirrorsStore engine.store i)) (sym same) (performs_answered performs))
 
 -- The work of a run, by its lines: whatever the cache lists.
 pub turns_work : (s : State) (lines : List Line) (listings : List (List CacheLine)) → run_work (turns s lines listings) ≡ rings_of s (up_to_quit lines)
@@ -117,27 +117,27 @@ turns_work s (line ∷ lines) listings =
     by : (b : Bool) → run_work (turns (step s line (next_listing listings)).after lines (later_listings line listings)) ≡ rings_of (step s line []).after (up_to_quit lines) →
         line_work s line ++ run_work (if b then [] else turns (step s line (next_listing listings)).after lines (later_listings line listings)) ≡ line_work s line ++ rings_of (step s line []).after (if b then [] else up_to_quit lines)
     by true later = refl
-    by false later = ap (λ (w : List Work). line_work s line ++ w) later
+    by false later = ap (λ (w : List RingOp). line_work s line ++ w) later
 
 first_work : (n : ℕ) (s : State) (lines : List Line) (listings : List (List CacheLine)) → run_work (turns s (take n lines) listings) ≡ rings_of s (take n (up_to_quit lines))
 first_work n s lines listings = turns_work s (take n lines) listings ∙ ap (rings_of s) (first_answered n lines)
 
 -- by lines
-pub rings_are : (run : Run) (newest : Option Master) (image : Image) (blocks : List (List LogRecord)) (n : ℕ) → rings_by run (turns_of (first_lines run n)) newest image blocks ≡ restart_work (picture_under newest run.geometry image blocks) ++ rings_of run.opening (take n (answered run))
-rings_are run newest image blocks n = ap (λ (w : List Work). restart_work (picture_under newest run.geometry image blocks) ++ w) (first_work n run.opening run.lines run.listings)
+pub rings_are : (run : Run) (newest : Option Master) (image : Image) (blocks : List (List LogRecord)) (n : ℕ) → rings_by run (turns_of (first_lines run n)) newest image blocks ≡ restart_work (logical_image_under newest run.geometry image blocks) ++ rings_of run.opening (take n (answered run))
+rings_are run newest image blocks n = ap (λ (w : List RingOp). restart_work (logical_image_under newest run.geometry image blocks) ++ w) (first_work n run.opening run.lines run.listings)
 
 -- lines behind others
 pub rings_join : (s : State) (first later : List Line) → rings_of s (first ++ later) ≡ rings_of s first ++ rings_of (after_lines s first []) later
 rings_join s [] later = refl
 rings_join s (line ∷ first) later =
-    ap (λ (w : List Work). line_work s line ++ w) (rings_join (step s line []).after first later)
+    ap (λ (w : List RingOp). line_work s line ++ w) (rings_join (step s line []).after first later)
     ∙ sym (append_assoc (line_work s line) (rings_of (step s line []).after first) (rings_of (after_lines (step s line []).after first []) later))
     ∙ ap (λ (x : State). rings_of s (line ∷ first) ++ rings_of x later) (sym (after_cons s line first))
 
 pub rings_with : (run : Run) (listings : List (List CacheLine)) (newest : Option Master) (image : Image) (blocks : List (List LogRecord)) (n : ℕ) →
     rings_by (record run { listings = listings }) (turns_of (first_lines (record run { listings = listings }) n)) newest image blocks ≡ rings_by run (turns_of (first_lines run n)) newest image blocks
 rings_with run listings newest image blocks n =
-    ap (λ (w : List Work). restart_work (picture_under newest run.geometry image blocks) ++ w) (first_work n run.opening run.lines listings ∙ sym (first_work n run.opening run.lines run.listings))
+    ap (λ (w : List RingOp). restart_work (logical_image_under newest run.geometry image blocks) ++ w) (first_work n run.opening run.lines listings ∙ sym (first_work n run.opening run.lines run.listings))
 
 -- one line more is answered
 pub next_mirrored : (pool : ℕ) (run : Run) (newest : Option Master) (image : Image) (blocks : List (List LogRecord)) (i : ℕ) (line : Line) (rest : List Line) → drop i (answered run) ≡ line ∷ rest → (engine engine' : Engine) (mid next now : Site) → rules engine.store.pages ≡ rules_of pool run.geometry.groups →
@@ -148,7 +148,7 @@ next_mirrored pool run newest image blocks i line rest is engine engine' mid nex
     (performs_by (sym rules_are) performs))
 
 -- where some work finds none, no front of it does
-pub none_prefix : (r : Rules) (first later : List Work) (m : Machine) → first_worn r (first ++ later) m ≡ None → first_worn r first m ≡ None
+pub none_prefix : (r : Rules) (first later : List RingOp) (m : Machine) → first_worn r (first ++ later) m ≡ None → first_worn r first m ≡ None
 none_prefix r first later m none = by (first_worn r first m) refl
   where
     by : (o : Option Dev) → first_worn r first m ≡ o → first_worn r first m ≡ None
@@ -164,7 +164,7 @@ wears_next pool run newest image blocks i line rest is engine engine' mid next n
     let first = rings_by run (turns_of (first_lines run i)) newest image blocks in
     let own = line_work (state_at run i) line in
     let d = so_far.done start refl in
-    ap (λ (w : List Work). first_worn r w start) (rings_next run newest image blocks i line rest is)
+    ap (λ (w : List RingOp). first_worn r w start) (rings_next run newest image blocks i line rest is)
     ∙ first_then r first own start d.0
     ∙ ap (λ (x : Rules). first_worn x own (after_all r first start)) (sym rules_are)
     ∙ performs.worn (after_all r first start) (subst (λ (x : Image). MirrorsStore engine.store x (after_all r first start)) (sym same) d.1) dev says

@@ -6,14 +6,14 @@ use Rattle.site.specs.Moments.{EachMoment, Leaves, LeavesOnly, since}
 use Rattle.flash_cache.specs.OnDisk.{HasLastStaged}
 use Rattle.site.specs.Telling.{TellsPart}
 use Rattle.site.specs.Laws.{in_sequence, leaves_weaker, holds_now, tell_leaves, calm, now_same, unchanged, no_call}
-use Rattle.record_model.specs.Touches.{CacheWork}
+use Rattle.record_model.specs.Touches.{CacheOp}
 use Rattle.record_model.specs.State.{State}
 use Rattle.second_chance.specs.Machine.{Rules, Cache, Staged, after_works, staged_by_works}
 use Rattle.page_store.specs.Caching.{cache_of, rules, next_group}
 use Rattle.page_store.specs.Staging.{WritesOnly, HasQueueOn}
 use Rattle.page_store.proofs.StagingLaws.{last_still, last_then, last_unmoved, among_first, written_weaker, written_then, fits_queue, still_leaves}
 use Rattle.page_store.specs.declared.store.PageStore.{PageStore}
-use Rattle.redo_laws.proofs.Costs.{works_add_up, staged_add_up, more_next}
+use Rattle.redo_laws.proofs.Costs.{ops_compose, staged_add_up, more_next}
 use Rattle.engine.specs.declared.engine.Engine.{Engine}
 use Rattle.engine.specs.Representation.{Matches}
 use Rattle.engine.specs.Invariant.{Invariant}
@@ -36,21 +36,21 @@ images_told Q piece old mid new first tells =
 pub images_heard : (Q : Image → Type 0) (old mid new : Site) → LeavesOnly old mid (λ s. Q s.image) → HearsOnly mid new → LeavesOnly old new (λ s. Q s.image)
 images_heard Q old mid new first same = calm old mid new (Leaves (λ (s : Snapshot). Q s.image)) first same.past (now_same mid new same.told same.image same.loose)
 
-pub writes_told : (g : Geometry) (r : Rules) (works : List CacheWork) (start : Cache) (piece : List ℕ) (old mid new : Site) → WritesFrom g r works start old mid → EachMoment mid new (TellsPart piece mid) → WritesFrom g r works start old new
+pub writes_told : (g : Geometry) (r : Rules) (works : List CacheOp) (start : Cache) (piece : List ℕ) (old mid new : Site) → WritesFrom g r works start old mid → EachMoment mid new (TellsPart piece mid) → WritesFrom g r works start old new
 writes_told g r works start piece old mid new = images_told (λ (i : Image). WritesOnly g (staged_by_works r works start) (next_group (after_works r works start)) old.image i) piece old mid new
 
-pub writes_heard : (g : Geometry) (r : Rules) (works : List CacheWork) (start : Cache) (old mid new : Site) → WritesFrom g r works start old mid → HearsOnly mid new → WritesFrom g r works start old new
+pub writes_heard : (g : Geometry) (r : Rules) (works : List CacheOp) (start : Cache) (old mid new : Site) → WritesFrom g r works start old mid → HearsOnly mid new → WritesFrom g r works start old new
 writes_heard g r works start old mid new = images_heard (λ (i : Image). WritesOnly g (staged_by_works r works start) (next_group (after_works r works start)) old.image i) old mid new
 
 -- work behind work
-pub writes_then : (g : Geometry) (r : Rules) (first later : List CacheWork) (start : Cache) (old mid new : Site) → 1 ≤ r.groups → WritesFrom g r first start old mid → WritesFrom g r later (after_works r first start) mid new →
+pub writes_then : (g : Geometry) (r : Rules) (first later : List CacheOp) (start : Cache) (old mid new : Site) → 1 ≤ r.groups → WritesFrom g r first start old mid → WritesFrom g r later (after_works r first start) mid new →
     WritesFrom g r (first ++ later) start old new
 writes_then g r first later start old mid new some one two =
     let staged = staged_by_works r first start in
     let more = staged_by_works r later (after_works r first start) in
     let next = next_group (after_works r first start) in
     let next' = next_group (after_works r later (after_works r first start)) in
-    let all = ap next_group (works_add_up r first later start) in
+    let all = ap next_group (ops_compose r first later start) in
     let only = λ (s : Snapshot). WritesOnly g staged next old.image s.image in
     let P = λ (s : Snapshot). WritesOnly g (staged ++ more) next' old.image s.image in
     let up : next ≤ next' = omega (arith, all, more_next r first later start some) in
@@ -65,15 +65,15 @@ writes_then g r first later start old mid new some one two =
 -- What the disk has of the frames that were staged last.
 
 -- behind it something is told
-pub last_told : (g : Geometry) (r : Rules) (works : List CacheWork) (start : Cache) (piece : List ℕ) (old mid new : Site) → mid.past ≡ old.past ++ since old mid → EachMoment mid new (TellsPart piece mid) → HasLastFrom g r works start old mid → HasLastFrom g r works start old new
+pub last_told : (g : Geometry) (r : Rules) (works : List CacheOp) (start : Cache) (piece : List ℕ) (old mid new : Site) → mid.past ≡ old.past ++ since old mid → EachMoment mid new (TellsPart piece mid) → HasLastFrom g r works start old mid → HasLastFrom g r works start old new
 last_told g r works start piece old mid new grown tells last = last_still g (staged_by_works r works start) old mid new grown tells.grown (ap (λ (i : Image). i.disk) tells.now.image) last
 
 -- or heard
-pub last_heard : (g : Geometry) (r : Rules) (works : List CacheWork) (start : Cache) (old mid new : Site) → HearsOnly mid new → HasLastFrom g r works start old mid → HasLastFrom g r works start old new
+pub last_heard : (g : Geometry) (r : Rules) (works : List CacheOp) (start : Cache) (old mid new : Site) → HearsOnly mid new → HasLastFrom g r works start old mid → HasLastFrom g r works start old new
 last_heard g r works start old mid new same last = last_unmoved g (staged_by_works r works start) old mid new same.past (ap (λ (i : Image). i.disk) same.image) last
 
 -- work behind work
-pub last_works : (g : Geometry) (r : Rules) (first later : List CacheWork) (start : Cache) (old mid new : Site) → WritesFrom g r first start old mid → WritesFrom g r later (after_works r first start) mid new → HasLastFrom g r first start old mid → HasLastFrom g r later (after_works r first start) mid new →
+pub last_works : (g : Geometry) (r : Rules) (first later : List CacheOp) (start : Cache) (old mid new : Site) → WritesFrom g r first start old mid → WritesFrom g r later (after_works r first start) mid new → HasLastFrom g r first start old mid → HasLastFrom g r later (after_works r first start) mid new →
     HasLastFrom g r (first ++ later) start old new
 last_works g r first later start old mid new one two last more =
     let staged = staged_by_works r first start in

@@ -14,7 +14,7 @@ use Rattle.page_store.specs.Staging.{WritesOnly}
 use Rattle.record_model.specs.Run.{Line}
 use Rattle.record_model.specs.State.{State}
 use Rattle.front_end.specs.Lines.{HearsOnly}
-use Rattle.face.specs.Range.{AsksNoMore, IsLeft, WritesAsTold, WritesSoFar, cache_by, first_texts, staged_by_run}
+use Rattle.face.specs.RunMeaning.{AsksNoMore, IsLeft, WritesAsTold, WritesSoFar, cache_by, first_texts, staged_by_run}
 use Rattle.face.specs.Run.{LeavesAnswer, Run, first_lines, turns_of}
 use Rattle.face.proofs.Fronts.{first_same, other, told_same}
 

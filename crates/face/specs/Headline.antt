@@ -20,10 +20,10 @@ use Rattle.record_model.specs.Serial.{IsSerial}
 use Rattle.shell_text.specs.Serial.{IsToldSerial}
 use Rattle.front_end.specs.Lines.{HeardAll, limit, commands_of}
 use Rattle.face.specs.Run.{Run, IsFront, first_lines, turns_of}
-use Rattle.face.specs.Range.{run_of, texts, run_text, IsLeft, IsWhole}
+use Rattle.face.specs.RunMeaning.{run_of, texts, run_text, IsLeft, IsWhole}
 use Rattle.face.specs.Waiting.{NobodyWaits}
-use Rattle.face.specs.Range.{LeavesItsQueue, LeavesVersions, SkipsNoNumber, AsksNoMore, ListsTheMachine, HasBegun}
-use Rattle.face.specs.Range.{LeavesStaged, WritesAsTold}
+use Rattle.face.specs.RunMeaning.{LeavesItsQueue, LeavesVersions, SkipsNoNumber, AsksNoMore, ListsTheMachine, HasBegun}
+use Rattle.face.specs.RunMeaning.{LeavesStaged, WritesAsTold}
 use Rattle.face.specs.Worn.{LeavesItsRings, WearsFirst, WearsNone, WearsNoneBefore}
 
 -- an honest and quiet site, whose image is sound, and over which a run opens with this state

@@ -1,5 +1,5 @@
 pub mod Causes
-pub mod Going
+pub mod RunInProgress
 pub mod Headline
 pub mod Hearing
 pub mod Image
@@ -7,7 +7,7 @@ pub mod Lives
 pub mod Living
 pub mod Loads
 pub mod Openings
-pub mod Range
+pub mod RunMeaning
 pub mod RingNumbers
 pub mod Run
 pub mod TopCall

@@ -6,7 +6,7 @@ use Rattle.site.specs.declared.geometry.Geometry.{Geometry}
 use Rattle.record_model.specs.State.{State}
 use Rattle.record_model.specs.Run.{IsInRange, after_commits, commit_marks}
 use Rattle.face.specs.Headline.{Durability, IsGood, ran}
-use Rattle.face.specs.Range.{texts}
+use Rattle.face.specs.RunMeaning.{texts}
 use Rattle.face.specs.Run.{Run, turns_of}
 use Rattle.command_line.specs.declared.request.Load.{Load}
 use Rattle.face.specs.Loads.{Allows, LoadDurability}

@@ -17,10 +17,10 @@ use Rattle.front_end.specs.declared.halt.Halt.{Halt}
 use Rattle.front_end.specs.declared.halt.Halt.TheVariants.{Stop, Output}
 use Rattle.command_line.specs.declared.request.Load.{Load}
 use Rattle.face.specs.Causes.{AnswerFailsBy}
-use Rattle.face.specs.Going.{LineStepsMachine}
+use Rattle.face.specs.RunInProgress.{LineStepsMachine}
 use Rattle.face.specs.Headline.{IsFaultOf, Resources}
 use Rattle.front_end.specs.Tells.{EndsBehind}
-use Rattle.face.specs.Range.{all_commits, StandsAfter}
+use Rattle.face.specs.RunMeaning.{all_commits, StandsAfter}
 use Rattle.face.specs.Run.{Run, IsFront, StandsFor, after_lines, answered, first_lines, works_of, checkpoints_of}
 use Rattle.face.specs.Run.{log_reads_of, turns_of}
 use Rattle.engine.specs.Numbers.{CountsOn}
@@ -167,7 +167,7 @@ pub record CarriesOut {T : Type 0} (result : Result T Halt) (lines : List Line) 
   pub going : OnOk result (Invariant after new)
   pub cause : IfErr result (λ halt. AnswerFailsBy halt before old new)
   pub next : IsTrue old.honest → AreNext before.store old → OnOk result (AreNext after.store new)
-  pub goes : Preserves old new
+  pub preserves : Preserves old new
   pub sizes : sizes_of after.store ≡ sizes_of before.store
 
 -- All of the lines are carried out, or where it fails the first ones.

@@ -14,7 +14,7 @@ use Rattle.face.specs.Causes.{EndsInTime}
 use Rattle.front_end.specs.Faults.{NoFaultRose}
 use Rattle.face.specs.Headline.{Headline, IsGood, ran}
 use Rattle.face.specs.Loads.{LoadHeadline}
-use Rattle.face.specs.Range.{made_by, run_of}
+use Rattle.face.specs.RunMeaning.{made_by, run_of}
 use Rattle.face.specs.Run.{Run, first_lines, turns_of}
 use Rattle.face.specs.TopCall.{LoadContract, RunContract}
 use Rattle.face.specs.Workload.{checkpoints_in, load_run}

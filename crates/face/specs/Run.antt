@@ -6,7 +6,7 @@ use Rattle.record_model.specs.State.{State}
 use Rattle.record_model.specs.Step.{Outcome}
 use Rattle.record_model.specs.declared.words.CacheLine.{CacheLine}
 use Rattle.record_model.specs.Run.{Line, Turn, line_step, turns, is_cache, next_listing, later_listings, listings_after}
-use Rattle.record_model.specs.Touches.{CacheWork, line_touches}
+use Rattle.record_model.specs.Touches.{CacheOp, line_touches}
 use Rattle.second_chance.specs.Machine.{rules_of}
 use Rattle.flash_cache.specs.Representation.{start_reads}
 use Rattle.redo_laws.specs.MachineSteps.{ReadsFor}
@@ -60,7 +60,7 @@ abbrev pub IsAsked : Line → List CacheLine → List CacheLine → Type 0
 IsAsked line listing asked = is_cache line ≡ true → asked ≡ listing
 
 -- what lines ask of the page cache, whatever it lists
-abbrev pub works_of : State → List Line → List CacheWork
+abbrev pub works_of : State → List Line → List CacheOp
 works_of s [] = []
 works_of s (line ∷ lines) = line_touches s line ++ works_of (step s line []).after lines
 
@@ -75,13 +75,13 @@ log_reads_of s (line ∷ lines) = line_log_reads s line + log_reads_of (step s l
 
 -- since the run opened on this site no more is read than this work needs, and of flash as often as a start may beside
 -- it
-abbrev pub ReadsFew : ℕ → Geometry → List CacheWork → Site → Site → Type 0
+abbrev pub ReadsFew : ℕ → Geometry → List CacheOp → Site → Site → Type 0
 ReadsFew pool g works old now = ReadsFor (rules_of pool g.groups) works (cache_on g old.image)
     (record old { flash_reads = old.flash_reads + start_reads g }) now
 
 -- the log no more often than so, and no more is written: a crash at any moment leaves no more groups than this work
 -- appends, and each disk page that it doesn't stage as it was when the run opened
-pub record AsksFew (pool : ℕ) (g : Geometry) (works : List CacheWork) (times : ℕ) (old now : Site) : Type 0 where
+pub record AsksFew (pool : ℕ) (g : Geometry) (works : List CacheOp) (times : ℕ) (old now : Site) : Type 0 where
   pub reads : ReadsFew pool g works old now
   pub log_reads : now.log_reads ≤ old.log_reads + times
   pub writes : WritesFrom g (rules_of pool g.groups) works (cache_on g old.image) old now

@@ -9,7 +9,7 @@ use Rattle.front_end.specs.Faults.{NoFaultRose}
 use Rattle.face.specs.Headline.{Headline, IsGood, TellsFault}
 use Rattle.face.specs.Loads.{LoadHeadline}
 use Rattle.front_end.specs.New.{New, NewCauses}
-use Rattle.face.specs.Range.{run_of}
+use Rattle.face.specs.RunMeaning.{run_of}
 use Rattle.face.specs.Workload.{load_run}
 use Rattle.face.specs.Worn.{WearsNone}
 

@@ -17,7 +17,7 @@ use Rattle.workload.specs.declared.scripts.Life.{Life}
 use Rattle.workload.specs.Scripts.{lives_of as lives_in}
 use Rattle.front_end.specs.declared.halt.Halt.{Halt}
 use Rattle.face.specs.Image.{blank_table}
-use Rattle.face.specs.Range.{IsToldOf, run_of, run_text, texts}
+use Rattle.face.specs.RunMeaning.{IsToldOf, run_of, run_text, texts}
 use Rattle.face.specs.Run.{IsFront, Run, turns_of}
 use Rattle.front_end.specs.Tells.{EndsWith}
 use Rattle.front_end.specs.Texts.{IsLineOf, fault_line, status_of}

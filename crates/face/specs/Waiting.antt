@@ -5,7 +5,7 @@ use Rattle.site.specs.State.{State as Site}
 use Rattle.site.specs.declared.outside.Take.{Take}
 use Rattle.front_end.specs.Lines.{answered_of}
 use Rattle.face.specs.Run.{Run}
-use Rattle.face.specs.Range.{first_texts}
+use Rattle.face.specs.RunMeaning.{first_texts}
 
 -- Input was asked for where so many octets of what was left at entry were heard. By then the opening's text was told,
 -- and the replies to all lines that stand whole in them.

@@ -9,22 +9,22 @@ use Rattle.site.specs.declared.outside.Dev.{Dev}
 use Rattle.site.specs.declared.outside.Stop.TheVariants.{Worn}
 use Rattle.image_changes.specs.Costs.{CallsForUnits}
 use Rattle.record_model.specs.Run.{commit_marks, commits_among, is_quit}
-use Rattle.record_model.specs.Touches.{CacheWork}
+use Rattle.record_model.specs.Touches.{CacheOp}
 use Rattle.log_records.specs.declared.log_record.LogRecord.{LogRecord}
 use Rattle.checkpoint.specs.declared.master.Master.{Master}
 use Rattle.front_end.specs.declared.halt.Halt.{Halt}
 use Rattle.front_end.specs.declared.halt.Halt.TheVariants.{Stop, Output, Input, Limit}
 use Rattle.front_end.specs.Lines.{HeardAll, answered_of, commands_of, limit}
-use Rattle.face.specs.Range.{AsksNoMore, HasBegun, IsLeft, IsWhole, LeavesItsQueue, LeavesStaged, LeavesVersions}
-use Rattle.face.specs.Range.{ListsTheMachine, SkipsNoNumber, StandsAfter, WritesAsTold, first_texts}
-use Rattle.face.specs.Range.{log_reads_by_turns, texts, works_by}
+use Rattle.face.specs.RunMeaning.{AsksNoMore, HasBegun, IsLeft, IsWhole, LeavesItsQueue, LeavesStaged, LeavesVersions}
+use Rattle.face.specs.RunMeaning.{ListsTheMachine, SkipsNoNumber, StandsAfter, WritesAsTold, first_texts}
+use Rattle.face.specs.RunMeaning.{log_reads_by_turns, texts, works_by}
 use Rattle.face.specs.Run.{Run, first_lines, turns_of}
 use Rattle.front_end.specs.Texts.{status_of}
 use Rattle.face.specs.Waiting.{NobodyWaits}
 use Rattle.face.specs.Worn.{LeavesItsRings, WearsFirst, WearsNone, WearsNoneBefore}
 
 -- what a run over this image has asked once it has answered so many lines
-abbrev pub asked_after : Run → Option Master → Image → List (List LogRecord) → ℕ → List CacheWork
+abbrev pub asked_after : Run → Option Master → Image → List (List LogRecord) → ℕ → List CacheOp
 asked_after run newest image blocks lines = works_by run (turns_of (first_lines run lines)) newest image blocks
 
 -- and how often it may have read the log by then

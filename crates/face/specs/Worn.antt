@@ -11,14 +11,14 @@ use Rattle.record_model.specs.State.{State}
 use Rattle.record_model.specs.Run.{Line, Turn}
 use Rattle.log_records.specs.declared.log_record.LogRecord.{LogRecord}
 use Rattle.checkpoint.specs.declared.master.Master.{Master}
-use Rattle.image_meaning.specs.Meaning.{picture_under}
+use Rattle.image_meaning.specs.Meaning.{logical_image_under}
 use Rattle.second_chance.specs.Machine.{rules_of}
-use Rattle.ring_machine.specs.Machine.{Machine, Work, after_all, first_worn}
+use Rattle.ring_machine.specs.Machine.{Machine, RingOp, after_all, first_worn}
 use Rattle.ring_machine.specs.Commands.{line_work, run_work}
 use Rattle.ring_machine.specs.Restart.{restart_work}
 use Rattle.ring_machine.specs.Performing.{Performs}
 use Rattle.page_store.specs.Caching.{rules}
-use Rattle.redo_undo.specs.declared.store.Store.{Store}
+use Rattle.redo_undo.specs.declared.store.TransactionStore.{TransactionStore}
 use Rattle.redo_undo.specs.Mirroring.{MirrorsStore, PerformsStore}
 use Rattle.engine.specs.declared.engine.Engine.{Engine}
 use Rattle.engine.specs.Image.{IsSound}
@@ -28,9 +28,9 @@ use Rattle.front_end.specs.declared.halt.Halt.TheVariants.{Stop}
 use Rattle.face.specs.Run.{Run, first_lines, step, turns_of}
 
 -- what the run asks of log and cache over this image: the restart's work, then that of these turns
-abbrev pub rings_by : Run → List Turn → Option Master → Image → List (List LogRecord) → List Work
+abbrev pub rings_by : Run → List Turn → Option Master → Image → List (List LogRecord) → List RingOp
 rings_by run done newest image blocks =
-    restart_work (picture_under newest run.geometry image blocks) ++ run_work done
+    restart_work (logical_image_under newest run.geometry image blocks) ++ run_work done
 
 -- The device of the first ring that is appended to at its end for it, where the pool has so many pages. The machine
 -- begins with what stands on the devices.
@@ -71,7 +71,7 @@ LeavesItsRings pool run old now = (newest : Option Master) (blocks : List (List 
     HasRings run.geometry (machine_by pool run (turns_of run) newest old blocks) now
 
 -- what lines ask of log and cache, whatever the cache lists
-abbrev pub rings_of : State → List Line → List Work
+abbrev pub rings_of : State → List Line → List RingOp
 rings_of s [] = []
 rings_of s (line ∷ lines) = line_work s line ++ rings_of (step s line []).after lines
 
@@ -83,14 +83,15 @@ IsMirrored pool run newest image blocks engine now lines =
     (MirrorsStore engine.store now.image)
 
 -- the answer to a line does this work
-pub record LinePerforms {T : Type 0} (result : Result T Halt) (works : List Work) (old new : Store)
+pub record LinePerforms {T : Type 0} (result : Result T Halt) (works : List RingOp) (old new : TransactionStore)
     (before now : Site) : Type 0 where
   pub done : OnOk result (PerformsStore {T = ⊤} (Ok tt) works old new before now)
   pub worn : (m : Machine) → MirrorsStore old before.image m → (dev : Dev) → IsErrOf result (Stop (Worn dev))
       → first_worn (rules old.pages) works m ≡ Some dev
 
 -- Lines do their work one after the other. Where this fails all but the last of them append to no ring at its end.
-pub record LinesPerform {T : Type 0} (result : Result T Halt) (s : State) (lines : List Line) (old new : Store)
+pub record LinesPerform {T : Type 0} (result : Result T Halt) (s : State) (lines : List Line)
+    (old new : TransactionStore)
     (before now : Site) : Type 0 where
   pub done : OnOk result (PerformsStore {T = ⊤} (Ok tt) (rings_of s lines) old new before now)
   pub worn : (m : Machine) → MirrorsStore old before.image m → (dev : Dev) → IsErrOf result (Stop (Worn dev))

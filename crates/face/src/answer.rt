@@ -17,7 +17,7 @@ ghost use Rattle.face.specs.Causes.{AnswerFailsBy};
 ghost use Rattle.shell_text.specs.Texts.{reply_text};
 ghost use Rattle.face.specs.Run.{step, IsAsked, LeavesAnswer, line_checkpoints, line_log_reads};
 ghost use Rattle.record_model.specs.Touches.{line_touches};
-ghost use Rattle.face.specs.Going.{LineStepsMachine};
+ghost use Rattle.face.specs.RunInProgress.{LineStepsMachine};
 ghost use Rattle.face.specs.Worn.{LinePerforms};
 ghost use Rattle.ring_machine.specs.Commands.{line_work};
 
@@ -71,7 +71,7 @@ pub fn answer<S: Site>(engine: &mut Engine, site: &mut S, line: Option<Command>)
     ensures cause { IfErr result (λ halt. AnswerFailsBy halt engine.old (S.state site.old) (S.state site.new)) }
     ensures next { IsTrue (S.state site.old).honest → AreNext engine.old.store (S.state site.old)
         → OnOk result (AreNext engine.new.store (S.state site.new)) }
-    ensures goes { Preserves (S.state site.old) (S.state site.new) }
+    ensures preserves { Preserves (S.state site.old) (S.state site.new) }
     ensures sizes { sizes_of engine.new.store ≡ sizes_of engine.old.store }
     ensures faults { RunFaults result (S.state site.old) (S.state site.new) }
 {

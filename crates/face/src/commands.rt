@@ -71,7 +71,7 @@ fn carry_out_plain<S: Site>(
     ensures next { IsTrue (S.state site.old).honest → AreNext engine.old.store (S.state site.old)
         → OnOk result (AreNext engine.new.store (S.state site.new)) }
     ensures sizes { sizes_of engine.new.store ≡ sizes_of engine.old.store }
-    ensures goes { Preserves (S.state site.old) (S.state site.new) }
+    ensures preserves { Preserves (S.state site.old) (S.state site.new) }
     ensures faults { WorkFaults result (S.state site.old) (S.state site.new) }
 {
     rest_counts_nothing();
@@ -157,7 +157,7 @@ pub fn carry_out<S: Site>(
     ensures next { IsTrue (S.state site.old).honest → AreNext engine.old.store (S.state site.old)
         → OnOk result (AreNext engine.new.store (S.state site.new)) }
     ensures sizes { sizes_of engine.new.store ≡ sizes_of engine.old.store }
-    ensures goes { Preserves (S.state site.old) (S.state site.new) }
+    ensures preserves { Preserves (S.state site.old) (S.state site.new) }
     ensures faults { WorkFaults result (S.state site.old) (S.state site.new) }
 {
     rest_counts_nothing();

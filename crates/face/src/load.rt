@@ -28,7 +28,7 @@ use command_line::Load;
 use engine::{Engine, queue_is_on_flash, rest_counts_nothing, versions_are_seen};
 use front_end::{Halt, tell_halt};
 use record_model::{Command, Reply};
-use redo_undo::works_add_up;
+use redo_undo::ops_compose;
 use shell_text::Line;
 use site::{Dev, Geometry, Site, tell_all};
 use std::alloc::Global;
@@ -36,7 +36,7 @@ use workload::{load_set, next};
 
 // What is counted of the sets of a load: those that were committed, and the checkpoints that they made.
 #[derive(Clone, Copy, Drop)]
-struct Made {
+struct SetCounts {
     committed: u32,
     checkpoints: u32,
 }
@@ -122,7 +122,7 @@ fn make_sets<S: Site>(
     site: &mut S,
     load: &Load,
     pages: u32,
-) -> Result<Made, Halt>
+) -> Result<SetCounts, Halt>
     requires going { Invariant engine.old (S.state site.old) }
     requires pages { pages ≢ 0 }
     ensures course { CarriesFirst result (set_lines (32 * pages) load.now.seed load.now.count)
@@ -132,7 +132,7 @@ fn make_sets<S: Site>(
         made.committed made.checkpoints) }
     ensures faults { RunFaults result (S.state site.old) (S.state site.new) }
 {
-    works_add_up();
+    ops_compose();
     rest_counts_nothing();
     let mut x = load.seed;
     let mut committed = 0;
@@ -148,7 +148,7 @@ fn make_sets<S: Site>(
         committed += one_if(is_committed(&reply));
         checkpoints += one_if(made_one(due, &reply));
     }
-    Ok(Made {
+    Ok(SetCounts {
         committed,
         checkpoints,
     })
@@ -169,7 +169,7 @@ fn make_gets<S: Site>(
         count ≡ found_in (model.turns s (get_lines (32 * pages) load.now.seed load.now.count) [])) }
     ensures faults { RunFaults result (S.state site.old) (S.state site.new) }
 {
-    works_add_up();
+    ops_compose();
     rest_counts_nothing();
     let mut x = load.seed;
     let mut found = 0;
@@ -202,7 +202,7 @@ fn summary_line(load: &Load, counts: Counts) -> Line
 }
 
 // All of a load but its summary.
-fn work<S: Site>(alloc: Global, load: &Load, site: &mut S) -> Result<Counts, Halt>
+fn run_load<S: Site>(alloc: Global, load: &Load, site: &mut S) -> Result<Counts, Halt>
     requires limits { HasLoadLimits load.now }
     ensures works { (g : Geometry) (opening : State) → IsGood g opening (S.state site.old)
         → LoadWorks load.now.pool (load_run g opening load.now) [] (S.state site.old) (S.state site.new) result }
@@ -211,10 +211,10 @@ fn work<S: Site>(alloc: Global, load: &Load, site: &mut S) -> Result<Counts, Hal
     ensures halts { IfErr result (λ halt. (halt ≢ Halt.Input) × (halt ≢ Halt.Limit)) }
     ensures cause { IfErr result (λ halt. HasCause halt (S.state site.old) (S.state site.new)) }
     ensures refuses { HasNoSizes (S.state site.old) → RefusesAsForeign result (S.state site.old) (S.state site.new) }
-    ensures goes { Preserves (S.state site.old) (S.state site.new) }
+    ensures preserves { Preserves (S.state site.old) (S.state site.new) }
     ensures faults { RunFaults result (S.state site.old) (S.state site.new) }
 {
-    works_add_up();
+    ops_compose();
     queue_is_on_flash();
     versions_are_seen();
     let mut engine = match open(alloc, load.pool, site) {
@@ -245,10 +245,10 @@ fn load_and_tell<S: Site>(alloc: Global, load: &Load, site: &mut S) -> Result<()
     ensures halts { IfErr result (λ halt. (halt ≢ Halt.Input) × (halt ≢ Halt.Limit)) }
     ensures cause { IfErr result (λ halt. HasCause halt (S.state site.old) (S.state site.new)) }
     ensures refuses { HasNoSizes (S.state site.old) → RefusesAsForeign result (S.state site.old) (S.state site.new) }
-    ensures goes { Preserves (S.state site.old) (S.state site.new) }
+    ensures preserves { Preserves (S.state site.old) (S.state site.new) }
     ensures faults { RunFaults result (S.state site.old) (S.state site.new) }
 {
-    let counts = match work(alloc, load, site) {
+    let counts = match run_load(alloc, load, site) {
         Ok(counts) => counts,
         Err(halt) => return Err(halt),
     };
@@ -269,7 +269,7 @@ pub fn serve_load<S: Site>(alloc: Global, load: &Load, site: &mut S) -> u8
     // Devices without sizes have status 9.
     ensures sizes { HasNoSizes (S.state site.old)
         → RefusesDevices result (S.state site.old) (S.state site.new) }
-    ensures goes { Preserves (S.state site.old) (S.state site.new) }
+    ensures preserves { Preserves (S.state site.old) (S.state site.new) }
     ensures faults { result ≡ 0 → SameFaults (S.state site.old) (S.state site.new) }
     ensures first { FirstDecides result (S.state site.old) (S.state site.new) }
 {

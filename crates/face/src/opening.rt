@@ -16,10 +16,10 @@ ghost use Rattle.redo_undo.specs.StoreCalls.{AreNext};
 ghost use Rattle.engine.specs.Invariant.{Invariant, sizes_of};
 ghost use Rattle.engine.specs.Leaves.{HasNoSizes};
 ghost use Rattle.face.specs.Causes.{HasCause, RefusesAsForeign};
-ghost use Rattle.face.specs.Range.{AsksNoMore, LeavesStaged, SkipsNoNumber};
+ghost use Rattle.face.specs.RunMeaning.{AsksNoMore, LeavesStaged, SkipsNoNumber};
 ghost use Rattle.face.specs.Run.{Run, Begins, first_lines};
 ghost use Rattle.face.specs.Working.{Stops};
-ghost use Rattle.face.specs.Going.{Going, IsPaged, IsCounted};
+ghost use Rattle.face.specs.RunInProgress.{RunInProgress, IsPaged, IsCounted};
 ghost use Rattle.face.specs.Worn.{IsMirrored, WearsFirst};
 
 use engine::Engine;
@@ -32,7 +32,7 @@ use std::alloc::Global;
 pub fn open<S: Site>(alloc: Global, pool: u32, site: &mut S) -> Result<Engine, Halt>
     requires pool { (1 ≤ pool) × (pool ≤ 4096) }
     ensures going { (run : Run) → Begins run (S.state site.old)
-        → IfOk result (λ engine. Going run (S.state site.old) (S.state site.new) engine 0) }
+        → IfOk result (λ engine. RunInProgress run (S.state site.old) (S.state site.new) engine 0) }
     // The same, whatever is loose at entry.
     ensures fits { IsTrue (S.state site.old).honest → (g : Geometry) (table : List Content) (commits : ℕ)
         → Stands g (S.state site.old).image table commits → IfOk result (λ engine. ((s : State)
@@ -75,7 +75,7 @@ pub fn open<S: Site>(alloc: Global, pool: u32, site: &mut S) -> Result<Engine, H
     ensures halts { IfErr result (λ halt. (halt ≢ Halt.Input) × (halt ≢ Halt.Limit)) }
     ensures cause { IfErr result (λ halt. HasCause halt (S.state site.old) (S.state site.new)) }
     ensures refuses { HasNoSizes (S.state site.old) → RefusesAsForeign result (S.state site.old) (S.state site.new) }
-    ensures goes { Preserves (S.state site.old) (S.state site.new) }
+    ensures preserves { Preserves (S.state site.old) (S.state site.new) }
     ensures faults { RunFaults result (S.state site.old) (S.state site.new) }
 {
     let engine = match Engine::start(alloc, site, pool) {

@@ -29,7 +29,7 @@ use engine::{queue_is_on_flash, versions_are_seen};
 use front_end::{Halt, Heard, Source, tell_halt, tell_memory};
 use mem_site::MemSite;
 use record_model::{Command, serial_order};
-use redo_undo::works_add_up;
+use redo_undo::ops_compose;
 use site::Site;
 use std::alloc::Global;
 
@@ -44,7 +44,7 @@ fn quits(line: &Option<Command>) -> bool
 }
 
 // All of a run but its fault line.
-fn work<S: Site>(alloc: Global, pool: u32, site: &mut S) -> Result<(), Halt>
+fn run_lines<S: Site>(alloc: Global, pool: u32, site: &mut S) -> Result<(), Halt>
     requires pool { (1 ≤ pool) × (pool ≤ 4096) }
     ensures works { (listings : List (List CacheLine))
         × ((run : Run) → Begins run (S.state site.old) → run.listings ≡ listings
@@ -52,10 +52,10 @@ fn work<S: Site>(alloc: Global, pool: u32, site: &mut S) -> Result<(), Halt>
     ensures cause { IfErr result (λ halt. HasCause halt (S.state site.old) (S.state site.new)) }
     ensures hears { IsTrue (S.state site.old).honest → WorkHears result (S.state site.old) (S.state site.new) }
     ensures refuses { HasNoSizes (S.state site.old) → RefusesAsForeign result (S.state site.old) (S.state site.new) }
-    ensures goes { Preserves (S.state site.old) (S.state site.new) }
+    ensures preserves { Preserves (S.state site.old) (S.state site.new) }
     ensures faults { RunFaults result (S.state site.old) (S.state site.new) }
 {
-    works_add_up();
+    ops_compose();
     queue_is_on_flash();
     versions_are_seen();
     let mut engine = match open(alloc, pool, site) {
@@ -100,12 +100,12 @@ pub fn serve<S: Site>(alloc: Global, pool: u32, site: &mut S) -> u8
     // Devices without sizes have status 9.
     ensures sizes { HasNoSizes (S.state site.old)
         → RefusesDevices result (S.state site.old) (S.state site.new) }
-    ensures goes { Preserves (S.state site.old) (S.state site.new) }
+    ensures preserves { Preserves (S.state site.old) (S.state site.new) }
     ensures faults { result ≡ 0 → SameFaults (S.state site.old) (S.state site.new) }
     ensures first { FirstDecides result (S.state site.old) (S.state site.new) }
 {
     serial_order();
-    match work(alloc, pool, site) {
+    match run_lines(alloc, pool, site) {
         Ok(()) => 0,
         Err(halt) => {
             let _ = tell_halt(site, halt);
@@ -126,9 +126,9 @@ pub fn lack_memory<S: Site>(site: &mut S) -> u8
     ensures lacks { LacksMemory result (S.state site.old) (S.state site.new) }
     ensures hears { IsTrue (S.state site.old).honest → HearsInTime result (S.state site.old) (S.state site.new) }
     ensures first { FirstDecides result (S.state site.old) (S.state site.new) }
-    ensures goes { Preserves (S.state site.old) (S.state site.new) }
+    ensures preserves { Preserves (S.state site.old) (S.state site.new) }
 {
-    works_add_up();
+    ops_compose();
     serial_order();
     let _ = tell_memory(site);
     4
@@ -140,7 +140,7 @@ pub fn serve_trial<S: Site>(alloc: Global, sizes: &TrialSizes, site: &mut S) -> 
     requires limits { HasTrialLimits sizes.now }
     ensures trial { (numbers : List ℕ)
         × TrialContract sizes.now.geometry (S.state site.old) (S.state site.new) result numbers }
-    ensures goes { Preserves (S.state site.old) (S.state site.new) }
+    ensures preserves { Preserves (S.state site.old) (S.state site.new) }
     ensures faults { result ≡ 0 → SameFaults (S.state site.old) (S.state site.new) }
     ensures first { FirstDecides result (S.state site.old) (S.state site.new) }
 {

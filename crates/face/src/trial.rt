@@ -53,7 +53,7 @@ fn take_more<S: Site>(site: &mut S, script: &mut Vec<u8>) -> Result<bool, Halt>
         ⊎ ((halt ≡ Halt.Input) ⊎ (halt ≡ Halt.Limit))) }
     ensures same { IsTrue (S.state site.old).honest → HearsOnly (S.state site.old) (S.state site.new) }
     ensures reads { SameReads (S.state site.old) (S.state site.new) }
-    ensures goes { Preserves (S.state site.old) (S.state site.new) }
+    ensures preserves { Preserves (S.state site.old) (S.state site.new) }
     ensures faults { RunFaults result (S.state site.old) (S.state site.new) }
 {
     let mut piece = [0u8; PIECE];
@@ -85,7 +85,7 @@ fn read_script<S: Site>(alloc: Global, site: &mut S) -> Result<Vec<u8>, Halt>
         ⊎ ((halt ≡ Halt.Input) ⊎ (halt ≡ Halt.Limit))) }
     ensures same { IsTrue (S.state site.old).honest → HearsOnly (S.state site.old) (S.state site.new) }
     ensures reads { SameReads (S.state site.old) (S.state site.new) }
-    ensures goes { Preserves (S.state site.old) (S.state site.new) }
+    ensures preserves { Preserves (S.state site.old) (S.state site.new) }
     ensures faults { RunFaults result (S.state site.old) (S.state site.new) }
 {
     let mut script = Vec::new(alloc);
@@ -181,7 +181,7 @@ fn tell_life<S: Site>(site: &mut S, text: &[u8], number: u64, status: u8) -> Res
     ensures left { IsTrue (S.state site.old).honest → (S.state site.new).input ≡ (S.state site.old).input }
     ensures devices { IsTrue (S.state site.old).honest → LeavesDevices (S.state site.old) (S.state site.new) }
     ensures reads { SameReads (S.state site.old) (S.state site.new) }
-    ensures goes { Preserves (S.state site.old) (S.state site.new) }
+    ensures preserves { Preserves (S.state site.old) (S.state site.new) }
     ensures faults { TellFaults result (S.state site.old) (S.state site.new) }
 {
     match tell_all(site, text) {
@@ -207,7 +207,7 @@ fn live_script<S: Site>(
     ensures left { IsTrue (S.state site.old).honest → (S.state site.new).input ≡ (S.state site.old).input }
     ensures devices { IsTrue (S.state site.old).honest → LeavesDevices (S.state site.old) (S.state site.new) }
     ensures reads { SameReads (S.state site.old) (S.state site.new) }
-    ensures goes { Preserves (S.state site.old) (S.state site.new) }
+    ensures preserves { Preserves (S.state site.old) (S.state site.new) }
     ensures faults { RunFaults result.0 (S.state site.old) (S.state site.new) }
 {
     blank_stands();
@@ -232,7 +232,7 @@ fn live_script<S: Site>(
 }
 
 // All of a trial but its fault line.
-fn work<S: Site>(
+fn run_script<S: Site>(
     alloc: Global,
     pool: u32,
     inner: MemSite,
@@ -252,7 +252,7 @@ fn work<S: Site>(
         × (IsTrue (S.state site.old).honest → length (S.state site.old).input.left ≤ script_limit) }
     ensures devices { IsTrue (S.state site.old).honest → LeavesDevices (S.state site.old) (S.state site.new) }
     ensures reads { SameReads (S.state site.old) (S.state site.new) }
-    ensures goes { Preserves (S.state site.old) (S.state site.new) }
+    ensures preserves { Preserves (S.state site.old) (S.state site.new) }
     ensures faults { RunFaults result.0 (S.state site.old) (S.state site.new) }
 {
     match read_script(alloc, site) {
@@ -280,11 +280,11 @@ pub fn trial<S: Site>(alloc: Global, pool: u32, inner: MemSite, site: &mut S) ->
         → TrialContract g (S.state site.old) (S.state site.new) result.0 (numbers_of result.1) }
     // Where no life was begun the site is handed back.
     ensures unbegun { (result.0 ≡ 5) ⊎ (result.0 ≡ 7) → result.1 ≡ inner }
-    ensures goes { Preserves (S.state site.old) (S.state site.new) }
+    ensures preserves { Preserves (S.state site.old) (S.state site.new) }
     ensures faults { result.0 ≡ 0 → SameFaults (S.state site.old) (S.state site.new) }
     ensures first { FirstDecides result.0 (S.state site.old) (S.state site.new) }
 {
-    let (lived, inner) = work(alloc, pool, inner, site);
+    let (lived, inner) = run_script(alloc, pool, inner, site);
     match lived {
         Ok(()) => (0, inner),
         Err(halt) => {

@@ -89,7 +89,7 @@ impl Book {
     /// One failed call of the device more.
     pub fn device_fault(&mut self, dev: Dev)
         ensures faulted { self.new ≡ faulted dev self.old }
-        ensures goes { Preserves (state_of self.old) (state_of self.new) }
+        ensures preserves { Preserves (state_of self.old) (state_of self.new) }
     {
         match dev {
             Dev::Log => self.log.fault(),
@@ -102,7 +102,7 @@ impl Book {
     pub fn read(&mut self, dev: Dev, octets: usize)
         ensures read { self.new ≡ with_tally dev
             (record (tally_of dev self.old) { reads = reads_after octets (tally_of dev self.old).reads }) self.old }
-        ensures goes { Preserves (state_of self.old) (state_of self.new) }
+        ensures preserves { Preserves (state_of self.old) (state_of self.new) }
     {
         match dev {
             Dev::Log => self.log.read(octets),
@@ -114,7 +114,7 @@ impl Book {
     /// One failed take more.
     pub fn input_fault(&mut self)
         ensures raised { self.new ≡ record self.old { input_faults = raised self.old.input_faults } }
-        ensures goes { Preserves (state_of self.old) (state_of self.new) }
+        ensures preserves { Preserves (state_of self.old) (state_of self.new) }
     {
         self.input_faults = self.input_faults.saturating_add(1);
     }
@@ -122,7 +122,7 @@ impl Book {
     /// One failed tell more.
     pub fn output_fault(&mut self)
         ensures raised { self.new ≡ record self.old { output_faults = raised self.old.output_faults } }
-        ensures goes { Preserves (state_of self.old) (state_of self.new) }
+        ensures preserves { Preserves (state_of self.old) (state_of self.new) }
     {
         self.output_faults = self.output_faults.saturating_add(1);
     }

@@ -168,7 +168,7 @@ where
         ensures ok { OnOk result (self.new.book ≡ self.old.book) }
         ensures err { OnErr result (self.new.book ≡ faulted dev self.old.book) }
         ensures faults { CallFaults dev result (state_of self.old.book) (state_of self.new.book) }
-        ensures goes { Preserves (state_of self.old.book) (state_of self.new.book) }
+        ensures preserves { Preserves (state_of self.old.book) (state_of self.new.book) }
     {
         if !done {
             self.book.device_fault(dev);
@@ -214,7 +214,7 @@ where
         requires { at + length into.old ≤ length (content_of dev (state_of self.old.book).image) }
         ensures read { IsTrue (state_of self.old.book).honest
             → HasRead dev at into.new (state_of self.old.book) (state_of self.new.book) result }
-        ensures goes { Preserves (state_of self.old.book) (state_of self.new.book) }
+        ensures preserves { Preserves (state_of self.old.book) (state_of self.new.book) }
         ensures reads { ReadsMore dev (length into.old) (state_of self.old.book) (state_of self.new.book) }
         ensures cause { OnErr result (Rose (faults_of dev (state_of self.old.book))
             (faults_of dev (state_of self.new.book))) }
@@ -233,7 +233,7 @@ where
         requires { at + length bytes.now ≤ length (content_of dev (state_of self.old.book).image) }
         ensures wrote { IsTrue (state_of self.old.book).honest
             → Wrote dev at bytes.now (state_of self.old.book) (state_of self.new.book) result }
-        ensures goes { Preserves (state_of self.old.book) (state_of self.new.book) }
+        ensures preserves { Preserves (state_of self.old.book) (state_of self.new.book) }
         ensures reads { SameReads (state_of self.old.book) (state_of self.new.book) }
         ensures cause { OnErr result (Rose (faults_of dev (state_of self.old.book))
             (faults_of dev (state_of self.new.book))) }
@@ -247,7 +247,7 @@ where
     fn sync(&mut self, dev: Dev) -> Result<(), Failed>
         ensures synced { IsTrue (state_of self.old.book).honest
             → Synced dev (state_of self.old.book) (state_of self.new.book) result }
-        ensures goes { Preserves (state_of self.old.book) (state_of self.new.book) }
+        ensures preserves { Preserves (state_of self.old.book) (state_of self.new.book) }
         ensures reads { SameReads (state_of self.old.book) (state_of self.new.book) }
         ensures cause { OnErr result (Rose (faults_of dev (state_of self.old.book))
             (faults_of dev (state_of self.new.book))) }
@@ -263,7 +263,7 @@ where
         ensures took { IsTrue (state_of self.old.book).honest
             → Took into.new (state_of self.old.book) (state_of self.new.book) result }
         ensures at_most { IfOk result (λ n. n ≤ length into.old) }
-        ensures goes { Preserves (state_of self.old.book) (state_of self.new.book) }
+        ensures preserves { Preserves (state_of self.old.book) (state_of self.new.book) }
         ensures reads { SameReads (state_of self.old.book) (state_of self.new.book) }
         ensures cause { OnErr result (Rose (state_of self.old.book).input_faults
             (state_of self.new.book).input_faults) }
@@ -291,7 +291,7 @@ where
             → Told piece.now (state_of self.old.book) (state_of self.new.book) result }
         ensures at_least { IfOk result (λ n. 1 ≤ n) }
         ensures at_most { IfOk result (λ n. n ≤ length piece.now) }
-        ensures goes { Preserves (state_of self.old.book) (state_of self.new.book) }
+        ensures preserves { Preserves (state_of self.old.book) (state_of self.new.book) }
         ensures reads { SameReads (state_of self.old.book) (state_of self.new.book) }
         ensures cause { OnErr result (Rose (state_of self.old.book).output_faults
             (state_of self.new.book).output_faults) }

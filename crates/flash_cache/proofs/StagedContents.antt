@@ -22,7 +22,7 @@ use Rattle.byte_fields.specs.declared.frame_head.Mark.{Mark}
 use Rattle.flash_directory.specs.Heads.{frames_in}
 use Rattle.flash_cache.specs.declared.cache.FlashCache.{FlashCache}
 use Rattle.flash_cache.specs.Representation.{Invariant, Represents, HasFrames, AllTogether, Shows, version_on}
-use Rattle.flash_cache.specs.declared.leaving.FrontFrames.{FrontFrames}
+use Rattle.flash_cache.specs.declared.leaving.DepartingFrames.{DepartingFrames}
 use Rattle.flash_cache.specs.Leaving.{page_at, AreAt, again}
 use Rattle.flash_cache.specs.Pushed.{no_frame, staged_marks, staged_pages, chance_marks, chance_given, pages_pushed, frames_given, known_given, frames_pushed, known_pushed}
 use Rattle.flash_cache.proofs.Given.{length-given, known_of_given}
@@ -87,7 +87,7 @@ module _ (cache : FlashCache) (site : State) (groups : List (List Frame)) (going
   contents_are marks places numbered is = ap (map (page_at unit)) is ∙ contents_of unit front marks each (inside marks numbered)
 
 -- the pages of the frames that are staged
-pub pages_are : (cache : FlashCache) (places : List ℕ) (staged : FrontFrames) → AreAt cache.directory.groups places staged → places ≡ map (λ f. f.0) (staged_marks cache) → staged.pages.items ≡ staged_pages cache
+pub pages_are : (cache : FlashCache) (places : List ℕ) (staged : DepartingFrames) → AreAt cache.directory.groups places staged → places ≡ map (λ f. f.0) (staged_marks cache) → staged.pages.items ≡ staged_pages cache
 pages_are cache places staged are is = are.pages ∙ read_at (λ (m : Mark). m.page) cache.directory.groups (staged_marks cache) places (staged_numbered cache) is
 
 -- the second chances, as they were read
@@ -100,7 +100,7 @@ known_marks : (marks : List Placed) → known_given (map (λ f. f.1.page) marks)
 known_marks [] = refl
 known_marks (f ∷ marks) = ap (λ (l : List Known). chance_frame f ∷ l) (known_marks marks)
 
-module _ (cache : FlashCache) (places : List ℕ) (chances : FrontFrames) (are : AreAt cache.directory.groups places chances) (planned : places ≡ map (λ f. f.0) (chance_marks cache)) where
+module _ (cache : FlashCache) (places : List ℕ) (chances : DepartingFrames) (are : AreAt cache.directory.groups places chances) (planned : places ≡ map (λ f. f.0) (chance_marks cache)) where
   pub chance_pages : chances.pages.items ≡ map (λ f. f.1.page) (chance_marks cache)
   chance_pages = are.pages ∙ read_at (λ (m : Mark). m.page) cache.directory.groups (chance_marks cache) places (chances_numbered cache) planned
 

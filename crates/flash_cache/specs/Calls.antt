@@ -19,7 +19,7 @@ pub record EndsPush {T : Type 0} (result : Result T Stop) (old new : FlashCache)
   -- of every site
   pub geometry : new.geometry ≡ old.geometry
   pub kept : OnErr result (new.directory ≡ old.directory)
-  pub goes : Preserves before now
+  pub preserves : Preserves before now
   pub faults : WorkFaults result before now
   -- when each answer comes
   pub worn : IsErrOf result (Worn Flash) → old.ring.hi ≡ 2 ^ 40

@@ -9,7 +9,7 @@ use Rattle.byte_fields.specs.declared.frame_head.Mark.{Mark}
 use Rattle.frame_group.specs.Groups.{Frame, frame_of}
 use Rattle.second_chance.specs.declared.frame.Frame.{Frame as Known}
 use Rattle.second_chance.specs.Queue.{front_marks}
-use Rattle.flash_cache.specs.declared.leaving.FrontFrames.{FrontFrames}
+use Rattle.flash_cache.specs.declared.leaving.DepartingFrames.{DepartingFrames}
 use Rattle.flash_cache.specs.Pushed.{frames_given}
 
 -- a ring of groups that may be read
@@ -30,13 +30,13 @@ abbrev pub page_at : List ℕ → ℕ → List ℕ
 page_at content place = take 4096 (drop (128 + 4096 * place) content)
 
 -- the pages and marks of frames are those at these places of the front group, and each has a content
-pub record AreAt (groups : List (List Known)) (places : List ℕ) (frames : FrontFrames) : Type 0 where
+pub record AreAt (groups : List (List Known)) (places : List ℕ) (frames : DepartingFrames) : Type 0 where
   pub pages : frames.pages.items ≡ map (λ place. (mark_at groups place).page) places
   pub dirty : frames.dirty.items ≡ map (λ place. (mark_at groups place).dirty) places
   pub count : length frames.contents.items ≡ length places
 
 -- the frames that are put into a group again
-abbrev pub again : FrontFrames → List Frame
+abbrev pub again : DepartingFrames → List Frame
 again frames = frames_given frames.pages.items frames.dirty.items frames.contents.items
 
 -- the frames that heads and contents make

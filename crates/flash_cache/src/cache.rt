@@ -35,7 +35,7 @@ ghost use Rattle.flash_cache.specs.OnDisk.{HasLastStaged, SomeMoment};
 ghost use Rattle.flash_cache.specs.Kept.{GivesVersions, LeavesVersions, AreCleanGiven, LeavesClean};
 
 use crate::leaving::frames_leaving;
-use crate::making::{Given, group_content, heads_given};
+use crate::making::{PagesToPush, group_content, heads_given};
 use byte_fields::{FrameHead, Mark};
 use flash_directory::{Directory, HeadView};
 use frame_group::{GROUP_LEN, HEADS_LEN, PAGE_LEN, group_heads};
@@ -271,7 +271,7 @@ impl FlashCache {
             (pushed_groups self.old groups
             (frames_pushed self.old (S.state site.old).image pages.now changed.now contents.now))) }
         // Five calls for the group, five for a segment, and one for each page that is staged and for the sync.
-        ensures past { IsTrue (S.state site.old).honest
+        ensures device_calls { IsTrue (S.state site.old).honest
             → OnOk result (length (S.state site.new).past ≤ length (S.state site.old).past + 19) }
 
         // Of every site.
@@ -292,7 +292,7 @@ impl FlashCache {
             ⊎ ((stop ≡ Stop.Worn Dev.Flash) ⊎ (stop ≡ Stop.Foreign))))) }
     {
         let heads = heads_given(pages, changed, contents);
-        let given = Given {
+        let given = PagesToPush {
             pages,
             changed,
             contents,
@@ -310,7 +310,7 @@ impl FlashCache {
     }
 
     // The same where no segment is due, but that an error doesn't end the cache.
-    fn push<S: Site>(&mut self, site: &mut S, plan: &Plan, given: &Given) -> Result<(), Stop>
+    fn push<S: Site>(&mut self, site: &mut S, plan: &Plan, given: &PagesToPush) -> Result<(), Stop>
         requires going { Invariant self.old (S.state site.old) }
         requires none_due { is_due self.old.ring.hi self.old.segments.hi ≡ false }
         requires chances { plan.now.chances ≡ map (λ f. f.0) (chance_marks self.old) }
@@ -354,7 +354,7 @@ impl FlashCache {
             → ChangesPages (S.state site.old) (S.state site.new) }
         ensures alone { IsTrue (S.state site.old).honest → staged_pages self.old ≡ []
             → Untouched Dev.Disk (S.state site.old) (S.state site.new) }
-        ensures past { IsTrue (S.state site.old).honest
+        ensures device_calls { IsTrue (S.state site.old).honest
             → OnOk result (length (S.state site.new).past
             ≡ length (S.state site.old).past + (calls_of (staged_pages self.old) + 5)) }
 
@@ -423,7 +423,7 @@ impl FlashCache {
             → ChangesPages (S.state site.old) (S.state site.new) }
         ensures alone { IsTrue (S.state site.old).honest → staged.now ≡ []
             → Untouched Dev.Disk (S.state site.old) (S.state site.new) }
-        ensures past { IsTrue (S.state site.old).honest
+        ensures device_calls { IsTrue (S.state site.old).honest
             → OnOk result (length (S.state site.new).past
             ≡ length (S.state site.old).past + (calls_of staged.now + 5)) }
 
@@ -464,7 +464,7 @@ impl FlashCache {
             → ChangesOnly Dev.Flash (S.state site.old) (S.state site.new) }
         ensures appends { Matches self.old (S.state site.old) → OnOk result (Appends self.old.geometry
             GroupRing content.now (S.state site.old).image (S.state site.new).image) }
-        ensures past { IsTrue (S.state site.old).honest
+        ensures device_calls { IsTrue (S.state site.old).honest
             → OnOk result (length (S.state site.new).past ≡ length (S.state site.old).past + 5) }
 
         // Of every site.

@@ -27,7 +27,7 @@ const NO_MARK: Mark = Mark {
 
 /// Frames of the front group.
 #[derive(Drop)]
-pub struct FrontFrames {
+pub struct DepartingFrames {
     /// The page of each.
     pub pages: Vec<u32>,
     /// Whether each is dirty.
@@ -44,7 +44,7 @@ pub fn frames_leaving<S: Site>(
     directory: &Directory,
     ring: &Ring,
     plan: &Plan,
-) -> Result<(FrontFrames, FrontFrames), Stop>
+) -> Result<(DepartingFrames, DepartingFrames), Stop>
     requires ring { IsGroupRing ring.now (S.state site.old) }
     requires live { 0 < length directory.now.groups → IsLive ring.now.shape ring.now.hi directory.now.first }
     requires few { length (front_marks directory.now.groups) ≤ 8 }
@@ -80,7 +80,7 @@ fn frames_at<S: Site>(
     directory: &Directory,
     ring: &Ring,
     places: &Places,
-) -> Result<FrontFrames, Stop>
+) -> Result<DepartingFrames, Stop>
     requires ring { IsGroupRing ring.now (S.state site.old) }
     requires live { 0 < length directory.now.groups → IsLive ring.now.shape ring.now.hi directory.now.first }
     requires few { length (front_marks directory.now.groups) ≤ 8 }
@@ -95,7 +95,7 @@ fn frames_at<S: Site>(
 {
     let (pages, dirty) = pages_at(alloc, directory, places)?;
     match contents_at(alloc, site, ring, directory.first(), places) {
-        Ok(contents) => Ok(FrontFrames {
+        Ok(contents) => Ok(DepartingFrames {
             pages,
             dirty,
             contents,

@@ -5,14 +5,14 @@ ghost use Rattle.frame_group.specs.Groups.{Frame, IsFrame, heads_of, group};
 ghost use Rattle.flash_cache.specs.Pushed.{frames_given};
 ghost use Rattle.flash_cache.specs.Leaving.{frames_with, again};
 
-use crate::leaving::FrontFrames;
+use crate::leaving::DepartingFrames;
 use byte_fields::FrameHead;
 use frame_group::{GROUP_LEN, put_frame};
 use slotted_page::Page;
 
 /// What is given to a push: pages, whether each was changed, what each has, and the heads that they make.
 #[derive(Drop)]
-pub struct Given<'a> {
+pub struct PagesToPush<'a> {
     pub pages: &'a [u32],
     pub changed: &'a [bool],
     pub contents: &'a [Page],
@@ -45,7 +45,7 @@ pub fn heads_given(pages: &[u32], changed: &[bool], contents: &[Page]) -> [Frame
 
 /// The content of a group with the second chances, and behind them the frames that these heads and contents make.
 pub fn group_content(
-    chances: &FrontFrames,
+    chances: &DepartingFrames,
     heads: &[FrameHead; 8],
     contents: &[Page],
 ) -> [u8; GROUP_LEN]

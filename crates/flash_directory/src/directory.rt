@@ -6,7 +6,7 @@ ghost use Rattle.flash_directory.specs.Heads.{frames_in, newest, IsNewest, IsQue
 
 use crate::group::Group;
 use crate::place::Place;
-use crate::places::{FRAMES, enter_group, make_way};
+use crate::places::{FRAMES, drop_front_group, enter_group};
 use byte_fields::{FrameHead, Mark};
 use indexmap::IndexMap;
 use site::Stop;
@@ -115,7 +115,7 @@ impl Directory {
     {
         // What wants memory comes first.
         self.places.reserve(FRAMES)?;
-        make_way(&mut self.groups, &mut self.places, self.first, drop_front)?;
+        drop_front_group(&mut self.groups, &mut self.places, self.first, drop_front)?;
         self.first = first_then(self.first, drop_front);
         let group = Group::of_heads(heads);
         let number = self.first + self.groups.len() as u64;

@@ -58,7 +58,7 @@ pub fn enter_group(places: &mut IndexMap<u32, Place>, group: &Group, number: u64
 
 /// The front group leaves where it is said to, and there is room for another one. The first group has this number.
 /// Where memory is wanting all stays as it was.
-pub fn make_way(
+pub fn drop_front_group(
     groups: &mut VecDeque<Group>,
     places: &mut IndexMap<u32, Place>,
     first: u64,

@@ -14,7 +14,7 @@ pub record Tells {T : Type 0} (line : List ℕ) (old new : State) (result : Resu
   pub devices : IsTrue old.honest → SameDevices old new
   pub cause : OnErr result (Rose old.output_faults new.output_faults)
   pub reads : SameReads old new
-  pub goes : Preserves old new
+  pub preserves : Preserves old new
   pub faults : TellFaults result old new
 
 -- Behind what was told before, this line comes last: all of it where no tell has failed, and else a front of it.

@@ -48,7 +48,7 @@ fn judge<S: Site>(alloc: Global, site: &mut S) -> Result<Verdict, Stop>
 /// 11 where they aren't sound. Devices without sizes fail the first rule.
 pub fn serve_check<S: Site>(alloc: Global, site: &mut S) -> u8
     ensures check { CheckContract (S.state site.old) (S.state site.new) result }
-    ensures goes { Preserves (S.state site.old) (S.state site.new) }
+    ensures preserves { Preserves (S.state site.old) (S.state site.new) }
     ensures faults { result ≡ 0 → SameFaults (S.state site.old) (S.state site.new) }
     ensures first { FirstDecides result (S.state site.old) (S.state site.new) }
 {

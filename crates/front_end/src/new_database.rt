@@ -67,7 +67,7 @@ fn read_first<S: Site>(
         → IfOk result (λ found. IfNone found (AreZero (content_of dev (S.state site.old).image) at
         (at + length into.old))) }
     ensures same { IsTrue (S.state site.old).honest → IsUnchanged (S.state site.old) (S.state site.new) }
-    ensures goes { Preserves (S.state site.old) (S.state site.new) }
+    ensures preserves { Preserves (S.state site.old) (S.state site.new) }
     ensures cause { IfErr result (λ failed.
         Rose (faults_of dev (S.state site.old)) (faults_of dev (S.state site.new))) }
     ensures faults { CallFaults dev result (S.state site.old) (S.state site.new) }
@@ -86,7 +86,7 @@ fn find_nonzero<S: Site>(site: &mut S, dev: Dev) -> Result<Option<u64>, Failed>
     ensures none { IsTrue (S.state site.old).honest
         → IfOk result (λ found. IfNone found (IsBlankAt dev (S.state site.old).image)) }
     ensures same { IsTrue (S.state site.old).honest → IsUnchanged (S.state site.old) (S.state site.new) }
-    ensures goes { Preserves (S.state site.old) (S.state site.new) }
+    ensures preserves { Preserves (S.state site.old) (S.state site.new) }
     ensures cause { IfErr result (λ failed.
         Rose (faults_of dev (S.state site.old)) (faults_of dev (S.state site.new))) }
     ensures faults { CallFaults dev result (S.state site.old) (S.state site.new) }
@@ -110,7 +110,7 @@ fn test_device<S: Site>(site: &mut S, dev: Dev) -> Result<(), Unfit>
     ensures blank { IsTrue (S.state site.old).honest → OnOk result (IsBlankAt dev (S.state site.old).image) }
     ensures unfit { IfErr result (λ unfit. IsUnfitAt dev unfit (S.state site.old) (S.state site.new)) }
     ensures same { IsTrue (S.state site.old).honest → IsUnchanged (S.state site.old) (S.state site.new) }
-    ensures goes { Preserves (S.state site.old) (S.state site.new) }
+    ensures preserves { Preserves (S.state site.old) (S.state site.new) }
     ensures faults { TestFaults result (S.state site.old) (S.state site.new) }
 {
     match find_nonzero(site, dev) {
@@ -125,7 +125,7 @@ fn test_all<S: Site>(site: &mut S) -> Result<(), Unfit>
     ensures blank { IsTrue (S.state site.old).honest → OnOk result (IsBlank (S.state site.old).image) }
     ensures unfit { IfErr result (λ unfit. IsNotBlank unfit (S.state site.old) (S.state site.new)) }
     ensures same { IsTrue (S.state site.old).honest → IsUnchanged (S.state site.old) (S.state site.new) }
-    ensures goes { Preserves (S.state site.old) (S.state site.new) }
+    ensures preserves { Preserves (S.state site.old) (S.state site.new) }
     ensures faults { TestFaults result (S.state site.old) (S.state site.new) }
 {
     if let Err(unfit) = test_device(site, Dev::Log) {
@@ -152,7 +152,7 @@ fn test_fit<S: Site>(site: &mut S, geometry: &Geometry) -> Result<(), Unfit>
     ensures unread { (HasLengths geometry.now (S.state site.old).image → ⊥)
         → SameReads (S.state site.old) (S.state site.new) }
     ensures same { IsTrue (S.state site.old).honest → IsUnchanged (S.state site.old) (S.state site.new) }
-    ensures goes { Preserves (S.state site.old) (S.state site.new) }
+    ensures preserves { Preserves (S.state site.old) (S.state site.new) }
     ensures faults { TestFaults result (S.state site.old) (S.state site.new) }
 {
     if !has_lengths(site, geometry) {
@@ -167,7 +167,7 @@ fn test_fit<S: Site>(site: &mut S, geometry: &Geometry) -> Result<(), Unfit>
 pub fn make_new<S: Site>(geometry: &Geometry, site: &mut S) -> u8
     ensures new { New geometry.now (S.state site.old) (S.state site.new) result }
     ensures causes { NewCauses geometry.now (S.state site.old) (S.state site.new) result }
-    ensures goes { Preserves (S.state site.old) (S.state site.new) }
+    ensures preserves { Preserves (S.state site.old) (S.state site.new) }
     ensures faults { result ≡ 0 → SameFaults (S.state site.old) (S.state site.new) }
     ensures first { FirstDecides result (S.state site.old) (S.state site.new) }
 {

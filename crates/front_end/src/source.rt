@@ -72,7 +72,7 @@ impl Source {
             → IfErr result (λ halt. CutsOff halt (total self.old (S.state site.old)) (S.state site.old).input.left
             (S.state site.new).input.left) }
         ensures halts { IfErr result (λ halt. (halt ≡ Halt.Input) ⊎ (halt ≡ Halt.Limit)) }
-        ensures goes { Preserves (S.state site.old) (S.state site.new) }
+        ensures preserves { Preserves (S.state site.old) (S.state site.new) }
         ensures input { result ≡ Err Halt.Input → Rose (S.state site.old).input_faults (S.state site.new).input_faults }
         ensures faults { RunFaults result (S.state site.old) (S.state site.new) }
     {
@@ -106,7 +106,7 @@ impl Source {
         ensures same { IsTrue (S.state site.old).honest → HearsOnly (S.state site.old) (S.state site.new) }
         ensures takes { IsTrue (S.state site.old).honest → TakesWithin self.old (S.state site.old) (S.state site.new) }
         ensures halts { IfErr result (λ halt. (halt ≡ Halt.Input) ⊎ (halt ≡ Halt.Limit)) }
-        ensures goes { Preserves (S.state site.old) (S.state site.new) }
+        ensures preserves { Preserves (S.state site.old) (S.state site.new) }
         ensures input { result ≡ Err Halt.Input → Rose (S.state site.old).input_faults (S.state site.new).input_faults }
         ensures faults { RunFaults result (S.state site.old) (S.state site.new) }
     {
@@ -148,7 +148,7 @@ impl Source {
         ensures same { IsTrue (S.state site.old).honest → HearsOnly (S.state site.old) (S.state site.new) }
         ensures takes { IsTrue (S.state site.old).honest → TakesWithin self.old (S.state site.old) (S.state site.new) }
         ensures halts { IfErr result (λ halt. (halt ≡ Halt.Input) ⊎ (halt ≡ Halt.Limit)) }
-        ensures goes { Preserves (S.state site.old) (S.state site.new) }
+        ensures preserves { Preserves (S.state site.old) (S.state site.new) }
         ensures input { result ≡ Err Halt.Input → Rose (S.state site.old).input_faults (S.state site.new).input_faults }
         ensures faults { RunFaults result (S.state site.old) (S.state site.new) }
     {
@@ -182,7 +182,7 @@ impl Source {
         ensures takes { IsTrue (S.state site.old).honest → HasEnded self.old (S.state site.old)
             → TakesWithin self.old (S.state site.old) (S.state site.new) }
         ensures halts { IfErr result (λ halt. (halt ≡ Halt.Input) ⊎ (halt ≡ Halt.Limit)) }
-        ensures goes { Preserves (S.state site.old) (S.state site.new) }
+        ensures preserves { Preserves (S.state site.old) (S.state site.new) }
         ensures input { result ≡ Err Halt.Input → Rose (S.state site.old).input_faults (S.state site.new).input_faults }
         ensures faults { RunFaults result (S.state site.old) (S.state site.new) }
     {

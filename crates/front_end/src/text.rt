@@ -18,11 +18,11 @@ pub fn tell_reply<S: Site>(site: &mut S, reply: &Reply) -> Result<(), Failed>
     ensures told { IsTrue (S.state site.old).honest
         → OnOk result ((S.state site.new).told ≡ (S.state site.old).told ++ reply_text reply.now) }
     // It takes no more calls than the text has octets, and none but tells.
-    ensures past { IsTrue (S.state site.old).honest
+    ensures tells_only { IsTrue (S.state site.old).honest
         → OnOk result (TellsOnly (length (reply_text reply.now)) (S.state site.old) (S.state site.new)) }
     ensures same { IsTrue (S.state site.old).honest → SameDevices (S.state site.old) (S.state site.new) }
     ensures reads { SameReads (S.state site.old) (S.state site.new) }
-    ensures goes { Preserves (S.state site.old) (S.state site.new) }
+    ensures preserves { Preserves (S.state site.old) (S.state site.new) }
     ensures cause { OnErr result (Rose (S.state site.old).output_faults (S.state site.new).output_faults) }
     ensures faults { TellFaults result (S.state site.old) (S.state site.new) }
 {

@@ -11,7 +11,7 @@ use Rattle.image_form.specs.declared.formed.Found.{Found}
 use Rattle.image_form.specs.declared.place.Place.{Place}
 use Rattle.image_form.specs.Formed.{IsThere}
 use Rattle.image_check.specs.Deciding.{MayBeJudged, MeetsBefore, HoldOr, reading_of}
-use Rattle.image_form.specs.Verdict.{Reading, Reads, Rule, Rule1, Rule2, Rule3, Rule4, Rule5, Rule6, Rule7, Rule8, Rule9, Rule10, Rule11, HoldBefore, FailsFirst, IsSoundWith, picture_of, values_of}
+use Rattle.image_form.specs.Verdict.{Reading, Reads, Rule, OctetsAreFormed, KeptBlocksAreLive, RecordsFollowBegins, LosersCanBeUndone, LosersHoldOthersOff, VersionsFit, FramesAreClean, SegmentsFollowGroups, UndoHasRoom, MasterNamesTheActive, CommitsAreNumbered, HoldBefore, FailsFirst, IsSoundWith, logical_image_of, values_of}
 use Rattle.image_check.proofs.Readings.{a_reading}
 use Rattle.image_form.proofs.FirstRule.{may_be_read_later, there_later}
 
@@ -30,15 +30,15 @@ meets_later i found blocks a b goes same meets = record {
 -- The rule of a number.
 
 abbrev pub Numbered : ℕ → Reading → Image → Type 0
-Numbered (suc (suc (suc zero))) r image = Rule3 (picture_of r image)
-Numbered (suc (suc (suc (suc zero)))) r image = Rule4 (picture_of r image)
-Numbered (suc (suc (suc (suc (suc zero))))) r image = Rule5 (picture_of r image)
-Numbered (suc (suc (suc (suc (suc (suc zero)))))) r image = Rule6 (picture_of r image)
-Numbered (suc (suc (suc (suc (suc (suc (suc zero))))))) r image = Rule7 r.g image
-Numbered (suc (suc (suc (suc (suc (suc (suc (suc zero)))))))) r image = Rule8 r.g image
-Numbered (suc (suc (suc (suc (suc (suc (suc (suc (suc zero))))))))) r image = Rule9 (picture_of r image)
-Numbered (suc (suc (suc (suc (suc (suc (suc (suc (suc (suc zero)))))))))) r image = Rule10 (picture_of r image)
-Numbered (suc (suc (suc (suc (suc (suc (suc (suc (suc (suc (suc zero))))))))))) r image = Rule11 (picture_of r image)
+Numbered (suc (suc (suc zero))) r image = RecordsFollowBegins (logical_image_of r image)
+Numbered (suc (suc (suc (suc zero)))) r image = LosersCanBeUndone (logical_image_of r image)
+Numbered (suc (suc (suc (suc (suc zero))))) r image = LosersHoldOthersOff (logical_image_of r image)
+Numbered (suc (suc (suc (suc (suc (suc zero)))))) r image = VersionsFit (logical_image_of r image)
+Numbered (suc (suc (suc (suc (suc (suc (suc zero))))))) r image = FramesAreClean r.g image
+Numbered (suc (suc (suc (suc (suc (suc (suc (suc zero)))))))) r image = SegmentsFollowGroups r.g image
+Numbered (suc (suc (suc (suc (suc (suc (suc (suc (suc zero))))))))) r image = UndoHasRoom (logical_image_of r image)
+Numbered (suc (suc (suc (suc (suc (suc (suc (suc (suc (suc zero)))))))))) r image = MasterNamesTheActive (logical_image_of r image)
+Numbered (suc (suc (suc (suc (suc (suc (suc (suc (suc (suc (suc zero))))))))))) r image = CommitsAreNumbered (logical_image_of r image)
 Numbered _ r image = ⊤
 
 -- a rule by its number
@@ -105,7 +105,7 @@ pub reaches : {T : Type 0} (x : T) (i end : ℕ) (found : Found) (blocks : List 
 reaches x i end found blocks old a b reads past holds =
     let same : b.image ≡ a.image = (reads.same past.meets.there.log.honest).image in
     let meets : MeetsBefore end found blocks a = record { there = past.meets.there; reads = past.meets.reads; rules = holds } in
-    record { meets = meets_later end found blocks a b reads.goes same meets; same = same ∙ past.same }
+    record { meets = meets_later end found blocks a b reads.preserves same meets; same = same ∙ past.same }
 
 -- a rule that holds
 pub goes_past : {T : Type 0} (x : T) (i : ℕ) (found : Found) (blocks : List (List LogRecord)) (old a b : State) → OnlyReads {T = T} (Ok x) a b → Past i found blocks old a →
@@ -158,17 +158,17 @@ pub verdict_by : (end i : ℕ) (place : Place) (r : Reading) (image : Image) →
 verdict_by end i place r image reads fails = fails_at i r image fails.0 reads fails.1 fails.2
 
 -- or none does
-pub sound_by : (found : Found) (blocks : List (List LogRecord)) (old a : State) (records commits : ℕ) → Past 12 found blocks old a → records ≡ values_of (picture_of (reading_of found blocks) a.image) →
-    commits ≡ commit_count (picture_of (reading_of found blocks) a.image) → IsSoundWith old.image records commits
+pub sound_by : (found : Found) (blocks : List (List LogRecord)) (old a : State) (records commits : ℕ) → Past 12 found blocks old a → records ≡ values_of (logical_image_of (reading_of found blocks) a.image) →
+    commits ≡ commit_count (logical_image_of (reading_of found blocks) a.image) → IsSoundWith old.image records commits
 sound_by found blocks old a records commits past values count =
     subst (λ (image : Image). IsSoundWith image records commits) past.same (record { reading = reading_of found blocks; reads = past.meets.reads; rules = past.meets.rules; values = values; count = count })
 
 -- before the third rule
-pub meets_both : (found : Found) (site : State) → IsThere found site → Rule1 found.log.geometry found.master site.image → Rule2 found.log.geometry found.master site.image → (blocks : List (List LogRecord)) × MeetsBefore 3 found blocks site
+pub meets_both : (found : Found) (site : State) → IsThere found site → OctetsAreFormed found.log.geometry found.master site.image → KeptBlocksAreLive found.log.geometry found.master site.image → (blocks : List (List LogRecord)) × MeetsBefore 3 found blocks site
 meets_both found site there formed live =
     let read = a_reading found.log.geometry found.master site.image formed live in
     (read.0, record { there = there; reads = read.1; rules = none_before (reading_of found read.0) site.image })
 
 -- the second one
-pub fails_kept : (found : Found) (site : State) (stand : Bool) → Rule1 found.log.geometry found.master site.image → (IsTrue stand ↔ Rule2 found.log.geometry found.master site.image) → stand ≡ false → FailsFirst 2 site.image
+pub fails_kept : (found : Found) (site : State) (stand : Bool) → OctetsAreFormed found.log.geometry found.master site.image → (IsTrue stand ↔ KeptBlocksAreLive found.log.geometry found.master site.image) → stand ≡ false → FailsFirst 2 site.image
 fails_kept found site stand formed says other = (found.log.geometry, found.master, formed, λ rule. true≢false (sym (says.1 rule) ∙ other))

@@ -14,7 +14,7 @@ use Rattle.log_records.specs.declared.log_record.LogRecord.{LogRecord}
 use Rattle.log_records.specs.declared.log_record.LogRecord.TheVariants.{Begin, Update, Clr, Commit, End}
 use Rattle.log_records.specs.Log.{Entry, txn_of, is_of, is_closed, is_update, is_number, is_on, number_of, entries_of, last_where, last_on}
 use Rattle.log_records.specs.Unfinished.{is_begin, losers}
-use Rattle.log_records.specs.Sound.{Picture, Pairwise, HoldsOff}
+use Rattle.log_records.specs.Sound.{LogicalImage, Pairwise, HoldsOff}
 use Rattle.log_laws.specs.Analysis.{unfinished_at}
 use Rattle.log_laws.proofs.Lists.{one_true, last_where-filter, last_passes}
 use Rattle.log_laws.proofs.Listing.{listed_is_loser}
@@ -22,7 +22,7 @@ use Rattle.log_laws.proofs.Values.{last_same, last_new}
 use Rattle.image_check.specs.declared.unfinished.Left.{Left}
 use Rattle.image_check.specs.Unended.{AreLeft, left_of}
 use Rattle.image_check.specs.Holding.{AreHeld, IsListed, holds, is_others, clashes_by}
-use Rattle.image_form.specs.Verdict.{Rule4}
+use Rattle.image_form.specs.Verdict.{LosersCanBeUndone}
 use Rattle.log_records.proofs.Lists.{one, all_last}
 
 -- Who is on the list.
@@ -72,7 +72,7 @@ listed_there closed t (x ∷ xs) lives some = by (is_begin x.rec) (x.lsn == t) r
     by false q own later again = more false (again later)
 
 -- where each unfinished transaction has its chain, each one with a record is on the list or closed
-pub listed : (p : Picture) (front : List Entry) (e : Entry) (back : List Entry) → p.log ≡ front ++ e ∷ back → Rule4 p → IsListed p.log (txn_of e)
+pub listed : (p : LogicalImage) (front : List Entry) (e : Entry) (back : List Entry) → p.log ≡ front ++ e ∷ back → LosersCanBeUndone p → IsListed p.log (txn_of e)
 listed p front e back split fourth = elim (cases_Bool (is_closed p.log t)) [
   | inl closed ↦
       let off : list_any (λ n. n == t) (losers p.log) ≡ false = elim (cases_Bool (list_any (λ n. n == t) (losers p.log))) [

@@ -13,7 +13,7 @@ use Rattle.std_lemmas.proofs.Lists.{range_push}
 use Rattle.log_records.specs.declared.log_record.LogRecord.{LogRecord}
 use Rattle.log_records.specs.declared.log_record.LogRecord.TheVariants.{Begin, Update, Clr, Commit, End}
 use Rattle.log_records.specs.Log.{Entry}
-use Rattle.log_records.specs.Sound.{Picture, AreNumbered, commit_count, commit_number, commit_number_by, commit_numbers, before_block, from_block}
+use Rattle.log_records.specs.Sound.{LogicalImage, AreNumbered, commit_count, commit_number, commit_number_by, commit_numbers, before_block, from_block}
 use Rattle.image_check.specs.declared.commits.Numbers.{Numbers}
 use Rattle.image_check.specs.Counting.{Heard, Counts, Fit}
 
@@ -177,7 +177,7 @@ heard_wrong redo n records rest lsn txn number a m heard off all =
 
 -- at the end
 
-pub numbered : (p : Picture) (n : Numbers) → Heard p.master.redo n p.log → Fit n.first n.early n.late p.master.commits p.hi → AreNumbered p
+pub numbered : (p : LogicalImage) (n : Numbers) → Heard p.master.redo n p.log → Fit n.first n.early n.late p.master.commits p.hi → AreNumbered p
 numbered p n heard fit =
     let k : ℕ = n.early + n.late in
     let before : ℕ = length (commit_numbers (before_block p.master.redo p.log)) in
@@ -201,7 +201,7 @@ numbered p n heard fit =
     first_is : n.first + n.early ≡ p.master.commits + 1 → n.first ≡ p.master.commits + 1 - length (commit_numbers (before_block p.master.redo p.log))
     first_is some = let early = heard.early in omega (arith, early, some)
 
-pub fits : (p : Picture) (n : Numbers) → Heard p.master.redo n p.log → AreNumbered p → Fit n.first n.early n.late p.master.commits p.hi
+pub fits : (p : LogicalImage) (n : Numbers) → Heard p.master.redo n p.log → AreNumbered p → Fit n.first n.early n.late p.master.commits p.hi
 fits p n heard are =
     let k : ℕ = n.early + n.late in
     let before : ℕ = length (commit_numbers (before_block p.master.redo p.log)) in
@@ -224,5 +224,5 @@ fits p n heard are =
     }
 
 -- and so many were made
-pub counted_all : (p : Picture) (n : Numbers) → Heard p.master.redo n p.log → p.master.commits + n.late ≡ commit_count p
+pub counted_all : (p : LogicalImage) (n : Numbers) → Heard p.master.redo n p.log → p.master.commits + n.late ≡ commit_count p
 counted_all p n heard = ap (λ (k : ℕ). p.master.commits + k) heard.late

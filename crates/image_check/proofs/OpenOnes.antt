@@ -11,7 +11,7 @@ use Rattle.log_records.specs.declared.log_record.LogRecord.{LogRecord}
 use Rattle.log_records.specs.declared.log_record.LogRecord.TheVariants.{Begin, Update, Clr, Commit, End}
 use Rattle.log_records.specs.Log.{Entry, txn_of, is_of, is_closing, is_closed}
 use Rattle.log_records.specs.Unfinished.{is_begin}
-use Rattle.log_records.specs.Sound.{Active, Master, Picture, IsInOrder, InTurn, IsOfOpenTransaction, is_known, from_block}
+use Rattle.log_records.specs.Sound.{Active, Master, LogicalImage, IsInOrder, InTurn, IsOfOpenTransaction, is_known, from_block}
 use Rattle.log_laws.specs.Follow.{IsFresh}
 use Rattle.log_laws.proofs.Values.{closed_push}
 use Rattle.log_laws.proofs.Appends.{fresh_open}
@@ -19,7 +19,7 @@ use Rattle.log_laws.proofs.Orders.{InTurn-weaker, InTurn-all}
 use Rattle.log_laws.proofs.Parts.{InTurn-right}
 use Rattle.checkpoint.specs.declared.pairs.Pair.{Pair}
 use Rattle.image_check.specs.Opening.{AreOpen, MayStand}
-use Rattle.image_form.specs.Verdict.{Rule3}
+use Rattle.image_form.specs.Verdict.{RecordsFollowBegins}
 
 -- Records one after the other.
 
@@ -149,13 +149,13 @@ open_first m pairs txns named is = record {
 
 -- What the rule says of the next record.
 
-pub third_at : (p : Picture) (front : List Entry) (e : Entry) (back : List Entry) → p.log ≡ front ++ e ∷ back → Rule3 p → MayStand p.master front e
+pub third_at : (p : LogicalImage) (front : List Entry) (e : Entry) (back : List Entry) → p.log ≡ front ++ e ∷ back → RecordsFollowBegins p → MayStand p.master front e
 third_at p front e back split rule = record {
   begun = (all_right (λ x. txn_of x ≤ x.lsn) front (e ∷ back) (subst (AllByRecursion (λ x. txn_of x ≤ x.lsn)) split rule.begun)).0;
   of_open = (InTurn-right (IsOfOpenTransaction p.master) [] front (e ∷ back) (subst (InTurn (IsOfOpenTransaction p.master) []) split rule.open_transactions)).0;
 }
 
-pub third_of : (p : Picture) → InTurn (MayStand p.master) [] p.log → Rule3 p
+pub third_of : (p : LogicalImage) → InTurn (MayStand p.master) [] p.log → RecordsFollowBegins p
 third_of p stand = record {
   open_transactions = InTurn-weaker (MayStand p.master) (IsOfOpenTransaction p.master) (λ earlier e may. may.of_open) [] p.log stand;
   begun = InTurn-all (MayStand p.master) (λ x. txn_of x ≤ x.lsn) (λ earlier e may. may.begun) [] p.log stand;

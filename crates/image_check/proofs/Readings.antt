@@ -16,7 +16,7 @@ use Rattle.log_records.specs.Spelling.{block, AreBlock, IsBlock}
 use Rattle.checkpoint.specs.declared.master.Master.{Master}
 use Rattle.checkpoint.specs.Laws.{OneNewest}
 use Rattle.log_store.specs.Representation.{HasBlocks}
-use Rattle.image_form.specs.Verdict.{Reading, Rule, Rule2}
+use Rattle.image_form.specs.Verdict.{Reading, Rule, KeptBlocksAreLive}
 use Rattle.image_check.specs.Laws.{OneReading, AReading, SoundFailsNone}
 use Rattle.image_form.proofs.LiveUnits.{all_from}
 use Rattle.log_store.proofs.OneLog.{one_blocks}
@@ -121,7 +121,7 @@ sound_fails_none newest image records commits (suc zero) sound fails = fails sou
 sound_fails_none newest image records commits (suc (suc zero)) sound fails =
     let sizes : sound.reading.g ≡ fails.0 = one_size sound.reading.g fails.0 image sound.reads.formed.sizes fails.2.sizes in
     let masters : sound.reading.master ≡ fails.1 = newest image sound.reading.master fails.1 sound.reads.formed.master fails.2.master in
-    fails.3 (subst (λ (m : Master). Rule2 fails.0 m image) masters (subst (λ (g : Geometry). Rule2 g sound.reading.master image) sizes sound.reads.live))
+    fails.3 (subst (λ (m : Master). KeptBlocksAreLive fails.0 m image) masters (subst (λ (g : Geometry). KeptBlocksAreLive g sound.reading.master image) sizes sound.reads.live))
 sound_fails_none newest image records commits (suc (suc (suc i))) sound fails =
     let k : ℕ = suc (suc (suc i)) in
     let same : sound.reading ≡ fails.0 = reads_once newest image sound.reading fails.0 sound.reads fails.1 in

@@ -16,7 +16,7 @@ use Rattle.site.specs.Laws.{stays_honest}
 use Rattle.indexmap.specs.IndexMap.{IndexMap, get}
 use Rattle.record_model.specs.State.{Content, content_at}
 use Rattle.log_records.specs.Log.{Entry, Version, blank_version, version_at, number_of, is_number, is_on, after_of, last_where}
-use Rattle.log_records.specs.Sound.{Picture, ShowsLast, before_block, last_known}
+use Rattle.log_records.specs.Sound.{LogicalImage, ShowsLast, before_block, last_known}
 use Rattle.slotted_page.specs.Layout.{lsn_of}
 use Rattle.second_chance.specs.Queue.{Queue}
 use Rattle.flash_cache.specs.Representation.{version_on}
@@ -25,7 +25,7 @@ use Rattle.image_form.specs.declared.rings.Rings.{Rings}
 use Rattle.image_form.specs.Octets.{AreGroups}
 use Rattle.image_form.specs.Newest.{ShowsFrames}
 use Rattle.image_check.specs.Showing.{FindsVersions, AreExpected, IsKnownEarly, IsAs, HasContents, is_logged, written_by}
-use Rattle.image_form.specs.Verdict.{Rule6}
+use Rattle.image_form.specs.Verdict.{VersionsFit}
 use Rattle.image_form.proofs.Lasting.{found_later}
 use Rattle.log_records.proofs.Lists.{last_where-append}
 
@@ -189,7 +189,7 @@ expected_at pages lsns are log contents is page slot less low =
 abbrev pub AllHave : {S : Type 0} → IndexMap ℕ Content S → Geometry → Image → Type 0
 AllHave contents g image = (page : ℕ) → page < g.pages → HasContents contents page (version_on g image page)
 
-module _ (p : Picture) (g : Geometry) (image : Image) (pages_are : p.pages ≡ versions_on g image) (lsns : List ℕ) (are : lsns ≡ map (λ (v : Version). v.lsn) (versions_on g image)) where
+module _ (p : LogicalImage) (g : Geometry) (image : Image) (pages_are : p.pages ≡ versions_on g image) (lsns : List ℕ) (are : lsns ≡ map (λ (v : Version). v.lsn) (versions_on g image)) where
   lsns_are : lsns ≡ map (λ (v : Version). v.lsn) p.pages
   lsns_are = are ∙ ap (map (λ (v : Version). v.lsn)) (sym pages_are)
 
@@ -199,13 +199,13 @@ module _ (p : Picture) (g : Geometry) (image : Image) (pages_are : p.pages ≡ v
   version_is : (page : ℕ) → page < g.pages → version_at p.pages page ≡ version_in (version_on g image page)
   version_is page less = ap (λ (l : List Version). version_at l page) pages_are ∙ get_or-map-range_with_len (λ number. version_in (version_on g image number)) 0 g.pages page page blank_version less (omega arith)
 
-  pub rule_logged : (end : ℕ) → end ≡ 512 * p.hi → Rule6 p → list_all (is_logged end) lsns ≡ true
+  pub rule_logged : (end : ℕ) → end ≡ 512 * p.hi → VersionsFit p → list_all (is_logged end) lsns ≡ true
   rule_logged end is rule = each_logged end p.pages lsns lsns_are (λ page less. ap (λ (k : ℕ). is_logged k (version_at p.pages page).lsn) is ∙ (rule page less).logged)
 
-  pub rule_early : Rule6 p → AllByRecursion (IsKnownEarly p.master.redo lsns) p.log
+  pub rule_early : VersionsFit p → AllByRecursion (IsKnownEarly p.master.redo lsns) p.log
   rule_early rule = early_of p.master.redo p.pages lsns lsns_are p.log (λ page less. (rule page less).knows)
 
-  pub rule_contents : {S : Type 0} (contents : IndexMap ℕ Content S) → AreExpected lsns p.log contents → Rule6 p → AllHave contents g image
+  pub rule_contents : {S : Type 0} (contents : IndexMap ℕ Content S) → AreExpected lsns p.log contents → VersionsFit p → AllHave contents g image
   rule_contents contents is rule page less slot low =
       let there : page < length p.pages = let n = count in omega (arith, n, less) in
       let v = version_at p.pages page in
@@ -213,7 +213,7 @@ module _ (p : Picture) (g : Geometry) (image : Image) (pages_are : p.pages ≡ v
       let shown : IsAs (content_at v.slots slot) (get nat_eq contents (32 * page + slot)) = subst (IsAs (content_at v.slots slot)) (sym (expected_at p.pages lsns lsns_are p.log contents is page slot there low)) (as_last (content_at v.slots slot) o ((rule page there).shows slot low)) in
       subst (λ (x : Version). IsAs (content_at x.slots slot) (get nat_eq contents (32 * page + slot))) (version_is page less) shown
 
-  pub rule_of : {S : Type 0} (end : ℕ) (contents : IndexMap ℕ Content S) → end ≡ 512 * p.hi → list_all (is_logged end) lsns ≡ true → AllByRecursion (IsKnownEarly p.master.redo lsns) p.log → AreExpected lsns p.log contents → AllHave contents g image → Rule6 p
+  pub rule_of : {S : Type 0} (end : ℕ) (contents : IndexMap ℕ Content S) → end ≡ 512 * p.hi → list_all (is_logged end) lsns ≡ true → AllByRecursion (IsKnownEarly p.master.redo lsns) p.log → AreExpected lsns p.log contents → AllHave contents g image → VersionsFit p
   rule_of end contents is logged early expected all page less = record {
     logged = ap (λ (k : ℕ). is_logged k (version_at p.pages page).lsn) (sym is) ∙ logged_each end p.pages lsns lsns_are logged page less;
     shows = λ slot low.

@@ -11,7 +11,7 @@ use Rattle.image_changes.specs.Rings.{master_shape, log_shape, group_shape, segm
 use Rattle.record_model.specs.State.{Content}
 use Rattle.log_records.specs.declared.log_record.LogRecord.{LogRecord}
 use Rattle.log_records.specs.Log.{log_from, table_of}
-use Rattle.log_records.specs.Sound.{Picture, Means}
+use Rattle.log_records.specs.Sound.{LogicalImage, Means}
 use Rattle.log_records.specs.Sound as lists
 use Rattle.byte_fields.specs.declared.frame_head.FrameHead.{FrameHead}
 use Rattle.byte_fields.specs.FrameHeads.{spelling_of_all}
@@ -25,10 +25,10 @@ use Rattle.log_store.specs.LogList.{LogList}
 use Rattle.log_store.specs.Representation.{HasBlocks, block_on}
 use Rattle.log_store.proofs.Standing.{stands_there}
 use Rattle.flash_cache.specs.Representation.{PagesExist}
-use Rattle.image_meaning.specs.Meaning.{IsNewest, HasNewest, IsFrameOf, AreOctetsSoundUnder, IsSoundUnder, StandsUnder, StandsFor, picture_under, versions_on, kept_by}
+use Rattle.image_meaning.specs.Meaning.{IsNewest, HasNewest, IsFrameOf, AreOctetsSoundUnder, IsSoundUnder, StandsUnder, StandsFor, logical_image_under, versions_on, kept_by}
 use Rattle.image_meaning.specs.Meaning as meaning
 use Rattle.image_form.specs.Octets.{IsGroupOn, AreBlocks, SegmentsAreFormed, IsFormed, IsOnPage, IsSegmentOn}
-use Rattle.image_form.specs.Verdict.{Reading, Reads, HoldBefore, picture_of}
+use Rattle.image_form.specs.Verdict.{Reading, Reads, HoldBefore, logical_image_of}
 use Rattle.image_check.specs.Laws.{SoundStands, StandingIsSound, JudgedStands, StandingIsJudged}
 use Rattle.image_form.proofs.LiveUnits.{all_live, each_live}
 use Rattle.image_form.proofs.BlockLists.{one_block, log_in_table, blocks_on_pages, log_in_order}
@@ -106,10 +106,10 @@ newest_none image m none has = subst (λ (h : ℕ). IsOf (newest_of (live master
 none_newest : (image : Image) → hi_of master_shape image.log ≡ 0 → HasMaster image blank
 none_newest image none = subst (λ (h : ℕ). IsOf (newest_of (live master_shape h image.log)) blank) (sym none) refl
 
--- Pictures.
+-- Logical images.
 
-abbrev picture_with : Geometry → Master → Image → List (List LogRecord) → ℕ → Picture
-picture_with g m image blocks hi = record {
+abbrev logical_image_with : Geometry → Master → Image → List (List LogRecord) → ℕ → LogicalImage
+logical_image_with g m image blocks hi = record {
   master = seen m;
   log = log_from m.kept blocks;
   hi = hi;
@@ -123,7 +123,7 @@ module _ (r : Reading) (image : Image) (reads : Reads r image) (rules : HoldBefo
   formed : IsFormed r.g r.master image
   formed = reads.formed
 
-  lists_sound : lists.IsSound (picture_of r image)
+  lists_sound : lists.IsSound (logical_image_of r image)
   lists_sound =
       let next = reads.blocks.next in
       let three = (rules 3 (omega arith)).third refl in
@@ -168,20 +168,20 @@ module _ (r : Reading) (image : Image) (reads : Reads r image) (rules : HoldBefo
     clean = (rules 7 (omega arith)).seventh refl;
   }
 
--- A picture under a newest master is that of a reading.
+-- A logical image under a newest master is that of a reading.
 
 stands_under : (newest : Option Master) (m : Master) (g : Geometry) (image : Image) (blocks : List (List LogRecord)) (hi : ℕ) (table : List Content) (commits : ℕ) → m ≡ meaning.saved_by newest →
-    hi ≡ meaning.next_block_under newest blocks → AreOctetsSoundUnder newest g image → HasBlocks g m.kept blocks image → lists.IsSound (picture_with g m image blocks hi) → Means (picture_with g m image blocks hi) table commits →
+    hi ≡ meaning.next_block_under newest blocks → AreOctetsSoundUnder newest g image → HasBlocks g m.kept blocks image → lists.IsSound (logical_image_with g m image blocks hi) → Means (logical_image_with g m image blocks hi) table commits →
     StandsUnder newest g image table commits
 stands_under newest m g image blocks hi table commits is end octets has sound means =
-    let same : picture_with g m image blocks hi ≡ picture_under newest g image blocks = (λ i. picture_with g (is i) image blocks (end i)) in record {
+    let same : logical_image_with g m image blocks hi ≡ logical_image_under newest g image blocks = (λ i. logical_image_with g (is i) image blocks (end i)) in record {
       blocks = blocks;
       sound = record {
         octets = octets;
         held = subst (λ (x : Master). HasBlocks g x.kept blocks image) is has;
         records = subst lists.IsSound same sound;
       };
-      means = subst (λ (p : Picture). Means p table commits) same means;
+      means = subst (λ (p : LogicalImage). Means p table commits) same means;
     }
 
 pub sound_stands : SoundStands
@@ -239,8 +239,8 @@ standing_is_sound g image table commits stands =
     let octets = sound.octets in
     let held = sound.held in
     let hi : ℕ = hi_of (log_shape g) image.log in
-    let same : picture_under newest g image blocks ≡ picture_with g m image blocks hi = (λ i. picture_with g m image blocks (end_under newest g image blocks held i)) in
-    let records : lists.IsSound (picture_with g m image blocks hi) = subst lists.IsSound same sound.records in
+    let same : logical_image_under newest g image blocks ≡ logical_image_with g m image blocks hi = (λ i. logical_image_with g m image blocks (end_under newest g image blocks held i)) in
+    let records : lists.IsSound (logical_image_with g m image blocks hi) = subst lists.IsSound same sound.records in
     let masters = masters_under newest g image octets.masters in
     let few = octets.limits.groups in
     let some = octets.limits.blocks in
@@ -273,7 +273,7 @@ standing_is_sound g image table commits stands =
         tenth = λ is. records.master_names_the_active;
         eleventh = λ is. records.commits;
       };
-      means = subst (λ (p : Picture). Means p table commits) same stands.stands.means;
+      means = subst (λ (p : LogicalImage). Means p table commits) same stands.stands.means;
     }
 
 -- Judged sound.
@@ -281,7 +281,7 @@ standing_is_sound g image table commits stands =
 pub judged_stands : JudgedStands
 judged_stands image records commits sound =
     let r = sound.reading in
-    let p : Picture = picture_of r image in
+    let p : LogicalImage = logical_image_of r image in
     record {
       sizes = r.g;
       table = table_of p.log p.pages;

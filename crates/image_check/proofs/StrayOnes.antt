@@ -12,7 +12,7 @@ use Rattle.log_records.specs.declared.log_record.LogRecord.{LogRecord}
 use Rattle.log_records.specs.declared.log_record.LogRecord.TheVariants.{Begin, Update, Clr, Commit, End}
 use Rattle.log_records.specs.Log.{Entry, txn_of, is_of, is_closing, is_closed, entries_of}
 use Rattle.log_records.specs.Unfinished.{is_begin, losers}
-use Rattle.log_records.specs.Sound.{Picture, InTurn, IsInOrder, IsLoserChain, Continues, HaveBegunBefore}
+use Rattle.log_records.specs.Sound.{LogicalImage, InTurn, IsInOrder, IsLoserChain, Continues, HaveBegunBefore}
 use Rattle.log_laws.proofs.Orders.{filter_none}
 use Rattle.log_laws.proofs.Parts.{InTurn-right}
 use Rattle.log_laws.proofs.Values.{closed_push}
@@ -20,7 +20,7 @@ use Rattle.log_laws.proofs.Listing.{listed_is_loser}
 use Rattle.image_check.specs.declared.chain.Chain.{Chain}
 use Rattle.image_check.specs.declared.unfinished.Left.{Left}
 use Rattle.image_check.specs.Chaining.{IsKept, StandsThere, Breaks, AreStrays, begin_at}
-use Rattle.image_form.specs.Verdict.{Rule4}
+use Rattle.image_form.specs.Verdict.{LosersCanBeUndone}
 use Rattle.image_check.proofs.OpenOnes.{all_before, any_without}
 use Rattle.image_check.proofs.HeldOnes.{begins_there, begin_found, listed_there}
 use Rattle.log_laws.proofs.Orderly.{fresh_of}
@@ -197,7 +197,7 @@ HaveChains log = (t : ℕ) → list_any (λ n. n == t) (losers log) ≡ true →
 abbrev pub AreClosed : List Entry → List ℕ → Type 0
 AreClosed log txns = (t : ℕ) → list_any (λ x. x == t) txns ≡ true → is_closed log t ≡ true
 
-pub fourth_of : (p : Picture) (txns : List ℕ) → AreStrays p.log p.log txns → HaveChains p.log → AreClosed p.log txns → Rule4 p
+pub fourth_of : (p : LogicalImage) (txns : List ℕ) → AreStrays p.log p.log txns → HaveChains p.log → AreClosed p.log txns → LosersCanBeUndone p
 fourth_of p txns strays chains closed t loser =
     let both = and_parts (list_any (is_of t) p.log) (not (is_closed p.log t)) loser in
     let lives = not-true (is_closed p.log t) both.1 in
@@ -208,10 +208,10 @@ fourth_of p txns strays chains closed t loser =
           absurd (true≢false (sym (closed t stray) ∙ lives))
     ]
 
-pub chains_of : (p : Picture) → Rule4 p → HaveChains p.log
+pub chains_of : (p : LogicalImage) → LosersCanBeUndone p → HaveChains p.log
 chains_of p rule t listed = rule t (listed_is_loser p.log t listed)
 
-pub closed_of : (p : Picture) (txns : List ℕ) → AreStrays p.log p.log txns → Rule4 p → AreClosed p.log txns
+pub closed_of : (p : LogicalImage) (txns : List ℕ) → AreStrays p.log p.log txns → LosersCanBeUndone p → AreClosed p.log txns
 closed_of p txns strays rule t stray = elim (cases_Bool (is_closed p.log t)) [
   | inl closed ↦ closed
   | inr lives ↦

@@ -2,7 +2,7 @@
 use Rattle.std.specs.Prelude.{◌≡◌, ◌⊎◌, ℕ, ◌+◌, ◌≤◌, ◌<◌, Bool, if◌then◌else◌, Option, Some, None, List, ◌++◌, length}
 use Rattle.std.specs.List.{range_with_len}
 use Rattle.log_records.specs.Log.{Entry}
-use Rattle.log_records.specs.Sound.{Picture, AreNumbered, commit_count, commit_numbers, before_block, from_block}
+use Rattle.log_records.specs.Sound.{LogicalImage, AreNumbered, commit_count, commit_numbers, before_block, from_block}
 use Rattle.image_check.specs.declared.commits.Numbers.{Numbers}
 
 -- what was heard: the numbers run on from the first one, and so many stand before the redo block and from it on
@@ -29,6 +29,6 @@ pub record Fit (first early late commits hi : ℕ) : Type 0 where
   pub room : commits + late ≤ hi
 
 -- the commits are numbered on by one, and so many were made; or they aren't numbered so
-abbrev pub CommitsAre : Option ℕ → Picture → Type 0
+abbrev pub CommitsAre : Option ℕ → LogicalImage → Type 0
 CommitsAre (Some count) p = AreNumbered p × (count ≡ commit_count p)
 CommitsAre None p = AreNumbered p → ⊥

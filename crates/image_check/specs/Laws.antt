@@ -7,13 +7,14 @@ use Rattle.log_records.specs.declared.log_record.LogRecord.{LogRecord}
 use Rattle.log_records.specs.Sound.{Means}
 use Rattle.checkpoint.specs.declared.master.Master.{Master}
 use Rattle.image_meaning.specs.Meaning.{StandsFor}
-use Rattle.image_form.specs.Verdict.{Reading, Reads, Rule1, Rule2, HoldBefore, picture_of, IsSoundWith, FailsFirst}
+use Rattle.image_form.specs.Verdict.{Reading, Reads, OctetsAreFormed, KeptBlocksAreLive, HoldBefore, logical_image_of}
+use Rattle.image_form.specs.Verdict.{IsSoundWith, FailsFirst}
 
 -- Devices for which all rules hold stand for the table and the commits that they are read as.
 abbrev pub SoundStands : Type 0
 SoundStands = (r : Reading) (image : Image) (table : List Content) (commits : ℕ) → Reads r image
     → HoldBefore 12 r image →
-    Means (picture_of r image) table commits → StandsFor r.g image table commits
+    Means (logical_image_of r image) table commits → StandsFor r.g image table commits
 
 -- a reading by which all rules hold, with this table and so many commits
 pub record IsReadAs (g : Geometry) (image : Image) (table : List Content) (commits : ℕ) : Type 0 where
@@ -21,7 +22,7 @@ pub record IsReadAs (g : Geometry) (image : Image) (table : List Content) (commi
   pub sizes : reading.g ≡ g
   pub reads : Reads reading image
   pub rules : HoldBefore 12 reading image
-  pub means : Means (picture_of reading image) table commits
+  pub means : Means (logical_image_of reading image) table commits
 
 -- And devices that stand for a table are sound by all rules, and read as that.
 abbrev pub StandingIsSound : Type 0
@@ -34,7 +35,7 @@ OneReading = (image : Image) (a b : Reading) → Reads a image → Reads b image
 
 -- and where the first two rules hold there is one, with their sizes and master.
 abbrev pub AReading : Type 0
-AReading = (g : Geometry) (m : Master) (image : Image) → Rule1 g m image → Rule2 g m image
+AReading = (g : Geometry) (m : Master) (image : Image) → OctetsAreFormed g m image → KeptBlocksAreLive g m image
     → (blocks : List (List LogRecord)) × Reads (record { g = g; master = m; blocks = blocks }) image
 
 -- Sound devices fail no rule.

@@ -5,7 +5,7 @@ ghost use Rattle.log_records.specs.declared.log_record.LogRecord.{LogRecord};
 ghost use Rattle.log_records.specs.Log.{Entry, log_from};
 ghost use Rattle.log_store.specs.Representation.{Finds};
 ghost use Rattle.image_check.specs.Counting.{Heard, NumbersAre, Counts, Fit, CommitsAre};
-ghost use Rattle.image_form.specs.Verdict.{picture_of};
+ghost use Rattle.image_form.specs.Verdict.{logical_image_of};
 
 use checkpoint::Master;
 use log_records::LogRecord;
@@ -100,7 +100,7 @@ pub fn rule_commits(log: &LogStore, master: &Master, numbers: &Option<Numbers>) 
     ensures commits { (site : State) (blocks : List (List LogRecord)) → Finds log.now site
         → length (log_from master.now.kept blocks) < 2 ^ 62
         → NumbersAre master.now.redo (log_from master.now.kept blocks) numbers.now
-        → CommitsAre result (picture_of
+        → CommitsAre result (logical_image_of
         (record { g = log.now.geometry; master = master.now; blocks = blocks }) site.image) }
 {
     let Some(numbers) = numbers else {

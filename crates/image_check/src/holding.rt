@@ -9,7 +9,7 @@ ghost use Rattle.log_records.specs.Log.{Entry, txn_by, number_of, log_from};
 ghost use Rattle.log_store.specs.Representation.{Invariant, Finds, HasBlocks};
 ghost use Rattle.image_check.specs.Unended.{AreLeft};
 ghost use Rattle.image_check.specs.Holding.{AreHeld, IsListed, clashes_by};
-ghost use Rattle.image_form.specs.Verdict.{Rule4, Rule5, picture_of};
+ghost use Rattle.image_form.specs.Verdict.{LosersCanBeUndone, LosersHoldOthersOff, logical_image_of};
 
 use crate::txns::txn_of;
 use crate::unfinished::LeftTxns;
@@ -94,10 +94,10 @@ pub fn rule_apart<S: Site>(
 
     ensures apart { (blocks : List (List LogRecord)) → Finds log.now (S.state site.old)
         → HasBlocks log.now.geometry master.now.kept blocks (S.state site.old).image
-        → Rule4 (picture_of (record { g = log.now.geometry; master = master.now; blocks = blocks })
+        → LosersCanBeUndone (logical_image_of (record { g = log.now.geometry; master = master.now; blocks = blocks })
         (S.state site.old).image)
         → AreLeft (log_from master.now.kept blocks) left.now.left.items
-        → IfOk result (λ failing. IsTrue (is_none failing) ↔ Rule5 (picture_of
+        → IfOk result (λ failing. IsTrue (is_none failing) ↔ LosersHoldOthersOff (logical_image_of
         (record { g = log.now.geometry; master = master.now; blocks = blocks }) (S.state site.old).image)) }
     ensures reads { OnlyReads result (S.state site.old) (S.state site.new) }
 {

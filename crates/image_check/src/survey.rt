@@ -11,7 +11,7 @@ ghost use Rattle.log_store.specs.Representation.{Invariant, Finds, HasBlocks};
 ghost use Rattle.image_check.specs.Counting.{NumbersAre};
 ghost use Rattle.image_check.specs.Surveying.{Surveys};
 ghost use Rattle.image_check.specs.Unended.{AreLeft};
-ghost use Rattle.image_form.specs.Verdict.{Rule3, picture_of};
+ghost use Rattle.image_form.specs.Verdict.{RecordsFollowBegins, logical_image_of};
 
 use crate::commits::Numbers;
 use crate::txns::OpenTxns;
@@ -103,7 +103,7 @@ pub fn rule_transactions<S: Site>(
 
     ensures transactions { (blocks : List (List LogRecord)) → Finds log.now (S.state site.old)
         → HasBlocks log.now.geometry master.now.kept blocks (S.state site.old).image
-        → IfOk result (λ found. IsTrue (is_ok found) ↔ Rule3 (picture_of
+        → IfOk result (λ found. IsTrue (is_ok found) ↔ RecordsFollowBegins (logical_image_of
         (record { g = log.now.geometry; master = master.now; blocks = blocks }) (S.state site.old).image)) }
     ensures surveys { (blocks : List (List LogRecord)) → Finds log.now (S.state site.old)
         → HasBlocks log.now.geometry master.now.kept blocks (S.state site.old).image

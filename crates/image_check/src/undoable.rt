@@ -11,7 +11,7 @@ ghost use Rattle.log_records.specs.Sound.{HaveBegunBefore, IsLoserChain};
 ghost use Rattle.log_store.specs.Representation.{Invariant, Finds, HasBlocks};
 ghost use Rattle.image_check.specs.Unended.{AreLeft};
 ghost use Rattle.image_check.specs.Chaining.{AreStrays};
-ghost use Rattle.image_form.specs.Verdict.{Rule3, Rule4, picture_of};
+ghost use Rattle.image_form.specs.Verdict.{RecordsFollowBegins, LosersCanBeUndone, logical_image_of};
 
 use crate::chain::Chain;
 use crate::txns::{closes, txn_of};
@@ -241,10 +241,10 @@ pub fn rule_undoable<S: Site>(
 
     ensures undoable { (blocks : List (List LogRecord)) → Finds log.now (S.state site.old)
         → HasBlocks log.now.geometry master.now.kept blocks (S.state site.old).image
-        → Rule3 (picture_of (record { g = log.now.geometry; master = master.now; blocks = blocks })
+        → RecordsFollowBegins (logical_image_of (record { g = log.now.geometry; master = master.now; blocks = blocks })
         (S.state site.old).image)
         → AreLeft (log_from master.now.kept blocks) left.now.left.items
-        → IfOk result (λ failing. IsTrue (is_none failing) ↔ Rule4 (picture_of
+        → IfOk result (λ failing. IsTrue (is_none failing) ↔ LosersCanBeUndone (logical_image_of
         (record { g = log.now.geometry; master = master.now; blocks = blocks }) (S.state site.old).image)) }
     ensures reads { OnlyReads result (S.state site.old) (S.state site.new) }
 {

@@ -14,7 +14,7 @@ ghost use Rattle.log_store.specs.Representation.{Finds, HasBlocks};
 ghost use Rattle.checkpoint.specs.Newest.{seen};
 ghost use Rattle.checkpoint.specs.declared.pairs.Pair.{Pair};
 ghost use Rattle.image_check.specs.Unended.{AreLeft, owed_for};
-ghost use Rattle.image_form.specs.Verdict.{Rule9, picture_of};
+ghost use Rattle.image_form.specs.Verdict.{UndoHasRoom, logical_image_of};
 
 use crate::txns::{begins, closes, txn_of};
 use checkpoint::Master;
@@ -174,7 +174,7 @@ pub fn rule_room(log: &LogStore, master: &Master, left: &LeftTxns) -> bool
     ensures room { (site : State) (blocks : List (List LogRecord)) → Finds log.now site
         → HasBlocks log.now.geometry master.now.kept blocks site.image
         → AreLeft (log_from master.now.kept blocks) left.now.left.items
-        → IsTrue result ↔ Rule9 (picture_of
+        → IsTrue result ↔ UndoHasRoom (logical_image_of
         (record { g = log.now.geometry; master = master.now; blocks = blocks }) site.image) }
 {
     let hi = log.sealed_end() / 512;

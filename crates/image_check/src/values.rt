@@ -15,7 +15,8 @@ ghost use Rattle.image_form.specs.Octets.{AreVersions};
 ghost use Rattle.image_form.specs.Findings.{MayRead, AreFound};
 ghost use Rattle.image_form.specs.Newest.{AreLive};
 ghost use Rattle.image_check.specs.Showing.{FindsVersions, AreExpected, IsKnownEarly, HasContents};
-ghost use Rattle.image_form.specs.Verdict.{Rule1, Rule5, Rule6, picture_of, values_of};
+ghost use Rattle.image_form.specs.Verdict.{OctetsAreFormed, LosersHoldOthersOff, VersionsFit, logical_image_of};
+ghost use Rattle.image_form.specs.Verdict.{values_of};
 ghost use Rattle.image_check.specs.Writing.{AreWritten};
 
 use crate::showing::{Expected, find_unlogged, is_known_early, version_lsns, version_of};
@@ -230,15 +231,15 @@ fn show_log<S: Site>(
         → FindsVersions log.now.geometry rings.now frames.now (S.state site.old)
         → AreVersions log.now.geometry (S.state site.old).image
         → HasBlocks log.now.geometry master.now.kept blocks (S.state site.old).image
-        → IfOk result (λ found. IsTrue (is_ok found) ↔ Rule6 (picture_of
+        → IfOk result (λ found. IsTrue (is_ok found) ↔ VersionsFit (logical_image_of
         (record { g = log.now.geometry; master = master.now; blocks = blocks }) (S.state site.old).image)) }
     ensures values { (blocks : List (List LogRecord)) → Finds log.now (S.state site.old)
         → FindsVersions log.now.geometry rings.now frames.now (S.state site.old)
         → AreVersions log.now.geometry (S.state site.old).image
         → HasBlocks log.now.geometry master.now.kept blocks (S.state site.old).image
-        → Rule5 (picture_of (record { g = log.now.geometry; master = master.now; blocks = blocks })
+        → LosersHoldOthersOff (logical_image_of (record { g = log.now.geometry; master = master.now; blocks = blocks })
         (S.state site.old).image)
-        → IfOk result (λ found. IfOk found (λ count. count ≡ values_of (picture_of
+        → IfOk result (λ found. IfOk found (λ count. count ≡ values_of (logical_image_of
         (record { g = log.now.geometry; master = master.now; blocks = blocks }) (S.state site.old).image))) }
     ensures reads { OnlyReads result (S.state site.old) (S.state site.new) }
 {
@@ -281,17 +282,17 @@ pub fn rule_shown<S: Site>(
 
     ensures shown { (blocks : List (List LogRecord)) → Finds log.now (S.state site.old)
         → AreFound rings.now (S.state site.old)
-        → Rule1 log.now.geometry master.now (S.state site.old).image
+        → OctetsAreFormed log.now.geometry master.now (S.state site.old).image
         → HasBlocks log.now.geometry master.now.kept blocks (S.state site.old).image
-        → IfOk result (λ found. IsTrue (is_ok found) ↔ Rule6 (picture_of
+        → IfOk result (λ found. IsTrue (is_ok found) ↔ VersionsFit (logical_image_of
         (record { g = log.now.geometry; master = master.now; blocks = blocks }) (S.state site.old).image)) }
     ensures values { (blocks : List (List LogRecord)) → Finds log.now (S.state site.old)
         → AreFound rings.now (S.state site.old)
-        → Rule1 log.now.geometry master.now (S.state site.old).image
+        → OctetsAreFormed log.now.geometry master.now (S.state site.old).image
         → HasBlocks log.now.geometry master.now.kept blocks (S.state site.old).image
-        → Rule5 (picture_of (record { g = log.now.geometry; master = master.now; blocks = blocks })
+        → LosersHoldOthersOff (logical_image_of (record { g = log.now.geometry; master = master.now; blocks = blocks })
         (S.state site.old).image)
-        → IfOk result (λ found. IfOk found (λ count. count ≡ values_of (picture_of
+        → IfOk result (λ found. IfOk found (λ count. count ≡ values_of (logical_image_of
         (record { g = log.now.geometry; master = master.now; blocks = blocks }) (S.state site.old).image))) }
     ensures reads { OnlyReads result (S.state site.old) (S.state site.new) }
 {

@@ -5,7 +5,7 @@ ghost use Rattle.site.specs.Work.{OnlyReads};
 ghost use Rattle.log_records.specs.declared.log_record.LogRecord.{LogRecord};
 ghost use Rattle.image_check.specs.Deciding.{MayBeJudged, MeetsBefore, HoldOr, IsSurveyOf, reading_of};
 ghost use Rattle.image_check.specs.Judgement.{IsVerdictOn};
-ghost use Rattle.image_form.specs.Verdict.{picture_of, values_of};
+ghost use Rattle.image_form.specs.Verdict.{logical_image_of, values_of};
 
 use crate::commits::rule_commits;
 use crate::holding::rule_apart;
@@ -73,7 +73,7 @@ fn judge_counts(found: &Found, survey: &Survey, records: u64) -> Verdict
 
     ensures verdict { (site : State) (blocks : List (List LogRecord)) → MeetsBefore 9 found.now blocks site
         → IsSurveyOf found.now blocks survey.now
-        → records ≡ values_of (picture_of (reading_of found.now blocks) site.image)
+        → records ≡ values_of (logical_image_of (reading_of found.now blocks) site.image)
         → IsVerdictOn site.image result }
 {
     if !rule_room(&found.log, &found.master, &survey.left) {

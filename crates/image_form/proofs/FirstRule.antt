@@ -13,7 +13,7 @@ use Rattle.image_form.specs.declared.formed.Found.{Found}
 use Rattle.image_form.specs.declared.place.Place.{Place}
 use Rattle.image_form.specs.Octets.{HasSizes, AreRings}
 use Rattle.image_form.specs.Formed.{MayBeRead, IsThere}
-use Rattle.image_form.specs.Verdict.{Rule1, FailsFirst}
+use Rattle.image_form.specs.Verdict.{OctetsAreFormed, FailsFirst}
 use Rattle.image_form.proofs.Lasting.{may_read_later, found_later}
 use Rattle.image_form.proofs.BlocksJudged.{finds_later, going_later}
 
@@ -41,7 +41,7 @@ pub record StillThere (found : Found) (old now : State) : Type 0 where
 pub still_there : {T : Type 0} (x : T) (found : Found) (old a b : State) → OnlyReads {T = T} (Ok x) a b → StillThere found old a → StillThere found old b
 still_there x found old a b reads still =
     let same : b.image ≡ a.image = (reads.same still.there.log.honest).image in
-    record { there = there_later found a b reads.goes same still.there; same = same ∙ still.same }
+    record { there = there_later found a b reads.preserves same still.there; same = same ∙ still.same }
 
 -- what was answered of a part of a rule holds of the image at first
 pub part_holds : (P : Image → Type 0) (stand : Bool) (a b : Image) → b ≡ a → (IsTrue stand ↔ P b) → stand ≡ true → P a
@@ -72,9 +72,9 @@ one_size a b image first second =
     (λ i. record { pages = disk i; groups = flash i; blocks = log i })
 
 -- the first rule of what was found is that of all sizes and masters
-pub fails_formed : OneNewest → (found : Found) (site : State) (stand : Bool) → IsThere found site → HasSizes found.log.geometry site.image → (IsTrue stand ↔ Rule1 found.log.geometry found.master site.image) → stand ≡ false →
+pub fails_formed : OneNewest → (found : Found) (site : State) (stand : Bool) → IsThere found site → HasSizes found.log.geometry site.image → (IsTrue stand ↔ OctetsAreFormed found.log.geometry found.master site.image) → stand ≡ false →
     FailsFirst 1 site.image
 fails_formed newest found site stand there sizes says other g m formed =
     let geometry : g ≡ found.log.geometry = one_size g found.log.geometry site.image formed.sizes sizes in
     let master : m ≡ found.master = newest site.image m found.master formed.master there.master in
-    true≢false (sym (says.1 (subst (λ (x : Master). Rule1 found.log.geometry x site.image) master (subst (λ (x : Geometry). Rule1 x m site.image) geometry formed))) ∙ other)
+    true≢false (sym (says.1 (subst (λ (x : Master). OctetsAreFormed found.log.geometry x site.image) master (subst (λ (x : Geometry). OctetsAreFormed x m site.image) geometry formed))) ∙ other)

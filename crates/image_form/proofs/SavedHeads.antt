@@ -24,7 +24,7 @@ use Rattle.tail_rebuild.proofs.Saved.{segment_count}
 use Rattle.flash_cache.specs.Representation.{groups_on}
 use Rattle.image_form.specs.Octets.{IsSegmentOn, IsFormed}
 use Rattle.image_form.specs.Findings.{AreHeadsSaved}
-use Rattle.image_form.specs.Verdict.{Rule8}
+use Rattle.image_form.specs.Verdict.{SegmentsFollowGroups}
 use Rattle.image_form.proofs.LiveUnits.{all_live}
 
 -- A part of the octets of heads.
@@ -176,7 +176,7 @@ module _ (g : Geometry) (m : Master) (image : Image) (formed : IsFormed g m imag
       ∙ ap heads_of (frames_are_in (group_on g image n) found.0 found.1.group) in
       subst (HasHeads (group_on g image n)) (sym is) (begins_with_heads (group_on g image n) found.0 found.1.group)
 
-  pub follows : 4 * k ≤ h → h ≤ 4 * k + 4 → ((n : ℕ) → IsLive (group_shape g) h n → n < 4 * k → AreHeadsSaved g image n) → Rule8 g image
+  pub follows : 4 * k ≤ h → h ≤ 4 * k + 4 → ((n : ℕ) → IsLive (group_shape g) h n → n < 4 * k → AreHeadsSaved g image n) → SegmentsFollowGroups g image
   follows low high each =
       let some = formed.sizes.limits.groups in
       let fours = formed.sizes.limits.fours in
@@ -209,7 +209,7 @@ module _ (g : Geometry) (m : Master) (image : Image) (formed : IsFormed g m imag
         };
       }
 
-  pub saved : Rule8 g image → (4 * k ≤ h) × (h ≤ 4 * k + 4) × ((n : ℕ) → IsLive (group_shape g) h n → n < 4 * k → AreHeadsSaved g image n)
+  pub saved : SegmentsFollowGroups g image → (4 * k ≤ h) × (h ≤ 4 * k + 4) × ((n : ℕ) → IsLive (group_shape g) h n → n < 4 * k → AreHeadsSaved g image n)
   saved rule =
       let some = formed.sizes.limits.groups in
       let follow = rule.follow.follow in

@@ -8,7 +8,7 @@ use Rattle.image_form.specs.declared.formed.Found.{Found}
 use Rattle.image_form.specs.declared.place.Place.{Place}
 use Rattle.image_form.specs.Octets.{AreRings}
 use Rattle.image_form.specs.Findings.{MayRead, AreFound}
-use Rattle.image_form.specs.Verdict.{Rule1, FailsFirst}
+use Rattle.image_form.specs.Verdict.{OctetsAreFormed, FailsFirst}
 
 -- over every site: the log and the rings lie on its devices
 pub record MayBeRead (found : Found) (site : State) : Type 0 where
@@ -34,5 +34,5 @@ IsThereOr (Err place) site = FailsFirst 1 site.image
 
 -- this stands there and meets the first rule; or that rule fails
 abbrev pub IsFormedOr : Result Found Place → State → Type 0
-IsFormedOr (Ok found) site = IsThere found site × Rule1 found.log.geometry found.master site.image
+IsFormedOr (Ok found) site = IsThere found site × OctetsAreFormed found.log.geometry found.master site.image
 IsFormedOr (Err place) site = FailsFirst 1 site.image

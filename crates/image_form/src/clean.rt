@@ -10,7 +10,7 @@ ghost use Rattle.flash_cache.specs.Representation.{disk_on};
 ghost use Rattle.image_form.specs.Octets.{IsGroupOn, AreGroups};
 ghost use Rattle.image_form.specs.Framing.{has_frame, IsCleanFrame};
 ghost use Rattle.image_form.specs.Findings.{MayRead, AreFound};
-ghost use Rattle.image_form.specs.Verdict.{Rule7};
+ghost use Rattle.image_form.specs.Verdict.{FramesAreClean};
 
 use crate::groups::are_same;
 use crate::place::Place;
@@ -157,7 +157,7 @@ pub fn rule_clean<S: Site>(
 
     ensures clean { IsTrue (S.state site.old).honest → AreFound rings.now (S.state site.old)
         → AreGroups geometry.now (S.state site.old).image
-        → IfOk result (λ failing. IsTrue (is_none failing) ↔ Rule7 geometry.now (S.state site.old).image) }
+        → IfOk result (λ failing. IsTrue (is_none failing) ↔ FramesAreClean geometry.now (S.state site.old).image) }
     ensures reads { OnlyReads result (S.state site.old) (S.state site.new) }
 {
     for group in rings.groups.oldest()..rings.groups.hi() {

@@ -5,7 +5,7 @@ ghost use Rattle.site.specs.Work.{OnlyReads};
 ghost use Rattle.checkpoint.specs.declared.master.Master.{Master};
 ghost use Rattle.site.specs.declared.geometry.Geometry.{Geometry};
 ghost use Rattle.image_form.specs.Findings.{MayRead, AreFound, AreHeadsSaved};
-ghost use Rattle.image_form.specs.Verdict.{Rule1, Rule8};
+ghost use Rattle.image_form.specs.Verdict.{OctetsAreFormed, SegmentsFollowGroups};
 
 use crate::place::Place;
 use crate::rings::Rings;
@@ -54,8 +54,9 @@ pub fn rule_following<S: Site>(
     requires { MayRead geometry.now rings.now (S.state site.old) }
 
     ensures following { (m : Master) → IsTrue (S.state site.old).honest → AreFound rings.now (S.state site.old)
-        → Rule1 geometry.now m (S.state site.old).image
-        → IfOk result (λ failing. IsTrue (is_none failing) ↔ Rule8 geometry.now (S.state site.old).image) }
+        → OctetsAreFormed geometry.now m (S.state site.old).image
+        → IfOk result (λ failing. IsTrue (is_none failing)
+        ↔ SegmentsFollowGroups geometry.now (S.state site.old).image) }
     ensures reads { OnlyReads result (S.state site.old) (S.state site.new) }
 {
     let saved = 4 * rings.segments.hi();

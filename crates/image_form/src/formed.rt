@@ -6,7 +6,7 @@ ghost use Rattle.log_store.specs.Representation.{Invariant};
 ghost use Rattle.site.specs.Work.{OnlyReads};
 ghost use Rattle.image_form.specs.Octets.{HasSizes};
 ghost use Rattle.image_form.specs.Formed.{MayBeRead, IsThere, LogIs, IsThereOr, IsFormedOr};
-ghost use Rattle.image_form.specs.Verdict.{Rule1};
+ghost use Rattle.image_form.specs.Verdict.{OctetsAreFormed};
 
 use crate::blocks::rule_blocks;
 use crate::groups::rule_groups;
@@ -74,7 +74,7 @@ fn find_unformed<S: Site>(site: &mut S, found: &Found) -> Result<Option<Place>, 
 
     ensures formed { IsThere found.now (S.state site.old)
         → IfOk result (λ failing. IsTrue (is_none failing)
-        ↔ Rule1 found.now.log.geometry found.now.master (S.state site.old).image) }
+        ↔ OctetsAreFormed found.now.log.geometry found.now.master (S.state site.old).image) }
     ensures reads { OnlyReads result (S.state site.old) (S.state site.new) }
 {
     let geometry = found.log.geometry();

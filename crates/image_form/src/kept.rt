@@ -2,7 +2,7 @@
 ghost use Rattle.std.specs.Prelude.{◌+◌, ◌-◌, ◌≤◌, ◌^◌, ◌↔◌, IsTrue};
 ghost use Rattle.site.specs.State.{State};
 ghost use Rattle.log_store.specs.Representation.{Finds};
-ghost use Rattle.image_form.specs.Verdict.{Rule2};
+ghost use Rattle.image_form.specs.Verdict.{KeptBlocksAreLive};
 
 use checkpoint::Master;
 use log_store::LogStore;
@@ -13,7 +13,7 @@ pub fn rule_kept(log: &LogStore, master: &Master) -> bool
     requires bounded { log.now.ring.hi ≤ 2 ^ 40 }
     requires some { 1 ≤ log.now.geometry.blocks }
     ensures kept { (site : State) → Finds log.now site
-        → IsTrue result ↔ Rule2 log.now.geometry master.now site.image }
+        → IsTrue result ↔ KeptBlocksAreLive log.now.geometry master.now site.image }
     ensures redo { IsTrue result → master.now.redo ≤ log.now.ring.hi }
     ensures live { IsTrue result → log.now.ring.hi ≤ master.now.kept + (log.now.geometry.blocks - 1) }
 {

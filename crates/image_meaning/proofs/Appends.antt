@@ -22,8 +22,8 @@ use Rattle.image_changes.specs.Rings.{Masters, Blocks, group_shape, units_on}
 use Rattle.image_changes.specs.Changes.{AppendsGroup, Makes}
 use Rattle.log_store.proofs.BlockLaws.{blocks_stay}
 use Rattle.flash_cache.specs.Representation.{frames_on, disk_on, version_on, IsCleanOn}
-use Rattle.image_meaning.specs.Meaning.{picture_under, IsFrameOf, AreGroups, IsSoundUnder, versions_on, version_in}
-use Rattle.image_meaning.specs.Pictures.{ReplaceAll}
+use Rattle.image_meaning.specs.Meaning.{logical_image_under, IsFrameOf, AreGroups, IsSoundUnder, versions_on, version_in}
+use Rattle.image_meaning.specs.LogicalImages.{ReplaceAll}
 use Rattle.image_meaning.specs.Changes.{leaving, front_on, rest_on, MayAppend}
 use Rattle.image_meaning.specs.Laws.{PushedIsSound, PushedMeans}
 use Rattle.image_meaning.proofs.Versions.{length-versions, version_is, disk_stays}
@@ -99,21 +99,21 @@ module _ (newest : Option Master) (g : Geometry) (old new : Image) (blocks : Lis
       by None last = subst page.IsSound (sym (version_kept number last)) (sound.octets.versions number within)
       by (Some frame) last = subst page.IsSound (sym (version_of_frame number frame last)) (all_last_frame (IsFrameOf g) number frames frame may.are_frames last).sound
 
-  replace : ReplaceAll (picture_under newest g old blocks) (versions_on g new)
+  replace : ReplaceAll (logical_image_under newest g old blocks) (versions_on g new)
   replace = record {
     count = length-versions g new ∙ sym (length-versions g old);
     each = λ number within. each number (omega (arith, within, length-versions g old));
   }
     where
-      each : (number : ℕ) → number < g.pages → Replaces (picture_under newest g old blocks) number (version_at (versions_on g new) number)
+      each : (number : ℕ) → number < g.pages → Replaces (logical_image_under newest g old blocks) number (version_at (versions_on g new) number)
       each number within = by (last_frame number frames) refl
         where
-          by : (o : Option Frame) → last_frame number frames ≡ o → Replaces (picture_under newest g old blocks) number (version_at (versions_on g new) number)
+          by : (o : Option Frame) → last_frame number frames ≡ o → Replaces (logical_image_under newest g old blocks) number (version_at (versions_on g new) number)
           by None last =
-              subst (Replaces (picture_under newest g old blocks) number) (version_is g old number within ∙ ap version_in (sym (version_kept number last)) ∙ sym (version_is g new number within))
-              (version_replaces_itself (picture_under newest g old blocks) number sound.records (omega (arith, within, length-versions g old)))
+              subst (Replaces (logical_image_under newest g old blocks) number) (version_is g old number within ∙ ap version_in (sym (version_kept number last)) ∙ sym (version_is g new number within))
+              (version_replaces_itself (logical_image_under newest g old blocks) number sound.records (omega (arith, within, length-versions g old)))
           by (Some frame) last =
-              subst (Replaces (picture_under newest g old blocks) number) (ap version_in (sym (version_of_frame number frame last)) ∙ sym (version_is g new number within)) (may.replace number frame last)
+              subst (Replaces (logical_image_under newest g old blocks) number) (ap version_in (sym (version_of_frame number frame last)) ∙ sym (version_is g new number within)) (may.replace number frame last)
 
   pub sound_pushed : IsSoundUnder newest g new blocks
   sound_pushed = record {
@@ -127,11 +127,11 @@ module _ (newest : Option Master) (g : Geometry) (old new : Image) (blocks : Lis
       clean = clean_now;
     };
     held = blocks_stay g _ blocks old new sound.held (made.others Blocks (λ h. cc));
-    records = versions_are_sound (picture_under newest g old blocks) (versions_on g new) sound.records replace;
+    records = versions_are_sound (logical_image_under newest g old blocks) (versions_on g new) sound.records replace;
   }
 
-  pub means_pushed : (table : List Content) (count : ℕ) → Means (picture_under newest g old blocks) table count → Means (picture_under newest g new blocks) table count
-  means_pushed = versions_mean (picture_under newest g old blocks) (versions_on g new) sound.records replace
+  pub means_pushed : (table : List Content) (count : ℕ) → Means (logical_image_under newest g old blocks) table count → Means (logical_image_under newest g new blocks) table count
+  means_pushed = versions_mean (logical_image_under newest g old blocks) (versions_on g new) sound.records replace
 
 pub pushed_is_sound : PushedIsSound
 pushed_is_sound newest g old new blocks content frames sound is_group may made = sound_pushed newest g old new blocks content frames sound is_group may made

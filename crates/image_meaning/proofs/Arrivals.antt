@@ -13,7 +13,7 @@ use Rattle.image_changes.specs.Changes.{Change, SealsBlock, RewritesPages, Appen
 use Rattle.image_changes.proofs.Sequence.{ring_kept}
 use Rattle.log_store.proofs.BlockLaws.{blocks_stay}
 use Rattle.flash_cache.specs.Representation.{version_on}
-use Rattle.image_meaning.specs.Meaning.{picture_under, AreOctetsSoundUnder, IsSoundUnder, version_in}
+use Rattle.image_meaning.specs.Meaning.{logical_image_under, AreOctetsSoundUnder, IsSoundUnder, version_in}
 use Rattle.image_meaning.specs.Moments.{LeavesTableUnder}
 use Rattle.image_meaning.specs.Reached.{ChangesPages, IsKeptOrReplaced, IsPushed, LeavesPushed, ReachedIsSound, ReachedMeans, PushedStands}
 use Rattle.image_meaning.proofs.UnchangedImages.{lengths_stay, newest_stays}
@@ -55,11 +55,11 @@ module _ (newest : Option Master) (g : Geometry) (old new : Image) (blocks : Lis
       by (inl same) = subst page.IsSound (sym same) (sound.octets.versions number within)
       by (inr replaced) = replaced.0
 
-  pub replaces : (number : ℕ) → number < g.pages → Replaces (picture_under newest g old blocks) number (version_in (version_on g new number))
+  pub replaces : (number : ℕ) → number < g.pages → Replaces (logical_image_under newest g old blocks) number (version_in (version_on g new number))
   replaces number within = by (p.versions number within)
     where
-      by : IsKeptOrReplaced newest g old new blocks number → Replaces (picture_under newest g old blocks) number (version_in (version_on g new number))
-      by (inl same) = subst (λ (octets : List ℕ). Replaces (picture_under newest g old blocks) number (version_in octets)) (sym same) (version_replaces newest g old blocks number sound within)
+      by : IsKeptOrReplaced newest g old new blocks number → Replaces (logical_image_under newest g old blocks) number (version_in (version_on g new number))
+      by (inl same) = subst (λ (octets : List ℕ). Replaces (logical_image_under newest g old blocks) number (version_in octets)) (sym same) (version_replaces newest g old blocks number sound within)
       by (inr replaced) = replaced.1
 
   all_octets : AreOctetsSoundUnder newest g new

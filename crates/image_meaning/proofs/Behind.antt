@@ -9,14 +9,14 @@ use Rattle.std_lemmas.proofs.AllOf.{all_left, all_right, all_both}
 use Rattle.record_model.specs.State.{content_at}
 use Rattle.log_records.specs.declared.log_record.LogRecord.{LogRecord}
 use Rattle.log_records.specs.Log.{Entry, Version, slot_at, number_of, is_on, last_on, value_after, value_of}
-use Rattle.log_records.specs.Sound.{Picture, InTurn}
+use Rattle.log_records.specs.Sound.{LogicalImage, InTurn}
 use Rattle.log_laws.specs.Follow.{Follows, next_entries, shown_by, shown}
 use Rattle.log_laws.proofs.Lists.{or_is_none}
 use Rattle.log_laws.proofs.Orders.{all_from, none_passes, entries_in_order}
 use Rattle.log_laws.proofs.Versions.{table_same}
 use Rattle.log_laws.specs.Tail.{whole}
 use Rattle.log_laws.proofs.Values.{is_number-Some}
-use Rattle.image_meaning.specs.Pictures.{ReplaceAll}
+use Rattle.image_meaning.specs.LogicalImages.{ReplaceAll}
 use Rattle.image_meaning.specs.Redone.{IsLogged, AreKnown, IsCurrent}
 use Rattle.image_meaning.specs.Ahead.{SealedPageReplaces, ShownStays, TableStays, ShowsStill, CarriesStill, GoesOnStill}
 use Rattle.image_meaning.proofs.OtherVersions.{slot_same, sound_with}
@@ -28,7 +28,7 @@ use Rattle.log_records.proofs.Lists.{last_where-append}
 low : (lsn hi : ℕ) → IsTrue ((lsn == 0) || nat_lt lsn (512 * hi)) → lsn < 512 * hi + 2
 low lsn hi logged = grind (arith, nat_tests)
 
-module _ (p : Picture) (tail : List LogRecord) (page : ℕ) (v : Version) (logged : IsLogged p v) (known : AreKnown (whole p tail) page v.lsn) where
+module _ (p : LogicalImage) (tail : List LogRecord) (page : ℕ) (v : Version) (logged : IsLogged p v) (known : AreKnown (whole p tail) page v.lsn) where
   behind : AllByRecursion (λ e. 512 * p.hi + 2 ≤ e.lsn) (next_entries p tail)
   behind = all_from (512 * p.hi + 2) (next_entries p tail) _ (entries_in_order (512 * p.hi + 2) tail)
 
@@ -65,19 +65,19 @@ sealed_page_replaces p tail page v logged all = current_replaces p page v (curre
 -- New versions.
 
 -- a log that has all records of the sealed one, and maybe more
-Extends : Picture → List Entry → Type 0
+Extends : LogicalImage → List Entry → Type 0
 Extends p log = (number : ℕ) → last_on log number ≡ None → last_on p.log number ≡ None
 
-extends_more : (p : Picture) (log more : List Entry) → Extends p log → Extends p (log ++ more)
+extends_more : (p : LogicalImage) (log more : List Entry) → Extends p log → Extends p (log ++ more)
 unfolding Extends
 extends_more p log more extends number none =
     extends number (or_is_none (last_on more number) (last_on log number) (sym (last_where-append (is_on number) log more) ∙ none)).1
 
-extends_all : (p : Picture) → Extends p p.log
+extends_all : (p : LogicalImage) → Extends p p.log
 unfolding Extends
 extends_all p number none = none
 
-module _ (p : Picture) (versions : List Version) (r : ReplaceAll p versions) where
+module _ (p : LogicalImage) (versions : List Version) (r : ReplaceAll p versions) where
   shown_by_last : (log : List Entry) → Extends p log → (number : ℕ) → number < 32 * length p.pages → shown log versions number ≡ shown log p.pages number
   unfolding Extends
   shown_by_last log extends number within = by (last_on log number) refl

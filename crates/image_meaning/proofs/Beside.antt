@@ -15,7 +15,7 @@ use Rattle.image_changes.specs.Changes.{Change, SealsBlock, RewritesPages, Appen
 use Rattle.flash_cache.specs.Representation.{frames_on}
 use Rattle.image_meaning.specs.Meaning.{IsFrameOf, AreGroups}
 use Rattle.image_meaning.specs.Beside.{AreRingsSoundUnder, KeepsRings, RingsKeptUnder, RingsSaved}
-use Rattle.image_meaning.specs.Below.{MasterLaws}
+use Rattle.image_meaning.specs.LowerLaws.{MasterLaws}
 use Rattle.image_meaning.specs.Changes.{leaving, front_on, rest_on}
 use Rattle.image_meaning.proofs.UnchangedImages.{lengths_stay, newest_stays, groups_stay, segments_stay}
 use Rattle.image_meaning.proofs.SegmentLaws.{segments_pushed, segments_saved}

@@ -24,7 +24,7 @@ use Rattle.meta_segments.specs.Following.{Follow}
 use Rattle.meta_segments.proofs.Numbers.{none_follow}
 use Rattle.tail_rebuild.specs.Standing.{HasSaved}
 use Rattle.flash_cache.specs.Representation.{frames_on, disk_on, version_on}
-use Rattle.image_meaning.specs.Meaning.{IsUnused, IsFrameOf, AreSegments, AreOctetsSoundUnder, IsSoundUnder, picture, versions_on}
+use Rattle.image_meaning.specs.Meaning.{IsUnused, IsFrameOf, AreSegments, AreOctetsSoundUnder, IsSoundUnder, logical_image, versions_on}
 use Rattle.image_meaning.specs.Laws.{BlankStands}
 use Rattle.image_meaning.proofs.Versions.{length-versions, version_is}
 use Rattle.log_records.proofs.Values.{page_and_slot, length_table_of}
@@ -97,16 +97,16 @@ module _ (ring_of_zeros : BlankIsRing) (g : Geometry) (limits : HasLimits g) whe
     clean = subst (CleanAsDisk (disk_on (blank_image g))) (sym no_frames) (λ number frame last. cc);
   }
 
-  fits : (number : ℕ) → number < g.pages → FitsLog (picture g (blank_image g) []) number (version_at (versions_on g (blank_image g)) number)
+  fits : (number : ℕ) → number < g.pages → FitsLog (logical_image g (blank_image g) []) number (version_at (versions_on g (blank_image g)) number)
   fits number within =
-      subst (FitsLog (picture g (blank_image g) []) number) (sym (version_is g (blank_image g) number within))
+      subst (FitsLog (logical_image g (blank_image g) []) number) (sym (version_is g (blank_image g) number within))
       (record {
         logged = ap (λ (n : ℕ). (n == 0) || nat_lt n 0) (blank_page number within).lsn;
         shows = λ slot low. tt;
         knows = tt;
       })
 
-  records : lists.IsSound (picture g (blank_image g) [])
+  records : lists.IsSound (logical_image g (blank_image g) [])
   records = record {
     kept_before_redo = omega arith;
     redo_before_end = omega arith;
@@ -134,7 +134,7 @@ module _ (ring_of_zeros : BlankIsRing) (g : Geometry) (limits : HasLimits g) whe
       ∙ ap (λ (slots : List Content). content_at slots (number % 32)) (blank_page (number / 32) here).slots
       ∙ get_or-replicate 32 (number % 32) None None (mod_below number 32 (omega arith))
 
-  pub means_blank : TableAt → Means (picture g (blank_image g) []) (replicate (32 * g.pages) None) 0
+  pub means_blank : TableAt → Means (logical_image g (blank_image g) []) (replicate (32 * g.pages) None) 0
   means_blank at = record {
     table_is =
         ext_get_or None (replicate (32 * g.pages) None) (table_of [] (versions_on g (blank_image g)))

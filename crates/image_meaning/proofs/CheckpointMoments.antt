@@ -6,10 +6,10 @@ use Rattle.log_records.specs.Sound.{Means}
 use Rattle.frame_group.specs.Laws.{StagingKeepsVersions, StagingKeepsClean}
 use Rattle.checkpoint.specs.declared.master.Master.{Master}
 use Rattle.image_changes.specs.Changes.{AppendsMaster}
-use Rattle.image_meaning.specs.Meaning.{picture_under, IsSoundUnder}
+use Rattle.image_meaning.specs.Meaning.{logical_image_under, IsSoundUnder}
 use Rattle.image_meaning.specs.Changes.{MayMakeAll, newest_after_all, blocks_after_all}
 use Rattle.image_meaning.specs.Moments.{LeavesFor}
-use Rattle.image_meaning.specs.Below.{MasterLaws}
+use Rattle.image_meaning.specs.LowerLaws.{MasterLaws}
 use Rattle.image_meaning.specs.Checkpoints.{CheckpointStands, PushedCheckpointStands, SaveStands}
 use Rattle.image_meaning.proofs.Making.{front_keeps_sound, front_keeps_meaning}
 use Rattle.image_meaning.proofs.Arrivals.{reached_is_sound, reached_means, pushed_stands}
@@ -37,8 +37,8 @@ module _ (versions_kept : StagingKeepsVersions) (clean_kept : StagingKeepsClean)
       let same = no_master newest changes kept in
       let sound_mid : IsSoundUnder newest g mid.image later =
       subst (λ (n : Option Master). IsSoundUnder n g mid.image later) same (front_keeps_sound versions_kept clean_kept below newest g old.image mid.image blocks changes [] sound all reaches) in
-      let means_mid : Means (picture_under newest g mid.image later) table count =
-      subst (λ (n : Option Master). Means (picture_under n g mid.image later) table count) same
+      let means_mid : Means (logical_image_under newest g mid.image later) table count =
+      subst (λ (n : Option Master). Means (logical_image_under n g mid.image later) table count) same
       (front_keeps_meaning versions_kept clean_kept below newest g old.image mid.image blocks changes [] sound all none reaches table count means) in
       let leaves_pushed : LeavesOnly mid pushed (LeavesFor g table count old.told) =
       subst (λ (l : List ℕ). LeavesOnly mid pushed (LeavesFor g table count l)) told

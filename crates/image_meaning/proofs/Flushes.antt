@@ -6,7 +6,7 @@ use Rattle.std.proofs.lemmas.Nat.{mod_below, div-add-mod'}
 use Rattle.std_lemmas.proofs.AllOf.{all_filter, all_weaker, all_map}
 use Rattle.log_records.specs.Log.{Entry, version_at, number_of, is_closed}
 use Rattle.log_records.specs.Unfinished.{is_begin, losers}
-use Rattle.log_records.specs.Sound.{Picture, IsSound, IsInTable}
+use Rattle.log_records.specs.Sound.{LogicalImage, IsSound, IsInTable}
 use Rattle.log_laws.specs.NewImage.{MayCheckpoint}
 use Rattle.log_laws.proofs.Listing.{Ascends, losers_ascend, above}
 use Rattle.log_laws.proofs.Orders.{all_from}
@@ -48,13 +48,13 @@ oldest_is_there p sound = (
 
 -- Pages that are flushed.
 
-pub flushed_known : (p : Picture) (kept : ℕ) → MayCheckpoint p kept → IsFlushed p
+pub flushed_known : (p : LogicalImage) (kept : ℕ) → MayCheckpoint p kept → IsFlushed p
 flushed_known p kept may page within =
     all_weaker (λ e. (number : ℕ) → number_of e.rec ≡ Some number → e.lsn ≤ (version_at p.pages (number / 32)).lsn)
     (λ e. (number : ℕ) → number_of e.rec ≡ Some number → number / 32 ≡ page → e.lsn ≤ (version_at p.pages page).lsn)
     (λ e h number is here. subst (λ n. e.lsn ≤ (version_at p.pages n).lsn) here (h number is)) p.log may.flushed
 
-known_flushed : (p : Picture) → IsSound p → IsFlushed p → AllByRecursion (λ e. (number : ℕ) → number_of e.rec ≡ Some number → e.lsn ≤ (version_at p.pages (number / 32)).lsn) p.log
+known_flushed : (p : LogicalImage) → IsSound p → IsFlushed p → AllByRecursion (λ e. (number : ℕ) → number_of e.rec ≡ Some number → e.lsn ≤ (version_at p.pages (number / 32)).lsn) p.log
 known_flushed p sound flushed = each p.log sound.in_table (λ page within. flushed page within)
   where
     each : (log : List Entry) → AllByRecursion (IsInTable p.pages) log → ((page : ℕ) → page < length p.pages → AreKnown log page (version_at p.pages page).lsn) →

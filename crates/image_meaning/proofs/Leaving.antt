@@ -9,7 +9,7 @@ use Rattle.record_model.specs.State.{Content, table_with}
 use Rattle.log_records.specs.declared.log_record.LogRecord.{LogRecord}
 use Rattle.log_records.specs.declared.log_record.LogRecord.TheVariants.{Commit}
 use Rattle.log_records.specs.Log.{Entry, log_from, entries_from}
-use Rattle.log_records.specs.Sound.{Picture, Means, commit_numbers}
+use Rattle.log_records.specs.Sound.{LogicalImage, Means, commit_numbers}
 use Rattle.log_laws.specs.Follow.{writes_in}
 use Rattle.frame_group.specs.Laws.{StagingKeepsVersions, StagingKeepsClean}
 use Rattle.checkpoint.specs.declared.master.Master.{Master}
@@ -18,12 +18,12 @@ use Rattle.image_changes.specs.Changes.{Change, SealsBlock, RewritesPages, Appen
 use Rattle.image_changes.proofs.Sequence.{changes_add_up, reaches_parts}
 use Rattle.image_changes.specs.Reached.{IsReached, IsFrontOf}
 use Rattle.flash_cache.specs.Pushed.{LeavesPush}
-use Rattle.image_meaning.specs.Meaning.{kept_by, picture_under, IsSoundUnder, StandsUnder}
+use Rattle.image_meaning.specs.Meaning.{kept_by, logical_image_under, IsSoundUnder, StandsUnder}
 use Rattle.image_meaning.specs.Changes.{MayMakeAll, SealsNoCommit, SavesNoMaster, newest_after, blocks_after, newest_after_all, blocks_after_all, next_block_lsn}
-use Rattle.image_meaning.specs.Below.{MasterLaws}
+use Rattle.image_meaning.specs.LowerLaws.{MasterLaws}
 use Rattle.image_meaning.specs.Moments.{LeavesTableUnder, LeavesEitherUnder, LeavesFor, LeavesEitherFor, UnderLeavesFor, UnderLeavesEitherFor, FrontStandsFor, FrontStands, PushStands, CommitStands}
 use Rattle.image_meaning.proofs.Versions.{versions_same, version_stays}
-use Rattle.image_meaning.proofs.UnchangedImages.{same_is_sound, same_means, same_picture}
+use Rattle.image_meaning.proofs.UnchangedImages.{same_is_sound, same_means, same_logical_image}
 use Rattle.image_meaning.proofs.Seals.{sealed_image_is_sound, sealed_with_commit}
 use Rattle.image_meaning.proofs.Making.{change_keeps_sound, front_keeps_sound, front_keeps_meaning}
 use Rattle.image_meaning.proofs.WholePushes.{push_keeps_sound, push_keeps_meaning}
@@ -81,7 +81,7 @@ push_stands versions_kept clean_kept newest g old new blocks pages contents grou
 
 module _ (versions_kept : StagingKeepsVersions) (clean_kept : StagingKeepsClean) (below : MasterLaws) where
   -- an image that is reached by the first ones
-  stands_front : (newest : Option Master) (g : Geometry) (old new : Image) (blocks : List (List LogRecord)) (front left : List Change) (table : List Content) (count : ℕ) → IsSoundUnder newest g old blocks → Means (picture_under newest g old blocks) table count →
+  stands_front : (newest : Option Master) (g : Geometry) (old new : Image) (blocks : List (List LogRecord)) (front left : List Change) (table : List Content) (count : ℕ) → IsSoundUnder newest g old blocks → Means (logical_image_under newest g old blocks) table count →
       MayMakeAll newest g old blocks (front ++ left) → AllByRecursion SealsNoCommit front → Reaches g front old new → StandsUnder (newest_after_all newest front) g new table count
   stands_front newest g old new blocks front left table count sound means may none reached = record {
     blocks = blocks_after_all newest blocks front;
@@ -91,7 +91,7 @@ module _ (versions_kept : StagingKeepsVersions) (clean_kept : StagingKeepsClean)
 
   -- a snapshot that the first ones of the changes have led to
   stands_reached : (newest : Option Master) (g : Geometry) (old : State) (blocks : List (List LogRecord)) (changes : List Change) (table : List Content) (count : ℕ) → IsSoundUnder newest g old.image blocks →
-      Means (picture_under newest g old.image blocks) table count → MayMakeAll newest g old.image blocks changes → AllByRecursion SealsNoCommit changes →
+      Means (logical_image_under newest g old.image blocks) table count → MayMakeAll newest g old.image blocks changes → AllByRecursion SealsNoCommit changes →
       (snapshot : Snapshot) (is : IsReached g (IsFrontOf changes) old snapshot) → StandsUnder (newest_after_all newest is.changes) g snapshot.image table count
   stands_reached newest g old blocks changes table count sound means may none snapshot is =
       stands_front newest g old.image snapshot.image blocks is.changes is.made.0 table count sound means (subst (MayMakeAll newest g old.image blocks) is.made.1 may)
@@ -121,7 +121,7 @@ module _ (versions_kept : StagingKeepsVersions) (clean_kept : StagingKeepsClean)
 
   -- what all changes leave, the last of which seals a Commit
   stands_after : (newest : Option Master) (g : Geometry) (old new : Image) (blocks : List (List LogRecord)) (changes : List Change) (records : List LogRecord) (table : List Content) (count : ℕ) (before after : List Entry) (lsn t number : ℕ) →
-      IsSoundUnder newest g old blocks → Means (picture_under newest g old blocks) table count → MayMakeAll newest g old blocks (changes ++ SealsBlock records ∷ []) → AllByRecursion SealsNoCommit changes →
+      IsSoundUnder newest g old blocks → Means (logical_image_under newest g old blocks) table count → MayMakeAll newest g old blocks (changes ++ SealsBlock records ∷ []) → AllByRecursion SealsNoCommit changes →
       entries_from (next_block_lsn (newest_after_all newest changes) (blocks_after_all newest blocks changes)) records ≡ before ++ record { lsn = lsn; rec = Commit t number } ∷ after → commit_numbers before ≡ [] → commit_numbers after ≡ [] →
       Reaches g (changes ++ SealsBlock records ∷ []) old new →
       StandsUnder (newest_after_all newest changes) g new (table_with table (writes_in t (log_from (kept_by (newest_after_all newest changes)) (blocks_after_all newest blocks changes) ++ before))) (count + 1)
@@ -132,8 +132,8 @@ module _ (versions_kept : StagingKeepsVersions) (clean_kept : StagingKeepsClean)
       let later = may_later newest g old halves.0 blocks changes (SealsBlock records ∷ []) may halves.1 sound in
       let seal = changes_add_up g [] (SealsBlock records ∷ []) later.0 halves.0 new later.3 halves.2 in
       let same = versions_same g later.0 halves.0 (version_stays g later.0 halves.0 (later.3.rings Groups) later.3.disk) in
-      let means_there : Means (picture_under n g later.0 all) table count =
-      subst (λ (p : Picture). Means p table count) (same_picture n g later.0 halves.0 all same)
+      let means_there : Means (logical_image_under n g later.0 all) table count =
+      subst (λ (p : LogicalImage). Means p table count) (same_logical_image n g later.0 halves.0 all same)
       (front_keeps_meaning versions_kept clean_kept below newest g old halves.0 blocks changes (SealsBlock records ∷ []) sound may none halves.1 table count means) in
       record {
         blocks = all ++ records ∷ [];
@@ -144,7 +144,7 @@ module _ (versions_kept : StagingKeepsVersions) (clean_kept : StagingKeepsClean)
 
   -- they append no master unit
   stands_committed : (newest : Option Master) (g : Geometry) (old new : Image) (blocks : List (List LogRecord)) (changes : List Change) (records : List LogRecord) (table : List Content) (count : ℕ) (before after : List Entry) (lsn t number : ℕ) →
-      IsSoundUnder newest g old blocks → Means (picture_under newest g old blocks) table count → MayMakeAll newest g old blocks (changes ++ SealsBlock records ∷ []) → AllByRecursion SealsNoCommit changes →
+      IsSoundUnder newest g old blocks → Means (logical_image_under newest g old blocks) table count → MayMakeAll newest g old blocks (changes ++ SealsBlock records ∷ []) → AllByRecursion SealsNoCommit changes →
       AllByRecursion SavesNoMaster changes →
       entries_from (next_block_lsn newest (blocks_after_all newest blocks changes)) records ≡ before ++ record { lsn = lsn; rec = Commit t number } ∷ after → commit_numbers before ≡ [] → commit_numbers after ≡ [] →
       Reaches g (changes ++ SealsBlock records ∷ []) old new → StandsUnder newest g new (table_with table (writes_in t (log_from (kept_by newest) (blocks_after_all newest blocks changes) ++ before))) (count + 1)

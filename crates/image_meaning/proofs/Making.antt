@@ -10,7 +10,7 @@ use Rattle.frame_group.specs.Laws.{StagingKeepsVersions, StagingKeepsClean}
 use Rattle.image_changes.specs.Changes.{SealsBlock, RewritesPages, AppendsGroup, AppendsSegment, AppendsMaster}
 use Rattle.image_meaning.specs.Laws.{ChangeKeepsSound, ChangeKeepsMeaning, FrontKeepsSound, FrontKeepsMeaning}
 use Rattle.image_meaning.specs.Changes.{newest_after, blocks_after}
-use Rattle.image_meaning.specs.Below.{MasterLaws}
+use Rattle.image_meaning.specs.LowerLaws.{MasterLaws}
 use Rattle.image_meaning.proofs.UnchangedImages.{same_is_sound, same_means}
 use Rattle.image_meaning.proofs.Seals.{sealed_image_is_sound, sealed_without_commit}
 use Rattle.image_meaning.proofs.Stages.{staged_is_sound, staged_means}

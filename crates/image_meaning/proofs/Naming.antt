@@ -7,7 +7,7 @@ use Rattle.std_lemmas.proofs.AllOf.{all_both, all_weaker, all_map}
 use Rattle.std_lemmas.proofs.Lists.{any_map}
 use Rattle.log_records.specs.Log.{Entry, is_loser, is_closed, entries_of}
 use Rattle.log_records.specs.Unfinished.{is_begin, losers}
-use Rattle.log_records.specs.Sound.{Active, Picture, IsSound, last_lsn, active_in}
+use Rattle.log_records.specs.Sound.{Active, LogicalImage, IsSound, last_lsn, active_in}
 use Rattle.log_laws.specs.LoserLaws.{ListedIsLoser, LoserIsListed}
 use Rattle.log_laws.specs.NewImage.{with_master}
 use Rattle.log_laws.proofs.Listing.{Ascends, losers_ascend, above}
@@ -74,7 +74,7 @@ pairs_are : (log : List Entry) (pairs : List Pair) → AllByRecursion (λ pair. 
 pairs_are log [] all = refl
 pairs_are log (pair ∷ pairs) all = let rest = pairs_are log pairs all.1 in λ i. record { begin = pair.begin; last = all.0 i } ∷ rest i
 
-module _ (listed_is_loser : ListedIsLoser) (loser_is_listed : LoserIsListed) (p : Picture) (m : Master) (sound : IsSound p) (is : IsMasterOf p m) where
+module _ (listed_is_loser : ListedIsLoser) (loser_is_listed : LoserIsListed) (p : LogicalImage) (m : Master) (sound : IsSound p) (is : IsMasterOf p m) where
   abbrev begins : List ℕ
   begins = map (λ (pair : Pair). pair.begin) m.active
 

@@ -15,7 +15,7 @@ use Rattle.log_store.specs.declared.store.LogStore.{LogStore}
 use Rattle.log_store.specs.LogList.{LogList}
 use Rattle.log_store.specs.Representation.{HasBlocks, Represents}
 use Rattle.log_store.specs.Laws.{OneLog}
-use Rattle.image_meaning.specs.Meaning.{saved_by, kept_by, picture_under, HasNewest, IsSoundUnder, StandsUnder}
+use Rattle.image_meaning.specs.Meaning.{saved_by, kept_by, logical_image_under, HasNewest, IsSoundUnder, StandsUnder}
 use Rattle.image_meaning.specs.Laws.{OneMeaningFor, OneMasterStands, NewestIsRead, ReadIsNewest}
 
 -- a store that has found no block
@@ -40,10 +40,10 @@ module _ (one : OneLog) (newest : Option Master) (g : Geometry) (image : Image) 
       (stands.means.table_is ∙ (λ i. table_by (same i)) ∙ sym too.means.table_is, stands.means.count_is ∙ (λ i. count_by (same i)) ∙ sym too.means.count_is)
     where
       table_by : List (List LogRecord) → List Content
-      table_by blocks = table_of (picture_under newest g image blocks).log (picture_under newest g image blocks).pages
+      table_by blocks = table_of (logical_image_under newest g image blocks).log (logical_image_under newest g image blocks).pages
 
       count_by : List (List LogRecord) → ℕ
-      count_by blocks = commit_count (picture_under newest g image blocks)
+      count_by blocks = commit_count (logical_image_under newest g image blocks)
 
 pub one_master_stands : OneNewest → OneMasterStands
 one_master_stands one g image None None first second = refl

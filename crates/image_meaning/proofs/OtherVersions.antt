@@ -1,21 +1,21 @@
--- Other versions of the pages keep a picture sound, and what it stands for.
+-- Other versions of the pages keep a logical image sound, and what it stands for.
 use Rattle.std.proofs.Common.{◌≡◌, ℕ, ◌*◌, ◌/◌, ◌%◌, ◌<◌, List, length, Some, None, refl, sym, ap, ◌∙◌, arith}
 use Rattle.std.specs.Prelude.{Option}
 use Rattle.std.proofs.lemmas.Nat.{mod_below}
 use Rattle.std_lemmas.proofs.AllOf.{all_weaker}
 use Rattle.record_model.specs.State.{Content}
 use Rattle.log_records.specs.Log.{Entry, Version, version_at, slot_at, last_on, value_after, value_of}
-use Rattle.log_records.specs.Sound.{Picture, IsSound, Means, FitsLog, IsInTable}
+use Rattle.log_records.specs.Sound.{LogicalImage, IsSound, Means, FitsLog, IsInTable}
 use Rattle.log_laws.proofs.Versions.{table_same}
-use Rattle.image_meaning.specs.Pictures.{with_versions, ReplaceAll, VersionsAreSound, VersionsMean, VersionReplacesItself}
+use Rattle.image_meaning.specs.LogicalImages.{with_versions, ReplaceAll, VersionsAreSound, VersionsMean, VersionReplacesItself}
 use Rattle.log_records.proofs.Values.{page_and_slot}
 
 -- a slot without records is as it was
-pub slot_same : (p : Picture) (versions : List Version) → ReplaceAll p versions → (number : ℕ) → number < 32 * length p.pages → last_on p.log number ≡ None → slot_at versions number ≡ slot_at p.pages number
+pub slot_same : (p : LogicalImage) (versions : List Version) → ReplaceAll p versions → (number : ℕ) → number < 32 * length p.pages → last_on p.log number ≡ None → slot_at versions number ≡ slot_at p.pages number
 slot_same p versions r number within none =
     (r.each (number / 32) (omega (arith, within, page_and_slot number))).as_before (number % 32) (mod_below number 32 (omega arith)) (ap (last_on p.log) (page_and_slot number) ∙ none)
 
-module _ (p : Picture) (versions : List Version) (sound : IsSound p) (r : ReplaceAll p versions) where
+module _ (p : LogicalImage) (versions : List Version) (sound : IsSound p) (r : ReplaceAll p versions) where
   fits_still : (page : ℕ) (v : Version) → FitsLog p page v → FitsLog (with_versions p versions) page v
   fits_still page v f = record { logged = f.logged; shows = f.shows; knows = f.knows }
 

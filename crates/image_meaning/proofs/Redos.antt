@@ -10,7 +10,7 @@ use Rattle.std.proofs.lemmas.Nat.{div-mul-add, mod-mul-add}
 use Rattle.std_lemmas.proofs.AllOf.{all_push, all_filter, all_weaker}
 use Rattle.record_model.specs.State.{Content, content_at}
 use Rattle.log_records.specs.Log.{Entry, Version, version_at, slot_at, number_of, is_number, is_on, after_of, last_where, last_on}
-use Rattle.log_records.specs.Sound.{Picture, IsSound, IsInOrder, ShowsLast, last_known, before_block}
+use Rattle.log_records.specs.Sound.{LogicalImage, IsSound, IsInOrder, ShowsLast, last_known, before_block}
 use Rattle.log_laws.specs.Follow.{shown_by, shown}
 use Rattle.log_laws.proofs.Lists.{or_is_none}
 use Rattle.log_laws.proofs.Orders.{all_from, none_passes}
@@ -178,7 +178,7 @@ order_bound from (e ∷ log) to order = let low = order.0 in let high = order_bo
 logged_below : (lsn hi : ℕ) → lsn < 512 * hi → IsTrue ((lsn == 0) || nat_lt lsn (512 * hi))
 logged_below lsn hi less = grind (arith, nat_tests)
 
-module _ (p : Picture) (page : ℕ) (v w : Version) (front rest : List Entry) (e : Entry) (number : ℕ) (sound : IsSound p) (split : p.log ≡ front ++ e ∷ rest)
+module _ (p : LogicalImage) (page : ℕ) (v w : Version) (front rest : List Entry) (e : Entry) (number : ℕ) (sound : IsSound p) (split : p.log ≡ front ++ e ∷ rest)
     (on : number_of e.rec ≡ Some number) (here : number / 32 ≡ page) (next : v.lsn < e.lsn) (known : AreKnown front page v.lsn) (r : IsRedone p page v) (redoes : Redoes page e number v w) where
   behind : IsInOrder (e.lsn + 1) rest (512 * p.hi)
   behind = order_behind (512 * p.master.kept) front e rest (512 * p.hi) (subst (λ (log : List Entry). IsInOrder (512 * p.master.kept) log (512 * p.hi)) split sound.in_order)

@@ -6,29 +6,29 @@ use Rattle.log_records.specs.declared.log_record.LogRecord.{LogRecord}
 use Rattle.log_laws.specs.NewImage.{Replaces}
 use Rattle.checkpoint.specs.declared.master.Master.{Master}
 use Rattle.flash_cache.specs.Representation.{version_on}
-use Rattle.image_meaning.specs.Meaning.{picture_under, version_in, versions_on}
-use Rattle.image_meaning.specs.Pictures.{ReplaceAll}
+use Rattle.image_meaning.specs.Meaning.{logical_image_under, version_in, versions_on}
+use Rattle.image_meaning.specs.LogicalImages.{ReplaceAll}
 use Rattle.image_meaning.specs.Laws.{ReplacedIsSound, ReplacedMeans, VersionReplaces}
 use Rattle.image_meaning.proofs.Versions.{length-versions, version_is}
 use Rattle.image_meaning.proofs.OtherVersions.{versions_are_sound, versions_mean, version_replaces_itself}
 
-pub replace_all : (newest : Option Master) (g : Geometry) (old new : Image) (blocks : List (List LogRecord)) → ((number : ℕ) → number < g.pages → Replaces (picture_under newest g old blocks) number (version_in (version_on g new number))) →
-    ReplaceAll (picture_under newest g old blocks) (versions_on g new)
+pub replace_all : (newest : Option Master) (g : Geometry) (old new : Image) (blocks : List (List LogRecord)) → ((number : ℕ) → number < g.pages → Replaces (logical_image_under newest g old blocks) number (version_in (version_on g new number))) →
+    ReplaceAll (logical_image_under newest g old blocks) (versions_on g new)
 replace_all newest g old new blocks replace = record {
   count = length-versions g new ∙ sym (length-versions g old);
-  each = λ number less. let within : number < g.pages = omega (arith, less, length-versions g old) in subst (Replaces (picture_under newest g old blocks) number) (sym (version_is g new number within)) (replace number within);
+  each = λ number less. let within : number < g.pages = omega (arith, less, length-versions g old) in subst (Replaces (logical_image_under newest g old blocks) number) (sym (version_is g new number within)) (replace number within);
 }
 
 pub version_replaces : VersionReplaces
 version_replaces newest g image blocks number sound within =
-    subst (Replaces (picture_under newest g image blocks) number) (version_is g image number within) (version_replaces_itself (picture_under newest g image blocks) number sound.records (omega (arith, within, length-versions g image)))
+    subst (Replaces (logical_image_under newest g image blocks) number) (version_is g image number within) (version_replaces_itself (logical_image_under newest g image blocks) number sound.records (omega (arith, within, length-versions g image)))
 
 pub replaced_is_sound : ReplacedIsSound
 replaced_is_sound newest g old new blocks sound octets held replace = record {
   octets = octets;
   held = held;
-  records = versions_are_sound (picture_under newest g old blocks) (versions_on g new) sound.records (replace_all newest g old new blocks replace);
+  records = versions_are_sound (logical_image_under newest g old blocks) (versions_on g new) sound.records (replace_all newest g old new blocks replace);
 }
 
 pub replaced_means : ReplacedMeans
-replaced_means newest g old new blocks sound replace table count means = versions_mean (picture_under newest g old blocks) (versions_on g new) sound.records (replace_all newest g old new blocks replace) table count means
+replaced_means newest g old new blocks sound replace table count means = versions_mean (logical_image_under newest g old blocks) (versions_on g new) sound.records (replace_all newest g old new blocks replace) table count means

@@ -1,4 +1,4 @@
--- The picture of an image: what changes make of it, its room and its commits.
+-- The logical image of an image: what changes make of it, its room and its commits.
 use Rattle.std.proofs.Common.{◌≢◌, ◌+◌, ◌*◌, [], Option, refl, arith, length-append}
 use Rattle.std_lemmas.proofs.AllOf.{all_weaker}
 use Rattle.std_lemmas.proofs.Lists.{some_length}
@@ -8,18 +8,18 @@ use Rattle.log_laws.proofs.Owing.{blocks_have_records}
 use Rattle.frame_group.specs.Laws.{StagingKeepsVersions, StagingKeepsClean}
 use Rattle.checkpoint.specs.declared.master.Master.{Master}
 use Rattle.image_meaning.specs.Meaning.{kept_by, next_block_under}
-use Rattle.image_meaning.specs.PictureLaws.{PictureSealed, PictureStays, StagedVersions, RoomForBlock, RoomForTailUnder}
+use Rattle.image_meaning.specs.LogicalImageLaws.{LogicalImageSealed, LogicalImageStays, StagedVersions, RoomForBlock, RoomForTailUnder}
 use Rattle.image_meaning.proofs.Versions.{versions_same}
-use Rattle.image_meaning.proofs.UnchangedImages.{next_block_is, same_picture}
-use Rattle.image_meaning.proofs.Seals.{sealed_picture}
+use Rattle.image_meaning.proofs.UnchangedImages.{next_block_is, same_logical_image}
+use Rattle.image_meaning.proofs.Seals.{sealed_logical_image}
 use Rattle.image_meaning.proofs.Stages.{version_kept}
 use Rattle.log_records.proofs.Entries.{length_entries}
 
-pub picture_sealed : PictureSealed
-picture_sealed newest g old new blocks records made = sealed_picture newest g old new blocks records made
+pub logical_image_sealed : LogicalImageSealed
+logical_image_sealed newest g old new blocks records made = sealed_logical_image newest g old new blocks records made
 
-pub picture_stays : PictureStays
-picture_stays newest g old new blocks same = same_picture newest g old new blocks (versions_same g old new same)
+pub logical_image_stays : LogicalImageStays
+logical_image_stays newest g old new blocks same = same_logical_image newest g old new blocks (versions_same g old new same)
 
 pub staged_versions : StagingKeepsVersions → StagingKeepsClean → StagedVersions
 staged_versions versions_kept clean_kept newest g old new blocks pages sound may made = version_kept versions_kept clean_kept newest g old new blocks pages sound may made

@@ -16,7 +16,7 @@ use Rattle.log_records.specs.declared.log_record.LogRecord.{LogRecord}
 use Rattle.log_records.specs.Spelling.{spelling, AreBlock}
 use Rattle.log_records.specs.Log.{Entry, entries_from, log_from, is_closed, entries_of}
 use Rattle.log_records.specs.Unfinished.{is_begin, losers}
-use Rattle.log_records.specs.Sound.{Active, Picture, Means, AreOrderly, before_block, from_block, last_lsn}
+use Rattle.log_records.specs.Sound.{Active, LogicalImage, Means, AreOrderly, before_block, from_block, last_lsn}
 use Rattle.log_records.specs.Sound as lists
 use Rattle.log_laws.specs.NewImage.{with_master, MayCheckpoint}
 use Rattle.log_laws.proofs.Orders.{filter_none, all_from, entries_in_order}
@@ -28,10 +28,10 @@ use Rattle.image_changes.specs.Rings.{Blocks, Groups, Segments, master_shape, un
 use Rattle.image_changes.specs.Changes.{AppendsMaster, Makes}
 use Rattle.log_store.specs.Representation.{HasBlocks}
 use Rattle.log_store.proofs.BlockLaws.{blocks_stay, blocks_from}
-use Rattle.image_meaning.specs.Meaning.{master_of, kept_by, next_block_under, picture_under, IsNewest, IsSoundUnder, versions_on}
+use Rattle.image_meaning.specs.Meaning.{master_of, kept_by, next_block_under, logical_image_under, IsNewest, IsSoundUnder, versions_on}
 use Rattle.image_meaning.specs.Changes.{MaySave}
-use Rattle.image_meaning.specs.Below.{MasterLaws}
-use Rattle.image_meaning.specs.Checkpoints.{blocks_saved, MasterMaySave, EmptyMasterMaySave, CheckpointMaySave, SavedOctets, SavedPicture, SavedIsSound, SavedMeans, SavedIsOrderly, ActiveAreKept}
+use Rattle.image_meaning.specs.LowerLaws.{MasterLaws}
+use Rattle.image_meaning.specs.Checkpoints.{blocks_saved, MasterMaySave, EmptyMasterMaySave, CheckpointMaySave, SavedOctets, SavedLogicalImage, SavedIsSound, SavedMeans, SavedIsOrderly, ActiveAreKept}
 use Rattle.image_meaning.proofs.Flushes.{checkpoint_needs}
 use Rattle.image_meaning.proofs.Naming.{master_is_saved}
 use Rattle.image_meaning.proofs.Versions.{versions_same, version_stays}
@@ -90,8 +90,8 @@ module _ (below : MasterLaws) where
     abbrev skipped : ℕ
     skipped = kept - kept_by newest
 
-    abbrev before : Picture
-    before = picture_under newest g old blocks
+    abbrev before : LogicalImage
+    before = logical_image_under newest g old blocks
 
     later : kept_by newest + skipped ≡ kept
     later = let rises = may.may.kept_rises in omega (arith, rises)
@@ -113,8 +113,8 @@ module _ (below : MasterLaws) where
     versions : versions_on g new ≡ versions_on g old
     versions = versions_same g old new (version_stays g old new (made.others Groups (λ h. cc)) made.disk)
 
-    pub picture_saved : picture_under (Some (master_in content)) g new (blocks_saved newest blocks content) ≡ with_master (picture_under newest g old blocks) kept
-    picture_saved = λ i. record { master = may.master i; log = records i; hi = end i; blocks = g.blocks; pages = versions i }
+    pub logical_image_saved : logical_image_under (Some (master_in content)) g new (blocks_saved newest blocks content) ≡ with_master (logical_image_under newest g old blocks) kept
+    logical_image_saved = λ i. record { master = may.master i; log = records i; hi = end i; blocks = g.blocks; pages = versions i }
 
     held : HasBlocks g kept (drop skipped blocks) new
     held =
@@ -149,17 +149,17 @@ module _ (below : MasterLaws) where
     sound_saved = record {
       octets = saved_octets newest g old new content sound.octets may.unit made;
       held = held;
-      records = subst lists.IsSound (sym picture_saved) list_sound;
+      records = subst lists.IsSound (sym logical_image_saved) list_sound;
     }
 
-    pub means_saved : (table : List Content) (count : ℕ) → Means before table count → Means (picture_under (Some (master_in content)) g new (blocks_saved newest blocks content)) table count
-    means_saved table count means = subst (λ (p : Picture). Means p table count) (sym picture_saved) (list_means table count means)
+    pub means_saved : (table : List Content) (count : ℕ) → Means before table count → Means (logical_image_under (Some (master_in content)) g new (blocks_saved newest blocks content)) table count
+    means_saved table count means = subst (λ (p : LogicalImage). Means p table count) (sym logical_image_saved) (list_means table count means)
 
-    pub orderly_saved : AreOrderly (picture_under (Some (master_in content)) g new (blocks_saved newest blocks content)).log
-    orderly_saved = subst (λ (p : Picture). AreOrderly p.log) (sym picture_saved) list_orderly
+    pub orderly_saved : AreOrderly (logical_image_under (Some (master_in content)) g new (blocks_saved newest blocks content)).log
+    orderly_saved = subst (λ (p : LogicalImage). AreOrderly p.log) (sym logical_image_saved) list_orderly
 
-  pub saved_picture : SavedPicture
-  saved_picture newest g old new blocks content sound may made = picture_saved newest g old new blocks content sound may made
+  pub saved_logical_image : SavedLogicalImage
+  saved_logical_image newest g old new blocks content sound may made = logical_image_saved newest g old new blocks content sound may made
 
   pub saved_is_sound : SavedIsSound
   saved_is_sound newest g old new blocks content sound may made = sound_saved newest g old new blocks content sound may made
@@ -173,9 +173,9 @@ module _ (below : MasterLaws) where
   -- A unit of a master is the one that its octets say.
 
   module _ (newest : Option Master) (g : Geometry) (image : Image) (blocks : List (List LogRecord)) (content : List ℕ) (m : Master) (unit : IsUnit content m)
-      (master : seen m ≡ (with_master (picture_under newest g image blocks) m.kept).master) (may : MayCheckpoint (picture_under newest g image blocks) m.kept) where
-    abbrev standing : Picture
-    standing = picture_under newest g image blocks
+      (master : seen m ≡ (with_master (logical_image_under newest g image blocks) m.kept).master) (may : MayCheckpoint (logical_image_under newest g image blocks) m.kept) where
+    abbrev standing : LogicalImage
+    standing = logical_image_under newest g image blocks
 
     may_save : AreOrderly standing.log ⊎ (m.kept ≡ standing.hi) → MaySave newest g image blocks content
     may_save orderly =
@@ -193,7 +193,7 @@ module _ (below : MasterLaws) where
 
   pub checkpoint_may_save : CheckpointMaySave
   checkpoint_may_save newest g image blocks content m sound unit is flushed rises within orderly =
-      let p = picture_under newest g image blocks in
+      let p = logical_image_under newest g image blocks in
       may_save newest g image blocks content m unit (master_is_saved below.loser below.listed p m sound.records is) ((checkpoint_needs p m.kept sound.records).1 (flushed, rises, within)) orderly
 
   pub master_may_save : MasterMaySave

@@ -5,7 +5,7 @@ use Rattle.site.specs.State.{Image}
 use Rattle.record_model.specs.State.{Content, table_with}
 use Rattle.log_records.specs.declared.log_record.LogRecord.{LogRecord}
 use Rattle.log_records.specs.Log.{log_from, entries_from}
-use Rattle.log_records.specs.Sound.{Picture, Means}
+use Rattle.log_records.specs.Sound.{LogicalImage, Means}
 use Rattle.log_records.specs.Sound as lists
 use Rattle.log_laws.specs.Follow.{GoesOn, sealed, writes_in}
 use Rattle.log_laws.proofs.Tails.{log_from-append}
@@ -15,14 +15,14 @@ use Rattle.checkpoint.specs.declared.master.Master.{Master}
 use Rattle.image_changes.specs.Rings.{Masters, Groups, Segments, KeepsUnits, shape_of}
 use Rattle.image_changes.specs.Changes.{SealsBlock, Makes}
 use Rattle.log_store.proofs.BlockLaws.{blocks_more}
-use Rattle.image_meaning.specs.Meaning.{master_of, kept_by, next_block_under, picture_under, IsSoundUnder, versions_on}
+use Rattle.image_meaning.specs.Meaning.{master_of, kept_by, next_block_under, logical_image_under, IsSoundUnder, versions_on}
 use Rattle.image_meaning.specs.Laws as laws
 use Rattle.image_meaning.proofs.Versions.{versions_same, version_stays}
-use Rattle.image_meaning.proofs.UnchangedImages.{next_block_is, octets_stay, same_picture}
+use Rattle.image_meaning.proofs.UnchangedImages.{next_block_is, octets_stay, same_logical_image}
 
--- the picture of an image with one more block
+-- the logical image of an image with one more block
 pub blocks_sealed : (newest : Option Master) (g : Geometry) (image : Image) (blocks : List (List LogRecord)) (records : List LogRecord) →
-    picture_under newest g image (blocks ++ records ∷ []) ≡ sealed (picture_under newest g image blocks) records
+    logical_image_under newest g image (blocks ++ records ∷ []) ≡ sealed (logical_image_under newest g image blocks) records
 blocks_sealed newest g image blocks records =
     let next = next_block_is newest blocks in
     let log = log_from-append blocks records (kept_by newest) ∙ ap (λ n. log_from (kept_by newest) blocks ++ entries_from (512 * n + 2) records) (sym next) in
@@ -42,28 +42,28 @@ module _ (newest : Option Master) (g : Geometry) (old new : Image) (blocks : Lis
   versions : versions_on g new ≡ versions_on g old
   versions = versions_same g old new (version_stays g old new groups made.1.disk)
 
-  -- the picture of the new image is that of the old one with the block sealed
-  pub sealed_picture : picture_under newest g new (blocks ++ records ∷ []) ≡ sealed (picture_under newest g old blocks) records
-  sealed_picture = blocks_sealed newest g new blocks records ∙ ap (λ (p : Picture). sealed p records) (same_picture newest g old new blocks versions)
+  -- the logical image of the new image is that of the old one with the block sealed
+  pub sealed_logical_image : logical_image_under newest g new (blocks ++ records ∷ []) ≡ sealed (logical_image_under newest g old blocks) records
+  sealed_logical_image = blocks_sealed newest g new blocks records ∙ ap (λ (p : LogicalImage). sealed p records) (same_logical_image newest g old new blocks versions)
 
-  pub sound_sealed : IsSoundUnder newest g old blocks → GoesOn (picture_under newest g old blocks) records → IsSoundUnder newest g new (blocks ++ records ∷ [])
+  pub sound_sealed : IsSoundUnder newest g old blocks → GoesOn (logical_image_under newest g old blocks) records → IsSoundUnder newest g new (blocks ++ records ∷ [])
   sound_sealed sound goes = record {
     octets = octets_stay newest g old new made.1.sizes masters segments groups made.1.disk sound.octets;
     held = blocks_more g _ blocks records old new sound.held (let room = goes.room in omega (arith, room, next_block_is newest blocks)) goes.are_block made.1.form made.1.units;
-    records = subst lists.IsSound (sym sealed_picture) (sealed_is_sound (picture_under newest g old blocks) records sound.records goes);
+    records = subst lists.IsSound (sym sealed_logical_image) (sealed_is_sound (logical_image_under newest g old blocks) records sound.records goes);
   }
 
-  pub means_sealed : (table : List Content) (count : ℕ) → Means (sealed (picture_under newest g old blocks) records) table count → Means (picture_under newest g new (blocks ++ records ∷ [])) table count
-  means_sealed table count means = subst (λ (p : Picture). Means p table count) (sym sealed_picture) means
+  pub means_sealed : (table : List Content) (count : ℕ) → Means (sealed (logical_image_under newest g old blocks) records) table count → Means (logical_image_under newest g new (blocks ++ records ∷ [])) table count
+  means_sealed table count means = subst (λ (p : LogicalImage). Means p table count) (sym sealed_logical_image) means
 
 pub sealed_image_is_sound : laws.SealedIsSound
 sealed_image_is_sound newest g old new blocks records sound goes made = sound_sealed newest g old new blocks records made sound goes
 
 pub sealed_without_commit : laws.SealedWithoutCommit
 sealed_without_commit newest g old new blocks records sound goes made none table count means =
-    means_sealed newest g old new blocks records made table count (means_without_commit (picture_under newest g old blocks) records sound.records goes table count means none)
+    means_sealed newest g old new blocks records made table count (means_without_commit (logical_image_under newest g old blocks) records sound.records goes table count means none)
 
 pub sealed_with_commit : laws.SealedWithCommit
 sealed_with_commit newest g old new blocks records sound goes made before after lsn t number parts none none' table count means =
-    means_sealed newest g old new blocks records made (table_with table (writes_in t ((picture_under newest g old blocks).log ++ before))) (count + 1)
-    (means_with_commit (picture_under newest g old blocks) records sound.records goes table count means before after lsn t number parts none none')
+    means_sealed newest g old new blocks records made (table_with table (writes_in t ((logical_image_under newest g old blocks).log ++ before))) (count + 1)
+    (means_with_commit (logical_image_under newest g old blocks) records sound.records goes table count means before after lsn t number parts none none')

@@ -5,7 +5,7 @@ use Rattle.std_lemmas.proofs.AllOf.{all_weaker}
 use Rattle.site.specs.declared.geometry.Geometry.{Geometry}
 use Rattle.site.specs.Geometry.{HasLimits}
 use Rattle.site.specs.State.{Image}
-use Rattle.log_records.specs.Sound.{Picture, Means}
+use Rattle.log_records.specs.Sound.{LogicalImage, Means}
 use Rattle.log_records.specs.Sound as lists
 use Rattle.frame_group.specs.Groups.{Frame, IsGroup, group}
 use Rattle.image_changes.specs.Rings.{Masters, Blocks, Groups, Segments, group_shape, units_on}
@@ -18,7 +18,7 @@ use Rattle.image_meaning.specs.Changes.{NoSegmentIsDue, MaySaveSegment}
 use Rattle.image_meaning.specs.Laws.{SegmentIsSound, SegmentMeans}
 use Rattle.image_meaning.proofs.Versions.{versions_same, version_stays}
 use Rattle.image_meaning.proofs.Reading.{groups_are_there, segments_are_read}
-use Rattle.image_meaning.proofs.UnchangedImages.{newest_stays, octets_beside, same_picture}
+use Rattle.image_meaning.proofs.UnchangedImages.{newest_stays, octets_beside, same_logical_image}
 
 -- the number of the oldest live group
 abbrev oldest : Geometry → Image → ℕ
@@ -52,9 +52,9 @@ segment_is_sound newest g old new blocks content sound may made =
       octets = octets_beside newest newest g old new made.sizes (newest_stays newest g old new (made.others Masters (λ h. cc)) sound.octets.masters)
           (segments_saved g old new content sound.octets.limits sound.octets.groups sound.octets.segments may made) groups made.disk sound.octets;
       held = blocks_stay g _ blocks old new sound.held (made.others Blocks (λ h. cc));
-      records = subst lists.IsSound (sym (same_picture newest g old new blocks versions)) sound.records;
+      records = subst lists.IsSound (sym (same_logical_image newest g old new blocks versions)) sound.records;
     }
 
 pub segment_means : SegmentMeans
 segment_means newest g old new blocks content made table count means =
-    subst (λ (p : Picture). Means p table count) (sym (same_picture newest g old new blocks (versions_same g old new (version_stays g old new (made.others Groups (λ h. cc)) made.disk)))) means
+    subst (λ (p : LogicalImage). Means p table count) (sym (same_logical_image newest g old new blocks (versions_same g old new (version_stays g old new (made.others Groups (λ h. cc)) made.disk)))) means

@@ -9,7 +9,7 @@ use Rattle.site.specs.State.{Image}
 use Rattle.sealed_ring.specs.Ring.{IsBeside}
 use Rattle.record_model.specs.State.{Content}
 use Rattle.log_records.specs.declared.log_record.LogRecord.{LogRecord}
-use Rattle.log_records.specs.Sound.{Picture, Means}
+use Rattle.log_records.specs.Sound.{LogicalImage, Means}
 use Rattle.log_records.specs.Sound as lists
 use Rattle.slotted_page.specs.Layout as page
 use Rattle.frame_group.specs.Groups.{Frame}
@@ -22,11 +22,11 @@ use Rattle.image_changes.specs.Rings.{Masters, Blocks, Groups, Segments}
 use Rattle.image_changes.specs.Changes.{RewritesPages, Makes}
 use Rattle.log_store.proofs.BlockLaws.{blocks_stay}
 use Rattle.flash_cache.specs.Representation.{frames_on, disk_on, version_on, IsCleanOn}
-use Rattle.image_meaning.specs.Meaning.{picture_under, IsSoundUnder, versions_on}
+use Rattle.image_meaning.specs.Meaning.{logical_image_under, IsSoundUnder, versions_on}
 use Rattle.image_meaning.specs.Changes.{MayStage}
 use Rattle.image_meaning.specs.Laws.{StagedIsSound, StagedMeans}
 use Rattle.image_meaning.proofs.Versions.{versions_same, frames_stay}
-use Rattle.image_meaning.proofs.UnchangedImages.{lengths_stay, newest_stays, groups_stay, segments_stay, same_picture}
+use Rattle.image_meaning.proofs.UnchangedImages.{lengths_stay, newest_stays, groups_stay, segments_stay, same_logical_image}
 
 -- no octet of a page is one of another page
 apart : (number other place : ℕ) → (number ≡ other → ⊥) → 4096 * number ≤ place → place < 4096 * number + 4096 → IsBeside (4096 * other) 4096 place
@@ -94,11 +94,11 @@ module _ (versions_kept : StagingKeepsVersions) (clean_kept : StagingKeepsClean)
       clean = clean;
     };
     held = blocks_stay g _ blocks old new sound.held (made.rings Blocks);
-    records = subst lists.IsSound (sym (same_picture newest g old new blocks same_versions)) sound.records;
+    records = subst lists.IsSound (sym (same_logical_image newest g old new blocks same_versions)) sound.records;
   }
 
-  pub means_staged : (table : List Content) (count : ℕ) → Means (picture_under newest g old blocks) table count → Means (picture_under newest g new blocks) table count
-  means_staged table count means = subst (λ (p : Picture). Means p table count) (sym (same_picture newest g old new blocks same_versions)) means
+  pub means_staged : (table : List Content) (count : ℕ) → Means (logical_image_under newest g old blocks) table count → Means (logical_image_under newest g new blocks) table count
+  means_staged table count means = subst (λ (p : LogicalImage). Means p table count) (sym (same_logical_image newest g old new blocks same_versions)) means
 
 pub staged_is_sound : StagingKeepsVersions → StagingKeepsClean → StagedIsSound
 staged_is_sound versions_kept clean_kept newest g old new blocks pages sound may made = sound_staged versions_kept clean_kept newest g old new blocks pages sound may made

@@ -7,7 +7,7 @@ use Rattle.site.specs.Geometry.{HasLengths}
 use Rattle.site.specs.State.{Image}
 use Rattle.sealed_ring.specs.Ring.{Units}
 use Rattle.log_records.specs.declared.log_record.LogRecord.{LogRecord}
-use Rattle.log_records.specs.Sound.{Picture, Means}
+use Rattle.log_records.specs.Sound.{LogicalImage, Means}
 use Rattle.log_records.specs.Sound as lists
 use Rattle.slotted_page.specs.Layout as page
 use Rattle.frame_group.specs.Groups.{Frame, IsGroup, frames_in}
@@ -20,8 +20,8 @@ use Rattle.log_store.proofs.BlockLaws.{blocks_stay}
 use Rattle.tail_rebuild.specs.Standing.{HasSaved}
 use Rattle.tail_rebuild.proofs.Following.{saved_again}
 use Rattle.flash_cache.specs.Representation.{frames_on, groups_on, disk_on}
-use Rattle.image_meaning.specs.Meaning.{kept_by, next_block_under, picture_under, IsUnused, HasNewest, IsFrameOf, AreGroups, AreSegments, AreOctetsSoundUnder, versions_on}
-use Rattle.image_meaning.specs.Pictures.{with_versions}
+use Rattle.image_meaning.specs.Meaning.{kept_by, next_block_under, logical_image_under, IsUnused, HasNewest, IsFrameOf, AreGroups, AreSegments, AreOctetsSoundUnder, versions_on}
+use Rattle.image_meaning.specs.LogicalImages.{with_versions}
 use Rattle.image_meaning.specs.Laws.{SameIsSound, SameMeans}
 use Rattle.image_meaning.proofs.Versions.{versions_same, version_stays, frames_stay, disk_stays}
 
@@ -80,8 +80,8 @@ octets_stay newest g old new sizes masters segments groups disk sound =
 
 -- What reads the same.
 
-pub same_picture : (newest : Option Master) (g : Geometry) (old new : Image) (blocks : List (List LogRecord)) → versions_on g new ≡ versions_on g old → picture_under newest g new blocks ≡ picture_under newest g old blocks
-same_picture newest g old new blocks same = ap (with_versions (picture_under newest g old blocks)) same
+pub same_logical_image : (newest : Option Master) (g : Geometry) (old new : Image) (blocks : List (List LogRecord)) → versions_on g new ≡ versions_on g old → logical_image_under newest g new blocks ≡ logical_image_under newest g old blocks
+same_logical_image newest g old new blocks same = ap (with_versions (logical_image_under newest g old blocks)) same
 
 pub same_is_sound : SameIsSound
 same_is_sound newest g old new blocks sound reads =
@@ -89,10 +89,10 @@ same_is_sound newest g old new blocks sound reads =
     record {
       octets = octets_stay newest g old new reads.sizes (reads.rings Masters) (reads.rings Segments) (reads.rings Groups) reads.disk sound.octets;
       held = blocks_stay g _ blocks old new sound.held (reads.rings Blocks);
-      records = subst lists.IsSound (sym (same_picture newest g old new blocks versions)) sound.records;
+      records = subst lists.IsSound (sym (same_logical_image newest g old new blocks versions)) sound.records;
     }
 
 pub same_means : SameMeans
 same_means newest g old new blocks reads table count means =
     let versions = versions_same g old new (version_stays g old new (reads.rings Groups) reads.disk) in
-    subst (λ (p : Picture). Means p table count) (sym (same_picture newest g old new blocks versions)) means
+    subst (λ (p : LogicalImage). Means p table count) (sym (same_logical_image newest g old new blocks versions)) means

@@ -9,7 +9,7 @@ use Rattle.site.specs.State.{Image}
 use Rattle.sealed_ring.specs.Ring.{Units, hi_of}
 use Rattle.record_model.specs.State.{Content}
 use Rattle.log_records.specs.declared.log_record.LogRecord.{LogRecord}
-use Rattle.log_records.specs.Sound.{Picture, Means}
+use Rattle.log_records.specs.Sound.{LogicalImage, Means}
 use Rattle.log_laws.specs.NewImage.{Replaces}
 use Rattle.frame_group.specs.Groups.{Frame, IsGroup}
 use Rattle.frame_group.specs.Versions.{frames_of, last_frame}
@@ -23,10 +23,10 @@ use Rattle.image_changes.specs.Reached.{IsFrontOf}
 use Rattle.stage_out.specs.Staged.{HasStaged, changes_of}
 use Rattle.flash_cache.specs.Representation.{frames_on, disk_on}
 use Rattle.flash_cache.specs.Pushed.{changes_of_push}
-use Rattle.image_meaning.specs.Meaning.{picture_under, IsSoundUnder, version_in}
+use Rattle.image_meaning.specs.Meaning.{logical_image_under, IsSoundUnder, version_in}
 use Rattle.image_meaning.specs.Changes.{front_on, rest_on, MayStage, MayAppend}
 use Rattle.image_meaning.specs.PushLaws.{MayPushGroup, PushKeepsSound, PushKeepsMeaning}
-use Rattle.image_meaning.proofs.UnchangedImages.{same_is_sound, same_means, same_picture}
+use Rattle.image_meaning.proofs.UnchangedImages.{same_is_sound, same_means, same_logical_image}
 use Rattle.image_meaning.proofs.Stages.{staged_is_sound, staged_means, page_kept, same_versions}
 use Rattle.image_meaning.proofs.Appends.{pushed_is_sound, pushed_means, frames_before}
 pub use Rattle.image_changes.proofs.Sequence.{reaches_parts}
@@ -74,7 +74,7 @@ module _ (versions_kept : StagingKeepsVersions) (clean_kept : StagingKeepsClean)
   part_sound (inl reads) = same_is_sound newest g old new blocks sound reads
   part_sound (inr made) = sound_before made
 
-  part_means : ReadsAs g old new ⊎ Rewrites g pages old new → (table : List Content) (count : ℕ) → Means (picture_under newest g old blocks) table count → Means (picture_under newest g new blocks) table count
+  part_means : ReadsAs g old new ⊎ Rewrites g pages old new → (table : List Content) (count : ℕ) → Means (logical_image_under newest g old blocks) table count → Means (logical_image_under newest g new blocks) table count
   part_means (inl reads) table count means = same_means newest g old new blocks reads table count means
   part_means (inr made) table count means = staged_means versions_kept clean_kept newest g old new blocks pages sound may_stage made table count means
 
@@ -111,15 +111,15 @@ module _ (versions_kept : StagingKeepsVersions) (clean_kept : StagingKeepsClean)
             (sym (made.rings Groups).units) (front_staged number absent);
       };
       replace = λ number frame last.
-          subst (λ (p : Picture). Replaces p number (version_in frame.octets))
-          (sym (same_picture newest g old mid blocks (same_versions versions_kept clean_kept newest g old mid blocks pages sound may_stage made))) (may.replace number frame last);
+          subst (λ (p : LogicalImage). Replaces p number (version_in frame.octets))
+          (sym (same_logical_image newest g old mid blocks (same_versions versions_kept clean_kept newest g old mid blocks pages sound may_stage made))) (may.replace number frame last);
     }
 
     module _ (after : Image) (appended : Makes g (AppendsGroup group) mid after) (reads : ReadsAs g after new) where
       pub all_sound : IsSoundUnder newest g new blocks
       all_sound = same_is_sound newest g after new blocks (pushed_is_sound newest g mid after blocks group frames sound_mid is_group may_append appended) reads
 
-      pub all_means : (table : List Content) (count : ℕ) → Means (picture_under newest g old blocks) table count → Means (picture_under newest g new blocks) table count
+      pub all_means : (table : List Content) (count : ℕ) → Means (logical_image_under newest g old blocks) table count → Means (logical_image_under newest g new blocks) table count
       all_means table count means =
           same_means newest g after new blocks reads table count
           (pushed_means newest g mid after blocks group frames sound_mid is_group may_append appended table count
@@ -142,7 +142,7 @@ push_keeps_meaning versions_kept clean_kept newest g pages contents group frames
   where
     by : ((changes : List Change) × IsFrontOf (changes_of pages) changes × Reaches g changes old.image snapshot.image)
         ⊎ (HasStaged pages contents old.image.disk snapshot.image.disk × Reaches g (changes_of_push pages group) old.image snapshot.image) →
-        (table : List Content) (count : ℕ) → Means (picture_under newest g old.image blocks) table count → Means (picture_under newest g snapshot.image blocks) table count
+        (table : List Content) (count : ℕ) → Means (logical_image_under newest g old.image blocks) table count → Means (logical_image_under newest g snapshot.image blocks) table count
     by (inl part) = part_means versions_kept clean_kept newest g pages contents group frames old.image snapshot.image blocks sound is_group may (front_cases g pages part.0 old.image snapshot.image part.1 part.2)
     by (inr whole) =
         let parts = reaches_parts g (changes_of pages) (AppendsGroup group ∷ []) old.image snapshot.image whole.1 in

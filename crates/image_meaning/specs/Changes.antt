@@ -21,7 +21,7 @@ use Rattle.checkpoint.specs.Newest.{seen}
 use Rattle.tail_rebuild.specs.Saving.{segment_of}
 use Rattle.flash_cache.specs.Representation.{frames_on, groups_on, disk_on}
 use Rattle.image_meaning.specs.Pushes.{MayPush}
-use Rattle.image_meaning.specs.Meaning.{kept_by, next_block_under, picture_under, version_in, IsFrameOf}
+use Rattle.image_meaning.specs.Meaning.{kept_by, next_block_under, logical_image_under, version_in, IsFrameOf}
 
 -- A segment is appended.
 
@@ -59,7 +59,7 @@ pub record MayAppend (newest : Option Master) (g : Geometry) (image : Image) (bl
   pub are_frames : AllByRecursion (IsFrameOf g) frames
   pub pushed : MayPush (disk_on image) (front_on g image) (rest_on g image) frames
   pub replace : (number : ℕ) (frame : Frame) → last_frame number frames ≡ Some frame
-      → Replaces (picture_under newest g image blocks) number (version_in frame.octets)
+      → Replaces (logical_image_under newest g image blocks) number (version_in frame.octets)
 
 -- Disk pages are rewritten: each has a valid frame that is dirty.
 abbrev pub MayStage : Geometry → Image → List ℕ → Type 0
@@ -74,14 +74,14 @@ pub record MaySave (newest : Option Master) (g : Geometry) (image : Image) (bloc
     (content : List ℕ) : Type 0 where
   pub unit : IsUnit content (master_in content)
   pub master : seen (master_in content)
-      ≡ (with_master (picture_under newest g image blocks) (master_in content).kept).master
-  pub may : MayCheckpoint (picture_under newest g image blocks) (master_in content).kept
-  pub orderly : AreOrderly (picture_under newest g image blocks).log
-      ⊎ ((master_in content).kept ≡ (picture_under newest g image blocks).hi)
+      ≡ (with_master (logical_image_under newest g image blocks) (master_in content).kept).master
+  pub may : MayCheckpoint (logical_image_under newest g image blocks) (master_in content).kept
+  pub orderly : AreOrderly (logical_image_under newest g image blocks).log
+      ⊎ ((master_in content).kept ≡ (logical_image_under newest g image blocks).hi)
 
 -- Which changes keep an image sound.
 abbrev pub MayMake : Option Master → Geometry → Image → List (List LogRecord) → Change → Type 0
-MayMake newest g image blocks (SealsBlock records) = GoesOn (picture_under newest g image blocks) records
+MayMake newest g image blocks (SealsBlock records) = GoesOn (logical_image_under newest g image blocks) records
 MayMake newest g image blocks (RewritesPages pages) = MayStage g image pages
 MayMake newest g image blocks (AppendsGroup content) = (frames : List Frame) × IsGroup content frames
     × MayAppend newest g image blocks frames

@@ -14,7 +14,7 @@ use Rattle.checkpoint.specs.Units.{IsUnit, master_in}
 use Rattle.checkpoint.specs.Newest.{seen}
 use Rattle.image_changes.specs.Changes.{Change, AppendsMaster, Makes, Reaches}
 use Rattle.image_changes.specs.Reached.{LeavesFront}
-use Rattle.image_meaning.specs.Meaning.{master_of, kept_by, picture_under, AreOctetsSoundUnder}
+use Rattle.image_meaning.specs.Meaning.{master_of, kept_by, logical_image_under, AreOctetsSoundUnder}
 use Rattle.image_meaning.specs.Meaning.{IsSoundUnder}
 use Rattle.image_meaning.specs.Changes.{MaySave, MayMakeAll, SealsNoCommit, SavesNoMaster}
 use Rattle.image_meaning.specs.Changes.{blocks_after, newest_after_all, blocks_after_all}
@@ -32,18 +32,18 @@ abbrev pub MasterMaySave : Type 0
 MasterMaySave =
     (newest : Option Master) (g : Geometry) (image : Image) (blocks : List (List LogRecord)) (content : List ℕ)
     (m : Master) → IsUnit content m →
-    seen m ≡ (with_master (picture_under newest g image blocks) m.kept).master
-    → MayCheckpoint (picture_under newest g image blocks) m.kept →
-    AreOrderly (picture_under newest g image blocks).log → MaySave newest g image blocks content
+    seen m ≡ (with_master (logical_image_under newest g image blocks) m.kept).master
+    → MayCheckpoint (logical_image_under newest g image blocks) m.kept →
+    AreOrderly (logical_image_under newest g image blocks).log → MaySave newest g image blocks content
 
 -- and over every log where no block is kept, of which none is left then.
 abbrev pub EmptyMasterMaySave : Type 0
 EmptyMasterMaySave =
     (newest : Option Master) (g : Geometry) (image : Image) (blocks : List (List LogRecord)) (content : List ℕ)
     (m : Master) → IsUnit content m →
-    seen m ≡ (with_master (picture_under newest g image blocks) m.kept).master
-    → MayCheckpoint (picture_under newest g image blocks) m.kept →
-    m.kept ≡ (picture_under newest g image blocks).hi
+    seen m ≡ (with_master (logical_image_under newest g image blocks) m.kept).master
+    → MayCheckpoint (logical_image_under newest g image blocks) m.kept →
+    m.kept ≡ (logical_image_under newest g image blocks).hi
     → MaySave newest g image blocks content × (blocks_saved newest blocks content ≡ [])
 
 -- So the unit of a checkpoint's master may be: the pages are flushed, and it keeps the blocks of unfinished
@@ -52,9 +52,10 @@ abbrev pub CheckpointMaySave : Type 0
 CheckpointMaySave =
     (newest : Option Master) (g : Geometry) (image : Image) (blocks : List (List LogRecord)) (content : List ℕ)
     (m : Master) → IsSoundUnder newest g image blocks → IsUnit content m →
-    IsMasterOf (picture_under newest g image blocks) m → IsFlushed (picture_under newest g image blocks)
-    → kept_by newest ≤ m.kept → m.kept ≤ oldest_needed (picture_under newest g image blocks) →
-    AreOrderly (picture_under newest g image blocks).log ⊎ (m.kept ≡ (picture_under newest g image blocks).hi)
+    IsMasterOf (logical_image_under newest g image blocks) m → IsFlushed (logical_image_under newest g image blocks)
+    → kept_by newest ≤ m.kept → m.kept ≤ oldest_needed (logical_image_under newest g image blocks) →
+    AreOrderly (logical_image_under newest g image blocks).log
+    ⊎ (m.kept ≡ (logical_image_under newest g image blocks).hi)
     → MaySave newest g image blocks content
 
 -- Its octets are sound where the others were,
@@ -64,14 +65,14 @@ SavedOctets =
     → IsUnit content (master_in content) →
     Makes g (AppendsMaster content) old new → AreOctetsSoundUnder (Some (master_in content)) g new
 
--- and its picture is the one before, with the new master.
-abbrev pub SavedPicture : Type 0
-SavedPicture =
+-- and its logical image is the one before, with the new master.
+abbrev pub SavedLogicalImage : Type 0
+SavedLogicalImage =
     (newest : Option Master) (g : Geometry) (old new : Image) (blocks : List (List LogRecord)) (content : List ℕ)
     → IsSoundUnder newest g old blocks → MaySave newest g old blocks content →
     Makes g (AppendsMaster content) old new →
-    picture_under (Some (master_in content)) g new (blocks_saved newest blocks content)
-    ≡ with_master (picture_under newest g old blocks) (master_in content).kept
+    logical_image_under (Some (master_in content)) g new (blocks_saved newest blocks content)
+    ≡ with_master (logical_image_under newest g old blocks) (master_in content).kept
 
 -- So the image is sound under the new master, from its oldest kept block on,
 abbrev pub SavedIsSound : Type 0
@@ -87,8 +88,8 @@ SavedMeans =
     (newest : Option Master) (g : Geometry) (old new : Image) (blocks : List (List LogRecord)) (content : List ℕ)
     → IsSoundUnder newest g old blocks → MaySave newest g old blocks content →
     Makes g (AppendsMaster content) old new →
-    (table : List Content) (count : ℕ) → Means (picture_under newest g old blocks) table count
-    → Means (picture_under (Some (master_in content)) g new (blocks_saved newest blocks content)) table count
+    (table : List Content) (count : ℕ) → Means (logical_image_under newest g old blocks) table count
+    → Means (logical_image_under (Some (master_in content)) g new (blocks_saved newest blocks content)) table count
 
 -- and its log is orderly.
 abbrev pub SavedIsOrderly : Type 0
@@ -96,14 +97,14 @@ SavedIsOrderly =
     (newest : Option Master) (g : Geometry) (old new : Image) (blocks : List (List LogRecord)) (content : List ℕ)
     → IsSoundUnder newest g old blocks → MaySave newest g old blocks content →
     Makes g (AppendsMaster content) old new
-    → AreOrderly (picture_under (Some (master_in content)) g new (blocks_saved newest blocks content)).log
+    → AreOrderly (logical_image_under (Some (master_in content)) g new (blocks_saved newest blocks content)).log
 
 -- A checkpoint: changes that seal no Commit, then a master unit. The devices stand for the same table at each moment.
 abbrev pub CheckpointStands : Type 0
 CheckpointStands =
     (newest : Option Master) (g : Geometry) (old mid new : State) (blocks : List (List LogRecord))
     (changes : List Change) (content : List ℕ) (table : List Content) (count : ℕ) →
-    IsSoundUnder newest g old.image blocks → Means (picture_under newest g old.image blocks) table count
+    IsSoundUnder newest g old.image blocks → Means (logical_image_under newest g old.image blocks) table count
     → MayMakeAll newest g old.image blocks changes → AllByRecursion SealsNoCommit changes →
     LeavesFront g changes old mid → Reaches g changes old.image mid.image → mid.told ≡ old.told →
     MaySave (newest_after_all newest changes) g mid.image (blocks_after_all newest blocks changes) content
@@ -115,7 +116,7 @@ abbrev pub PushedCheckpointStands : Type 0
 PushedCheckpointStands =
     (newest : Option Master) (g : Geometry) (old mid pushed new : State) (blocks : List (List LogRecord))
     (changes : List Change) (content : List ℕ) (table : List Content) (count : ℕ) →
-    IsSoundUnder newest g old.image blocks → Means (picture_under newest g old.image blocks) table count
+    IsSoundUnder newest g old.image blocks → Means (logical_image_under newest g old.image blocks) table count
     → MayMakeAll newest g old.image blocks changes → AllByRecursion SealsNoCommit changes →
     AllByRecursion SavesNoMaster changes → LeavesFront g changes old mid → Reaches g changes old.image mid.image
     → mid.told ≡ old.told →
@@ -131,7 +132,7 @@ SaveStands =
     (newest : Option Master) (g : Geometry) (old mid new : State) (blocks : List (List LogRecord)) (content : List ℕ)
     (table : List Content) (count : ℕ) →
     LeavesOnly old mid (LeavesFor g table count old.told) → mid.told ≡ old.told →
-    IsSoundUnder newest g mid.image blocks → Means (picture_under newest g mid.image blocks) table count →
+    IsSoundUnder newest g mid.image blocks → Means (logical_image_under newest g mid.image blocks) table count →
     MaySave newest g mid.image blocks content → LeavesFront g (AppendsMaster content ∷ []) mid new →
     LeavesOnly old new (LeavesFor g table count old.told)
 

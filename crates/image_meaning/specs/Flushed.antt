@@ -3,7 +3,7 @@ use Rattle.std.specs.Prelude.{◌≡◌, ℕ, ◌/◌, ◌==◌, ◌<◌, ◌≤
 use Rattle.std.specs.List.{list_any, AllByRecursion}
 use Rattle.log_records.specs.Log.{version_at, is_loser, entries_of}
 use Rattle.log_records.specs.Unfinished.{losers}
-use Rattle.log_records.specs.Sound.{Picture, IsSound, last_lsn, commit_count}
+use Rattle.log_records.specs.Sound.{LogicalImage, IsSound, last_lsn, commit_count}
 use Rattle.log_laws.specs.NewImage.{with_master, MayCheckpoint}
 use Rattle.checkpoint.specs.declared.master.Master.{Master}
 use Rattle.checkpoint.specs.Actives.{Ascend}
@@ -11,7 +11,7 @@ use Rattle.checkpoint.specs.Newest.{seen}
 use Rattle.image_meaning.specs.Redone.{AreKnown}
 
 -- Each page's version knows of all of its records, as after a flush.
-abbrev pub IsFlushed : Picture → Type 0
+abbrev pub IsFlushed : LogicalImage → Type 0
 IsFlushed p = (page : ℕ) → page < length p.pages → AreKnown p.log page (version_at p.pages page).lsn
 
 -- the block with the Begin of the first of these transactions, and another one where there is none
@@ -20,21 +20,21 @@ first_block none [] = none
 first_block none (t ∷ transactions) = t / 512
 
 -- the block with the oldest Begin of an unfinished transaction, and the next block where none is unfinished
-abbrev pub oldest_needed : Picture → ℕ
+abbrev pub oldest_needed : LogicalImage → ℕ
 oldest_needed p = first_block p.hi (losers p.log)
 
 -- A checkpoint may be made exactly where the pages are flushed and the blocks of all unfinished transactions are kept.
 abbrev pub CheckpointNeeds : Type 0
-CheckpointNeeds = (p : Picture) (kept : ℕ) → IsSound p
+CheckpointNeeds = (p : LogicalImage) (kept : ℕ) → IsSound p
     → MayCheckpoint p kept ↔ (IsFlushed p × (p.master.kept ≤ kept) × (kept ≤ oldest_needed p))
 
 -- That block is one of the kept ones, or the next.
 abbrev pub OldestIsThere : Type 0
-OldestIsThere = (p : Picture) → IsSound p → (p.master.kept ≤ oldest_needed p) × (oldest_needed p ≤ p.hi)
+OldestIsThere = (p : LogicalImage) → IsSound p → (p.master.kept ≤ oldest_needed p) × (oldest_needed p ≤ p.hi)
 
 -- The master of a checkpoint: redo begins with the next block, all commits count, and it names the unfinished
 -- transactions, each with the LSN of its last record.
-pub record IsMasterOf (p : Picture) (m : Master) : Type 0 where
+pub record IsMasterOf (p : LogicalImage) (m : Master) : Type 0 where
   pub redo : m.redo ≡ p.hi
   pub commits : m.commits ≡ commit_count p
   pub ascend : Ascend m.active
@@ -44,4 +44,4 @@ pub record IsMasterOf (p : Picture) (m : Master) : Type 0 where
 
 -- It is the one that such a checkpoint saves.
 abbrev pub MasterIsSaved : Type 0
-MasterIsSaved = (p : Picture) (m : Master) → IsSound p → IsMasterOf p m → seen m ≡ (with_master p m.kept).master
+MasterIsSaved = (p : LogicalImage) (m : Master) → IsSound p → IsMasterOf p m → seen m ≡ (with_master p m.kept).master

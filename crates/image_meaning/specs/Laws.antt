@@ -20,7 +20,8 @@ use Rattle.image_changes.specs.Changes.{Change, SealsBlock, RewritesPages, Appen
 use Rattle.image_changes.specs.Changes.{Reaches}
 use Rattle.log_store.specs.Representation.{HasBlocks}
 use Rattle.flash_cache.specs.Representation.{version_on}
-use Rattle.image_meaning.specs.Meaning.{saved_by, kept_by, picture_under, version_in, HasNewest, AreOctetsSoundUnder}
+use Rattle.image_meaning.specs.Meaning.{saved_by, kept_by, logical_image_under, version_in, HasNewest}
+use Rattle.image_meaning.specs.Meaning.{AreOctetsSoundUnder}
 use Rattle.image_meaning.specs.Meaning.{IsSoundUnder, StandsUnder, StandsFor}
 use Rattle.image_meaning.specs.Changes.{MaySaveSegment, MayAppend, MayStage, MayMake, MayMakeAll, SealsNoCommit}
 use Rattle.image_meaning.specs.Changes.{newest_after, blocks_after, newest_after_all, blocks_after_all}
@@ -59,15 +60,15 @@ SameIsSound = (newest : Option Master) (g : Geometry) (old new : Image) (blocks 
 abbrev pub SameMeans : Type 0
 SameMeans =
     (newest : Option Master) (g : Geometry) (old new : Image) (blocks : List (List LogRecord)) → ReadsAs g old new →
-    (table : List Content) (count : ℕ) → Means (picture_under newest g old blocks) table count
-    → Means (picture_under newest g new blocks) table count
+    (table : List Content) (count : ℕ) → Means (logical_image_under newest g old blocks) table count
+    → Means (logical_image_under newest g new blocks) table count
 
 -- A block that goes on is sealed.
 abbrev pub SealedIsSound : Type 0
 SealedIsSound =
     (newest : Option Master) (g : Geometry) (old new : Image) (blocks : List (List LogRecord))
     (records : List LogRecord) → IsSoundUnder newest g old blocks
-    → GoesOn (picture_under newest g old blocks) records →
+    → GoesOn (logical_image_under newest g old blocks) records →
     Makes g (SealsBlock records) old new → IsSoundUnder newest g new (blocks ++ records ∷ [])
 
 -- without a Commit it changes nothing of what the image stands for
@@ -75,26 +76,26 @@ abbrev pub SealedWithoutCommit : Type 0
 SealedWithoutCommit =
     (newest : Option Master) (g : Geometry) (old new : Image) (blocks : List (List LogRecord))
     (records : List LogRecord) → IsSoundUnder newest g old blocks
-    → GoesOn (picture_under newest g old blocks) records →
+    → GoesOn (logical_image_under newest g old blocks) records →
     Makes g (SealsBlock records) old new
-    → commit_numbers (next_entries (picture_under newest g old blocks) records) ≡ [] →
-    (table : List Content) (count : ℕ) → Means (picture_under newest g old blocks) table count
-    → Means (picture_under newest g new (blocks ++ records ∷ [])) table count
+    → commit_numbers (next_entries (logical_image_under newest g old blocks) records) ≡ [] →
+    (table : List Content) (count : ℕ) → Means (logical_image_under newest g old blocks) table count
+    → Means (logical_image_under newest g new (blocks ++ records ∷ [])) table count
 
 -- with one Commit the writes of its transaction enter the table
 abbrev pub SealedWithCommit : Type 0
 SealedWithCommit =
     (newest : Option Master) (g : Geometry) (old new : Image) (blocks : List (List LogRecord))
     (records : List LogRecord) → IsSoundUnder newest g old blocks
-    → GoesOn (picture_under newest g old blocks) records →
+    → GoesOn (logical_image_under newest g old blocks) records →
     Makes g (SealsBlock records) old new →
     (before after : List Entry) (lsn t number : ℕ)
-    → next_entries (picture_under newest g old blocks) records
+    → next_entries (logical_image_under newest g old blocks) records
     ≡ before ++ record { lsn = lsn; rec = Commit t number } ∷ after →
     commit_numbers before ≡ [] → commit_numbers after ≡ [] →
-    (table : List Content) (count : ℕ) → Means (picture_under newest g old blocks) table count →
-    Means (picture_under newest g new (blocks ++ records ∷ []))
-    (table_with table (writes_in t ((picture_under newest g old blocks).log ++ before))) (count + 1)
+    (table : List Content) (count : ℕ) → Means (logical_image_under newest g old blocks) table count →
+    Means (logical_image_under newest g new (blocks ++ records ∷ []))
+    (table_with table (writes_in t ((logical_image_under newest g old blocks).log ++ before))) (count + 1)
 
 -- Valid dirty frames are staged, whatever octets the disk has meanwhile.
 abbrev pub StagedIsSound : Type 0
@@ -108,8 +109,8 @@ StagedMeans =
     (newest : Option Master) (g : Geometry) (old new : Image) (blocks : List (List LogRecord)) (pages : List ℕ)
     → IsSoundUnder newest g old blocks → MayStage g old pages →
     Makes g (RewritesPages pages) old new →
-    (table : List Content) (count : ℕ) → Means (picture_under newest g old blocks) table count
-    → Means (picture_under newest g new blocks) table count
+    (table : List Content) (count : ℕ) → Means (logical_image_under newest g old blocks) table count
+    → Means (logical_image_under newest g new blocks) table count
 
 -- A group is appended, which brings new versions, and the front group leaves where the queue is full.
 abbrev pub PushedIsSound : Type 0
@@ -123,8 +124,8 @@ PushedMeans =
     (newest : Option Master) (g : Geometry) (old new : Image) (blocks : List (List LogRecord)) (content : List ℕ)
     (frames : List Frame) → IsSoundUnder newest g old blocks → IsGroup content frames →
     MayAppend newest g old blocks frames → Makes g (AppendsGroup content) old new →
-    (table : List Content) (count : ℕ) → Means (picture_under newest g old blocks) table count
-    → Means (picture_under newest g new blocks) table count
+    (table : List Content) (count : ℕ) → Means (logical_image_under newest g old blocks) table count
+    → Means (logical_image_under newest g new blocks) table count
 
 -- A segment that is due is saved: the image has the same groups and pages.
 abbrev pub SegmentIsSound : Type 0
@@ -137,8 +138,8 @@ abbrev pub SegmentMeans : Type 0
 SegmentMeans =
     (newest : Option Master) (g : Geometry) (old new : Image) (blocks : List (List LogRecord)) (content : List ℕ)
     → Makes g (AppendsSegment content) old new →
-    (table : List Content) (count : ℕ) → Means (picture_under newest g old blocks) table count
-    → Means (picture_under newest g new blocks) table count
+    (table : List Content) (count : ℕ) → Means (logical_image_under newest g old blocks) table count
+    → Means (logical_image_under newest g new blocks) table count
 
 -- All else of the octets may change as long as they are sound and each version replaces the one before: by itself, or
 -- by a new one.
@@ -148,7 +149,7 @@ ReplacedIsSound =
     → IsSoundUnder newest g old blocks → AreOctetsSoundUnder newest g new
     → HasBlocks g (kept_by newest) blocks new →
     ((number : ℕ) → number < g.pages
-    → Replaces (picture_under newest g old blocks) number (version_in (version_on g new number)))
+    → Replaces (logical_image_under newest g old blocks) number (version_in (version_on g new number)))
     → IsSoundUnder newest g new blocks
 
 abbrev pub ReplacedMeans : Type 0
@@ -156,15 +157,15 @@ ReplacedMeans =
     (newest : Option Master) (g : Geometry) (old new : Image) (blocks : List (List LogRecord))
     → IsSoundUnder newest g old blocks →
     ((number : ℕ) → number < g.pages
-    → Replaces (picture_under newest g old blocks) number (version_in (version_on g new number))) →
-    (table : List Content) (count : ℕ) → Means (picture_under newest g old blocks) table count
-    → Means (picture_under newest g new blocks) table count
+    → Replaces (logical_image_under newest g old blocks) number (version_in (version_on g new number))) →
+    (table : List Content) (count : ℕ) → Means (logical_image_under newest g old blocks) table count
+    → Means (logical_image_under newest g new blocks) table count
 
 abbrev pub VersionReplaces : Type 0
 VersionReplaces =
     (newest : Option Master) (g : Geometry) (image : Image) (blocks : List (List LogRecord)) (number : ℕ)
     → IsSoundUnder newest g image blocks → number < g.pages →
-    Replaces (picture_under newest g image blocks) number (version_in (version_on g image number))
+    Replaces (logical_image_under newest g image blocks) number (version_in (version_on g image number))
 
 -- Changes that may be made, one after the other.
 
@@ -181,8 +182,8 @@ ChangeKeepsMeaning =
     (newest : Option Master) (g : Geometry) (old new : Image) (blocks : List (List LogRecord)) (change : Change)
     → IsSoundUnder newest g old blocks → MayMake newest g old blocks change →
     SealsNoCommit change → Makes g change old new →
-    (table : List Content) (count : ℕ) → Means (picture_under newest g old blocks) table count
-    → Means (picture_under (newest_after newest change) g new (blocks_after newest blocks change)) table count
+    (table : List Content) (count : ℕ) → Means (logical_image_under newest g old blocks) table count
+    → Means (logical_image_under (newest_after newest change) g new (blocks_after newest blocks change)) table count
 
 -- so do the first ones of a list
 abbrev pub FrontKeepsSound : Type 0
@@ -198,5 +199,6 @@ FrontKeepsMeaning =
     (newest : Option Master) (g : Geometry) (old new : Image) (blocks : List (List LogRecord))
     (front left : List Change) → IsSoundUnder newest g old blocks → MayMakeAll newest g old blocks (front ++ left) →
     AllByRecursion SealsNoCommit front → Reaches g front old new →
-    (table : List Content) (count : ℕ) → Means (picture_under newest g old blocks) table count
-    → Means (picture_under (newest_after_all newest front) g new (blocks_after_all newest blocks front)) table count
+    (table : List Content) (count : ℕ) → Means (logical_image_under newest g old blocks) table count
+    → Means (logical_image_under (newest_after_all newest front) g new (blocks_after_all newest blocks front))
+    table count

@@ -1,5 +1,5 @@
 pub mod Meaning
-pub mod Pictures
+pub mod LogicalImages
 pub mod Redone
 pub mod Ahead
 pub mod Pushes
@@ -8,8 +8,8 @@ pub mod Laws
 pub mod PushLaws
 pub mod Moments
 pub mod Reached
-pub mod PictureLaws
+pub mod LogicalImageLaws
 pub mod Beside
 pub mod Flushed
-pub mod Below
+pub mod LowerLaws
 pub mod Checkpoints

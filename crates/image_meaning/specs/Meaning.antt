@@ -8,7 +8,7 @@ use Rattle.sealed_ring.specs.Ring.{IsRing}
 use Rattle.record_model.specs.State.{Content}
 use Rattle.log_records.specs.declared.log_record.LogRecord.{LogRecord}
 use Rattle.log_records.specs.Log.{Version, log_from}
-use Rattle.log_records.specs.Sound.{Picture, Means}
+use Rattle.log_records.specs.Sound.{LogicalImage, Means}
 use Rattle.log_records.specs.Sound as lists
 use Rattle.slotted_page.specs.Layout.{lsn_of, slots_of}
 use Rattle.slotted_page.specs.Layout as page
@@ -47,8 +47,8 @@ next_block_under None blocks = length blocks
 next_block_under (Some m) blocks = m.kept + length blocks
 
 -- the records of these log blocks, from the oldest kept one on, and the versions of the image's pages
-abbrev pub picture_under : Option Master → Geometry → Image → List (List LogRecord) → Picture
-picture_under newest g image blocks = record {
+abbrev pub logical_image_under : Option Master → Geometry → Image → List (List LogRecord) → LogicalImage
+logical_image_under newest g image blocks = record {
   master = master_of newest;
   log = log_from (kept_by newest) blocks;
   hi = next_block_under newest blocks;
@@ -57,8 +57,8 @@ picture_under newest g image blocks = record {
 }
 
 -- where no master unit stands: the blocks from block 0 on
-abbrev pub picture : Geometry → Image → List (List LogRecord) → Picture
-picture = picture_under None
+abbrev pub logical_image : Geometry → Image → List (List LogRecord) → LogicalImage
+logical_image = logical_image_under None
 
 -- Soundness.
 
@@ -111,14 +111,14 @@ pub record IsSoundUnder (newest : Option Master) (g : Geometry) (image : Image)
     (blocks : List (List LogRecord)) : Type 0 where
   pub octets : AreOctetsSoundUnder newest g image
   pub held : HasBlocks g (kept_by newest) blocks image
-  pub records : lists.IsSound (picture_under newest g image blocks)
+  pub records : lists.IsSound (logical_image_under newest g image blocks)
 
 -- an image is sound under its newest master, and stands for this table and this number of commits
 pub record StandsUnder (newest : Option Master) (g : Geometry) (image : Image) (table : List Content)
     (commits : ℕ) : Type 0 where
   pub blocks : List (List LogRecord)
   pub sound : IsSoundUnder newest g image blocks
-  pub means : Means (picture_under newest g image blocks) table commits
+  pub means : Means (logical_image_under newest g image blocks) table commits
 
 -- it is so under some newest master
 pub record StandsFor (g : Geometry) (image : Image) (table : List Content) (commits : ℕ) : Type 0 where

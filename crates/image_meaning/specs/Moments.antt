@@ -15,7 +15,7 @@ use Rattle.checkpoint.specs.declared.master.Master.{Master}
 use Rattle.image_changes.specs.Changes.{Change, SealsBlock}
 use Rattle.image_changes.specs.Reached.{LeavesFront}
 use Rattle.flash_cache.specs.Pushed.{LeavesPush}
-use Rattle.image_meaning.specs.Meaning.{kept_by, picture_under, IsSoundUnder, StandsUnder, StandsFor}
+use Rattle.image_meaning.specs.Meaning.{kept_by, logical_image_under, IsSoundUnder, StandsUnder, StandsFor}
 use Rattle.image_meaning.specs.Changes.{MayMakeAll, SealsNoCommit, SavesNoMaster, blocks_after_all, next_block_lsn}
 use Rattle.image_meaning.specs.PushLaws.{MayPushGroup}
 
@@ -69,7 +69,7 @@ abbrev pub FrontStandsFor : Type 0
 FrontStandsFor =
     (newest : Option Master) (g : Geometry) (old new : State) (blocks : List (List LogRecord)) (changes : List Change)
     (table : List Content) (count : ℕ) →
-    IsSoundUnder newest g old.image blocks → Means (picture_under newest g old.image blocks) table count
+    IsSoundUnder newest g old.image blocks → Means (logical_image_under newest g old.image blocks) table count
     → MayMakeAll newest g old.image blocks changes →
     AllByRecursion SealsNoCommit changes → LeavesFront g changes old new
     → LeavesOnly old new (LeavesFor g table count old.told)
@@ -79,7 +79,7 @@ abbrev pub FrontStands : Type 0
 FrontStands =
     (newest : Option Master) (g : Geometry) (old new : State) (blocks : List (List LogRecord)) (changes : List Change)
     (table : List Content) (count : ℕ) →
-    IsSoundUnder newest g old.image blocks → Means (picture_under newest g old.image blocks) table count
+    IsSoundUnder newest g old.image blocks → Means (logical_image_under newest g old.image blocks) table count
     → MayMakeAll newest g old.image blocks changes →
     AllByRecursion SealsNoCommit changes → AllByRecursion SavesNoMaster changes →
     LeavesFront g changes old new → LeavesOnly old new (LeavesTableUnder newest g table count old.told)
@@ -89,7 +89,7 @@ abbrev pub PushStands : Type 0
 PushStands =
     (newest : Option Master) (g : Geometry) (old new : State) (blocks : List (List LogRecord)) (pages : List ℕ)
     (contents : List (List ℕ)) (group : List ℕ) (frames : List Frame) (table : List Content) (count : ℕ) →
-    IsSoundUnder newest g old.image blocks → Means (picture_under newest g old.image blocks) table count
+    IsSoundUnder newest g old.image blocks → Means (logical_image_under newest g old.image blocks) table count
     → IsGroup group frames → MayPushGroup newest g old.image blocks pages contents frames →
     LeavesOnly old new (LeavesPush g pages contents group old)
     → LeavesOnly old new (LeavesTableUnder newest g table count old.told)
@@ -101,7 +101,7 @@ CommitStands =
     (newest : Option Master) (g : Geometry) (old new : State) (blocks : List (List LogRecord)) (changes : List Change)
     (records : List LogRecord) (table : List Content) (count : ℕ)
     (before after : List Entry) (lsn t number : ℕ) →
-    IsSoundUnder newest g old.image blocks → Means (picture_under newest g old.image blocks) table count →
+    IsSoundUnder newest g old.image blocks → Means (logical_image_under newest g old.image blocks) table count →
     MayMakeAll newest g old.image blocks (changes ++ SealsBlock records ∷ []) → AllByRecursion SealsNoCommit changes
     → AllByRecursion SavesNoMaster changes →
     entries_from (next_block_lsn newest (blocks_after_all newest blocks changes)) records

@@ -15,7 +15,8 @@ use Rattle.checkpoint.specs.declared.master.Master.{Master}
 use Rattle.image_changes.specs.Rings.{group_shape, units_on}
 use Rattle.flash_cache.specs.Representation.{HasGroups, frames_on, groups_on, disk_on, AreSaved}
 use Rattle.flash_cache.specs.Pushed.{LeavesPush}
-use Rattle.image_meaning.specs.Meaning.{picture_under, version_in, IsFrameOf, AreGroups, AreSegments, IsSoundUnder}
+use Rattle.image_meaning.specs.Meaning.{logical_image_under, version_in, IsFrameOf, AreGroups, AreSegments}
+use Rattle.image_meaning.specs.Meaning.{IsSoundUnder}
 use Rattle.image_meaning.specs.Changes.{NoSegmentIsDue, front_on, rest_on}
 
 -- A staged page has a valid dirty frame, whose octets are written.
@@ -31,7 +32,7 @@ pub record MayPushGroup (newest : Option Master) (g : Geometry) (image : Image) 
   pub none_due : NoSegmentIsDue g image
   pub are_frames : AllByRecursion (IsFrameOf g) frames
   pub replace : (number : ℕ) (frame : Frame) → last_frame number frames ≡ Some frame
-      → Replaces (picture_under newest g image blocks) number (version_in frame.octets)
+      → Replaces (logical_image_under newest g image blocks) number (version_in frame.octets)
   -- a clean frame of the group equals its disk page, which isn't staged
   pub clean : CleanAsDisk (disk_on image) frames
   pub apart : (number : ℕ) (frame : Frame) → last_frame number frames ≡ Some frame → frame.dirty ≡ false
@@ -60,8 +61,8 @@ PushKeepsMeaning =
     IsSoundUnder newest g old.image blocks → IsGroup group frames
     → MayPushGroup newest g old.image blocks pages contents frames
     → LeavesPush g pages contents group old snapshot →
-    (table : List Content) (count : ℕ) → Means (picture_under newest g old.image blocks) table count
-    → Means (picture_under newest g snapshot.image blocks) table count
+    (table : List Content) (count : ℕ) → Means (logical_image_under newest g old.image blocks) table count
+    → Means (logical_image_under newest g snapshot.image blocks) table count
 
 -- Groups that a cache knows of are of the form, where their pages are sound, and their frames are those of the image.
 abbrev pub GroupsAreRead : Type 0

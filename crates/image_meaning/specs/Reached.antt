@@ -13,7 +13,7 @@ use Rattle.frame_group.specs.Groups.{Frame}
 use Rattle.checkpoint.specs.declared.master.Master.{Master}
 use Rattle.image_changes.specs.Changes.{Change, RewritesPages, AppendsGroup, AppendsSegment, Reaches}
 use Rattle.flash_cache.specs.Representation.{HasGroups, version_on, IsCleanOn}
-use Rattle.image_meaning.specs.Meaning.{picture_under, version_in, IsSoundUnder, AreSegments}
+use Rattle.image_meaning.specs.Meaning.{logical_image_under, version_in, IsSoundUnder, AreSegments}
 use Rattle.image_meaning.specs.Moments.{LeavesTableUnder}
 
 -- a change of groups, of segments or of disk pages
@@ -28,7 +28,7 @@ abbrev pub IsKeptOrReplaced : Option Master → Geometry → Image → Image →
 IsKeptOrReplaced newest g old new blocks number =
     (version_on g new number ≡ version_on g old number)
     ⊎ (page.IsSound (version_on g new number)
-    × Replaces (picture_under newest g old blocks) number (version_in (version_on g new number)))
+    × Replaces (logical_image_under newest g old blocks) number (version_in (version_on g new number)))
 
 -- Such changes lead from one image to another, which has these groups of sound pages, segments that follow them, clean
 -- frames that equal the disk, and for each page the version that it had or one that replaces it.
@@ -54,8 +54,8 @@ abbrev pub ReachedMeans : Type 0
 ReachedMeans =
     (newest : Option Master) (g : Geometry) (old new : Image) (blocks : List (List LogRecord))
     → IsSoundUnder newest g old blocks → IsPushed newest g old new blocks →
-    (table : List Content) (count : ℕ) → Means (picture_under newest g old blocks) table count
-    → Means (picture_under newest g new blocks) table count
+    (table : List Content) (count : ℕ) → Means (logical_image_under newest g old blocks) table count
+    → Means (logical_image_under newest g new blocks) table count
 
 -- nothing was told, and such an image is left
 pub record LeavesPushed (newest : Option Master) (g : Geometry) (blocks : List (List LogRecord)) (old : State)
@@ -67,6 +67,6 @@ abbrev pub PushedStands : Type 0
 PushedStands =
     (newest : Option Master) (g : Geometry) (old new : State) (blocks : List (List LogRecord)) (table : List Content)
     (count : ℕ) → IsSoundUnder newest g old.image blocks
-    → Means (picture_under newest g old.image blocks) table count →
+    → Means (logical_image_under newest g old.image blocks) table count →
     LeavesOnly old new (LeavesPushed newest g blocks old)
     → LeavesOnly old new (LeavesTableUnder newest g table count old.told)

@@ -4,12 +4,12 @@ use Rattle.std.specs.Prelude.{IsTrue, if◌then◌else◌, []}
 use Rattle.std.specs.List.{AllByRecursion}
 use Rattle.record_model.specs.State.{Content, content_at}
 use Rattle.log_records.specs.Log.{Entry, Version, version_at, slot_at, number_of, after_of}
-use Rattle.log_records.specs.Sound.{Picture, IsSound, last_known}
+use Rattle.log_records.specs.Sound.{LogicalImage, IsSound, last_known}
 use Rattle.log_laws.specs.Follow.{shown_by, shown}
 use Rattle.log_laws.specs.NewImage.{Replaces}
 
 -- A version doesn't know of a record that isn't in a sealed block.
-abbrev pub IsLogged : Picture → Version → Type 0
+abbrev pub IsLogged : LogicalImage → Version → Type 0
 IsLogged p v = IsTrue ((v.lsn == 0) || nat_lt v.lsn (512 * p.hi))
 
 -- These records on the page have at most this LSN.
@@ -18,11 +18,11 @@ AreKnown log page lsn = AllByRecursion (λ e. (number : ℕ) → number_of e.rec
     → e.lsn ≤ lsn) log
 
 -- what the last record up to an LSN has written to a number, or what the number's slot has where there is none
-abbrev pub redone : Picture → ℕ → ℕ → Content
+abbrev pub redone : LogicalImage → ℕ → ℕ → Content
 redone p lsn number = shown_by (slot_at p.pages number) (last_known p.log lsn number)
 
 -- The page's version, with the records up to an LSN redone.
-pub record IsRedone (p : Picture) (page : ℕ) (v : Version) : Type 0 where
+pub record IsRedone (p : LogicalImage) (page : ℕ) (v : Version) : Type 0 where
   pub logged : IsLogged p v
   pub later : (version_at p.pages page).lsn ≤ v.lsn
   pub slots : (slot : ℕ) → slot < 32 → content_at v.slots slot ≡ redone p v.lsn (32 * page + slot)
@@ -33,21 +33,21 @@ pub record ShowsAll (log : List Entry) (pages : List Version) (page : ℕ) (v : 
   pub slots : (slot : ℕ) → slot < 32 → content_at v.slots slot ≡ shown log pages (32 * page + slot)
 
 -- The page's version, with all records redone.
-pub record IsCurrent (p : Picture) (page : ℕ) (v : Version) : Type 0 where
+pub record IsCurrent (p : LogicalImage) (page : ℕ) (v : Version) : Type 0 where
   pub logged : IsLogged p v
   pub all : ShowsAll p.log p.pages page v
 
 -- Either may replace the page's version.
 abbrev pub RedoneReplaces : Type 0
-RedoneReplaces = (p : Picture) (page : ℕ) (v : Version) → IsSound p → page < length p.pages → IsRedone p page v
+RedoneReplaces = (p : LogicalImage) (page : ℕ) (v : Version) → IsSound p → page < length p.pages → IsRedone p page v
     → Replaces p page v
 
 abbrev pub CurrentReplaces : Type 0
-CurrentReplaces = (p : Picture) (page : ℕ) (v : Version) → IsCurrent p page v → Replaces p page v
+CurrentReplaces = (p : LogicalImage) (page : ℕ) (v : Version) → IsCurrent p page v → Replaces p page v
 
 -- The page's own version is redone up to its LSN.
 abbrev pub VersionIsRedone : Type 0
-VersionIsRedone = (p : Picture) (page : ℕ) → IsSound p → page < length p.pages
+VersionIsRedone = (p : LogicalImage) (page : ℕ) → IsSound p → page < length p.pages
     → IsRedone p page (version_at p.pages page)
 
 -- A version with the LSN of a record of the page, and what the record has written in its slot.
@@ -59,14 +59,14 @@ pub record Redoes (page : ℕ) (e : Entry) (number : ℕ) (old new : Version) : 
 -- The next record on the page is redone.
 abbrev pub NextIsRedone : Type 0
 NextIsRedone =
-    (p : Picture) (page : ℕ) (v w : Version) (front rest : List Entry) (e : Entry) (number : ℕ) → IsSound p
+    (p : LogicalImage) (page : ℕ) (v w : Version) (front rest : List Entry) (e : Entry) (number : ℕ) → IsSound p
     → p.log ≡ front ++ e ∷ rest →
     number_of e.rec ≡ Some number → number / 32 ≡ page → v.lsn < e.lsn → AreKnown front page v.lsn →
     IsRedone p page v → Redoes page e number v w → IsRedone p page w
 
 -- Where all records of the page are known, all are redone.
 abbrev pub RedoneIsCurrent : Type 0
-RedoneIsCurrent = (p : Picture) (page : ℕ) (v : Version) → IsRedone p page v → AreKnown p.log page v.lsn
+RedoneIsCurrent = (p : LogicalImage) (page : ℕ) (v : Version) → IsRedone p page v → AreKnown p.log page v.lsn
     → IsCurrent p page v
 
 -- With one record more, on the page or elsewhere.

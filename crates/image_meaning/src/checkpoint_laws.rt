@@ -1,8 +1,8 @@
 // Laws on a new master.
-ghost use Rattle.image_meaning.specs.Below.{MasterLaws};
+ghost use Rattle.image_meaning.specs.LowerLaws.{MasterLaws};
 ghost use Rattle.image_meaning.specs.Beside.{RingsSaved};
 ghost use Rattle.image_meaning.specs.Checkpoints.{MasterMaySave, EmptyMasterMaySave, CheckpointMaySave, SavedOctets};
-ghost use Rattle.image_meaning.specs.Checkpoints.{SavedPicture, SavedIsSound, SavedMeans, SavedIsOrderly};
+ghost use Rattle.image_meaning.specs.Checkpoints.{SavedLogicalImage, SavedIsSound, SavedMeans, SavedIsOrderly};
 ghost use Rattle.image_meaning.specs.Checkpoints.{CheckpointStands};
 ghost use Rattle.image_meaning.specs.Checkpoints.{PushedCheckpointStands, SaveStands};
 ghost use Rattle.image_meaning.specs.Checkpoints.{ActiveAreKept};
@@ -33,11 +33,11 @@ pub fn master_may_save()
 }
 
 /// Appending a master unit keeps an image sound, and what it stands for, from the new oldest kept block on, and leaves
-/// an orderly log: its octets stay sound, and its picture is the one before with the new master.
+/// an orderly log: its octets stay sound, and its logical image is the one before with the new master.
 pub fn master_saved()
     ensures octets { SavedOctets }
     ensures rings { RingsSaved }
-    ensures picture { SavedPicture }
+    ensures logical_image { SavedLogicalImage }
     ensures sound { SavedIsSound }
     ensures means { SavedMeans }
     ensures orderly { SavedIsOrderly }

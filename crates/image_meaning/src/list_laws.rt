@@ -1,5 +1,5 @@
 // The parts of the laws that speak of lists.
-ghost use Rattle.image_meaning.specs.Pictures.{VersionsAreSound, VersionsMean, VersionReplacesItself};
+ghost use Rattle.image_meaning.specs.LogicalImages.{VersionsAreSound, VersionsMean, VersionReplacesItself};
 ghost use Rattle.image_meaning.specs.Redone.{RedoneReplaces, CurrentReplaces, VersionIsRedone, NextIsRedone};
 ghost use Rattle.image_meaning.specs.Redone.{RedoneIsCurrent, ShowsMore, ShowsElsewhere};
 ghost use Rattle.image_meaning.specs.Ahead.{SealedPageReplaces, ShownStays, TableStays, ShowsStill, CarriesStill};
@@ -8,7 +8,8 @@ ghost use Rattle.image_meaning.specs.Flushed.{CheckpointNeeds, OldestIsThere, Ma
 
 use log_laws::losers_listed;
 
-/// New versions of any pages at once keep a picture sound, and what it stands for. The version that a page has is one.
+/// New versions of any pages at once keep a logical image sound, and what it stands for. The version that a page has is
+/// one.
 pub fn new_versions()
     ensures sound { VersionsAreSound }
     ensures means { VersionsMean }

@@ -6,7 +6,7 @@ use Rattle.record_model.specs.State.{Content, table_with}
 use Rattle.log_records.specs.declared.log_record.LogRecord.{LogRecord}
 use Rattle.log_records.specs.declared.log_record.LogRecord.TheVariants.{Begin, Update, Clr, Commit, End}
 use Rattle.log_records.specs.Log.{Entry}
-use Rattle.log_records.specs.Sound.{Picture, IsSound, Means, commit_number, commit_numbers}
+use Rattle.log_records.specs.Sound.{LogicalImage, IsSound, Means, commit_number, commit_numbers}
 use Rattle.log_laws.specs.Follow.{GoesOn, sealed, next_entries, table_after, table_after_all, writes_in}
 use Rattle.log_laws.proofs.Seals.{sealed_means}
 
@@ -32,7 +32,7 @@ table_append table log (e ∷ entries) more =
     table_append (table_after table log e.rec) (log ++ e ∷ []) entries more
     ∙ ap (λ (l : List Entry). table_after_all (table_after_all (table_after table log e.rec) (log ++ e ∷ []) entries) l more) (append_assoc log (e ∷ []) entries)
 
-module _ (p : Picture) (records : List LogRecord) (sound : IsSound p) (goes : GoesOn p records) (table : List Content) (count : ℕ) (means : Means p table count) where
+module _ (p : LogicalImage) (records : List LogRecord) (sound : IsSound p) (goes : GoesOn p records) (table : List Content) (count : ℕ) (means : Means p table count) where
   pub means_without_commit : commit_numbers (next_entries p records) ≡ [] → Means (sealed p records) table count
   means_without_commit h =
       let m = sealed_means p records sound goes table count means in record {

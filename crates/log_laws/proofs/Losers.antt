@@ -15,7 +15,7 @@ use Rattle.log_records.specs.declared.log_record.LogRecord.{LogRecord}
 use Rattle.log_records.specs.declared.log_record.LogRecord.TheVariants.{Begin, Update, Clr, Commit, End}
 use Rattle.log_records.specs.Log.{Entry, Version, txn_of, is_of, is_on, is_update, is_closing, is_closed, is_loser, entries_of, updates_in, last_where, last_on, first_update}
 use Rattle.log_records.specs.Unfinished.{is_begin, is_clr, clrs_in, open_by, open_updates, left_open, losers, owed_by}
-use Rattle.log_records.specs.Sound.{Active, Master, Picture, IsOpen, IsLoserChain, IsInTable, is_known, before_block, from_block, last_lsn, last_number}
+use Rattle.log_records.specs.Sound.{Active, Master, LogicalImage, IsOpen, IsLoserChain, IsInTable, is_known, before_block, from_block, last_lsn, last_number}
 use Rattle.log_laws.specs.Follow.{Follows, IsActive, IsFresh, IsFreeFor, IsUndoable, next_entries, write_of, shown}
 use Rattle.log_laws.specs.Tail.{Carries, whole, next_lsn}
 use Rattle.log_laws.proofs.Lists.{any_find, some_or_none}
@@ -174,7 +174,7 @@ begin_is_listed closed t (x ∷ xs) lives h =
     by_test false k = k
 
 -- An unfinished transaction is open: its Begin stands from the redo block on, or it was active there.
-module _ (p : Picture) (tail : List LogRecord) (t : ℕ) (c : Carries p tail) (loser : is_loser (whole p tail) t ≡ true) where
+module _ (p : LogicalImage) (tail : List LogRecord) (t : ℕ) (c : Carries p tail) (loser : is_loser (whole p tail) t ≡ true) where
   abbrev old : List Entry
   old = before_block p.master.redo p.log
 

@@ -1,4 +1,4 @@
--- A new master keeps a picture sound, and what it means.
+-- A new master keeps a logical image sound, and what it means.
 use Rattle.std.proofs.Common.{◌≡◌, ℕ, ◌+◌, ◌-◌, ◌*◌, ◌/◌, ◌%◌, ◌<◌, ◌≤◌, ⊎_elim, Bool, true, false, cond, not, ◌&&◌, ◌||◌, List, [], ◌∷◌, ◌++◌, length, map, drop, Some, None, refl, sym, ap, subst, ◌∙◌, append_assoc, arith}
 use Rattle.std.specs.Prelude.{Option, filter, find, sum_by, IsTrue, nat_lt, nat_le}
 use Rattle.std.specs.List.{AllByRecursion, list_any, range_with_len}
@@ -13,7 +13,7 @@ use Rattle.std_lemmas.proofs.Lists.{map_same, filter_all}
 use Rattle.record_model.specs.State.{Content, content_at}
 use Rattle.log_records.specs.Log.{Entry, Version, version_at, slot_at, txn_of, is_of, is_on, is_loser, is_closed, is_closing, entries_of, updates_in, last_where, last_on, first_update, number_of, before_first, after_of, value_after, value_of}
 use Rattle.log_records.specs.Unfinished.{open_updates, is_begin, losers, owed, owed_by}
-use Rattle.log_records.specs.Sound.{Active, Picture, IsSound, Means, InTurn, IsOfOpenTransaction, IsOrderly, AreOrderly, IsLoserChain, Pairwise, HoldsOff, FitsLog, ShowsLast, IsInTable, before_block, from_block, last_known, last_lsn, active_in, commit_number, commit_numbers, commit_count}
+use Rattle.log_records.specs.Sound.{Active, LogicalImage, IsSound, Means, InTurn, IsOfOpenTransaction, IsOrderly, AreOrderly, IsLoserChain, Pairwise, HoldsOff, FitsLog, ShowsLast, IsInTable, before_block, from_block, last_known, last_lsn, active_in, commit_number, commit_numbers, commit_count}
 use Rattle.log_laws.specs.NewImage.{with_master, MayCheckpoint}
 use Rattle.log_laws.proofs.Lists.{all_find, any_find, find_passes, last_passes}
 use Rattle.log_laws.proofs.Values.{closed_push, value_same, value_closed, last_of_own, is_loser_with, is_number-Some}
@@ -36,13 +36,13 @@ still_open before acc (e ∷ xs) c h = (
   still_open before (acc ++ e ∷ []) xs (λ t closed. closed_push acc e t ∙ or_left (is_closed acc t) ((is_of t e && is_closing e.rec) || false) (c t closed)) h.1,
 )
 
-in_parts : (p : Picture) (kept : ℕ) → IsSound p → p.log ≡ before_block kept p.log ++ from_block kept p.log
+in_parts : (p : LogicalImage) (kept : ℕ) → IsSound p → p.log ≡ before_block kept p.log ++ from_block kept p.log
 in_parts p kept sound = parts_at kept (512 * p.master.kept) p.log (512 * p.hi) sound.in_order
 
-orderly_part : (p : Picture) (kept : ℕ) → IsSound p → AreOrderly p.log → InTurn IsOrderly (before_block kept p.log) (from_block kept p.log)
+orderly_part : (p : LogicalImage) (kept : ℕ) → IsSound p → AreOrderly p.log → InTurn IsOrderly (before_block kept p.log) (from_block kept p.log)
 orderly_part p kept sound orderly = InTurn-right IsOrderly [] (before_block kept p.log) (from_block kept p.log) (subst (InTurn IsOrderly []) (in_parts p kept sound) orderly)
 
-orderly_open : (p : Picture) (kept : ℕ) → IsSound p → AreOrderly p.log → AllByRecursion (λ e. is_closed (before_block kept p.log) (txn_of e) ≡ false) (from_block kept p.log)
+orderly_open : (p : LogicalImage) (kept : ℕ) → IsSound p → AreOrderly p.log → AllByRecursion (λ e. is_closed (before_block kept p.log) (txn_of e) ≡ false) (from_block kept p.log)
 orderly_open p kept sound orderly = still_open (before_block kept p.log) (before_block kept p.log) (from_block kept p.log) (λ t h. h) (orderly_part p kept sound orderly)
 
 -- a log keeps its order where records before it are left out
@@ -56,11 +56,11 @@ orderly_without before acc (e ∷ xs) h = (
   orderly_without before (acc ++ e ∷ []) xs (subst (λ (l : List Entry). InTurn IsOrderly l xs) (append_assoc before acc (e ∷ [])) h.1),
 )
 
-pub master_is_orderly : (p : Picture) (kept : ℕ) → IsSound p → AreOrderly p.log → AreOrderly (with_master p kept).log
+pub master_is_orderly : (p : LogicalImage) (kept : ℕ) → IsSound p → AreOrderly p.log → AreOrderly (with_master p kept).log
 master_is_orderly p kept sound orderly =
     orderly_without (before_block kept p.log) [] (from_block kept p.log) (subst (λ (l : List Entry). InTurn IsOrderly l (from_block kept p.log)) (sym (append-nil (before_block kept p.log))) (orderly_part p kept sound orderly))
 
-module _ (p : Picture) (kept : ℕ) (sound : IsSound p) (may : MayCheckpoint p kept)
+module _ (p : LogicalImage) (kept : ℕ) (sound : IsSound p) (may : MayCheckpoint p kept)
     (open_kept : AllByRecursion (λ e. is_closed (before_block kept p.log) (txn_of e) ≡ false) (from_block kept p.log)) where
   pub parts : p.log ≡ before_block kept p.log ++ from_block kept p.log
   parts = parts_at kept (512 * p.master.kept) p.log (512 * p.hi) sound.in_order
@@ -306,27 +306,27 @@ module _ (p : Picture) (kept : ℕ) (sound : IsSound p) (may : MayCheckpoint p k
     count_is = means.count_is ∙ sym count_same;
   }
 
-pub master_is_sound : (p : Picture) (kept : ℕ) → IsSound p → AreOrderly p.log → MayCheckpoint p kept → IsSound (with_master p kept)
+pub master_is_sound : (p : LogicalImage) (kept : ℕ) → IsSound p → AreOrderly p.log → MayCheckpoint p kept → IsSound (with_master p kept)
 master_is_sound p kept sound orderly may = master_with_sound p kept sound may (orderly_open p kept sound orderly)
 
-pub master_means : (p : Picture) (kept : ℕ) → IsSound p → AreOrderly p.log → MayCheckpoint p kept → (table : List Content) (count : ℕ) → Means p table count → Means (with_master p kept) table count
+pub master_means : (p : LogicalImage) (kept : ℕ) → IsSound p → AreOrderly p.log → MayCheckpoint p kept → (table : List Content) (count : ℕ) → Means p table count → Means (with_master p kept) table count
 master_means p kept sound orderly may = master_with_means p kept sound may (orderly_open p kept sound orderly)
 
 -- A master that keeps no block.
 
-none_kept : (p : Picture) → IsSound p → from_block p.hi p.log ≡ []
+none_kept : (p : LogicalImage) → IsSound p → from_block p.hi p.log ≡ []
 none_kept p sound =
     filter_none (λ e. nat_le (512 * p.hi) e.lsn) p.log
     (all_weaker (λ e. e.lsn < 512 * p.hi) (λ e. nat_le (512 * p.hi) e.lsn ≡ false) (λ e h. lt-leb (512 * p.hi) e.lsn h) p.log (all_below (512 * p.master.kept) p.log (512 * p.hi) sound.in_order))
 
-empty_open : (p : Picture) → IsSound p → AllByRecursion (λ e. is_closed (before_block p.hi p.log) (txn_of e) ≡ false) (from_block p.hi p.log)
+empty_open : (p : LogicalImage) → IsSound p → AllByRecursion (λ e. is_closed (before_block p.hi p.log) (txn_of e) ≡ false) (from_block p.hi p.log)
 empty_open p sound = subst (AllByRecursion (λ e. is_closed (before_block p.hi p.log) (txn_of e) ≡ false)) (sym (none_kept p sound)) tt
 
-pub empty_master_is_sound : (p : Picture) → IsSound p → MayCheckpoint p p.hi → IsSound (with_master p p.hi)
+pub empty_master_is_sound : (p : LogicalImage) → IsSound p → MayCheckpoint p p.hi → IsSound (with_master p p.hi)
 empty_master_is_sound p sound may = master_with_sound p p.hi sound may (empty_open p sound)
 
-pub empty_master_means : (p : Picture) → IsSound p → MayCheckpoint p p.hi → (table : List Content) (count : ℕ) → Means p table count → Means (with_master p p.hi) table count
+pub empty_master_means : (p : LogicalImage) → IsSound p → MayCheckpoint p p.hi → (table : List Content) (count : ℕ) → Means p table count → Means (with_master p p.hi) table count
 empty_master_means p sound may = master_with_means p p.hi sound may (empty_open p sound)
 
-pub empty_master_is_orderly : (p : Picture) → IsSound p → AreOrderly (with_master p p.hi).log
+pub empty_master_is_orderly : (p : LogicalImage) → IsSound p → AreOrderly (with_master p p.hi).log
 empty_master_is_orderly p sound = subst AreOrderly (sym (none_kept p sound)) tt

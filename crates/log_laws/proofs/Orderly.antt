@@ -6,7 +6,7 @@ use Rattle.std.proofs.lemmas.Bool.{and_parts, or_cases, cases_Bool, eqb-true, ne
 use Rattle.std_lemmas.proofs.AllOf.{all_append, all_push, all_both, all_filter, all_weaker, all_map}
 use Rattle.log_records.specs.Log.{Entry, txn_of, is_of, is_closed, entries_of}
 use Rattle.log_records.specs.Unfinished.{is_begin, losers}
-use Rattle.log_records.specs.Sound.{Active, Master, IsOpen, IsSound, Picture, InTurn, IsInOrder, IsOrderly, AreOrderly, HaveBegunBefore, before_block, from_block, is_known, last_lsn}
+use Rattle.log_records.specs.Sound.{Active, Master, IsOpen, IsSound, LogicalImage, InTurn, IsInOrder, IsOrderly, AreOrderly, HaveBegunBefore, before_block, from_block, is_known, last_lsn}
 use Rattle.log_laws.specs.Follow.{Follows, IsFresh}
 use Rattle.log_laws.proofs.Lists.{all_find, any_find, find_passes}
 use Rattle.log_laws.proofs.Orders.{InTurn-all, InTurn-weaker, InTurn-append_all}
@@ -69,7 +69,7 @@ orderly_from m from earlier (e ∷ log) to named order below begun h =
         record { begun = omega (arith, less); not_closed = o.not_closed }
 
 -- the master names transactions that have begun
-named_below : (p : Picture) → IsSound p → AllByRecursion (λ a. a.begin < 512 * p.hi) p.master.active
+named_below : (p : LogicalImage) → IsSound p → AllByRecursion (λ a. a.begin < 512 * p.hi) p.master.active
 named_below p sound =
     let old = before_block p.master.redo p.log in
     subst (AllByRecursion (λ a. a.begin < 512 * p.hi)) (sym sound.master_names_the_active)
@@ -101,14 +101,14 @@ begun_from m from earlier (e ∷ log) to named order below h = (
         omega (arith, less)
 
 -- records that follow have begun before, as those in front of them
-pub begun_behind : (p : Picture) (entries : List Entry) (to : ℕ) → IsSound p → IsInOrder (512 * p.hi) entries to → InTurn (Follows p.master p.pages) p.log entries → HaveBegunBefore (p.log ++ entries)
+pub begun_behind : (p : LogicalImage) (entries : List Entry) (to : ℕ) → IsSound p → IsInOrder (512 * p.hi) entries to → InTurn (Follows p.master p.pages) p.log entries → HaveBegunBefore (p.log ++ entries)
 begun_behind p entries to sound order follow =
     all_append (λ e. txn_of e ≤ e.lsn) p.log entries sound.begun
     (begun_from p.master (512 * p.hi) p.log entries to (named_below p sound) order (all_below (512 * p.master.kept) p.log (512 * p.hi) sound.in_order)
     (InTurn-weaker (Follows p.master p.pages) (λ earlier e. is_begin e.rec ≡ false → IsOpen p.master earlier (txn_of e)) (λ earlier e f. f.of_open) p.log entries follow))
 
 -- records that follow keep a log orderly
-pub orderly_behind : (p : Picture) (entries : List Entry) (to : ℕ) → IsSound p → AreOrderly p.log → IsInOrder (512 * p.hi) entries to → InTurn (Follows p.master p.pages) p.log entries → AreOrderly (p.log ++ entries)
+pub orderly_behind : (p : LogicalImage) (entries : List Entry) (to : ℕ) → IsSound p → AreOrderly p.log → IsInOrder (512 * p.hi) entries to → InTurn (Follows p.master p.pages) p.log entries → AreOrderly (p.log ++ entries)
 orderly_behind p entries to sound orderly order follow =
     InTurn-append_all IsOrderly [] p.log entries orderly
     (orderly_from p.master (512 * p.hi) p.log entries to (named_below p sound) order (all_below (512 * p.master.kept) p.log (512 * p.hi) sound.in_order)

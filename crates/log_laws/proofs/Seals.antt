@@ -1,4 +1,4 @@
--- Sealing a block that goes on keeps a picture sound, and changes what it means by the block's commits alone.
+-- Sealing a block that goes on keeps a logical image sound, and changes what it means by the block's commits alone.
 use Rattle.std.proofs.Common.{◌≡◌, ℕ, ◌+◌, ◌-◌, ◌*◌, ◌/◌, ◌<◌, ◌≤◌, ◌⊎◌, inl, inr, true, false, ◌&&◌, List, [], ◌∷◌, ◌++◌, length, Some, sym, ap, subst, ◌∙◌, append_assoc, arith}
 use Rattle.std.specs.Prelude.{Option, flat_map, IsTrue, ◌==◌, ◌||◌, nat_lt, nat_le}
 use Rattle.std.specs.List.{AllByRecursion, range_with_len}
@@ -13,7 +13,7 @@ use Rattle.record_model.specs.State.{Content, content_at}
 use Rattle.log_records.specs.declared.log_record.LogRecord.{LogRecord}
 use Rattle.log_records.specs.Spelling.{spelling, AreBlock}
 use Rattle.log_records.specs.Log.{Entry, Version, version_at, number_of, is_on, table_of}
-use Rattle.log_records.specs.Sound.{Master, AreNumbered, Picture, InTurn, IsInOrder, IsSound, Means, IsOfOpenTransaction, before_block, from_block, last_known, FitsLog, IsInTable, ShowsLast, active_in, commit_number, commit_numbers, commit_count}
+use Rattle.log_records.specs.Sound.{Master, AreNumbered, LogicalImage, InTurn, IsInOrder, IsSound, Means, IsOfOpenTransaction, before_block, from_block, last_known, FitsLog, IsInTable, ShowsLast, active_in, commit_number, commit_numbers, commit_count}
 use Rattle.log_laws.specs.Follow.{Follows, IsUndoable, GoesOn, sealed, next_entries, table_after_all}
 use Rattle.log_laws.proofs.Values.{with}
 use Rattle.log_laws.proofs.Orderly.{begun_behind}
@@ -40,7 +40,7 @@ table_behind_all m pages log (e ∷ entries) u f =
     ∙ table_behind_all m pages (with log e) entries (undoable_behind m pages log u e f.0) f.1
     ∙ ap (λ (t : List Content). table_after_all t (with log e) entries) (table_behind m pages log u e f.0)
 
-module _ (p : Picture) (records : List LogRecord) (sound : IsSound p) (block : AreBlock records) where
+module _ (p : LogicalImage) (records : List LogRecord) (sound : IsSound p) (block : AreBlock records) where
   pub undoable : IsUndoable p.log
   undoable = record { undone = sound.losers_can_be_undone; held = sound.losers_hold_others_off }
 
@@ -162,9 +162,9 @@ module _ (p : Picture) (records : List LogRecord) (sound : IsSound p) (block : A
           ∙ ap (range_with_len (p.master.commits + 1 - before)) (omega (arith, ap length more, length-append (commit_numbers p.log) ((commit_count p + 1) ∷ [])))
           ∙ sym (ap (λ (l : List Entry). range_with_len (p.master.commits + 1 - length (commit_numbers l)) (length (commit_numbers (p.log ++ next_entries p records)))) before_same)
 
-pub sealed_is_sound : (p : Picture) (records : List LogRecord) → IsSound p → GoesOn p records → IsSound (sealed p records)
+pub sealed_is_sound : (p : LogicalImage) (records : List LogRecord) → IsSound p → GoesOn p records → IsSound (sealed p records)
 sealed_is_sound p records sound goes = sealed_with p records sound goes.are_block goes
 
-pub sealed_means : (p : Picture) (records : List LogRecord) → IsSound p → GoesOn p records → (table : List Content) (count : ℕ) → Means p table count →
+pub sealed_means : (p : LogicalImage) (records : List LogRecord) → IsSound p → GoesOn p records → (table : List Content) (count : ℕ) → Means p table count →
     Means (sealed p records) (table_after_all table p.log (next_entries p records)) (count + length (commit_numbers (next_entries p records)))
 sealed_means p records sound goes = means_with p records sound goes.are_block goes

@@ -10,7 +10,7 @@ use Rattle.log_records.specs.declared.log_record.LogRecord.{LogRecord}
 use Rattle.log_records.specs.declared.log_record.LogRecord.TheVariants.{Commit}
 use Rattle.log_records.specs.Spelling.{spelling, AreBlock}
 use Rattle.log_records.specs.Log.{Entry, entries_from, log_from, table_of}
-use Rattle.log_records.specs.Sound.{Picture, IsSound, IsInOrder, InTurn, IsInTable, HasRoom, AreOrderly, commit_number, commit_numbers}
+use Rattle.log_records.specs.Sound.{LogicalImage, IsSound, IsInOrder, InTurn, IsInTable, HasRoom, AreOrderly, commit_number, commit_numbers}
 use Rattle.log_laws.specs.Follow.{GoesOn, Follows, IsUndoable, IsFresh, sealed, next_entries, table_after, writes_in}
 use Rattle.log_laws.specs.Tail.{Carries, CommitsOnceAtMost, whole, next_lsn}
 use Rattle.log_laws.proofs.Parts.{InTurn-right}
@@ -28,48 +28,48 @@ entries_append lsn (x ∷ xs) ys =
     (entries_append (lsn + length (spelling x)) xs ys
     ∙ ap (λ n. entries_from (lsn + length (spelling x)) xs ++ entries_from n ys) (omega (arith, length-append (spelling x) (flat_map spelling xs))))
 
-last_entry : (p : Picture) (tail : List LogRecord) (rec : LogRecord) → next_entries p (tail ++ rec ∷ []) ≡ next_entries p tail ++ record { lsn = next_lsn p tail; rec = rec } ∷ []
+last_entry : (p : LogicalImage) (tail : List LogRecord) (rec : LogRecord) → next_entries p (tail ++ rec ∷ []) ≡ next_entries p tail ++ record { lsn = next_lsn p tail; rec = rec } ∷ []
 last_entry p tail rec =
     entries_append (512 * p.hi + 2) tail (rec ∷ [])
     ∙ ap (λ n. next_entries p tail ++ record { lsn = n; rec = rec } ∷ []) (omega arith)
 
-pub whole_more : (p : Picture) (tail : List LogRecord) (rec : LogRecord) → whole p (tail ++ rec ∷ []) ≡ whole p tail ++ record { lsn = next_lsn p tail; rec = rec } ∷ []
+pub whole_more : (p : LogicalImage) (tail : List LogRecord) (rec : LogRecord) → whole p (tail ++ rec ∷ []) ≡ whole p tail ++ record { lsn = next_lsn p tail; rec = rec } ∷ []
 whole_more p tail rec =
     ap (λ (l : List Entry). p.log ++ l) (last_entry p tail rec) ∙ sym (append_assoc p.log (next_entries p tail) (record { lsn = next_lsn p tail; rec = rec } ∷ []))
 
-pub carries_nothing : (p : Picture) → IsSound p → Carries p []
+pub carries_nothing : (p : LogicalImage) → IsSound p → Carries p []
 carries_nothing p sound = record { sound = sound; follow = tt }
 
-pub carries_more : (p : Picture) (tail : List LogRecord) (rec : LogRecord) → Carries p tail → Follows p.master p.pages (whole p tail) (record { lsn = next_lsn p tail; rec = rec }) → Carries p (tail ++ rec ∷ [])
+pub carries_more : (p : LogicalImage) (tail : List LogRecord) (rec : LogRecord) → Carries p tail → Follows p.master p.pages (whole p tail) (record { lsn = next_lsn p tail; rec = rec }) → Carries p (tail ++ rec ∷ [])
 carries_more p tail rec c f = record {
   sound = c.sound;
   follow = subst (InTurn (Follows p.master p.pages) p.log) (sym (last_entry p tail rec))
       (InTurn-append (Follows p.master p.pages) p.log (next_entries p tail) (record { lsn = next_lsn p tail; rec = rec }) c.follow f);
 }
 
-pub whole_in_order : (p : Picture) (tail : List LogRecord) → Carries p tail → IsInOrder (512 * p.master.kept) (whole p tail) (next_lsn p tail)
+pub whole_in_order : (p : LogicalImage) (tail : List LogRecord) → Carries p tail → IsInOrder (512 * p.master.kept) (whole p tail) (next_lsn p tail)
 whole_in_order p tail c =
     in_order-append (512 * p.master.kept) (512 * p.hi) (next_lsn p tail) p.log (next_entries p tail) c.sound.in_order
     (in_order_from (512 * p.hi + 2) (512 * p.hi) (next_entries p tail) (next_lsn p tail) (omega arith)
     (in_order_to (512 * p.hi + 2) (next_entries p tail) (512 * p.hi + 2 + length (flat_map spelling tail)) (next_lsn p tail) (omega arith) (entries_in_order (512 * p.hi + 2) tail)))
 
-undoable_of : (p : Picture) → IsSound p → IsUndoable p.log
+undoable_of : (p : LogicalImage) → IsSound p → IsUndoable p.log
 undoable_of p sound = record { undone = sound.losers_can_be_undone; held = sound.losers_hold_others_off }
 
-pub whole_is_undoable : (p : Picture) (tail : List LogRecord) → Carries p tail → IsUndoable (whole p tail)
+pub whole_is_undoable : (p : LogicalImage) (tail : List LogRecord) → Carries p tail → IsUndoable (whole p tail)
 whole_is_undoable p tail c = undoable_behind_all p.master p.pages p.log (next_entries p tail) (undoable_of p c.sound) c.follow
 
 -- Wherever redo begins, over an orderly log.
 
-pub whole_stays_orderly : (p : Picture) (tail : List LogRecord) → Carries p tail → AreOrderly p.log → AreOrderly (whole p tail)
+pub whole_stays_orderly : (p : LogicalImage) (tail : List LogRecord) → Carries p tail → AreOrderly p.log → AreOrderly (whole p tail)
 whole_stays_orderly p tail c orderly =
     orderly_behind p (next_entries p tail) (512 * p.hi + 2 + length (flat_map spelling tail)) c.sound orderly
     (in_order_from (512 * p.hi + 2) (512 * p.hi) (next_entries p tail) (512 * p.hi + 2 + length (flat_map spelling tail)) (omega arith) (entries_in_order (512 * p.hi + 2) tail)) c.follow
 
-pub fresh_behind_all : (p : Picture) (tail : List LogRecord) (lsn : ℕ) → Carries p tail → AreOrderly p.log → next_lsn p tail ≤ lsn → IsFresh lsn (whole p tail)
+pub fresh_behind_all : (p : LogicalImage) (tail : List LogRecord) (lsn : ℕ) → Carries p tail → AreOrderly p.log → next_lsn p tail ≤ lsn → IsFresh lsn (whole p tail)
 fresh_behind_all p tail lsn c orderly late = fresh_behind (512 * p.master.kept) (whole p tail) (next_lsn p tail) lsn (whole_in_order p tail c) (whole_stays_orderly p tail c orderly) late
 
-pub table_more : (p : Picture) (tail : List LogRecord) (e : Entry) → Carries p tail → Follows p.master p.pages (whole p tail) e →
+pub table_more : (p : LogicalImage) (tail : List LogRecord) (e : Entry) → Carries p tail → Follows p.master p.pages (whole p tail) e →
     table_of (whole p tail ++ e ∷ []) p.pages ≡ table_after (table_of (whole p tail) p.pages) (whole p tail) e.rec
 table_more p tail e c f = table_behind p.master p.pages (whole p tail) (whole_is_undoable p tail c) e f
 
@@ -79,11 +79,11 @@ commits_more log e number h = filter_map-append commit_number log (e ∷ []) ∙
 pub commits_stay : (log : List Entry) (e : Entry) → commit_number e ≡ None → commit_numbers (log ++ e ∷ []) ≡ commit_numbers log
 commits_stay log e h = filter_map-append commit_number log (e ∷ []) ∙ ap (λ (o : Option ℕ). commit_numbers log ++ cons_option o []) h ∙ append-nil (commit_numbers log)
 
-pub tail_without_commit : (p : Picture) (tail : List LogRecord) → Carries p tail → commit_numbers (next_entries p tail) ≡ [] → table_of (whole p tail) p.pages ≡ table_of p.log p.pages
+pub tail_without_commit : (p : LogicalImage) (tail : List LogRecord) → Carries p tail → commit_numbers (next_entries p tail) ≡ [] → table_of (whole p tail) p.pages ≡ table_of p.log p.pages
 tail_without_commit p tail c none =
     table_behind_all p.master p.pages p.log (next_entries p tail) (undoable_of p c.sound) c.follow ∙ table_none (table_of p.log p.pages) p.log (next_entries p tail) none
 
-pub sealed_tail : (p : Picture) (tail : List LogRecord) → Carries p tail → AreBlock tail → HasRoom (sealed p tail) → CommitsOnceAtMost p tail → IsSound (sealed p tail)
+pub sealed_tail : (p : LogicalImage) (tail : List LogRecord) → Carries p tail → AreBlock tail → HasRoom (sealed p tail) → CommitsOnceAtMost p tail → IsSound (sealed p tail)
 sealed_tail p tail c block room commits =
     sealed_is_sound p tail c.sound (record { are_block = block; follow = c.follow; numbered = numbered_with p tail c.sound block commits; room = room })
 
@@ -98,7 +98,7 @@ log_from-append (b ∷ blocks) records number =
     ∙ sym (append_assoc (entries_from (512 * number + 2) b) (log_from (number + 1) blocks) _)
     ∙ ap (λ n. entries_from (512 * number + 2) b ++ log_from (number + 1) blocks ++ entries_from (512 * n + 2) records) (omega arith)
 
-pub whole_in_table : (p : Picture) (tail : List LogRecord) → Carries p tail → AllByRecursion (IsInTable p.pages) (whole p tail)
+pub whole_in_table : (p : LogicalImage) (tail : List LogRecord) → Carries p tail → AllByRecursion (IsInTable p.pages) (whole p tail)
 whole_in_table p tail c =
     all_append (IsInTable p.pages) p.log (next_entries p tail) c.sound.in_table
     (InTurn-all (Follows p.master p.pages) (IsInTable p.pages) (λ earlier e f. f.in_table) p.log (next_entries p tail) c.follow)
@@ -107,13 +107,13 @@ pub InTurn-left : {X : Type 0} (P : List X → X → Type 0) (earlier xs ys : Li
 InTurn-left P earlier [] ys h = tt
 InTurn-left P earlier (x ∷ xs) ys h = (h.0, InTurn-left P (earlier ++ x ∷ []) xs ys h.1)
 
-pub whole_sealed : (p : Picture) (tail : List LogRecord) → whole (sealed p tail) [] ≡ whole p tail
+pub whole_sealed : (p : LogicalImage) (tail : List LogRecord) → whole (sealed p tail) [] ≡ whole p tail
 whole_sealed p tail = append-nil (whole p tail)
 
-pub sealed_is_orderly : (p : Picture) (records : List LogRecord) → IsSound p → AreOrderly p.log → GoesOn p records → AreOrderly (sealed p records).log
+pub sealed_is_orderly : (p : LogicalImage) (records : List LogRecord) → IsSound p → AreOrderly p.log → GoesOn p records → AreOrderly (sealed p records).log
 sealed_is_orderly p records sound orderly goes = whole_stays_orderly p records (record { sound = sound; follow = goes.follow }) orderly
 
-pub carries_front : (p : Picture) (front : List LogRecord) (rec : LogRecord) → Carries p (front ++ rec ∷ []) → Carries p front × Follows p.master p.pages (whole p front) (record { lsn = next_lsn p front; rec = rec })
+pub carries_front : (p : LogicalImage) (front : List LogRecord) (rec : LogRecord) → Carries p (front ++ rec ∷ []) → Carries p front × Follows p.master p.pages (whole p front) (record { lsn = next_lsn p front; rec = rec })
 carries_front p front rec c =
     let e : Entry = record { lsn = next_lsn p front; rec = rec } in
     let all = subst (InTurn (Follows p.master p.pages) p.log) (last_entry p front rec) c.follow in (
@@ -121,7 +121,7 @@ carries_front p front rec c =
       (InTurn-right (Follows p.master p.pages) p.log (next_entries p front) (e ∷ []) all).0,
     )
 
-pub tail_with_commit : (p : Picture) (front : List LogRecord) (t number : ℕ) → Carries p (front ++ Commit t number ∷ []) → commit_numbers (next_entries p front) ≡ [] →
+pub tail_with_commit : (p : LogicalImage) (front : List LogRecord) (t number : ℕ) → Carries p (front ++ Commit t number ∷ []) → commit_numbers (next_entries p front) ≡ [] →
     table_of (whole p (front ++ Commit t number ∷ [])) p.pages ≡ table_with (table_of p.log p.pages) (writes_in t (whole p front))
 tail_with_commit p front t number c none =
     let before = carries_front p front (Commit t number) c in

@@ -8,7 +8,7 @@ use Rattle.log_records.specs.declared.log_record.LogRecord.{LogRecord}
 use Rattle.log_records.specs.declared.log_record.LogRecord.TheVariants.{Begin, Update, Clr, Commit, End}
 use Rattle.log_records.specs.Log.{Entry, txn_of, is_of, is_closing, is_closed, is_loser, entries_of}
 use Rattle.log_records.specs.Unfinished.{left_open}
-use Rattle.log_records.specs.Sound.{Master, Picture, IsInOrder, IsInTable, IsOpen}
+use Rattle.log_records.specs.Sound.{Master, LogicalImage, IsInOrder, IsInTable, IsOpen}
 use Rattle.log_laws.specs.Follow.{Follows, IsActive}
 use Rattle.log_laws.specs.Tail.{Carries, whole, next_lsn}
 use Rattle.log_laws.specs.Analysis.{Unfinished, IsUnfinished, unfinished_at, after_record}
@@ -30,7 +30,7 @@ some_left : (us : List Entry) → 0 < length us → (u : Entry) × (rest : List 
 some_left [] h = absurd (omega (arith, h))
 some_left (u ∷ rest) h = (u, rest, refl)
 
-module _ (p : Picture) (tail : List LogRecord) (x : Unfinished) (c : Carries p tail) (is : IsUnfinished (whole p tail) x) where
+module _ (p : LogicalImage) (tail : List LogRecord) (x : Unfinished) (c : Carries p tail) (is : IsUnfinished (whole p tail) x) where
   lives : IsOpen p.master (whole p tail) x.txn
   lives = loser_is_known p tail x.txn c is.loser
 

@@ -1,4 +1,4 @@
--- A new version of a page keeps a picture sound, and what it means.
+-- A new version of a page keeps a logical image sound, and what it means.
 use Rattle.std.proofs.Common.{◌≡◌, ℕ, ◌+◌, ◌*◌, ◌/◌, ◌%◌, ◌<◌, ⊎_elim, List, length, Some, None, refl, sym, ap, subst, ◌∙◌, get_or-set_same, get_or-set_other, arith}
 use Rattle.std.specs.Prelude.{Option, slice_set}
 use Rattle.std.proofs.lemmas.Bool.{cases_eq}
@@ -7,7 +7,7 @@ use Rattle.std.proofs.lemmas.Nat.{mod_below}
 use Rattle.std_lemmas.proofs.AllOf.{all_weaker}
 use Rattle.record_model.specs.State.{Content, content_at}
 use Rattle.log_records.specs.Log.{Entry, Version, version_at, blank_version, slot_at, last_on, value_after, value_of, table_of}
-use Rattle.log_records.specs.Sound.{Picture, IsSound, Means, FitsLog, IsInTable}
+use Rattle.log_records.specs.Sound.{LogicalImage, IsSound, Means, FitsLog, IsInTable}
 use Rattle.log_laws.specs.NewImage.{with_version, Replaces}
 use Rattle.log_records.proofs.Values.{page_and_slot, content_of_table, length_table_of}
 pub use Rattle.log_records.proofs.Values.{page_and_slot}
@@ -22,7 +22,7 @@ table_same log log' pages pages' same h =
     each : (number : ℕ) → number < 32 * length pages → content_at (table_of log' pages') number ≡ content_at (table_of log pages) number
     each number within = content_of_table log' pages' number (omega (arith, same, within)) ∙ h number within ∙ sym (content_of_table log pages number within)
 
-module _ (p : Picture) (page : ℕ) (v : Version) (sound : IsSound p) (r : Replaces p page v) where
+module _ (p : LogicalImage) (page : ℕ) (v : Version) (sound : IsSound p) (r : Replaces p page v) where
   same_length : length (slice_set p.pages page v) ≡ length p.pages
   same_length = length-set p.pages page v
 

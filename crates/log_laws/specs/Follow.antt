@@ -9,7 +9,7 @@ use Rattle.log_records.specs.Spelling.{AreBlock}
 use Rattle.log_records.specs.Log.{Entry, Version, slot_at, entries_from, txn_of, is_of, is_closed, entries_of, last_on}
 use Rattle.log_records.specs.Log.{is_loser, number_of, is_update, before_of, after_of}
 use Rattle.log_records.specs.Unfinished.{is_begin, clrs_in, left_open}
-use Rattle.log_records.specs.Sound.{Master, Picture, InTurn, IsInTable, IsOpen, IsLoserChain, Pairwise, HoldsOff}
+use Rattle.log_records.specs.Sound.{Master, LogicalImage, InTurn, IsInTable, IsOpen, IsLoserChain, Pairwise, HoldsOff}
 use Rattle.log_records.specs.Sound.{HasRoom, AreNumbered, last_lsn}
 
 -- what a slot shows once all records are redone
@@ -53,14 +53,14 @@ pub record Follows (m : Master) (pages : List Version) (earlier : List Entry) (e
 
 -- The next block.
 
-abbrev pub next_entries : Picture → List LogRecord → List Entry
+abbrev pub next_entries : LogicalImage → List LogRecord → List Entry
 next_entries p records = entries_from (512 * p.hi + 2) records
 
-abbrev pub sealed : Picture → List LogRecord → Picture
+abbrev pub sealed : LogicalImage → List LogRecord → LogicalImage
 sealed p records = record p { log = p.log ++ next_entries p records; hi = p.hi + 1 }
 
 -- a block goes on
-pub record GoesOn (p : Picture) (records : List LogRecord) : Type 0 where
+pub record GoesOn (p : LogicalImage) (records : List LogRecord) : Type 0 where
   pub are_block : AreBlock records
   pub follow : InTurn (Follows p.master p.pages) p.log (next_entries p records)
   pub numbered : AreNumbered (sealed p records)

@@ -4,26 +4,26 @@ use Rattle.std.specs.List.{AllByRecursion}
 use Rattle.record_model.specs.State.{content_at}
 use Rattle.log_records.specs.Log.{Version, version_at, last_on, number_of}
 use Rattle.log_records.specs.Unfinished.{losers}
-use Rattle.log_records.specs.Sound.{Picture, FitsLog, from_block, active_in, commit_count}
+use Rattle.log_records.specs.Sound.{LogicalImage, FitsLog, from_block, active_in, commit_count}
 
-abbrev pub with_version : Picture → ℕ → Version → Picture
+abbrev pub with_version : LogicalImage → ℕ → Version → LogicalImage
 with_version p page v = record p { pages = slice_set p.pages page v }
 
 -- a version fits the log, and is as the one before in each slot that no record stands on
-pub record Replaces (p : Picture) (page : ℕ) (v : Version) : Type 0 where
+pub record Replaces (p : LogicalImage) (page : ℕ) (v : Version) : Type 0 where
   pub fits : FitsLog p page v
   pub as_before : (slot : ℕ) → slot < 32 → last_on p.log (32 * page + slot) ≡ None
       → content_at v.slots slot ≡ content_at (version_at p.pages page).slots slot
 
 -- a master that keeps the blocks from one on, and redo begins with the next block
-abbrev pub with_master : Picture → ℕ → Picture
+abbrev pub with_master : LogicalImage → ℕ → LogicalImage
 with_master p kept = record p {
   master = record { redo = p.hi; kept = kept; commits = commit_count p; active = active_in p.log };
   log = from_block kept p.log;
 }
 
 -- each page's version knows of all of its records, and the blocks of unfinished transactions are kept
-pub record MayCheckpoint (p : Picture) (kept : ℕ) : Type 0 where
+pub record MayCheckpoint (p : LogicalImage) (kept : ℕ) : Type 0 where
   pub kept_rises : p.master.kept ≤ kept
   pub kept_in_log : kept ≤ p.hi
   pub losers_kept : AllByRecursion (λ t. 512 * kept ≤ t) (losers p.log)

@@ -4,29 +4,29 @@ use Rattle.log_records.specs.declared.log_record.LogRecord.{LogRecord}
 use Rattle.log_records.specs.Spelling.{used_by}
 use Rattle.log_records.specs.Log.{Entry, log_from}
 use Rattle.log_records.specs.Sets.{blank_versions}
-use Rattle.log_records.specs.Sound.{Picture, InTurn, IsSound, commit_count, commit_numbers}
+use Rattle.log_records.specs.Sound.{LogicalImage, InTurn, IsSound, commit_count, commit_numbers}
 use Rattle.log_laws.specs.Follow.{Follows, next_entries}
 
 -- the sealed records and those of the tail, which goes into the next block
-abbrev pub whole : Picture → List LogRecord → List Entry
+abbrev pub whole : LogicalImage → List LogRecord → List Entry
 whole p tail = p.log ++ next_entries p tail
 
 -- the LSN that the next record of the tail gets
-abbrev pub next_lsn : Picture → List LogRecord → ℕ
+abbrev pub next_lsn : LogicalImage → List LogRecord → ℕ
 next_lsn p tail = 512 * p.hi + used_by tail
 
--- a sound picture with a tail whose records follow in turn
-pub record Carries (p : Picture) (tail : List LogRecord) : Type 0 where
+-- a sound logical image with a tail whose records follow in turn
+pub record Carries (p : LogicalImage) (tail : List LogRecord) : Type 0 where
   pub sound : IsSound p
   pub follow : InTurn (Follows p.master p.pages) p.log (next_entries p tail)
 
 -- the tail has no Commit, or one, which is the next
-abbrev pub CommitsOnceAtMost : Picture → List LogRecord → Type 0
+abbrev pub CommitsOnceAtMost : LogicalImage → List LogRecord → Type 0
 CommitsOnceAtMost p tail = (commit_numbers (next_entries p tail) ≡ [])
     ⊎ (commit_numbers (next_entries p tail) ≡ (commit_count p + 1) ∷ [])
 
 -- a log without checkpoints, over pages that were never written: its blocks from number 0 on
-abbrev pub plain : ℕ → ℕ → List (List LogRecord) → Picture
+abbrev pub plain : ℕ → ℕ → List (List LogRecord) → LogicalImage
 plain pages room blocks = record {
   master = record { redo = 0; kept = 0; commits = 0; active = [] };
   log = log_from 0 blocks;

@@ -4,13 +4,13 @@ use Rattle.record_model.specs.State.{Write}
 use Rattle.log_records.specs.declared.log_record.LogRecord.{LogRecord}
 use Rattle.log_records.specs.declared.log_record.LogRecord.TheVariants.{Update, Clr, End}
 use Rattle.log_records.specs.Log.{Entry, txn_of, is_closing}
-use Rattle.log_records.specs.Sound.{Master, Picture, IsInOrder}
+use Rattle.log_records.specs.Sound.{Master, LogicalImage, IsInOrder}
 use Rattle.log_laws.specs.Follow.{Follows, IsActive}
 use Rattle.log_laws.specs.Tail.{Carries, whole}
 use Rattle.log_laws.specs.Analysis.{Unfinished, IsUnfinished, after_record}
 
 -- a record is the Update that undoing a transaction goes on with, and the CLR that compensates it may follow
-abbrev pub IsToUndo : Picture → List Entry → Unfinished → LogRecord → Type 0
+abbrev pub IsToUndo : LogicalImage → List Entry → Unfinished → LogRecord → Type 0
 IsToUndo p log x (Update txn prev page slot before after) =
     (txn ≡ x.txn) × (x.txn ≤ prev) × (prev < x.next) × (x.next ≤ x.last) × (32 * page + slot < 32 * length p.pages)
     × ((lsn : ℕ) → Follows p.master p.pages log (record { lsn = lsn; rec = Clr x.txn x.last prev page slot before }))
@@ -19,27 +19,27 @@ IsToUndo p log x _ = ⊥
 -- as long as an Update remains the record at the LSN where undoing goes on is one
 abbrev pub UndoStep : Type 0
 UndoStep =
-    (p : Picture) (tail : List LogRecord) (x : Unfinished) → Carries p tail → p.master.redo ≡ 0
+    (p : LogicalImage) (tail : List LogRecord) (x : Unfinished) → Carries p tail → p.master.redo ≡ 0
     → IsUnfinished (whole p tail) x → 0 < x.remaining →
     (u : Entry) × (find (λ e. e.lsn == x.next) (whole p tail) ≡ Some u) × IsToUndo p (whole p tail) x u.rec
 
 -- and where none remains the End may follow
 abbrev pub UndoEnd : Type 0
 UndoEnd =
-    (p : Picture) (tail : List LogRecord) (x : Unfinished) → Carries p tail → p.master.redo ≡ 0
+    (p : LogicalImage) (tail : List LogRecord) (x : Unfinished) → Carries p tail → p.master.redo ≡ 0
     → IsUnfinished (whole p tail) x → x.remaining ≡ 0 →
     (lsn : ℕ) → Follows p.master p.pages (whole p tail) (record { lsn = lsn; rec = End x.txn })
 
 -- So it is wherever redo begins.
 abbrev pub UndoGoesOn : Type 0
 UndoGoesOn =
-    (p : Picture) (tail : List LogRecord) (x : Unfinished) → Carries p tail → IsUnfinished (whole p tail) x
+    (p : LogicalImage) (tail : List LogRecord) (x : Unfinished) → Carries p tail → IsUnfinished (whole p tail) x
     → 0 < x.remaining →
     (u : Entry) × (find (λ e. e.lsn == x.next) (whole p tail) ≡ Some u) × IsToUndo p (whole p tail) x u.rec
 
 abbrev pub UndoEnds : Type 0
 UndoEnds =
-    (p : Picture) (tail : List LogRecord) (x : Unfinished) → Carries p tail → IsUnfinished (whole p tail) x
+    (p : LogicalImage) (tail : List LogRecord) (x : Unfinished) → Carries p tail → IsUnfinished (whole p tail) x
     → x.remaining ≡ 0 →
     (lsn : ℕ) → Follows p.master p.pages (whole p tail) (record { lsn = lsn; rec = End x.txn })
 

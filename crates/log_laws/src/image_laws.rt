@@ -3,7 +3,7 @@ ghost use Rattle.log_laws.specs.NewImageLaws.{VersionIsSound, VersionMeans, Mast
 ghost use Rattle.log_laws.specs.NewImageLaws.{MasterIsOrderly, EmptyMasterIsSound, EmptyMasterMeans};
 ghost use Rattle.log_laws.specs.NewImageLaws.{EmptyMasterIsOrderly, SealedIsOrderly};
 
-/// A new version of a page keeps a picture sound, and what it stands for.
+/// A new version of a page keeps a logical image sound, and what it stands for.
 pub fn new_version()
     ensures sound { VersionIsSound }
     ensures means { VersionMeans }

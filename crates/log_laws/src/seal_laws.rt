@@ -1,7 +1,7 @@
 // The law on a sealed block.
 ghost use Rattle.log_laws.specs.SealLaws.{SealedIsSound, MeansWithoutCommit, MeansWithCommit};
 
-/// A sealed block that goes on keeps a sound picture sound.
+/// A sealed block that goes on keeps a sound logical image sound.
 pub fn sealed_is_sound()
     ensures { SealedIsSound }
 {}

@@ -5,7 +5,7 @@ ghost use Rattle.log_laws.specs.TailLaws.{CommitsMore, CommitsStay, TailWithoutC
 ghost use Rattle.log_laws.specs.TailLaws.{WholeSealed};
 ghost use Rattle.log_laws.specs.TailLaws.{TailWithCommit};
 
-/// A sound picture carries the empty tail.
+/// A sound logical image carries the empty tail.
 pub fn carries_nothing()
     ensures { CarriesNothing }
 {}
@@ -47,7 +47,7 @@ pub fn tail_without_commit()
     ensures { TailWithoutCommit }
 {}
 
-/// A tail that is sealed makes a sound picture.
+/// A tail that is sealed makes a sound logical image.
 pub fn sealed_tail()
     ensures { SealedTail }
 {}

@@ -23,7 +23,7 @@ pub record Master : Type 0 where
   pub active : List Active
 
 -- What three devices say, but for their octets.
-pub record Picture : Type 0 where
+pub record LogicalImage : Type 0 where
   pub master : Master
   -- the records of the kept blocks
   pub log : List Entry
@@ -136,7 +136,7 @@ ShowsLast slot (Some e) = slot ≡ after_of e.rec
 
 -- A version of a page doesn't know of a record that isn't in a sealed block. It has what the last record on each slot
 -- that it knows of has written, and it knows of each record of the page before the redo block.
-pub record FitsLog (p : Picture) (page : ℕ) (v : Version) : Type 0 where
+pub record FitsLog (p : LogicalImage) (page : ℕ) (v : Version) : Type 0 where
   pub logged : IsTrue ((v.lsn == 0) || nat_lt v.lsn (512 * p.hi))
   pub shows : (slot : ℕ) → slot < 32 → ShowsLast (content_at v.slots slot) (last_known p.log v.lsn (32 * page + slot))
   pub knows : AllByRecursion (λ e. (number : ℕ) → number_of e.rec ≡ Some number → number / 32 ≡ page
@@ -155,13 +155,13 @@ commit_number e = commit_number_by e.rec
 abbrev pub commit_numbers : List Entry → List ℕ
 commit_numbers log = filter_map commit_number log
 
--- the commits that the picture stands for
-abbrev pub commit_count : Picture → ℕ
+-- the commits that the logical image stands for
+abbrev pub commit_count : LogicalImage → ℕ
 commit_count p = p.master.commits + length (commit_numbers (from_block p.master.redo p.log))
 
 -- The commits are numbered on by one, up to the master's count before the redo block and from there on. Each has sealed
 -- a block of its own.
-pub record AreNumbered (p : Picture) : Type 0 where
+pub record AreNumbered (p : LogicalImage) : Type 0 where
   pub before_redo : length (commit_numbers (before_block p.master.redo p.log)) ≤ p.master.commits + 1
   pub run_on : let before = length (commit_numbers (before_block p.master.redo p.log)) in
       commit_numbers p.log ≡ range_with_len (p.master.commits + 1 - before) (length (commit_numbers p.log))
@@ -170,11 +170,11 @@ pub record AreNumbered (p : Picture) : Type 0 where
 -- Room.
 
 -- there are blocks for all that undo will write
-abbrev pub HasRoom : Picture → Type 0
+abbrev pub HasRoom : LogicalImage → Type 0
 HasRoom p = p.hi - p.master.kept + owed p.log ≤ p.blocks - 1
 
--- The records, versions and master of a picture belong together: the part of soundness that speaks of lists.
-pub record IsSound (p : Picture) : Type 0 where
+-- The records, versions and master of a logical image belong together: the part of soundness that speaks of lists.
+pub record IsSound (p : LogicalImage) : Type 0 where
   -- the kept blocks are there, and redo begins among them
   pub kept_before_redo : p.master.kept ≤ p.master.redo
   pub redo_before_end : p.master.redo ≤ p.hi
@@ -194,8 +194,8 @@ pub record IsSound (p : Picture) : Type 0 where
   pub master_names_the_active : p.master.active ≡ active_in (before_block p.master.redo p.log)
   pub commits : AreNumbered p
 
--- The table that a picture stands for, and how many commits made it.
-pub record Means (p : Picture) (table : List Content) (count : ℕ) : Type 0 where
+-- The table that a logical image stands for, and how many commits made it.
+pub record Means (p : LogicalImage) (table : List Content) (count : ℕ) : Type 0 where
   pub table_is : table ≡ table_of p.log p.pages
   pub count_is : count ≡ commit_count p
 

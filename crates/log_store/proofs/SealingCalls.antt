@@ -31,7 +31,7 @@ seals_nothing {T = T} {x = x} store site none going =
         err = tt;
         kept = refl;
         geometry = refl;
-        goes = goes_nowhere site;
+        preserves = goes_nowhere site;
         faults = refl;
         reads = λ d. refl;
         worn = (λ says. absurd (no_error {T = T} {x = x} {e = Worn Log} says), λ both. absurd (true≢false (sym both.0)));
@@ -44,7 +44,7 @@ seals_nothing {T = T} {x = x} store site none going =
       next_block = λ honest. next_nothing {T = T} {x = x};
       outside = λ honest p out. refl;
       beside = λ fits. none_beside store.geometry site fits.settled;
-      past = λ honest. refl;
+      device_calls = λ honest. refl;
       going = going;
     })
 
@@ -64,7 +64,7 @@ seals_failed {A = A} {B = B} {stop = stop} {old = old} {new = new} {before = bef
         err = s.err;
         kept = s.kept;
         geometry = s.geometry;
-        goes = s.goes;
+        preserves = s.preserves;
         faults = s.faults ∙ same_error A B stop (faults_in before);
         reads = s.reads;
         worn = (λ says. s.worn.0 (err_again {A = B} {B = A} stop (Worn Log) says), λ both. err_again {A = A} {B = B} stop (Worn Log) (s.worn.1 both));
@@ -77,7 +77,7 @@ seals_failed {A = A} {B = B} {stop = stop} {old = old} {new = new} {before = bef
       next_block = λ honest. next_failed (s.next_block honest);
       outside = λ honest. tt;
       beside = s.beside;
-      past = λ honest. tt;
+      device_calls = λ honest. tt;
       going = s.going;
     })
 
@@ -98,7 +98,7 @@ seals_placed {A = A} {B = B} {a = a} {b = b} {old = old} {mid = mid} {new = new}
         err = tt;
         kept = ap (λ (it : LogStore). it.kept) rest ∙ s.kept;
         geometry = ap (λ (it : LogStore). it.geometry) rest ∙ s.geometry;
-        goes = s.goes;
+        preserves = s.preserves;
         faults = s.faults;
         reads = s.reads;
         worn = (λ says. absurd (no_error {T = B} {x = b} {e = Worn Log} says), λ both. absurd (no_error {T = A} {x = a} {e = Worn Log} (s.worn.1 both)));
@@ -115,6 +115,6 @@ seals_placed {A = A} {B = B} {a = a} {b = b} {old = old} {mid = mid} {new = new}
       };
       outside = s.outside;
       beside = s.beside;
-      past = λ honest. let past = s.past honest in omega (arith, hi, past);
+      device_calls = λ honest. let past = s.device_calls honest in omega (arith, hi, past);
       going = going;
     })

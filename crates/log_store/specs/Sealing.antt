@@ -31,7 +31,7 @@ pub record KeepsStore {T : Type 0} (result : Result T Stop) (sealing : Bool) (ol
   pub err : OnErr result (new.ring.ended ≡ true)
   pub kept : new.kept ≡ old.kept
   pub geometry : new.geometry ≡ old.geometry
-  pub goes : Preserves before now
+  pub preserves : Preserves before now
   pub faults : WorkFaults result before now
   pub reads : SameReads before now
   -- when each answer comes
@@ -55,6 +55,6 @@ pub record SealsTail {T : Type 0} (result : Result T Stop) (sealing : Bool) (old
   pub outside : IsTrue before.honest
       → OnOk result (SameOutside (log_shape old.geometry) before.image.log now.image.log)
   pub beside : Matches old before → LeavesOnly before now (KeepsBeside old.geometry before.image)
-  pub past : IsTrue before.honest
+  pub device_calls : IsTrue before.honest
       → OnOk result (length now.past + 5 * old.ring.hi ≡ length before.past + 5 * new.ring.hi)
   pub going : Invariant new now

@@ -297,7 +297,7 @@ impl Site for MemSite {
         requires { at + length into.old ≤ length (content_of dev (state_of self.old).image) }
         ensures read { IsTrue (state_of self.old).honest
             → HasRead dev at into.new (state_of self.old) (state_of self.new) result }
-        ensures goes { Preserves (state_of self.old) (state_of self.new) }
+        ensures preserves { Preserves (state_of self.old) (state_of self.new) }
         ensures reads { ReadsMore dev (length into.old) (state_of self.old) (state_of self.new) }
         ensures cause { OnErr result (Rose (faults_of dev (state_of self.old)) (faults_of dev (state_of self.new))) }
         ensures faults { CallFaults dev result (state_of self.old) (state_of self.new) }
@@ -319,7 +319,7 @@ impl Site for MemSite {
         requires { at + length bytes.now ≤ length (content_of dev (state_of self.old).image) }
         ensures wrote { IsTrue (state_of self.old).honest
             → Wrote dev at bytes.now (state_of self.old) (state_of self.new) result }
-        ensures goes { Preserves (state_of self.old) (state_of self.new) }
+        ensures preserves { Preserves (state_of self.old) (state_of self.new) }
         ensures reads { SameReads (state_of self.old) (state_of self.new) }
         ensures cause { OnErr result (Rose (faults_of dev (state_of self.old)) (faults_of dev (state_of self.new))) }
         ensures faults { CallFaults dev result (state_of self.old) (state_of self.new) }
@@ -358,7 +358,7 @@ impl Site for MemSite {
 
     fn sync(&mut self, dev: Dev) -> Result<(), Failed>
         ensures synced { IsTrue (state_of self.old).honest → Synced dev (state_of self.old) (state_of self.new) result }
-        ensures goes { Preserves (state_of self.old) (state_of self.new) }
+        ensures preserves { Preserves (state_of self.old) (state_of self.new) }
         ensures reads { SameReads (state_of self.old) (state_of self.new) }
         ensures cause { OnErr result (Rose (faults_of dev (state_of self.old)) (faults_of dev (state_of self.new))) }
         ensures faults { CallFaults dev result (state_of self.old) (state_of self.new) }
@@ -389,7 +389,7 @@ impl Site for MemSite {
         ensures took { IsTrue (state_of self.old).honest
             → Took into.new (state_of self.old) (state_of self.new) result }
         ensures at_most { IfOk result (λ n. n ≤ length into.old) }
-        ensures goes { Preserves (state_of self.old) (state_of self.new) }
+        ensures preserves { Preserves (state_of self.old) (state_of self.new) }
         ensures reads { SameReads (state_of self.old) (state_of self.new) }
         ensures cause { OnErr result (Rose (state_of self.old).input_faults (state_of self.new).input_faults) }
         ensures faults { TakeFaults result (state_of self.old) (state_of self.new) }
@@ -410,7 +410,7 @@ impl Site for MemSite {
             → Told piece.now (state_of self.old) (state_of self.new) result }
         ensures at_least { IfOk result (λ n. 1 ≤ n) }
         ensures at_most { IfOk result (λ n. n ≤ length piece.now) }
-        ensures goes { Preserves (state_of self.old) (state_of self.new) }
+        ensures preserves { Preserves (state_of self.old) (state_of self.new) }
         ensures reads { SameReads (state_of self.old) (state_of self.new) }
         ensures cause { OnErr result (Rose (state_of self.old).output_faults (state_of self.new).output_faults) }
         ensures faults { TellFaults result (state_of self.old) (state_of self.new) }

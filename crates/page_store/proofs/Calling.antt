@@ -125,7 +125,7 @@ stands_still {log = log} {pages = pages} {pages' = pages'} {site = site} {list =
   ahead = λ ahead. record { pool = logged ahead.pool; versions = subst (λ (g : Geometry). AreSealed g site.image) (sym geometry) ahead.versions };
   rings = λ newest rings. rings;
   reaches = subst (λ (l : List Change). Reaches pages.flash.geometry l site.image site.image) (sym unchanged) (reads_itself pages.flash.geometry site.image);
-  past = calls_none pages.flash.geometry site;
+  device_calls = calls_none pages.flash.geometry site;
 }
 
 -- A page is read behind a call that was Ok, or want of memory stops it.
@@ -186,7 +186,7 @@ pushes_then {before = before} {middle = middle} once first second = record {
     size = second.works.size ∙ first.works.size;
     log_reads = second.works.log_reads ∙ first.works.log_reads;
     stops = second.works.stops;
-    next = λ honest. next_then first.works.forces.geometry first.works.geometry (first.works.next honest) (second.works.next (stays_honest before middle first.works.calls.goes honest));
+    next = λ honest. next_then first.works.forces.geometry first.works.geometry (first.works.next honest) (second.works.next (stays_honest before middle first.works.calls.preserves honest));
   };
   logged = λ all. second.logged (first.logged all);
   ended = second.ended ∙ first.ended;
@@ -278,7 +278,7 @@ stands_then {new = new} {pages = pages} {between = between} {pages' = pages'} {b
       ahead = λ ahead. second.ahead (first.ahead ahead);
       rings = λ newest rings. subst (λ (k : Geometry). AreRingsSoundUnder newest k now.image) geometry (second.rings newest (subst (λ (k : Geometry). AreRingsSoundUnder newest k middle.image) (sym geometry) (first.rings newest rings)));
       reaches = law g c d before.image middle.image now.image first.reaches (subst (λ (k : Geometry). Reaches k d middle.image now.image) geometry second.reaches);
-      past = counts_then g before middle now first.past (subst (λ (k : Geometry). CallsForUnits k middle now) geometry second.past);
+      device_calls = counts_then g before middle now first.device_calls (subst (λ (k : Geometry). CallsForUnits k middle now) geometry second.device_calls);
     }
 
 -- more may be sealed, and more changes may be made
@@ -332,5 +332,5 @@ stands_given {store = store} {before = before} {now = now} own geometry ready cu
   ahead = λ ahead. record { pool = logged ahead.pool; versions = subst (λ (g : Geometry). AreSealed g now.image) (sym geometry) (push.sealed ahead.versions (own.logged ahead.pool)) };
   rings = λ newest rings. push.rings newest rings own.sound;
   reaches = push.reaches;
-  past = push.past;
+  device_calls = push.device_calls;
 }

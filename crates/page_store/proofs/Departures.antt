@@ -43,7 +43,7 @@ use Rattle.page_store.proofs.PushLaws.{or_listed}
 use Rattle.page_store.proofs.Saving.{pages_apart}
 use Rattle.page_store.proofs.Touching.{all_found}
 use Rattle.page_store.specs.Changing.{given_changes, eviction_changes}
-use Rattle.page_store.specs.declared.taking.Taken.{Taken}
+use Rattle.page_store.specs.declared.taking.EvictedPages.{EvictedPages}
 use Rattle.page_store.specs.Taking.{Has}
 use Rattle.page_store.proofs.Changing.{given_are, eviction_is}
 use Rattle.page_store.proofs.Flushes.{marks_turned, not_among}
@@ -421,7 +421,7 @@ module _ (store : PageStore) (rest : Pool) (last : Frame) (h : HasLeft store res
         machine = λ queue after. evicts_pushed store rest last queue h.is must (after ∙ ap (λ (l : List Known). pushed_queue store.flash (map chance_frame (chance_marks store.flash) ++ l)) (known_own xs));
       }
 
-  pub departs : (pool : Pool) (taken : Taken) (pages : List ℕ) (changed : List Bool) (contents : List (List ℕ)) → pool ≡ pool_then pool.framed → Has taken all_gone_now
+  pub departs : (pool : Pool) (taken : EvictedPages) (pages : List ℕ) (changed : List Bool) (contents : List (List ℕ)) → pool ≡ pool_then pool.framed → Has taken all_gone_now
       → pages ≡ taken.pages.items → changed ≡ taken.changed.items → contents ≡ taken.contents.items → Departs store pool pages changed contents
   departs pool taken pages changed contents then has first second third =
       subst (λ (p : Pool). Departs store p pages changed contents) (sym then)

@@ -244,7 +244,7 @@ stages_still {r = r} {staged = staged} {next = next} {old = old} {before = befor
 pub stages_beside : {T : Type 0} {r : Result T Stop} {staged : List Staged} {next : ℕ} {old new : PageStore} {before now : State} → OnOk r (staged ≡ []) → next_group (cache_of old) ≤ next → (IsTrue before.honest → ChangesOnly Log before now) → Calls r before now →
     new.flash ≡ old.flash → Stages r staged next old new before now
 stages_beside {r = r} {staged = staged} {next = next} {old = old} {new = new} {before = before} {now = now} none low changes calls same = record {
-  holds = λ has. ok_always r (HasQueueOn new now) (queue_same old new before now same ((changes has.fits.honest).only.now.content Flash (λ h. cc)) (stays_honest before now calls.goes has.fits.honest) has);
+  holds = λ has. ok_always r (HasQueueOn new now) (queue_same old new before now same ((changes has.fits.honest).only.now.content Flash (λ h. cc)) (stays_honest before now calls.preserves has.fits.honest) has);
   quiet = λ has quiet. calls.stays_quiet has.fits.honest quiet;
   writes = λ has quiet. (let is = has.next in log_leaves old.flash.geometry staged next before now (omega (arith, is, low)) quiet (changes has.fits.honest));
   last = λ has quiet. ok_as r (staged ≡ []) (HasLastStaged old.flash.geometry staged before now) (last_none old.flash.geometry staged before now) none;

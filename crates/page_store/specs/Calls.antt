@@ -161,7 +161,7 @@ pub record Stands (old new : LogStore) (pages pages' : PageStore) (before now : 
       AreRingsSoundUnder newest pages.flash.geometry now.image
   pub reaches : Reaches pages.flash.geometry changes before.image now.image
   -- and no more calls were made than the units cost that were appended
-  pub past : CallsForUnits pages.flash.geometry before now
+  pub device_calls : CallsForUnits pages.flash.geometry before now
 
 -- The same of a push of these pages, whatever is given as their contents.
 pub record KeepsGiven {T : Type 0} (result : Result T Stop) (log : LogStore) (pages : PageStore) (numbers : List ℕ)
@@ -185,7 +185,7 @@ pub record StandsGiven (log new : LogStore) (pages pages' : PageStore) (numbers 
     (contents : List (List ℕ)) (before now : State) (list : LogList) (changes : List Change) : Type 0 where
   pub gives : Gives pages.flash.geometry numbers contents before.image now.image
   pub reaches : Reaches pages.flash.geometry changes before.image now.image
-  pub past : CallsForUnits pages.flash.geometry before now
+  pub device_calls : CallsForUnits pages.flash.geometry before now
   pub leaves : (given : ℕ → List ℕ) → AreGiven given numbers contents →
       AreCleanGiven pages.flash numbers changed contents before.image →
       LeavesPages pages.flash.geometry given (forces log contents) list before (snapshot_of now)

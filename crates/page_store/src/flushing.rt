@@ -114,7 +114,7 @@ impl PageStore {
     }
 
     // Pushes the coldest changed pages, which are then no longer marked as changed.
-    fn save<S: Site>(
+    fn push_and_clear<S: Site>(
         &mut self,
         site: &mut S,
         log: &mut LogStore,
@@ -187,7 +187,7 @@ impl PageStore {
     {
         let plan = self.plan_for_changed(pages)?;
         let contents = self.contents_of(pages)?;
-        self.save(site, log, &plan, pages, contents.as_slice())
+        self.push_and_clear(site, log, &plan, pages, contents.as_slice())
     }
 
     /// Pushes groups of changed pages, the coldest first, until no page in the pool is changed.

@@ -21,7 +21,7 @@ ghost use Rattle.page_store.specs.Caching.{next_group};
 ghost use Rattle.page_store.specs.Staging.{staged_by_eviction, Stages};
 
 use crate::store::PageStore;
-use crate::taking::Taken;
+use crate::taking::EvictedPages;
 use buffer_pool::frames_of_pages;
 use byte_fields::Mark;
 use flash_cache::{FlashCache, unframed_is_disk};
@@ -131,8 +131,8 @@ impl PageStore {
                 let mut front = [NO_MARK; 8];
                 let count = leaving(&self.flash, &mut front);
                 let pushed = self.flash.push_group(site, plan, pages, changed, contents);
-                self.tell_marks(&front[..count]);
-                self.tell_pages(pages);
+                self.update_framed_marks(&front[..count]);
+                self.update_framed_pages(pages);
                 pushed
             }
             Err(stop) => Err(stop),
@@ -178,7 +178,7 @@ impl PageStore {
         }
         match self.take_with(page, changed, content) {
             Ok((plan, taken)) => {
-                let Taken {
+                let EvictedPages {
                     pages,
                     changed,
                     contents,

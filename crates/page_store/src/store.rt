@@ -8,7 +8,7 @@ ghost use Rattle.site.specs.Geometry.{HasLimits, HasLengths};
 ghost use Rattle.site.specs.State.{State, Image, reads_of};
 ghost use Rattle.site.specs.Calls.{Preserves, FaultRose, IsUnchanged};
 ghost use Rattle.site.specs.Faults.{WorkFaults};
-ghost use Rattle.slotted_page.specs.Layout.{lsn_of, slots_of, content_length, IsSound, Matches as FitsPage};
+ghost use Rattle.slotted_page.specs.Layout.{lsn_of, slots_of, content_length, IsSound, FitsPage};
 ghost use Rattle.frame_group.specs.Groups.{Frame as Stored};
 ghost use Rattle.flash_cache.specs.Representation.{IsNext, HasGroups, AreSaved, version_on, IsCleanOn, queue_of};
 ghost use Rattle.flash_cache.specs.Representation.{start_reads};
@@ -82,7 +82,7 @@ impl PageStore {
             → IfOk result (λ store. IsNext store.flash (S.state site.new)) }
         ensures same { IsTrue (S.state site.old).honest
             → IsUnchanged (S.state site.old) (S.state site.new) }
-        ensures goes { Preserves (S.state site.old) (S.state site.new) }
+        ensures preserves { Preserves (S.state site.old) (S.state site.new) }
         ensures faults { WorkFaults result (S.state site.old) (S.state site.new) }
         ensures reads { (S.state site.new).flash_reads
             ≤ (S.state site.old).flash_reads + start_reads geometry.now }

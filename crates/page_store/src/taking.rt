@@ -20,18 +20,18 @@ const MOST_PULLED: usize = 7;
 
 /// Pages that were taken out of the pool, place by place: their numbers, whether they were changed, and what they hold.
 #[derive(Drop)]
-pub struct Taken {
+pub struct EvictedPages {
     pub pages: Vec<u32>,
     pub changed: Vec<bool>,
     pub contents: Vec<Page>,
 }
 
-impl Taken {
+impl EvictedPages {
     // No page.
-    fn new(alloc: Global) -> Taken
+    fn new(alloc: Global) -> EvictedPages
         ensures { Has result [] }
     {
-        Taken {
+        EvictedPages {
             pages: Vec::new(alloc),
             changed: Vec::new(alloc),
             contents: Vec::new(alloc),
@@ -90,7 +90,7 @@ impl PageStore {
     }
 
     // Takes the pages out of the pool that a push with an evicted page pulls.
-    fn pull(&mut self, pages: &Places, taken: &mut Taken) -> Result<(), Stop>
+    fn pull(&mut self, pages: &Places, taken: &mut EvictedPages) -> Result<(), Stop>
         requires store { IsStore self.old }
         requires pages { pages.now ≡ map (λ f. f.page) (pulled self.old) }
         ensures taken { (frames : List Frame) → Has taken.old frames
@@ -123,7 +123,7 @@ impl PageStore {
         page: u32,
         changed: bool,
         content: Page,
-    ) -> Result<(Plan, Taken), Stop>
+    ) -> Result<(Plan, EvictedPages), Stop>
         requires store { IsStore self.old }
         requires groups { 2 ≤ self.old.flash.geometry.groups }
         requires few { length self.old.flash.directory.groups < self.old.flash.geometry.groups }
@@ -142,7 +142,7 @@ impl PageStore {
         ensures memory { IfErr result (λ stop. stop ≡ Stop.Memory) }
     {
         let plan = self.plan_for_evicted()?;
-        let mut taken = Taken::new(self.alloc);
+        let mut taken = EvictedPages::new(self.alloc);
         taken.push(page, changed, content)?;
         self.pull(&plan.pulled, &mut taken)?;
         Ok((plan, taken))

@@ -7,7 +7,7 @@ use byte_fields::Mark;
 
 impl PageStore {
     // Of one page.
-    fn tell(&mut self, page: u32)
+    fn update_framed(&mut self, page: u32)
         ensures kept { self.new ≡ record self.old {
           pool = record self.old.pool { framed = self.new.pool.framed };
         } }
@@ -18,26 +18,26 @@ impl PageStore {
     }
 
     /// Tells it of the pages of these marks.
-    pub(crate) fn tell_marks(&mut self, marks: &[Mark])
+    pub(crate) fn update_framed_marks(&mut self, marks: &[Mark])
         ensures kept { self.new ≡ record self.old {
           pool = record self.old.pool { framed = self.new.pool.framed };
         } }
         ensures told { TellsOf (is_marked marks.now) self.old self.new }
     {
         for mark in marks {
-            self.tell(mark.page);
+            self.update_framed(mark.page);
         }
     }
 
     /// Tells it of these pages.
-    pub(crate) fn tell_pages(&mut self, pages: &[u32])
+    pub(crate) fn update_framed_pages(&mut self, pages: &[u32])
         ensures kept { self.new ≡ record self.old {
           pool = record self.old.pool { framed = self.new.pool.framed };
         } }
         ensures told { TellsOf (is_named pages.now) self.old self.new }
     {
         for page in pages {
-            self.tell(*page);
+            self.update_framed(*page);
         }
     }
 }

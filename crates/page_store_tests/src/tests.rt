@@ -107,7 +107,7 @@ fn append<S: Site>(log: &mut LogStore, site: &mut S) -> Result<u64, Stop>
     requires sizes { log.old.geometry ≡ small }
     ensures going { log_store.Invariant log.new (S.state site.new) }
     ensures sizes { log.new.geometry ≡ small }
-    ensures goes { Preserves (S.state site.old) (S.state site.new) }
+    ensures preserves { Preserves (S.state site.old) (S.state site.new) }
 {
     log.keep(log.sealed_end() / 512);
     log.append(site, &update())

@@ -1,6 +1,7 @@
 use byte_fields::Mark;
 use second_chance::{
-    Places, Plan, PoolMark, Taking, plan_evict, plan_evict_taking, plan_flush, plan_flush_taking,
+    Places, Plan, PoolMark, PushPolicy, plan_evict, plan_evict_taking, plan_flush,
+    plan_flush_taking,
 };
 
 // A frame's mark: its page, and whether it is valid, dirty and referenced.
@@ -31,8 +32,8 @@ macro_rules! pooled {
 enum Push {
     Evict,
     Flush,
-    EvictTaking(Taking),
-    FlushTaking(Taking),
+    EvictTaking(PushPolicy),
+    FlushTaking(PushPolicy),
 }
 
 // A push with a front group and a pool, and what it takes: second chances, staged frames and pulled pages. Where that
@@ -176,12 +177,12 @@ const TAKEN_POOL: &[PoolMark] = &[
     pooled!(14, false, false),
 ];
 
-const BOTH: Taking = Taking {
+const BOTH: PushPolicy = PushPolicy {
     chances: true,
     pulls: true,
 };
 
-const GROUPED: Taking = Taking {
+const GROUPED: PushPolicy = PushPolicy {
     chances: false,
     pulls: true,
 };

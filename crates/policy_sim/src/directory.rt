@@ -76,7 +76,7 @@ impl Directory {
         ensures ok { OnOk result (self.new ≡ pushed drop_front frames.items self.old) }
         ensures memory { IfErr result (λ stop. stop ≡ Stop.Memory) }
     {
-        make_way(&mut self.groups, &mut self.slots, self.first, drop_front);
+        drop_front_group(&mut self.groups, &mut self.slots, self.first, drop_front);
         self.first = first_then(self.first, drop_front);
         let group = Group::of_frames(frames);
         let number = (self.first + self.groups.len() as u64) as u32;
@@ -144,7 +144,12 @@ fn first_then(first: u64, drop_front: bool) -> u64
 }
 
 /// The front group leaves where it is said to. The first group has this number.
-fn make_way(groups: &mut VecDeque<Group>, slots: &mut Vec<Slot>, first: u64, drop_front: bool)
+fn drop_front_group(
+    groups: &mut VecDeque<Group>,
+    slots: &mut Vec<Slot>,
+    first: u64,
+    drop_front: bool,
+)
     requires front { IsTrue drop_front → 0 < length groups.old.items }
     ensures groups { groups.new.items ≡ (if drop_front then drop 1 groups.old.items else groups.old.items) }
     ensures places { PlacesNewest slots.old.items (record { first = first; groups = groups.old.items })

@@ -18,7 +18,7 @@ use crate::group::new_group;
 use crate::policy::Policy;
 use crate::pool::Pool;
 use byte_fields::Mark;
-use second_chance::{Plan, PoolMark, Taking, plan_evict_taking, plans_are_pushes};
+use second_chance::{Plan, PoolMark, PushPolicy, plan_evict_taking, plans_are_pushes};
 use site::Stop;
 use std::alloc::Global;
 
@@ -41,7 +41,7 @@ const NO_PAGE: PoolMark = PoolMark {
 #[derive(Drop)]
 pub struct Machine {
     /// What a push takes.
-    pub taking: Taking,
+    pub taking: PushPolicy,
     /// How many pages the pool may have.
     pub pages: u32,
     /// How many groups the queue may have.

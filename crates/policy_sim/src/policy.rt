@@ -1,7 +1,7 @@
 ghost use Rattle.std.specs.Prelude.{◌≡◌, ◌≤◌};
 ghost use Rattle.policy_sim.specs.Machines.{rules_of_policy};
 
-use second_chance::Taking;
+use second_chance::PushPolicy;
 
 /// How a cache treats the pages that leave its pool and its queue.
 #[derive(Clone, Copy, Debug, PartialEq, Eq)]
@@ -16,7 +16,7 @@ pub enum Policy {
 
 impl Policy {
     /// What a push takes.
-    pub(crate) fn taking(self) -> Taking
+    pub(crate) fn taking(self) -> PushPolicy
         ensures chances { result.chances ≡ (rules_of_policy self 0 0).chances }
         ensures pulls { result.pulls ≡ (rules_of_policy self 0 0).pulls }
     {
@@ -25,7 +25,7 @@ impl Policy {
             Policy::Group => (false, true),
             Policy::Chance => (true, true),
         };
-        Taking { chances, pulls }
+        PushPolicy { chances, pulls }
     }
 
     /// How many groups the queue holds on a flash of so many groups.

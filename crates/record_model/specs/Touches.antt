@@ -10,22 +10,22 @@ use Rattle.record_model.specs.Step.{makes_checkpoint, is_accepted}
 use Rattle.record_model.specs.Run.{Line, Turn}
 
 -- a touch of a page, with a change or without, or a flush of all changed pages
-pub data CacheWork : Type 0 where
-  touch : (page : ℕ) (changed : Bool) → CacheWork
-  flush : CacheWork
+pub data CacheOp : Type 0 where
+  touch : (page : ℕ) (changed : Bool) → CacheOp
+  flush : CacheOp
 
 -- the page of a record
 abbrev pub page_of : ℕ → ℕ
 page_of number = number / 32
 
-abbrev pub read_touch : ℕ → CacheWork
+abbrev pub read_touch : ℕ → CacheOp
 read_touch number = touch (page_of number) false
 
-abbrev pub write_touch : ℕ → CacheWork
+abbrev pub write_touch : ℕ → CacheOp
 write_touch number = touch (page_of number) true
 
 -- the touches of a command that is accepted: an abort goes from the last write to the first
-abbrev pub record_touches : State → Command → List CacheWork
+abbrev pub record_touches : State → Command → List CacheOp
 record_touches s (Begin n) = []
 record_touches s (Read n number) = read_touch number ∷ []
 record_touches s (Write n number value) = write_touch number ∷ []
@@ -41,15 +41,15 @@ record_touches s Stat = []
 record_touches s Quit = []
 
 -- what a command asks of the cache: the flush of its checkpoint, and its touches
-abbrev pub command_touches : State → Command → List CacheWork
+abbrev pub command_touches : State → Command → List CacheOp
 command_touches s command =
     (if makes_checkpoint s command then flush ∷ [] else [])
     ++ (if is_accepted s command then record_touches s command else [])
 
-abbrev pub line_touches : State → Line → List CacheWork
+abbrev pub line_touches : State → Line → List CacheOp
 line_touches s None = []
 line_touches s (Some command) = command_touches s command
 
 -- what a run asks of the cache
-abbrev pub run_touches : List Turn → List CacheWork
+abbrev pub run_touches : List Turn → List CacheOp
 run_touches run = flat_map (λ t. line_touches t.before t.line) run

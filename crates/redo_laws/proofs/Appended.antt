@@ -28,7 +28,7 @@ use Rattle.buffer_pool.specs.Frames.{frame_of}
 use Rattle.page_store.specs.Ahead.{AreSealed, LeavesSealed, IsAhead, sealed_end}
 use Rattle.page_store.specs.Leaves.{AreReady, HasQueue, LeavesRings}
 use Rattle.checkpoint.specs.declared.master.Master.{Master}
-use Rattle.image_meaning.specs.Meaning.{next_block_under, picture_under, master_of, versions_on, version_in, kept_by}
+use Rattle.image_meaning.specs.Meaning.{next_block_under, logical_image_under, master_of, versions_on, version_in, kept_by}
 use Rattle.image_meaning.specs.Moments.{LeavesTableUnder}
 use Rattle.image_meaning.specs.Beside.{AreRingsSoundUnder, KeepsRingsAll}
 use Rattle.page_store.proofs.Rings.{all_front, sealing_keeps}
@@ -56,7 +56,7 @@ pub record IsAppended (g : Geometry) (log log' : LogStore) (list : LogList) (sit
   pub holds : log_store.Represents log' new.image (with_record rec (sealed_if sealing list))
   pub finds : log_store.Finds log' new
   pub changes : ChangesOnly Log site new
-  pub goes : Preserves site new
+  pub preserves : Preserves site new
 
 few_blocks : (b : Bool) → tail_blocks b ≤ 1
 few_blocks true = omega arith
@@ -154,7 +154,7 @@ module _ (logs : LogLaws) (laws : PageLaws) (beside : BesideLaws) (log : LogStor
 
   -- Behind it.
   module _ (new : State) (changes : ChangesOnly Log site new) where
-    pub moved : (blocks : List (List LogRecord)) (tail : List LogRecord) (records' : List Entry) → RunsOn (picture_under newest g site.image blocks) tail records' table commits → RunsOn (picture_under newest g new.image blocks) tail records' table commits
+    pub moved : (blocks : List (List LogRecord)) (tail : List LogRecord) (records' : List Entry) → RunsOn (logical_image_under newest g site.image blocks) tail records' table commits → RunsOn (logical_image_under newest g new.image blocks) tail records' table commits
     moved blocks tail records' runs =
         subst (λ (versions : List Version). RunsOn (record { master = (master_of newest); log = log_from (kept_by newest) blocks; hi = next_block_under newest blocks; blocks = g.blocks; pages = versions }) tail records' table commits) (sym (versions_same beside pages site new changes)) runs
 
@@ -164,8 +164,8 @@ module _ (logs : LogLaws) (laws : PageLaws) (beside : BesideLaws) (log : LogStor
       pub blocks : List (List LogRecord)
       pub front : List LogRecord
       pub holds : log_store.Represents log' new.image (record { first = kept_by newest; blocks = blocks; tail = front ++ rec ∷ [] })
-      pub runs_on : RunsOn (picture_under newest g site.image blocks) front records table commits
-      pub next : lsn ≡ next_lsn (picture_under newest g site.image blocks) front
+      pub runs_on : RunsOn (logical_image_under newest g site.image blocks) front records table commits
+      pub next : lsn ≡ next_lsn (logical_image_under newest g site.image blocks) front
 
     stands_before : (sealing : Bool) → (sealing ≡ true → has_tail log ≡ true) → IsAppended g log log' list site new rec lsn sealing → StandsBefore
     stands_before false full is =
@@ -192,7 +192,7 @@ module _ (logs : LogLaws) (laws : PageLaws) (beside : BesideLaws) (log : LogStor
       before = stands_before sealing full is
 
       ready_now : AreReady pages log' (record { first = kept_by newest; blocks = before.blocks; tail = before.front ++ rec ∷ [] }) new
-      ready_now = record { pages = beside.fits pages site new is.changes is.goes h.log_holds.ready.pages; blocks = is.finds; records = before.holds }
+      ready_now = record { pages = beside.fits pages site new is.changes is.preserves h.log_holds.ready.pages; blocks = is.finds; records = before.holds }
 
       ahead_still : IsAhead log' pages new.image
       ahead_still =
@@ -229,7 +229,7 @@ module _ (logs : LogLaws) (laws : PageLaws) (beside : BesideLaws) (log : LogStor
             ready = ready_now;
             rings = rings;
             runs_on = moved new is.changes before.blocks (before.front ++ rec ∷ []) (records ++ record { lsn = lsn; rec = rec } ∷ [])
-                (one_more logs (picture_under newest g site.image before.blocks) before.front rec lsn records table commits before.runs_on before.next
+                (one_more logs (logical_image_under newest g site.image before.blocks) before.front rec lsn records table commits before.runs_on before.next
                 may.follows may.no_commit);
             ahead = ahead_still;
             room = omega (arith, most_blocks log log' lsn sealing full is.numbers, may.room, is.kept);

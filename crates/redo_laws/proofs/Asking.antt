@@ -13,12 +13,12 @@ use Rattle.site.specs.Moments.{ChangesOnly}
 use Rattle.flash_cache.specs.OnDisk.{HasLastStaged}
 use Rattle.page_store.proofs.StagingLaws.{last_none, log_leaves, among_first, queue_same, stages_ok, stages_err, stages_as, stages_weaker, stages_then, stages_none, stages_still, stages_beside}
 use Rattle.redo_laws.specs.Calls.{KeepsInvariantBeside}
-use Rattle.record_model.specs.Touches.{CacheWork}
+use Rattle.record_model.specs.Touches.{CacheOp}
 use Rattle.second_chance.specs.Machine.{Rules, Cache, Staged, touched, finds, misses, after_works, staged_by_works}
 use Rattle.page_store.specs.declared.store.PageStore.{PageStore}
 use Rattle.page_store.specs.Caching.{cache_of, rules, pushes}
 use Rattle.redo_laws.specs.MachineSteps.{next_group, one_touch, one_change, ReadsFor, StepsMachine, StagesFor}
-use Rattle.redo_laws.proofs.Costs.{works_add_up, staged_add_up, reads_add_up, reads_for_more, touched_next, more_next}
+use Rattle.redo_laws.proofs.Costs.{ops_compose, staged_add_up, reads_add_up, reads_for_more, touched_next, more_next}
 use Rattle.site.proofs.Working.{ok_as, ok_always}
 use Rattle.std.specs.Prelude.{IsTrue, OnOk}
 use Rattle.site.specs.declared.outside.Dev.TheVariants.{Log}
@@ -86,11 +86,11 @@ asks_nothing result pages before now same stages = record {
 }
 
 -- a call after one that was Ok
-pub asks_then : {A B : Type 0} (a : A) (result : Result B Stop) (first later : List CacheWork) (old mid new : PageStore) (before between now : State) →
+pub asks_then : {A B : Type 0} (a : A) (result : Result B Stop) (first later : List CacheOp) (old mid new : PageStore) (before between now : State) →
     StepsMachine {T = A} (Ok a) first old mid before between → StepsMachine result later mid new between now → StepsMachine result (first ++ later) old new before now
 asks_then a result first later old mid new before between now one two =
     let start : cache_of mid ≡ after_works (rules old) first (cache_of old) = one.machine in
-    let all : after_works (rules old) (first ++ later) (cache_of old) ≡ after_works (rules old) later (after_works (rules old) first (cache_of old)) = works_add_up (rules old) first later (cache_of old) in
+    let all : after_works (rules old) (first ++ later) (cache_of old) ≡ after_works (rules old) later (after_works (rules old) first (cache_of old)) = ops_compose (rules old) first later (cache_of old) in
     let there : after_works (rules mid) later (cache_of mid) ≡ after_works (rules old) (first ++ later) (cache_of old) =
     ap (λ r. after_works r later (cache_of mid)) one.rules_are ∙ ap (after_works (rules old) later) start ∙ sym all in
     record {
@@ -105,7 +105,7 @@ asks_then a result first later old mid new before between now one two =
     }
 
 -- a call that stops before all of some work is done
-pub asks_stopped : {A B : Type 0} (stop : Stop) (first later : List CacheWork) (old new : PageStore) (before now : State) → 1 ≤ (rules old).groups →
+pub asks_stopped : {A B : Type 0} (stop : Stop) (first later : List CacheOp) (old new : PageStore) (before now : State) → 1 ≤ (rules old).groups →
     StepsMachine {T = A} (Err stop) first old new before now → StepsMachine {T = B} (Err stop) (first ++ later) old new before now
 asks_stopped stop first later old new before now some asks = record {
   machine = tt;
@@ -118,22 +118,22 @@ asks_stopped stop first later old new before now some asks = record {
 -- Another answer of the same call.
 
 -- the same for other work, where the two are equal
-pub asks_same : {T : Type 0} (result : Result T Stop) (works other : List CacheWork) (old new : PageStore) (before now : State) → works ≡ other → StepsMachine result other old new before now → StepsMachine result works old new before now
-asks_same result works other old new before now same asks = subst (λ (w : List CacheWork). StepsMachine result w old new before now) (sym same) asks
+pub asks_same : {T : Type 0} (result : Result T Stop) (works other : List CacheOp) (old new : PageStore) (before now : State) → works ≡ other → StepsMachine result other old new before now → StepsMachine result works old new before now
+asks_same result works other old new before now same asks = subst (λ (w : List CacheOp). StepsMachine result w old new before now) (sym same) asks
 
 -- before any call
 pub no_asks : (pages : PageStore) (now : State) → StepsMachine {T = Unit {0}} (Ok tt) [] pages pages now now
 no_asks pages now = record { machine = refl; reads = record { flash = omega arith; disk = omega arith }; rules_are = refl; stages = stages_none refl (omega arith) refl }
 
 -- another answer of the same call
-pub asks_ok : {A B : Type 0} (a : A) (b : B) (works : List CacheWork) (old new : PageStore) (before now : State) → StepsMachine {T = A} (Ok a) works old new before now → StepsMachine {T = B} (Ok b) works old new before now
+pub asks_ok : {A B : Type 0} (a : A) (b : B) (works : List CacheOp) (old new : PageStore) (before now : State) → StepsMachine {T = A} (Ok a) works old new before now → StepsMachine {T = B} (Ok b) works old new before now
 asks_ok a b works old new before now asks = record { machine = asks.machine; reads = asks.reads; rules_are = asks.rules_are; stages = stages_ok asks.stages }
 
-pub asks_err : {A B : Type 0} (stop : Stop) (works : List CacheWork) (old new : PageStore) (before now : State) → StepsMachine {T = A} (Err stop) works old new before now → StepsMachine {T = B} (Err stop) works old new before now
+pub asks_err : {A B : Type 0} (stop : Stop) (works : List CacheOp) (old new : PageStore) (before now : State) → StepsMachine {T = A} (Err stop) works old new before now → StepsMachine {T = B} (Err stop) works old new before now
 asks_err stop works old new before now asks = record { machine = tt; reads = asks.reads; rules_are = asks.rules_are; stages = stages_err asks.stages }
 
 -- a call that fails behind it for another reason
-pub asks_fails : {A B : Type 0} (a : A) (stop : Stop) (works : List CacheWork) (old new : PageStore) (before now : State) → StepsMachine {T = A} (Ok a) works old new before now → StepsMachine {T = B} (Err stop) works old new before now
+pub asks_fails : {A B : Type 0} (a : A) (stop : Stop) (works : List CacheOp) (old new : PageStore) (before now : State) → StepsMachine {T = A} (Ok a) works old new before now → StepsMachine {T = B} (Err stop) works old new before now
 asks_fails a stop works old new before now asks = record {
   machine = tt;
   reads = asks.reads;

@@ -6,7 +6,7 @@ use Rattle.site.specs.declared.outside.Stop.{Stop}
 use Rattle.site.specs.declared.outside.Stop.TheVariants.{Device, Worn}
 use Rattle.site.specs.State.{State}
 use Rattle.site.specs.Calls.{SameReads}
-use Rattle.record_model.specs.Touches.{CacheWork}
+use Rattle.record_model.specs.Touches.{CacheOp}
 use Rattle.second_chance.specs.Machine.{after_works, staged_by_works}
 use Rattle.page_store.specs.declared.store.PageStore.{PageStore}
 use Rattle.page_store.specs.Caching.{cache_of, rules}
@@ -21,7 +21,7 @@ never_worn_flash (Ok x) stops is = cc
 never_worn_flash (Err stop) stops is = let equal : stop ≡ Worn Flash = cc in not_worn_flash stop stops equal
 
 -- between calls that read no page
-pub asks_around : {A B : Type 0} (r : Result A Stop) (s : Result B Stop) (works : List CacheWork) (pages pages' : PageStore) (old mid flushed new : State) → SameReads old mid → SameReads flushed new →
+pub asks_around : {A B : Type 0} (r : Result A Stop) (s : Result B Stop) (works : List CacheOp) (pages pages' : PageStore) (old mid flushed new : State) → SameReads old mid → SameReads flushed new →
     OnOk s (cache_of pages' ≡ after_works (rules pages) works (cache_of pages)) → Stages {T = ⊤} (Ok tt) [] (next_group (cache_of pages)) pages pages old mid → Stages s (staged_by_works (rules pages) works (cache_of pages)) (next_group (after_works (rules pages) works (cache_of pages))) pages pages' mid new →
     StepsMachine r works pages pages' mid flushed → StepsMachine s works pages pages' old new
 asks_around r s works pages pages' old mid flushed new first last machine still later asks =
@@ -33,7 +33,7 @@ asks_around r s works pages pages' old mid flushed new first last machine still 
     }
 
 -- what is written behind a flush that was Ok
-pub flush_then : {A B : Type 0} {a : A} {r : Result B Stop} (works : List CacheWork) {pages pages' : PageStore} {old mid new : State} → cache_of pages' ≡ after_works (rules pages) works (cache_of pages) → StagesFor {T = A} (Ok a) works pages pages' old mid →
+pub flush_then : {A B : Type 0} {a : A} {r : Result B Stop} (works : List CacheOp) {pages pages' : PageStore} {old mid new : State} → cache_of pages' ≡ after_works (rules pages) works (cache_of pages) → StagesFor {T = A} (Ok a) works pages pages' old mid →
     Stages r [] (next_group (cache_of pages')) pages' pages' mid new → StagesFor r works pages pages' old new
 flush_then works {pages = pages} machine one still =
     stages_as (append-nil (staged_by_works (rules pages) works (cache_of pages))) (ap next_group machine) (stages_then (λ has. omega (arith, ap next_group machine)) one still)

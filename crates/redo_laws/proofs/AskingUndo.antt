@@ -9,7 +9,7 @@ use Rattle.site.specs.declared.outside.Stop.{Stop}
 use Rattle.site.specs.declared.outside.Stop.TheVariants.{Device, Worn, Foreign}
 use Rattle.site.specs.State.{State, reads_of}
 use Rattle.site.specs.Calls.{SameReads}
-use Rattle.record_model.specs.Touches.{CacheWork, touch, page_of, write_touch}
+use Rattle.record_model.specs.Touches.{CacheOp, touch, page_of, write_touch}
 use Rattle.log_records.specs.Log.{Entry, number_of}
 use Rattle.log_records.specs.Restart.{undo_touch}
 use Rattle.second_chance.specs.Machine.{Rules, Cache, touched, staged_by_works}
@@ -51,14 +51,14 @@ not_worn_either stop (inr (inl log)) = λ worn. cc
 not_worn_either stop (inr (inr foreign)) = λ worn. cc
 
 -- a call that stops before it asks for anything
-pub asks_refused : {T : Type 0} (stop : Stop) (works : List CacheWork) (pages : PageStore) (before now : State) → 1 ≤ (rules pages).groups → SameElse before now →
+pub asks_refused : {T : Type 0} (stop : Stop) (works : List CacheOp) (pages : PageStore) (before now : State) → 1 ≤ (rules pages).groups → SameElse before now →
     Stages {T = T} (Err stop) [] (next_group (cache_of pages)) pages pages before now → StepsMachine {T = T} (Err stop) works pages pages before now
 asks_refused {T} stop works pages before now some same stages =
     asks_stopped {A = T} stop [] works pages pages before now some
     (record { machine = tt; reads = no_reads_else (rules pages) (cache_of pages) before now same; rules_are = refl; stages = stages })
 
 -- a call that reads the log before it asks
-pub asks_later : {T : Type 0} (result : Result T Stop) (works : List CacheWork) (old new : PageStore) (before between now : State) → SameElse before between → Stages {T = ⊤} (Ok tt) [] (next_group (cache_of old)) old old before between →
+pub asks_later : {T : Type 0} (result : Result T Stop) (works : List CacheOp) (old new : PageStore) (before between now : State) → SameElse before between → Stages {T = ⊤} (Ok tt) [] (next_group (cache_of old)) old old before between →
     StepsMachine result works old new between now → StepsMachine result works old new before now
 asks_later result works old new before between now same still asks = record {
   machine = asks.machine;
@@ -68,7 +68,7 @@ asks_later result works old new before between now same still asks = record {
 }
 
 -- a call that goes on with the log once all that it asked for is done
-pub asks_before : {A B : Type 0} (a : A) (result : Result B Stop) (works : List CacheWork) (old new : PageStore) (before between now : State) → 1 ≤ (rules old).groups → SameElse between now →
+pub asks_before : {A B : Type 0} (a : A) (result : Result B Stop) (works : List CacheOp) (old new : PageStore) (before between now : State) → 1 ≤ (rules old).groups → SameElse between now →
     Stages result [] (next_group (cache_of new)) new new between now → StepsMachine {T = A} (Ok a) works old new before between → StepsMachine result works old new before now
 asks_before a result works old new before between now some same still asks = record {
   machine = ok_always result _ asks.machine;
@@ -124,21 +124,21 @@ work_is u page slot less is =
 works_are : (done rest : List Entry) (u : Entry) → works_of (done ++ u ∷ rest) ≡ (works_of done ++ works_of (u ∷ [])) ++ works_of rest
 works_are done rest u =
     let all : (done ++ u ∷ []) ++ rest ≡ done ++ u ∷ rest = simp append_assoc in
-    sym (ap works_of all) ∙ filter_map-append undo_touch (done ++ u ∷ []) rest ∙ ap (λ (w : List CacheWork). w ++ works_of rest) (filter_map-append undo_touch done (u ∷ []))
+    sym (ap works_of all) ∙ filter_map-append undo_touch (done ++ u ∷ []) rest ∙ ap (λ (w : List CacheOp). w ++ works_of rest) (filter_map-append undo_touch done (u ∷ []))
 
 -- one more is undone
 pub one_more_work : {A B : Type 0} (a : A) (b : B) (done : List Entry) (u : Entry) (old mid new : PageStore) (before between now : State) →
     StepsMachine {T = A} (Ok a) (works_of done) old mid before between → StepsMachine {T = B} (Ok b) (works_of (u ∷ [])) mid new between now → StepsMachine {T = ⊤} (Ok tt) (works_of (done ++ u ∷ [])) old new before now
 one_more_work a b done u old mid new before between now first second =
     let both = asks_then a (Ok b) (works_of done) (works_of (u ∷ [])) old mid new before between now first second in
-    subst (λ (w : List CacheWork). StepsMachine {T = ⊤} (Ok tt) w old new before now) (sym (filter_map-append undo_touch done (u ∷ [])))
+    subst (λ (w : List CacheOp). StepsMachine {T = ⊤} (Ok tt) w old new before now) (sym (filter_map-append undo_touch done (u ∷ [])))
     (asks_ok b tt (works_of done ++ works_of (u ∷ [])) old new before now both)
 
 -- or it stops there
 pub more_work_stopped : {A B C : Type 0} (a : A) (stop : Stop) (all done rest : List Entry) (u : Entry) (old mid new : PageStore) (before between now : State) → 1 ≤ (rules old).groups → all ≡ done ++ u ∷ rest →
     StepsMachine {T = A} (Ok a) (works_of done) old mid before between → StepsMachine {T = B} (Err stop) (works_of (u ∷ [])) mid new between now → StepsMachine {T = C} (Err stop) (works_of all) old new before now
 more_work_stopped {A} {B} {C} a stop all done rest u old mid new before between now some is first second =
-    subst (λ (w : List CacheWork). StepsMachine {T = C} (Err stop) w old new before now) (sym (ap works_of is ∙ works_are done rest u))
+    subst (λ (w : List CacheOp). StepsMachine {T = C} (Err stop) w old new before now) (sym (ap works_of is ∙ works_are done rest u))
     (asks_stopped stop (works_of done ++ works_of (u ∷ [])) (works_of rest) old new before now some
     (asks_then a (Err stop) (works_of done) (works_of (u ∷ [])) old mid new before between now first second))
 
@@ -153,4 +153,4 @@ all_work {A} {B} a b all done old new before now is asks =
 pub asks_of_update : {T : Type 0} (result : Result T Stop) (u : Entry) (page slot : ℕ) (old new : PageStore) (before between now : State) → slot < 32 → number_of u.rec ≡ Some (32 * page + slot) → SameElse before between →
     Stages {T = ⊤} (Ok tt) [] (next_group (cache_of old)) old old before between → StepsMachine result (one_change page) old new between now → StepsMachine result (works_of (u ∷ [])) old new before now
 asks_of_update result u page slot old new before between now less is same still asks =
-    asks_later result (works_of (u ∷ [])) old new before between now same still (subst (λ (w : List CacheWork). StepsMachine result w old new between now) (work_is u page slot less is) asks)
+    asks_later result (works_of (u ∷ [])) old new before between now same still (subst (λ (w : List CacheOp). StepsMachine result w old new between now) (work_is u page slot less is) asks)

@@ -22,7 +22,7 @@ use Rattle.page_store.specs.Representation.{current}
 use Rattle.page_store.specs.Ahead.{IsAhead}
 use Rattle.page_store.specs.Laws.{FitsBeside}
 use Rattle.checkpoint.specs.declared.master.Master.{Master}
-use Rattle.image_meaning.specs.Meaning.{picture_under, StandsUnder, kept_by, IsSoundUnder}
+use Rattle.image_meaning.specs.Meaning.{logical_image_under, StandsUnder, kept_by, IsSoundUnder}
 use Rattle.image_meaning.specs.Moments.{LeavesTableUnder}
 use Rattle.image_meaning.specs.Beside.{AreRingsSoundUnder}
 use Rattle.redo_laws.specs.HoldingLaws.{OpenedHolds}
@@ -73,7 +73,7 @@ holds_still fits log pages old new newest records table commits goes same h =
           records = subst (λ (i : Image). log_store.Represents log i (record { first = kept_by newest; blocks = h.log_holds.blocks; tail = h.log_holds.tail })) (sym same.image) ready.records;
         };
         rings = subst (AreRingsSoundUnder newest pages.flash.geometry) (sym same.image) h.log_holds.rings;
-        runs_on = subst (λ (i : Image). RunsOn (picture_under newest pages.flash.geometry i h.log_holds.blocks) h.log_holds.tail records table commits) (sym same.image) h.log_holds.runs_on;
+        runs_on = subst (λ (i : Image). RunsOn (logical_image_under newest pages.flash.geometry i h.log_holds.blocks) h.log_holds.tail records table commits) (sym same.image) h.log_holds.runs_on;
         ahead = subst (IsAhead log pages) (sym same.image) h.log_holds.ahead;
         room = h.log_holds.room;
       };
@@ -141,7 +141,7 @@ leaves_still log pages old new newest records table commits sizes same h quiet =
 -- where the tail is empty all records are sealed ones
 pub opened_holds : LogLaws → PageLaws → OpenedHolds
 opened_holds laws page_laws log pages site newest blocks table commits sizes kept ready sound means shows are_ahead below =
-    let p = picture_under newest pages.flash.geometry site.image blocks in
+    let p = logical_image_under newest pages.flash.geometry site.image blocks in
     let empty : log.used ≡ 2 = ready.records.tail.end in
     let none : has_tail log ≡ false = ap (nat_lt 2) empty in
     let no_tail : (if has_tail log then 1 else 0) ≡ 0 = ap {B = ℕ} (λ (b : Bool). if b then 1 else 0) none in

@@ -13,7 +13,7 @@ use Rattle.log_records.specs.declared.log_record.LogRecord.TheVariants.{Commit}
 use Rattle.log_records.specs.Spelling.{AreBlock, block_len}
 use Rattle.log_records.specs.Log.{Entry, Version, log_from}
 use Rattle.log_records.specs.Unfinished.{owed, owed_by}
-use Rattle.log_records.specs.Sound.{Picture, HasRoom, commit_numbers, commit_count}
+use Rattle.log_records.specs.Sound.{LogicalImage, HasRoom, commit_numbers, commit_count}
 use Rattle.log_laws.specs.Follow.{Follows, sealed, next_entries, writes_in}
 use Rattle.log_laws.specs.Tail.{Carries, whole, next_lsn}
 use Rattle.image_changes.specs.Changes.{Reaches}
@@ -30,7 +30,7 @@ use Rattle.page_store.specs.Representation.{IsStore, current}
 use Rattle.page_store.specs.Ahead.{AreSealed, LeavesSealed}
 use Rattle.page_store.specs.Leaves.{HasQueue, LeavesPages, LeavesRings}
 use Rattle.checkpoint.specs.declared.master.Master.{Master}
-use Rattle.image_meaning.specs.Meaning.{next_block_under, picture_under, master_of, versions_on, version_in, kept_by}
+use Rattle.image_meaning.specs.Meaning.{next_block_under, logical_image_under, master_of, versions_on, version_in, kept_by}
 use Rattle.image_meaning.specs.Redone.{ShowsAll}
 use Rattle.image_meaning.specs.Moments.{LeavesTableUnder, LeavesEitherUnder}
 use Rattle.image_meaning.specs.Beside.{AreRingsSoundUnder, KeepsRingsAll}
@@ -45,7 +45,7 @@ use Rattle.redo_laws.proofs.Appended.{logged_more, versions_same, current_same, 
 use Rattle.redo_laws.proofs.Changed.{off_page}
 
 -- A tail whose last record is a Commit is sealed.
-module _ (logs : LogLaws) (own : CommitLaws) (p : Picture) (front : List LogRecord) (txn number lsn : ℕ) (records : List Entry) (table : List Content) (commits : ℕ) (runs : RunsOn p front records table commits) (next : lsn ≡ next_lsn p front)
+module _ (logs : LogLaws) (own : CommitLaws) (p : LogicalImage) (front : List LogRecord) (txn number lsn : ℕ) (records : List Entry) (table : List Content) (commits : ℕ) (runs : RunsOn p front records table commits) (next : lsn ≡ next_lsn p front)
     (follows : Follows p.master p.pages records (record { lsn = lsn; rec = Commit txn number })) (is : number ≡ commits + 1) where
   abbrev last : Entry
   last = record { lsn = lsn; rec = Commit txn number }
@@ -113,16 +113,16 @@ module _ (logs : LogLaws) (laws : PageLaws) (beside : BesideLaws) (own : CommitL
   hi_here : log.ring.hi ≡ next_block_under newest m.blocks
   hi_here = let hi = m.ready.blocks.hi in let next = m.ready.records.blocks.next in let at = laws.next newest m.blocks in omega (arith, hi, next, at)
 
-  room_here : HasRoom (sealed (picture_under newest g site.image m.blocks) (m.front ++ Commit txn number ∷ []))
+  room_here : HasRoom (sealed (logical_image_under newest g site.image m.blocks) (m.front ++ Commit txn number ∷ []))
   room_here =
-      let all : owed (whole (picture_under newest g site.image m.blocks) (m.front ++ Commit txn number ∷ [])) ≡ owed (records ++ record { lsn = lsn; rec = Commit txn number } ∷ []) =
-      ap owed (whole_commit logs own (picture_under newest g site.image m.blocks) m.front txn number lsn records table commits m.runs_on m.next follows may.number_is) in
+      let all : owed (whole (logical_image_under newest g site.image m.blocks) (m.front ++ Commit txn number ∷ [])) ≡ owed (records ++ record { lsn = lsn; rec = Commit txn number } ∷ []) =
+      ap owed (whole_commit logs own (logical_image_under newest g site.image m.blocks) m.front txn number lsn records table commits m.runs_on m.next follows may.number_is) in
       omega (arith, m.room, ap tail_blocks some, hi_here, all, owed_less, m.kept, laws.next newest m.blocks)
 
-  runs_after : AreBlock (m.front ++ Commit txn number ∷ []) → RunsOn (picture_under newest g site.image (m.blocks ++ (m.front ++ Commit txn number ∷ []) ∷ [])) [] (records ++ record { lsn = lsn; rec = Commit txn number } ∷ []) (table_with table (writes_in txn records)) (commits + 1)
+  runs_after : AreBlock (m.front ++ Commit txn number ∷ []) → RunsOn (logical_image_under newest g site.image (m.blocks ++ (m.front ++ Commit txn number ∷ []) ∷ [])) [] (records ++ record { lsn = lsn; rec = Commit txn number } ∷ []) (table_with table (writes_in txn records)) (commits + 1)
   runs_after block =
-      subst (λ (q : Picture). RunsOn q [] (records ++ e ∷ []) table' (commits + 1)) (more_blocks logs laws newest g site.image m.blocks tail)
-      (commit_runs logs own (picture_under newest g site.image m.blocks) m.front txn number lsn records table commits m.runs_on m.next follows may.number_is block room_here)
+      subst (λ (q : LogicalImage). RunsOn q [] (records ++ e ∷ []) table' (commits + 1)) (more_blocks logs laws newest g site.image m.blocks tail)
+      (commit_runs logs own (logical_image_under newest g site.image m.blocks) m.front txn number lsn records table commits m.runs_on m.next follows may.number_is block room_here)
 
   shows_after : (number' : ℕ) → number' < g.pages → ShowsAll (records ++ record { lsn = lsn; rec = Commit txn number } ∷ []) (versions_on g site.image) number' (version_in (current pages site.image number'))
   shows_after number' exists =

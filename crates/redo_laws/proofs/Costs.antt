@@ -2,35 +2,35 @@
 use Rattle.std.proofs.Common.{◌≡◌, ℕ, ◌+◌, ◌≤◌, Bool, true, false, ◌&&◌, List, [], ◌∷◌, ◌++◌, reverse, arith, refl, sym, append_assoc, ap, ◌∙◌}
 use Rattle.std.specs.Prelude.{if◌then◌else◌}
 use Rattle.second_chance.proofs.GroupCounts.{front_next}
-use Rattle.record_model.specs.Touches.{CacheWork, touch, flush}
-use Rattle.second_chance.specs.Machine.{Rules, Cache, evict_coldest, lacks_room, with_room, touched, worked, after_works, Staged, staged_by, staged_by_works}
+use Rattle.record_model.specs.Touches.{CacheOp, touch, flush}
+use Rattle.second_chance.specs.Machine.{Rules, Cache, evict_coldest, lacks_room, with_room, touched, apply_op, after_works, Staged, staged_by, staged_by_works}
 use Rattle.page_store.specs.Caching.{is_pushed, pushes}
-use Rattle.redo_laws.specs.MachineSteps.{next_group, finds_in, misses_in, WorksAddUp, ReadsAddUp, ReadsForMore, NumbersRise}
+use Rattle.redo_laws.specs.MachineSteps.{next_group, finds_in, misses_in, OpsCompose, ReadsAddUp, ReadsForMore, NumbersRise}
 use Rattle.page_store.proofs.Numbers.{first_next, flushed_next}
 
 -- Work after work.
 
-pub works_add_up : WorksAddUp
-works_add_up rules [] later cache = refl
-works_add_up rules (work ∷ works) later cache = works_add_up rules works later (worked rules work cache)
+pub ops_compose : OpsCompose
+ops_compose rules [] later cache = refl
+ops_compose rules (work ∷ works) later cache = ops_compose rules works later (apply_op rules work cache)
 
-pub staged_add_up : (rules : Rules) (first later : List CacheWork) (cache : Cache) → staged_by_works rules (first ++ later) cache ≡ staged_by_works rules first cache ++ staged_by_works rules later (after_works rules first cache)
+pub staged_add_up : (rules : Rules) (first later : List CacheOp) (cache : Cache) → staged_by_works rules (first ++ later) cache ≡ staged_by_works rules first cache ++ staged_by_works rules later (after_works rules first cache)
 staged_add_up rules [] later cache = refl
 staged_add_up rules (work ∷ works) later cache =
-    ap (λ (l : List Staged). staged_by rules work cache ++ l) (staged_add_up rules works later (worked rules work cache))
-    ∙ sym (append_assoc (staged_by rules work cache) (staged_by_works rules works (worked rules work cache)) (staged_by_works rules later (after_works rules works (worked rules work cache))))
+    ap (λ (l : List Staged). staged_by rules work cache ++ l) (staged_add_up rules works later (apply_op rules work cache))
+    ∙ sym (append_assoc (staged_by rules work cache) (staged_by_works rules works (apply_op rules work cache)) (staged_by_works rules later (after_works rules works (apply_op rules work cache))))
 
-finds_add_up : (rules : Rules) (first later : List CacheWork) (cache : Cache) → finds_in rules (first ++ later) cache ≡ finds_in rules first cache + finds_in rules later (after_works rules first cache)
+finds_add_up : (rules : Rules) (first later : List CacheOp) (cache : Cache) → finds_in rules (first ++ later) cache ≡ finds_in rules first cache + finds_in rules later (after_works rules first cache)
 finds_add_up rules [] later cache = omega arith
-finds_add_up rules (work ∷ works) later cache = omega (arith, finds_add_up rules works later (worked rules work cache))
+finds_add_up rules (work ∷ works) later cache = omega (arith, finds_add_up rules works later (apply_op rules work cache))
 
-misses_add_up : (rules : Rules) (first later : List CacheWork) (cache : Cache) → misses_in rules (first ++ later) cache ≡ misses_in rules first cache + misses_in rules later (after_works rules first cache)
+misses_add_up : (rules : Rules) (first later : List CacheOp) (cache : Cache) → misses_in rules (first ++ later) cache ≡ misses_in rules first cache + misses_in rules later (after_works rules first cache)
 misses_add_up rules [] later cache = omega arith
-misses_add_up rules (work ∷ works) later cache = omega (arith, misses_add_up rules works later (worked rules work cache))
+misses_add_up rules (work ∷ works) later cache = omega (arith, misses_add_up rules works later (apply_op rules work cache))
 
 pub reads_add_up : ReadsAddUp
 reads_add_up rules first later cache old mid new one two =
-    let all : next_group (after_works rules (first ++ later) cache) ≡ next_group (after_works rules later (after_works rules first cache)) = ap next_group (works_add_up rules first later cache) in
+    let all : next_group (after_works rules (first ++ later) cache) ≡ next_group (after_works rules later (after_works rules first cache)) = ap next_group (ops_compose rules first later cache) in
     record {
       flash = omega (arith, one.flash, two.flash, all, finds_add_up rules first later cache);
       disk = omega (arith, one.disk, two.disk, misses_add_up rules first later cache);
@@ -51,18 +51,18 @@ pub touched_next : (rules : Rules) (page : ℕ) (change : Bool) (cache : Cache) 
     next_group (touched rules page change cache) ≡ next_group cache + (if pushes rules page cache then 1 else 0)
 touched_next rules page change cache some = front_next page change (with_room rules page cache) ∙ room_next rules page cache some
 
-work_next : (rules : Rules) (work : CacheWork) (cache : Cache) → 1 ≤ rules.groups → next_group cache ≤ next_group (worked rules work cache)
+work_next : (rules : Rules) (work : CacheOp) (cache : Cache) → 1 ≤ rules.groups → next_group cache ≤ next_group (apply_op rules work cache)
 work_next rules (touch page change) cache some = omega (arith, touched_next rules page change cache some)
 work_next rules flush cache some = flushed_next rules cache some
 
 pub numbers_rise : NumbersRise
 numbers_rise rules [] cache some = omega arith
-numbers_rise rules (work ∷ works) cache some = omega (arith, work_next rules work cache some, numbers_rise rules works (worked rules work cache) some)
+numbers_rise rules (work ∷ works) cache some = omega (arith, work_next rules work cache some, numbers_rise rules works (apply_op rules work cache) some)
 
-pub more_next : (rules : Rules) (first later : List CacheWork) (cache : Cache) → 1 ≤ rules.groups →
+pub more_next : (rules : Rules) (first later : List CacheOp) (cache : Cache) → 1 ≤ rules.groups →
     next_group (after_works rules first cache) ≤ next_group (after_works rules (first ++ later) cache)
 more_next rules first later cache some =
-    let all : next_group (after_works rules (first ++ later) cache) ≡ next_group (after_works rules later (after_works rules first cache)) = ap next_group (works_add_up rules first later cache) in
+    let all : next_group (after_works rules (first ++ later) cache) ≡ next_group (after_works rules later (after_works rules first cache)) = ap next_group (ops_compose rules first later cache) in
     omega (arith, all, numbers_rise rules later (after_works rules first cache) some)
 
 pub reads_for_more : ReadsForMore

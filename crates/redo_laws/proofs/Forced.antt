@@ -43,7 +43,7 @@ pub record IsForced (log log' : LogStore) (list : LogList) (site new : State) : 
   pub finds : log_store.Finds log' new
   pub reaches : Reaches log.geometry (changes_if (has_tail log) list) site.image new.image
   pub changes : ChangesOnly Log site new
-  pub goes : Preserves site new
+  pub preserves : Preserves site new
 
 pub none_now : (log' : LogStore) → log'.used ≡ 2 → has_tail log' ≡ false
 none_now log' empty = ap (nat_lt 2) empty
@@ -83,7 +83,7 @@ module _ (logs : LogLaws) (laws : PageLaws) (beside : BesideLaws) (log : LogStor
           kept = is.kept ∙ h.log_holds.kept;
           blocks = more;
           tail = [];
-          ready = record { pages = beside.fits pages site new is.changes is.goes h.log_holds.ready.pages; blocks = is.finds; records = held };
+          ready = record { pages = beside.fits pages site new is.changes is.preserves h.log_holds.ready.pages; blocks = is.finds; records = held };
           rings = rings_now logs laws beside log pages site newest records table commits h sizes new (has_tail log) is.reaches;
           runs_on = moved logs laws beside log pages site newest records table commits h sizes new is.changes more [] records
               (runs_sealed logs laws log pages site newest records table commits h some (last_of_all AreBlock h.log_holds.blocks h.log_holds.tail held.blocks.are_blocks));

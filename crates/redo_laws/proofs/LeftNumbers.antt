@@ -83,7 +83,7 @@ pages_skip r g given log log' list sealing site new hi some leaves end calls = r
   log = ok_as r _ _ (λ is. omega (arith, is)) end;
   any_moment = leaves_weaker site new (LeavesPages g given sealing list site) (λ s. HasNumbers g (blocks_to log + 0) (hi_of master_shape site.image.log + 0) s.image)
       (λ s left. numbers_left g log list sealing site.told site.image 0 s hi some left.log left.masters) leaves;
-  past = calls;
+  device_calls = calls;
 }
 
 -- a call on the log
@@ -95,7 +95,7 @@ log_skips kept r g log log' list sealing site new n hi some leaves front count c
       (Leaves (λ s. HasNumbers g (blocks_to log + n) (hi_of master_shape site.image.log + 0) s.image))
       (λ m both s left. numbers_left g log list sealing site.told site.image n s hi some (both.0 s left) (masters_kept s (both.1 s left)))
       (each_both site new (Leaves (LeavesLog g sealing list site.told)) (Leaves (IsReached g (IsFrontOf (changes_if sealing list)) site)) leaves front);
-  past = calls;
+  device_calls = calls;
 }
   where
     masters_kept : (s : Snapshot) → IsReached g (IsFrontOf (changes_if sealing list)) site s → KeepsUnits master_shape site.image s.image
@@ -132,7 +132,7 @@ save_skips r g log log' unit site new hi front count calls = record {
   log = ok_as r _ _ (λ same. omega (arith, same)) count;
   any_moment = leaves_weaker site new (IsReached g (IsFrontOf (AppendsMaster unit ∷ [])) site) (λ s. HasNumbers g (blocks_to log + 0) (hi_of master_shape site.image.log + 1) s.image)
       (λ s is. let has = masters_left g unit is.changes is.made.0 site.image s.image is.made.1 is.reaches in record { blocks = omega (arith, has.blocks, hi); masters = has.masters }) front;
-  past = calls;
+  device_calls = calls;
 }
 
 -- a call that stops may have made more checkpoints
@@ -140,5 +140,5 @@ pub skips_not_saved : {T E : Type 0} (e : E) (g : Geometry) (old new : LogStore)
 skips_not_saved e g old new before now n m j few first = record {
   log = tt;
   any_moment = leaves_more g before now _ _ (hi_of master_shape before.image.log + m) (hi_of master_shape before.image.log + j) (omega arith) (omega (arith, few)) first.any_moment;
-  past = tt;
+  device_calls = tt;
 }

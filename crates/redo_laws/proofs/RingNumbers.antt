@@ -44,27 +44,27 @@ then_skips r x g old mid new before middle now n m n' m' k j first second few is
       any_moment = in_sequence before middle now (Leaves (λ s. HasNumbers g (blocks_to old + k) (hi_of master_shape before.image.log + j) s.image))
           (leaves_more g before middle (blocks_to old + n) (blocks_to old + k) (hi_of master_shape before.image.log + m) (hi_of master_shape before.image.log + j) (omega (arith, few)) (omega (arith, is)) first.any_moment)
           (leaves_more g middle now (blocks_to mid + n') (blocks_to old + k) (hi_of master_shape middle.image.log + m') (hi_of master_shape before.image.log + j) blocks masters second.any_moment);
-      past = ok_as r _ _ (λ more. calls_then g before middle now first.past more) second.past;
+      device_calls = ok_as r _ _ (λ more. calls_then g before middle now first.device_calls more) second.device_calls;
     }
 
 -- the error of a call is the error of its caller
 pub skips_again : {A B E : Type 0} (e : E) (g : Geometry) (old new : LogStore) (before now : State) (n m : ℕ) → SkipsNone {T = A} {E = E} (Err e) g old new before now n m → SkipsNone {T = B} {E = E} (Err e) g old new before now n m
-skips_again e g old new before now n m first = record { log = tt; any_moment = first.any_moment; past = tt }
+skips_again e g old new before now n m first = record { log = tt; any_moment = first.any_moment; device_calls = tt }
 
 -- a call that was Ok, and an error of its caller
 pub skips_refused : {A B E F : Type 0} (x : A) (e : E) (g : Geometry) (old new : LogStore) (before now : State) (n m : ℕ) → SkipsNone {T = A} {E = F} (Ok x) g old new before now n m → SkipsNone {T = B} {E = E} (Err e) g old new before now n m
-skips_refused x e g old new before now n m first = record { log = tt; any_moment = first.any_moment; past = tt }
+skips_refused x e g old new before now n m first = record { log = tt; any_moment = first.any_moment; device_calls = tt }
 
 -- a call that was Ok, and another value of its caller
 pub skips_answered : {A B E F : Type 0} (x : A) (y : B) (g : Geometry) (old new : LogStore) (before now : State) (n m : ℕ) → SkipsNone {T = A} {E = E} (Ok x) g old new before now n m → SkipsNone {T = B} {E = F} (Ok y) g old new before now n m
-skips_answered x y g old new before now n m first = record { log = first.log; any_moment = first.any_moment; past = first.past }
+skips_answered x y g old new before now n m first = record { log = first.log; any_moment = first.any_moment; device_calls = first.device_calls }
 
 -- more records may have been made
 pub skips_weaker : {T E : Type 0} (r : Result T E) (g : Geometry) (old new : LogStore) (before now : State) (n k m : ℕ) → n ≤ k → SkipsNone r g old new before now n m → SkipsNone r g old new before now k m
 skips_weaker r g old new before now n k m few first = record {
   log = ok_as r _ _ (λ more. omega (arith, more, few)) first.log;
   any_moment = leaves_more g before now (blocks_to old + n) (blocks_to old + k) _ _ (omega (arith, few)) (omega arith) first.any_moment;
-  past = first.past;
+  device_calls = first.device_calls;
 }
 
 -- a call that only reads the devices, under a ring that was found
@@ -72,7 +72,7 @@ pub skips_still : {T E : Type 0} (r : Result T E) (g : Geometry) (log : LogStore
 skips_still r g log before now n hi quiet same = record {
   log = ok_always r _ (omega (arith));
   any_moment = leaves_unchanged before now (λ s. HasNumbers g (blocks_to log + n) (hi_of master_shape before.image.log + 0) s.image) quiet same (record { blocks = omega (arith, hi); masters = omega arith });
-  past = ok_always r _ (calls_unchanged g before now same);
+  device_calls = ok_always r _ (calls_unchanged g before now same);
 }
 
 -- nothing happens

@@ -6,19 +6,19 @@ use Rattle.record_model.specs.State.{Content}
 use Rattle.log_records.specs.declared.log_record.LogRecord.{LogRecord}
 use Rattle.log_records.specs.Spelling.{AreBlock}
 use Rattle.log_records.specs.Log.{Entry, Version}
-use Rattle.log_records.specs.Sound.{Picture, HasRoom, commit_numbers, commit_number}
+use Rattle.log_records.specs.Sound.{LogicalImage, HasRoom, commit_numbers, commit_number}
 use Rattle.log_laws.specs.Follow.{Follows, sealed, next_entries, shown}
 use Rattle.log_laws.specs.Tail.{whole, next_lsn}
 use Rattle.checkpoint.specs.declared.master.Master.{Master}
-use Rattle.image_meaning.specs.Meaning.{picture_under, versions_on}
+use Rattle.image_meaning.specs.Meaning.{logical_image_under, versions_on}
 use Rattle.image_meaning.specs.Redone.{ShowsAll}
-use Rattle.image_meaning.specs.Pictures.{ReplaceAll}
+use Rattle.image_meaning.specs.LogicalImages.{ReplaceAll}
 use Rattle.redo_laws.specs.Running.{RunsOn}
 use Rattle.redo_laws.specs.Laws.{LogLaws, PageLaws}
 
 module _ (laws : LogLaws) where
   -- the tail is sealed, and a new one begins
-  pub resealed : (p : Picture) (tail : List LogRecord) (records : List Entry) (table : List Content) (commits : ℕ) → RunsOn p tail records table commits → AreBlock tail → HasRoom (sealed p tail) → RunsOn (sealed p tail) [] records table commits
+  pub resealed : (p : LogicalImage) (tail : List LogRecord) (records : List Entry) (table : List Content) (commits : ℕ) → RunsOn p tail records table commits → AreBlock tail → HasRoom (sealed p tail) → RunsOn (sealed p tail) [] records table commits
   resealed p tail records table commits runs block room =
       record {
         carries = laws.carries_nothing (sealed p tail) (laws.sealed_tail p tail runs.carries block room (inl runs.no_commit));
@@ -31,7 +31,7 @@ module _ (laws : LogLaws) where
       }
 
   -- one more record follows
-  pub one_more : (p : Picture) (tail : List LogRecord) (rec : LogRecord) (lsn : ℕ) (records : List Entry) (table : List Content) (commits : ℕ) → RunsOn p tail records table commits → lsn ≡ next_lsn p tail →
+  pub one_more : (p : LogicalImage) (tail : List LogRecord) (rec : LogRecord) (lsn : ℕ) (records : List Entry) (table : List Content) (commits : ℕ) → RunsOn p tail records table commits → lsn ≡ next_lsn p tail →
       Follows p.master p.pages records (record { lsn = lsn; rec = rec }) → commit_number (record { lsn = lsn; rec = rec }) ≡ None →
       RunsOn p (tail ++ rec ∷ []) (records ++ record { lsn = lsn; rec = rec } ∷ []) table commits
   one_more p tail rec lsn records table commits runs is follows none =
@@ -49,9 +49,9 @@ module _ (laws : LogLaws) where
 module _ (laws : PageLaws) where
   -- other versions
   pub reversioned : (g : Geometry) (old new : Image) (blocks : List (List LogRecord)) (tail : List LogRecord) (newest : Option Master) (records : List Entry) (table : List Content) (commits : ℕ) →
-      ReplaceAll (picture_under newest g old blocks) (versions_on g new) → RunsOn (picture_under newest g old blocks) tail records table commits → RunsOn (picture_under newest g new blocks) tail records table commits
+      ReplaceAll (logical_image_under newest g old blocks) (versions_on g new) → RunsOn (logical_image_under newest g old blocks) tail records table commits → RunsOn (logical_image_under newest g new blocks) tail records table commits
   reversioned g old new blocks tail newest records table commits replace runs =
-      let p = picture_under newest g old blocks in
+      let p = logical_image_under newest g old blocks in
       record {
         carries = laws.carries_still p (versions_on g new) tail replace runs.carries;
         means = laws.versions_mean p (versions_on g new) runs.carries.sound replace table commits runs.means;
@@ -61,10 +61,10 @@ module _ (laws : PageLaws) where
 
   -- and pages that show all records show them still
   pub shows_still : (g : Geometry) (old new : Image) (blocks : List (List LogRecord)) (tail : List LogRecord) (newest : Option Master) (records : List Entry) (table : List Content) (commits : ℕ) (page : ℕ) (v : Version) →
-      ReplaceAll (picture_under newest g old blocks) (versions_on g new) → RunsOn (picture_under newest g old blocks) tail records table commits → page < g.pages →
+      ReplaceAll (logical_image_under newest g old blocks) (versions_on g new) → RunsOn (logical_image_under newest g old blocks) tail records table commits → page < g.pages →
       ShowsAll records (versions_on g old) page v → ShowsAll records (versions_on g new) page v
   shows_still g old new blocks tail newest records table commits page v replace runs exists shows =
-      let p = picture_under newest g old blocks in
+      let p = logical_image_under newest g old blocks in
       record {
         known = shows.known;
         slots = λ slot less.

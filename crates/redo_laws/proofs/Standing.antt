@@ -10,7 +10,7 @@ use Rattle.site.specs.State.{Image}
 use Rattle.record_model.specs.State.{Content}
 use Rattle.log_records.specs.declared.log_record.LogRecord.{LogRecord}
 use Rattle.log_records.specs.Log.{Entry}
-use Rattle.log_records.specs.Sound.{Picture}
+use Rattle.log_records.specs.Sound.{LogicalImage}
 use Rattle.log_laws.specs.Follow.{sealed}
 use Rattle.log_laws.specs.NewImage.{Replaces}
 use Rattle.slotted_page.specs.Layout as page
@@ -24,10 +24,10 @@ use Rattle.page_store.specs.Representation.{IsPage, IsStore, current, content_by
 use Rattle.write_ahead.specs.Forcing as ahead
 use Rattle.page_store.specs.Ahead.{AreSealed, sealed_end}
 use Rattle.checkpoint.specs.declared.master.Master.{Master}
-use Rattle.image_meaning.specs.Meaning.{picture_under, next_block_under, versions_on, version_in, StandsUnder, kept_by}
+use Rattle.image_meaning.specs.Meaning.{logical_image_under, next_block_under, versions_on, version_in, StandsUnder, kept_by}
 use Rattle.image_meaning.specs.Redone as redone
 use Rattle.image_meaning.specs.Redone.{ShowsAll}
-use Rattle.image_meaning.specs.Pictures.{ReplaceAll}
+use Rattle.image_meaning.specs.LogicalImages.{ReplaceAll}
 use Rattle.image_meaning.specs.Beside.{AreRingsSoundUnder}
 use Rattle.redo_laws.specs.Running.{RunsOn}
 use Rattle.redo_laws.specs.Laws.{LogLaws, PageLaws}
@@ -38,7 +38,7 @@ logged_number : (n end : ℕ) → (0 < n → n < end) → IsTrue ((n == 0) || na
 logged_number zero end below = refl
 logged_number (suc n) end below = ap (λ b. b || nat_lt (suc n) end) (ne_eqb (suc n) 0 (λ same. absurd (omega (arith, same)))) ∙ lt-ltb (suc n) end (below (omega arith))
 
-pub logged_version : (p : Picture) (end : ℕ) (content : List ℕ) → end ≡ 512 * p.hi → ahead.IsLogged end content → redone.IsLogged p (version_in content)
+pub logged_version : (p : LogicalImage) (end : ℕ) (content : List ℕ) → end ≡ 512 * p.hi → ahead.IsLogged end content → redone.IsLogged p (version_in content)
 logged_version p end content is logged = logged_number (lsn_of content) (512 * p.hi) (λ some. subst (λ n. lsn_of content < n) is (logged.below some))
 
 -- A page's content is sound.
@@ -62,8 +62,8 @@ last_of_all P [] x all = all.0
 last_of_all P (y ∷ xs) x all = last_of_all P xs x all.1
 
 module _ (logs : LogLaws) (laws : PageLaws) where
-  -- the picture of an image with one more block
-  pub more_blocks : (newest : Option Master) (g : Geometry) (image : Image) (blocks : List (List LogRecord)) (tail : List LogRecord) → sealed (picture_under newest g image blocks) tail ≡ picture_under newest g image (blocks ++ tail ∷ [])
+  -- the logical image of an image with one more block
+  pub more_blocks : (newest : Option Master) (g : Geometry) (image : Image) (blocks : List (List LogRecord)) (tail : List LogRecord) → sealed (logical_image_under newest g image blocks) tail ≡ logical_image_under newest g image (blocks ++ tail ∷ [])
   more_blocks newest g image blocks tail = sym (laws.more newest g image blocks tail)
 
   -- the block behind these ones and one more
@@ -72,26 +72,26 @@ module _ (logs : LogLaws) (laws : PageLaws) where
 
   -- An image with these blocks, whose versions are the old ones or the current contents of pages that show all records.
   module _ (g : Geometry) (old now : Image) (given : ℕ → List ℕ) (blocks : List (List LogRecord)) (tail : List LogRecord) (newest : Option Master) (records : List Entry) (table : List Content) (commits : ℕ)
-      (runs : RunsOn (picture_under newest g old blocks) tail records table commits) (shows : (number : ℕ) → number < g.pages → ShowsAll records (versions_on g old) number (version_in (given number)))
+      (runs : RunsOn (logical_image_under newest g old blocks) tail records table commits) (shows : (number : ℕ) → number < g.pages → ShowsAll records (versions_on g old) number (version_in (given number)))
       (held : HasBlocks g (kept_by newest) blocks now) (are_sealed : AreSealed g now)
       (versions : (number : ℕ) → number < g.pages → (version_on g now number ≡ version_on g old number) ⊎ (version_on g now number ≡ given number)) where
     end_is : sealed_end g now ≡ 512 * next_block_under newest blocks
     end_is = let next = held.next in let at = laws.next newest blocks in omega (arith, next, at)
 
-    by_version : (number : ℕ) → number < g.pages → (version_on g now number ≡ version_on g old number) ⊎ (version_on g now number ≡ given number) → Replaces (picture_under newest g old blocks) number (version_in (version_on g now number))
+    by_version : (number : ℕ) → number < g.pages → (version_on g now number ≡ version_on g old number) ⊎ (version_on g now number ≡ given number) → Replaces (logical_image_under newest g old blocks) number (version_in (version_on g now number))
     by_version number exists (inl same) =
-        subst (Replaces (picture_under newest g old blocks) number) (laws.at g old number exists ∙ ap version_in (sym same))
-        (laws.itself (picture_under newest g old blocks) number runs.carries.sound (omega (arith, exists, laws.count g old)))
+        subst (Replaces (logical_image_under newest g old blocks) number) (laws.at g old number exists ∙ ap version_in (sym same))
+        (laws.itself (logical_image_under newest g old blocks) number runs.carries.sound (omega (arith, exists, laws.count g old)))
     by_version number exists (inr same) =
-        subst (λ (c : List ℕ). Replaces (picture_under newest g old blocks) number (version_in c)) (sym same)
-        (laws.sealed_page (picture_under newest g old blocks) tail number (version_in (given number))
-        (subst (λ (c : List ℕ). redone.IsLogged (picture_under newest g old blocks) (version_in c)) same (logged_version (picture_under newest g old blocks) (sealed_end g now) (version_on g now number) end_is (are_sealed.each number exists)))
+        subst (λ (c : List ℕ). Replaces (logical_image_under newest g old blocks) number (version_in c)) (sym same)
+        (laws.sealed_page (logical_image_under newest g old blocks) tail number (version_in (given number))
+        (subst (λ (c : List ℕ). redone.IsLogged (logical_image_under newest g old blocks) (version_in c)) same (logged_version (logical_image_under newest g old blocks) (sealed_end g now) (version_on g now number) end_is (are_sealed.each number exists)))
         (subst (λ (l : List Entry). ShowsAll l (versions_on g old) number (version_in (given number))) (sym runs.records_are) (shows number exists)))
 
-    pub replaced : ReplaceAll (picture_under newest g old blocks) (versions_on g now)
+    pub replaced : ReplaceAll (logical_image_under newest g old blocks) (versions_on g now)
     replaced = laws.each_replaces newest g old now blocks (λ number exists. by_version number exists (versions number exists))
 
-    pub runs_now : RunsOn (picture_under newest g now blocks) tail records table commits
+    pub runs_now : RunsOn (logical_image_under newest g now blocks) tail records table commits
     runs_now = reversioned laws g old now blocks tail newest records table commits replaced runs
 
     pub shows_now : (number : ℕ) → number < g.pages → ShowsAll records (versions_on g now) number (version_in (given number))

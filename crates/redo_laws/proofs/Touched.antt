@@ -12,7 +12,7 @@ use Rattle.log_records.specs.declared.log_record.LogRecord.{LogRecord}
 use Rattle.log_records.specs.Spelling.{AreBlock}
 use Rattle.log_records.specs.Log.{Entry}
 use Rattle.log_records.specs.Unfinished.{owed}
-use Rattle.log_records.specs.Sound.{Picture, HasRoom}
+use Rattle.log_records.specs.Sound.{LogicalImage, HasRoom}
 use Rattle.log_laws.specs.Follow.{sealed}
 use Rattle.log_laws.specs.Tail.{whole}
 use Rattle.slotted_page.specs.Layout as page
@@ -28,7 +28,7 @@ use Rattle.page_store.specs.Representation.{IsStore, current}
 use Rattle.page_store.specs.Ahead.{AreSealed, LeavesSealed, IsAhead}
 use Rattle.page_store.specs.Leaves.{AreReady, LeavesPages, LeavesRings, KeepsCurrent}
 use Rattle.checkpoint.specs.declared.master.Master.{Master}
-use Rattle.image_meaning.specs.Meaning.{next_block_under, picture_under, versions_on, version_in, kept_by}
+use Rattle.image_meaning.specs.Meaning.{next_block_under, logical_image_under, versions_on, version_in, kept_by}
 use Rattle.image_meaning.specs.Redone.{ShowsAll}
 use Rattle.image_meaning.specs.Moments.{LeavesTableUnder}
 use Rattle.image_meaning.specs.Beside.{AreRingsSoundUnder}
@@ -63,15 +63,15 @@ module _ (logs : LogLaws) (laws : PageLaws) (log : LogStore) (pages : PageStore)
   hi_is = let hi = h.log_holds.ready.blocks.hi in let next = h.log_holds.ready.records.blocks.next in let at = laws.next newest blocks in omega (arith, hi, next, at)
 
   -- a tail that has records may be sealed
-  tail_room : has_tail log ≡ true → HasRoom (sealed (picture_under newest g site.image blocks) tail)
+  tail_room : has_tail log ≡ true → HasRoom (sealed (logical_image_under newest g site.image blocks) tail)
   tail_room some =
-      let all : owed (whole (picture_under newest g site.image blocks) tail) ≡ owed records = ap owed h.log_holds.runs_on.records_are in
+      let all : owed (whole (logical_image_under newest g site.image blocks) tail) ≡ owed records = ap owed h.log_holds.runs_on.records_are in
       omega (arith, h.log_holds.room, ap tail_blocks some, hi_is, all, h.log_holds.kept, laws.next newest blocks)
 
-  pub runs_sealed : has_tail log ≡ true → AreBlock tail → RunsOn (picture_under newest g site.image (blocks ++ tail ∷ [])) [] records table commits
+  pub runs_sealed : has_tail log ≡ true → AreBlock tail → RunsOn (logical_image_under newest g site.image (blocks ++ tail ∷ [])) [] records table commits
   runs_sealed some block =
-      subst (λ (p : Picture). RunsOn p [] records table commits) (more_blocks logs laws newest g site.image blocks tail)
-      (resealed logs (picture_under newest g site.image blocks) tail records table commits h.log_holds.runs_on block (tail_room some))
+      subst (λ (p : LogicalImage). RunsOn p [] records table commits) (more_blocks logs laws newest g site.image blocks tail)
+      (resealed logs (logical_image_under newest g site.image blocks) tail records table commits h.log_holds.runs_on block (tail_room some))
 
   abbrev given : ℕ → List ℕ
   given = current pages site.image
@@ -106,7 +106,7 @@ module _ (logs : LogLaws) (laws : PageLaws) (log : LogStore) (pages : PageStore)
     below_by more number exists =
         subst (λ (c : List ℕ). lsn_of c < end_of log') (sym (kept.each number exists)) (omega (arith, h.below number exists, more))
 
-    shows_by : (blocks' : List (List LogRecord)) (tail' : List LogRecord) → RunsOn (picture_under newest g site.image blocks') tail' records table commits → HasBlocks g (kept_by newest) blocks' new.image →
+    shows_by : (blocks' : List (List LogRecord)) (tail' : List LogRecord) → RunsOn (logical_image_under newest g site.image blocks') tail' records table commits → HasBlocks g (kept_by newest) blocks' new.image →
         ((number : ℕ) → number < g.pages → (version_on g new.image number ≡ version_on g site.image number) ⊎ (version_on g new.image number ≡ given number)) → ShowRecords g pages' new.image records
     shows_by blocks' tail' runs has versions = record {
       each = λ number exists.

@@ -4,7 +4,7 @@ use Rattle.std.specs.Prelude.{if◌then◌else◌, map, filter_map, reverse, opt
 use Rattle.std.specs.List.{cons_option}
 use Rattle.std.proofs.lemmas.List.{reverse-append, map-append}
 use Rattle.record_model.specs.State.{Write}
-use Rattle.record_model.specs.Touches.{CacheWork, write_touch}
+use Rattle.record_model.specs.Touches.{CacheOp, write_touch}
 use Rattle.log_records.specs.declared.log_record.LogRecord.{LogRecord}
 use Rattle.log_records.specs.declared.log_record.LogRecord.TheVariants.{Begin, Update, Clr, Commit, End}
 use Rattle.log_records.specs.Log.{Entry, entries_of, number_of}
@@ -13,17 +13,17 @@ use Rattle.log_records.specs.Restart.{undo_touch}
 use Rattle.log_laws.specs.Follow.{write_of}
 use Rattle.redo_laws.specs.MachineSteps.{ActiveIsUndoneBy}
 
-abbrev touches_of : List Write → List CacheWork
+abbrev touches_of : List Write → List CacheOp
 touches_of writes = map (λ write. write_touch write.0) writes
 
 abbrev writes_of : List Entry → List Write
 writes_of entries = filter_map (λ e. write_of e.rec) entries
 
 -- the first write is undone last
-last_undone : (write : Write) (writes : List Write) (works : List CacheWork) → touches_of (reverse (write ∷ writes)) ++ works ≡ touches_of (reverse writes) ++ write_touch write.0 ∷ works
+last_undone : (write : Write) (writes : List Write) (works : List CacheOp) → touches_of (reverse (write ∷ writes)) ++ works ≡ touches_of (reverse writes) ++ write_touch write.0 ∷ works
 last_undone write writes works =
     ap (λ (l : List Write). touches_of l ++ works) (reverse-append (write ∷ []) writes)
-    ∙ ap (λ (l : List CacheWork). l ++ works) (map-append (λ (w : Write). write_touch w.0) (reverse writes) (write ∷ []))
+    ∙ ap (λ (l : List CacheOp). l ++ works) (map-append (λ (w : Write). write_touch w.0) (reverse writes) (write ∷ []))
     ∙ append_assoc (touches_of (reverse writes)) (write_touch write.0 ∷ []) works
 
 -- without CLRs each Update stays open, the last one in front

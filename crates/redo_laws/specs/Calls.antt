@@ -58,7 +58,7 @@ pub record KeepsInvariantBeside {T : Type 0} (result : Result T Stop) (old new :
 -- A call that reads one record of the log: nothing else is read, and an honest site stays as it is.
 pub record ReadsOne {T : Type 0} (result : Result T Stop) (before now : State) : Type 0 where
   pub same : IsTrue before.honest → IsUnchanged before now
-  pub goes : Preserves before now
+  pub preserves : Preserves before now
   pub log_reads : now.log_reads ≤ before.log_reads + 1
   pub others : (d : Dev) → d ≢ Log → reads_of d now ≡ reads_of d before
   pub device : IsErrOf result (Device Log) → FaultRose Log before now

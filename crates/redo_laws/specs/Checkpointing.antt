@@ -22,7 +22,8 @@ use Rattle.image_meaning.specs.Beside.{RingsSaved}
 use Rattle.image_meaning.specs.Redone.{VersionIsRedone, RedoneIsCurrent}
 use Rattle.image_meaning.specs.Moments.{UnderLeavesFor}
 use Rattle.image_meaning.specs.Flushed.{OldestIsThere, MasterIsSaved}
-use Rattle.image_meaning.specs.Checkpoints.{CheckpointMaySave, SavedPicture, SavedIsSound, SavedMeans, SavedIsOrderly}
+use Rattle.image_meaning.specs.Checkpoints.{CheckpointMaySave, SavedLogicalImage, SavedIsSound, SavedMeans}
+use Rattle.image_meaning.specs.Checkpoints.{SavedIsOrderly}
 use Rattle.image_meaning.specs.Checkpoints.{SaveStands}
 
 -- These are the unfinished transactions of some records, each with the LSN of its last one.
@@ -63,7 +64,7 @@ pub record SaveLaws : Type 0 where
   pub oldest : OldestIsThere
   pub may : CheckpointMaySave
   pub rings : RingsSaved
-  pub picture : SavedPicture
+  pub logical_image : SavedLogicalImage
   pub sound : SavedIsSound
   pub means : SavedMeans
   pub orderly : SavedIsOrderly

@@ -19,7 +19,7 @@ use Rattle.page_store.specs.Representation.{current}
 use Rattle.page_store.specs.Ahead.{IsAhead}
 use Rattle.page_store.specs.Leaves.{AreReady}
 use Rattle.checkpoint.specs.declared.master.Master.{Master}
-use Rattle.image_meaning.specs.Meaning.{picture_under, master_of, kept_by}
+use Rattle.image_meaning.specs.Meaning.{logical_image_under, master_of, kept_by}
 use Rattle.image_meaning.specs.Beside.{AreRingsSoundUnder}
 use Rattle.redo_laws.specs.Running.{RunsOn}
 use Rattle.redo_laws.specs.Holding.{ShowRecords, blocks_to}
@@ -43,8 +43,8 @@ pub record EndsWith (g : Geometry) (log : LogStore) (pages : PageStore) (site : 
     tail = front ++ last.rec ∷ [];
   }) site
   pub rings : AreRingsSoundUnder newest g site.image
-  pub runs_on : RunsOn (picture_under newest g site.image blocks) front records table commits
-  pub next : last.lsn ≡ next_lsn (picture_under newest g site.image blocks) front
+  pub runs_on : RunsOn (logical_image_under newest g site.image blocks) front records table commits
+  pub next : last.lsn ≡ next_lsn (logical_image_under newest g site.image blocks) front
   pub ahead : IsAhead log pages site.image
   pub shows : ShowRecords g pages site.image records
   pub below : (page : ℕ) → page < g.pages → lsn_of (current pages site.image page) < end_of log

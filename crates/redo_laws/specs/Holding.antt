@@ -25,7 +25,7 @@ use Rattle.page_store.specs.Representation.{current}
 use Rattle.page_store.specs.Ahead.{IsAhead}
 use Rattle.page_store.specs.Leaves.{AreReady}
 use Rattle.checkpoint.specs.declared.master.Master.{Master}
-use Rattle.image_meaning.specs.Meaning.{picture_under, versions_on, version_in, master_of, kept_by}
+use Rattle.image_meaning.specs.Meaning.{logical_image_under, versions_on, version_in, master_of, kept_by}
 use Rattle.image_meaning.specs.Redone.{ShowsAll}
 use Rattle.image_meaning.specs.Beside.{AreRingsSoundUnder}
 use Rattle.redo_laws.specs.Running.{RunsOn}
@@ -52,7 +52,7 @@ pub record RepresentsLog (g : Geometry) (log : LogStore) (pages : PageStore) (si
   pub tail : List LogRecord
   pub ready : AreReady pages log (record { first = kept_by newest; blocks = blocks; tail = tail }) site
   pub rings : AreRingsSoundUnder newest g site.image
-  pub runs_on : RunsOn (picture_under newest g site.image blocks) tail records table commits
+  pub runs_on : RunsOn (logical_image_under newest g site.image blocks) tail records table commits
   pub ahead : IsAhead log pages site.image
   pub room : blocks_to log + owed records ≤ log.kept + (g.blocks - 1)
 

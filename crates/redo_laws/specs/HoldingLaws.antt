@@ -17,7 +17,7 @@ use Rattle.page_store.specs.Representation.{IsStore, current}
 use Rattle.page_store.specs.Ahead.{IsAhead}
 use Rattle.page_store.specs.Leaves.{AreReady}
 use Rattle.checkpoint.specs.declared.master.Master.{Master}
-use Rattle.image_meaning.specs.Meaning.{IsSoundUnder, StandsUnder, picture_under, versions_on, kept_by}
+use Rattle.image_meaning.specs.Meaning.{IsSoundUnder, StandsUnder, logical_image_under, versions_on, kept_by}
 use Rattle.image_meaning.specs.Moments.{LeavesTableUnder}
 use Rattle.redo_laws.specs.Holding.{Represents, ShowRecords}
 
@@ -61,7 +61,7 @@ OpenedHolds =
     (table : List Content) (commits : ℕ) → log.geometry ≡ pages.flash.geometry → log.kept ≡ kept_by newest →
     AreReady pages log (record { first = kept_by newest; blocks = blocks; tail = [] }) site
     → IsSoundUnder newest pages.flash.geometry site.image blocks
-    → Means (picture_under newest pages.flash.geometry site.image blocks) table commits →
+    → Means (logical_image_under newest pages.flash.geometry site.image blocks) table commits →
     ShowRecords pages.flash.geometry pages site.image (log_from (kept_by newest) blocks)
     → IsAhead log pages site.image →
     ((page : ℕ) → page < pages.flash.geometry.pages → lsn_of (current pages site.image page) < end_of log)
@@ -74,7 +74,7 @@ EmptyHolds =
     → log.geometry ≡ pages.flash.geometry → log.kept ≡ kept_by newest →
     AreReady pages log (record { first = kept_by newest; blocks = []; tail = [] }) site
     → IsSoundUnder newest pages.flash.geometry site.image []
-    → Means (picture_under newest pages.flash.geometry site.image []) table commits →
+    → Means (logical_image_under newest pages.flash.geometry site.image []) table commits →
     pages.pool.frames ≡ [] → Represents log pages site newest [] table commits
 
 -- the laws on log and pages that hold together

@@ -14,9 +14,10 @@ use Rattle.page_store.specs.Laws.{FitsBeside, VersionsBeside, LeavesBeside, Seal
 use Rattle.std.specs.Prelude.{Option}
 use Rattle.checkpoint.specs.declared.master.Master.{Master}
 use Rattle.image_meaning.specs.Beside.{RingsKeptUnder}
-use Rattle.image_meaning.specs.Pictures.{VersionsMean, VersionReplacesItself}
+use Rattle.image_meaning.specs.LogicalImages.{VersionsMean, VersionReplacesItself}
 use Rattle.image_meaning.specs.Ahead.{SealedPageReplaces, ShownStays, CarriesStill}
-use Rattle.image_meaning.specs.PictureLaws.{BlocksSealed, EachReplacesUnder, NextBlock, VersionOfPage, CountOfVersions}
+use Rattle.image_meaning.specs.LogicalImageLaws.{BlocksSealed, EachReplacesUnder, NextBlock, VersionOfPage}
+use Rattle.image_meaning.specs.LogicalImageLaws.{CountOfVersions}
 
 -- on logs
 pub record LogLaws : Type 0 where

@@ -23,4 +23,4 @@ pub record SkipsNone {T E : Type 0} (result : Result T E) (g : Geometry) (old ne
   pub log : OnOk result (blocks_to new ≤ blocks_to old + records)
   pub any_moment : LeavesOnly before now (λ s. HasNumbers g (blocks_to old + records)
       (hi_of master_shape before.image.log + checkpoints) s.image)
-  pub past : OnOk result (CallsForUnits g before now)
+  pub device_calls : OnOk result (CallsForUnits g before now)

@@ -1,5 +1,5 @@
 -- The laws of the layers below that redo rests on.
-use Rattle.image_meaning.specs.Pictures.{VersionsAreSound}
+use Rattle.image_meaning.specs.LogicalImages.{VersionsAreSound}
 use Rattle.image_meaning.specs.Ahead.{ShowsStill}
 use Rattle.image_meaning.specs.Redone.{RedoneReplaces, VersionIsRedone, NextIsRedone, RedoneIsCurrent}
 use Rattle.analysis.specs.Laws.{OneTable, TableOfUnfinished}

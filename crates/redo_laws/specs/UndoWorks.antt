@@ -2,7 +2,7 @@
 use Rattle.std.specs.Prelude.{◌≡◌, ℕ, true, List, ◌++◌, filter_map, reverse, Some, Option}
 use Rattle.site.specs.State.{State}
 use Rattle.record_model.specs.State.{Content}
-use Rattle.record_model.specs.Touches.{CacheWork}
+use Rattle.record_model.specs.Touches.{CacheOp}
 use Rattle.log_records.specs.Log.{Entry, txn_of, last_where}
 use Rattle.log_records.specs.Unfinished.{pending}
 use Rattle.log_records.specs.Restart.{undo_touch}
@@ -13,7 +13,7 @@ use Rattle.checkpoint.specs.declared.master.Master.{Master}
 use Rattle.redo_laws.specs.UndoingAll.{UndoesSome}
 
 -- undoing these Updates, the first one first
-abbrev pub works_of : List Entry → List CacheWork
+abbrev pub works_of : List Entry → List CacheOp
 works_of updates = filter_map undo_touch updates
 
 -- an Update is the last of all that remain: it is of this transaction, and has this LSN

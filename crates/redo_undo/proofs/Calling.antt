@@ -86,7 +86,7 @@ reads_worn d (inr is) = cc
 
 pub calls_read : {T : Type 0} {r : Result T Stop} {before now : State} → ReadsOne r before now → Calls r before now
 calls_read {r = r} {before = before} {now = now} read = record {
-  goes = read.goes;
+  preserves = read.preserves;
   left = λ honest. (read.same honest).left;
   stays_quiet = λ honest quiet. ok_always r _ ((read.same honest).loose ∙ quiet);
   device = device_of r before now (err_as r _ _ read_or read.stops) read.device;
@@ -104,7 +104,7 @@ works_then {r = r} {before = before} {middle = middle} first second =
     record {
       calls = calls_then first.calls second.calls;
       going = second.going;
-      next = λ honest. next_then first.log_geometry first.geometry (first.next honest) (second.next (stays_honest before middle first.calls.goes honest));
+      next = λ honest. next_then first.log_geometry first.geometry (first.next honest) (second.next (stays_honest before middle first.calls.preserves honest));
       rises = ok_as r _ _ (λ more. omega (arith, more, first.rises)) second.rises;
       kept = second.kept ∙ first.kept;
       log_geometry = second.log_geometry ∙ first.log_geometry;
@@ -135,7 +135,7 @@ works_foreign first = works_refused (λ d same. cc) (λ d same. cc) tt first
 pub works_read : {T : Type 0} {r : Result T Stop} {log : LogStore} {pages : PageStore} {before now : State} → Invariant log pages before → ReadsOne r before now → KeepsInvariant r log log pages pages before now
 works_read {r = r} {log = log} {pages = pages} {before = before} {now = now} going read = record {
   calls = calls_read read;
-  going = ok_always r _ (going_still log pages before now read.goes going);
+  going = ok_always r _ (going_still log pages before now read.preserves going);
   rises = ok_always r _ (omega arith);
   kept = refl;
   log_geometry = refl;
@@ -190,8 +190,8 @@ beside_then {before = before} {between = between} {now = now} first second = rec
   kept = second.kept ∙ first.kept;
   geometry = second.geometry ∙ first.geometry;
   reads = λ d. second.reads d ∙ first.reads d;
-  next = λ honest. blocks.next_then first.geometry (first.next honest) (second.next (stays_honest before between first.calls.goes honest));
-  changes = λ honest. changes_in_sequence Log before between now (first.changes honest) (second.changes (stays_honest before between first.calls.goes honest));
+  next = λ honest. blocks.next_then first.geometry (first.next honest) (second.next (stays_honest before between first.calls.preserves honest));
+  changes = λ honest. changes_in_sequence Log before between now (first.changes honest) (second.changes (stays_honest before between first.calls.preserves honest));
 }
 
 pub beside_answered : {A B : Type 0} {a : A} {b : B} {old new : LogStore} {before now : State} → KeepsInvariantBeside {T = A} (Ok a) old new before now → KeepsInvariantBeside {T = B} (Ok b) old new before now
@@ -287,7 +287,7 @@ keeps_nothing {T = T} {x = x} sizes h =
 pub held_read : FitsBeside → {T : Type 0} {r : Result T Stop} {log : LogStore} {pages : PageStore} {before now : State} {newest : Option Master} {records : List Entry} {table : List Content} {commits : ℕ} →
     Represents log pages before newest records table commits → ReadsOne r before now → Represents log pages now newest records table commits
 held_read fits {log = log} {pages = pages} {before = before} {now = now} {newest = newest} {records = records} {table = table} {commits = commits} h read =
-    holds_still fits log pages before now newest records table commits read.goes (read.same h.log_holds.ready.blocks.honest) h
+    holds_still fits log pages before now newest records table commits read.preserves (read.same h.log_holds.ready.blocks.honest) h
 
 -- an append says of the log that it is Foreign, never
 foreign_not : (stop : Stop) → (stop ≡ Device Log) ⊎ (stop ≡ Worn Log) → stop ≢ Foreign

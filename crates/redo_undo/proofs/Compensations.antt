@@ -8,7 +8,7 @@ use Rattle.log_records.specs.declared.log_record.LogRecord.{LogRecord}
 use Rattle.log_records.specs.declared.log_record.LogRecord.TheVariants.{Begin, Update, Clr, Commit, End}
 use Rattle.log_records.specs.Unfinished.{is_clr, left_open, owed}
 use Rattle.log_records.specs.Log.{Entry, Version, txn_of, is_closed, is_update, log_from, entries_from, entries_of}
-use Rattle.log_records.specs.Sound.{Picture, IsLoserChain, AreOrderly}
+use Rattle.log_records.specs.Sound.{LogicalImage, IsLoserChain, AreOrderly}
 use Rattle.log_laws.specs.Follow.{Follows, IsUndoable}
 use Rattle.log_laws.specs.Tail.{whole}
 use Rattle.log_laws.specs.Analysis.{Unfinished, IsUnfinished}
@@ -17,9 +17,9 @@ use Rattle.log_store.specs.declared.store.LogStore.{LogStore}
 use Rattle.log_store.specs.LogList.{entries, at_lsn}
 use Rattle.page_store.specs.declared.store.PageStore.{PageStore}
 use Rattle.checkpoint.specs.declared.master.Master.{Master}
-use Rattle.image_meaning.specs.Meaning.{master_of, picture_under, versions_on, kept_by}
+use Rattle.image_meaning.specs.Meaning.{master_of, logical_image_under, versions_on, kept_by}
 use Rattle.redo_laws.specs.Holding.{Represents, MayGrow, blocks_to}
-use Rattle.redo_undo.specs.declared.undo.Undoing.{Undoing}
+use Rattle.redo_undo.specs.declared.undo.UndoCursor.{UndoCursor}
 use Rattle.redo_undo.specs.declared.undo.Wanted.{Wanted}
 use Rattle.redo_undo.specs.Undoing.{IsAt, IsWanted, Undone}
 use Rattle.redo_laws.specs.Laws.{PageLaws, UndoLaws}
@@ -35,11 +35,11 @@ found_at lsn [] u found = cc
 found_at lsn (e ∷ log) u found = found_by (e.lsn == lsn) e u (find (λ e. e.lsn == lsn) log) (at_lsn lsn log) (found_at lsn log u) found
 
 -- the store's list is the whole log
-pub entries_are : PageLaws → (newest : Option Master) (g : Geometry) (image : Image) (blocks : List (List LogRecord)) (tail : List LogRecord) → entries (record { first = kept_by newest; blocks = blocks; tail = tail }) ≡ whole (picture_under newest g image blocks) tail
+pub entries_are : PageLaws → (newest : Option Master) (g : Geometry) (image : Image) (blocks : List (List LogRecord)) (tail : List LogRecord) → entries (record { first = kept_by newest; blocks = blocks; tail = tail }) ≡ whole (logical_image_under newest g image blocks) tail
 entries_are laws newest g image blocks tail = ap (λ (n : ℕ). log_from (kept_by newest) blocks ++ entries_from (512 * n + 2) tail) (sym (laws.next newest blocks))
 
 -- undoing goes on at or before the transaction's last record
-pub next_below : (p : Picture) (records : List Entry) (x : Unfinished) (rec : LogRecord) → IsToUndo p records x rec → x.next ≤ x.last
+pub next_below : (p : LogicalImage) (records : List Entry) (x : Unfinished) (rec : LogRecord) → IsToUndo p records x rec → x.next ≤ x.last
 next_below p records x (Update txn prev page slot before after) is = is.3
 next_below p records x Begin is = absurd is
 next_below p records x (Clr txn prev undo_next page slot after) is = absurd is
@@ -47,7 +47,7 @@ next_below p records x (Commit txn number) is = absurd is
 next_below p records x (End txn) is = absurd is
 
 -- and behind its Begin
-pub next_late : (p : Picture) (records : List Entry) (x : Unfinished) (rec : LogRecord) → IsToUndo p records x rec → x.txn ≤ x.next
+pub next_late : (p : LogicalImage) (records : List Entry) (x : Unfinished) (rec : LogRecord) → IsToUndo p records x rec → x.txn ≤ x.next
 next_late p records x (Update txn prev page slot before after) is = let late = is.1 in let early = is.2 in omega (arith, late, early)
 next_late p records x Begin is = absurd is
 next_late p records x (Clr txn prev undo_next page slot after) is = absurd is
@@ -55,7 +55,7 @@ next_late p records x (Commit txn number) is = absurd is
 next_late p records x (End txn) is = absurd is
 
 -- what is undone is an Update
-pub is_one : (p : Picture) (records : List Entry) (x : Unfinished) (rec : LogRecord) → IsToUndo p records x rec → ((txn prev page slot : ℕ) (before after : Content) → rec ≡ Update txn prev page slot before after → ⊥) → ⊥
+pub is_one : (p : LogicalImage) (records : List Entry) (x : Unfinished) (rec : LogRecord) → IsToUndo p records x rec → ((txn prev page slot : ℕ) (before after : Content) → rec ≡ Update txn prev page slot before after → ⊥) → ⊥
 is_one p records x (Update txn prev page slot before after) is none = none txn prev page slot before after refl
 is_one p records x Begin is none = is
 is_one p records x (Clr txn prev undo_next page slot after) is none = is
@@ -66,8 +66,8 @@ module _ (pages_laws : PageLaws) (laws : UndoLaws) (log : LogStore) (pages : Pag
   abbrev g : Geometry
   g = pages.flash.geometry
 
-  abbrev p : Picture
-  p = picture_under newest pages.flash.geometry site.image h.log_holds.blocks
+  abbrev p : LogicalImage
+  p = logical_image_under newest pages.flash.geometry site.image h.log_holds.blocks
 
   -- the record at the LSN where undoing goes on is the Update that is undone next
   pub to_undo : 0 < x.remaining → (u : Entry) × (at_lsn x.next (entries (record { first = kept_by newest; blocks = h.log_holds.blocks; tail = h.log_holds.tail })) ≡ Some u.rec) × IsToUndo p records x u.rec
@@ -132,7 +132,7 @@ module _ (pages_laws : PageLaws) (laws : UndoLaws) (log : LogStore) (pages : Pag
       (subst (λ t. IsLoserChain t (entries_of t records)) (sym own) (chain pages_laws laws log pages site newest records table commits h x unfinished))
       (subst (λ t. 0 < length (left_open records t)) (sym own) (omega (arith, some, unfinished.remaining_is)))
 
-  pub may_compensate : (at : Undoing) (w : Wanted) (lsn : ℕ) → IsAt at x → 0 < x.remaining → IsWanted pages.flash.geometry site.image newest records x w →
+  pub may_compensate : (at : UndoCursor) (w : Wanted) (lsn : ℕ) → IsAt at x → 0 < x.remaining → IsWanted pages.flash.geometry site.image newest records x w →
       MayGrow log pages site.image newest records (record { lsn = lsn; rec = Clr at.txn at.last w.prev w.page w.slot w.before })
   may_compensate at w lsn is some wanted =
       let e : Entry = record { lsn = lsn; rec = Clr at.txn at.last w.prev w.page w.slot w.before } in
@@ -150,7 +150,7 @@ module _ (pages_laws : PageLaws) (laws : UndoLaws) (log : LogStore) (pages : Pag
       omega (arith, owes_less e refl refl some, h.log_holds.room)
 
 -- it was logged
-pub undone : UndoLaws → (log : LogStore) (pages : PageStore) (site : State) (newest : Option Master) (records : List Entry) (table : List Content) (commits : ℕ) (x : Unfinished) (at : Undoing) (w : Wanted) (lsn : ℕ) →
+pub undone : UndoLaws → (log : LogStore) (pages : PageStore) (site : State) (newest : Option Master) (records : List Entry) (table : List Content) (commits : ℕ) (x : Unfinished) (at : UndoCursor) (w : Wanted) (lsn : ℕ) →
     IsUnfinished records x → IsAt at x → 0 < x.remaining → Represents log pages site newest (records ++ record { lsn = lsn; rec = Clr at.txn at.last w.prev w.page w.slot w.before } ∷ []) table commits →
     owed records ≡ owed (records ++ record { lsn = lsn; rec = Clr at.txn at.last w.prev w.page w.slot w.before } ∷ []) + 1 →
     (AreOrderly records → AreOrderly (records ++ record { lsn = lsn; rec = Clr at.txn at.last w.prev w.page w.slot w.before } ∷ [])) → Undone log pages site newest records table commits x (record { txn = at.txn; last = lsn; next = w.prev })

@@ -23,7 +23,7 @@ use Rattle.log_store.specs.Representation.{has_tail}
 use Rattle.std.proofs.lemmas.Bool.{ltb-false, or_parts}
 use Rattle.page_store.specs.declared.store.PageStore.{PageStore}
 use Rattle.checkpoint.specs.declared.master.Master.{Master}
-use Rattle.image_meaning.specs.Meaning.{kept_by, picture_under, master_of, versions_on}
+use Rattle.image_meaning.specs.Meaning.{kept_by, logical_image_under, master_of, versions_on}
 use Rattle.analysis.specs.declared.analysis.Analysis.{Analysis}
 use Rattle.analysis.specs.declared.analysis.Loser.{Loser}
 use Rattle.analysis.specs.Open.{Open, found_in, IsTop, Remains}
@@ -78,11 +78,11 @@ none_any test (x ∷ xs) none = by (test x) none (none_any test xs)
 
 module _ (found_laws : FoundLaws) (laws : UndoLaws) (log : LogStore) (pages : PageStore) (site : State) (newest : Option Master) (records : List Entry) (table : List Content) (commits : ℕ) (found : Analysis) (h : Represents log pages site newest records table commits) (is : IsTable [] records (listed found.table)) where
   pub undoable : IsUndoable records
-  undoable = subst IsUndoable h.log_holds.runs_on.records_are (laws.undoable (picture_under newest pages.flash.geometry site.image h.log_holds.blocks) h.log_holds.tail h.log_holds.runs_on.carries)
+  undoable = subst IsUndoable h.log_holds.runs_on.records_are (laws.undoable (logical_image_under newest pages.flash.geometry site.image h.log_holds.blocks) h.log_holds.tail h.log_holds.runs_on.carries)
 
-  pub order : IsInOrder (512 * kept_by newest) records (next_lsn (picture_under newest pages.flash.geometry site.image h.log_holds.blocks) h.log_holds.tail)
+  pub order : IsInOrder (512 * kept_by newest) records (next_lsn (logical_image_under newest pages.flash.geometry site.image h.log_holds.blocks) h.log_holds.tail)
   order =
-      let p = picture_under newest pages.flash.geometry site.image h.log_holds.blocks in
+      let p = logical_image_under newest pages.flash.geometry site.image h.log_holds.blocks in
       subst (λ (l : List Entry). IsInOrder (512 * kept_by newest) l (next_lsn p h.log_holds.tail)) h.log_holds.runs_on.records_are (laws.in_order p h.log_holds.tail h.log_holds.runs_on.carries)
 
   pub open_is : (t : ℕ) (x : Open) → found_in (listed found.table) t ≡ Some x → (is_active [] records t ≡ true) × (x ≡ open_at [] records t)
@@ -106,7 +106,7 @@ module _ (found_laws : FoundLaws) (laws : UndoLaws) (log : LogStore) (pages : Pa
   next_at : (t lsn : ℕ) (x : Open) → found_in (listed found.table) t ≡ Some x → IsTop lsn x.updates → next_of records t ≡ lsn
   next_at t lsn x there top =
       let head = head_of (left_open records t) lsn (subst (λ (y : Open). IsTop lsn y.updates) (open_is t x there).1 top) in
-      (found_laws.next (512 * kept_by newest) (next_lsn (picture_under newest pages.flash.geometry site.image h.log_holds.blocks) h.log_holds.tail) records t head.0 head.1 order (undoable.undone t (lives t x there)) head.2).next ∙ head.3
+      (found_laws.next (512 * kept_by newest) (next_lsn (logical_image_under newest pages.flash.geometry site.image h.log_holds.blocks) h.log_holds.tail) records t head.0 head.1 order (undoable.undone t (lives t x there)) head.2).next ∙ head.3
 
   abbrev standing : Loser → ℕ → Unfinished
   standing loser lsn = record { txn = loser.txn; last = loser.last; next = lsn; remaining = loser.remaining }
@@ -176,7 +176,7 @@ module _ (page_laws : PageLaws) (laws : UndoLaws) (log : LogStore) (pages : Page
 
   pub end_may : (lsn : ℕ) → MayGrow log pages site.image newest records (record { lsn = lsn; rec = End x.txn })
   end_may lsn =
-      let p = picture_under newest pages.flash.geometry site.image h.log_holds.blocks in
+      let p = logical_image_under newest pages.flash.geometry site.image h.log_holds.blocks in
       let are = h.log_holds.runs_on.records_are in
       record {
         follows = subst (λ (l : List Entry). Follows (master_of newest) (versions_on pages.flash.geometry site.image) l (record { lsn = lsn; rec = End x.txn })) are
@@ -190,7 +190,7 @@ module _ (laws : UndoLaws) (log : LogStore) (pages : PageStore) (site : State) (
   unfoldable pub one_more : (e : Entry) → Represents log pages site newest (records ++ e ∷ []) table commits → IsTable [] (records ++ e ∷ []) (listed found.table) → IsNextUndo records e → owed records ≡ owed (records ++ e ∷ []) + 1 →
       (AreOrderly records → AreOrderly (records ++ e ∷ [])) → UndoesSome log pages site newest records table commits found e.lsn
   one_more e h is next owes orderly =
-      let p = picture_under newest pages.flash.geometry site.image h.log_holds.blocks in
+      let p = logical_image_under newest pages.flash.geometry site.image h.log_holds.blocks in
       record {
         more = e ∷ [];
         now = record {
@@ -254,7 +254,7 @@ all_undone found_laws laws log pages site newest records table commits found kno
 pub sealed_up_to : PageLaws → UndoLaws → (log : LogStore) (pages : PageStore) (site : State) (newest : Option Master) (records : List Entry) (table : List Content) (commits known : ℕ) → Represents log pages site newest records table commits → has_tail log ≡ false → known ≡ 512 * log.ring.hi + 1 →
     AreUpTo known records
 sealed_up_to page_laws laws log pages site newest records table commits known h none at =
-    let p = picture_under newest pages.flash.geometry site.image h.log_holds.blocks in
+    let p = logical_image_under newest pages.flash.geometry site.image h.log_holds.blocks in
     let order = subst (λ (l : List Entry). IsInOrder (512 * kept_by newest) l (next_lsn p h.log_holds.tail)) h.log_holds.runs_on.records_are (laws.in_order p h.log_holds.tail h.log_holds.runs_on.carries) in
     let few = ltb-false 2 log.used none in
     below_end (512 * kept_by newest) records (next_lsn p h.log_holds.tail) known (let behind = page_laws.next newest h.log_holds.blocks in omega (arith, h.log_holds.ready.blocks.hi, h.log_holds.ready.records.blocks.next, h.log_holds.ready.records.tail.end, few, at, behind)) order

@@ -17,7 +17,7 @@ use Rattle.log_store.specs.declared.store.LogStore.{LogStore}
 use Rattle.log_store.specs.LogList.{entries, at_lsn}
 use Rattle.page_store.specs.declared.store.PageStore.{PageStore}
 use Rattle.checkpoint.specs.declared.master.Master.{Master}
-use Rattle.image_meaning.specs.Meaning.{picture_under, kept_by}
+use Rattle.image_meaning.specs.Meaning.{logical_image_under, kept_by}
 use Rattle.redo_laws.specs.Holding.{Represents}
 use Rattle.redo_laws.specs.Laws.{PageLaws, UndoLaws, FoundLaws}
 use Rattle.redo_undo.proofs.Compensations.{chain, found_at, entries_are}
@@ -107,10 +107,10 @@ module _ (page_laws : PageLaws) (found_laws : FoundLaws) (laws : UndoLaws) (log 
   its_chain = chain page_laws laws log pages site newest records table commits h x unfinished
 
   abbrev end : ℕ
-  end = next_lsn (picture_under newest pages.flash.geometry site.image h.log_holds.blocks) h.log_holds.tail
+  end = next_lsn (logical_image_under newest pages.flash.geometry site.image h.log_holds.blocks) h.log_holds.tail
 
   order : IsInOrder (512 * kept_by newest) records end
-  order = subst (λ (l : List Entry). IsInOrder (512 * kept_by newest) l end) h.log_holds.runs_on.records_are (laws.in_order (picture_under newest pages.flash.geometry site.image h.log_holds.blocks) h.log_holds.tail h.log_holds.runs_on.carries)
+  order = subst (λ (l : List Entry). IsInOrder (512 * kept_by newest) l end) h.log_holds.runs_on.records_are (laws.in_order (logical_image_under newest pages.flash.geometry site.image h.log_holds.blocks) h.log_holds.tail h.log_holds.runs_on.carries)
 
   falls : (last : ℕ) → x.txn ≤ last → x.last ≡ last → x.next ≤ last
   falls last late same = by (left_open records x.txn) refl

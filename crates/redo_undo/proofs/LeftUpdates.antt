@@ -14,7 +14,7 @@ use Rattle.log_laws.specs.Analysis.{Unfinished, IsUnfinished}
 use Rattle.log_store.specs.declared.store.LogStore.{LogStore}
 use Rattle.log_store.specs.LogList.{entries, at_lsn}
 use Rattle.checkpoint.specs.declared.master.Master.{Master}
-use Rattle.image_meaning.specs.Meaning.{picture_under, kept_by}
+use Rattle.image_meaning.specs.Meaning.{logical_image_under, kept_by}
 use Rattle.page_store.specs.declared.store.PageStore.{PageStore}
 use Rattle.redo_laws.specs.Holding.{Represents}
 use Rattle.redo_laws.specs.Laws.{PageLaws, UndoLaws, FoundLaws}
@@ -42,11 +42,11 @@ pub record AsksSoFar (records clrs : List Entry) (txn : ℕ) (log log' : LogStor
 -- The record where undoing goes on is the last Update that is left.
 module _ (pages_laws : PageLaws) (found_laws : FoundLaws) (laws : UndoLaws) (log : LogStore) (pages : PageStore) (site : State) (newest : Option Master) (records : List Entry) (table : List Content) (commits : ℕ) (h : Represents log pages site newest records table commits) (x : Unfinished) (unfinished : IsUnfinished records x) (u : Entry) (rest : List Entry) (left : left_open records x.txn ≡ u ∷ rest) where
   abbrev end : ℕ
-  end = next_lsn (picture_under newest pages.flash.geometry site.image h.log_holds.blocks) h.log_holds.tail
+  end = next_lsn (logical_image_under newest pages.flash.geometry site.image h.log_holds.blocks) h.log_holds.tail
 
   next : IsNext records x.txn u rest
   next =
-      let order : IsInOrder (512 * kept_by newest) records end = subst (λ (l : List Entry). IsInOrder (512 * kept_by newest) l end) h.log_holds.runs_on.records_are (laws.in_order (picture_under newest pages.flash.geometry site.image h.log_holds.blocks) h.log_holds.tail h.log_holds.runs_on.carries) in
+      let order : IsInOrder (512 * kept_by newest) records end = subst (λ (l : List Entry). IsInOrder (512 * kept_by newest) l end) h.log_holds.runs_on.records_are (laws.in_order (logical_image_under newest pages.flash.geometry site.image h.log_holds.blocks) h.log_holds.tail h.log_holds.runs_on.carries) in
       found_laws.next (512 * kept_by newest) end records x.txn u rest order (chain pages_laws laws log pages site newest records table commits h x unfinished) left
 
   pub last_left_is : (lsn : ℕ) (rec : LogRecord) → lsn ≡ x.next → at_lsn lsn (entries (record { first = kept_by newest; blocks = h.log_holds.blocks; tail = h.log_holds.tail })) ≡ Some rec → u.rec ≡ rec

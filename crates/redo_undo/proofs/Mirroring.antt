@@ -15,7 +15,7 @@ use Rattle.log_records.specs.Spelling.{block_len, used_by}
 use Rattle.record_model.specs.Touches.{touch, flush}
 use Rattle.second_chance.specs.Machine.{Rules, PoolPage, Cache, touched, flushed}
 use Rattle.ring_machine.specs.Tail.{Tail, is_full_for, sealed_if, waits}
-use Rattle.ring_machine.specs.Machine.{Machine, cached, logged, changed, force, worked, past_end, front_changed, pushed_by}
+use Rattle.ring_machine.specs.Machine.{Machine, cached, logged, changed, force, apply_op, past_end, front_changed, pushed_by}
 use Rattle.ring_machine.specs.Performing.{Performs}
 use Rattle.ring_machine.proofs.Works.{first_of_one}
 use Rattle.ring_machine.proofs.Ends.{never_past, log_past, flash_past, sealed_next, sealed_used}
@@ -98,7 +98,7 @@ module _ (log log' : LogStore) (pages pages' : PageStore) (before now : State) (
   sealing = forces log (pushed_by_touch pages page)
 
   -- as the log is sealed
-  step : (m : Machine) → Mirrors log pages before.image m → worked (rules pages) (cached (touch page false)) m ≡ record m { cache = touched (rules pages) page false (cache_of pages); tail = sealed_if sealing m.tail }
+  step : (m : Machine) → Mirrors log pages before.image m → apply_op (rules pages) (cached (touch page false)) m ≡ record m { cache = touched (rules pages) page false (cache_of pages); tail = sealed_if sealing m.tail }
   step m is =
       ap (λ (b : Bool). record m { cache = touched (rules pages) page false m.cache; tail = sealed_if b m.tail }) (pushed_waits log pages before.image m page own ahead is)
       ∙ ap (λ (c : Cache). record m { cache = touched (rules pages) page false c; tail = sealed_if sealing m.tail }) is.cache
@@ -185,7 +185,7 @@ module _ (log log' : LogStore) (pages : PageStore) (before now : State) (below :
       ((number : ℕ) → current pages now.image number ≡ current pages before.image number) → HasNumbersLeft log' pages → Performs result (rules pages) force_work (Mirrors log pages before.image) (Mirrors log' pages now.image)
   force_performs result stops next used low kept numbers = by result stops next used
     where
-      step : (m : Machine) → Mirrors log pages before.image m → worked (rules pages) force m ≡ record m { tail = sealed_if (has_tail log) m.tail }
+      step : (m : Machine) → Mirrors log pages before.image m → apply_op (rules pages) force m ≡ record m { tail = sealed_if (has_tail log) m.tail }
       step m is = ap (λ (n : ℕ). record m { tail = sealed_if (nat_lt 2 n) m.tail }) is.used
 
       next_is : (m : Machine) → Mirrors log pages before.image m → (sealed_if (has_tail log) m.tail).next ≡ (if has_tail log then log.ring.hi + 1 else log.ring.hi)
@@ -237,7 +237,7 @@ module _ (log log' : LogStore) (pages : PageStore) (before now : State) (below :
           over true is = ap (λ (b : Bool). b && overflows octets) (lt-ltb 2 log.used (some is))
           over false is = ap (λ (b : Bool). nat_lt 2 log.used && b) is ∙ none (nat_lt 2 log.used) ∙ sym is
 
-      step : (m : Machine) → Mirrors log pages before.image m → worked (rules pages) (logged octets) m ≡ (logged_then octets) m
+      step : (m : Machine) → Mirrors log pages before.image m → apply_op (rules pages) (logged octets) m ≡ (logged_then octets) m
       step m is = ap (λ (b : Bool). record m { tail = record (sealed_if b m.tail) { used = (sealed_if b m.tail).used + octets; waiting = [] ++ (sealed_if b m.tail).waiting } }) (full_is m is)
 
       next_is : (m : Machine) → Mirrors log pages before.image m → (sealed_if (overflows octets) m.tail).next ≡ (if (overflows octets) then log.ring.hi + 1 else log.ring.hi)
@@ -280,7 +280,7 @@ front_same (front ∷ pool) = refl
 
 module _ (log' : LogStore) (pages pages' : PageStore) (image : Image) (page lsn octets : ℕ) (changes : cache_of pages' ≡ with_change (cache_of pages)) (sizes : pages'.flash.geometry ≡ pages.flash.geometry)
     (own : lsn_of (current pages' image page) ≡ lsn) (others : (number : ℕ) → number ≢ page → current pages' image number ≡ current pages image number) (some : 0 < lsn) (last : 512 * log'.ring.hi ≤ lsn) where
-  pub change_mirrors : (r : Rules) (m : Machine) → Mirrors log' pages image (worked r (logged octets) m) → Mirrors log' pages' image (worked r (changed octets page) m)
+  pub change_mirrors : (r : Rules) (m : Machine) → Mirrors log' pages image (apply_op r (logged octets) m) → Mirrors log' pages' image (apply_op r (changed octets page) m)
   change_mirrors r m is = record {
     cache = ap (λ (pool : List PoolPage). record m.cache { pool = pool }) (front_same m.cache.pool) ∙ ap with_change is.cache ∙ sym changes;
     next = is.next;
@@ -294,12 +294,12 @@ module _ (log' : LogStore) (pages pages' : PageStore) (image : Image) (page lsn 
           and_from (nat_lt 0 (lsn_of (current pages' image page))) (nat_le (end_now log') (lsn_of (current pages' image page)))
           (lt-ltb 0 (lsn_of (current pages' image page)) (omega (arith, own, some))) (le-leb (end_now log') (lsn_of (current pages' image page)) (omega (arith, own, last)))
 
-      by : (number : ℕ) → number < pages.flash.geometry.pages → (b : Bool) → (page == number) ≡ b → ((page == number) || waits (worked r (logged octets) m).tail number) ≡ is_unsealed (end_now log') (current pages' image number)
+      by : (number : ℕ) → number < pages.flash.geometry.pages → (b : Bool) → (page == number) ≡ b → ((page == number) || waits (apply_op r (logged octets) m).tail number) ≡ is_unsealed (end_now log') (current pages' image number)
       by number exists true here =
-          ap (λ (b : Bool). b || waits (worked r (logged octets) m).tail number) here
+          ap (λ (b : Bool). b || waits (apply_op r (logged octets) m).tail number) here
           ∙ sym (ap (λ (n : ℕ). is_unsealed (end_now log') (current pages' image n)) (sym (eqb-true page number here)) ∙ unsealed)
       by number exists false there =
-          ap (λ (b : Bool). b || waits (worked r (logged octets) m).tail number) there ∙ is.waiting number exists
+          ap (λ (b : Bool). b || waits (apply_op r (logged octets) m).tail number) there ∙ is.waiting number exists
           ∙ ap (is_unsealed (end_now log')) (sym (others number (λ same. true≢false (sym (sym there ∙ eq_at page number (sym same))))))
         where
           eq_at : (a b : ℕ) → a ≡ b → (a == b) ≡ true
@@ -335,7 +335,7 @@ changed_pages (frame ∷ frames) = by frame.changed (changed_pages frames)
     by false rest = rest
 
 module _ (log log' : LogStore) (pages pages' : PageStore) (before now : State) (own : IsStore pages) (ahead : AreLogged (end_now log) pages.pool.frames) (below : IsBelow log pages before.image) (left : HasNumbersLeft log pages) where
-  flush_step : (m : Machine) → Mirrors log pages before.image m → worked (rules pages) (cached flush) m ≡ record m { cache = flushed (rules pages) (cache_of pages) }
+  flush_step : (m : Machine) → Mirrors log pages before.image m → apply_op (rules pages) (cached flush) m ≡ record m { cache = flushed (rules pages) (cache_of pages) }
   flush_step m is =
       ap (λ (c : Cache). record m { cache = flushed (rules pages) c; tail = sealed_if (list_any (waits m.tail) (pushed_by (rules pages) flush c)) m.tail }) is.cache
       ∙ ap (λ (b : Bool). record m { cache = flushed (rules pages) (cache_of pages); tail = sealed_if b m.tail }) (pages_of ∙ none_waits log pages before.image m own ahead is (λ f. f.changed))

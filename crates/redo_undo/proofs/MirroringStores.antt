@@ -11,7 +11,7 @@ use Rattle.site.specs.declared.outside.Stop.TheVariants.{Device, Worn}
 use Rattle.site.specs.State.{State, Image}
 use Rattle.site.proofs.Working.{no_error}
 use Rattle.log_records.specs.Log.{Entry, number_of, before_of}
-use Rattle.ring_machine.specs.Machine.{Machine, Work, save, past_end}
+use Rattle.ring_machine.specs.Machine.{Machine, RingOp, save, past_end}
 use Rattle.ring_machine.specs.Commands.{ends}
 use Rattle.ring_machine.specs.Restart.{clr_work}
 use Rattle.ring_machine.specs.Performing.{Performs}
@@ -23,12 +23,12 @@ use Rattle.write_ahead.specs.Forcing.{is_unsealed, end_now}
 use Rattle.page_store.specs.declared.store.PageStore.{PageStore}
 use Rattle.page_store.specs.Representation.{current}
 use Rattle.page_store.specs.Caching.{cache_of, rules, next_group}
-use Rattle.redo_undo.specs.declared.store.Store.{Store}
+use Rattle.redo_undo.specs.declared.store.TransactionStore.{TransactionStore}
 use Rattle.redo_undo.specs.Mirroring.{Mirrors, MirrorsStore, PerformsStore, clrs_for}
 use Rattle.redo_undo.proofs.Mirroring.{HasNumbersLeft}
 
 -- a call on log and pages, as one of a store that saves no master unit
-pub store_performs : {T : Type 0} {result : Result T Stop} {works : List Work} {old new : Store} {image image' : Image} → list_any saves_one works ≡ false → new.masters ≡ old.masters → Performs result (rules old.pages) works (Mirrors old.log old.pages image) (Mirrors new.log new.pages image') →
+pub store_performs : {T : Type 0} {result : Result T Stop} {works : List RingOp} {old new : TransactionStore} {image image' : Image} → list_any saves_one works ≡ false → new.masters ≡ old.masters → Performs result (rules old.pages) works (Mirrors old.log old.pages image) (Mirrors new.log new.pages image') →
     Performs result (rules old.pages) works (MirrorsStore old image) (MirrorsStore new image')
 store_performs {works = works} {old = old} none same performs =
     performs_with (λ m is. is.both) (λ m is both. record { both = both; masters = masters_stay (rules old.pages) works m none ∙ is.masters ∙ sym (ap (λ (r : Ring). r.hi) same) }) performs
@@ -44,7 +44,7 @@ undoing_saves_none updates = list_any-append saves_one (clrs_for updates) ends �
 
 -- A master unit is saved.
 
-module _ (old new : Store) (before now : State) (numbers : HasNumbersLeft old.log old.pages) where
+module _ (old new : TransactionStore) (before now : State) (numbers : HasNumbersLeft old.log old.pages) where
   pub save_performs : {T : Type 0} (result : Result T Stop) → (IsErrOf result (Worn Log) → old.masters.hi ≡ 2 ^ 40) → IfErr result (λ stop. (stop ≡ Device Log) ⊎ (stop ≡ Worn Log)) → OnOk result (new.masters.hi ≡ old.masters.hi + 1) → OnOk result (new.masters.hi ≤ 2 ^ 40) →
       OnOk result (new.log.ring.hi ≡ old.log.ring.hi) → OnOk result (new.log.used ≡ old.log.used) → new.pages ≡ old.pages → ((page : ℕ) → current old.pages now.image page ≡ current old.pages before.image page) → PerformsStore result (save ∷ []) old new before now
   save_performs {T = T} (Err stop) at_end stops one most hi used same kept = record {

@@ -10,7 +10,7 @@ use Rattle.std.proofs.lemmas.Option.{same_Some}
 use Rattle.site.specs.State.{State, Image}
 use Rattle.log_records.specs.declared.log_record.LogRecord.{LogRecord}
 use Rattle.log_records.specs.Log.{Entry, log_from, number_of, version_at}
-use Rattle.log_records.specs.Sound.{Picture, IsInOrder, IsInTable, last_lsn, last_number, before_block}
+use Rattle.log_records.specs.Sound.{LogicalImage, IsInOrder, IsInTable, last_lsn, last_number, before_block}
 use Rattle.slotted_page.specs.Layout.{lsn_of}
 use Rattle.log_store.specs.declared.store.LogStore.{LogStore}
 use Rattle.buffer_pool.specs.Frames.{front_of}
@@ -46,7 +46,7 @@ last_before from to n [] e rest ordered low = low
 last_before from to n (x ∷ front) e rest ordered low =
     last_before (x.lsn + 1) to x.lsn front e rest ordered.1 (omega (arith, in_order_least (x.lsn + 1) to front e rest ordered.1))
 
-from_more : (p : Picture) (front : List Entry) (e : Entry) (page lsn : ℕ) → last_lsn front ≤ e.lsn - 1 → IsFrom p front page lsn → IsFrom p (front ++ e ∷ []) page lsn
+from_more : (p : LogicalImage) (front : List Entry) (e : Entry) (page lsn : ℕ) → last_lsn front ≤ e.lsn - 1 → IsFrom p front page lsn → IsFrom p (front ++ e ∷ []) page lsn
 from_more p front e page lsn low (inl same) = inl same
 from_more p front e page lsn low (inr less) = let last : last_lsn (front ++ e ∷ []) ≡ e.lsn = last_number_of 0 front e in inr (omega (arith, low, less, last))
 

@@ -19,12 +19,12 @@ use Rattle.page_store.specs.declared.store.PageStore.{PageStore}
 use Rattle.page_store.specs.Calls as pages
 use Rattle.page_store.specs.Stopping.{MayStop}
 use Rattle.redo_laws.specs.Holding.{IsSpent}
-use Rattle.redo_undo.specs.declared.store.Store.{Store}
+use Rattle.redo_undo.specs.declared.store.TransactionStore.{TransactionStore}
 use Rattle.redo_undo.specs.Stores.{sizes_of}
 use Rattle.redo_undo.specs.StoreCalls.{AreNext, KeepsNext}
 
 -- a call of log and pages
-pub store_next : {T : Type 0} {r : Result T Stop} {old new : Store} {before now : Site} → old.log.geometry ≡ sizes_of old → new.masters ≡ old.masters → IfErr r (λ stop. MayStop stop) →
+pub store_next : {T : Type 0} {r : Result T Stop} {old new : TransactionStore} {before now : Site} → old.log.geometry ≡ sizes_of old → new.masters ≡ old.masters → IfErr r (λ stop. MayStop stop) →
     pages.KeepsNext r old.log new.log old.pages new.pages before now → KeepsNext r old new before now
 store_next {T = T} {r = r} {old = old} {new = new} {before = before} {now = now} sizes masters stops first = record { next = λ is. next r is first; worn = λ is. worn is }
   where
@@ -41,28 +41,28 @@ store_next {T = T} {r = r} {old = old} {new = new} {before = before} {now = now}
     worn is Flash says = first.segment.worn is.segment says
     worn is Disk says = of_error r (λ stop. MayStop stop) (Worn Disk) stops says
 
-pub next_nothing : {T : Type 0} {x : T} {store : Store} {site : Site} → KeepsNext {T = T} (Ok x) store store site site
+pub next_nothing : {T : Type 0} {x : T} {store : TransactionStore} {site : Site} → KeepsNext {T = T} (Ok x) store store site site
 next_nothing = record { next = λ is. is; worn = λ is dev says. absurd (no_error says) }
 
-pub next_then : {A B : Type 0} {a : A} {r : Result B Stop} {old mid new : Store} {before between now : Site} → sizes_of mid ≡ sizes_of old →
+pub next_then : {A B : Type 0} {a : A} {r : Result B Stop} {old mid new : TransactionStore} {before between now : Site} → sizes_of mid ≡ sizes_of old →
     KeepsNext {T = A} (Ok a) old mid before between → KeepsNext r mid new between now → KeepsNext r old new before now
 next_then {now = now} sizes first second = record {
   next = λ is. second.next (first.next is);
   worn = λ is dev says. subst (λ (g : Geometry). IsSpent dev g now.image) sizes (second.worn (first.next is) dev says);
 }
 
-pub next_failed : {A B : Type 0} {stop : Stop} {old new : Store} {before now : Site} → KeepsNext {T = A} (Err stop) old new before now → KeepsNext {T = B} (Err stop) old new before now
+pub next_failed : {A B : Type 0} {stop : Stop} {old new : TransactionStore} {before now : Site} → KeepsNext {T = A} (Err stop) old new before now → KeepsNext {T = B} (Err stop) old new before now
 next_failed first = record { next = λ is. tt; worn = λ is dev says. first.worn is dev (err_again _ _ says) }
 
-pub next_answered : {A B : Type 0} {a : A} {b : B} {old new : Store} {before now : Site} → KeepsNext {T = A} (Ok a) old new before now → KeepsNext {T = B} (Ok b) old new before now
+pub next_answered : {A B : Type 0} {a : A} {b : B} {old new : TransactionStore} {before now : Site} → KeepsNext {T = A} (Ok a) old new before now → KeepsNext {T = B} (Ok b) old new before now
 next_answered first = record { next = first.next; worn = λ is dev says. absurd (no_error says) }
 
 -- and then it stops for want of something
-pub next_refused : {A B : Type 0} {a : A} {stop : Stop} {old new : Store} {before now : Site} → ((d : Dev) → stop ≢ Worn d) → KeepsNext {T = A} (Ok a) old new before now → KeepsNext {T = B} (Err stop) old new before now
+pub next_refused : {A B : Type 0} {a : A} {stop : Stop} {old new : TransactionStore} {before now : Site} → ((d : Dev) → stop ≢ Worn d) → KeepsNext {T = A} (Ok a) old new before now → KeepsNext {T = B} (Err stop) old new before now
 next_refused never first = record { next = λ is. tt; worn = λ is dev says. absurd (never dev cc) }
 
 -- a master that is saved behind it
-pub next_saved : {A : Type 0} {r : Result A Stop} {old mid new : Store} {before between now : Site} → sizes_of mid ≡ sizes_of old → new.pages ≡ mid.pages → ChangesOnly Log between now →
+pub next_saved : {A : Type 0} {r : Result A Stop} {old mid new : TransactionStore} {before between now : Site} → sizes_of mid ≡ sizes_of old → new.pages ≡ mid.pages → ChangesOnly Log between now →
     IfErr r (λ stop. (stop ≡ Device Log) ⊎ (stop ≡ Worn Log)) → KeepsNext {T = Unit {0}} (Ok tt) old mid before between →
     (log_store.IsNext mid.log between → mid.masters.hi ≡ hi_of master_shape between.image.log → OnOk r (log_store.IsNext new.log now × (new.masters.hi ≡ hi_of master_shape now.image.log))) →
     (mid.masters.hi ≡ hi_of master_shape between.image.log → IsErrOf r (Worn Log) → hi_of master_shape now.image.log ≡ 2 ^ 40) → KeepsNext r old new before now

@@ -9,7 +9,7 @@ use Rattle.site.specs.declared.outside.Dev.TheVariants.{Log, Flash, Disk}
 use Rattle.site.specs.declared.outside.Stop.{Stop}
 use Rattle.site.specs.declared.outside.Stop.TheVariants.{Worn}
 use Rattle.site.specs.State.{State, reads_of}
-use Rattle.record_model.specs.Touches.{CacheWork, touch, page_of}
+use Rattle.record_model.specs.Touches.{CacheOp, touch, page_of}
 use Rattle.log_records.specs.Log.{Entry, version_at, number_of, log_from}
 use Rattle.log_records.specs.Restart.{redo_touch}
 use Rattle.log_records.specs.Sound.{from_block, last_lsn}
@@ -43,7 +43,7 @@ pub nothing_asked : (pages : PageStore) (site : State) → AsksAtRest {T = ⊤} 
 nothing_asked pages site = nothing_asked_of tt pages site
 
 -- a call that stops before it asks for anything, and not since a device is worn
-pub stops_first : {A : Type 0} (stop : Stop) (works : List CacheWork) (pages : PageStore) (site : State) → 1 ≤ (rules pages).groups → ((dev : Dev) → stop ≢ Worn dev) → AsksAtRest {T = A} (Err stop) works pages pages site site
+pub stops_first : {A : Type 0} (stop : Stop) (works : List CacheOp) (pages : PageStore) (site : State) → 1 ≤ (rules pages).groups → ((dev : Dev) → stop ≢ Worn dev) → AsksAtRest {T = A} (Err stop) works pages pages site site
 stops_first {A} stop works pages site some never = record {
   asks = asks_stopped {A = A} {B = A} stop [] works pages pages site site some (asks_nothing {T = A} (Err stop) pages site site (λ dev. refl) (stages_none tt (omega arith) refl));
   performs = rests_refused never;
@@ -89,7 +89,7 @@ module _ (o : Opening) (entry mid new : PageStore) (old between now : State) (do
       let both = asks_then tt (Ok x) (asked_of o done) (asked_of o more) entry mid new old between now asked.asks asks.asks in
       let split : asked_of o all ≡ asked_of o done ++ asked_of o more = ap (asked_of o) is ∙ asked_append o done more in
       let there : PerformsAtRest {T = A} (Ok x) (asked_of o done ++ asked_of o more) entry new = rests_then asked.asks.rules_are asked.performs asks.performs in
-      subst (λ (works : List CacheWork). AsksAtRest {T = ⊤} (Ok tt) works entry new old now) (sym split)
+      subst (λ (works : List CacheOp). AsksAtRest {T = ⊤} (Ok tt) works entry new old now) (sym split)
       (record { asks = asks_ok x tt (asked_of o done ++ asked_of o more) entry new old now both; performs = rests_answered there })
 
   pub stops_within : {A B : Type 0} (stop : Stop) (more others all : List Entry) → 1 ≤ (rules entry).groups → all ≡ done ++ (more ++ others) → AsksAtRest {T = A} (Err stop) (asked_of o more) mid new between now →
@@ -98,9 +98,9 @@ module _ (o : Opening) (entry mid new : PageStore) (old between now : State) (do
       let both = asks_then {A = ⊤} {B = A} tt (Err stop) (asked_of o done) (asked_of o more) entry mid new old between now asked.asks asks.asks in
       let there : PerformsAtRest {T = A} (Err stop) (asked_of o done ++ asked_of o more) entry new = rests_then asked.asks.rules_are asked.performs asks.performs in
       let split : asked_of o all ≡ (asked_of o done ++ asked_of o more) ++ asked_of o others =
-      ap (asked_of o) is ∙ asked_append o done (more ++ others) ∙ ap (λ (works : List CacheWork). asked_of o done ++ works) (asked_append o more others)
+      ap (asked_of o) is ∙ asked_append o done (more ++ others) ∙ ap (λ (works : List CacheOp). asked_of o done ++ works) (asked_append o more others)
       ∙ sym (append_assoc (asked_of o done) (asked_of o more) (asked_of o others)) in
-      subst (λ (works : List CacheWork). AsksAtRest {T = B} (Err stop) works entry new old now) (sym split)
+      subst (λ (works : List CacheOp). AsksAtRest {T = B} (Err stop) works entry new old now) (sym split)
       (record { asks = asks_stopped {A = A} {B = B} stop (asked_of o done ++ asked_of o more) (asked_of o others) entry new old now some both; performs = rests_stopped (asked_of o others) there })
 
 -- and with a read of the log behind it
@@ -120,10 +120,10 @@ asks_all {A} x o old new before now done all is asked =
     (record { asks = asks_ok tt x (asked_of o done) old new before now asked.asks; performs = rests_answered asked.performs })
 
 pub asks_early : {A : Type 0} (x : A) (o : Opening) (e : Entry) (pages : PageStore) (site : State) → e.lsn < 512 * (opened o).master.redo → AsksAtRest {T = A} (Ok x) (asked_of o (e ∷ [])) pages pages site site
-asks_early {A} x o e pages site early = subst (λ (works : List CacheWork). AsksAtRest {T = A} (Ok x) works pages pages site site) (sym (asked_early o e early)) (nothing_asked_of x pages site)
+asks_early {A} x o e pages site early = subst (λ (works : List CacheOp). AsksAtRest {T = A} (Ok x) works pages pages site site) (sym (asked_early o e early)) (nothing_asked_of x pages site)
 
 pub asks_late : {A : Type 0} (result : Result A Stop) (o : Opening) (e : Entry) (old new : PageStore) (before now : State) → 512 * (opened o).master.redo ≤ e.lsn → AsksAtRest result (touches_of o (e ∷ [])) old new before now → AsksAtRest result (asked_of o (e ∷ [])) old new before now
-asks_late result o e old new before now late asks = subst (λ (works : List CacheWork). AsksAtRest result works old new before now) (sym (asked_late o e late)) asks
+asks_late result o e old new before now late asks = subst (λ (works : List CacheOp). AsksAtRest result works old new before now) (sym (asked_late o e late)) asks
 
 -- One touch.
 
@@ -157,15 +157,15 @@ touch_of o e page number change own at is =
     ∙ ap (λ (b : Bool). touch page b ∷ []) is
 
 pub asks_no_page : {A : Type 0} (x : A) (o : Opening) (e : Entry) (pages : PageStore) (site : State) → number_of e.rec ≡ None → AsksAtRest {T = A} (Ok x) (touches_of o (e ∷ [])) pages pages site site
-asks_no_page {A} x o e pages site none = subst (λ (works : List CacheWork). AsksAtRest {T = A} (Ok x) works pages pages site site) (sym (no_touch o e none)) (nothing_asked_of x pages site)
+asks_no_page {A} x o e pages site none = subst (λ (works : List CacheOp). AsksAtRest {T = A} (Ok x) works pages pages site site) (sym (no_touch o e none)) (nothing_asked_of x pages site)
 
 pub stops_in_touch : {A : Type 0} (stop : Stop) (o : Opening) (e : Entry) (page number : ℕ) (old new : PageStore) (before now : State) → number_of e.rec ≡ Some number → number / 32 ≡ page → 1 ≤ (rules old).groups →
     AsksAtRest {T = A} (Err stop) (one_touch page) old new before now → AsksAtRest {T = A} (Err stop) (touches_of o (e ∷ [])) old new before now
 stops_in_touch {A} stop o e page number old new before now own at some asks = by (nat_lt (version_at (opened o).pages page).lsn e.lsn) refl
   where
     by : (change : Bool) → nat_lt (version_at (opened o).pages page).lsn e.lsn ≡ change → AsksAtRest {T = A} (Err stop) (touches_of o (e ∷ [])) old new before now
-    by true is = subst (λ (works : List CacheWork). AsksAtRest {T = A} (Err stop) works old new before now) (sym (touch_of o e page number true own at is)) (change_stops stop page old new before now some asks)
-    by false is = subst (λ (works : List CacheWork). AsksAtRest {T = A} (Err stop) works old new before now) (sym (touch_of o e page number false own at is)) asks
+    by true is = subst (λ (works : List CacheOp). AsksAtRest {T = A} (Err stop) works old new before now) (sym (touch_of o e page number true own at is)) (change_stops stop page old new before now some asks)
+    by false is = subst (λ (works : List CacheOp). AsksAtRest {T = A} (Err stop) works old new before now) (sym (touch_of o e page number false own at is)) asks
 
 -- a page that knows of a record before it is redone had it in its version
 older_version : (o : Opening) (front : List Entry) (page lsn next : ℕ) → last_lsn front ≤ next - 1 → IsFrom (opened o) front page lsn → next ≤ lsn → next ≤ (version_at (opened o).pages page).lsn
@@ -182,11 +182,11 @@ module _ (laws : PageLaws) (redo : RedoLaws) (o : Opening) (log : LogStore) (mid
   asks_known least =
       let below = last_below laws redo o log mid between front h e rest split in
       let known = older_version o front page (lsn_of (current mid between.image page)) e.lsn below (h.from page exists) least in
-      subst (λ (works : List CacheWork). AsksAtRest {T = A} (Ok x) works old mid before between) (sym (touch_of o e page number false own at (le-ltb (version_at (opened o).pages page).lsn e.lsn known))) asks
+      subst (λ (works : List CacheOp). AsksAtRest {T = A} (Ok x) works old mid before between) (sym (touch_of o e page number false own at (le-ltb (version_at (opened o).pages page).lsn e.lsn known))) asks
 
   pub asks_redone : lsn_of (current mid between.image page) < e.lsn → (new : PageStore) → 1 ≤ (rules old).groups → cache_of new ≡ with_change (cache_of mid) → rules new ≡ rules mid → new.flash ≡ mid.flash →
       AsksAtRest {T = A} (Ok x) (touches_of o (e ∷ [])) old new before between
   asks_redone less new some changed same flash =
       let older : (version_at (opened o).pages page).lsn < e.lsn = omega (arith, (h.redone page exists).later, less) in
-      subst (λ (works : List CacheWork). AsksAtRest {T = A} (Ok x) works old new before between) (sym (touch_of o e page number true own at (lt-ltb (version_at (opened o).pages page).lsn e.lsn older)))
+      subst (λ (works : List CacheOp). AsksAtRest {T = A} (Ok x) works old new before between) (sym (touch_of o e page number true own at (lt-ltb (version_at (opened o).pages page).lsn e.lsn older)))
       (change_asks redo.change x page old mid new before between some asks changed same flash)

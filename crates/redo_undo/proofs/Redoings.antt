@@ -30,9 +30,9 @@ use Rattle.page_store.specs.declared.store.PageStore.{PageStore}
 use Rattle.page_store.specs.Representation.{IsStore, current, content_by}
 use Rattle.page_store.specs.Ahead.{IsAhead, sealed_end}
 use Rattle.page_store.specs.Leaves.{AreReady, LeavesPages, LeavesRings, KeepsCurrent}
-use Rattle.image_meaning.specs.Meaning.{IsSoundUnder, StandsUnder, picture_under, versions_on, version_in, kept_by, next_block_under}
+use Rattle.image_meaning.specs.Meaning.{IsSoundUnder, StandsUnder, logical_image_under, versions_on, version_in, kept_by, next_block_under}
 use Rattle.image_meaning.specs.Redone.{IsRedone, AreKnown, ShowsAll}
-use Rattle.image_meaning.specs.Pictures.{ReplaceAll}
+use Rattle.image_meaning.specs.LogicalImages.{ReplaceAll}
 use Rattle.image_meaning.specs.Beside.{AreRingsSoundUnder}
 use Rattle.redo_laws.specs.Holding.{Represents, ShowRecords}
 use Rattle.redo_laws.specs.HoldingLaws.{OpenedHolds}
@@ -81,7 +81,7 @@ module _ (laws : PageLaws) (redo : RedoLaws) (o : Opening) (sound : lists.IsSoun
     records = redo.versions_sound (opened o) (versions_on o.sizes now) sound replace;
   }
 
-  pub means_by : (now : Image) → ReplaceAll (opened o) (versions_on o.sizes now) → Means (opened o) o.table o.commits → Means (picture_under o.newest o.sizes now o.blocks) o.table o.commits
+  pub means_by : (now : Image) → ReplaceAll (opened o) (versions_on o.sizes now) → Means (opened o) o.table o.commits → Means (logical_image_under o.newest o.sizes now o.blocks) o.table o.commits
   means_by now replace means = laws.versions_mean (opened o) (versions_on o.sizes now) sound replace o.table o.commits means
 
 module _ (o : Opening) (log : LogStore) (pages : PageStore) (site : State) (front : List Entry) (h : IsRedoing o log pages site front) where
@@ -251,7 +251,7 @@ module _ (opens : OpenedHolds) (laws : PageLaws) (redo : RedoLaws) (o : Opening)
       let back = sym h.geometry in
       opens log pages site o.newest o.blocks o.table o.commits sizes h.kept h.ready
       (subst (λ (k : Geometry). IsSoundUnder o.newest k site.image o.blocks) back (sound_now laws redo o log pages site (log_from (kept_by o.newest) o.blocks) h sizes))
-      (subst (λ (k : Geometry). Means (picture_under o.newest k site.image o.blocks) o.table o.commits) back (means_by laws redo o h.sound site.image h.replace h.means))
+      (subst (λ (k : Geometry). Means (logical_image_under o.newest k site.image o.blocks) o.table o.commits) back (means_by laws redo o h.sound site.image h.replace h.means))
       (subst (λ (k : Geometry). ShowRecords k pages site.image (log_from (kept_by o.newest) o.blocks)) back (record { each = shows_all }))
       h.ahead
       (subst (λ (k : Geometry). (number : ℕ) → number < k.pages → lsn_of (current pages site.image number) < end_of log) back below_end)

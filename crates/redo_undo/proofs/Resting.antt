@@ -8,11 +8,11 @@ use Rattle.site.specs.declared.outside.Dev.TheVariants.{Log, Flash, Disk}
 use Rattle.site.specs.declared.outside.Stop.{Stop}
 use Rattle.site.specs.declared.outside.Stop.TheVariants.{Worn}
 use Rattle.site.proofs.Working.{err_again, no_error, of_error, ok_always}
-use Rattle.record_model.specs.Touches.{CacheWork, touch}
+use Rattle.record_model.specs.Touches.{CacheOp, touch}
 use Rattle.second_chance.specs.Machine.{Rules, Cache, touched}
 use Rattle.second_chance.specs.Machine as cache
 use Rattle.ring_machine.specs.Tail.{waits, empty_at, sealed_if}
-use Rattle.ring_machine.specs.Machine.{Machine, cached, worked, pushed_by, past_end, first_worn}
+use Rattle.ring_machine.specs.Machine.{Machine, cached, apply_op, pushed_by, past_end, first_worn}
 use Rattle.ring_machine.proofs.Works.{first_of_one}
 use Rattle.ring_machine.proofs.Ends.{never_past, flash_past}
 use Rattle.ring_machine.proofs.Performing.{performs_answered, performs_as, performs_by, performs_nothing, performs_refused, performs_stopped, performs_then}
@@ -31,14 +31,14 @@ none_wait n [] = refl
 none_wait n (page ∷ pages) = none_wait n pages
 
 module _ (r : Rules) (n k : ℕ) where
-  rests : (work : CacheWork) (c : Cache) → worked r (cached work) (resting n k c) ≡ resting n k (cache.worked r work c)
-  rests work c = ap (λ (b : Bool). record { cache = cache.worked r work c; tail = sealed_if b (empty_at n); masters = k }) (none_wait n (pushed_by r work c))
+  rests : (work : CacheOp) (c : Cache) → apply_op r (cached work) (resting n k c) ≡ resting n k (cache.apply_op r work c)
+  rests work c = ap (λ (b : Bool). record { cache = cache.apply_op r work c; tail = sealed_if b (empty_at n); masters = k }) (none_wait n (pushed_by r work c))
 
   -- one piece of work
-  worked_on : (work : CacheWork) (c : Cache) (m : Machine) → m ≡ resting n k c → worked r (cached work) m ≡ resting n k (cache.worked r work c)
-  worked_on work c m is = ap (worked r (cached work)) is ∙ rests work c
+  worked_on : (work : CacheOp) (c : Cache) (m : Machine) → m ≡ resting n k c → apply_op r (cached work) m ≡ resting n k (cache.apply_op r work c)
+  worked_on work c m is = ap (apply_op r (cached work)) is ∙ rests work c
 
-  first_on : (work : CacheWork) (c : Cache) (m : Machine) → m ≡ resting n k c → first_worn r (cached work ∷ []) m ≡ past_end (resting n k (cache.worked r work c))
+  first_on : (work : CacheOp) (c : Cache) (m : Machine) → m ≡ resting n k c → first_worn r (cached work ∷ []) m ≡ past_end (resting n k (cache.apply_op r work c))
   first_on work c m is = first_of_one r (cached work) m ∙ ap past_end (worked_on work c m is)
 
   -- a change of the page costs no more
@@ -105,15 +105,15 @@ change_rests law {page = page} {old = old} {new = new} some machine changed one 
 pub rests_nothing : {T : Type 0} {result : Result T Stop} {pages : PageStore} → ((dev : Dev) → IsErrOf result (Worn dev) → ⊥) → PerformsAtRest result [] pages pages
 rests_nothing {result = result} never = record { from = λ next masters most_blocks most_masters. performs_nothing (λ m is. ok_always result _ is) never }
 
-pub rests_refused : {T : Type 0} {stop : Stop} {works : List CacheWork} {old new : PageStore} → ((dev : Dev) → stop ≢ Worn dev) → PerformsAtRest {T = T} (Err stop) works old new
+pub rests_refused : {T : Type 0} {stop : Stop} {works : List CacheOp} {old new : PageStore} → ((dev : Dev) → stop ≢ Worn dev) → PerformsAtRest {T = T} (Err stop) works old new
 rests_refused other = record { from = λ next masters most_blocks most_masters. performs_refused other }
 
-pub rests_then : {A B : Type 0} {a : A} {result : Result B Stop} {first later : List CacheWork} {old mid new : PageStore} → rules mid ≡ rules old → PerformsAtRest {T = A} (Ok a) first old mid → PerformsAtRest result later mid new → PerformsAtRest result (first ++ later) old new
+pub rests_then : {A B : Type 0} {a : A} {result : Result B Stop} {first later : List CacheOp} {old mid new : PageStore} → rules mid ≡ rules old → PerformsAtRest {T = A} (Ok a) first old mid → PerformsAtRest result later mid new → PerformsAtRest result (first ++ later) old new
 rests_then {first = first} {later = later} same one two =
     record { from = λ next masters most_blocks most_masters. performs_as (map-append cached first later) (performs_then (one.from next masters most_blocks most_masters) (performs_by (sym same) (two.from next masters most_blocks most_masters))) }
 
-pub rests_stopped : {A B : Type 0} {stop : Stop} {first : List CacheWork} {old new new' : PageStore} (later : List CacheWork) → PerformsAtRest {T = A} (Err stop) first old new → PerformsAtRest {T = B} (Err stop) (first ++ later) old new'
+pub rests_stopped : {A B : Type 0} {stop : Stop} {first : List CacheOp} {old new new' : PageStore} (later : List CacheOp) → PerformsAtRest {T = A} (Err stop) first old new → PerformsAtRest {T = B} (Err stop) (first ++ later) old new'
 rests_stopped {first = first} later one = record { from = λ next masters most_blocks most_masters. performs_as (map-append cached first later) (performs_stopped (map cached later) (one.from next masters most_blocks most_masters)) }
 
-pub rests_answered : {A B : Type 0} {a : A} {b : B} {works : List CacheWork} {old new : PageStore} → PerformsAtRest {T = A} (Ok a) works old new → PerformsAtRest {T = B} (Ok b) works old new
+pub rests_answered : {A B : Type 0} {a : A} {b : B} {works : List CacheOp} {old new : PageStore} → PerformsAtRest {T = A} (Ok a) works old new → PerformsAtRest {T = B} (Ok b) works old new
 rests_answered one = record { from = λ next masters most_blocks most_masters. performs_answered (one.from next masters most_blocks most_masters) }

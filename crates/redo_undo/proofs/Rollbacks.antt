@@ -16,8 +16,8 @@ use Rattle.log_laws.specs.UndoSteps.{IsToUndo}
 use Rattle.log_store.specs.declared.store.LogStore.{LogStore}
 use Rattle.page_store.specs.declared.store.PageStore.{PageStore}
 use Rattle.checkpoint.specs.declared.master.Master.{Master}
-use Rattle.image_meaning.specs.Meaning.{picture_under, master_of, versions_on}
-use Rattle.redo_undo.specs.declared.undo.Undoing.{Undoing}
+use Rattle.image_meaning.specs.Meaning.{logical_image_under, master_of, versions_on}
+use Rattle.redo_undo.specs.declared.undo.UndoCursor.{UndoCursor}
 use Rattle.redo_laws.specs.Holding.{Represents, MayGrow, blocks_to}
 use Rattle.redo_undo.specs.Undoing.{IsAt, Undone}
 use Rattle.redo_undo.specs.Rollback.{AreClrsOf, left_of, Compensates, RollsBack}
@@ -27,7 +27,7 @@ use Rattle.redo_undo.proofs.LeftUpdates.{none_of}
 use Rattle.flash_cache.proofs.Given.{all_append}
 
 -- nothing is compensated yet
-unfoldable pub starts : (log : LogStore) (pages : PageStore) (site : State) (newest : Option Master) (records : List Entry) (table : List Content) (commits : ℕ) (x : Unfinished) (first : Undoing) → Represents log pages site newest records table commits → IsUnfinished records x → IsAt first x →
+unfoldable pub starts : (log : LogStore) (pages : PageStore) (site : State) (newest : Option Master) (records : List Entry) (table : List Content) (commits : ℕ) (x : Unfinished) (first : UndoCursor) → Represents log pages site newest records table commits → IsUnfinished records x → IsAt first x →
     Compensates log pages site newest records table commits x.txn (blocks_to log) site.log_reads first
 starts log pages site newest records table commits x first holds unfinished at =
     let same : x ≡ left_of first x.remaining = λ i. record { txn = sym at.txn i; last = sym at.last i; next = sym at.next i; remaining = x.remaining } in
@@ -45,7 +45,7 @@ starts log pages site newest records table commits x first holds unfinished at =
       orderly = λ were. subst AreOrderly (sym (append-nil records)) were;
     }
 
-module _ (pages_laws : PageLaws) (laws : UndoLaws) (log : LogStore) (pages : PageStore) (site : State) (newest : Option Master) (records : List Entry) (table : List Content) (commits txn blocks reads : ℕ) (now : Undoing) (c : Compensates log pages site newest records table commits txn blocks reads now) where
+module _ (pages_laws : PageLaws) (laws : UndoLaws) (log : LogStore) (pages : PageStore) (site : State) (newest : Option Master) (records : List Entry) (table : List Content) (commits txn blocks reads : ℕ) (now : UndoCursor) (c : Compensates log pages site newest records table commits txn blocks reads now) where
   -- as long as undoing hasn't come to the Begin an Update remains
   pub remains : now.next ≢ now.txn → 0 < c.remaining
   remains differ = by c.remaining refl
@@ -53,12 +53,12 @@ module _ (pages_laws : PageLaws) (laws : UndoLaws) (log : LogStore) (pages : Pag
       by : (n : ℕ) → c.remaining ≡ n → 0 < n
       by (suc n) is = omega arith
       by zero is =
-          let p = picture_under newest pages.flash.geometry site.image c.holds.log_holds.blocks in
+          let p = logical_image_under newest pages.flash.geometry site.image c.holds.log_holds.blocks in
           let order = subst (λ (l : List Entry). IsInOrder (512 * p.master.kept) l (next_lsn p c.holds.log_holds.tail)) c.holds.log_holds.runs_on.records_are (laws.in_order p c.holds.log_holds.tail c.holds.log_holds.runs_on.carries) in
           absurd (differ (c.left.next_is ∙ laws.next_undone (512 * p.master.kept) (next_lsn p c.holds.log_holds.tail) (records ++ c.clrs) now.txn order
           (chain pages_laws laws log pages site newest (records ++ c.clrs) table commits c.holds (left_of now c.remaining) c.left) (none_of (left_open (records ++ c.clrs) now.txn) (sym is ∙ c.left.remaining_is))))
 
-  later : (rec : LogRecord) → IsToUndo (picture_under newest pages.flash.geometry site.image c.holds.log_holds.blocks) (records ++ c.clrs) (left_of now c.remaining) rec → now.txn < now.next
+  later : (rec : LogRecord) → IsToUndo (logical_image_under newest pages.flash.geometry site.image c.holds.log_holds.blocks) (records ++ c.clrs) (left_of now c.remaining) rec → now.txn < now.next
   later (Update txn prev page slot before after) is = let late = is.1 in let early = is.2 in omega (arith, late, early)
   later Begin is = absurd is
   later (Clr txn prev undo_next page slot after) is = absurd is
@@ -76,7 +76,7 @@ module _ (pages_laws : PageLaws) (laws : UndoLaws) (log : LogStore) (pages : Pag
           absurd (omega (arith, later there.0.rec there.2, same))
 
   -- one more CLR
-  unfoldable pub goes_on : (log' : LogStore) (pages' : PageStore) (new : State) (next : Undoing) → Undone log' pages' new newest (records ++ c.clrs) table commits (left_of now c.remaining) next → blocks_to log' ≤ blocks_to log + 1 → new.log_reads ≤ site.log_reads + 1 →
+  unfoldable pub goes_on : (log' : LogStore) (pages' : PageStore) (new : State) (next : UndoCursor) → Undone log' pages' new newest (records ++ c.clrs) table commits (left_of now c.remaining) next → blocks_to log' ≤ blocks_to log + 1 → new.log_reads ≤ site.log_reads + 1 →
       Compensates log' pages' new newest records table commits txn blocks reads next
   goes_on log' pages' new next u one one_read =
       let y = after_record (left_of now c.remaining) u.e in
@@ -114,7 +114,7 @@ module _ (pages_laws : PageLaws) (laws : UndoLaws) (log : LogStore) (pages : Pag
 
     pub may_end : (lsn : ℕ) → MayGrow log pages site.image newest (records ++ c.clrs) (record { lsn = lsn; rec = End txn })
     may_end lsn =
-        let p = picture_under newest pages.flash.geometry site.image c.holds.log_holds.blocks in
+        let p = logical_image_under newest pages.flash.geometry site.image c.holds.log_holds.blocks in
         let are = c.holds.log_holds.runs_on.records_are in
         subst (λ (t : ℕ). MayGrow log pages site.image newest (records ++ c.clrs) (record { lsn = lsn; rec = End t })) c.same (record {
           follows = subst (λ (l : List Entry). Follows (master_of newest) (versions_on pages.flash.geometry site.image) l (record { lsn = lsn; rec = End now.txn })) are

@@ -21,7 +21,7 @@ use Rattle.log_records.specs.Spelling.{used_by, spelling}
 use Rattle.log_records.specs.Log.{Entry, Version, version_at, is_loser, entries_of, is_of}
 use Rattle.log_records.specs.Unfinished.{losers, owed, owed_by, open_updates}
 use Rattle.log_laws.specs.Tail.{whole}
-use Rattle.log_records.specs.Sound.{Active, Picture, AreOrderly, from_block, last_lsn, active_in, before_block, IsInOrder, IsSound, IsLoserChain}
+use Rattle.log_records.specs.Sound.{Active, LogicalImage, AreOrderly, from_block, last_lsn, active_in, before_block, IsInOrder, IsSound, IsLoserChain}
 use Rattle.log_store.specs.declared.store.LogStore.{LogStore}
 use Rattle.log_store.specs.Representation as log_store
 use Rattle.log_store.specs.Representation.{has_tail, end_of}
@@ -46,7 +46,7 @@ use Rattle.page_store.specs.declared.store.PageStore.{PageStore}
 use Rattle.page_store.specs.Representation.{current, content_by}
 use Rattle.page_store.specs.Caching.{cache_of, pool_page}
 use Rattle.page_store.specs.Ahead.{AreLogged}
-use Rattle.image_meaning.specs.Meaning.{picture_under, kept_by, versions_on, version_in, IsSoundUnder}
+use Rattle.image_meaning.specs.Meaning.{logical_image_under, kept_by, versions_on, version_in, IsSoundUnder}
 use Rattle.image_meaning.specs.Moments.{LeavesFor}
 use Rattle.image_meaning.specs.Changes.{MaySave}
 use Rattle.image_meaning.specs.Flushed.{IsFlushed, IsMasterOf, first_block, oldest_needed}
@@ -164,8 +164,8 @@ module _ (laws : SaveLaws) (logs : LogLaws) (page_laws : PageLaws) (beside : Bes
   abbrev g : Geometry
   g = pages.flash.geometry
 
-  abbrev p : Picture
-  p = picture_under newest pages.flash.geometry site.image h.log_holds.blocks
+  abbrev p : LogicalImage
+  p = logical_image_under newest pages.flash.geometry site.image h.log_holds.blocks
 
   tail_is : h.log_holds.tail ≡ []
   tail_is = none_in_tail h.log_holds.tail (sym h.log_holds.ready.records.tail.end ∙ empty)
@@ -256,28 +256,28 @@ module _ (laws : SaveLaws) (logs : LogLaws) (page_laws : PageLaws) (beside : Bes
       abbrev blocks : List (List LogRecord)
       blocks = drop ((master_in (unit m)).kept - kept_by newest) h.log_holds.blocks
 
-      abbrev q : Picture
-      q = picture_under (Some (master_in (unit m))) pages.flash.geometry new.image (drop ((master_in (unit m)).kept - kept_by newest) h.log_holds.blocks)
+      abbrev q : LogicalImage
+      q = logical_image_under (Some (master_in (unit m))) pages.flash.geometry new.image (drop ((master_in (unit m)).kept - kept_by newest) h.log_holds.blocks)
 
       sound_now : IsSoundUnder (Some n) g new.image blocks
       sound_now = laws.sound newest g site.image new.image h.log_holds.blocks (unit m) sound may_save made
 
       records_now : q.log ≡ from_block n.kept records
-      records_now = ap (λ (x : Picture). x.log) (laws.picture newest g site.image new.image h.log_holds.blocks (unit m) sound may_save made) ∙ ap (from_block n.kept) log_is
+      records_now = ap (λ (x : LogicalImage). x.log) (laws.logical_image newest g site.image new.image h.log_holds.blocks (unit m) sound may_save made) ∙ ap (from_block n.kept) log_is
 
       pub orderly_now : AreOrderly (from_block m.kept records)
       orderly_now =
           subst (λ (k : Master). AreOrderly (from_block k.kept records)) read
           (subst AreOrderly records_now (laws.orderly newest g site.image new.image h.log_holds.blocks (unit m) sound may_save made))
 
-      undoable_of : (r : Picture) → IsSound r → IsUndoable r.log
+      undoable_of : (r : LogicalImage) → IsSound r → IsUndoable r.log
       undoable_of r is = subst IsUndoable (append-nil r.log) (laws.undoable r [] (laws.nothing r is))
 
       -- the unfinished transactions are the same
       losers_now : losers q.log ≡ losers p.log
       losers_now =
           let named : (seen m).active ≡ active_in p.log = ap (λ k. k.active) (laws.saved p m sound.records is_master) in
-          let redo_is : n.redo ≡ q.hi = ap (λ (k : Master). k.redo) read ∙ is_master.redo ∙ sym (ap (λ (x : Picture). x.hi) (laws.picture newest g site.image new.image h.log_holds.blocks (unit m) sound may_save made)) in
+          let redo_is : n.redo ≡ q.hi = ap (λ (k : Master). k.redo) read ∙ is_master.redo ∙ sym (ap (λ (x : LogicalImage). x.hi) (laws.logical_image newest g site.image new.image h.log_holds.blocks (unit m) sound may_save made)) in
           let all : before_block n.redo q.log ≡ q.log = all_before n.redo (512 * q.master.kept) (512 * q.hi) q.log (omega (arith, redo_is)) sound_now.records.in_order in
           let named_now : (seen n).active ≡ active_in q.log = sound_now.records.master_names_the_active ∙ ap active_in all in
           sym (active_begins q.log (losers q.log)) ∙ ap (map (λ (a : Active). a.begin)) (sym named_now) ∙ ap (λ (k : Master). map (λ (a : Active). a.begin) (seen k).active) read
@@ -293,21 +293,21 @@ module _ (laws : SaveLaws) (logs : LogLaws) (page_laws : PageLaws) (beside : Bes
           chain_kept n.kept t (512 * p.master.kept) (512 * p.hi) p.log sound.records.in_order (sound.records.losers_can_be_undone t is)
           (all_member (λ s. 512 * n.kept ≤ s) (losers p.log) t may_save.may.losers_kept (laws.listed p.log t (undoable_of p sound.records) is))
 
-      picture_log : q.log ≡ from_block n.kept p.log
-      picture_log = ap (λ (x : Picture). x.log) (laws.picture newest g site.image new.image h.log_holds.blocks (unit m) sound may_save made)
+      logical_image_log : q.log ≡ from_block n.kept p.log
+      logical_image_log = ap (λ (x : LogicalImage). x.log) (laws.logical_image newest g site.image new.image h.log_holds.blocks (unit m) sound may_save made)
 
       owed_now : owed q.log ≡ owed p.log
       owed_now =
           ap (sum_by (owed_by q.log)) losers_now
           ∙ sum_same (owed_by q.log) (owed_by p.log) (losers p.log)
           (each_member (λ t. owed_by q.log t ≡ owed_by p.log t) (losers p.log)
-          (λ t any. ap (λ (l : List Entry). length (open_updates [] l) + 1) (ap (entries_of t) picture_log ∙ entries_now t (laws.loser p.log t any))))
+          (λ t any. ap (λ (l : List Entry). length (open_updates [] l) + 1) (ap (entries_of t) logical_image_log ∙ entries_now t (laws.loser p.log t any))))
 
       pub unfinished_now : KeepUnfinished records (from_block m.kept records)
       unfinished_now = subst (λ (k : Master). KeepUnfinished records (from_block k.kept records)) read (subst (λ (l : List Entry). KeepUnfinished l (from_block n.kept l)) log_is (record {
-        losers = λ t. ap (λ (l : List Entry). is_loser l t) (sym picture_log) ∙ loser_now t;
+        losers = λ t. ap (λ (l : List Entry). is_loser l t) (sym logical_image_log) ∙ loser_now t;
         entries = entries_now;
-        owes = ap owed (sym picture_log) ∙ owed_now;
+        owes = ap owed (sym logical_image_log) ∙ owed_now;
       }))
 
       shows_now : (page : ℕ) → page < g.pages → ShowsAll (from_block n.kept records) (versions_on g new.image) page (version_in (current pages new.image page))
@@ -369,7 +369,7 @@ module _ (laws : SaveLaws) (logs : LogLaws) (page_laws : PageLaws) (beside : Bes
             room_now : blocks_to log' + owed (from_block n.kept records) ≤ log'.kept + (g.blocks - 1)
             room_now =
                 let owed_is : owed q.log ≡ owed (from_block n.kept records) = ap owed records_now in
-                let hi_is_q : q.hi ≡ p.hi = ap (λ (x : Picture). x.hi) (laws.picture newest g site.image new.image h.log_holds.blocks (unit m) sound may_save made) in
+                let hi_is_q : q.hi ≡ p.hi = ap (λ (x : LogicalImage). x.hi) (laws.logical_image newest g site.image new.image h.log_holds.blocks (unit m) sound may_save made) in
                 let hi = hi_is logs page_laws log pages site newest records table commits h in
                 let same : blocks_to log' ≡ blocks_to log = ap blocks_to is in
                 let kept_is : log'.kept ≡ n.kept = ap (λ (l : LogStore). l.kept) is ∙ ap (λ (k : Master). k.kept) (sym read) in

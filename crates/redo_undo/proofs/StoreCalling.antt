@@ -13,7 +13,7 @@ use Rattle.image_meaning.specs.Meaning.{StandsFor}
 use Rattle.redo_undo.specs.Stores.{sizes_of}
 use Rattle.redo_laws.specs.Numbers.{SkipsNone}
 use Rattle.redo_laws.proofs.RingNumbers.{skips_on, then_skips, skips_again, skips_answered, skips_refused, skips_weaker}
-use Rattle.redo_undo.specs.declared.store.Store.{Store}
+use Rattle.redo_undo.specs.declared.store.TransactionStore.{TransactionStore}
 use Rattle.redo_laws.proofs.Endings.{ends_answered, ends_behind, ends_failed, ends_leaving, ends_no_memory, ends_ok, leaves_late}
 use Rattle.site.proofs.Working.{ok_as, calls_then, calls_answered}
 use Rattle.redo_undo.proofs.NextUnits.{next_then, next_answered}
@@ -28,13 +28,13 @@ where_two A B C (Err e) first second then = tt
 
 -- On every site.
 
-pub works_then : {A B : Type 0} {a : A} {r : Result B Stop} {old mid new : Store} {before between now : Site} {n n' : ℕ} →
+pub works_then : {A B : Type 0} {a : A} {r : Result B Stop} {old mid new : TransactionStore} {before between now : Site} {n n' : ℕ} →
     KeepsInvariant {T = A} (Ok a) old mid before between n → KeepsInvariant r mid new between now n' → KeepsInvariant r old new before now (n + n')
 works_then {r = r} {old = old} {new = new} {before = before} {between = between} {n = n} {n' = n'} first second =
     record {
       calls = calls_then first.calls second.calls;
       going = second.going;
-      next = λ honest. next_then first.sizes (first.next honest) (second.next (stays_honest before between first.calls.goes honest));
+      next = λ honest. next_then first.sizes (first.next honest) (second.next (stays_honest before between first.calls.preserves honest));
       made = ok_as r _ _ (λ more. let all : new.made ≡ old.made + (n + n') = omega (arith, more, first.made) in all) second.made;
       blocks = ok_as r _ _ (λ more. omega (arith, more, first.blocks)) second.blocks;
       rises = ok_as r _ _ (λ more. omega (arith, more, first.rises)) second.rises;
@@ -43,16 +43,16 @@ works_then {r = r} {old = old} {new = new} {before = before} {between = between}
       stops = second.stops;
     }
 
-pub works_answered : {A B : Type 0} {a : A} {b : B} {old new : Store} {before now : Site} {n : ℕ} → KeepsInvariant {T = A} (Ok a) old new before now n → KeepsInvariant {T = B} (Ok b) old new before now n
+pub works_answered : {A B : Type 0} {a : A} {b : B} {old new : TransactionStore} {before now : Site} {n : ℕ} → KeepsInvariant {T = A} (Ok a) old new before now n → KeepsInvariant {T = B} (Ok b) old new before now n
 works_answered first = record { calls = calls_answered first.calls; going = first.going; next = λ honest. next_answered (first.next honest); made = first.made; blocks = first.blocks; rises = first.rises; kept = first.kept; sizes = first.sizes; stops = tt }
 
 -- On an honest site.
 
 -- what log and pages keep, the store keeps, where what a crash leaves of it is what is asked
-pub keeps_of : {T : Type 0} {r : Result T Stop} {old new : Store} {before now : Site} {P R : Snapshot → Type 0} {n m : ℕ} → (LeavesOnly before now P → LeavesOnly before now R) → calls.Keeps r (sizes_of old) old.log new.log before now P n m → Keeps r old new before now R n m
+pub keeps_of : {T : Type 0} {r : Result T Stop} {old new : TransactionStore} {before now : Site} {P R : Snapshot → Type 0} {n m : ℕ} → (LeavesOnly before now P → LeavesOnly before now R) → calls.Keeps r (sizes_of old) old.log new.log before now P n m → Keeps r old new before now R n m
 keeps_of more first = record { ends = ends_leaving more first.ends; numbers = first.numbers }
 
-pub keeps_then : {A B : Type 0} {a : A} {r : Result B Stop} {old mid new : Store} {before between now : Site} {P Q R : Snapshot → Type 0} {i n m n' m' : ℕ} → IsTrue before.honest →
+pub keeps_then : {A B : Type 0} {a : A} {r : Result B Stop} {old mid new : TransactionStore} {before between now : Site} {P Q R : Snapshot → Type 0} {i n m n' m' : ℕ} → IsTrue before.honest →
     ((s : Snapshot) → P s → R s) → (LeavesOnly before between P → (s : Snapshot) → Q s → R s) →
     KeepsInvariant {T = A} (Ok a) old mid before between i → Keeps {T = A} (Ok a) old mid before between P n m → Keeps r mid new between now Q n' m' → Keeps r old new before now R (n + n') (m + m')
 keeps_then {a = a} {r = r} {old = old} {mid = mid} {new = new} {before = before} {between = between} {now = now} {P = P} {Q = Q} {R = R} {n = n} {m = m} {n' = n'} {m' = m'} honest early late works first second = record {
@@ -62,7 +62,7 @@ keeps_then {a = a} {r = r} {old = old} {mid = mid} {new = new} {before = before}
 }
 
 -- the table stays as it was
-pub keeps_both : {A B : Type 0} {a : A} {r : Result B Stop} {old mid new : Store} {before between now : Site} {table : List Content} {commits i n m n' m' : ℕ} → IsTrue before.honest →
+pub keeps_both : {A B : Type 0} {a : A} {r : Result B Stop} {old mid new : TransactionStore} {before between now : Site} {table : List Content} {commits i n m n' m' : ℕ} → IsTrue before.honest →
     KeepsInvariant {T = A} (Ok a) old mid before between i → Keeps {T = A} (Ok a) old mid before between (LeavesFor (sizes_of old) table commits before.told) n m →
     Keeps r mid new between now (LeavesFor (sizes_of mid) table commits between.told) n' m' → Keeps r old new before now (LeavesFor (sizes_of old) table commits before.told) (n + n') (m + m')
 keeps_both {old = old} {before = before} {between = between} {table = table} {commits = commits} honest works first second =
@@ -71,30 +71,30 @@ keeps_both {old = old} {before = before} {between = between} {table = table} {co
       stands = subst (λ (g : Geometry). StandsFor g s.image table commits) works.sizes q.stands;
     }) works first second
 
-pub keeps_weaker : {T : Type 0} {r : Result T Stop} {old new : Store} {before now : Site} {P R : Snapshot → Type 0} {n m : ℕ} → ((s : Snapshot) → P s → R s) → Keeps r old new before now P n m → Keeps r old new before now R n m
+pub keeps_weaker : {T : Type 0} {r : Result T Stop} {old new : TransactionStore} {before now : Site} {P R : Snapshot → Type 0} {n m : ℕ} → ((s : Snapshot) → P s → R s) → Keeps r old new before now P n m → Keeps r old new before now R n m
 keeps_weaker {before = before} {now = now} {P = P} {R = R} more first = record { ends = ends_leaving (leaves_weaker before now P R more) first.ends; numbers = first.numbers }
 
-pub keeps_before : {A B : Type 0} {stop : Stop} {old new : Store} {before now : Site} {P : Snapshot → Type 0} {n k m : ℕ} → n ≤ k → Keeps {T = A} (Err stop) old new before now P n m → Keeps {T = B} (Err stop) old new before now P k m
+pub keeps_before : {A B : Type 0} {stop : Stop} {old new : TransactionStore} {before now : Site} {P : Snapshot → Type 0} {n k m : ℕ} → n ≤ k → Keeps {T = A} (Err stop) old new before now P n m → Keeps {T = B} (Err stop) old new before now P k m
 keeps_before {A = A} {B = B} {stop = stop} {old = old} {new = new} {before = before} {now = now} {n = n} {k = k} {m = m} few first = record {
   ends = ends_failed first.ends;
   numbers = λ quiet. skips_weaker {T = B} (Err stop) (sizes_of old) old.log new.log before now n k m few (skips_again {A = A} {B = B} stop (sizes_of old) old.log new.log before now n m (first.numbers quiet));
 }
 
-pub keeps_failed : {A B : Type 0} {stop : Stop} {old new : Store} {before now : Site} {P : Snapshot → Type 0} {n m : ℕ} → Keeps {T = A} (Err stop) old new before now P n m → Keeps {T = B} (Err stop) old new before now P n m
+pub keeps_failed : {A B : Type 0} {stop : Stop} {old new : TransactionStore} {before now : Site} {P : Snapshot → Type 0} {n m : ℕ} → Keeps {T = A} (Err stop) old new before now P n m → Keeps {T = B} (Err stop) old new before now P n m
 keeps_failed first = keeps_before (omega arith) first
 
-pub keeps_answered : {A B : Type 0} {a : A} {b : B} {old new : Store} {before now : Site} {P : Snapshot → Type 0} {n m : ℕ} → Keeps {T = A} (Ok a) old new before now P n m → Keeps {T = B} (Ok b) old new before now P n m
+pub keeps_answered : {A B : Type 0} {a : A} {b : B} {old new : TransactionStore} {before now : Site} {P : Snapshot → Type 0} {n m : ℕ} → Keeps {T = A} (Ok a) old new before now P n m → Keeps {T = B} (Ok b) old new before now P n m
 keeps_answered {A = A} {B = B} {a = a} {b = b} {old = old} {new = new} {before = before} {now = now} {n = n} {m = m} first = record {
   ends = ends_answered first.ends;
   numbers = λ quiet. skips_answered {A = A} {B = B} a b (sizes_of old) old.log new.log before now n m (first.numbers quiet);
 }
 
-pub keeps_no_memory : {A B : Type 0} {a : A} {old new : Store} {before now : Site} {P : Snapshot → Type 0} {i n m : ℕ} → IsTrue before.honest → KeepsInvariant {T = A} (Ok a) old new before now i → Keeps {T = A} (Ok a) old new before now P n m → Keeps {T = B} (Err Memory) old new before now P n m
+pub keeps_no_memory : {A B : Type 0} {a : A} {old new : TransactionStore} {before now : Site} {P : Snapshot → Type 0} {i n m : ℕ} → IsTrue before.honest → KeepsInvariant {T = A} (Ok a) old new before now i → Keeps {T = A} (Ok a) old new before now P n m → Keeps {T = B} (Err Memory) old new before now P n m
 keeps_no_memory {A = A} {B = B} {a = a} {old = old} {new = new} {before = before} {now = now} {n = n} {m = m} honest works first = record {
   ends = ends_no_memory refl (works.calls.stays_quiet honest) first.ends;
   numbers = λ quiet. skips_refused {A = A} {B = B} a Memory (sizes_of old) old.log new.log before now n m (first.numbers quiet);
 }
 
-pub keeps_ok : {T : Type 0} {x : T} {old new : Store} {before now : Site} {P : Snapshot → Type 0} {n m : ℕ} → (IsQuiet before → LeavesOnly before now P) → (IsQuiet before → SkipsNone {T = T} {E = Stop} (Ok x) (sizes_of old) old.log new.log before now n m) →
+pub keeps_ok : {T : Type 0} {x : T} {old new : TransactionStore} {before now : Site} {P : Snapshot → Type 0} {n m : ℕ} → (IsQuiet before → LeavesOnly before now P) → (IsQuiet before → SkipsNone {T = T} {E = Stop} (Ok x) (sizes_of old) old.log new.log before now n m) →
     Keeps {T = T} (Ok x) old new before now P n m
 keeps_ok moments numbers = record { ends = ends_ok moments; numbers = numbers }

@@ -16,11 +16,11 @@ use Rattle.log_laws.specs.Analysis.{IsUnfinished}
 use Rattle.log_laws.proofs.Losers.{active_stays, entries_other, loser_stays}
 use Rattle.log_laws.proofs.Tails.{whole_in_order}
 use Rattle.log_laws.proofs.UndoingSteps.{active_is_unfinished}
-use Rattle.image_meaning.specs.Meaning.{master_of, picture_under}
+use Rattle.image_meaning.specs.Meaning.{master_of, logical_image_under}
 use Rattle.redo_laws.specs.Holding.{blocks_to}
 use Rattle.redo_undo.specs.Rollback as undone
 use Rattle.redo_undo.specs.Rollback.{AreClrsOf}
-use Rattle.redo_undo.specs.declared.store.Store.{Store}
+use Rattle.redo_undo.specs.declared.store.TransactionStore.{TransactionStore}
 use Rattle.redo_undo.specs.Stores.{sizes_of}
 use Rattle.redo_undo.specs.Stores.{Represents}
 use Rattle.redo_undo.specs.StoreRollback.{ConcernsOnly, RollsBack}
@@ -41,16 +41,16 @@ concerns_clrs newest txn before now (e ∷ clrs) own concerns =
     (concerns_clrs newest txn before (now ++ e ∷ []) clrs own.1 (concerns_more newest txn before now e own.0.1 concerns))
 
 -- A session's transaction is unfinished, and all its writes remain to be undone.
-pub active_left : (store : Store) (site : State) (newest : Option Master) (records : List Entry) (table : List Content) (commits begin last : ℕ) (writes : List Write) → Represents store site newest records table commits → IsActive (master_of newest) records begin last writes →
+pub active_left : (store : TransactionStore) (site : State) (newest : Option Master) (records : List Entry) (table : List Content) (commits begin last : ℕ) (writes : List Write) → Represents store site newest records table commits → IsActive (master_of newest) records begin last writes →
     IsUnfinished records (record { txn = begin; last = last; next = last; remaining = length writes })
 active_left store site newest records table commits begin last writes h active =
     let log = h.both.log_holds in
-    let p = picture_under newest (sizes_of store) site.image log.blocks in
+    let p = logical_image_under newest (sizes_of store) site.image log.blocks in
     active_is_unfinished (master_of newest) (512 * p.master.kept) (next_lsn p log.tail) records begin last writes
     (subst (λ (l : List Entry). IsInOrder (512 * p.master.kept) l (next_lsn p log.tail)) log.runs_on.records_are (whole_in_order p log.tail log.runs_on.carries)) active
 
 -- It is undone as a whole, and the ring of master units stands as before.
-pub rolls_back : (store last : Store) (old new : State) (newest : Option Master) (records : List Entry) (table : List Content) (commits begin at writes : ℕ) (made : List Write) → Represents store old newest records table commits → IsActive (master_of newest) records begin at made → length made ≡ writes →
+pub rolls_back : (store last : TransactionStore) (old new : State) (newest : Option Master) (records : List Entry) (table : List Content) (commits begin at writes : ℕ) (made : List Write) → Represents store old newest records table commits → IsActive (master_of newest) records begin at made → length made ≡ writes →
     undone.RollsBack last.log last.pages new newest records table commits begin → Finds last.masters new → RollsBack last new newest records table commits begin writes
 rolls_back store last old new newest records table commits begin at writes made h active many u masters =
     let unfinished = active_left store old newest records table commits begin at made h active in
@@ -64,7 +64,7 @@ rolls_back store last old new newest records table commits begin at writes made 
     }
 
 -- a transaction of so many writes is undone, and there is room to undo what else is owed
-pub has_room : (last : Store) (new : State) (newest : Option Master) (records : List Entry) (table : List Content) (commits begin writes more : ℕ) → RollsBack last new newest records table commits begin writes → owed records ≡ more + (writes + 1) →
+pub has_room : (last : TransactionStore) (new : State) (newest : Option Master) (records : List Entry) (table : List Content) (commits begin writes more : ℕ) → RollsBack last new newest records table commits begin writes → owed records ≡ more + (writes + 1) →
     blocks_to last.log + more ≤ last.log.kept + ((sizes_of last).blocks - 1)
 has_room last new newest records table commits begin writes more back is =
     omega (arith, back.holds.both.log_holds.room, back.owes, is)

@@ -24,7 +24,7 @@ use Rattle.redo_undo.proofs.Redoings.{redoing_still, begins}
 use Rattle.checkpoint.specs.declared.master.Master.{Master}
 use Rattle.checkpoint.specs.Newest.{seen}
 use Rattle.analysis.specs.Taken.{is_taken, Steps, taken}
-use Rattle.log_records.specs.Sound.{Picture, IsSound}
+use Rattle.log_records.specs.Sound.{LogicalImage, IsSound}
 use Rattle.log_records.specs.Unfinished.{losers}
 use Rattle.analysis.specs.Table.{listed}
 use Rattle.redo_undo.proofs.RedoWorks.{nothing_asked}
@@ -124,7 +124,7 @@ module _ (o : Opening) (m : Master) (is : m ≡ saved_by o.newest) (front : List
   step_to e h = subst (λ (k : Master). is_taken (seen k) e ≡ true → Steps (seen k).active (heard_of (seen k) front) e) (sym is) h
 
 -- what analysis has taken of a sound log says of each transaction what all records say
-pub unfinished_by : RedoLaws → (p : Picture) → IsSound p → (found : Analysis) → IsTable p.master.active (taken p) (listed found.table) → IsTable [] p.log (listed found.table)
+pub unfinished_by : RedoLaws → (p : LogicalImage) → IsSound p → (found : Analysis) → IsTable p.master.active (taken p) (listed found.table) → IsTable [] p.log (listed found.table)
 unfinished_by redo p sound found is =
     subst (IsTable [] p.log) (redo.one_table p.master.active (taken p) (map (open_at [] p.log) (losers p.log)) (listed found.table) (redo.taken p sound) is)
     (redo.unfinished [] p.log (512 * p.master.kept) (512 * p.hi) tt sound.in_order)

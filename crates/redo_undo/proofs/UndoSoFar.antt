@@ -11,7 +11,7 @@ use Rattle.log_laws.specs.Analysis.{Unfinished, IsUnfinished}
 use Rattle.log_store.specs.declared.store.LogStore.{LogStore}
 use Rattle.page_store.specs.declared.store.PageStore.{PageStore}
 use Rattle.checkpoint.specs.declared.master.Master.{Master}
-use Rattle.redo_undo.specs.declared.undo.Undoing.{Undoing}
+use Rattle.redo_undo.specs.declared.undo.UndoCursor.{UndoCursor}
 use Rattle.redo_laws.specs.Holding.{Represents, blocks_to}
 use Rattle.redo_undo.specs.Undoing.{IsAt, Undone}
 use Rattle.redo_undo.specs.Rollback.{left_of, Compensates}
@@ -55,19 +55,19 @@ asks_one_more push b records clrs txn log log' log'' old mid new before between 
 
 -- With the CLRs themselves.
 
-abbrev pub AsksFor : LogStore → PageStore → State → Option Master → List Entry → List Content → ℕ → ℕ → ℕ → Undoing → LogStore → PageStore → State → Type 0
+abbrev pub AsksFor : LogStore → PageStore → State → Option Master → List Entry → List Content → ℕ → ℕ → ℕ → UndoCursor → LogStore → PageStore → State → Type 0
 AsksFor log pages site newest records table commits txn blocks now first old before =
     (made : Compensates log pages site newest records table commits txn blocks before.log_reads now) × AsksSoFar records made.clrs txn first log old pages before site
 
-pub starts_asking : (log : LogStore) (pages : PageStore) (site : State) (newest : Option Master) (records : List Entry) (table : List Content) (commits : ℕ) (x : Unfinished) (first : Undoing) → Represents log pages site newest records table commits → IsUnfinished records x → IsAt first x →
+pub starts_asking : (log : LogStore) (pages : PageStore) (site : State) (newest : Option Master) (records : List Entry) (table : List Content) (commits : ℕ) (x : Unfinished) (first : UndoCursor) → Represents log pages site newest records table commits → IsUnfinished records x → IsAt first x →
     AsksFor log pages site newest records table commits x.txn (blocks_to log) first log pages site
 unfolding starts
 starts_asking log pages site newest records table commits x first holds unfinished at = (starts log pages site newest records table commits x first holds unfinished at, asks_none records x.txn log pages site)
 
-pub goes_on_asking : PageLaws → (laws : UndoLaws) (log : LogStore) (pages : PageStore) (site : State) (newest : Option Master) (records : List Entry) (table : List Content) (commits txn blocks : ℕ) (now : Undoing) (start : LogStore) (old : PageStore) (before : State) →
-    (c : AsksFor log pages site newest records table commits txn blocks now start old before) (log' : LogStore) (pages' : PageStore) (new : State) (next : Undoing) (u : Entry) (rest : List Entry) →
+pub goes_on_asking : PageLaws → (laws : UndoLaws) (log : LogStore) (pages : PageStore) (site : State) (newest : Option Master) (records : List Entry) (table : List Content) (commits txn blocks : ℕ) (now : UndoCursor) (start : LogStore) (old : PageStore) (before : State) →
+    (c : AsksFor log pages site newest records table commits txn blocks now start old before) (log' : LogStore) (pages' : PageStore) (new : State) (next : UndoCursor) (u : Entry) (rest : List Entry) →
     left_open (records ++ c.0.clrs) now.txn ≡ u ∷ rest → Undone log' pages' new newest (records ++ c.0.clrs) table commits (left_of now c.0.remaining) next → blocks_to log' ≤ blocks_to log + 1 → new.log_reads ≤ site.log_reads + 1 →
-    StepsMachine {T = Undoing} (Ok next) (works_of (u ∷ [])) pages pages' site new → PerformsOn {T = Undoing} (Ok next) (clr_work u) log log' pages pages' site new →
+    StepsMachine {T = UndoCursor} (Ok next) (works_of (u ∷ [])) pages pages' site new → PerformsOn {T = UndoCursor} (Ok next) (clr_work u) log log' pages pages' site new →
     (more : AsksFor log' pages' new newest records table commits txn blocks next start old before) × (length c.0.clrs + 1 ≤ length more.0.clrs)
 unfolding goes_on
 goes_on_asking page_laws laws log pages site newest records table commits txn blocks now start old before c log' pages' new next u rest left done one one_read asks performs =

@@ -47,5 +47,5 @@ module _ (laws : PageLaws) (redo : RedoLaws) (o : Opening) (log : LogStore) (pag
               blocks = omega (arith, first, (blocks_left laws redo o log pages site front h s now).next);
               masters = omega (arith, masters_same site.image s.image now.masters);
             }) all;
-        past = subst (λ (g : Geometry). OnOk r (CallsForUnits g site new)) h.geometry calls;
+        device_calls = subst (λ (g : Geometry). OnOk r (CallsForUnits g site new)) h.geometry calls;
       })

@@ -15,12 +15,12 @@ use Rattle.log_laws.specs.Analysis.{Unfinished}
 use Rattle.log_store.specs.declared.store.LogStore.{LogStore}
 use Rattle.page_store.specs.declared.store.PageStore.{PageStore}
 use Rattle.checkpoint.specs.declared.master.Master.{Master}
-use Rattle.image_meaning.specs.Meaning.{kept_by, picture_under}
+use Rattle.image_meaning.specs.Meaning.{kept_by, logical_image_under}
 use Rattle.analysis.specs.declared.analysis.Analysis.{Analysis}
 use Rattle.analysis.specs.Open.{Open, IsTop, Remains}
 use Rattle.analysis.specs.Table.{listed}
 use Rattle.analysis.specs.Read.{IsTable}
-use Rattle.redo_undo.specs.declared.undo.Undoing.{Undoing}
+use Rattle.redo_undo.specs.declared.undo.UndoCursor.{UndoCursor}
 use Rattle.redo_laws.specs.Holding.{Represents}
 use Rattle.redo_undo.specs.Undoing.{Undone}
 use Rattle.redo_laws.specs.UndoingAll.{IsUndoing, IsGreatest}
@@ -31,7 +31,7 @@ use Rattle.page_store.specs.Caching.{rules}
 use Rattle.redo_laws.proofs.AskingUndo.{one_more_work, more_work_stopped, all_work}
 use Rattle.redo_undo.proofs.Lasts.{split_at}
 use Rattle.redo_undo.specs.Mirroring.{PerformsOn}
-use Rattle.ring_machine.specs.Machine.{Work}
+use Rattle.ring_machine.specs.Machine.{RingOp}
 use Rattle.ring_machine.specs.Restart.{undo_work, undoing_one, undoing_work}
 use Rattle.ring_machine.proofs.Performing.{performs_as, performs_by, performs_then, performs_stopped, performs_answered}
 use Rattle.redo_undo.proofs.Found.{order, undoable, open_is, lives, head_of, one_more, one_end, nothing_undone, more_undone}
@@ -42,7 +42,7 @@ use Rattle.log_laws.proofs.Pendings.{last_is, none_last, waits, reversed, pendin
 pub last_is_left : (found_laws : FoundLaws) (laws : UndoLaws) (log : LogStore) (pages : PageStore) (site : State) (newest : Option Master) (records : List Entry) (table : List Content) (commits : ℕ) (found : Analysis) → Represents log pages site newest records table commits → IsTable [] records (listed found.table) →
     (txn lsn : ℕ) (u : Entry) → Remains (listed found.table) txn lsn → IsLastAt records txn lsn u → (rest : List Entry) × (left_open records txn ≡ u ∷ rest)
 last_is_left found_laws laws log pages site newest records table commits found h is txn lsn u remains last =
-    let p = picture_under newest pages.flash.geometry site.image h.log_holds.blocks in
+    let p = logical_image_under newest pages.flash.geometry site.image h.log_holds.blocks in
     let ordered = order found_laws laws log pages site newest records table commits found h is in
     let said = open_is found_laws laws log pages site newest records table commits found h is txn remains.x remains.there in
     let head = head_of (left_open records txn) lsn (subst (λ (y : Open). IsTop lsn y.updates) said.1 remains.top) in
@@ -68,7 +68,7 @@ module _ (laws : UndoLaws) (log : LogStore) (pages : PageStore) (site : State) (
   }
 
   -- a CLR
-  pub clr_updates : (x : Unfinished) (now : Undoing) (done : Undone log pages site newest records table commits x now) → IsTable [] (records ++ record { lsn = now.last; rec = Clr x.txn x.last now.next done.page done.slot done.before } ∷ []) (listed found.table) →
+  pub clr_updates : (x : Unfinished) (now : UndoCursor) (done : Undone log pages site newest records table commits x now) → IsTable [] (records ++ record { lsn = now.last; rec = Clr x.txn x.last now.next done.page done.slot done.before } ∷ []) (listed found.table) →
       ((t : ℕ) → is_loser records t ≡ true → 0 < length (left_open records t)) → (from to : ℕ) → IsInOrder from records to → (lsn : ℕ) (u : Entry) (rest : List Entry) → IsLastAt records x.txn lsn u → left_open records x.txn ≡ u ∷ rest →
       UndoesUpdates log pages site newest records table commits found now.last (u ∷ [])
   unfolding one_more
@@ -135,7 +135,7 @@ pub record AsksUpdates (log : LogStore) (pages : PageStore) (site : State) (newe
   pub asks : StepsMachine {T = ⊤} (Ok tt) (works_of done) old pages before site
   pub read : site.log_reads ≤ before.log_reads + length done
   -- the machine has done so much, and what remains is to be done
-  pub worked : List Work
+  pub worked : List RingOp
   pub left_is : undo_work records ≡ worked ++ undoing_work (reverse (pending (records ++ updates.some.more)))
   pub performs : PerformsOn {T = ⊤} (Ok tt) worked start log old pages before site
 
@@ -153,7 +153,7 @@ updates_asked_more b log log' pages pages' site site' newest records table commi
       asks = one_more_work tt b a.done u old pages pages' before site site' a.asks asks;
       read = let so_far = a.read in let long : length (a.done ++ u ∷ []) ≡ length a.done + 1 = length-append a.done (u ∷ []) in omega (arith, so_far, one, long);
       worked = a.worked ++ undoing_one u earlier;
-      left_is = a.left_is ∙ ap (λ (l : List Entry). a.worked ++ undoing_work l) more.left ∙ sym (append_assoc a.worked (undoing_one u earlier) (undoing_work earlier)) ∙ ap (λ (w : List Work). (a.worked ++ undoing_one u earlier) ++ w) same;
+      left_is = a.left_is ∙ ap (λ (l : List Entry). a.worked ++ undoing_work l) more.left ∙ sym (append_assoc a.worked (undoing_one u earlier) (undoing_work earlier)) ∙ ap (λ (w : List RingOp). (a.worked ++ undoing_one u earlier) ++ w) same;
       performs = performs_then a.performs (performs_by (sym a.asks.rules_are) (performs_answered (performs earlier more.left)));
     }
 

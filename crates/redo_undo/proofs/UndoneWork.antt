@@ -21,7 +21,7 @@ use Rattle.analysis.specs.Open.{Open, found_in, AscendFrom, TakesOut}
 use Rattle.analysis.specs.Read.{IsTable, open_at}
 use Rattle.analysis.specs.Laws.{OneTable, TableOfUnfinished}
 use Rattle.record_model.specs.Touches.{touch}
-use Rattle.ring_machine.specs.Machine.{Work, cached, logged, changed}
+use Rattle.ring_machine.specs.Machine.{RingOp, cached, logged, changed}
 use Rattle.ring_machine.specs.Octets.{clr_octets}
 use Rattle.redo_laws.proofs.AskingUndo.{page_is}
 use Rattle.ring_machine.specs.Commands.{takes_back, ends}
@@ -36,7 +36,7 @@ use Rattle.redo_laws.specs.UndoingAll.{HasNone}
 use Rattle.analysis.specs.declared.analysis.Analysis.{Analysis}
 use Rattle.analysis.specs.Table.{listed}
 use Rattle.checkpoint.specs.declared.master.Master.{Master}
-use Rattle.image_meaning.specs.Meaning.{picture_under, kept_by}
+use Rattle.image_meaning.specs.Meaning.{logical_image_under, kept_by}
 use Rattle.log_laws.specs.Tail.{next_lsn}
 use Rattle.redo_laws.specs.Laws.{FoundLaws, UndoLaws}
 use Rattle.redo_laws.specs.UndoWorks.{UndoesUpdates}
@@ -46,7 +46,7 @@ use Rattle.redo_undo.proofs.Opens.{found_here}
 use Rattle.std.proofs.lemmas.Option.{same_Some}
 
 -- a read of the log before it
-pub performs_read : {T : Type 0} {result : Result T Stop} {works : List Work} {old new : LogStore} {pages pages' : PageStore} {image mid image' : Image} → mid ≡ image → Performs result (rules pages) works (Mirrors old pages mid) (Mirrors new pages' image') → Performs result (rules pages) works (Mirrors old pages image) (Mirrors new pages' image')
+pub performs_read : {T : Type 0} {result : Result T Stop} {works : List RingOp} {old new : LogStore} {pages pages' : PageStore} {image mid image' : Image} → mid ≡ image → Performs result (rules pages) works (Mirrors old pages mid) (Mirrors new pages' image') → Performs result (rules pages) works (Mirrors old pages image) (Mirrors new pages' image')
 performs_read {old = old} {pages = pages} same performs = performs_from (λ m is. subst (λ (i : Image). Mirrors old pages i m) (sym same) is) performs
 
 pub read_refuses : (stop : Stop) → (stop ≡ Device Log) ⊎ (stop ≡ Foreign) → (dev : Dev) → stop ≢ Worn dev
@@ -65,7 +65,7 @@ pub clr_is : (u : Entry) (number : ℕ) (before : Content) → number_of u.rec �
 clr_is u number before at is = ap (clr_on (before_of u.rec)) at ∙ ap (λ (b : Content). takes_back (number, b)) is
 
 pub clrs_more : (done : List Entry) (u : Entry) → clrs_for (done ++ u ∷ []) ≡ clrs_for done ++ clr_work u
-clrs_more done u = flat_map-append clr_work done (u ∷ []) ∙ ap (λ (w : List Work). clrs_for done ++ w) (append-nil (clr_work u))
+clrs_more done u = flat_map-append clr_work done (u ∷ []) ∙ ap (λ (w : List RingOp). clrs_for done ++ w) (append-nil (clr_work u))
 
 pub clrs_are : (done rest : List Entry) (u : Entry) → clrs_for (done ++ u ∷ rest) ≡ (clrs_for done ++ clr_work u) ++ clrs_for rest
 clrs_are done rest u = flat_map-append clr_work done (u ∷ rest) ∙ sym (append_assoc (clrs_for done) (clr_work u) (clrs_for rest))
@@ -74,14 +74,14 @@ clrs_are done rest u = flat_map-append clr_work done (u ∷ rest) ∙ sym (appen
 
 pub more_ends : (a b : ℕ) → replicate (a + b) (logged 9) ≡ replicate a (logged 9) ++ replicate b (logged 9)
 more_ends zero b = ap (λ (n : ℕ). replicate n (logged 9)) (omega arith)
-more_ends (suc a) b = ap (λ (n : ℕ). replicate n (logged 9)) (more a) ∙ ap (λ (w : List Work). logged 9 ∷ w) (more_ends a b)
+more_ends (suc a) b = ap (λ (n : ℕ). replicate n (logged 9)) (more a) ∙ ap (λ (w : List RingOp). logged 9 ∷ w) (more_ends a b)
   where
     more : (a : ℕ) → suc a + b ≡ suc (a + b)
     more a = omega arith
 
 pub one_end : (a : ℕ) → replicate (suc a) (logged 9) ≡ replicate a (logged 9) ++ ends
 one_end zero = refl
-one_end (suc a) = ap (λ (w : List Work). logged 9 ∷ w) (one_end a)
+one_end (suc a) = ap (λ (w : List RingOp). logged 9 ∷ w) (one_end a)
 
 -- so many of them were made, and the others are left
 pub record EndsMade (log log' : LogStore) (pages : PageStore) (before now : State) (all left : List Open) : Type 0 where
@@ -212,7 +212,7 @@ pub waits_where : (found_laws : FoundLaws) (laws : UndoLaws) (log : LogStore) (p
 waits_where found_laws laws log pages site newest records table commits found known u earlier all first x there =
     let now = first.some.now in
     let log_now = records ++ first.some.more in
-    let p = picture_under newest pages.flash.geometry site.image now.holds.log_holds.blocks in
+    let p = logical_image_under newest pages.flash.geometry site.image now.holds.log_holds.blocks in
     let lives = lives found_laws laws log pages site newest log_now table commits found now.holds now.analysis (txn_of u) x there in
     let next : (v : Entry) (rest : List Entry) → left_open log_now (txn_of u) ≡ v ∷ rest → IsNext log_now (txn_of u) v rest = λ v rest is.
     found_laws.next (512 * kept_by newest) (next_lsn p now.holds.log_holds.tail) log_now (txn_of u) v rest (order found_laws laws log pages site newest log_now table commits found now.holds now.analysis)

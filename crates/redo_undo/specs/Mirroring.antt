@@ -4,13 +4,13 @@ use Rattle.std.specs.Prelude.{map, flat_map, filter, replicate, length, Result}
 use Rattle.site.specs.declared.outside.Stop.{Stop}
 use Rattle.site.specs.State.{State, Image}
 use Rattle.record_model.specs.State.{Content}
-use Rattle.record_model.specs.Touches.{CacheWork, touch, flush, page_of}
+use Rattle.record_model.specs.Touches.{CacheOp, touch, flush, page_of}
 use Rattle.log_records.specs.declared.log_record.LogRecord.{LogRecord}
 use Rattle.log_records.specs.Log.{Entry}
 use Rattle.log_records.specs.Unfinished.{left_open}
 use Rattle.second_chance.specs.Machine.{Cache}
 use Rattle.ring_machine.specs.Tail.{waits, empty_at}
-use Rattle.ring_machine.specs.Machine.{Machine, Work, cached, logged, changed, force}
+use Rattle.ring_machine.specs.Machine.{Machine, RingOp, cached, logged, changed, force}
 use Rattle.ring_machine.specs.Octets.{octets_of, update_octets}
 use Rattle.ring_machine.specs.Commands.{ends}
 use Rattle.ring_machine.specs.Restart.{clr_work}
@@ -21,7 +21,7 @@ use Rattle.page_store.specs.declared.store.PageStore.{PageStore}
 use Rattle.page_store.specs.Representation.{current}
 use Rattle.page_store.specs.Caching.{cache_of, rules}
 use Rattle.analysis.specs.Open.{Open}
-use Rattle.redo_undo.specs.declared.store.Store.{Store}
+use Rattle.redo_undo.specs.declared.store.TransactionStore.{TransactionStore}
 
 -- The machine mirrors log and pages: it has their pool and their queue; its tail goes into the log's next block, and
 -- has as many octets; and a page waits for the tail exactly where its last change stands there.
@@ -34,17 +34,18 @@ pub record Mirrors (log : LogStore) (pages : PageStore) (image : Image) (m : Mac
   pub masters : m.masters ≤ 2 ^ 40
 
 -- and the ring of master units with them
-pub record MirrorsStore (store : Store) (image : Image) (m : Machine) : Type 0 where
+pub record MirrorsStore (store : TransactionStore) (image : Image) (m : Machine) : Type 0 where
   pub both : Mirrors store.log store.pages image m
   pub masters : m.masters ≡ store.masters.hi
 
 -- a call on log and pages does this work, and a call on a store
-abbrev pub PerformsOn : {T : Type 0} → Result T Stop → List Work → LogStore → LogStore → PageStore → PageStore → State
+abbrev pub PerformsOn : {T : Type 0} → Result T Stop → List RingOp → LogStore → LogStore → PageStore → PageStore → State
     → State → Type 0
 PerformsOn result works old new pages pages' before now =
     Performs result (rules pages) works (Mirrors old pages before.image) (Mirrors new pages' now.image)
 
-abbrev pub PerformsStore : {T : Type 0} → Result T Stop → List Work → Store → Store → State → State → Type 0
+abbrev pub PerformsStore : {T : Type 0} → Result T Stop → List RingOp → TransactionStore → TransactionStore → State
+    → State → Type 0
 PerformsStore result works old new before now =
     Performs result (rules old.pages) works (MirrorsStore old before.image) (MirrorsStore new now.image)
 
@@ -54,43 +55,43 @@ abbrev pub resting : ℕ → ℕ → Cache → Machine
 resting next masters cache = record { cache = cache; tail = empty_at next; masters = masters }
 
 -- a call that redoes does this work of the cache, from rest to rest, wherever log and masters stand
-pub record PerformsAtRest {T : Type 0} (result : Result T Stop) (works : List CacheWork)
+pub record PerformsAtRest {T : Type 0} (result : Result T Stop) (works : List CacheOp)
     (old new : PageStore) : Type 0 where
   pub from : (next masters : ℕ) → next ≤ 2 ^ 40 → masters ≤ 2 ^ 40
       → Performs result (rules old) (map cached works) (λ m. m ≡ resting next masters (cache_of old))
       (λ m. m ≡ resting next masters (cache_of new))
 
 -- a page comes to the front; what is unsealed is sealed; all changed pages are pushed
-abbrev pub touch_work : ℕ → List Work
+abbrev pub touch_work : ℕ → List RingOp
 touch_work page = cached (touch page false) ∷ []
 
-abbrev pub force_work : List Work
+abbrev pub force_work : List RingOp
 force_work = force ∷ []
 
-abbrev pub flush_work : List Work
+abbrev pub flush_work : List RingOp
 flush_work = cached flush ∷ []
 
 -- a record is logged, and one on a page, which it changes
-abbrev pub record_work : LogRecord → List Work
+abbrev pub record_work : LogRecord → List RingOp
 record_work rec = logged (octets_of rec) ∷ []
 
-abbrev pub change_work : LogRecord → ℕ → List Work
+abbrev pub change_work : LogRecord → ℕ → List RingOp
 change_work rec page = changed (octets_of rec) page ∷ []
 
-abbrev pub updates : ℕ → Content → Content → List Work
+abbrev pub updates : ℕ → Content → Content → List RingOp
 updates number before after = changed (update_octets before after) (page_of number) ∷ []
 
 -- undoing these Updates, the first one first, and undoing a transaction: a CLR for each of its Updates that are left,
 -- and its End
-abbrev pub clrs_for : List Entry → List Work
+abbrev pub clrs_for : List Entry → List RingOp
 clrs_for updates = flat_map clr_work updates
 
-abbrev pub undo_one_work : List Entry → ℕ → List Work
+abbrev pub undo_one_work : List Entry → ℕ → List RingOp
 undo_one_work records txn = clrs_for (left_open records txn) ++ ends
 
 -- the Ends of the transactions of which nothing remains
 abbrev pub none_remains : Open → Bool
 none_remains x = nat_eq (length x.updates) 0
 
-abbrev pub ends_for : List Open → List Work
+abbrev pub ends_for : List Open → List RingOp
 ends_for table = replicate (length (filter none_remains table)) (logged 9)

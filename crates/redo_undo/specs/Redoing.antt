@@ -7,11 +7,11 @@ use Rattle.redo_undo.specs.Mirroring.{PerformsAtRest}
 use Rattle.redo_laws.specs.Calls.{Keeps}
 use Rattle.site.specs.State.{State, Image, Snapshot}
 use Rattle.record_model.specs.State.{Content}
-use Rattle.record_model.specs.Touches.{CacheWork}
+use Rattle.record_model.specs.Touches.{CacheOp}
 use Rattle.log_records.specs.declared.log_record.LogRecord.{LogRecord}
 use Rattle.log_records.specs.Log.{Entry, version_at}
 use Rattle.log_records.specs.Restart.{redo_touch}
-use Rattle.log_records.specs.Sound.{Picture, Means, last_lsn, from_block}
+use Rattle.log_records.specs.Sound.{LogicalImage, Means, last_lsn, from_block}
 use Rattle.log_records.specs.Sound as lists
 use Rattle.slotted_page.specs.Layout.{lsn_of}
 use Rattle.log_store.specs.declared.store.LogStore.{LogStore}
@@ -19,9 +19,9 @@ use Rattle.page_store.specs.declared.store.PageStore.{PageStore}
 use Rattle.page_store.specs.Representation.{current}
 use Rattle.page_store.specs.Ahead.{IsAhead}
 use Rattle.page_store.specs.Leaves.{AreReady}
-use Rattle.image_meaning.specs.Meaning.{IsSoundUnder, picture_under, versions_on, version_in, kept_by}
+use Rattle.image_meaning.specs.Meaning.{IsSoundUnder, logical_image_under, versions_on, version_in, kept_by}
 use Rattle.image_meaning.specs.Moments.{LeavesTableUnder}
-use Rattle.image_meaning.specs.Pictures.{ReplaceAll}
+use Rattle.image_meaning.specs.LogicalImages.{ReplaceAll}
 use Rattle.image_meaning.specs.Redone.{IsRedone, AreKnown}
 use Rattle.image_meaning.specs.Beside.{AreRingsSoundUnder}
 use Rattle.analysis.specs.Read.{IsAnalysis}
@@ -37,7 +37,7 @@ pub record IsOpened (g : Geometry) (log : LogStore) (pages : PageStore) (site : 
   pub kept : log.kept ≡ kept_by newest
   pub ready : AreReady pages log (record { first = kept_by newest; blocks = blocks; tail = [] }) site
   pub sound : IsSoundUnder newest g site.image blocks
-  pub means : Means (picture_under newest g site.image blocks) table commits
+  pub means : Means (logical_image_under newest g site.image blocks) table commits
   pub empty : pages.pool.frames ≡ []
 
 -- the image that a restart begins with, its newest master, the blocks of its log, and what it stands for
@@ -49,15 +49,15 @@ pub record Opening : Type 0 where
   pub table : List Content
   pub commits : ℕ
 
-abbrev pub opened : Opening → Picture
-opened o = picture_under o.newest o.sizes o.image o.blocks
+abbrev pub opened : Opening → LogicalImage
+opened o = logical_image_under o.newest o.sizes o.image o.blocks
 
 -- what redoing these records of the log asks of the cache
-abbrev pub touches_of : Opening → List Entry → List CacheWork
+abbrev pub touches_of : Opening → List Entry → List CacheOp
 touches_of o records = filter_map (redo_touch (opened o)) records
 
 -- what reading them asks: those from the redo block on are redone
-abbrev pub asked_of : Opening → List Entry → List CacheWork
+abbrev pub asked_of : Opening → List Entry → List CacheOp
 asked_of o records = touches_of o (from_block (opened o).master.redo records)
 
 -- of these records, those that analysis hears of
@@ -65,7 +65,7 @@ abbrev pub heard_of : lists.Master → List Entry → List Entry
 heard_of m records = filter (is_taken m) records
 
 -- an LSN is that of the page's version, or none above the last of these records
-abbrev pub IsFrom : Picture → List Entry → ℕ → ℕ → Type 0
+abbrev pub IsFrom : LogicalImage → List Entry → ℕ → ℕ → Type 0
 IsFrom p front page lsn = (lsn ≡ (version_at p.pages page).lsn) ⊎ (lsn ≤ last_lsn front)
 
 -- a snapshot stands for the same table
@@ -99,7 +99,7 @@ pub record HasTaken (o : Opening) (log : LogStore) (pages : PageStore) (site : S
   pub count : so_far.records ≡ length front
 
 -- a call that redoes asks for this work, and does it on a log whose tail has no records
-pub record AsksAtRest {T : Type 0} (result : Result T Stop) (works : List CacheWork) (old new : PageStore)
+pub record AsksAtRest {T : Type 0} (result : Result T Stop) (works : List CacheOp) (old new : PageStore)
     (before now : State) : Type 0 where
   pub asks : StepsMachine result works old new before now
   pub performs : PerformsAtRest result works old new

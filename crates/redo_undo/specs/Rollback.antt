@@ -11,7 +11,7 @@ use Rattle.log_records.specs.Sound.{AreOrderly}
 use Rattle.log_store.specs.declared.store.LogStore.{LogStore}
 use Rattle.page_store.specs.declared.store.PageStore.{PageStore}
 use Rattle.checkpoint.specs.declared.master.Master.{Master}
-use Rattle.redo_undo.specs.declared.undo.Undoing.{Undoing}
+use Rattle.redo_undo.specs.declared.undo.UndoCursor.{UndoCursor}
 use Rattle.redo_laws.specs.Holding.{Represents, blocks_to}
 
 -- these are CLRs of a transaction
@@ -19,13 +19,13 @@ abbrev pub AreClrsOf : ℕ → List Entry → Type 0
 AreClrsOf txn more = AllByRecursion (λ e. (is_clr e.rec ≡ true) × (txn_of e ≡ txn)) more
 
 -- an unfinished transaction with so many Updates that remain to be undone
-abbrev pub left_of : Undoing → ℕ → Unfinished
+abbrev pub left_of : UndoCursor → ℕ → Unfinished
 left_of at remaining = record { txn = at.txn; last = at.last; next = at.next; remaining = remaining }
 
 -- Of an unfinished transaction some Updates are compensated, the last ones first: the log has their CLRs, and the pages
 -- show them. From so many blocks and log reads on it took at most one of each for each CLR.
 pub record Compensates (log : LogStore) (pages : PageStore) (site : State) (newest : Option Master)
-    (records : List Entry) (table : List Content) (commits : ℕ) (txn blocks reads : ℕ) (now : Undoing) : Type 0 where
+    (records : List Entry) (table : List Content) (commits : ℕ) (txn blocks reads : ℕ) (now : UndoCursor) : Type 0 where
   pub clrs : List Entry
   pub own : AreClrsOf txn clrs
   pub holds : Represents log pages site newest (records ++ clrs) table commits

@@ -7,7 +7,7 @@ use Rattle.log_records.specs.Unfinished.{left_open, owed}
 use Rattle.log_laws.specs.Follow.{IsActive}
 use Rattle.checkpoint.specs.declared.master.Master.{Master}
 use Rattle.image_meaning.specs.Meaning.{master_of}
-use Rattle.redo_undo.specs.declared.store.Store.{Store}
+use Rattle.redo_undo.specs.declared.store.TransactionStore.{TransactionStore}
 use Rattle.redo_undo.specs.Stores.{Represents}
 
 -- all other transactions are as they were
@@ -18,7 +18,7 @@ pub record ConcernsOnly (newest : Option Master) (txn : ℕ) (before now : List 
   pub left : (t : ℕ) → t ≢ txn → left_open now t ≡ left_open before t
 
 -- A transaction of so many writes is undone, and its End is logged. It owes nothing any more.
-pub record RollsBack (store : Store) (site : State) (newest : Option Master) (records : List Entry)
+pub record RollsBack (store : TransactionStore) (site : State) (newest : Option Master) (records : List Entry)
     (table : List Content) (commits : ℕ) (txn writes : ℕ) : Type 0 where
   pub log : List Entry
   pub concerns : ConcernsOnly newest txn records log

@@ -17,14 +17,14 @@ use Rattle.image_meaning.specs.Meaning.{versions_on}
 use Rattle.redo_laws.specs.Checkpointing.{KeepUnfinished}
 use Rattle.redo_laws.specs.Holding as both
 use Rattle.redo_laws.specs.Holding.{blocks_to}
-use Rattle.redo_undo.specs.declared.store.Store.{Store}
+use Rattle.redo_undo.specs.declared.store.TransactionStore.{TransactionStore}
 
 -- how large the devices are
-abbrev pub sizes_of : Store → Geometry
+abbrev pub sizes_of : TransactionStore → Geometry
 sizes_of store = store.pages.flash.geometry
 
 -- of every site: log and pages may go on
-pub record MayWork (store : Store) (site : State) : Type 0 where
+pub record MayWork (store : TransactionStore) (site : State) : Type 0 where
   pub both : both.Invariant store.log store.pages site
   -- each kept block has a record that counts
   pub blocks : blocks_to store.log ≤ store.log.kept + store.made
@@ -34,14 +34,14 @@ pub record MayWork (store : Store) (site : State) : Type 0 where
   pub shape : store.masters.shape ≡ master_shape
 
 -- and it may log one more record
-pub record MayLog (store : Store) (site : State) : Type 0 where
+pub record MayLog (store : TransactionStore) (site : State) : Type 0 where
   pub going : MayWork store site
   pub room : blocks_to store.log + 1 < store.log.kept + (sizes_of store).blocks
   pub few : store.made < 2 ^ 40
 
 -- Of an honest site: under this newest master log and pages hold these records together, what is sealed of them stands
 -- for this table after so many commits, and they are in order. The ring of master units is the one that stands there.
-pub record Represents (store : Store) (site : State) (newest : Option Master) (records : List Entry)
+pub record Represents (store : TransactionStore) (site : State) (newest : Option Master) (records : List Entry)
     (table : List Content) (commits : ℕ) : Type 0 where
   pub both : both.Represents store.log store.pages site newest records table commits
   pub orderly : AreOrderly records
@@ -49,7 +49,8 @@ pub record Represents (store : Store) (site : State) (newest : Option Master) (r
 
 -- A checkpoint was made that names these transactions: under its master log and pages hold the records from its oldest
 -- kept block on, and all records of unfinished transactions are among them.
-pub record HasCheckpoint (store : Store) (site : State) (records : List Entry) (table : List Content) (commits : ℕ)
+pub record HasCheckpoint (store : TransactionStore) (site : State) (records : List Entry) (table : List Content)
+    (commits : ℕ)
     (active : List Pair) : Type 0 where
   pub master : Master
   pub named : master.active ≡ active
@@ -57,15 +58,15 @@ pub record HasCheckpoint (store : Store) (site : State) (records : List Entry) (
   pub keeps : KeepUnfinished records (from_block master.kept records)
 
 -- one more record may be appended
-abbrev pub MayGrow : Store → State → Option Master → List Entry → Entry → Type 0
+abbrev pub MayGrow : TransactionStore → State → Option Master → List Entry → Entry → Type 0
 MayGrow store site newest records e = both.MayGrow store.log store.pages site.image newest records e
 
 -- what was written to a record last, by whomever
-abbrev pub shown_in : Store → State → List Entry → ℕ → Content
+abbrev pub shown_in : TransactionStore → State → List Entry → ℕ → Content
 shown_in store site records number = shown records (versions_on store.pages.flash.geometry site.image) number
 
 -- the page of a record is in front of the pool
-pub record IsInFront (store : Store) (number : ℕ) : Type 0 where
+pub record IsInFront (store : TransactionStore) (number : ℕ) : Type 0 where
   pub there : 0 < length store.pages.pool.frames
   pub page : (front_of store.pages.pool.frames).page ≡ number / 32
 

@@ -13,12 +13,12 @@ use Rattle.log_store.specs.declared.store.LogStore.{LogStore}
 use Rattle.page_store.specs.declared.store.PageStore.{PageStore}
 use Rattle.checkpoint.specs.declared.master.Master.{Master}
 use Rattle.image_meaning.specs.Meaning.{master_of, versions_on}
-use Rattle.redo_undo.specs.declared.undo.Undoing.{Undoing}
+use Rattle.redo_undo.specs.declared.undo.UndoCursor.{UndoCursor}
 use Rattle.redo_undo.specs.declared.undo.Wanted.{Wanted}
 use Rattle.redo_laws.specs.Holding.{Represents}
 
 -- where undoing an unfinished transaction stands
-pub record IsAt (at : Undoing) (x : Unfinished) : Type 0 where
+pub record IsAt (at : UndoCursor) (x : Unfinished) : Type 0 where
   pub txn : at.txn ≡ x.txn
   pub last : at.last ≡ x.last
   pub next : at.next ≡ x.next
@@ -34,7 +34,7 @@ pub record IsWanted (g : Geometry) (image : Image) (newest : Option Master) (rec
 
 -- a CLR of the transaction was logged, and its page has what stood there before
 pub record Undone (log : LogStore) (pages : PageStore) (site : State) (newest : Option Master) (records : List Entry)
-    (table : List Content) (commits : ℕ) (x : Unfinished) (now : Undoing) : Type 0 where
+    (table : List Content) (commits : ℕ) (x : Unfinished) (now : UndoCursor) : Type 0 where
   pub e : Entry
   pub page : ℕ
   pub slot : ℕ

@@ -33,7 +33,7 @@ ghost use Rattle.site.specs.Moments.{ChangesOnly};
 
 use crate::forcing::force;
 use crate::laws::{beside_laws, log_laws, page_laws};
-use crate::store::Store;
+use crate::store::TransactionStore;
 use checkpoint::{Master, Pairs, one_master, save};
 use image_changes::ring_kept;
 use image_meaning::{
@@ -194,7 +194,7 @@ fn save_master<S: Site>(
     Ok(master)
 }
 
-impl Store {
+impl TransactionStore {
     /// A checkpoint that names these unfinished transactions: what is unsealed is sealed, the changed pages are flushed
     /// to flash, a master is saved, and the log lets go of the blocks that nothing needs. The first so many records
     /// count no more.

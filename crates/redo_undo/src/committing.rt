@@ -19,7 +19,7 @@ ghost use Rattle.redo_laws.specs.MachineSteps.{StepsMachine};
 
 use crate::laws::{beside_laws, log_laws, page_laws};
 use crate::logging::log_record;
-use crate::store::Store;
+use crate::store::TransactionStore;
 use image_changes::ring_kept;
 use log_laws::{commit_follows, commits_more, orderly_goes_on, owed_closing, tail_with_commit};
 use log_records::LogRecord;
@@ -35,7 +35,7 @@ fn commit_laws()
     owed_closing();
 }
 
-impl Store {
+impl TransactionStore {
     /// Logs the Commit of a transaction, and seals it: then the transaction is committed. Answers the Commit's LSN.
     pub fn commit<S: Site>(&mut self, site: &mut S, txn: u64, number: u64) -> Result<u64, Stop>
         requires may { MayLog self.old (S.state site.old) }

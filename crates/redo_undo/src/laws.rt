@@ -5,7 +5,7 @@ ghost use Rattle.redo_laws.specs.Laws.{LogLaws, PageLaws, BesideLaws, UndoLaws, 
 
 use analysis::table_of_records;
 use image_meaning::{
-    new_versions, pictures, rings_kept_under, room_under, versions_beside_the_tail,
+    logical_images, new_versions, rings_kept_under, room_under, versions_beside_the_tail,
     versions_by_page, write_ahead,
 };
 use log_laws::{
@@ -39,7 +39,7 @@ pub(crate) fn page_laws()
     new_versions();
     write_ahead();
     versions_beside_the_tail();
-    pictures();
+    logical_images();
     versions_by_page();
     room_under();
 }

@@ -8,7 +8,7 @@ ghost use Rattle.log_records.specs.Spelling.{HasForm, IsBlock, used_by};
 ghost use Rattle.log_records.specs.Log.{Entry, log_from, entries_from, number_of, txn_by};
 ghost use Rattle.checkpoint.specs.Actives.{Ascend};
 ghost use Rattle.checkpoint.specs.Newest.{seen};
-ghost use Rattle.image_meaning.specs.Meaning.{picture_under, master_of, kept_by, saved_by};
+ghost use Rattle.image_meaning.specs.Meaning.{logical_image_under, master_of, kept_by, saved_by};
 ghost use Rattle.image_meaning.specs.Moments.{LeavesTableUnder};
 ghost use Rattle.analysis.specs.Open.{owed_for};
 ghost use Rattle.analysis.specs.Table.{listed};
@@ -311,7 +311,7 @@ pub fn redo<S: Site>(
         → master.now ≡ saved_by newest
         → IsOpened pages.old.flash.geometry log.old pages.old (S.state site.old) newest blocks table commits
         → IfOk result (λ redone. IsAnalysis (master_of newest)
-        (taken (picture_under newest pages.old.flash.geometry (S.state site.old).image blocks)) redone.found) }
+        (taken (logical_image_under newest pages.old.flash.geometry (S.state site.old).image blocks)) redone.found) }
     ensures unfinished { (newest : Option Master) (blocks : List (List LogRecord)) (table : List Content) (commits : ℕ)
         → master.now ≡ saved_by newest
         → IsOpened pages.old.flash.geometry log.old pages.old (S.state site.old) newest blocks table commits
@@ -329,7 +329,7 @@ pub fn redo<S: Site>(
         → master.now ≡ saved_by newest
         → IsOpened pages.old.flash.geometry log.old pages.old (S.state site.old) newest blocks table commits
         → AsksAtRest result
-        (redo_works (picture_under newest pages.old.flash.geometry (S.state site.old).image blocks))
+        (redo_works (logical_image_under newest pages.old.flash.geometry (S.state site.old).image blocks))
         pages.old pages.new (S.state site.old) (S.state site.new) }
 
     // Of every site.

@@ -48,7 +48,7 @@ const SLOTS: u32 = 32;
 /// Log, pages and master units of a run, and how many of its records count: all that were made since those that a
 /// checkpoint let go.
 #[derive(Drop)]
-pub struct Store {
+pub struct TransactionStore {
     pub log: LogStore,
     pub pages: PageStore,
     pub masters: Ring,
@@ -68,7 +68,7 @@ fn copy_of(content: &Option<Octets>) -> Option<Octets>
     }
 }
 
-impl Store {
+impl TransactionStore {
     /// How many blocks the log has once its tail is sealed.
     pub fn blocks(&self) -> u64
         requires low { 2 ≤ self.now.log.used }

@@ -35,7 +35,7 @@ use site::{Site, Stop};
 
 /// Where a transaction stands that is being undone.
 #[derive(Clone, Copy)]
-pub(crate) struct Undoing {
+pub(crate) struct UndoCursor {
     /// The transaction: the LSN of its Begin.
     pub txn: u64,
     /// The LSN of its last record.
@@ -68,7 +68,7 @@ pub(crate) fn has_room(log: &LogStore) -> bool
 
 // Reads the Update of a transaction that is to be compensated. It stands in the kept log, is on a page that exists, and
 // names an earlier record.
-fn read_update<S: Site>(log: &LogStore, site: &mut S, at: &Undoing) -> Result<Wanted, Stop>
+fn read_update<S: Site>(log: &LogStore, site: &mut S, at: &UndoCursor) -> Result<Wanted, Stop>
     requires going { log_store.Invariant log.now (S.state site.old) }
     requires last { at.now.last < end_of log.now }
 
@@ -147,7 +147,7 @@ fn compensate<S: Site>(
     site: &mut S,
     log: &mut LogStore,
     pages: &mut PageStore,
-    at: &Undoing,
+    at: &UndoCursor,
     wanted: Wanted,
 ) -> Result<u64, Stop>
     requires going { Invariant log.old pages.old (S.state site.old) }
@@ -225,8 +225,8 @@ pub(crate) fn undo_update<S: Site>(
     site: &mut S,
     log: &mut LogStore,
     pages: &mut PageStore,
-    at: Undoing,
-) -> Result<Undoing, Stop>
+    at: UndoCursor,
+) -> Result<UndoCursor, Stop>
     requires going { Invariant log.old pages.old (S.state site.old) }
     requires last { at.last < end_of log.old }
 
@@ -277,7 +277,7 @@ pub(crate) fn undo_update<S: Site>(
         Ok(last) => last,
         Err(stop) => return Err(stop),
     };
-    Ok(Undoing {
+    Ok(UndoCursor {
         txn: at.txn,
         last,
         next,
@@ -289,8 +289,8 @@ fn undo_updates<S: Site>(
     site: &mut S,
     log: &mut LogStore,
     pages: &mut PageStore,
-    first: Undoing,
-) -> Result<Undoing, Stop>
+    first: UndoCursor,
+) -> Result<UndoCursor, Stop>
     requires going { Invariant log.old pages.old (S.state site.old) }
     requires last { first.last < end_of log.old }
 
@@ -357,7 +357,7 @@ fn goes_on(rec: &LogRecord, lsn: u64) -> Option<(u64, u64)>
 // Reads the last record of a transaction, which says where undoing it goes on: with an Update itself, behind a CLR with
 // the record that this names, and with a Begin nowhere. The record is of the transaction, and what a CLR names stands
 // before it.
-fn read_last<S: Site>(log: &LogStore, site: &mut S, txn: u64, last: u64) -> Result<Undoing, Stop>
+fn read_last<S: Site>(log: &LogStore, site: &mut S, txn: u64, last: u64) -> Result<UndoCursor, Stop>
     requires going { log_store.Invariant log.now (S.state site.old) }
     requires last { last < end_of log.now }
 
@@ -399,7 +399,7 @@ fn read_last<S: Site>(log: &LogStore, site: &mut S, txn: u64, last: u64) -> Resu
     if next > last {
         return Err(Stop::Foreign);
     }
-    Ok(Undoing { txn, last, next })
+    Ok(UndoCursor { txn, last, next })
 }
 
 /// Undoes a transaction as a whole: a CLR for each of its Updates that has none, the last one first, and its End. `txn`

@@ -26,7 +26,7 @@ ghost use Rattle.ring_machine.specs.Restart.{clr_work, undoing_one, undo_work};
 
 use crate::laws::{found_laws, page_laws, undo_laws};
 use crate::logging::log_record;
-use crate::undo::{Undoing, has_room, undo_update};
+use crate::undo::{UndoCursor, has_room, undo_update};
 use analysis::{Analysis, Loser};
 use log_records::LogRecord;
 use log_store::LogStore;
@@ -241,7 +241,7 @@ fn undo_greatest<S: Site>(
     page_laws();
     undo_laws();
     found_laws();
-    let at = Undoing {
+    let at = UndoCursor {
         txn: loser.txn,
         last: loser.last,
         next: lsn,

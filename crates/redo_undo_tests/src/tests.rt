@@ -19,7 +19,7 @@ use log_store::LogStore;
 use mem_site::MemSite;
 use page_store::PageStore;
 use record_model::Octets;
-use redo_undo::{Store, log_change, log_record, touch};
+use redo_undo::{TransactionStore, log_change, log_record, touch};
 use site::{Geometry, Stop};
 use std::alloc::Global;
 use std::test::Fail;
@@ -101,7 +101,7 @@ fn crashed(site: MemSite) -> MemSite
 }
 
 // Log and pages with the ring of master units, where all records count that the log has room for.
-fn stored(site: &mut MemSite, log: LogStore, pages: PageStore) -> Result<Store, Stop>
+fn stored(site: &mut MemSite, log: LogStore, pages: PageStore) -> Result<TransactionStore, Stop>
     requires going { Invariant log pages (state_of site.old) }
     requires room { blocks_to log + 3 < log.kept + log.geometry.blocks }
     requires sizes { log.geometry ≡ record { pages = 1; groups = 8; blocks = 16 } }
@@ -111,7 +111,7 @@ fn stored(site: &mut MemSite, log: LogStore, pages: PageStore) -> Result<Store, 
     ensures sizes { IfOk result (λ store. sizes_of store ≡ record { pages = 1; groups = 8; blocks = 16 }) }
 {
     let (masters, _blank) = newest(site)?;
-    Ok(Store {
+    Ok(TransactionStore {
         log,
         pages,
         masters,
@@ -176,7 +176,7 @@ const TWICE: &[Row] = &[
 ];
 
 // A transaction is committed, and its records are block 0.
-fn committed(alloc: Global, site: &mut MemSite) -> Result<Store, Stop>
+fn committed(alloc: Global, site: &mut MemSite) -> Result<TransactionStore, Stop>
     requires { HasLengths (record { pages = 1; groups = 8; blocks = 16 }) (state_of site.old).image }
     ensures may { IfOk result (λ store. MayLog store (state_of site.new)) }
     ensures made { IfOk result (λ store. store.made ≡ 17) }
@@ -189,7 +189,11 @@ fn committed(alloc: Global, site: &mut MemSite) -> Result<Store, Stop>
 
 // The newest master once a checkpoint is made with these active transactions after one commit. No record that counts is
 // let go.
-fn checkpointed(site: &mut MemSite, store: &mut Store, active: Pairs) -> Result<Master, Stop>
+fn checkpointed(
+    site: &mut MemSite,
+    store: &mut TransactionStore,
+    active: Pairs,
+) -> Result<Master, Stop>
     requires going { MayWork store.old (state_of site.old) }
     requires ascend { Ascend active }
     requires begun { first_block (blocks_to store.old.log) (begins_of active) ≤ blocks_to store.old.log }
@@ -203,7 +207,7 @@ fn checkpointed(site: &mut MemSite, store: &mut Store, active: Pairs) -> Result<
 
 // What a checkpoint says: from which block on redo reads, which block it keeps, as the master and the log have it, how
 // many commits there were, and how many transactions are active.
-fn told(master: &Master, store: &Store) -> (u64, u64, u64, u64, usize) {
+fn told(master: &Master, store: &TransactionStore) -> (u64, u64, u64, u64, usize) {
     let active = master.active.len();
     (
         master.redo,

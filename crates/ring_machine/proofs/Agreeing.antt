@@ -10,33 +10,33 @@ use Rattle.record_model.specs.declared.words.Command.TheVariants.{Abort, Begin, 
 use Rattle.record_model.specs.State.{Content, State, content_at, seen, session_at, writes_of}
 use Rattle.record_model.specs.State as state
 use Rattle.record_model.specs.Step.{makes_checkpoint, is_accepted}
-use Rattle.record_model.specs.Touches.{CacheWork, flush, page_of, read_touch, write_touch, record_touches}
+use Rattle.record_model.specs.Touches.{CacheOp, flush, page_of, read_touch, write_touch, record_touches}
 use Rattle.log_records.specs.Log.{Entry, txn_of, is_of, number_of, before_of}
 use Rattle.log_records.specs.Unfinished.{pending}
 use Rattle.log_records.specs.Restart.{redo_touch, undo_touch}
 use Rattle.log_records.specs.Sound.{from_block}
 use Rattle.second_chance.specs.Machine.{Rules, is_changed, with_room, touched, after_works}
 use Rattle.second_chance.specs.Machine as cache
-use Rattle.ring_machine.specs.Machine.{Machine, Work, cached, logged, changed, worked, after_all}
+use Rattle.ring_machine.specs.Machine.{Machine, RingOp, cached, logged, changed, apply_op, after_all}
 use Rattle.ring_machine.specs.Commands.{reads, begins, writes, commits, takes_back, ends, saves, undoes, stood_before, record_work}
 use Rattle.ring_machine.specs.Octets.{update_octets, clr_octets}
 use Rattle.ring_machine.specs.Restart.{clr_on, undoing_work, only_ends, redo_work, undo_work}
 use Rattle.ring_machine.specs.Laws.{CommandsAgree, RestartsAgree}
-use Rattle.ring_machine.proofs.Works.{work_adds_up}
+use Rattle.ring_machine.proofs.Works.{ring_ops_compose}
 
 -- this work does to the cache what these touches and flushes do
-abbrev Agrees : Rules → List Work → List CacheWork → Type 0
+abbrev Agrees : Rules → List RingOp → List CacheOp → Type 0
 Agrees rules works asked = (m : Machine) → (after_all rules works m).cache ≡ after_works rules asked m.cache
 
-cache_adds_up : (rules : Rules) (first later : List CacheWork) (c : cache.Cache) → after_works rules (first ++ later) c ≡ after_works rules later (after_works rules first c)
+cache_adds_up : (rules : Rules) (first later : List CacheOp) (c : cache.Cache) → after_works rules (first ++ later) c ≡ after_works rules later (after_works rules first c)
 cache_adds_up rules [] later c = refl
-cache_adds_up rules (work ∷ works) later c = cache_adds_up rules works later (cache.worked rules work c)
+cache_adds_up rules (work ∷ works) later c = cache_adds_up rules works later (cache.apply_op rules work c)
 
-in_turn : (rules : Rules) (a b : List Work) (t u : List CacheWork) → Agrees rules a t → Agrees rules b u → Agrees rules (a ++ b) (t ++ u)
+in_turn : (rules : Rules) (a b : List RingOp) (t u : List CacheOp) → Agrees rules a t → Agrees rules b u → Agrees rules (a ++ b) (t ++ u)
 in_turn rules a b t u one two m =
-    ap (λ (n : Machine). n.cache) (work_adds_up rules a b m) ∙ two (after_all rules a m) ∙ ap (after_works rules u) (one m) ∙ sym (cache_adds_up rules t u m.cache)
+    ap (λ (n : Machine). n.cache) (ring_ops_compose rules a b m) ∙ two (after_all rules a m) ∙ ap (after_works rules u) (one m) ∙ sym (cache_adds_up rules t u m.cache)
 
-nothing : (rules : Rules) (works : List Work) → ((m : Machine) → (after_all rules works m).cache ≡ m.cache) → Agrees rules works []
+nothing : (rules : Rules) (works : List RingOp) → ((m : Machine) → (after_all rules works m).cache ≡ m.cache) → Agrees rules works []
 nothing rules works same m = same m
 
 -- a page is touched, and changed in front
@@ -60,18 +60,18 @@ take_all_back rules (w ∷ made) = in_turn rules (takes_back w) (flat_map takes_
 -- the same records, in the same order
 numbers_stay : (table : List Content) (earlier made : List state.Write) → map (λ w. write_touch w.0) (stood_before table earlier made) ≡ map (λ w. write_touch w.0) made
 numbers_stay table earlier [] = refl
-numbers_stay table earlier (w ∷ later) = ap (λ (l : List CacheWork). write_touch w.0 ∷ l) (numbers_stay table (earlier ++ w ∷ []) later)
+numbers_stay table earlier (w ∷ later) = ap (λ (l : List CacheOp). write_touch w.0 ∷ l) (numbers_stay table (earlier ++ w ∷ []) later)
 
 touches_stay : (table : List Content) (made : List state.Write) → map (λ w. write_touch w.0) (reverse (stood_before table [] made)) ≡ map (λ w. write_touch w.0) (reverse made)
 touches_stay table made =
     sym (map_reverse_aux (λ (w : state.Write). write_touch w.0) (stood_before table [] made) []) ∙ ap reverse (numbers_stay table [] made) ∙ map_reverse_aux (λ (w : state.Write). write_touch w.0) made []
 
-append-none : (asked : List CacheWork) → asked ++ [] ≡ asked
+append-none : (asked : List CacheOp) → asked ++ [] ≡ asked
 append-none [] = refl
-append-none (work ∷ asked) = ap (λ (l : List CacheWork). work ∷ l) (append-none asked)
+append-none (work ∷ asked) = ap (λ (l : List CacheOp). work ∷ l) (append-none asked)
 
-asked_as : (rules : Rules) (works : List Work) (asked other : List CacheWork) → asked ≡ other → Agrees rules works asked → Agrees rules works other
-asked_as rules works asked other same agrees = subst (λ (l : List CacheWork). Agrees rules works l) same agrees
+asked_as : (rules : Rules) (works : List RingOp) (asked other : List CacheOp) → asked ≡ other → Agrees rules works asked → Agrees rules works other
+asked_as rules works asked other same agrees = subst (λ (l : List CacheOp). Agrees rules works l) same agrees
 
 undone : (rules : Rules) (table : List Content) (made : List state.Write) → Agrees rules (undoes table made) (map (λ w. write_touch w.0) (reverse made))
 undone rules table made =
@@ -96,7 +96,7 @@ record_agrees rules s Cache = nothing rules [] (λ m. refl)
 record_agrees rules s Stat = nothing rules [] (λ m. refl)
 record_agrees rules s Quit = nothing rules [] (λ m. refl)
 
-where_wanted : (rules : Rules) (b : Bool) (works : List Work) (asked : List CacheWork) → Agrees rules works asked → Agrees rules (if b then works else []) (if b then asked else [])
+where_wanted : (rules : Rules) (b : Bool) (works : List RingOp) (asked : List CacheOp) → Agrees rules works asked → Agrees rules (if b then works else []) (if b then asked else [])
 where_wanted rules true works asked agrees = agrees
 where_wanted rules false works asked agrees = nothing rules [] (λ m. refl)
 
@@ -111,9 +111,9 @@ commands_agree rules s command =
 
 -- A restart.
 
-redone : (rules : Rules) (asked : List CacheWork) → Agrees rules (map cached asked) asked
+redone : (rules : Rules) (asked : List CacheOp) → Agrees rules (map cached asked) asked
 redone rules [] = nothing rules [] (λ m. refl)
-redone rules (work ∷ asked) = λ m. redone rules asked (worked rules (cached work) m)
+redone rules (work ∷ asked) = λ m. redone rules asked (apply_op rules (cached work) m)
 
 ended_first : (rules : Rules) (n : ℕ) → Agrees rules (replicate n (logged 9)) []
 ended_first rules zero = nothing rules [] (λ m. refl)
@@ -123,7 +123,7 @@ all_undone : (rules : Rules) (updates : List Entry) → Agrees rules (undoing_wo
 all_undone rules [] = nothing rules [] (λ m. refl)
 all_undone rules (u ∷ earlier) = by (number_of u.rec) (all_undone rules earlier)
   where
-    after_it : List Work
+    after_it : List RingOp
     after_it = if list_any (is_of (txn_of u)) earlier then [] else ends
 
     end : Agrees rules after_it []

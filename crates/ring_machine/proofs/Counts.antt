@@ -12,7 +12,7 @@ use Rattle.record_model.specs.declared.words.Reply.{Reply}
 use Rattle.record_model.specs.State.{Content, State, session_at, writes_of}
 use Rattle.record_model.specs.State as state
 use Rattle.record_model.specs.Step.{Outcome, answer, effect, full, lacks_room, makes_checkpoint, is_accepted, outcome, ready, refusal}
-use Rattle.record_model.specs.Touches.{CacheWork, touch, flush}
+use Rattle.record_model.specs.Touches.{CacheOp, touch, flush}
 use Rattle.log_records.specs.Spelling.{block_len}
 use Rattle.second_chance.specs.declared.frame.Frame.{Frame}
 use Rattle.second_chance.specs.Queue.{Queue, pushed, with_read}
@@ -20,14 +20,14 @@ use Rattle.second_chance.specs.Machine.{Rules, PoolPage, holds, is_full, push_ev
 use Rattle.second_chance.specs.Machine as cache
 use Rattle.second_chance.proofs.Unread.{length-groups_read}
 use Rattle.ring_machine.specs.Tail.{Tail, waits, sealed_if, is_full_for, with_record, forced, before_push}
-use Rattle.ring_machine.specs.Machine.{Machine, Work, cached, logged, changed, force, save, pushed_by, worked, after_all, past_end, first_worn}
+use Rattle.ring_machine.specs.Machine.{Machine, RingOp, cached, logged, changed, force, save, pushed_by, apply_op, after_all, past_end, first_worn}
 use Rattle.ring_machine.specs.Commands.{reads, takes_back, ends, saves, undoes, stood_before, record_work, command_work}
 use Rattle.ring_machine.specs.Counts.{records_in, saves_in, FewAreEnough, CommandsLogFew}
 use Rattle.ring_machine.proofs.Ends.{never_past}
 
 -- Work after work.
 
-pub records_join : (first later : List Work) → records_in (first ++ later) ≡ records_in first + records_in later
+pub records_join : (first later : List RingOp) → records_in (first ++ later) ≡ records_in first + records_in later
 records_join [] later = omega arith
 records_join (cached work ∷ first) later = records_join first later
 records_join (logged octets ∷ first) later = omega (arith, records_join first later)
@@ -35,7 +35,7 @@ records_join (changed octets page ∷ first) later = omega (arith, records_join 
 records_join (force ∷ first) later = records_join first later
 records_join (save ∷ first) later = records_join first later
 
-pub saves_join : (first later : List Work) → saves_in (first ++ later) ≡ saves_in first + saves_in later
+pub saves_join : (first later : List RingOp) → saves_in (first ++ later) ≡ saves_in first + saves_in later
 saves_join [] later = omega arith
 saves_join (cached work ∷ first) later = saves_join first later
 saves_join (logged octets ∷ first) later = saves_join first later
@@ -85,20 +85,20 @@ flush_rises (suc pushes) rules c = by (wants_flush c) (flush_rises pushes rules 
     by true later = omega (arith, push_rises rules c, later)
     by false later = omega arith
 
-cache_rises : (rules : Rules) (work : CacheWork) (c : cache.Cache) → next_group c ≤ next_group (cache.worked rules work c)
+cache_rises : (rules : Rules) (work : CacheOp) (c : cache.Cache) → next_group c ≤ next_group (cache.apply_op rules work c)
 cache_rises rules (touch page change) c = omega (arith, room_rises rules page c, front_stays page change (with_room rules page c))
 cache_rises rules flush c = flush_rises (length c.pool) rules c
 
-pub group_rises : (rules : Rules) (work : Work) (m : Machine) → next_group m.cache ≤ next_group (worked rules work m).cache
+pub group_rises : (rules : Rules) (work : RingOp) (m : Machine) → next_group m.cache ≤ next_group (apply_op rules work m).cache
 group_rises rules (cached work) m = cache_rises rules work m.cache
 group_rises rules (logged octets) m = omega arith
 group_rises rules (changed octets page) m = omega arith
 group_rises rules force m = omega arith
 group_rises rules save m = omega arith
 
-pub groups_rise : (rules : Rules) (works : List Work) (m : Machine) → next_group m.cache ≤ next_group (after_all rules works m).cache
+pub groups_rise : (rules : Rules) (works : List RingOp) (m : Machine) → next_group m.cache ≤ next_group (after_all rules works m).cache
 groups_rise rules [] m = omega arith
-groups_rise rules (work ∷ works) m = omega (arith, group_rises rules work m, groups_rise rules works (worked rules work m))
+groups_rise rules (work ∷ works) m = omega (arith, group_rises rules work m, groups_rise rules works (apply_op rules work m))
 
 -- A tail goes into a block below a limit, or into the one at the limit while it has no records.
 
@@ -135,14 +135,14 @@ stays_below : (limit more : ℕ) (t : Tail) → limit ≤ more → Stays limit t
 stays_below limit more t less stays = ⊎_elim (λ empty. inl (empty.0, empty.1, let next = empty.2 in omega (arith, next, less))) (λ next. inr (omega (arith, next, less))) stays
 
 -- one piece of work
-tail_stays : (rules : Rules) (work : Work) (m : Machine) (limit : ℕ) → Stays limit m.tail → Stays (limit + records_in (work ∷ [])) (worked rules work m).tail
+tail_stays : (rules : Rules) (work : RingOp) (m : Machine) (limit : ℕ) → Stays limit m.tail → Stays (limit + records_in (work ∷ [])) (apply_op rules work m).tail
 tail_stays rules (cached work) m limit stays = stays_below limit _ _ (omega arith) (push_stays limit (pushed_by rules work m.cache) m.tail stays)
 tail_stays rules (logged octets) m limit stays = stays_below (limit + 1) _ _ (omega arith) (record_stays limit octets [] m.tail stays)
 tail_stays rules (changed octets page) m limit stays = stays_below (limit + 1) _ _ (omega arith) (record_stays limit octets (page ∷ []) m.tail stays)
 tail_stays rules force m limit stays = stays_below limit _ _ (omega arith) (force_stays limit m.tail stays)
 tail_stays rules save m limit stays = stays_below limit _ _ (omega arith) stays
 
-masters_after : (rules : Rules) (work : Work) (m : Machine) → (worked rules work m).masters ≡ m.masters + saves_in (work ∷ [])
+masters_after : (rules : Rules) (work : RingOp) (m : Machine) → (apply_op rules work m).masters ≡ m.masters + saves_in (work ∷ [])
 masters_after rules (cached work) m = omega arith
 masters_after rules (logged octets) m = omega arith
 masters_after rules (changed octets page) m = omega arith
@@ -151,11 +151,11 @@ masters_after rules save m = omega arith
 
 -- Where the numbers go no further than to a top, no unit is past its end.
 module _ (top : ℕ) (never : (m : Machine) → m.tail.next ≤ top → m.masters ≤ top → next_group m.cache ≤ top → past_end m ≡ None) (rules : Rules) where
-  enough : (works : List Work) (m : Machine) (limit : ℕ) → Stays limit m.tail → limit + records_in works ≤ top → m.masters + saves_in works ≤ top →
+  enough : (works : List RingOp) (m : Machine) (limit : ℕ) → Stays limit m.tail → limit + records_in works ≤ top → m.masters + saves_in works ≤ top →
       next_group (after_all rules works m).cache ≤ top → first_worn rules works m ≡ None
   enough [] m limit stays records masters groups = refl
   enough (work ∷ works) m limit stays records masters groups =
-      let now = worked rules work m in
+      let now = apply_op rules work m in
       let next = limit + records_in (work ∷ []) in
       let still : Stays next now.tail = tail_stays rules work m limit stays in
       let logs : records_in (work ∷ works) ≡ records_in (work ∷ []) + records_in works = records_join (work ∷ []) works in
@@ -212,7 +212,7 @@ where_saved : (b : Bool) → (records_in (if b then saves else []) ≡ 0) × (sa
 where_saved true = (refl, refl)
 where_saved false = (refl, refl)
 
-abbrev accepted_work : State → Command → Bool → List Work
+abbrev accepted_work : State → Command → Bool → List RingOp
 accepted_work s command b = if b then record_work s command else []
 
 accepted_saves : (s : State) (command : Command) (b : Bool) → saves_in (accepted_work s command b) ≡ 0

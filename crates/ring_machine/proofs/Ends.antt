@@ -8,7 +8,7 @@ use Rattle.site.specs.declared.outside.Dev.TheVariants.{Log, Flash}
 use Rattle.record_model.specs.State.{Content}
 use Rattle.second_chance.specs.Machine.{Rules, next_group}
 use Rattle.ring_machine.specs.Tail.{Tail, sealed_if}
-use Rattle.ring_machine.specs.Machine.{Machine, Work, cached, logged, changed, force, save, worked, after_all, past_end}
+use Rattle.ring_machine.specs.Machine.{Machine, RingOp, cached, logged, changed, force, save, apply_op, after_all, past_end}
 use Rattle.ring_machine.specs.Restart.{clr_on}
 
 abbrev of_flash : Bool → Option Dev
@@ -45,20 +45,20 @@ sealed_used false t = refl
 
 -- Work that saves no master unit leaves their number.
 
-abbrev pub saves_one : Work → Bool
+abbrev pub saves_one : RingOp → Bool
 saves_one (cached work) = false
 saves_one (logged octets) = false
 saves_one (changed octets page) = false
 saves_one force = false
 saves_one save = true
 
-pub masters_stay : (rules : Rules) (works : List Work) (m : Machine) → list_any saves_one works ≡ false → (after_all rules works m).masters ≡ m.masters
+pub masters_stay : (rules : Rules) (works : List RingOp) (m : Machine) → list_any saves_one works ≡ false → (after_all rules works m).masters ≡ m.masters
 masters_stay rules [] m none = refl
 masters_stay rules (work ∷ works) m none =
     let parts = or_parts (saves_one work) (list_any saves_one works) none in
-    masters_stay rules works (worked rules work m) parts.1 ∙ one work parts.0
+    masters_stay rules works (apply_op rules work m) parts.1 ∙ one work parts.0
   where
-    one : (w : Work) → saves_one w ≡ false → (worked rules w m).masters ≡ m.masters
+    one : (w : RingOp) → saves_one w ≡ false → (apply_op rules w m).masters ≡ m.masters
     one (cached work) none = refl
     one (logged octets) none = refl
     one (changed octets page) none = refl

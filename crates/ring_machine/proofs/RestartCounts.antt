@@ -8,7 +8,7 @@ use Rattle.std.proofs.lemmas.List.Sums.{length-filter}
 use Rattle.std_lemmas.proofs.AllOf.{all_both, all_each, all_filter, all_passed, all_reverse, all_weaker}
 use Rattle.std_lemmas.proofs.Sums.{sum_both, sum_le, sum_made}
 use Rattle.record_model.specs.State.{Content}
-use Rattle.record_model.specs.Touches.{CacheWork}
+use Rattle.record_model.specs.Touches.{CacheOp}
 use Rattle.log_records.specs.Log.{Entry, before_of, entries_of, is_closed, is_loser, is_of, is_update, number_of, txn_of}
 use Rattle.log_records.specs.Restart.{redo_touch}
 use Rattle.log_records.specs.Sound.{IsInOrder, IsLoserChain, from_block}
@@ -137,7 +137,7 @@ module _ (log : List Entry) (chains : (t : ℕ) → IsTrue (is_loser log t) → 
 
 -- Redo logs nothing, and only the checkpoint saves.
 
-redo_logs : (asked : List CacheWork) → (records_in (map cached asked) ≡ 0) × (saves_in (map cached asked) ≡ 0)
+redo_logs : (asked : List CacheOp) → (records_in (map cached asked) ≡ 0) × (saves_in (map cached asked) ≡ 0)
 redo_logs [] = (refl, refl)
 redo_logs (work ∷ asked) = redo_logs asked
 

@@ -4,30 +4,30 @@ use Rattle.std.specs.Option.{option_or}
 use Rattle.site.specs.declared.outside.Dev.{Dev}
 use Rattle.std_lemmas.proofs.Options.{option_or_assoc}
 use Rattle.second_chance.specs.Machine.{Rules}
-use Rattle.ring_machine.specs.Machine.{Machine, Work, worked, after_all, past_end, first_worn}
-use Rattle.ring_machine.specs.Laws.{WorkAddsUp, FirstIsFirst}
+use Rattle.ring_machine.specs.Machine.{Machine, RingOp, apply_op, after_all, past_end, first_worn}
+use Rattle.ring_machine.specs.Laws.{RingOpsCompose, FirstIsFirst}
 
-pub work_adds_up : WorkAddsUp
-work_adds_up rules [] later m = refl
-work_adds_up rules (work ∷ works) later m = work_adds_up rules works later (worked rules work m)
+pub ring_ops_compose : RingOpsCompose
+ring_ops_compose rules [] later m = refl
+ring_ops_compose rules (work ∷ works) later m = ring_ops_compose rules works later (apply_op rules work m)
 
 pub first_is_first : FirstIsFirst
 first_is_first rules [] later m = refl
 first_is_first rules (work ∷ works) later m =
-    ap (option_or (past_end (worked rules work m))) (first_is_first rules works later (worked rules work m))
-    ∙ sym (option_or_assoc (past_end (worked rules work m)) (first_worn rules works (worked rules work m)) (first_worn rules later (after_all rules works (worked rules work m))))
+    ap (option_or (past_end (apply_op rules work m))) (first_is_first rules works later (apply_op rules work m))
+    ∙ sym (option_or_assoc (past_end (apply_op rules work m)) (first_worn rules works (apply_op rules work m)) (first_worn rules later (after_all rules works (apply_op rules work m))))
 
 -- where no ring is worn by the beginning, what follows decides
-pub first_then : (rules : Rules) (first later : List Work) (m : Machine) → first_worn rules first m ≡ None → first_worn rules (first ++ later) m ≡ first_worn rules later (after_all rules first m)
+pub first_then : (rules : Rules) (first later : List RingOp) (m : Machine) → first_worn rules first m ≡ None → first_worn rules (first ++ later) m ≡ first_worn rules later (after_all rules first m)
 first_then rules first later m none = first_is_first rules first later m ∙ ap (λ (o : Option Dev). option_or o (first_worn rules later (after_all rules first m))) none
 
 -- and where one is it decides
-pub first_stopped : (rules : Rules) (first later : List Work) (m : Machine) (dev : Dev) → first_worn rules first m ≡ Some dev → first_worn rules (first ++ later) m ≡ Some dev
+pub first_stopped : (rules : Rules) (first later : List RingOp) (m : Machine) (dev : Dev) → first_worn rules first m ≡ Some dev → first_worn rules (first ++ later) m ≡ Some dev
 first_stopped rules first later m dev worn = first_is_first rules first later m ∙ ap (λ (o : Option Dev). option_or o (first_worn rules later (after_all rules first m))) worn
 
 -- one piece of work
-pub first_of_one : (rules : Rules) (work : Work) (m : Machine) → first_worn rules (work ∷ []) m ≡ past_end (worked rules work m)
-first_of_one rules work m = by (past_end (worked rules work m))
+pub first_of_one : (rules : Rules) (work : RingOp) (m : Machine) → first_worn rules (work ∷ []) m ≡ past_end (apply_op rules work m)
+first_of_one rules work m = by (past_end (apply_op rules work m))
   where
     by : (o : Option Dev) → option_or o None ≡ o
     by None = refl

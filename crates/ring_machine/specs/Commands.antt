@@ -8,31 +8,31 @@ use Rattle.record_model.specs.State.{Content, Write, State, content_at, last_wri
 use Rattle.record_model.specs.Step.{makes_checkpoint, is_accepted}
 use Rattle.record_model.specs.Run.{Line, Turn}
 use Rattle.record_model.specs.Touches.{flush, page_of, read_touch}
-use Rattle.ring_machine.specs.Machine.{Work, cached, logged, changed, force, save}
+use Rattle.ring_machine.specs.Machine.{RingOp, cached, logged, changed, force, save}
 use Rattle.ring_machine.specs.Octets.{update_octets, clr_octets}
 
 -- a page is read
-abbrev pub reads : ℕ → List Work
+abbrev pub reads : ℕ → List RingOp
 reads number = cached (read_touch number) ∷ []
 
 -- a transaction begins, writes a record, is committed, takes a write back, and is ended
-abbrev pub begins : List Work
+abbrev pub begins : List RingOp
 begins = logged 1 ∷ []
 
-abbrev pub writes : ℕ → Content → Content → List Work
+abbrev pub writes : ℕ → Content → Content → List RingOp
 writes number before after = cached (read_touch number) ∷ changed (update_octets before after) (page_of number) ∷ []
 
-abbrev pub commits : List Work
+abbrev pub commits : List RingOp
 commits = logged 17 ∷ force ∷ []
 
-abbrev pub takes_back : Write → List Work
+abbrev pub takes_back : Write → List RingOp
 takes_back write = cached (read_touch write.0) ∷ changed (clr_octets write.1) (page_of write.0) ∷ []
 
-abbrev pub ends : List Work
+abbrev pub ends : List RingOp
 ends = logged 9 ∷ []
 
 -- a checkpoint: what is unsealed is sealed, the changed pages are pushed, and a master is saved
-abbrev pub saves : List Work
+abbrev pub saves : List RingOp
 saves = force ∷ cached flush ∷ save ∷ []
 
 -- what stands at a record before a transaction that has made these writes writes there: its last own write, or the
@@ -47,11 +47,11 @@ stood_before table earlier (write ∷ later) =
     (write.0, stands_at table earlier write.0) ∷ stood_before table (earlier ++ write ∷ []) later
 
 -- a transaction is undone, the last write first
-abbrev pub undoes : List Content → List Write → List Work
+abbrev pub undoes : List Content → List Write → List RingOp
 undoes table made = flat_map takes_back (reverse (stood_before table [] made)) ++ ends
 
 -- what a command asks once its tests have let it through
-abbrev pub record_work : State → Command → List Work
+abbrev pub record_work : State → Command → List RingOp
 record_work s (command.Begin n) = begins
 record_work s (command.Read n number) = reads number
 record_work s (command.Write n number value) = writes number (seen s n number) (Some value)
@@ -68,15 +68,15 @@ record_work s command.Stat = []
 record_work s command.Quit = []
 
 -- what it asks with its checkpoint, where it makes one
-abbrev pub command_work : State → Command → List Work
+abbrev pub command_work : State → Command → List RingOp
 command_work s command =
     (if makes_checkpoint s command then saves else [])
     ++ (if is_accepted s command then record_work s command else [])
 
-abbrev pub line_work : State → Line → List Work
+abbrev pub line_work : State → Line → List RingOp
 line_work s None = []
 line_work s (Some command) = command_work s command
 
 -- what a run asks of log and cache
-abbrev pub run_work : List Turn → List Work
+abbrev pub run_work : List Turn → List RingOp
 run_work run = flat_map (λ t. line_work t.before t.line) run

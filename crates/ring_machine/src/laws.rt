@@ -1,10 +1,10 @@
 // What follows from the machine. The functions do nothing: each states its laws as clauses.
-ghost use Rattle.ring_machine.specs.Laws.{WorkAddsUp, FirstIsFirst, OctetsAreSpelled, CommandsAgree, RestartsAgree};
+ghost use Rattle.ring_machine.specs.Laws.{RingOpsCompose, FirstIsFirst, OctetsAreSpelled, CommandsAgree, RestartsAgree};
 ghost use Rattle.ring_machine.specs.Counts.{CommandsLogFew, FewAreEnough, RestartsLogFew};
 
 /// Law: work adds up, and the first ring that is worn by some work is worn by its beginning, or by what follows.
-pub fn work_adds_up()
-    ensures works { WorkAddsUp }
+pub fn ring_ops_compose()
+    ensures works { RingOpsCompose }
     ensures first { FirstIsFirst }
 {}
 

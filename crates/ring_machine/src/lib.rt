@@ -5,5 +5,5 @@
 mod laws;
 mod rows;
 
-pub use laws::{machines_agree, numbers_are_few, octets_are_spelled, work_adds_up};
+pub use laws::{machines_agree, numbers_are_few, octets_are_spelled, ring_ops_compose};
 pub use rows::rows_of_blocks;

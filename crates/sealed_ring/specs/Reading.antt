@@ -11,7 +11,7 @@ use Rattle.site.specs.Faults.{WorkFaults}
 -- another one, and a device that an error names had a fault.
 pub record ReadsFrom {T : Type 0} (result : Result T Stop) (dev : Dev) (n : ℕ) (old new : State) : Type 0 where
   pub same : IsTrue old.honest → IsUnchanged old new
-  pub goes : Preserves old new
+  pub preserves : Preserves old new
   pub faults : WorkFaults result old new
   pub reads : reads_of dev new ≤ reads_of dev old + n
   pub others : (d : Dev) → d ≢ dev → reads_of d new ≡ reads_of d old

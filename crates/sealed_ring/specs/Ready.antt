@@ -58,7 +58,7 @@ pub record MayAppend (s : Shape) (hi : ℕ) (bytes : List ℕ) (site : State) : 
 
 -- of every site, what writes and syncs of one device leave, which the first failed one ends
 pub record WritesTo {T : Type 0} (result : Result T Failed) (dev : Dev) (old new : State) : Type 0 where
-  pub goes : Preserves old new
+  pub preserves : Preserves old new
   pub faults : CallFaults dev result old new
   pub reads : SameReads old new
   pub cause : OnErr result (FaultRose dev old new)
@@ -82,7 +82,7 @@ pub record HasStaged {T : Type 0} (s : Shape) (hi : ℕ) (bytes : List ℕ) (old
   pub stages : OnOk result (Stages s hi bytes (region s old) (region s new))
   pub settled : OnOk result (IsSettled s.dev new)
   -- two writes and a sync
-  pub past : OnOk result (length new.past ≡ length old.past + 3)
+  pub device_calls : OnOk result (length new.past ≡ length old.past + 3)
 
 -- the unit was staged and its gate opened; a crash leaves the units below it, or this one too
 pub record HasSealed {T : Type 0} (s : Shape) (hi : ℕ) (bytes : List ℕ) (old new : State)
@@ -95,4 +95,4 @@ pub record HasSealed {T : Type 0} (s : Shape) (hi : ℕ) (bytes : List ℕ) (old
   pub stands : HasForm s hi (region s old)
       → OnOk result (units_of s (region s new) ≡ appended s (units_of s (region s old)) bytes)
   -- three writes and two syncs
-  pub past : OnOk result (length new.past ≡ length old.past + 5)
+  pub device_calls : OnOk result (length new.past ≡ length old.past + 5)

@@ -290,7 +290,7 @@ impl Ring {
         ensures quiet { IsTrue (S.state site.old).honest → IsQuiet (S.state site.old)
             → OnOk result (IsQuiet (S.state site.new)) }
         // Three writes and two syncs.
-        ensures past { IsTrue (S.state site.old).honest
+        ensures device_calls { IsTrue (S.state site.old).honest
             → OnOk result (length (S.state site.new).past ≡ length (S.state site.old).past + 5) }
         ensures fits { IsTrue (S.state site.old).honest → Matches self.old (S.state site.old)
             → OnOk result (Matches self.new (S.state site.new)) }
@@ -300,7 +300,7 @@ impl Ring {
         ensures err { OnErr result (self.new ≡ record self.old { ended = true }) }
         ensures shape { self.new.shape ≡ self.old.shape }
         ensures usable { IsUsable self.new (S.state site.new) }
-        ensures goes { Preserves (S.state site.old) (S.state site.new) }
+        ensures preserves { Preserves (S.state site.old) (S.state site.new) }
         ensures faults { WorkFaults result (S.state site.old) (S.state site.new) }
         ensures reads { SameReads (S.state site.old) (S.state site.new) }
 

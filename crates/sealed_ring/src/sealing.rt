@@ -120,7 +120,7 @@ fn open<S: Site>(site: &mut S, shape: Shape, hi: u64) -> Result<(), Failed>
         (Opens shape hi (region shape (S.state site.old)) (region shape (S.state site.new))) }
     ensures settled { IsTrue (S.state site.old).honest
         → OnOk result (IsSettled shape.dev (S.state site.new)) }
-    ensures past { IsTrue (S.state site.old).honest
+    ensures device_calls { IsTrue (S.state site.old).honest
         → OnOk result (length (S.state site.new).past ≡ length (S.state site.old).past + 2) }
     ensures writes { WritesTo result shape.dev (S.state site.old) (S.state site.new) }
 {

@@ -3,11 +3,11 @@ use Rattle.std.proofs.Common.{◌≡◌, ℕ, zero, suc, ◌+◌, ◌≤◌, ◌
 use Rattle.std.specs.Prelude.{if◌then◌else◌}
 use Rattle.std.proofs.lemmas.Bool.{leb-true}
 use Rattle.std.proofs.lemmas.List.{length-append, length-drop, reverse-append}
-use Rattle.record_model.specs.Touches.{CacheWork, touch, flush}
+use Rattle.record_model.specs.Touches.{CacheOp, touch, flush}
 use Rattle.second_chance.specs.declared.frame.Frame.{Frame}
 use Rattle.second_chance.specs.Queue.{Queue, pushed, with_read}
 use Rattle.second_chance.specs.Plans.{pulled_at_eviction}
-use Rattle.second_chance.specs.Machine.{Rules, PoolPage, Cache, holds, is_changed, without, is_full, is_pulled, leaving, pool_marks, push_evicted, must_be_pushed, after_eviction, evict_first, evict_coldest, lacks_room, with_room, in_front, touched, wants_flush, push_changed, flushed_by, flushed, worked, next_group}
+use Rattle.second_chance.specs.Machine.{Rules, PoolPage, Cache, holds, is_changed, without, is_full, is_pulled, leaving, pool_marks, push_evicted, must_be_pushed, after_eviction, evict_first, evict_coldest, lacks_room, with_room, in_front, touched, wants_flush, push_changed, flushed_by, flushed, apply_op, next_group}
 use Rattle.second_chance.specs.Laws.{changed_count}
 use Rattle.second_chance.specs.Groups.{groups_for, groups_for_all, FlushPushesChanged, NearlyAllArePushed, TouchPushesOne, WorkPushesFew}
 use Rattle.second_chance.proofs.Flushes.{count_cons, push_saves}
@@ -145,8 +145,8 @@ flush_pushes_changed rules cache some = omega (arith, flushed_few rules cache so
 
 -- All work.
 
-work_few : (rules : Rules) (work : CacheWork) (cache : Cache) → 1 ≤ rules.groups →
-    next_group (worked rules work cache) + changed_count (worked rules work cache).pool ≤ next_group cache + changed_count cache.pool + groups_for work
+work_few : (rules : Rules) (work : CacheOp) (cache : Cache) → 1 ≤ rules.groups →
+    next_group (apply_op rules work cache) + changed_count (apply_op rules work cache).pool ≤ next_group cache + changed_count cache.pool + groups_for work
 work_few rules (touch page change) cache some =
     let few = touched_few rules page change cache some in
     omega (arith, few.0, few.1, two change)
@@ -158,10 +158,10 @@ work_few rules flush cache some = omega (arith, flushed_few rules cache some)
 
 pub work_pushes_few : WorkPushesFew
 work_pushes_few rules [] cache some = omega arith
-work_pushes_few rules (work ∷ works) cache some = omega (arith, work_few rules work cache some, work_pushes_few rules works (worked rules work cache) some)
+work_pushes_few rules (work ∷ works) cache some = omega (arith, work_few rules work cache some, work_pushes_few rules works (apply_op rules work cache) some)
 
 -- Work after work.
-pub groups_add_up : (first later : List CacheWork) → groups_for_all (first ++ later) ≡ groups_for_all first + groups_for_all later
+pub groups_add_up : (first later : List CacheOp) → groups_for_all (first ++ later) ≡ groups_for_all first + groups_for_all later
 groups_add_up [] later = omega arith
 groups_add_up (work ∷ first) later = omega (arith, groups_add_up first later)
 

@@ -12,7 +12,7 @@ use Rattle.record_model.specs.State.{State, session_at, writes_of}
 use Rattle.record_model.specs.State as state
 use Rattle.record_model.specs.Step.{Outcome, answer, effect, full, lacks_room, makes_checkpoint, outcome, ready, refusal}
 use Rattle.record_model.specs.Run.{Line, Turn, is_quit, later_listings, left_by, line_step, next_listing, turns}
-use Rattle.record_model.specs.Touches.{CacheWork, flush, line_touches, read_touch, record_touches, run_touches, write_touch}
+use Rattle.record_model.specs.Touches.{CacheOp, flush, line_touches, read_touch, record_touches, run_touches, write_touch}
 use Rattle.second_chance.specs.Groups.{groups_for_all, LinesPushFew, LinesCounted, reads_by, reads_in}
 use Rattle.second_chance.proofs.GroupCounts.{groups_add_up}
 
@@ -52,7 +52,7 @@ line_few : (s : State) (line : Line) (listing : List CacheLine) → groups_for_a
 line_few s None listing = omega arith
 line_few s (Some command) listing = by (refusal s command)
   where
-    beside_flush : (flushes : Bool) (works : List CacheWork) → groups_for_all ((if flushes then flush ∷ [] else []) ++ works) ≡ groups_for_all works
+    beside_flush : (flushes : Bool) (works : List CacheOp) → groups_for_all ((if flushes then flush ∷ [] else []) ++ works) ≡ groups_for_all works
     beside_flush flushes works = omega (arith, groups_add_up (if flushes then flush ∷ [] else []) works, flush_pushes_none flushes)
 
     through : (b : Bool) → groups_for_all (if not b then record_touches s command else []) + 2 * s.made ≤ reads_by (Some command) + 2 * (chosen (ready s command) command listing b).after.made

@@ -8,16 +8,16 @@ use Rattle.record_model.specs.declared.words.Command.TheVariants as command
 use Rattle.record_model.specs.State.{State}
 use Rattle.record_model.specs.Run.{Line, Turn, left_by, turns}
 use Rattle.record_model.specs.Rows.{fresh}
-use Rattle.record_model.specs.Touches.{CacheWork, touch, flush, run_touches}
+use Rattle.record_model.specs.Touches.{CacheOp, touch, flush, run_touches}
 use Rattle.second_chance.specs.Machine.{Rules, Cache, touched, flushed, after_works, opened, next_group}
 use Rattle.second_chance.specs.Laws.{changed_count}
 
 -- a group for a touch, since a page may have to leave, and one more for a change, since it may have to be saved
-abbrev pub groups_for : CacheWork → ℕ
+abbrev pub groups_for : CacheOp → ℕ
 groups_for (touch page change) = if change then 2 else 1
 groups_for flush = 0
 
-abbrev pub groups_for_all : List CacheWork → ℕ
+abbrev pub groups_for_all : List CacheOp → ℕ
 groups_for_all [] = 0
 groups_for_all (work ∷ works) = groups_for work + groups_for_all works
 
@@ -33,13 +33,13 @@ FlushPushesChanged = (rules : Rules) (cache : Cache) → 1 ≤ rules.groups
 -- So all work pushes at most a group for each touch and one for each change. A page that was changed before may have to
 -- be saved too; one that is still changed behind it was not.
 abbrev pub WorkPushesFew : Type 0
-WorkPushesFew = (rules : Rules) (works : List CacheWork) (cache : Cache) → 1 ≤ rules.groups
+WorkPushesFew = (rules : Rules) (works : List CacheOp) (cache : Cache) → 1 ≤ rules.groups
     → next_group (after_works rules works cache) + changed_count (after_works rules works cache).pool
     ≤ next_group cache + changed_count cache.pool + groups_for_all works
 
 -- Fewer aren't enough: over a queue of one group and a pool of two pages each change that is saved at once pushes two
 -- groups, once the pool is full.
-abbrev pub changes_saved : ℕ → List CacheWork
+abbrev pub changes_saved : ℕ → List CacheOp
 changes_saved pages = flat_map (λ page. touch page true ∷ flush ∷ []) (range_with_len 0 pages)
 
 abbrev pub after_changes : ℕ → Cache

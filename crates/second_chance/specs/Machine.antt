@@ -5,7 +5,7 @@ use Rattle.std.specs.List.{list_any}
 use Rattle.byte_fields.specs.declared.frame_head.Mark.{Mark}
 use Rattle.record_model.specs.declared.words.CacheLine.{CacheLine}
 use Rattle.record_model.specs.declared.words.CacheLine.TheVariants as line
-use Rattle.record_model.specs.Touches.{CacheWork, touch, flush}
+use Rattle.record_model.specs.Touches.{CacheOp, touch, flush}
 use Rattle.second_chance.specs.declared.frame.Frame.{Frame}
 use Rattle.second_chance.specs.declared.plan.PoolMark.{PoolMark}
 use Rattle.second_chance.specs.Queue.{Queue, has_frame, marks, front_marks, with_read, pushed, frame_of}
@@ -160,13 +160,13 @@ flushed rules cache = flushed_by (length cache.pool) rules cache
 
 -- What is asked of the cache, one by one.
 
-abbrev pub worked : Rules → CacheWork → Cache → Cache
-worked rules (touch page change) cache = touched rules page change cache
-worked rules flush cache = flushed rules cache
+abbrev pub apply_op : Rules → CacheOp → Cache → Cache
+apply_op rules (touch page change) cache = touched rules page change cache
+apply_op rules flush cache = flushed rules cache
 
-abbrev pub after_works : Rules → List CacheWork → Cache → Cache
+abbrev pub after_works : Rules → List CacheOp → Cache → Cache
 after_works rules [] cache = cache
-after_works rules (work ∷ works) cache = after_works rules works (worked rules work cache)
+after_works rules (work ∷ works) cache = after_works rules works (apply_op rules work cache)
 
 -- a run begins with an empty pool, and with no frame referenced
 abbrev pub unread : Frame → Frame
@@ -199,15 +199,15 @@ staged_in_flush (suc pushes) rules cache =
     ++ staged_in_flush pushes rules (push_changed rules cache) else []
 
 -- what one piece of work stages, the frame that is staged first in front
-abbrev pub staged_by : Rules → CacheWork → Cache → List Staged
+abbrev pub staged_by : Rules → CacheOp → Cache → List Staged
 staged_by rules (touch page change) cache =
     if lacks_room rules page cache then staged_in_eviction rules (reverse cache.pool) cache.queue else []
 staged_by rules flush cache = staged_in_flush (length cache.pool) rules cache
 
-abbrev pub staged_by_works : Rules → List CacheWork → Cache → List Staged
+abbrev pub staged_by_works : Rules → List CacheOp → Cache → List Staged
 staged_by_works rules [] cache = []
 staged_by_works rules (work ∷ works) cache =
-    staged_by rules work cache ++ staged_by_works rules works (worked rules work cache)
+    staged_by rules work cache ++ staged_by_works rules works (apply_op rules work cache)
 
 -- The listing: the frames in the order of the queue, then the pool, the front first.
 

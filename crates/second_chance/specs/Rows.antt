@@ -6,7 +6,7 @@ use Rattle.record_model.specs.declared.words.Command.TheVariants.{Get, Set, Chec
 use Rattle.record_model.specs.declared.words.CacheLine.{CacheLine}
 use Rattle.record_model.specs.declared.words.CacheLine.TheVariants.{Frame, Pool}
 use Rattle.record_model.specs.Run.{Line, turns}
-use Rattle.record_model.specs.Touches.{CacheWork, touch, flush, run_touches}
+use Rattle.record_model.specs.Touches.{CacheOp, touch, flush, run_touches}
 use Rattle.record_model.specs.Rows.{fresh}
 use Rattle.second_chance.specs.Machine.{Rules, Cache, opened, after_works, listing, Staged, staged_by_works}
 
@@ -88,7 +88,7 @@ EighthIsStaged = staged 8 true eight_read ≡ record { group = 0; index = 7; pag
 
 -- Twenty pieces of work on a pool of three pages and a queue of two groups, worked out by a separate program. With
 -- second chances pages are also pulled at evictions.
-abbrev pub mixed : List CacheWork
+abbrev pub mixed : List CacheOp
 mixed =
     touch 0 true ∷ flush ∷ touch 4 true ∷ touch 5 true ∷ touch 1 true ∷ touch 3 true ∷ flush ∷ touch 5 true ∷ flush
     ∷ touch 3 false

@@ -13,6 +13,6 @@ pub use laws::{
 };
 pub use places::Places;
 pub use plan::{
-    Plan, PoolMark, Taking, plan_evict, plan_evict_taking, plan_flush, plan_flush_taking,
+    Plan, PoolMark, PushPolicy, plan_evict, plan_evict_taking, plan_flush, plan_flush_taking,
 };
 pub use rows::{rows_of_second_chances, rows_of_the_plain_machine};

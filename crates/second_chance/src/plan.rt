@@ -39,7 +39,7 @@ pub struct Plan {
 
 /// Which pages a push takes beside those that it saves.
 #[derive(Clone, Copy, Debug, PartialEq, Eq)]
-pub struct Taking {
+pub struct PushPolicy {
     /// Whether frames that were read are given a second chance.
     pub chances: bool,
     /// Whether an eviction pulls pages from the cold end of the pool.
@@ -47,7 +47,7 @@ pub struct Taking {
 }
 
 /// What the pushes of the page cache take.
-const TAKING: Taking = Taking {
+const TAKING: PushPolicy = PushPolicy {
     chances: true,
     pulls: true,
 };
@@ -71,7 +71,7 @@ pub fn plan_flush(front: Option<&[Mark]>, pool: &[PoolMark]) -> Plan
 /// What the push of an evicted page does. The evicted page isn't in `pool` any more, which has the coldest page in
 /// front; of the pages that are changed or have no frame the first seven are enough. `front` is none where the queue
 /// has room for one group more.
-pub fn plan_evict_taking(taking: Taking, front: Option<&[Mark]>, pool: &[PoolMark]) -> Plan
+pub fn plan_evict_taking(taking: PushPolicy, front: Option<&[Mark]>, pool: &[PoolMark]) -> Plan
     requires { ForSome front (λ marks. length marks.now ≤ 8) }
     ensures { result ≡ eviction_plan taking.pulls taking.chances (unwrap_or (option_copied front.entry) []) pool.now }
 {
@@ -89,7 +89,7 @@ pub fn plan_evict_taking(taking: Taking, front: Option<&[Mark]>, pool: &[PoolMar
 /// What a push of a flush does. `pool` has the coldest page in front; of the pages that are changed the first eight are
 /// enough.
 /// `front` is none where the queue has room for one group more.
-pub fn plan_flush_taking(taking: Taking, front: Option<&[Mark]>, pool: &[PoolMark]) -> Plan
+pub fn plan_flush_taking(taking: PushPolicy, front: Option<&[Mark]>, pool: &[PoolMark]) -> Plan
     requires { ForSome front (λ marks. length marks.now ≤ 8) }
     ensures { result ≡ flush_plan taking.chances (unwrap_or (option_copied front.entry) []) pool.now }
 {

@@ -74,7 +74,7 @@ no_fault A Foreign f other = refl
 
 pub calls_nothing : {T : Type 0} {x : T} {site : State} → Calls {T = T} (Ok x) site site
 calls_nothing {T = T} {x = x} {site = site} = record {
-  goes = goes_nowhere site;
+  preserves = goes_nowhere site;
   left = λ honest. refl;
   stays_quiet = λ honest quiet. quiet;
   device = λ d is. absurd (no_error {T = T} {x = x} {e = Device d} is);
@@ -83,17 +83,17 @@ calls_nothing {T = T} {x = x} {site = site} = record {
 
 pub calls_then : {A B : Type 0} {a : A} {r : Result B Stop} {before between now : State} → Calls {T = A} (Ok a) before between → Calls r between now → Calls r before now
 calls_then {r = r} {before = before} {between = between} {now = now} first second = record {
-  goes = goes_in_sequence before between now first.goes second.goes;
-  left = λ honest. second.left (stays_honest before between first.goes honest) ∙ first.left honest;
-  stays_quiet = λ honest quiet. second.stays_quiet (stays_honest before between first.goes honest) (first.stays_quiet honest quiet);
-  device = λ d is. fault_since d before between now first.goes (second.device d is);
+  preserves = goes_in_sequence before between now first.preserves second.preserves;
+  left = λ honest. second.left (stays_honest before between first.preserves honest) ∙ first.left honest;
+  stays_quiet = λ honest quiet. second.stays_quiet (stays_honest before between first.preserves honest) (first.stays_quiet honest quiet);
+  device = λ d is. fault_since d before between now first.preserves (second.device d is);
   faults = second.faults ∙ ap (λ (f : Faults). after_work r f) first.faults;
 }
 
 -- the error of a call is the error of its caller
 pub calls_failed : {A B : Type 0} {stop : Stop} {before now : State} → Calls {T = A} (Err stop) before now → Calls {T = B} (Err stop) before now
 calls_failed {A = A} {B = B} {stop = stop} {before = before} first = record {
-  goes = first.goes;
+  preserves = first.preserves;
   left = first.left;
   stays_quiet = λ honest quiet. tt;
   device = λ d is. first.device d (err_again stop (Device d) is);
@@ -102,12 +102,12 @@ calls_failed {A = A} {B = B} {stop = stop} {before = before} first = record {
 
 -- another value of its caller
 pub calls_answered : {A B : Type 0} {a : A} {b : B} {before now : State} → Calls {T = A} (Ok a) before now → Calls {T = B} (Ok b) before now
-calls_answered {B = B} {b = b} first = record { goes = first.goes; left = first.left; stays_quiet = first.stays_quiet; device = λ d is. absurd (no_error {T = B} {x = b} {e = Device d} is); faults = first.faults }
+calls_answered {B = B} {b = b} first = record { preserves = first.preserves; left = first.left; stays_quiet = first.stays_quiet; device = λ d is. absurd (no_error {T = B} {x = b} {e = Device d} is); faults = first.faults }
 
 -- its caller refuses what it got
 pub calls_refused : {A B : Type 0} {a : A} {stop : Stop} {before now : State} → ((d : Dev) → stop ≢ Device d) → Calls {T = A} (Ok a) before now → Calls {T = B} (Err stop) before now
 calls_refused {B = B} {stop = stop} {before = before} other first = record {
-  goes = first.goes;
+  preserves = first.preserves;
   left = first.left;
   stays_quiet = λ honest quiet. tt;
   device = λ d is. absurd (other d (let same : stop ≡ Device d = cc in same));
@@ -119,10 +119,10 @@ calls_refused {B = B} {stop = stop} {before = before} other first = record {
 -- one call behind others that were Ok
 pub looks_then : {A B : Type 0} (x : A) (r : Result B Stop) (a b c : State) → OnlyReads {T = A} (Ok x) a b → OnlyReads r b c → OnlyReads r a c
 looks_then x r a b c first second = record {
-  same = λ honest. unchanged_in_sequence a b c (first.same honest) (second.same (stays_honest a b first.goes honest));
-  goes = goes_in_sequence a b c first.goes second.goes;
+  same = λ honest. unchanged_in_sequence a b c (first.same honest) (second.same (stays_honest a b first.preserves honest));
+  preserves = goes_in_sequence a b c first.preserves second.preserves;
   faults = second.faults ∙ ap (after_work r) first.faults;
-  device = λ d says. fault_since d a b c first.goes (second.device d says);
+  device = λ d says. fault_since d a b c first.preserves (second.device d says);
   stops = second.stops;
 }
 
@@ -130,7 +130,7 @@ looks_then x r a b c first second = record {
 pub looks_answered : {A B : Type 0} (x : A) (y : B) (a b : State) → OnlyReads {T = A} (Ok x) a b → OnlyReads {T = B} (Ok y) a b
 looks_answered {A} {B} x y a b reads = record {
   same = reads.same;
-  goes = reads.goes;
+  preserves = reads.preserves;
   faults = reads.faults;
   device = λ d says. absurd (no_error {T = B} {x = y} {e = Device d} says);
   stops = tt;
@@ -139,7 +139,7 @@ looks_answered {A} {B} x y a b reads = record {
 pub looks_failed : {A B : Type 0} (stop : Stop) (a b : State) → OnlyReads {T = A} (Err stop) a b → OnlyReads {T = B} (Err stop) a b
 looks_failed {A} {B} stop a b reads = record {
   same = reads.same;
-  goes = reads.goes;
+  preserves = reads.preserves;
   faults = reads.faults ∙ same_error A B stop (faults_in a);
   device = λ d says. reads.device d (err_again stop (Device d) says);
   stops = reads.stops;

@@ -11,7 +11,7 @@ use Rattle.site.specs.Faults.{WorkFaults}
 -- said to fail only where its faults rose. A call of the site that fails is the last one: Ok leaves all counts of
 -- faults as they were, and an error raises the one count that it names, by one.
 pub record Calls {T : Type 0} (result : Result T Stop) (before now : State) : Type 0 where
-  pub goes : Preserves before now
+  pub preserves : Preserves before now
   pub left : IsTrue before.honest → now.input ≡ before.input
   pub stays_quiet : IsTrue before.honest → IsQuiet before → OnOk result (IsQuiet now)
   pub device : (d : Dev) → IsErrOf result (Device d) → FaultRose d before now
@@ -28,7 +28,7 @@ IsOutside Foreign = ⊥
 -- want of memory, and no other count of faults changes.
 pub record OnlyReads {T : Type 0} (result : Result T Stop) (old new : State) : Type 0 where
   pub same : IsTrue old.honest → IsUnchanged old new
-  pub goes : Preserves old new
+  pub preserves : Preserves old new
   pub faults : WorkFaults result old new
   pub device : (d : Dev) → IsErrOf result (Device d) → FaultRose d old new
   pub stops : IfErr result IsOutside

@@ -86,7 +86,7 @@ pub trait Site {
         requires { at + length into.old ≤ length (content_of dev (state self.old).image) }
         ensures read { IsTrue (state self.old).honest
             → HasRead dev at into.new (state self.old) (state self.new) result }
-        ensures goes { Preserves (state self.old) (state self.new) }
+        ensures preserves { Preserves (state self.old) (state self.new) }
         ensures reads { ReadsMore dev (length into.old) (state self.old) (state self.new) }
         ensures cause { OnErr result (Rose (faults_of dev (state self.old)) (faults_of dev (state self.new))) }
         ensures faults { CallFaults dev result (state self.old) (state self.new) };
@@ -96,7 +96,7 @@ pub trait Site {
         requires { at + length bytes.now ≤ length (content_of dev (state self.old).image) }
         ensures wrote { IsTrue (state self.old).honest
             → Wrote dev at bytes.now (state self.old) (state self.new) result }
-        ensures goes { Preserves (state self.old) (state self.new) }
+        ensures preserves { Preserves (state self.old) (state self.new) }
         ensures reads { SameReads (state self.old) (state self.new) }
         ensures cause { OnErr result (Rose (faults_of dev (state self.old)) (faults_of dev (state self.new))) }
         ensures faults { CallFaults dev result (state self.old) (state self.new) };
@@ -104,7 +104,7 @@ pub trait Site {
     /// Makes what was written to the device stable: no range of it is loose any more.
     fn sync(&mut self, dev: Dev) -> Result<(), Failed>
         ensures synced { IsTrue (state self.old).honest → Synced dev (state self.old) (state self.new) result }
-        ensures goes { Preserves (state self.old) (state self.new) }
+        ensures preserves { Preserves (state self.old) (state self.new) }
         ensures reads { SameReads (state self.old) (state self.new) }
         ensures cause { OnErr result (Rose (faults_of dev (state self.old)) (faults_of dev (state self.new))) }
         ensures faults { CallFaults dev result (state self.old) (state self.new) };
@@ -114,7 +114,7 @@ pub trait Site {
         requires { 0 < length into.old }
         ensures took { IsTrue (state self.old).honest → Took into.new (state self.old) (state self.new) result }
         ensures at_most { IfOk result (λ n. n ≤ length into.old) }
-        ensures goes { Preserves (state self.old) (state self.new) }
+        ensures preserves { Preserves (state self.old) (state self.new) }
         ensures reads { SameReads (state self.old) (state self.new) }
         ensures cause { OnErr result (Rose (state self.old).input_faults (state self.new).input_faults) }
         ensures faults { TakeFaults result (state self.old) (state self.new) };
@@ -125,7 +125,7 @@ pub trait Site {
         ensures told { IsTrue (state self.old).honest → Told piece.now (state self.old) (state self.new) result }
         ensures at_least { IfOk result (λ n. 1 ≤ n) }
         ensures at_most { IfOk result (λ n. n ≤ length piece.now) }
-        ensures goes { Preserves (state self.old) (state self.new) }
+        ensures preserves { Preserves (state self.old) (state self.new) }
         ensures reads { SameReads (state self.old) (state self.new) }
         ensures cause { OnErr result (Rose (state self.old).output_faults (state self.new).output_faults) }
         ensures faults { TellFaults result (state self.old) (state self.new) };

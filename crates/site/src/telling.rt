@@ -15,11 +15,11 @@ pub fn tell_all<S: Site>(site: &mut S, piece: &[u8]) -> Result<(), Failed>
     ensures told { IsTrue (S.state site.old).honest
         → OnOk result ((S.state site.new).told ≡ (S.state site.old).told ++ piece.now) }
     // It takes no more calls than the piece has octets, and none but tells.
-    ensures past { IsTrue (S.state site.old).honest
+    ensures tells_only { IsTrue (S.state site.old).honest
         → OnOk result (TellsOnly (length piece.now) (S.state site.old) (S.state site.new)) }
     ensures same { IsTrue (S.state site.old).honest → SameDevices (S.state site.old) (S.state site.new) }
     ensures reads { SameReads (S.state site.old) (S.state site.new) }
-    ensures goes { Preserves (S.state site.old) (S.state site.new) }
+    ensures preserves { Preserves (S.state site.old) (S.state site.new) }
     ensures cause { OnErr result (Rose (S.state site.old).output_faults (S.state site.new).output_faults) }
     ensures faults { TellFaults result (S.state site.old) (S.state site.new) }
 {

@@ -4,7 +4,7 @@ use Rattle.std.proofs.lemmas.List.{take_all, length-set, length-take-le, length-
 use Rattle.std.proofs.lemmas.List.Sums.{sum_by_more}
 use Rattle.std.proofs.lemmas.Bool.{cases_eq, leb-true, le-leb}
 use Rattle.byte_fields.specs.declared.TheConstants.{VALUE_MAX}
-use Rattle.slotted_page.specs.Layout.{slots_of, offset_of, code_of, length_of, content_of, content_length, total_length, IsEntry, IsSound, Matches}
+use Rattle.slotted_page.specs.Layout.{slots_of, offset_of, code_of, length_of, content_of, content_length, total_length, IsEntry, IsSound, FitsPage}
 use Rattle.slotted_page.proofs.Slots.{length-slots_of, get_or-slots_of, content_none, content_some, total-set}
 
 -- the length of what a slot has is that in its entry
@@ -51,7 +51,7 @@ short_after octets slot content k sound inside short below =
     (cases_eq k slot)
 
 pub always_fits : (octets : List ℕ) (slot : ℕ) (content : Option (List ℕ)) → IsSound octets → slot < 32 → content_length content ≤ VALUE_MAX
-    → Matches (slots_of octets) slot content
+    → FitsPage (slots_of octets) slot content
 always_fits octets slot content sound inside short =
     let size : length (set (slots_of octets) slot content) ≡ 32 = length-set (slots_of octets) slot content ∙ length-slots_of octets in
     omega (arith, size, total_short (set (slots_of octets) slot content) (λ k less. short_after octets slot content k sound inside short (omega (arith, less, size))))
@@ -63,12 +63,12 @@ total_with octets slot content inside = omega (arith, total-set (slots_of octets
 
 pub fits_exactly : (octets : List ℕ) (slot : ℕ) (content : Option (List ℕ)) (others own : ℕ) → slot < 32
     → others ≡ total_length (set (slots_of octets) slot None) → own ≡ content_length content → others ≤ 3952
-    → IsTrue (nat_le own (3952 - others)) ↔ Matches (slots_of octets) slot content
+    → IsTrue (nat_le own (3952 - others)) ↔ FitsPage (slots_of octets) slot content
 fits_exactly octets slot content others own inside is_others is_own small = (
   (λ test. omega (arith, total_with octets slot content inside, is_others, is_own, small, leb-true own (3952 - others) test)),
   (λ fits. le-leb own (3952 - others) (omega (arith, total_with octets slot content inside, is_others, is_own, fits))),
 )
 
 pub too_many : (octets : List ℕ) (slot : ℕ) (content : Option (List ℕ)) (others : ℕ) → slot < 32
-    → others ≡ total_length (set (slots_of octets) slot None) → 3952 < others → Matches (slots_of octets) slot content → ⊥
+    → others ≡ total_length (set (slots_of octets) slot None) → 3952 < others → FitsPage (slots_of octets) slot content → ⊥
 too_many octets slot content others inside is_others many fits = omega (arith, total_with octets slot content inside, is_others, many, fits)

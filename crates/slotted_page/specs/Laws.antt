@@ -1,7 +1,7 @@
 -- What follows for those who build on pages.
 use Rattle.std.specs.Prelude.{◌≡◌, ℕ, ◌<◌, ◌≤◌, List, length, replicate, Option, Some, None, slice_get}
 use Rattle.byte_fields.specs.declared.TheConstants.{VALUE_MAX}
-use Rattle.slotted_page.specs.Layout.{IsSound, lsn_of, used_of, slots_of, content_of, content_length, Matches}
+use Rattle.slotted_page.specs.Layout.{IsSound, lsn_of, used_of, slots_of, content_of, content_length, FitsPage}
 
 -- a sound page, of which each slot is empty
 pub record IsBlank (octets : List ℕ) : Type 0 where
@@ -24,4 +24,4 @@ AreShort = (octets : List ℕ) (slot : ℕ) → IsSound octets → slot < 32
 abbrev pub EachValueFits : Type 0
 EachValueFits =
     (octets : List ℕ) (slot : ℕ) (content : Option (List ℕ)) → IsSound octets → slot < 32 →
-    content_length content ≤ VALUE_MAX → Matches (slots_of octets) slot content
+    content_length content ≤ VALUE_MAX → FitsPage (slots_of octets) slot content

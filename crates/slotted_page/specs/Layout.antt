@@ -70,5 +70,5 @@ abbrev pub total_length : List (Option (List ℕ)) → ℕ
 total_length slots = sum_by content_length slots
 
 -- with this content in its slot, the values of all slots have room in the heap together
-abbrev pub Matches : List (Option (List ℕ)) → ℕ → Option (List ℕ) → Type 0
-Matches slots slot content = total_length (slice_set slots slot content) ≤ 3952
+abbrev pub FitsPage : List (Option (List ℕ)) → ℕ → Option (List ℕ) → Type 0
+FitsPage slots slot content = total_length (slice_set slots slot content) ≤ 3952

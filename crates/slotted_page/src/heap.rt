@@ -2,7 +2,7 @@
 ghost use Rattle.std.specs.Prelude.{◌≡◌, ◌≢◌, ◌+◌, ◌^◌, ◌<◌, ◌≤◌, ℕ, length, slice_set, Some, None, replicate};
 ghost use Rattle.std.specs.Prelude.{option_copied};
 ghost use Rattle.slotted_page.specs.Layout.{used_of, lsn_of, content_of, slots_of, content_length, total_length};
-ghost use Rattle.slotted_page.specs.Layout.{IsSound, Matches};
+ghost use Rattle.slotted_page.specs.Layout.{IsSound, FitsPage};
 ghost use Rattle.slotted_page.specs.Laws.{IsBlank};
 ghost use Rattle.slotted_page.specs.Changes.{Wrote, Sets};
 
@@ -129,7 +129,7 @@ fn insert(octets: &mut [u8], slot: u8, value: &[u8])
     requires sound { IsSound octets.old }
     requires slot { slot < 32 }
     requires short { length value.now ≤ VALUE_MAX }
-    requires fits { Matches (slots_of octets.old) slot (Some value.now) }
+    requires fits { FitsPage (slots_of octets.old) slot (Some value.now) }
     ensures { Sets octets.old octets.new slot (Some value.now) }
 {
     make_room(octets, slot, value.len());
@@ -141,7 +141,7 @@ fn put_content(octets: &mut [u8], slot: u8, value: Option<&[u8]>)
     requires sound { IsSound octets.old }
     requires slot { slot < 32 }
     requires short { content_length (option_copied value) ≤ VALUE_MAX }
-    requires fits { Matches (slots_of octets.old) slot (option_copied value) }
+    requires fits { FitsPage (slots_of octets.old) slot (option_copied value) }
     ensures { Sets octets.old octets.new slot (option_copied value.entry) }
 {
     match value {
@@ -155,7 +155,7 @@ pub fn set(octets: &mut [u8], slot: u8, value: Option<&[u8]>, lsn: u64)
     requires sound { IsSound octets.old }
     requires slot { slot < 32 }
     requires short { content_length (option_copied value) ≤ VALUE_MAX }
-    requires fits { Matches (slots_of octets.old) slot (option_copied value) }
+    requires fits { FitsPage (slots_of octets.old) slot (option_copied value) }
     ensures sound { IsSound octets.new }
     ensures slots { slots_of octets.new ≡ slice_set (slots_of octets.old) slot (option_copied value.entry) }
     ensures lsn { lsn_of octets.new ≡ lsn }

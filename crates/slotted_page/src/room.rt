@@ -1,6 +1,6 @@
 // Whether a value has room in a page.
 ghost use Rattle.std.specs.Prelude.{◌≡◌, ◌<◌, ◌≤◌, ◌↔◌, IsTrue, None, slice_set, slice_index_or, option_copied};
-ghost use Rattle.slotted_page.specs.Layout.{slots_of, content_length, total_length, IsSound, Matches};
+ghost use Rattle.slotted_page.specs.Layout.{slots_of, content_length, total_length, IsSound, FitsPage};
 
 use crate::directory::length_of;
 use crate::{HEAP_LEN, SLOTS};
@@ -47,7 +47,7 @@ fn length_given(value: Option<&[u8]>) -> usize
 pub fn fits(octets: &[u8], slot: u8, value: Option<&[u8]>) -> bool
     requires sound { IsSound octets.now }
     requires slot { slot < 32 }
-    ensures { IsTrue result ↔ Matches (slots_of octets.now) slot (option_copied value.entry) }
+    ensures { IsTrue result ↔ FitsPage (slots_of octets.now) slot (option_copied value.entry) }
 {
     let others = length_of_others(octets, slot);
     let own = length_given(value);

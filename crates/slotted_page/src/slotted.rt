@@ -1,6 +1,6 @@
 ghost use Rattle.std.specs.Prelude.{◌≡◌, ◌<◌, ◌≤◌, ◌↔◌, IsTrue, None, length, replicate, slice_set, slice_index_or};
 ghost use Rattle.std.specs.Prelude.{option_copied};
-ghost use Rattle.slotted_page.specs.Layout.{lsn_of, slots_of, content_length, IsSound, Matches};
+ghost use Rattle.slotted_page.specs.Layout.{lsn_of, slots_of, content_length, IsSound, FitsPage};
 ghost use Rattle.slotted_page.specs.Laws.{IsBlank};
 
 use crate::heap::blank;
@@ -84,7 +84,7 @@ impl Page {
     pub fn fits(&self, slot: u8, value: Option<&[u8]>) -> bool
         requires sound { IsSound self.now }
         requires slot { slot < 32 }
-        ensures { IsTrue result ↔ Matches (slots_of self.now) slot (option_copied value.entry) }
+        ensures { IsTrue result ↔ FitsPage (slots_of self.now) slot (option_copied value.entry) }
     {
         room::fits(&self.octets, slot, value)
     }
@@ -95,7 +95,7 @@ impl Page {
         requires sound { IsSound self.old }
         requires slot { slot < 32 }
         requires short { content_length (option_copied value) ≤ VALUE_MAX }
-        requires fits { Matches (slots_of self.old) slot (option_copied value) }
+        requires fits { FitsPage (slots_of self.old) slot (option_copied value) }
         ensures sound { IsSound self.new }
         ensures slots { slots_of self.new ≡ slice_set (slots_of self.old) slot (option_copied value.entry) }
         ensures lsn { lsn_of self.new ≡ lsn }

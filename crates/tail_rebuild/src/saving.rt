@@ -91,7 +91,7 @@ pub fn save_due<S: Site>(
         → ChangesOnly Dev.Flash (S.state site.old) (S.state site.new) }
     ensures quiet { IsTrue (S.state site.old).honest → IsQuiet (S.state site.old)
         → OnOk result (IsQuiet (S.state site.new)) }
-    ensures past { IsTrue (S.state site.old).honest
+    ensures device_calls { IsTrue (S.state site.old).honest
         → OnOk result (length (S.state site.new).past ≤ length (S.state site.old).past + 5) }
     ensures quiet_err { IsTrue (S.state site.old).honest → IsQuiet (S.state site.old)
         → IfErr result (λ stop. ((d : Dev) → stop ≢ Stop.Device d) → IsQuiet (S.state site.new)) }
@@ -101,7 +101,7 @@ pub fn save_due<S: Site>(
     ensures none_due { OnOk result (is_due groups.now.hi segments.new.hi ≡ false) }
     ensures ok { OnOk result (segments.new.ended ≡ segments.old.ended) }
     ensures err { OnErr result (segments.new.hi ≡ segments.old.hi) }
-    ensures goes { Preserves (S.state site.old) (S.state site.new) }
+    ensures preserves { Preserves (S.state site.old) (S.state site.new) }
     ensures faults { WorkFaults result (S.state site.old) (S.state site.new) }
     ensures reads { (S.state site.new).flash_reads ≤ (S.state site.old).flash_reads + 4 }
     ensures others { (d : Dev) → d ≢ Dev.Flash

@@ -64,7 +64,7 @@ pub fn face<S: Site>(alloc: Global, words: &[String], site: &mut S) -> u8
     ensures dashed { HasDash (words_of words.now) → result ≡ 2 }
     // The first failed call decides the status.
     ensures first { FirstDecides result (S.state site.old) (S.state site.new) }
-    ensures goes { Preserves (S.state site.old) (S.state site.new) }
+    ensures preserves { Preserves (S.state site.old) (S.state site.new) }
     ensures faults { result ≡ 0 → SameFaults (S.state site.old) (S.state site.new) }
 {
     match read_words(alloc, words) {

@@ -38,7 +38,7 @@ pub record Tells (text : List ℕ) (mid new : State) (result : Result (Unit {0})
   pub any_moment : IsTrue mid.honest → EachMoment mid new (TellsPart text mid)
   pub told : IsTrue mid.honest → OnOk result (new.told ≡ mid.told ++ text)
   pub reads : SameReads mid new
-  pub goes : Preserves mid new
+  pub preserves : Preserves mid new
   pub cause : OnErr result (Rose mid.output_faults new.output_faults)
 
 module _ (text : List ℕ) (old mid new : State) (goes : Preserves old mid) (same : IsTrue old.honest → HearsOnly old mid) where
@@ -76,7 +76,7 @@ contract groups pool text old mid new result status goes same reads tells answer
   wrong = λ honest. wrong_of groups pool old.input.left status text (answer honest);
   trace = λ honest. trace_of groups pool old.input.left status text (answer honest);
   others = others;
-  input = λ five. rose_then old.input_faults mid.input_faults new.input_faults (input five) tells.goes.input_faults;
+  input = λ five. rose_then old.input_faults mid.input_faults new.input_faults (input five) tells.preserves.input_faults;
   output = λ six. rose_since old.output_faults mid.output_faults new.output_faults goes.output_faults (output six);
   reads = λ dev. tells.reads dev ∙ reads dev;
 }

@@ -19,7 +19,7 @@ use std::alloc::Global;
 const LINES: u64 = 1_000_000;
 
 // Hears the trace, and answers what is told of it.
-fn work<S: Site>(alloc: Global, groups: u32, pool: u32, site: &mut S) -> Result<Line, Halt>
+fn run_trace<S: Site>(alloc: Global, groups: u32, pool: u32, site: &mut S) -> Result<Line, Halt>
     requires groups_least { 8 ≤ groups }
     requires groups_most { groups ≤ 16384 }
     requires pool_least { 1 ≤ pool }
@@ -28,7 +28,7 @@ fn work<S: Site>(alloc: Global, groups: u32, pool: u32, site: &mut S) -> Result<
         (touches : List Touch) × IsTrace (S.state site.old).input.left touches × (text ≡ report groups pool touches)) }
     ensures cause { IfErr result (λ halt. HasCause halt (S.state site.old) (S.state site.new)) }
     ensures same { IsTrue (S.state site.old).honest → HearsOnly (S.state site.old) (S.state site.new) }
-    ensures goes { Preserves (S.state site.old) (S.state site.new) }
+    ensures preserves { Preserves (S.state site.old) (S.state site.new) }
     ensures reads { SameReads (S.state site.old) (S.state site.new) }
     ensures faults { HearFaults result (S.state site.old) (S.state site.new) }
 {
@@ -68,11 +68,11 @@ pub fn simulate<S: Site>(alloc: Global, groups: u32, pool: u32, site: &mut S) ->
     requires pool_least { 1 ≤ pool }
     requires pool_most { pool ≤ 4096 }
     ensures simulate { SimulateContract groups pool (S.state site.old) (S.state site.new) result }
-    ensures goes { Preserves (S.state site.old) (S.state site.new) }
+    ensures preserves { Preserves (S.state site.old) (S.state site.new) }
     ensures faults { result ≡ 0 → faults_in (S.state site.new) ≡ faults_in (S.state site.old) }
     ensures first { FirstFails result (S.state site.old) (S.state site.new) }
 {
-    match work(alloc, groups, pool, site) {
+    match run_trace(alloc, groups, pool, site) {
         Ok(text) => match tell_all(site, text.as_slice()) {
             Ok(()) => 0,
             Err(_) => 6,

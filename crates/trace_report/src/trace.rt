@@ -60,7 +60,7 @@ impl Trace {
         ensures ended { IsTrue (S.state site.old).honest → HasEnded self.old (S.state site.old)
             → OnOk result (HasEnded self.new (S.state site.new)) }
         ensures same { IsTrue (S.state site.old).honest → HearsOnly (S.state site.old) (S.state site.new) }
-        ensures goes { Preserves (S.state site.old) (S.state site.new) }
+        ensures preserves { Preserves (S.state site.old) (S.state site.new) }
         ensures reads { SameReads (S.state site.old) (S.state site.new) }
         ensures cause { OnErr result (Rose (S.state site.old).input_faults (S.state site.new).input_faults) }
         ensures faults { TakeFaults result (S.state site.old) (S.state site.new) }
@@ -92,7 +92,7 @@ impl Trace {
         ensures ended { IsTrue (S.state site.old).honest → HasEnded self.old (S.state site.old)
             → OnOk result (HasEnded self.new (S.state site.new)) }
         ensures same { IsTrue (S.state site.old).honest → HearsOnly (S.state site.old) (S.state site.new) }
-        ensures goes { Preserves (S.state site.old) (S.state site.new) }
+        ensures preserves { Preserves (S.state site.old) (S.state site.new) }
         ensures reads { SameReads (S.state site.old) (S.state site.new) }
         ensures cause { OnErr result (Rose (S.state site.old).input_faults (S.state site.new).input_faults) }
         ensures faults { TakeFaults result (S.state site.old) (S.state site.new) }
@@ -120,7 +120,7 @@ impl Trace {
         ensures ended { IsTrue (S.state site.old).honest → HasEnded self.old (S.state site.old)
             → OnOk result (HasEnded self.new (S.state site.new)) }
         ensures same { IsTrue (S.state site.old).honest → HearsOnly (S.state site.old) (S.state site.new) }
-        ensures goes { Preserves (S.state site.old) (S.state site.new) }
+        ensures preserves { Preserves (S.state site.old) (S.state site.new) }
         ensures reads { SameReads (S.state site.old) (S.state site.new) }
         ensures cause { OnErr result (Rose (S.state site.old).input_faults (S.state site.new).input_faults) }
         ensures faults { TakeFaults result (S.state site.old) (S.state site.new) }

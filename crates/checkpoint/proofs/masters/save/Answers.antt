@@ -22,7 +22,7 @@ pub returns-clause-reaches : goal.returns-clause-reaches
 returns-clause-reaches g c geometry limits lengths honest finds =
     ok_three c.append.result _ _ _ _
     (saved_reaches c.args.ring.now (g.S.Site.state c.args.site.now) (g.S.Site.state c.append.new.site) c.write_master-content.result c.args.master.now c.requires.shape
-    (c.write_master-content.ensures.spelled c.requires.ascend) geometry limits lengths (c.append.ensures.changes honest).only c.append.ensures.goes c.append.new.self c.append.ensures.shape)
+    (c.write_master-content.ensures.spelled c.requires.ascend) geometry limits lengths (c.append.ensures.changes honest).only c.append.ensures.preserves c.append.new.self c.append.ensures.shape)
     (c.append.ensures.ready honest finds) (c.append.ensures.outside honest) (c.append.ensures.stands honest finds)
 
 pub returns-clause-stands : goal.returns-clause-stands

@@ -30,15 +30,15 @@ returns-in-Err-start-clause-readable g c honest newest blocks sound is =
     let mid = g.S.Site.state c.start.new.site in
     let k = c.args.geometry.now in
     let there = subst (AreOctetsSoundUnder newest k) (sym (c.start.ensures.reads.same honest).image) sound.octets in
-    c.in-Err-start.ensures.foreign (err_again c.in-Err-start.stop Foreign is) (stays_honest old mid c.start.ensures.reads.goes honest) (first_on k mid.image) (groups_on k mid.image) (has_groups k mid.image there.groups) there.segments
+    c.in-Err-start.ensures.foreign (err_again c.in-Err-start.stop Foreign is) (stays_honest old mid c.start.ensures.reads.preserves honest) (first_on k mid.image) (groups_on k mid.image) (has_groups k mid.image there.groups) there.segments
 
 -- Behind all that it reads.
 module _ (g : Over) (c : After-newest g) (honest : IsTrue (g.S.Site.state c.args.site.now).honest) where
   honest_mid : IsTrue (g.S.Site.state c.start.new.site).honest
-  honest_mid = stays_honest (g.S.Site.state c.args.site.now) (g.S.Site.state c.start.new.site) c.start.ensures.reads.goes honest
+  honest_mid = stays_honest (g.S.Site.state c.args.site.now) (g.S.Site.state c.start.new.site) c.start.ensures.reads.preserves honest
 
   honest_found : IsTrue (g.S.Site.state c.start-2.new.site).honest
-  honest_found = stays_honest (g.S.Site.state c.start.new.site) (g.S.Site.state c.start-2.new.site) c.start-2.ensures.goes honest_mid
+  honest_found = stays_honest (g.S.Site.state c.start.new.site) (g.S.Site.state c.start-2.new.site) c.start-2.ensures.preserves honest_mid
 
   unchanged : IsUnchanged (g.S.Site.state c.args.site.now) (g.S.Site.state c.newest.new.site)
   unchanged = unchanged_in_sequence _ _ _ (c.start.ensures.reads.same honest)
@@ -74,8 +74,8 @@ returns-in-Ok-keep_from-clause-ready g c honest newest blocks table commits soun
     let keeps = c.in-Ok-keep_from.ensures.keeps in
     let finds = subst (λ (log : LogStore). log_store.Finds log mid) (sym keeps) (record { honest = (c.in-Ok.ensures.found honest sound.held.form).honest; form = (c.in-Ok.ensures.found honest sound.held.form).form; hi = (c.in-Ok.ensures.found honest sound.held.form).hi }) in
     let held = c.in-Ok.ensures.holds honest (kept_by newest) blocks sound.held in
-    ready_now c.stays_beside.ensures.fits k c.keep_from.new.log c.in-Ok-start.pages old mid found new c.start.ensures.reads.goes same_first c.start-2.ensures.goes
-    (c.start-2.ensures.same honest_mid) c.newest.ensures.reads.goes (c.newest.ensures.reads.same honest_found)
+    ready_now c.stays_beside.ensures.fits k c.keep_from.new.log c.in-Ok-start.pages old mid found new c.start.ensures.reads.preserves same_first c.start-2.ensures.preserves
+    (c.start-2.ensures.same honest_mid) c.newest.ensures.reads.preserves (c.newest.ensures.reads.same honest_found)
     c.in-Ok-newest.masters master newest blocks table commits c.in-Ok-start.ensures.geometry c.in-Ok-start.ensures.empty (ap (λ (log : LogStore). log.kept) keeps) is
     (c.in-Ok-start.ensures.fits honest_mid (first_on k mid.image) (groups_on k mid.image)
     (has_groups k mid.image there_mid.groups) there_mid.segments there_mid.clean there_mid.versions)
@@ -83,13 +83,13 @@ returns-in-Ok-keep_from-clause-ready g c honest newest blocks table commits soun
     (subst (λ (log : LogStore). log_store.HasBlocks log.geometry (kept_by newest) blocks mid.image) (sym keeps) held.blocks)
     (subst (λ (log : LogStore). log_store.HasTail log.tail log.used []) (sym keeps) held.tail) sound means
 
-pub returns-in-Ok-keep_from-clause-goes : goal.returns-in-Ok-keep_from-clause-goes
-returns-in-Ok-keep_from-clause-goes g c =
-    goes_in_sequence (g.S.Site.state c.args.site.now) _ _ c.start.ensures.reads.goes (goes_in_sequence _ _ _ c.start-2.ensures.goes c.newest.ensures.reads.goes)
+pub returns-in-Ok-keep_from-clause-preserves : goal.returns-in-Ok-keep_from-clause-preserves
+returns-in-Ok-keep_from-clause-preserves g c =
+    goes_in_sequence (g.S.Site.state c.args.site.now) _ _ c.start.ensures.reads.preserves (goes_in_sequence _ _ _ c.start-2.ensures.preserves c.newest.ensures.reads.preserves)
 
 pub returns-in-Ok-keep_from-clause-going : goal.returns-in-Ok-keep_from-clause-going
 returns-in-Ok-keep_from-clause-going g c = record {
-  going = both_go_on c.stays_beside.ensures.going c.keep_from.new.log c.in-Ok-start.pages (g.S.Site.state c.start.new.site) (g.S.Site.state c.start-2.new.site) (g.S.Site.state c.newest.new.site) c.start-2.ensures.goes c.newest.ensures.reads.goes
+  going = both_go_on c.stays_beside.ensures.going c.keep_from.new.log c.in-Ok-start.pages (g.S.Site.state c.start.new.site) (g.S.Site.state c.start-2.new.site) (g.S.Site.state c.newest.new.site) c.start-2.ensures.preserves c.newest.ensures.reads.preserves
       (c.in-Ok-keep_from.ensures.going (g.S.Site.state c.start.new.site) c.in-Ok.ensures.going) c.in-Ok-start.ensures.going
       (ap (λ (log : LogStore). log.geometry) c.in-Ok-keep_from.ensures.keeps ∙ c.in-Ok.ensures.geometry ∙ sym c.in-Ok-start.ensures.geometry) (ap (λ (log : LogStore). log.used) c.in-Ok-keep_from.ensures.keeps ∙ c.in-Ok.ensures.empty);
   ascend = c.in-Ok-newest.ensures.ascend;
@@ -129,7 +129,7 @@ returns-in-Ok-keep_from-clause-cache g c honest newest blocks sound =
     let k = c.args.geometry.now in
     let same = (c.start.ensures.reads.same honest).image in
     let there = subst (AreOctetsSoundUnder newest k) (sym same) sound.octets in
-    c.in-Ok-start.ensures.machine (stays_honest old mid c.start.ensures.reads.goes honest) (first_on k mid.image) (groups_on k mid.image) (has_groups k mid.image there.groups) there.segments ∙ ap (λ (image : Image). cache_on k image) same
+    c.in-Ok-start.ensures.machine (stays_honest old mid c.start.ensures.reads.preserves honest) (first_on k mid.image) (groups_on k mid.image) (has_groups k mid.image there.groups) there.segments ∙ ap (λ (image : Image). cache_on k image) same
 
 pub returns-in-Err-clause-flash_reads : goal.returns-in-Err-clause-flash_reads
 returns-in-Err-clause-flash_reads g c = let f = c.start.ensures.reads.others Flash (λ e. cc) in omega (arith, f)
@@ -170,8 +170,8 @@ returns-in-Err-keep_from-clause-same g c honest = unchanged g (goal.at.returns-i
 pub returns-in-Err-newest-clause-same : goal.returns-in-Err-newest-clause-same
 returns-in-Err-newest-clause-same g c honest = unchanged g (goal.at.returns-in-Err-newest-clause-same g c).After-newest honest
 
-pub returns-in-Err-keep_from-clause-goes : goal.returns-in-Err-keep_from-clause-goes
-returns-in-Err-keep_from-clause-goes g c = goes_in_sequence _ _ _ c.start.ensures.reads.goes (goes_in_sequence _ _ _ c.start-2.ensures.goes c.newest.ensures.reads.goes)
+pub returns-in-Err-keep_from-clause-preserves : goal.returns-in-Err-keep_from-clause-preserves
+returns-in-Err-keep_from-clause-preserves g c = goes_in_sequence _ _ _ c.start.ensures.reads.preserves (goes_in_sequence _ _ _ c.start-2.ensures.preserves c.newest.ensures.reads.preserves)
 
 pub returns-in-Err-clause-log_reads : goal.returns-in-Err-clause-log_reads
 returns-in-Err-clause-log_reads g c = omega (arith, c.start.ensures.reads.reads)

@@ -8,15 +8,15 @@ use Rattle.checkpoint.specs.declared.master.Master.{Master}
 use Rattle.record_model.specs.State.{Content}
 use Rattle.log_records.specs.declared.log_record.LogRecord.{LogRecord}
 use Rattle.log_records.specs.Unfinished.{owed, pending}
-use Rattle.log_records.specs.Sound.{Picture}
+use Rattle.log_records.specs.Sound.{LogicalImage}
 use Rattle.redo_laws.specs.Numbers.{SkipsNone}
-use Rattle.redo_undo.specs.declared.store.Store.{Store}
+use Rattle.redo_undo.specs.declared.store.TransactionStore.{TransactionStore}
 use Rattle.engine.specs.declared.restart.Restarted.{Restarted}
 use Rattle.engine.specs.Restarting.{IsReady, RestartedAs, found_store}
 use Rattle.log_store.specs.Representation.{has_tail}
 use Rattle.page_store.specs.Caching.{rules}
 use Rattle.checkpoint.specs.declared.pairs.Pair.{Pair}
-use Rattle.image_meaning.specs.Meaning.{picture_under}
+use Rattle.image_meaning.specs.Meaning.{logical_image_under}
 use Rattle.image_meaning.proofs.Leaving.{under_leaves_for}
 use Rattle.redo_laws.specs.Holding as both
 use Rattle.redo_laws.specs.MachineSteps.{StepsMachine, redo_works, undo_works, checkpoint_works}
@@ -60,7 +60,7 @@ use Rattle.engine.proofs.restart.recover.Goals as goal
 pub returns-in-Err-clause-recovers : goal.returns-in-Err-clause-recovers
 returns-in-Err-clause-recovers g c newest blocks table commits h =
     let old = g.S.Site.state c.args.site.now in
-    let p = picture_under newest c.args.opened.pages.flash.geometry old.image blocks in
+    let p = logical_image_under newest c.args.opened.pages.flash.geometry old.image blocks in
     let next = opened_next c.args.opened old newest blocks table commits h c.requires.may.going.sizes c.requires.empty in
     let some : 1 ≤ (rules c.args.opened.pages).groups = (let least = c.requires.may.going.pages_going.flash.limits.groups in omega (arith, least)) in
     let two : StepsMachine {T = Unit {0}} (Err c.in-Err.stop) (redo_works p ++ undo_works p.log) c.args.opened.pages c.redo.new.pages old (g.S.Site.state c.redo.new.site) = asks_stopped c.in-Err.stop (redo_works p) (undo_works p.log) _ _ old _ some (c.in-Err.ensures.asks newest blocks table commits h.master h.opened_is).asks in
@@ -90,7 +90,7 @@ pub returns-in-Err-undo_all-clause-recovers : goal.returns-in-Err-undo_all-claus
 returns-in-Err-undo_all-clause-recovers g c newest blocks table commits h =
     let old = g.S.Site.state c.args.site.now in
     let mid = g.S.Site.state c.redo.new.site in
-    let p = picture_under newest c.args.opened.pages.flash.geometry old.image blocks in
+    let p = logical_image_under newest c.args.opened.pages.flash.geometry old.image blocks in
     let next = opened_next c.args.opened old newest blocks table commits h c.requires.may.going.sizes c.requires.empty in
     let some : 1 ≤ (rules c.args.opened.pages).groups = (let least = c.requires.may.going.pages_going.flash.limits.groups in omega (arith, least)) in
     let records = log_under newest blocks in
@@ -140,8 +140,8 @@ module _ (g : Over) (c : After-checkpoint g) (newest : Option Master) (blocks : 
   abbrev k : Geometry
   k = c.args.opened.pages.flash.geometry
 
-  abbrev p : Picture
-  p = picture_under newest k old.image blocks
+  abbrev p : LogicalImage
+  p = logical_image_under newest k old.image blocks
 
   abbrev Behind : Result (Unit {0}) Stop → Type 0
   Behind r = Ends r k old new (LeavesTable k table commits old.told)
@@ -191,8 +191,8 @@ module _ (g : Over) (c : After-checkpoint g) (newest : Option Master) (blocks : 
       let restarted : (x : Restarted) → x.store ≡ c.checkpoint.new.self → x.commits ≡ c.commits-commits.result → OnOk c.checkpoint.result
       (RestartedAs x new table commits) = λ x store are.
       where_two _ _ _ c.checkpoint.result empty c.checkpoint.ensures.made (λ checkpoint made. restarted_as x new all table commits 0 undone.none
-      (subst (λ (y : Store). HasCheckpoint y new all table commits []) (sym store) checkpoint)
-      (let same = ap (λ (y : Store). y.made) store in omega (arith, same, made)) (are ∙ counted)) in
+      (subst (λ (y : TransactionStore). HasCheckpoint y new all table commits []) (sym store) checkpoint)
+      (let same = ap (λ (y : TransactionStore). y.made) store in omega (arith, same, made)) (are ∙ counted)) in
       subst Behind result (ends_then calm_und same (ends_then calm c.redo.ensures.works.geometry (ends_leaving (under_leaves_for newest _ _ _ table commits _) first.ends) (ends_leaving (under_leaves_for newest _ _ _ table commits _) second.ends)) third, skips, asks, restarted)
 
   read_of : new.log_reads ≤ old.log_reads + (length blocks + length (pending (log_under newest blocks)))
@@ -315,17 +315,17 @@ returns-in-Err-undo_all-clause-next g c honest is =
     let second = c.in-Err-undo_all.ensures.works in
     next_at_error {new = record { log = c.undo_all.new.log; pages = c.undo_all.new.pages; masters = c.args.opened.masters; made = 0 }} refl is
     (store_next {old = found_store c.args.opened} c.requires.may.going.sizes refl second.stops
-    (next_pages first.log_geometry first.geometry (first.next honest) (second.next (stays_honest (g.S.Site.state c.args.site.now) (g.S.Site.state c.redo.new.site) first.calls.goes honest))))
+    (next_pages first.log_geometry first.geometry (first.next honest) (second.next (stays_honest (g.S.Site.state c.args.site.now) (g.S.Site.state c.redo.new.site) first.calls.preserves honest))))
 
 pub returns-then-commits-sealed_end-clause-next : goal.returns-then-commits-sealed_end-clause-next
 returns-then-commits-sealed_end-clause-next g c honest is = next_not_worn (λ d same. cc)
 
 module _ (g : Over) (c : After-checkpoint g) (honest : IsTrue (g.S.Site.state c.args.site.now).honest) where
   honest_mid : IsTrue (g.S.Site.state c.redo.new.site).honest
-  honest_mid = stays_honest (g.S.Site.state c.args.site.now) (g.S.Site.state c.redo.new.site) c.in-Ok.ensures.works.calls.goes honest
+  honest_mid = stays_honest (g.S.Site.state c.args.site.now) (g.S.Site.state c.redo.new.site) c.in-Ok.ensures.works.calls.preserves honest
 
   pub honest_then : IsTrue (g.S.Site.state c.undo_all.new.site).honest
-  honest_then = stays_honest (g.S.Site.state c.redo.new.site) (g.S.Site.state c.undo_all.new.site) c.in-Ok-undo_all.ensures.works.calls.goes honest_mid
+  honest_then = stays_honest (g.S.Site.state c.redo.new.site) (g.S.Site.state c.undo_all.new.site) c.in-Ok-undo_all.ensures.works.calls.preserves honest_mid
 
   -- the store that was undone
   pub next_undone : (made : ℕ) → KeepsNext {T = Unit {0}} (Ok c.in-Ok-undo_all.field-0) (found_store c.args.opened)
@@ -351,7 +351,7 @@ pub returns-in-Err-clause-performs : goal.returns-in-Err-clause-performs
 returns-in-Err-clause-performs g c newest blocks table commits h =
     let old = g.S.Site.state c.args.site.now in
     performs_stopped {A = Redone} {Q = Mirrors c.redo.new.log c.redo.new.pages (g.S.Site.state c.redo.new.site).image} saves (performs_stopped (undo_work (log_under newest blocks))
-    (redo_performs (Err c.in-Err.stop) c.args.opened c.redo.new.log c.redo.new.pages old (g.S.Site.state c.redo.new.site) newest (log_under newest blocks) table commits (redo_works (picture_under newest c.args.opened.pages.flash.geometry old.image blocks))
+    (redo_performs (Err c.in-Err.stop) c.args.opened c.redo.new.log c.redo.new.pages old (g.S.Site.state c.redo.new.site) newest (log_under newest blocks) table commits (redo_works (logical_image_under newest c.args.opened.pages.flash.geometry old.image blocks))
     c.requires.may.going c.requires.empty c.requires.may.masters.bounded (c.in-Err.ensures.asks newest blocks table commits h.master h.opened_is) tt tt tt tt))
 
 pub returns-then-sealed_end-owed-clause-performs : goal.returns-then-sealed_end-owed-clause-performs
@@ -371,9 +371,9 @@ module _ (g : Over) (c : After-undo_all g) (newest : Option Master) (blocks : Li
   abbrev records : List Entry
   records = log_under newest blocks
 
-  redone : Performs {T = Redone} (Ok c.in-Ok.redone) (rules c.args.opened.pages) (redo_work (picture_under newest c.args.opened.pages.flash.geometry start.image blocks)) (λ m. m ≡ found_machine c.args.opened) (Mirrors c.redo.new.log c.redo.new.pages middle.image)
+  redone : Performs {T = Redone} (Ok c.in-Ok.redone) (rules c.args.opened.pages) (redo_work (logical_image_under newest c.args.opened.pages.flash.geometry start.image blocks)) (λ m. m ≡ found_machine c.args.opened) (Mirrors c.redo.new.log c.redo.new.pages middle.image)
   redone =
-      redo_performs (Ok c.in-Ok.redone) c.args.opened c.redo.new.log c.redo.new.pages start middle newest records table commits (redo_works (picture_under newest c.args.opened.pages.flash.geometry start.image blocks))
+      redo_performs (Ok c.in-Ok.redone) c.args.opened c.redo.new.log c.redo.new.pages start middle newest records table commits (redo_works (logical_image_under newest c.args.opened.pages.flash.geometry start.image blocks))
       c.requires.may.going c.requires.empty c.requires.may.masters.bounded (c.in-Ok.ensures.asks newest blocks table commits h.master h.opened_is)
       (c.in-Ok.ensures.holds newest blocks table commits h.master h.opened_is) c.in-Ok.ensures.blocks c.in-Ok.ensures.rises c.in-Ok.ensures.works.going
 
@@ -383,7 +383,7 @@ module _ (g : Over) (c : After-undo_all g) (newest : Option Master) (blocks : Li
       let none : has_tail c.redo.new.log ≡ false = no_tail_still c.args.opened.log c.redo.new.log c.requires.empty c.in-Ok.ensures.blocks c.in-Ok.ensures.rises in
       (c.undo_all.ensures.asks newest records table commits none (c.in-Ok.ensures.holds newest blocks table commits h.master h.opened_is) (c.in-Ok.ensures.unfinished newest blocks table commits h.master h.opened_is)).rules_are
 
-  pub both_done : Performs c.undo_all.result (rules c.args.opened.pages) (redo_work (picture_under newest c.args.opened.pages.flash.geometry start.image blocks) ++ undo_work records) (λ m. m ≡ found_machine c.args.opened)
+  pub both_done : Performs c.undo_all.result (rules c.args.opened.pages) (redo_work (logical_image_under newest c.args.opened.pages.flash.geometry start.image blocks) ++ undo_work records) (λ m. m ≡ found_machine c.args.opened)
       (Mirrors c.undo_all.new.log c.undo_all.new.pages (g.S.Site.state c.undo_all.new.site).image)
   both_done =
       let none : has_tail c.redo.new.log ≡ false = no_tail_still c.args.opened.log c.redo.new.log c.requires.empty c.in-Ok.ensures.blocks c.in-Ok.ensures.rises in
@@ -398,7 +398,7 @@ returns-in-Err-undo_all-clause-performs g c newest blocks table commits h =
 -- behind undo the store is as it mirrors it, and stands for the table
 module _ (g : Over) (c : After-checkpoint g) (newest : Option Master) (blocks : List (List LogRecord)) (table : List Content) (commits : ℕ)
     (h : IsReady c.args.opened (g.S.Site.state c.args.site.now) newest blocks table commits) where
-  abbrev after_undo : Store
+  abbrev after_undo : TransactionStore
   after_undo = record { log = c.undo_all.new.log; pages = c.undo_all.new.pages; masters = c.args.opened.masters; made = c.in-Ok.redone.records + c.owed-owed.result }
 
   pub at_checkpoint : (more : List Entry) × (both.Represents c.undo_all.new.log c.undo_all.new.pages (g.S.Site.state c.undo_all.new.site) newest (log_under newest blocks ++ more) table c.commits-commits.result)
@@ -413,7 +413,7 @@ pub returns-in-Ok-checkpoint-clause-performs : goal.returns-in-Ok-checkpoint-cla
 returns-in-Ok-checkpoint-clause-performs g c newest blocks table commits h =
     let at = goal.at.returns-in-Ok-checkpoint-clause-performs g c in
     let held = at_checkpoint g at.After-checkpoint newest blocks table commits h in
-    let p = picture_under newest c.args.opened.pages.flash.geometry (g.S.Site.state c.args.site.now).image blocks in
+    let p = logical_image_under newest c.args.opened.pages.flash.geometry (g.S.Site.state c.args.site.now).image blocks in
     let first = store_from (after_undo g at.After-checkpoint newest blocks table commits h) refl refl (restart_saves_none (redo_works p) (log_under newest blocks)) refl (performs_of c.in-Ok-undo_all.is (both_done g at.After-undo_all newest blocks table commits h)) in
     performs_then first (performs_by (sym (rules_after g at.After-undo_all newest blocks table commits h ∙ (c.in-Ok.ensures.asks newest blocks table commits h.master h.opened_is).asks.rules_are)) (performs_answered (c.in-Ok-checkpoint.ensures.performs newest (log_under newest blocks ++ held.0) table held.1)))
 
@@ -421,6 +421,6 @@ pub returns-clause-performs : goal.returns-clause-performs
 returns-clause-performs g c newest blocks table commits h =
     let at = goal.at.returns-clause-performs g c in
     let held = at_checkpoint g at.After-checkpoint newest blocks table commits h in
-    let p = picture_under newest c.args.opened.pages.flash.geometry (g.S.Site.state c.args.site.now).image blocks in
+    let p = logical_image_under newest c.args.opened.pages.flash.geometry (g.S.Site.state c.args.site.now).image blocks in
     let first = store_from (after_undo g at.After-checkpoint newest blocks table commits h) refl refl (restart_saves_none (redo_works p) (log_under newest blocks)) refl (performs_of c.in-Ok-undo_all.is (both_done g at.After-undo_all newest blocks table commits h)) in
     performs_then first (performs_by (sym (rules_after g at.After-undo_all newest blocks table commits h ∙ (c.in-Ok.ensures.asks newest blocks table commits h.master h.opened_is).asks.rules_are)) (performs_failed (c.in-Err-checkpoint.ensures.performs newest (log_under newest blocks ++ held.0) table held.1)))

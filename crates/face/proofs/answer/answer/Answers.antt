@@ -41,7 +41,7 @@ pub returns-in-Ok-tell_reply-clause-fits : goal.returns-in-Ok-tell_reply-clause-
 returns-in-Ok-tell_reply-clause-fits g c s listing asked fits =
     let fits-mid = c.in-Ok.ensures.after s listing asked fits in
     let same = c.tell_reply.ensures.same fits-mid.honest in
-    still_fits c.carry_out.new.engine (g.S.Site.state c.carry_out.new.site) (g.S.Site.state c.tell_reply.new.site) _ fits-mid c.tell_reply.ensures.goes same.image
+    still_fits c.carry_out.new.engine (g.S.Site.state c.carry_out.new.site) (g.S.Site.state c.tell_reply.new.site) _ fits-mid c.tell_reply.ensures.preserves same.image
 
 pub returns-in-Ok-tell_reply-clause-any_moment : goal.returns-in-Ok-tell_reply-clause-any_moment
 returns-in-Ok-tell_reply-clause-any_moment g c s listing asked fits quiet =
@@ -68,20 +68,20 @@ returns-clause-any_moment g c s listing asked fits quiet =
     (subst (λ (t : List ℕ). EachMoment mid new (TellsPart t mid)) text (c.tell_reply.ensures.any_moment fits-mid.honest))
 
 pub returns-in-Ok-tell_reply-clause-going : goal.returns-in-Ok-tell_reply-clause-going
-returns-in-Ok-tell_reply-clause-going g c = goes_on c.carry_out.new.engine (g.S.Site.state c.carry_out.new.site) (g.S.Site.state c.tell_reply.new.site) c.in-Ok.ensures.going c.tell_reply.ensures.goes
+returns-in-Ok-tell_reply-clause-going g c = goes_on c.carry_out.new.engine (g.S.Site.state c.carry_out.new.site) (g.S.Site.state c.tell_reply.new.site) c.in-Ok.ensures.going c.tell_reply.ensures.preserves
 
 pub returns-in-Ok-tell_reply-clause-stays_quiet : goal.returns-in-Ok-tell_reply-clause-stays_quiet
 returns-in-Ok-tell_reply-clause-stays_quiet g c honest quiet =
-    (c.tell_reply.ensures.same (stays_honest (g.S.Site.state c.args.site.now) (g.S.Site.state c.carry_out.new.site) c.carry_out.ensures.goes honest)).loose ∙ c.in-Ok.ensures.stays_quiet honest quiet
+    (c.tell_reply.ensures.same (stays_honest (g.S.Site.state c.args.site.now) (g.S.Site.state c.carry_out.new.site) c.carry_out.ensures.preserves honest)).loose ∙ c.in-Ok.ensures.stays_quiet honest quiet
 
 pub returns-in-Err-clause-asks : goal.returns-in-Err-clause-asks
 returns-in-Err-clause-asks g c s fits = serves_err c.in-Err.stop _ _ _ _ _ _ (c.carry_out.ensures.log_reads s fits) (c.in-Err.ensures.asks s fits)
 
 pub returns-in-Ok-tell_reply-clause-asks : goal.returns-in-Ok-tell_reply-clause-asks
-returns-in-Ok-tell_reply-clause-asks g c s fits = serves_ok c.in-Ok.reply _ _ _ _ _ _ _ _ c.tell_reply.ensures.reads (c.carry_out.ensures.log_reads s fits) (λ honest. c.tell_reply.ensures.any_moment (stays_honest (g.S.Site.state c.args.site.now) (g.S.Site.state c.carry_out.new.site) c.carry_out.ensures.goes honest)) (c.in-Ok.ensures.asks s fits)
+returns-in-Ok-tell_reply-clause-asks g c s fits = serves_ok c.in-Ok.reply _ _ _ _ _ _ _ _ c.tell_reply.ensures.reads (c.carry_out.ensures.log_reads s fits) (λ honest. c.tell_reply.ensures.any_moment (stays_honest (g.S.Site.state c.args.site.now) (g.S.Site.state c.carry_out.new.site) c.carry_out.ensures.preserves honest)) (c.in-Ok.ensures.asks s fits)
 
 pub returns-clause-asks : goal.returns-clause-asks
-returns-clause-asks g c s fits = serves_lost c.in-Ok.reply _ _ _ _ _ _ _ c.tell_reply.ensures.reads (c.carry_out.ensures.log_reads s fits) (λ honest. c.tell_reply.ensures.any_moment (stays_honest (g.S.Site.state c.args.site.now) (g.S.Site.state c.carry_out.new.site) c.carry_out.ensures.goes honest)) (c.in-Ok.ensures.asks s fits)
+returns-clause-asks g c s fits = serves_lost c.in-Ok.reply _ _ _ _ _ _ _ c.tell_reply.ensures.reads (c.carry_out.ensures.log_reads s fits) (λ honest. c.tell_reply.ensures.any_moment (stays_honest (g.S.Site.state c.args.site.now) (g.S.Site.state c.carry_out.new.site) c.carry_out.ensures.preserves honest)) (c.in-Ok.ensures.asks s fits)
 
 pub returns-in-Err-clause-numbers : goal.returns-in-Err-clause-numbers
 returns-in-Err-clause-numbers g c s fits quiet = counts_err c.in-Err.stop (halt.Stop c.in-Err.stop) _ _ _ _ s _ _ (c.in-Err.ensures.numbers s fits quiet)
@@ -90,7 +90,7 @@ pub returns-in-Ok-tell_reply-clause-numbers : goal.returns-in-Ok-tell_reply-clau
 returns-in-Ok-tell_reply-clause-numbers g c s fits quiet =
     let honest = (c.in-Ok.ensures.after s (listing_of c.args.engine.now) (λ asks. refl) fits).honest in
     counts_told c.in-Ok.reply _ _ _ _ _ _ _ s _ _ (c.tell_reply.ensures.any_moment honest)
-    (calls_told (sizes_of c.args.engine.now.store) (reply_text c.in-Ok.reply) (g.S.Site.state c.carry_out.new.site) (g.S.Site.state c.tell_reply.new.site) (c.tell_reply.ensures.same honest).image (c.in-Ok-tell_reply.ensures.told honest) (c.in-Ok-tell_reply.ensures.past honest)) (c.in-Ok.ensures.numbers s fits quiet)
+    (calls_told (sizes_of c.args.engine.now.store) (reply_text c.in-Ok.reply) (g.S.Site.state c.carry_out.new.site) (g.S.Site.state c.tell_reply.new.site) (c.tell_reply.ensures.same honest).image (c.in-Ok-tell_reply.ensures.told honest) (c.in-Ok-tell_reply.ensures.tells_only honest)) (c.in-Ok.ensures.numbers s fits quiet)
 
 pub returns-clause-numbers : goal.returns-clause-numbers
 returns-clause-numbers g c s fits quiet =
@@ -100,7 +100,7 @@ returns-clause-numbers g c s fits quiet =
 pub returns-in-Ok-tell_reply-clause-next : goal.returns-in-Ok-tell_reply-clause-next
 returns-in-Ok-tell_reply-clause-next g c honest is =
     let mid = g.S.Site.state c.carry_out.new.site in
-    let same = c.tell_reply.ensures.same (stays_honest (g.S.Site.state c.args.site.now) mid c.carry_out.ensures.goes honest) in
+    let same = c.tell_reply.ensures.same (stays_honest (g.S.Site.state c.args.site.now) mid c.carry_out.ensures.preserves honest) in
     next_later c.carry_out.new.engine.store mid (g.S.Site.state c.tell_reply.new.site) same.image (c.in-Ok.ensures.next honest is)
 
 -- What it makes of the machine.

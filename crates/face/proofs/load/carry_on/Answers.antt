@@ -25,7 +25,7 @@ returns-in-Ok-clause-course g c =
       going = c.in-Ok.ensures.going;
       cause = tt;
       next = c.in-Ok.ensures.next;
-      goes = c.carry_out.ensures.goes;
+      preserves = c.carry_out.ensures.preserves;
       sizes = c.carry_out.ensures.sizes;
     }
 
@@ -46,6 +46,6 @@ returns-in-Err-clause-course g c = record {
   going = tt;
   cause = c.in-Err.ensures.cause;
   next = λ honest is. tt;
-  goes = c.carry_out.ensures.goes;
+  preserves = c.carry_out.ensures.preserves;
   sizes = c.carry_out.ensures.sizes;
 }

@@ -9,31 +9,31 @@ use Rattle.face.proofs.load.load_and_tell.Goals as goal
 pub returns-in-Err-clause-works : goal.returns-in-Err-clause-works
 returns-in-Err-clause-works g c geometry opening good =
     let run = load_run geometry opening c.args.load.now in
-    stopped_before c.args.load.now.pool run (summary_text run c.args.load.now) (g.S.Site.state c.args.site.now) (g.S.Site.state c.work.new.site) c.in-Err.halt (c.in-Err.ensures.works geometry opening good)
+    stopped_before c.args.load.now.pool run (summary_text run c.args.load.now) (g.S.Site.state c.args.site.now) (g.S.Site.state c.run_load.new.site) c.in-Err.halt (c.in-Err.ensures.works geometry opening good)
 
 pub returns-in-Ok-tell_all-clause-works : goal.returns-in-Ok-tell_all-clause-works
 returns-in-Ok-tell_all-clause-works g c geometry opening good =
     let old = g.S.Site.state c.args.site.now in
-    let mid = g.S.Site.state c.work.new.site in
+    let mid = g.S.Site.state c.run_load.new.site in
     let new = g.S.Site.state c.tell_all.new.site in
     let load = c.args.load.now in
     let run = load_run geometry opening load in
     let counted = c.in-Ok.ensures.counts geometry opening good in
     let text : c.as_slice.result.now ≡ summary_text run load = c.as_slice.ensures.value ∙ c.summary_line.ensures ∙ (λ i. summary_of load.count (counted.committed_is i) (counted.checkpoints_are i) (counted.found_is i)) in
-    let honest = stays_honest old mid c.work.ensures.goes good.honest in
+    let honest = stays_honest old mid c.run_load.ensures.preserves good.honest in
     summed_up load.pool run (summary_text run load) old c.in-Ok.counts mid new (c.in-Ok.ensures.works geometry opening good)
     (subst (λ (t : List ℕ). EachMoment mid new (TellsPart t mid)) text (c.tell_all.ensures.any_moment honest)) (c.tell_all.ensures.same honest) c.tell_all.ensures.reads _
-    (c.in-Ok-tell_all.ensures.told honest ∙ ap (λ (t : List ℕ). mid.told ++ t) text) (subst (λ (t : List ℕ). TellsOnly (length t) mid new) text (c.in-Ok-tell_all.ensures.past honest))
+    (c.in-Ok-tell_all.ensures.told honest ∙ ap (λ (t : List ℕ). mid.told ++ t) text) (subst (λ (t : List ℕ). TellsOnly (length t) mid new) text (c.in-Ok-tell_all.ensures.tells_only honest))
 
 pub returns-in-Err-tell_all-clause-works : goal.returns-in-Err-tell_all-clause-works
 returns-in-Err-tell_all-clause-works g c geometry opening good =
     let old = g.S.Site.state c.args.site.now in
-    let mid = g.S.Site.state c.work.new.site in
+    let mid = g.S.Site.state c.run_load.new.site in
     let new = g.S.Site.state c.tell_all.new.site in
     let load = c.args.load.now in
     let run = load_run geometry opening load in
     let counted = c.in-Ok.ensures.counts geometry opening good in
     let text : c.as_slice.result.now ≡ summary_text run load = c.as_slice.ensures.value ∙ c.summary_line.ensures ∙ (λ i. summary_of load.count (counted.committed_is i) (counted.checkpoints_are i) (counted.found_is i)) in
-    let honest = stays_honest old mid c.work.ensures.goes good.honest in
+    let honest = stays_honest old mid c.run_load.ensures.preserves good.honest in
     summary_lost load.pool run (summary_text run load) old c.in-Ok.counts mid new (c.in-Ok.ensures.works geometry opening good)
     (subst (λ (t : List ℕ). EachMoment mid new (TellsPart t mid)) text (c.tell_all.ensures.any_moment honest)) (c.tell_all.ensures.same honest) c.tell_all.ensures.reads

@@ -39,7 +39,7 @@ loop-get-preserved g c =
       course = subst (λ (n : ℕ). CarriesOut {T = ℕ} (Ok 0) (get_lines records seed n) c.args.engine.now c.carry_on.new.engine entry new) (sym (add-one i))
           (subst (λ (l : List Line). CarriesOut {T = ℕ} (Ok 0) l c.args.engine.now c.carry_on.new.engine entry new) (sym lines_are)
           (carries_with c.in-Ok.reply 0 _ c.args.engine.now c.carry_on.new.engine entry new
-          (carries_more c.works_add_up.ensures.works c.works_add_up.ensures.reads 0 (Ok c.in-Ok.reply) (get_lines records seed i) (line ∷ []) c.args.engine.now c.loop-get.engine c.carry_on.new.engine entry mid new inv.course c.in-Ok.ensures.course)));
+          (carries_more c.ops_compose.ensures.works c.ops_compose.ensures.reads 0 (Ok c.in-Ok.reply) (get_lines records seed i) (line ∷ []) c.args.engine.now c.loop-get.engine c.carry_on.new.engine entry mid new inv.course c.in-Ok.ensures.course)));
       found = λ s fits.
           let at = inv.course.fits s fits in
           subst (λ (n : ℕ). c.loop-get.found + c.one_if-found.result ≡ found_in (turns s (get_lines records seed n) [])) (sym (add-one i))
@@ -65,7 +65,7 @@ returns-in-Err-clause-course g c =
     subst (λ (l : List Line). CarriesFirst {T = ℕ} (Err c.in-Err.halt) l c.args.engine.now c.carry_on.new.engine entry new) (sym front.1)
     (carries_some c.in-Err.halt (get_lines records seed (suc i)) front.0 c.args.engine.now c.carry_on.new.engine entry new
     (subst (λ (l : List Line). CarriesOut {T = Reply} (Err c.in-Err.halt) l c.args.engine.now c.carry_on.new.engine entry new) (sym lines_are)
-    (carries_more c.works_add_up.ensures.works c.works_add_up.ensures.reads 0 (Err c.in-Err.halt) (get_lines records seed i) (line ∷ []) c.args.engine.now c.loop-get.engine c.carry_on.new.engine entry mid new inv.course c.in-Err.ensures.course)))
+    (carries_more c.ops_compose.ensures.works c.ops_compose.ensures.reads 0 (Err c.in-Err.halt) (get_lines records seed i) (line ∷ []) c.args.engine.now c.loop-get.engine c.carry_on.new.engine entry mid new inv.course c.in-Err.ensures.course)))
 
 pub returns-clause-course : goal.returns-clause-course
 returns-clause-course g c =

@@ -4,7 +4,7 @@ use Rattle.record_model.specs.declared.words.Command.TheVariants.{Set}
 use Rattle.record_model.specs.declared.words.Reply.{Reply}
 use Rattle.record_model.specs.Run.{Line, is_committed, turns}
 use Rattle.workload.specs.Generator.{following, generated}
-use Rattle.face.specs.declared.load.Made.{Made}
+use Rattle.face.specs.declared.load.SetCounts.{SetCounts}
 use Rattle.face.specs.Loads.{CarriesFirst, CarriesOut, HasMade}
 use Rattle.face.specs.Run.{after_lines}
 use Rattle.face.specs.Workload.{has_passed, set_line, set_lines}
@@ -42,7 +42,7 @@ loop-set-preserved g c =
       course = subst (λ (n : ℕ). CarriesOut {T = ℕ} (Ok 0) (set_lines records seed n) c.args.engine.now c.carry_on.new.engine entry new) (sym (add-one i))
           (subst (λ (l : List Line). CarriesOut {T = ℕ} (Ok 0) l c.args.engine.now c.carry_on.new.engine entry new) (sym lines_are)
           (carries_with c.in-Ok.reply 0 _ c.args.engine.now c.carry_on.new.engine entry new
-          (carries_more c.works_add_up.ensures.works c.works_add_up.ensures.reads 0 (Ok c.in-Ok.reply) (set_lines records seed i) (line ∷ []) c.args.engine.now c.loop-set.engine c.carry_on.new.engine entry mid new inv.course c.in-Ok.ensures.course)));
+          (carries_more c.ops_compose.ensures.works c.ops_compose.ensures.reads 0 (Ok c.in-Ok.reply) (set_lines records seed i) (line ∷ []) c.args.engine.now c.loop-set.engine c.carry_on.new.engine entry mid new inv.course c.in-Ok.ensures.course)));
       made = λ s fits.
           let at = inv.course.fits s fits in
           subst (λ (n : ℕ). HasMade (turns s (set_lines records seed n) []) (c.loop-set.committed + c.one_if-committed.result) (c.loop-set.checkpoints + c.one_if-checkpoints.result)) (sym (add-one i))
@@ -67,18 +67,18 @@ returns-in-Err-clause-course g c =
     let line_is : line ≡ set_line records (generated seed (suc i)) = is_set records seed i c.next-x.result c.load_set-number.result.0 c.load_set-number.result.1 x_is c.load_set-number.ensures.number c.load_set-number.ensures.value in
     let lines_are : set_lines records seed (suc i) ≡ set_lines records seed i ++ line ∷ [] = one_line_more (set_line records) seed i line line_is in
     let front = front_lines (set_line records) seed (suc i) c.args.load.now.count (omega (arith, c.loop-set-test.true)) in
-    subst (λ (l : List Line). CarriesFirst {T = Made} (Err c.in-Err.halt) l c.args.engine.now c.carry_on.new.engine entry new) (sym front.1)
+    subst (λ (l : List Line). CarriesFirst {T = SetCounts} (Err c.in-Err.halt) l c.args.engine.now c.carry_on.new.engine entry new) (sym front.1)
     (carries_some c.in-Err.halt (set_lines records seed (suc i)) front.0 c.args.engine.now c.carry_on.new.engine entry new
     (subst (λ (l : List Line). CarriesOut {T = Reply} (Err c.in-Err.halt) l c.args.engine.now c.carry_on.new.engine entry new) (sym lines_are)
-    (carries_more c.works_add_up.ensures.works c.works_add_up.ensures.reads 0 (Err c.in-Err.halt) (set_lines records seed i) (line ∷ []) c.args.engine.now c.loop-set.engine c.carry_on.new.engine entry mid new inv.course c.in-Err.ensures.course)))
+    (carries_more c.ops_compose.ensures.works c.ops_compose.ensures.reads 0 (Err c.in-Err.halt) (set_lines records seed i) (line ∷ []) c.args.engine.now c.loop-set.engine c.carry_on.new.engine entry mid new inv.course c.in-Err.ensures.course)))
 
 pub returns-clause-course : goal.returns-clause-course
 returns-clause-course g c =
     let end : c.loop-set._set ≡ c.args.load.now.count = omega (arith, c.loop-set-test.false, c.loop-set.auto._set-end) in
     let old = g.S.Site.state c.args.site.now in
     let new = g.S.Site.state c.loop-set.site in
-    let made : Made = record { committed = c.loop-set.committed; checkpoints = c.loop-set.checkpoints } in
-    subst (λ (n : ℕ). CarriesFirst {T = Made} (Ok made) (set_lines (32 * c.args.pages) c.args.load.now.seed n) c.args.engine.now c.loop-set.engine old new) end
+    let made : SetCounts = record { committed = c.loop-set.committed; checkpoints = c.loop-set.checkpoints } in
+    subst (λ (n : ℕ). CarriesFirst {T = SetCounts} (Ok made) (set_lines (32 * c.args.pages) c.args.load.now.seed n) c.args.engine.now c.loop-set.engine old new) end
     (carries_all made (set_lines (32 * c.args.pages) c.args.load.now.seed c.loop-set._set) c.args.engine.now c.loop-set.engine old new
     (carries_with 0 made (set_lines (32 * c.args.pages) c.args.load.now.seed c.loop-set._set) c.args.engine.now c.loop-set.engine old new c.loop-set.invariant.course))
 

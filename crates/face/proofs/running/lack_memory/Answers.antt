@@ -17,14 +17,14 @@ returns g c =
     let new = g.S.Site.state c.tell_memory.new.site in
     let lacks : LacksMemory 4 old new = (refl, only_tells _ old new c.tell_memory.result c.tell_memory.ensures) in
     record {
-      run = λ pool. lacked_run c.serial_order.ensures c.works_add_up.ensures.rise pool old new c.tell_memory.result c.tell_memory.ensures;
-      load = λ load. lacked_load_run c.works_add_up.ensures.rise load old new c.tell_memory.result c.tell_memory.ensures;
+      run = λ pool. lacked_run c.serial_order.ensures c.ops_compose.ensures.rise pool old new c.tell_memory.result c.tell_memory.ensures;
+      load = λ load. lacked_load_run c.ops_compose.ensures.rise load old new c.tell_memory.result c.tell_memory.ensures;
       new = λ geometry. lacked_contract 4 old new lacks geometry;
       simulate = λ s. lacked s.groups s.pool old new c.tell_memory.result (record {
         any_moment = c.tell_memory.ensures.any_moment;
         told = c.tell_memory.ensures.told;
         reads = c.tell_memory.ensures.reads;
-        goes = c.tell_memory.ensures.goes;
+        preserves = c.tell_memory.ensures.preserves;
         cause = c.tell_memory.ensures.cause;
       });
       trial = λ geometry. lacked_trial geometry old new c.tell_memory.result c.tell_memory.ensures;
@@ -32,5 +32,5 @@ returns g c =
       lacks = lacks;
       hears = λ honest. heard_halted {T = ℕ} (halt.Stop Memory) 4 old old new refl (c.tell_memory.ensures.devices honest).left (hears_nothing {T = ℕ} (halt.Stop Memory) old old (λ e. cc) refl);
       first = first_line 4 old new c.tell_memory.result (λ e. omega (arith, e), λ e. omega (arith, e), λ e. omega (arith, e)) c.tell_memory.ensures.faults;
-      goes = search rules;
+      preserves = search rules;
     }

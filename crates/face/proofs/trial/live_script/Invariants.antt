@@ -12,7 +12,7 @@ invariant-loop-place g l =
     let old = g.S.Site.state l.fn.site in
     let now = g.S.Site.state l.site in
     record {
-      goes : Preserves old now;
+      preserves : Preserves old now;
       devices : IsTrue old.honest → LeavesDevices old now;
       left : IsTrue old.honest → now.input ≡ old.input;
       reads : SameReads old now;

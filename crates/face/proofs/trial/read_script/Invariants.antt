@@ -9,7 +9,7 @@ invariant-loop-script g l =
     let old = g.S.Site.state l.fn.site in
     let now = g.S.Site.state l.site in
     record {
-      goes : Preserves old now;
+      preserves : Preserves old now;
       few : length l.script.items ≤ 65536;
       all : IsTrue old.honest → l.script.items ++ now.input.left ≡ old.input.left;
       same : IsTrue old.honest → HearsOnly old now;

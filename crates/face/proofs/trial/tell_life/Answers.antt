@@ -12,7 +12,7 @@ returns-in-Ok-clause-part g c honest =
     let mid = g.S.Site.state c.tell_all.new.site in
     let new = g.S.Site.state c.tell_all-in-Ok.new.site in
     let line : c.as_slice.result.now ≡ life_line c.args.number c.args.status = c.as_slice.ensures.value ∙ c.life_line.ensures in
-    let tells = subst (λ (l : List ℕ). EachMoment mid new (TellsPart l mid)) line (c.tell_all-in-Ok.ensures.any_moment (stays_honest old mid c.tell_all.ensures.goes honest)) in
+    let tells = subst (λ (l : List ℕ). EachMoment mid new (TellsPart l mid)) line (c.tell_all-in-Ok.ensures.any_moment (stays_honest old mid c.tell_all.ensures.preserves honest)) in
     on_err _ c.tell_all-in-Ok.result (told_part old mid new c.args.text.now (life_line c.args.number c.args.status) (c.in-Ok.ensures.told honest) tells)
 
 pub returns-in-Ok-clause-devices : goal.returns-in-Ok-clause-devices
@@ -20,7 +20,7 @@ returns-in-Ok-clause-devices g c honest =
     let old = g.S.Site.state c.args.site.now in
     let mid = g.S.Site.state c.tell_all.new.site in
     let new = g.S.Site.state c.tell_all-in-Ok.new.site in
-    devices_then old mid new (devices_told c.args.text.now old mid (c.tell_all.ensures.any_moment honest)) (devices_told c.as_slice.result.now mid new (c.tell_all-in-Ok.ensures.any_moment (stays_honest old mid c.tell_all.ensures.goes honest)))
+    devices_then old mid new (devices_told c.args.text.now old mid (c.tell_all.ensures.any_moment honest)) (devices_told c.as_slice.result.now mid new (c.tell_all-in-Ok.ensures.any_moment (stays_honest old mid c.tell_all.ensures.preserves honest)))
 
 pub returns-in-Err-clause-part : goal.returns-in-Err-clause-part
 returns-in-Err-clause-part g c honest =

@@ -13,13 +13,13 @@ use Rattle.face.proofs.trial.trial.Goals as goal
 pub returns-in-Err-clause-trial : goal.returns-in-Err-clause-trial
 returns-in-Err-clause-trial g c geometry is_new =
     let old = g.S.Site.state c.args.site.now in
-    let mid = g.S.Site.state c.work-lived.new.site in
+    let mid = g.S.Site.state c.run_script-lived.new.site in
     let new = g.S.Site.state c.tell_halt.new.site in
-    let work = c.work-lived.ensures in
-    let numbers = numbers_of c.work-lived.result.1 in
+    let work = c.run_script-lived.ensures in
+    let numbers = numbers_of c.run_script-lived.result.1 in
     record {
       lives = λ honest.
-          told_and_fault {T = Unit {0}} geometry old.input.left old mid new numbers c.status.result c.tell_halt.result work.goes (stays_honest old mid work.goes honest) c.in-Err.halt c.status.ensures
+          told_and_fault {T = Unit {0}} geometry old.input.left old mid new numbers c.status.result c.tell_halt.result work.preserves (stays_honest old mid work.preserves honest) c.in-Err.halt c.status.ensures
           (subst (λ (r : Result (Unit {0}) Halt). Ends geometry old.input.left r old mid numbers) c.in-Err.is (work.lives geometry is_new honest))
           (λ which. ap numbers_of (work.unbegun (⊎_elim (λ e. inl (c.in-Err.is ∙ ap Err e)) (λ e. inr (c.in-Err.is ∙ ap Err e)) which)) ∙ numbers_unbegun geometry c.args.inner is_new)
           c.tell_halt.ensures;
@@ -29,15 +29,15 @@ returns-in-Err-clause-trial g c geometry is_new =
         output = λ e. (work.output (c.in-Err.is ∙ ap Err e)).0;
         few = λ e. (work.output (c.in-Err.is ∙ ap Err e)).1;
         limit = λ e honest. work.limit honest (c.in-Err.is ∙ ap Err e);
-      }) c.tell_halt.ensures.goes (λ honest. (c.tell_halt.ensures.devices (stays_honest old mid work.goes honest)).left);
-      devices = λ honest. devices_then old mid new (work.devices honest) (devices_told (fault_line c.in-Err.halt) mid new (c.tell_halt.ensures.any_moment (stays_honest old mid work.goes honest)));
+      }) c.tell_halt.ensures.preserves (λ honest. (c.tell_halt.ensures.devices (stays_honest old mid work.preserves honest)).left);
+      devices = λ honest. devices_then old mid new (work.devices honest) (devices_told (fault_line c.in-Err.halt) mid new (c.tell_halt.ensures.any_moment (stays_honest old mid work.preserves honest)));
       reads = λ dev. c.tell_halt.ensures.reads dev ∙ work.reads dev;
     }
 
 pub returns-in-Ok-clause-first : goal.returns-in-Ok-clause-first
-returns-in-Ok-clause-first g c = first_none _ _ (subst (λ (r : Result (Unit {0}) Halt). RunFaults r (g.S.Site.state c.args.site.now) (g.S.Site.state c.work-lived.new.site)) c.in-Ok.is c.work-lived.ensures.faults)
+returns-in-Ok-clause-first g c = first_none _ _ (subst (λ (r : Result (Unit {0}) Halt). RunFaults r (g.S.Site.state c.args.site.now) (g.S.Site.state c.run_script-lived.new.site)) c.in-Ok.is c.run_script-lived.ensures.faults)
 
 pub returns-in-Err-clause-first : goal.returns-in-Err-clause-first
 returns-in-Err-clause-first g c =
-    first_halted c.in-Err.halt c.status.result (g.S.Site.state c.args.site.now) (g.S.Site.state c.work-lived.new.site) (g.S.Site.state c.tell_halt.new.site) c.tell_halt.result c.status.ensures
-    (subst (λ (r : Result (Unit {0}) Halt). RunFaults r (g.S.Site.state c.args.site.now) (g.S.Site.state c.work-lived.new.site)) c.in-Err.is c.work-lived.ensures.faults) c.tell_halt.ensures.faults
+    first_halted c.in-Err.halt c.status.result (g.S.Site.state c.args.site.now) (g.S.Site.state c.run_script-lived.new.site) (g.S.Site.state c.tell_halt.new.site) c.tell_halt.result c.status.ensures
+    (subst (λ (r : Result (Unit {0}) Halt). RunFaults r (g.S.Site.state c.args.site.now) (g.S.Site.state c.run_script-lived.new.site)) c.in-Err.is c.run_script-lived.ensures.faults) c.tell_halt.ensures.faults

@@ -26,7 +26,7 @@ loop-index-preserved g c =
           let same = inv.reads.same honest in
           let unit : State → List ℕ = λ (s : State). unit_at ring.shape (units_in ring.shape s) group in
           let fits_mid : RingFits ring mid = fits ∙ ap (λ (i : Image). hi_of ring.shape (region ring.shape (record old { image = i }))) (sym same.image) in
-          let is = c.in-Ok.ensures.page (stays_honest old mid inv.reads.goes honest) fits_mid in
+          let is = c.in-Ok.ensures.page (stays_honest old mid inv.reads.preserves honest) fits_mid in
           let unit_is : unit mid ≡ unit old = ap (λ (i : Image). unit_at ring.shape (units_in ring.shape (record old { image = i })) group) same.image in
           items
           ∙ (λ i. inv.contents honest fits i ++ (is ∙ ap (λ (u : List ℕ). page_at u c.at.result) unit_is) i ∷ [])

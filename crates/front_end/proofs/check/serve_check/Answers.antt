@@ -19,9 +19,9 @@ returns-in-Ok-tell_verdict-clause-check g c =
     let v = c.in-Ok.verdict in
     let status = c.status_of.result in
     contract c.one_reading.ensures.none old new status
-    (checked old mid new (verdict_line v) status c.tell_verdict.result c.judge.ensures.reads.goes c.judge.ensures.reads.same c.tell_verdict.ensures
+    (checked old mid new (verdict_line v) status c.tell_verdict.result c.judge.ensures.reads.preserves c.judge.ensures.reads.same c.tell_verdict.ensures
     (answer_told v status old new c.status_of.ensures c.in-Ok.ensures.verdict)
-    (λ honest done. c.in-Ok-tell_verdict.ensures.told (stays_honest old mid c.judge.ensures.reads.goes honest)))
+    (λ honest done. c.in-Ok-tell_verdict.ensures.told (stays_honest old mid c.judge.ensures.reads.preserves honest)))
     (told_others v status c.status_of.ensures)
     (λ none. inl (fails_unread c.judge.result v old mid new status c.tell_verdict.result c.in-Ok.is (c.judge.ensures.sizes none) (inl c.status_of.ensures) c.tell_verdict.ensures))
     (λ done. c.in-Ok-tell_verdict.ensures.faults ∙ c.in-Ok.ensures.reads.faults)
@@ -33,7 +33,7 @@ returns-in-Err-tell_verdict-clause-check g c =
     let new = g.S.Site.state c.tell_verdict.new.site in
     let v = c.in-Ok.verdict in
     contract c.one_reading.ensures.none old new 6
-    (checked old mid new (verdict_line v) 6 c.tell_verdict.result c.judge.ensures.reads.goes c.judge.ensures.reads.same c.tell_verdict.ensures
+    (checked old mid new (verdict_line v) 6 c.tell_verdict.result c.judge.ensures.reads.preserves c.judge.ensures.reads.same c.tell_verdict.ensures
     (answer_untold v old new c.in-Ok.ensures.verdict (search rules))
     (λ honest done. absurd (six_is_neither 6 refl done)))
     (inr (inr (inr (inl refl))))
@@ -48,8 +48,8 @@ returns-in-Err-clause-check g c =
     let stop = c.in-Err.stop in
     let status = c.status.result in
     contract c.one_reading.ensures.none old new status
-    (checked old mid new (fault_line (halt.Stop stop)) status c.tell_halt.result c.judge.ensures.reads.goes c.judge.ensures.reads.same c.tell_halt.ensures
-    (answer_stopped stop status old new c.status.ensures c.in-Err.ensures.reads.stops (λ (dev : Dev) is. fault_then dev old mid new (c.in-Err.ensures.reads.device dev (ap Err is)) c.tell_halt.ensures.goes))
+    (checked old mid new (fault_line (halt.Stop stop)) status c.tell_halt.result c.judge.ensures.reads.preserves c.judge.ensures.reads.same c.tell_halt.ensures
+    (answer_stopped stop status old new c.status.ensures c.in-Err.ensures.reads.stops (λ (dev : Dev) is. fault_then dev old mid new (c.in-Err.ensures.reads.device dev (ap Err is)) c.tell_halt.ensures.preserves))
     (λ honest done. absurd (never_stopped stop status c.status.ensures c.in-Err.ensures.reads.stops done)))
     (stopped_others stop status c.status.ensures c.in-Err.ensures.reads.stops)
     (λ none. absurd (no_verdict c.judge.result stop _ c.in-Err.is (c.judge.ensures.sizes none).0))

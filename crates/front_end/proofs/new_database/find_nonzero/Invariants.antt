@@ -11,7 +11,7 @@ invariant-loop-at g l =
     let now = g.S.Site.state l.site in
     record {
       at : l.at ≤ l.len;
-      goes : Preserves old now;
+      preserves : Preserves old now;
       faults : SameFaults old now;
       same : IsTrue old.honest → IsUnchanged old now;
       zeros : IsTrue old.honest → AreZero (content_of l.dev old.image) 0 l.at;

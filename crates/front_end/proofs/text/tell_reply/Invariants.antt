@@ -12,11 +12,11 @@ invariant-loop-place g l =
     let old = g.S.Site.state l.fn.site in
     let now = g.S.Site.state l.site in
     record {
-      goes : Preserves old now;
+      preserves : Preserves old now;
       faults : SameFaults old now;
       reads : SameReads old now;
       same : IsTrue old.honest → SameDevices old now;
       told : IsTrue old.honest → now.told ≡ old.told ++ first_of l.place (reply_lines l.reply);
-      past : IsTrue old.honest → TellsOnly (length (first_of l.place (reply_lines l.reply))) old now;
+      tells_only : IsTrue old.honest → TellsOnly (length (first_of l.place (reply_lines l.reply))) old now;
       moments : IsTrue old.honest → EachMoment old now (TellsPart (reply_text l.reply) old);
     }

@@ -6,7 +6,7 @@ use Rattle.log_records.specs.Log.{Entry, log_from}
 use Rattle.log_records.specs.Sound.{commit_numbers}
 use Rattle.image_check.specs.declared.commits.Numbers.{Numbers}
 use Rattle.image_check.specs.Counting.{Heard, NumbersAre, Fit}
-use Rattle.image_form.specs.Verdict.{picture_of}
+use Rattle.image_form.specs.Verdict.{logical_image_of}
 use Rattle.image_check.proofs.Numbering.{numbered, fits, counted_all, heard_few}
 use Rattle.image_check.proofs.commits.rule_commits.Goals as goal
 
@@ -23,7 +23,7 @@ returns-then-not-fit c = record {
   commits = λ site blocks finds size are numbered.
       let log = c.args.log.now in
       let n = c.in-Some.numbers in
-      let p = picture_of (record { g = log.geometry; master = c.args.master.now; blocks = blocks }) site.image in
+      let p = logical_image_of (record { g = log.geometry; master = c.args.master.now; blocks = blocks }) site.image in
       let heard : Heard c.args.master.now.redo n p.log = subst (NumbersAre c.args.master.now.redo p.log) c.in-Some.is are in
       let few = heard_few c.args.master.now.redo n p.log heard in
       let hi : c.sealed_end-hi.result / 512 ≡ p.hi = omega (arith, c.sealed_end-hi.ensures, finds.hi) in
@@ -36,7 +36,7 @@ returns c = record {
   commits = λ site blocks finds size are.
       let log = c.args.log.now in
       let n = c.in-Some.numbers in
-      let p = picture_of (record { g = log.geometry; master = c.args.master.now; blocks = blocks }) site.image in
+      let p = logical_image_of (record { g = log.geometry; master = c.args.master.now; blocks = blocks }) site.image in
       let heard : Heard c.args.master.now.redo n p.log = subst (NumbersAre c.args.master.now.redo p.log) c.in-Some.is are in
       let few = heard_few c.args.master.now.redo n p.log heard in
       let hi : c.sealed_end-hi.result / 512 ≡ p.hi = omega (arith, c.sealed_end-hi.ensures, finds.hi) in

@@ -6,7 +6,7 @@ use Rattle.log_records.specs.Log.{Entry, txn_of, log_from, number_of}
 use Rattle.log_records.specs.Sound.{Pairwise, HoldsOff}
 use Rattle.image_form.specs.Walking.{Gives}
 use Rattle.image_check.specs.Holding.{clashes_by}
-use Rattle.image_form.specs.Verdict.{picture_of}
+use Rattle.image_form.specs.Verdict.{logical_image_of}
 use Rattle.image_form.proofs.BlocksJudged.{finds_later, going_later}
 use Rattle.image_form.proofs.Walks.{walked_none, walked_more, walked_all, gives_at}
 use Rattle.image_check.proofs.HeldOnes.{Apart, held_none, listed, apart_none, none_apart, pairwise_push, pairwise_at}
@@ -36,7 +36,7 @@ returns-then-clashes-clause-apart g c blocks finds has fourth left =
     let so_far = c.loop-held.invariant.heard blocks finds has fourth left in
     let w = so_far.0 in
     let gives = gives_at log c.loop-held.walk c.next.new.self now.image old.image w.left c.in_ok-lsn.field-0 same w.stands
-    (c.in_ok-lsn.ensures.next w.left (finds_later log old now reads.goes same finds)) in
+    (c.in_ok-lsn.ensures.next w.left (finds_later log old now reads.preserves same finds)) in
     let more = subst (λ (o : Option (ℕ × LogRecord)). Gives o w.left c.next.new.self log old.image) c.in-Some.is gives in
     let e : Entry = record { lsn = c.in-Some.lsn; rec = c.in-Some.rec } in
     let records : List Entry = log_from c.args.master.now.kept blocks in
@@ -54,19 +54,19 @@ loop-held-preserved g c =
     let now : State = g.S.Site.state c.loop-held.site in
     let reads = c.loop-held.invariant.reads in
     record {
-      going = going_later log now (g.S.Site.state c.next.new.site) c.in_ok-lsn.ensures.reads.goes c.loop-held.invariant.going;
+      going = going_later log now (g.S.Site.state c.next.new.site) c.in_ok-lsn.ensures.reads.preserves c.loop-held.invariant.going;
       walks = c.in_ok-lsn.ensures.walk;
       heard = λ blocks finds has fourth left.
           let same : now.image ≡ old.image = (reads.same finds.honest).image in
           let so_far = c.loop-held.invariant.heard blocks finds has fourth left in
           let w = so_far.0 in
           let gives = gives_at log c.loop-held.walk c.next.new.self now.image old.image w.left c.in_ok-lsn.field-0 same w.stands
-          (c.in_ok-lsn.ensures.next w.left (finds_later log old now reads.goes same finds)) in
+          (c.in_ok-lsn.ensures.next w.left (finds_later log old now reads.preserves same finds)) in
           let more = subst (λ (o : Option (ℕ × LogRecord)). Gives o w.left c.next.new.self log old.image) c.in-Some.is gives in
           let e : Entry = record { lsn = c.in-Some.lsn; rec = c.in-Some.rec } in
           let records : List Entry = log_from c.args.master.now.kept blocks in
           let all : records ≡ w.done ++ e ∷ more.0 = w.split ∙ ap (λ (l : List Entry). w.done ++ l) more.1 in
-          let p = picture_of (record { g = log.geometry; master = c.args.master.now; blocks = blocks }) old.image in
+          let p = logical_image_of (record { g = log.geometry; master = c.args.master.now; blocks = blocks }) old.image in
           let none : clashes_by (get nat_eq c.loop-held.held.held) (number_of e.rec) (txn_of e) ≡ false = sym c.clashes.ensures ∙ c.if-clashes.false in
           walked_more c.loop-held.walk c.next.new.self log old.image records w c.in-Some.lsn c.in-Some.rec more (Apart records c.hear.new.self.held) (record {
             held = c.in_default-hear.ensures.heard records w.done left (listed p w.done e more.0 all fourth) so_far.1.held;
@@ -85,7 +85,7 @@ returns-clause-apart g c blocks finds has fourth left =
     let so_far = c.loop-held.invariant.heard blocks finds has fourth left in
     let w = so_far.0 in
     let gives = gives_at log c.loop-held.walk c.next.new.self now.image old.image w.left c.in_ok-lsn.field-0 same w.stands
-    (c.in_ok-lsn.ensures.next w.left (finds_later log old now reads.goes same finds)) in
+    (c.in_ok-lsn.ensures.next w.left (finds_later log old now reads.preserves same finds)) in
     let none : w.left ≡ [] = subst (λ (o : Option (ℕ × LogRecord)). Gives o w.left c.next.new.self log old.image) c.in_default.is gives in
     let records : List Entry = log_from c.args.master.now.kept blocks in
     let all = walked_all c.loop-held.walk log old.image records w none in (

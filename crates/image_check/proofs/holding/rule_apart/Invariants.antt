@@ -6,7 +6,7 @@ use Rattle.log_store.specs.Representation.{Invariant, Finds, HasBlocks}
 use Rattle.site.specs.Work.{OnlyReads}
 use Rattle.image_check.specs.Unended.{AreLeft}
 use Rattle.image_form.specs.Walking.{MayWalk, to_go}
-use Rattle.image_form.specs.Verdict.{Rule4, picture_of}
+use Rattle.image_form.specs.Verdict.{LosersCanBeUndone, logical_image_of}
 use Rattle.image_form.proofs.Walks.{Walked}
 use Rattle.image_check.proofs.HeldOnes.{Apart}
 use Rattle.image_check.proofs.holding.rule_apart.Given as goal
@@ -19,7 +19,7 @@ invariant-loop-held g l =
       going : Invariant l.log now;
       walks : MayWalk l.log l.walk;
       heard : (blocks : List (List LogRecord)) → Finds l.log old → HasBlocks l.log.geometry l.master.kept blocks old.image →
-          Rule4 (picture_of (record { g = l.log.geometry; master = l.master; blocks = blocks }) old.image) → AreLeft (log_from l.master.kept blocks) l.left.left.items →
+          LosersCanBeUndone (logical_image_of (record { g = l.log.geometry; master = l.master; blocks = blocks }) old.image) → AreLeft (log_from l.master.kept blocks) l.left.left.items →
           (w : Walked l.walk l.log old.image (log_from l.master.kept blocks)) × Apart (log_from l.master.kept blocks) l.held.held w.done;
       reads : OnlyReads {T = Unit {0}} (Ok tt) old now;
     }

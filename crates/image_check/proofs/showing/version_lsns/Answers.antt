@@ -15,11 +15,11 @@ loop-page-preserved g c =
     let reads = c.loop-page.invariant.reads in
     let page : ℕ = c.loop-page.page in
     record {
-      may_read = may_read_later geometry c.args.rings.now now (g.S.Site.state c.version_of.new.site) c.in-Ok.ensures.reads.goes c.loop-page.invariant.may_read;
+      may_read = may_read_later geometry c.args.rings.now now (g.S.Site.state c.version_of.new.site) c.in-Ok.ensures.reads.preserves c.loop-page.invariant.may_read;
       many = let before = c.loop-page.invariant.many in let more = simp length-append at (ap length c.in-Ok-push.ensures.items) in omega (arith, before, more);
       lsns = λ finds.
           let same : now.image ≡ old.image = (reads.same finds.honest).image in
-          let version = c.in-Ok.ensures.version (versions_later geometry c.args.rings.now c.args.frames.now old now reads.goes same finds) in
+          let version = c.in-Ok.ensures.version (versions_later geometry c.args.rings.now c.args.frames.now old now reads.preserves same finds) in
           let lsn : c.lsn.result ≡ lsn_of (version_on geometry old.image page) = c.lsn.ensures ∙ ap lsn_of (version ∙ ap (λ (image : Image). version_on geometry image page) same) in
           lsns_more geometry old.image page c.lsn.result c.loop-page.lsns.items c.push.new.self.items (c.loop-page.invariant.lsns finds) lsn c.in-Ok-push.ensures.items;
       reads = looks_then tt _ old now (g.S.Site.state c.version_of.new.site) reads (looks_answered c.in-Ok.version tt now (g.S.Site.state c.version_of.new.site) c.in-Ok.ensures.reads);

@@ -8,7 +8,7 @@ use Rattle.checkpoint.specs.Newest.{seen}
 use Rattle.image_form.specs.Walking.{Gives, to_go}
 use Rattle.image_check.specs.Opening.{MayStand}
 use Rattle.image_check.specs.Surveying.{Surveys}
-use Rattle.image_form.specs.Verdict.{picture_of}
+use Rattle.image_form.specs.Verdict.{logical_image_of}
 use Rattle.image_form.proofs.BlocksJudged.{finds_later, going_later}
 use Rattle.image_form.proofs.BlockLists.{log_in_order}
 use Rattle.image_form.proofs.Walks.{walked_none, walked_more, walked_all, gives_at}
@@ -41,11 +41,11 @@ returns-then-not-admits-clause-transactions g c blocks finds has =
     let same : now.image ≡ old.image = (reads.same finds.honest).image in
     let so_far = c.loop-survey.invariant.heard blocks finds has in
     let w = so_far.0 in
-    let gives = gives_at log c.loop-survey.walk c.next.new.self now.image old.image w.left c.in_ok-lsn.field-0 same w.stands (c.in_ok-lsn.ensures.next w.left (finds_later log old now reads.goes same finds)) in
+    let gives = gives_at log c.loop-survey.walk c.next.new.self now.image old.image w.left c.in_ok-lsn.field-0 same w.stands (c.in_ok-lsn.ensures.next w.left (finds_later log old now reads.preserves same finds)) in
     let more = subst (λ (o : Option (ℕ × LogRecord)). Gives o w.left c.next.new.self log old.image) c.in-Some.is gives in
     let e : Entry = record { lsn = c.in-Some.lsn; rec = c.in-Some.rec } in
     let all : log_from c.args.master.now.kept blocks ≡ w.done ++ e ∷ more.0 = w.split ∙ ap (λ (l : List Entry). w.done ++ l) more.1 in
-    let p = picture_of (record { g = log.geometry; master = c.args.master.now; blocks = blocks }) old.image in (
+    let p = logical_image_of (record { g = log.geometry; master = c.args.master.now; blocks = blocks }) old.image in (
       λ wrong. absurd (true≢false (sym wrong)),
       λ rule. let may = third_at p w.done e more.0 all rule in
           absurd (true≢false (sym ((c.admits.ensures (seen c.args.master.now) w.done refl so_far.1.are_open).1 may) ∙ c.if-not-admits.true)),
@@ -61,13 +61,13 @@ loop-survey-preserved g c =
     let kept : ℕ = c.args.master.now.kept in
     let shorter : to_go log c.next.new.self < to_go log c.loop-survey.walk = subst (λ (o : Option (ℕ × LogRecord)). IfSome o (λ found. to_go log c.next.new.self < to_go log c.loop-survey.walk)) c.in-Some.is c.in_ok-lsn.ensures.shorter in
     record {
-      going = going_later log now (g.S.Site.state c.next.new.site) c.in_ok-lsn.ensures.reads.goes c.loop-survey.invariant.going;
+      going = going_later log now (g.S.Site.state c.next.new.site) c.in_ok-lsn.ensures.reads.preserves c.loop-survey.invariant.going;
       walks = c.in_ok-lsn.ensures.walk;
       heard = λ blocks finds has.
           let same : now.image ≡ old.image = (reads.same finds.honest).image in
           let so_far = c.loop-survey.invariant.heard blocks finds has in
           let w = so_far.0 in
-          let gives = gives_at log c.loop-survey.walk c.next.new.self now.image old.image w.left c.in_ok-lsn.field-0 same w.stands (c.in_ok-lsn.ensures.next w.left (finds_later log old now reads.goes same finds)) in
+          let gives = gives_at log c.loop-survey.walk c.next.new.self now.image old.image w.left c.in_ok-lsn.field-0 same w.stands (c.in_ok-lsn.ensures.next w.left (finds_later log old now reads.preserves same finds)) in
           let more = subst (λ (o : Option (ℕ × LogRecord)). Gives o w.left c.next.new.self log old.image) c.in-Some.is gives in
           let e : Entry = record { lsn = c.in-Some.lsn; rec = c.in-Some.rec } in
           let all : log_from kept blocks ≡ w.done ++ e ∷ more.0 = w.split ∙ ap (λ (l : List Entry). w.done ++ l) more.1 in
@@ -90,10 +90,10 @@ returns-clause-transactions g c blocks finds has =
     let same : now.image ≡ old.image = (reads.same finds.honest).image in
     let so_far = c.loop-survey.invariant.heard blocks finds has in
     let w = so_far.0 in
-    let gives = gives_at log c.loop-survey.walk c.next.new.self now.image old.image w.left c.in_ok-lsn.field-0 same w.stands (c.in_ok-lsn.ensures.next w.left (finds_later log old now reads.goes same finds)) in
+    let gives = gives_at log c.loop-survey.walk c.next.new.self now.image old.image w.left c.in_ok-lsn.field-0 same w.stands (c.in_ok-lsn.ensures.next w.left (finds_later log old now reads.preserves same finds)) in
     let none : w.left ≡ [] = subst (λ (o : Option (ℕ × LogRecord)). Gives o w.left c.next.new.self log old.image) c.in_default.is gives in
     let all = walked_all c.loop-survey.walk log old.image (log_from c.args.master.now.kept blocks) w none in
-    let p = picture_of (record { g = log.geometry; master = c.args.master.now; blocks = blocks }) old.image in (
+    let p = logical_image_of (record { g = log.geometry; master = c.args.master.now; blocks = blocks }) old.image in (
       λ yes. third_of p (subst (InTurn (MayStand p.master) []) (sym all) so_far.1.stand),
       λ rule. refl,
     )
@@ -107,7 +107,7 @@ returns-clause-surveys g c blocks finds has =
     let same : now.image ≡ old.image = (reads.same finds.honest).image in
     let so_far = c.loop-survey.invariant.heard blocks finds has in
     let w = so_far.0 in
-    let gives = gives_at log c.loop-survey.walk c.next.new.self now.image old.image w.left c.in_ok-lsn.field-0 same w.stands (c.in_ok-lsn.ensures.next w.left (finds_later log old now reads.goes same finds)) in
+    let gives = gives_at log c.loop-survey.walk c.next.new.self now.image old.image w.left c.in_ok-lsn.field-0 same w.stands (c.in_ok-lsn.ensures.next w.left (finds_later log old now reads.preserves same finds)) in
     let none : w.left ≡ [] = subst (λ (o : Option (ℕ × LogRecord)). Gives o w.left c.next.new.self log old.image) c.in_default.is gives in
     let all = walked_all c.loop-survey.walk log old.image (log_from c.args.master.now.kept blocks) w none in
     let few = so_far.1.few in

@@ -18,7 +18,7 @@ returns-then-not-closed-clause-closed g c blocks finds has =
     let same : now.image ≡ old.image = (reads.same finds.honest).image in
     let place : ℕ = c.loop-place.place in
     let txn : ℕ = get_or c.args.txns.now place 0 in
-    let says = c.in-Ok.ensures.closed blocks (finds_later log old now reads.goes same finds) (subst (HasBlocks log.geometry c.args.kept blocks) (sym same) has) in (
+    let says = c.in-Ok.ensures.closed blocks (finds_later log old now reads.preserves same finds) (subst (HasBlocks log.geometry c.args.kept blocks) (sym same) has) in (
       λ wrong. absurd (true≢false (sym wrong)),
       λ all. absurd (true≢false (sym (says ∙ all txn (any_index c.args.txns.now place 0 c.loop-place-test.true)) ∙ c.if-not-closed.true)),
     )
@@ -31,12 +31,12 @@ loop-place-preserved g c =
     let reads = c.loop-place.invariant.reads in
     let place : ℕ = c.loop-place.place in
     record {
-      going = going_later log now (g.S.Site.state c.is_closed_in.new.site) c.in-Ok.ensures.reads.goes c.loop-place.invariant.going;
+      going = going_later log now (g.S.Site.state c.is_closed_in.new.site) c.in-Ok.ensures.reads.preserves c.loop-place.invariant.going;
       closed = λ blocks finds has t some. elim (any_more (λ x. x == t) c.args.txns.now place 0 c.loop-place-test.true some) [
         | inl before ↦ c.loop-place.invariant.closed blocks finds has t before
         | inr here ↦
             let same : now.image ≡ old.image = (reads.same finds.honest).image in
-            let says = c.in-Ok.ensures.closed blocks (finds_later log old now reads.goes same finds) (subst (HasBlocks log.geometry c.args.kept blocks) (sym same) has) in
+            let says = c.in-Ok.ensures.closed blocks (finds_later log old now reads.preserves same finds) (subst (HasBlocks log.geometry c.args.kept blocks) (sym same) has) in
             subst (λ (n : ℕ). is_closed (log_from c.args.kept blocks) n ≡ true) (eqb-true _ t here) (sym says ∙ c.if-not-closed.false)
       ];
       reads = search rules;

@@ -28,7 +28,7 @@ loop-strays-init g c =
 
 pub loop-strays-preserved : goal.loop-strays-preserved
 loop-strays-preserved g c = record {
-  going = going_later c.args.log.now (g.S.Site.state c.loop-strays.site) (g.S.Site.state c.next.new.site) c.in_ok-lsn.ensures.reads.goes c.loop-strays.invariant.going;
+  going = going_later c.args.log.now (g.S.Site.state c.loop-strays.site) (g.S.Site.state c.next.new.site) c.in_ok-lsn.ensures.reads.preserves c.loop-strays.invariant.going;
   walks = c.in_ok-lsn.ensures.walk;
   heard = λ blocks finds has left.
       let log = c.args.log.now in
@@ -39,7 +39,7 @@ loop-strays-preserved g c = record {
       let same : now.image ≡ old.image = (reads.same finds.honest).image in
       let so_far = c.loop-strays.invariant.heard blocks finds has left in
       let w = so_far.0 in
-      let gives = gives_at log c.loop-strays.walk c.next.new.self now.image old.image w.left c.in_ok-lsn.field-0 same w.stands (c.in_ok-lsn.ensures.next w.left (finds_later log old now reads.goes same finds)) in
+      let gives = gives_at log c.loop-strays.walk c.next.new.self now.image old.image w.left c.in_ok-lsn.field-0 same w.stands (c.in_ok-lsn.ensures.next w.left (finds_later log old now reads.preserves same finds)) in
       let more = subst (λ (o : Option (ℕ × LogRecord)). Gives o w.left c.next.new.self log old.image) c.in-Some.is gives in
       let records : List Entry = log_from kept blocks in
       walked_more c.loop-strays.walk c.next.new.self log old.image records w c.in-Some.lsn c.in-Some.rec more (λ done. AreStrays records done c.hear.new.self.txns.items)
@@ -57,7 +57,7 @@ returns-clause-strays g c blocks finds has left =
     let same : now.image ≡ old.image = (reads.same finds.honest).image in
     let so_far = c.loop-strays.invariant.heard blocks finds has left in
     let w = so_far.0 in
-    let gives = gives_at log c.loop-strays.walk c.next.new.self now.image old.image w.left c.in_ok-lsn.field-0 same w.stands (c.in_ok-lsn.ensures.next w.left (finds_later log old now reads.goes same finds)) in
+    let gives = gives_at log c.loop-strays.walk c.next.new.self now.image old.image w.left c.in_ok-lsn.field-0 same w.stands (c.in_ok-lsn.ensures.next w.left (finds_later log old now reads.preserves same finds)) in
     let none : w.left ≡ [] = subst (λ (o : Option (ℕ × LogRecord)). Gives o w.left c.next.new.self log old.image) c.in_default.is gives in
     let records : List Entry = log_from kept blocks in
     let all = walked_all c.loop-strays.walk log old.image records w none in

@@ -24,7 +24,7 @@ returns-then-not-stands-clause-chains g c blocks finds has begun left =
     let less : c.loop-place.place < length items = omega (arith, c.loop-place-test.true, c.len-place-end.ensures, c.args.left.now.left.ok.0) in
     let there : list_any (λ (x : Left). x.txn == z.txn) items ≡ true = subst (λ (x : Left). list_any (λ (y : Left). y.txn == x.txn) items ≡ true) (sym c.index.ensures) (any_left_index items c.loop-place.place z less) in
     let listed = sym (has_is (log_from c.args.kept blocks) items z.txn left) ∙ there in
-    let says = c.in-Ok.ensures.chain blocks (finds_later log old now reads.goes same finds) (subst (HasBlocks log.geometry c.args.kept blocks) (sym same) has) begun listed in (
+    let says = c.in-Ok.ensures.chain blocks (finds_later log old now reads.preserves same finds) (subst (HasBlocks log.geometry c.args.kept blocks) (sym same) has) begun listed in (
       λ wrong. absurd (true≢false (sym wrong)),
       λ all. absurd (true≢false (sym (says.1 (all z.txn listed)) ∙ c.if-not-stands.true)),
     )
@@ -39,14 +39,14 @@ loop-place-preserved g c =
     let z : Left = c.index.result.now in
     let less : c.loop-place.place < length items = omega (arith, c.loop-place-test.true, c.len-place-end.ensures, c.args.left.now.left.ok.0) in
     record {
-      going = going_later log now (g.S.Site.state c.is_chain.new.site) c.in-Ok.ensures.reads.goes c.loop-place.invariant.going;
+      going = going_later log now (g.S.Site.state c.is_chain.new.site) c.in-Ok.ensures.reads.preserves c.loop-place.invariant.going;
       chains = λ blocks finds has begun left t some. elim (any_left_more (λ (x : Left). x.txn == t) items c.loop-place.place z less some) [
         | inl before ↦ c.loop-place.invariant.chains blocks finds has begun left t before
         | inr here ↦
             let same : now.image ≡ old.image = (reads.same finds.honest).image in
             let there : list_any (λ (x : Left). x.txn == z.txn) items ≡ true = subst (λ (x : Left). list_any (λ (y : Left). y.txn == x.txn) items ≡ true) (sym c.index.ensures) (any_left_index items c.loop-place.place z less) in
             let listed = sym (has_is (log_from c.args.kept blocks) items z.txn left) ∙ there in
-            let says = c.in-Ok.ensures.chain blocks (finds_later log old now reads.goes same finds) (subst (HasBlocks log.geometry c.args.kept blocks) (sym same) has) begun listed in
+            let says = c.in-Ok.ensures.chain blocks (finds_later log old now reads.preserves same finds) (subst (HasBlocks log.geometry c.args.kept blocks) (sym same) has) begun listed in
             let txn : z.txn ≡ t = ap (λ (x : Left). x.txn) c.index.ensures ∙ eqb-true (get_or items c.loop-place.place z).txn t here in
             subst (λ (n : ℕ). IsLoserChain n (entries_of n (log_from c.args.kept blocks))) txn (says.0 c.if-not-stands.false)
       ];

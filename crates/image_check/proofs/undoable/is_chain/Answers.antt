@@ -35,7 +35,7 @@ returns-then-not-goes_on-clause-chain g c blocks finds has begun listed =
     let same : now.image ≡ old.image = (reads.same finds.honest).image in
     let so_far = c.loop-chain.invariant.heard blocks finds has begun listed in
     let w = so_far.0 in
-    let gives = gives_at log c.loop-chain.walk c.next.new.self now.image old.image w.left c.in_ok-lsn.field-0 same w.stands (c.in_ok-lsn.ensures.next w.left (finds_later log old now reads.goes same finds)) in
+    let gives = gives_at log c.loop-chain.walk c.next.new.self now.image old.image w.left c.in_ok-lsn.field-0 same w.stands (c.in_ok-lsn.ensures.next w.left (finds_later log old now reads.preserves same finds)) in
     let more = subst (λ (o : Option (ℕ × LogRecord)). Gives o w.left c.next.new.self log old.image) c.in-Some.is gives in
     let e : Entry = record { lsn = c.in-Some.lsn; rec = c.in-Some.rec } in
     let records : List Entry = log_from kept blocks in
@@ -49,7 +49,7 @@ returns-then-not-goes_on-clause-chain g c blocks finds has begun listed =
 
 pub loop-chain-preserved : goal.loop-chain-preserved
 loop-chain-preserved g c = record {
-  going = going_later c.args.log.now (g.S.Site.state c.loop-chain.site) (g.S.Site.state c.next.new.site) c.in_ok-lsn.ensures.reads.goes c.loop-chain.invariant.going;
+  going = going_later c.args.log.now (g.S.Site.state c.loop-chain.site) (g.S.Site.state c.next.new.site) c.in_ok-lsn.ensures.reads.preserves c.loop-chain.invariant.going;
   walks = c.in_ok-lsn.ensures.walk;
   heard = λ blocks finds has begun listed.
       let log = c.args.log.now in
@@ -60,7 +60,7 @@ loop-chain-preserved g c = record {
       let same : now.image ≡ old.image = (reads.same finds.honest).image in
       let so_far = c.loop-chain.invariant.heard blocks finds has begun listed in
       let w = so_far.0 in
-      let gives = gives_at log c.loop-chain.walk c.next.new.self now.image old.image w.left c.in_ok-lsn.field-0 same w.stands (c.in_ok-lsn.ensures.next w.left (finds_later log old now reads.goes same finds)) in
+      let gives = gives_at log c.loop-chain.walk c.next.new.self now.image old.image w.left c.in_ok-lsn.field-0 same w.stands (c.in_ok-lsn.ensures.next w.left (finds_later log old now reads.preserves same finds)) in
       let more = subst (λ (o : Option (ℕ × LogRecord)). Gives o w.left c.next.new.self log old.image) c.in-Some.is gives in
       let e : Entry = record { lsn = c.in-Some.lsn; rec = c.in-Some.rec } in
       let records : List Entry = log_from kept blocks in
@@ -83,7 +83,7 @@ returns-clause-chain g c blocks finds has begun listed =
     let same : now.image ≡ old.image = (reads.same finds.honest).image in
     let so_far = c.loop-chain.invariant.heard blocks finds has begun listed in
     let w = so_far.0 in
-    let gives = gives_at log c.loop-chain.walk c.next.new.self now.image old.image w.left c.in_ok-lsn.field-0 same w.stands (c.in_ok-lsn.ensures.next w.left (finds_later log old now reads.goes same finds)) in
+    let gives = gives_at log c.loop-chain.walk c.next.new.self now.image old.image w.left c.in_ok-lsn.field-0 same w.stands (c.in_ok-lsn.ensures.next w.left (finds_later log old now reads.preserves same finds)) in
     let none : w.left ≡ [] = subst (λ (o : Option (ℕ × LogRecord)). Gives o w.left c.next.new.self log old.image) c.in_default.is gives in
     let records : List Entry = log_from kept blocks in
     let all = walked_all c.loop-chain.walk log old.image records w none in

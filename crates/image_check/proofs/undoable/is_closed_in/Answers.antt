@@ -32,7 +32,7 @@ returns-then-closes_txn-clause-closed g c blocks finds has =
     let same : now.image ≡ old.image = (reads.same finds.honest).image in
     let so_far = c.loop-lsn.invariant.heard blocks finds has in
     let w = so_far.0 in
-    let gives = gives_at log c.loop-lsn.walk c.next.new.self now.image old.image w.left c.in_ok-lsn.field-0 same w.stands (c.in_ok-lsn.ensures.next w.left (finds_later log old now reads.goes same finds)) in
+    let gives = gives_at log c.loop-lsn.walk c.next.new.self now.image old.image w.left c.in_ok-lsn.field-0 same w.stands (c.in_ok-lsn.ensures.next w.left (finds_later log old now reads.preserves same finds)) in
     let more = subst (λ (o : Option (ℕ × LogRecord)). Gives o w.left c.next.new.self log old.image) c.in-Some.is gives in
     let e : Entry = record { lsn = c.in-Some.lsn; rec = c.in-Some.rec } in
     let records : List Entry = log_from kept blocks in
@@ -43,7 +43,7 @@ returns-then-closes_txn-clause-closed g c blocks finds has =
 
 pub loop-lsn-preserved : goal.loop-lsn-preserved
 loop-lsn-preserved g c = record {
-  going = going_later c.args.log.now (g.S.Site.state c.loop-lsn.site) (g.S.Site.state c.next.new.site) c.in_ok-lsn.ensures.reads.goes c.loop-lsn.invariant.going;
+  going = going_later c.args.log.now (g.S.Site.state c.loop-lsn.site) (g.S.Site.state c.next.new.site) c.in_ok-lsn.ensures.reads.preserves c.loop-lsn.invariant.going;
   walks = c.in_ok-lsn.ensures.walk;
   heard = λ blocks finds has.
       let log = c.args.log.now in
@@ -54,7 +54,7 @@ loop-lsn-preserved g c = record {
       let same : now.image ≡ old.image = (reads.same finds.honest).image in
       let so_far = c.loop-lsn.invariant.heard blocks finds has in
       let w = so_far.0 in
-      let gives = gives_at log c.loop-lsn.walk c.next.new.self now.image old.image w.left c.in_ok-lsn.field-0 same w.stands (c.in_ok-lsn.ensures.next w.left (finds_later log old now reads.goes same finds)) in
+      let gives = gives_at log c.loop-lsn.walk c.next.new.self now.image old.image w.left c.in_ok-lsn.field-0 same w.stands (c.in_ok-lsn.ensures.next w.left (finds_later log old now reads.preserves same finds)) in
       let more = subst (λ (o : Option (ℕ × LogRecord)). Gives o w.left c.next.new.self log old.image) c.in-Some.is gives in
       let e : Entry = record { lsn = c.in-Some.lsn; rec = c.in-Some.rec } in
       let records : List Entry = log_from kept blocks in
@@ -76,7 +76,7 @@ returns-clause-closed g c blocks finds has =
     let same : now.image ≡ old.image = (reads.same finds.honest).image in
     let so_far = c.loop-lsn.invariant.heard blocks finds has in
     let w = so_far.0 in
-    let gives = gives_at log c.loop-lsn.walk c.next.new.self now.image old.image w.left c.in_ok-lsn.field-0 same w.stands (c.in_ok-lsn.ensures.next w.left (finds_later log old now reads.goes same finds)) in
+    let gives = gives_at log c.loop-lsn.walk c.next.new.self now.image old.image w.left c.in_ok-lsn.field-0 same w.stands (c.in_ok-lsn.ensures.next w.left (finds_later log old now reads.preserves same finds)) in
     let none : w.left ≡ [] = subst (λ (o : Option (ℕ × LogRecord)). Gives o w.left c.next.new.self log old.image) c.in_default.is gives in
     let all = walked_all c.loop-lsn.walk log old.image (log_from kept blocks) w none in
     sym (ap (λ (l : List Entry). is_closed l c.args.txn) all ∙ so_far.1)

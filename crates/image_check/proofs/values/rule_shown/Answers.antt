@@ -9,7 +9,7 @@ use Rattle.image_form.specs.Octets.{AreGroups, AreVersions}
 use Rattle.image_form.specs.Findings.{AreFound}
 use Rattle.image_form.specs.Newest.{ShowsFrames}
 use Rattle.image_check.specs.Showing.{FindsVersions}
-use Rattle.image_form.specs.Verdict.{Rule6, picture_of, values_of}
+use Rattle.image_form.specs.Verdict.{VersionsFit, logical_image_of, values_of}
 use Rattle.image_form.proofs.BlocksJudged.{finds_later, going_later}
 use Rattle.image_form.proofs.Lasting.{may_read_later}
 use Rattle.image_check.proofs.ShownOnes.{versions_later}
@@ -34,14 +34,14 @@ there g c honest found groups =
     let old : State = g.S.Site.state c.args.site.now in
     let reads = c.in-Ok-Some.ensures.reads in
     let some = subst (λ (k : Geometry). IsTrue old.honest → AreFound rings old → AreGroups k old.image → IfSome c.in-Ok-Some.field-0 (λ queue. ShowsFrames k old.image queue)) c.geometry.ensures c.in-Ok-Some.ensures.shown honest found groups in
-    versions_later sizes rings frames old (g.S.Site.state c.find_frames.new.site) reads.goes (reads.same honest).image
+    versions_later sizes rings frames old (g.S.Site.state c.find_frames.new.site) reads.preserves (reads.same honest).image
     (record { honest = honest; found = found; groups = groups; shown = shows_some sizes old.image c.in-Ok-Some.field-0 frames c.in-Ok-Some.field-0-is some })
 
 pub show_log-requires-clause-going : goal.show_log-requires-clause-going
-show_log-requires-clause-going g c = going_later c.args.log.now (g.S.Site.state c.args.site.now) (g.S.Site.state c.find_frames.new.site) c.in-Ok-Some.ensures.reads.goes c.requires.going
+show_log-requires-clause-going g c = going_later c.args.log.now (g.S.Site.state c.args.site.now) (g.S.Site.state c.find_frames.new.site) c.in-Ok-Some.ensures.reads.preserves c.requires.going
 
 pub show_log-requires-clause-may_read : goal.show_log-requires-clause-may_read
-show_log-requires-clause-may_read g c = may_read_later c.args.log.now.geometry c.args.rings.now (g.S.Site.state c.args.site.now) (g.S.Site.state c.find_frames.new.site) c.in-Ok-Some.ensures.reads.goes c.requires.may_read
+show_log-requires-clause-may_read g c = may_read_later c.args.log.now.geometry c.args.rings.now (g.S.Site.state c.args.site.now) (g.S.Site.state c.find_frames.new.site) c.in-Ok-Some.ensures.reads.preserves c.requires.may_read
 
 pub returns-in-Ok-clause-shown : goal.returns-in-Ok-clause-shown
 returns-in-Ok-clause-shown g c blocks finds found formed has =
@@ -51,8 +51,8 @@ returns-in-Ok-clause-shown g c blocks finds found formed has =
     let now : State = g.S.Site.state c.find_frames.new.site in
     let reads = c.in-Ok-Some.ensures.reads in
     let same : now.image ≡ old.image = (reads.same finds.honest).image in
-    subst (λ (image : Image). IsTrue (is_ok c.in-Ok.found) ↔ Rule6 (picture_of (record { g = sizes; master = c.args.master.now; blocks = blocks }) image)) same
-    (c.in-Ok.ensures.shown blocks (finds_later log old now reads.goes same finds) (there g (goal.at.returns-in-Ok-clause-shown g c).In-Ok-Some finds.honest found formed.groups)
+    subst (λ (image : Image). IsTrue (is_ok c.in-Ok.found) ↔ VersionsFit (logical_image_of (record { g = sizes; master = c.args.master.now; blocks = blocks }) image)) same
+    (c.in-Ok.ensures.shown blocks (finds_later log old now reads.preserves same finds) (there g (goal.at.returns-in-Ok-clause-shown g c).In-Ok-Some finds.honest found formed.groups)
     (subst (AreVersions sizes) (sym same) formed.versions) (subst (HasBlocks sizes c.args.master.now.kept blocks) (sym same) has))
 
 pub returns-in-Ok-clause-values : goal.returns-in-Ok-clause-values
@@ -63,8 +63,8 @@ returns-in-Ok-clause-values g c blocks finds found formed has apart =
     let now : State = g.S.Site.state c.find_frames.new.site in
     let reads = c.in-Ok-Some.ensures.reads in
     let same : now.image ≡ old.image = (reads.same finds.honest).image in
-    subst (λ (image : Image). IfOk c.in-Ok.found (λ count. count ≡ values_of (picture_of (record { g = sizes; master = c.args.master.now; blocks = blocks }) image))) same
-    (c.in-Ok.ensures.values blocks (finds_later log old now reads.goes same finds) (there g (goal.at.returns-in-Ok-clause-values g c).In-Ok-Some finds.honest found formed.groups)
+    subst (λ (image : Image). IfOk c.in-Ok.found (λ count. count ≡ values_of (logical_image_of (record { g = sizes; master = c.args.master.now; blocks = blocks }) image))) same
+    (c.in-Ok.ensures.values blocks (finds_later log old now reads.preserves same finds) (there g (goal.at.returns-in-Ok-clause-values g c).In-Ok-Some finds.honest found formed.groups)
     (subst (AreVersions sizes) (sym same) formed.versions) (subst (HasBlocks sizes c.args.master.now.kept blocks) (sym same) has) apart)
 
 pub returns-in-Ok-clause-reads : goal.returns-in-Ok-clause-reads

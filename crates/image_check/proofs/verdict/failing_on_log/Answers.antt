@@ -7,7 +7,7 @@ use Rattle.image_check.proofs.verdict.failing_on_log.Goals as goal
 
 pub rule_apart-requires-clause-going : goal.rule_apart-requires-clause-going
 rule_apart-requires-clause-going g c =
-    (may_be_judged_later c.args.found.now (g.S.Site.state c.args.site.now) (g.S.Site.state c.rule_undoable.new.site) c.in_ok-place.ensures.reads.goes c.requires).read.going
+    (may_be_judged_later c.args.found.now (g.S.Site.state c.args.site.now) (g.S.Site.state c.rule_undoable.new.site) c.in_ok-place.ensures.reads.preserves c.requires).read.going
 
 pub returns-in-Some-clause-judged : goal.returns-in-Some-clause-judged
 returns-in-Some-clause-judged g c blocks meets survey =

@@ -4,7 +4,7 @@ use Rattle.log_records.specs.Log.{log_from}
 use Rattle.image_form.specs.declared.place.Place.TheVariants as place
 use Rattle.image_check.specs.Counting.{CommitsAre}
 use Rattle.image_check.specs.Deciding.{reading_of}
-use Rattle.image_form.specs.Verdict.{picture_of}
+use Rattle.image_form.specs.Verdict.{logical_image_of}
 use Rattle.image_check.proofs.Decisions.{Past, at_first, holds_here, fails_by, verdict_by, sound_by}
 use Rattle.image_check.proofs.verdict.judge_counts.Goals as goal
 
@@ -27,8 +27,8 @@ returns-in-Some c = record {
       let p1 : Past 10 found blocks site site = holds_here 9 found blocks site site (at_first 9 found blocks site meets) (room.0 c.if-not-rule_room.false) in
       let named = c.rule_named.ensures.named (log_from found.master.kept blocks) survey.surveys.early in
       let p2 : Past 11 found blocks site site = holds_here 10 found blocks site site p1 (named.0 c.if-not-rule_named.false) in
-      let says : CommitsAre (Some c.in-Some.commits) (picture_of (reading_of found blocks) site.image) =
-      subst (λ (o : Option ℕ). CommitsAre o (picture_of (reading_of found blocks) site.image)) c.in-Some.is (c.rule_commits.ensures.commits site blocks meets.there.log survey.few survey.surveys.numbers) in
+      let says : CommitsAre (Some c.in-Some.commits) (logical_image_of (reading_of found blocks) site.image) =
+      subst (λ (o : Option ℕ). CommitsAre o (logical_image_of (reading_of found blocks) site.image)) c.in-Some.is (c.rule_commits.ensures.commits site blocks meets.there.log survey.few survey.surveys.numbers) in
       let p3 : Past 12 found blocks site site = holds_here 11 found blocks site site p2 says.0 in
       sound_by found blocks site site c.args.records c.in-Some.commits p3 values says.1;
 }
@@ -41,7 +41,7 @@ returns-in-None c = record {
       let p1 : Past 10 found blocks site site = holds_here 9 found blocks site site (at_first 9 found blocks site meets) (room.0 c.if-not-rule_room.false) in
       let named = c.rule_named.ensures.named (log_from found.master.kept blocks) survey.surveys.early in
       let p2 : Past 11 found blocks site site = holds_here 10 found blocks site site p1 (named.0 c.if-not-rule_named.false) in
-      let says : CommitsAre None (picture_of (reading_of found blocks) site.image) =
-      subst (λ (o : Option ℕ). CommitsAre o (picture_of (reading_of found blocks) site.image)) c.in-None.is (c.rule_commits.ensures.commits site blocks meets.there.log survey.few survey.surveys.numbers) in
+      let says : CommitsAre None (logical_image_of (reading_of found blocks) site.image) =
+      subst (λ (o : Option ℕ). CommitsAre o (logical_image_of (reading_of found blocks) site.image)) c.in-None.is (c.rule_commits.ensures.commits site blocks meets.there.log survey.few survey.surveys.numbers) in
       verdict_by 12 11 place.Blocks (reading_of found blocks) site.image meets.reads (fails_by 11 place.Blocks found blocks site site 12 (omega arith) p2 says);
 }

@@ -12,14 +12,14 @@ use Rattle.image_check.proofs.Decisions.{Past, may_be_judged_later, at_first, ho
 use Rattle.image_check.proofs.verdict.judge_found.Goals as goal
 
 pub failing_on_log-requires : goal.failing_on_log-requires
-failing_on_log-requires g c = may_be_judged_later c.args.found.now (g.S.Site.state c.args.site.now) (g.S.Site.state c.rule_transactions.new.site) c.in_ok-survey.ensures.reads.goes c.requires
+failing_on_log-requires g c = may_be_judged_later c.args.found.now (g.S.Site.state c.args.site.now) (g.S.Site.state c.rule_transactions.new.site) c.in_ok-survey.ensures.reads.preserves c.requires
 
 pub judge_pages-requires : goal.judge_pages-requires
 judge_pages-requires g c =
     let s0 : State = g.S.Site.state c.args.site.now in
     let s1 : State = g.S.Site.state c.rule_transactions.new.site in
     let s2 : State = g.S.Site.state c.failing_on_log.new.site in
-    may_be_judged_later c.args.found.now s1 s2 c.in_ok-rule.ensures.reads.goes (may_be_judged_later c.args.found.now s0 s1 c.in_ok-survey.ensures.reads.goes c.requires)
+    may_be_judged_later c.args.found.now s1 s2 c.in_ok-rule.ensures.reads.preserves (may_be_judged_later c.args.found.now s0 s1 c.in_ok-survey.ensures.reads.preserves c.requires)
 
 pub returns-in-Some-clause-verdict : goal.returns-in-Some-clause-verdict
 returns-in-Some-clause-verdict g c blocks meets =

@@ -4,12 +4,12 @@ use Rattle.site.specs.State.{State, Image}
 use Rattle.image_form.specs.declared.place.Place.{Place}
 use Rattle.image_check.specs.Judgement.{IsVerdictOn}
 use Rattle.image_check.specs.Deciding.{HoldOr, reading_of}
-use Rattle.image_form.specs.Verdict.{HoldBefore, picture_of, values_of}
+use Rattle.image_form.specs.Verdict.{HoldBefore, logical_image_of, values_of}
 use Rattle.image_check.proofs.Decisions.{Past, may_be_judged_later, at_first, holds_so, fails_so, reaches, verdict_by, told_place, told_none}
 use Rattle.image_check.proofs.verdict.judge_pages.Goals as goal
 
 pub failing_on_flash-requires : goal.failing_on_flash-requires
-failing_on_flash-requires g c = may_be_judged_later c.args.found.now (g.S.Site.state c.args.site.now) (g.S.Site.state c.rule_shown.new.site) c.in_ok-records.ensures.reads.goes c.requires
+failing_on_flash-requires g c = may_be_judged_later c.args.found.now (g.S.Site.state c.args.site.now) (g.S.Site.state c.rule_shown.new.site) c.in_ok-records.ensures.reads.preserves c.requires
 
 pub returns-in-Err-clause-verdict : goal.returns-in-Err-clause-verdict
 returns-in-Err-clause-verdict g c blocks meets survey =
@@ -42,6 +42,6 @@ returns-clause-verdict g c blocks meets survey =
     let more : HoldBefore 9 r s1.image = subst (λ (o : Option (ℕ × Place)). HoldOr 9 o r s1.image) c.in_default.is (c.in_ok-rule.ensures.judged blocks p1.meets) in
     let p2 : Past 9 found blocks s0 s2 = reaches c.in_ok-rule.field-0 7 9 found blocks s0 s1 s2 c.in_ok-rule.ensures.reads p1 more in
     let counted = c.in_ok-records.ensures.values blocks meets.there.log meets.there.rings meets.reads.formed meets.reads.blocks ((meets.rules 5 (omega arith)).fifth refl) in
-    let own = subst (λ (o : Result ℕ Place). IfOk o (λ count. count ≡ values_of (picture_of r s0.image))) c.in-Ok.is counted in
-    let values : c.in-Ok.records ≡ values_of (picture_of r s2.image) = subst (λ (image : Image). c.in-Ok.records ≡ values_of (picture_of r image)) (sym p2.same) own in
+    let own = subst (λ (o : Result ℕ Place). IfOk o (λ count. count ≡ values_of (logical_image_of r s0.image))) c.in-Ok.is counted in
+    let values : c.in-Ok.records ≡ values_of (logical_image_of r s2.image) = subst (λ (image : Image). c.in-Ok.records ≡ values_of (logical_image_of r image)) (sym p2.same) own in
     subst (λ (image : Image). IsVerdictOn image c.judge_counts.result) p2.same (c.judge_counts.ensures.verdict s2 blocks p2.meets survey values)

@@ -58,7 +58,7 @@ returns-then-same-clause-clean g c frames honest found groups on is =
     )
 
 pub is_named_from-requires : goal.is_named_from-requires
-is_named_from-requires g c = may_read_later c.args.geometry.now c.args.rings.now (g.S.Site.state c.args.site.now) (g.S.Site.state c.is_as_on_disk.new.site) c.in-Ok.ensures.reads.goes c.requires.may_read
+is_named_from-requires g c = may_read_later c.args.geometry.now c.args.rings.now (g.S.Site.state c.args.site.now) (g.S.Site.state c.is_as_on_disk.new.site) c.in-Ok.ensures.reads.preserves c.requires.may_read
 
 pub returns-in-Ok-is_named_from-clause-clean : goal.returns-in-Ok-is_named_from-clause-clean
 returns-in-Ok-is_named_from-clause-clean g c frames honest found groups on is =
@@ -68,7 +68,7 @@ returns-in-Ok-is_named_from-clause-clean g c frames honest found groups on is =
     let reads = c.in-Ok.ensures.reads in
     let same : now.image ≡ old.image = (reads.same honest).image in
     let head : FrameHead = get_or c.args.heads.now c.args.index blank in
-    let says = c.in-Ok-is_named_from.ensures.named (stays_honest old now reads.goes honest) (found_later c.args.rings.now old now same found) (subst (AreGroups geometry) (sym same) groups) in (
+    let says = c.in-Ok-is_named_from.ensures.named (stays_honest old now reads.preserves honest) (found_later c.args.rings.now old now same found) (subst (AreGroups geometry) (sym same) groups) in (
       λ named frame there calm behind none.
           let page : head.page ≡ frame.page = ap (λ (h : FrameHead). h.page) (own c.args.heads.now frames c.args.index frame is there) in
           absurd (none (subst (IsNamedFrom geometry old.image (c.args.group + 1)) page (subst (λ (image : Image). IsNamedFrom geometry image (c.args.group + 1) head.page) same (says.0 named)))),

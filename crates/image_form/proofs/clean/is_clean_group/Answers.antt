@@ -25,7 +25,7 @@ returns-in_default-group_heads-clause-clean g c frames honest found groups on =
 
 pub loop-index-init : goal.loop-index-init
 loop-index-init g c = record {
-  may_read = may_read_later c.args.geometry.now c.args.rings.now (g.S.Site.state c.args.site.now) (g.S.Site.state c.read_part.new.site) c.in_default.ensures.reads.goes c.requires.may_read;
+  may_read = may_read_later c.args.geometry.now c.args.rings.now (g.S.Site.state c.args.site.now) (g.S.Site.state c.read_part.new.site) c.in_default.ensures.reads.preserves c.requires.may_read;
   stand = λ frames honest found groups on i below. absurd (omega (arith, below));
   reads = search rules;
 }
@@ -42,7 +42,7 @@ returns-then-not-clean-clause-clean g c frames honest found groups on =
     let part : c.read_part.new.into ≡ take 128 (drop 0 (group_on geometry old.image n)) =
     c.in_default.ensures.part honest found.groups ∙ ap (λ (s : Shape). take 128 (drop 0 (unit_at s (units_on s old.image) n))) c.requires.may_read.groups_shape in
     let heads : c.in-Ok.heads ≡ heads_of frames = heads_of_part (group_on geometry old.image n) c.read_part.new.into frames c.in-Ok.heads part on.group c.in-Ok.ensures.found in
-    let says = c.in-Ok-is_clean_frame.ensures.clean frames (stays_honest old now reads.goes honest) (found_later c.args.rings.now old now same found) (subst (AreGroups geometry) (sym same) groups)
+    let says = c.in-Ok-is_clean_frame.ensures.clean frames (stays_honest old now reads.preserves honest) (found_later c.args.rings.now old now same found) (subst (AreGroups geometry) (sym same) groups)
     (subst (λ (image : Image). IsGroupOn geometry (group_on geometry image n) frames) (sym same) on) heads in (
       λ wrong. absurd (true≢false (sym wrong)),
       λ all. absurd (true≢false (sym (says.1 (subst (λ (image : Image). IsCleanFrame geometry image n frames i) (sym same) (all i))) ∙ c.if-not-clean.true)),
@@ -57,14 +57,14 @@ loop-index-preserved g c =
     let at : ℕ = c.loop-index.index in
     let geometry = c.args.geometry.now in
     record {
-      may_read = may_read_later geometry c.args.rings.now now (g.S.Site.state c.is_clean_frame.new.site) c.in-Ok-is_clean_frame.ensures.reads.goes c.loop-index.invariant.may_read;
+      may_read = may_read_later geometry c.args.rings.now now (g.S.Site.state c.is_clean_frame.new.site) c.in-Ok-is_clean_frame.ensures.reads.preserves c.loop-index.invariant.may_read;
       stand = λ frames honest found groups on i below. elim (cases_eq i at) [
         | inl here ↦
             let same : now.image ≡ old.image = (reads.same honest).image in
             let part : c.read_part.new.into ≡ take 128 (drop 0 (group_on geometry old.image n)) =
             c.in_default.ensures.part honest found.groups ∙ ap (λ (s : Shape). take 128 (drop 0 (unit_at s (units_on s old.image) n))) c.requires.may_read.groups_shape in
             let heads : c.in-Ok.heads ≡ heads_of frames = heads_of_part (group_on geometry old.image n) c.read_part.new.into frames c.in-Ok.heads part on.group c.in-Ok.ensures.found in
-            let says = c.in-Ok-is_clean_frame.ensures.clean frames (stays_honest old now reads.goes honest) (found_later c.args.rings.now old now same found) (subst (AreGroups geometry) (sym same) groups)
+            let says = c.in-Ok-is_clean_frame.ensures.clean frames (stays_honest old now reads.preserves honest) (found_later c.args.rings.now old now same found) (subst (AreGroups geometry) (sym same) groups)
             (subst (λ (image : Image). IsGroupOn geometry (group_on geometry image n) frames) (sym same) on) heads in
             let clean : IsCleanFrame geometry old.image n frames at = subst (λ (image : Image). IsCleanFrame geometry image n frames at) same (says.0 c.if-not-clean.false) in
             subst (λ (k : ℕ). IsCleanFrame geometry old.image n frames k) (sym here) clean

@@ -35,7 +35,7 @@ returns-then-not-clean-clause-clean g c honest found groups =
     } in
     let frames = groups n live in
     let mine = frames_are_in (group_on geometry old.image n) frames.0 frames.1.group in
-    let says = c.in-Ok.ensures.clean frames.0 (stays_honest old now reads.goes honest) (found_later rings old now same found) (subst (AreGroups geometry) (sym same) groups)
+    let says = c.in-Ok.ensures.clean frames.0 (stays_honest old now reads.preserves honest) (found_later rings old now same found) (subst (AreGroups geometry) (sym same) groups)
     (subst (λ (image : Image). IsGroupOn geometry (group_on geometry image n) frames.0) (sym same) frames.1) in (
       λ wrong. absurd (true≢false (sym wrong)),
       λ rule. absurd (true≢false (sym (says.1 (λ i. subst (λ (image : Image). IsCleanFrame geometry image n frames.0 i) (sym same)
@@ -52,7 +52,7 @@ loop-group-preserved g c =
     let reads = c.loop-group.invariant.reads in
     let at : ℕ = c.loop-group.group in
     record {
-      may_read = may_read_later geometry rings now (g.S.Site.state c.is_clean_group.new.site) c.in-Ok.ensures.reads.goes c.loop-group.invariant.may_read;
+      may_read = may_read_later geometry rings now (g.S.Site.state c.is_clean_group.new.site) c.in-Ok.ensures.reads.preserves c.loop-group.invariant.may_read;
       stand = λ honest found groups n live below. elim (cases_eq n at) [
         | inl here ↦
             let same : now.image ≡ old.image = (reads.same honest).image in
@@ -60,7 +60,7 @@ loop-group-preserved g c =
             let lives : IsLive (group_shape geometry) (hi_of (group_shape geometry) old.image.flash) at = subst (λ (h : ℕ). IsLive (group_shape geometry) h at) hi (subst (IsLive (group_shape geometry) ring.hi) here live) in
             let frames = groups at lives in
             let mine = frames_are_in (group_on geometry old.image at) frames.0 frames.1.group in
-            let says = c.in-Ok.ensures.clean frames.0 (stays_honest old now reads.goes honest) (found_later rings old now same found) (subst (AreGroups geometry) (sym same) groups)
+            let says = c.in-Ok.ensures.clean frames.0 (stays_honest old now reads.preserves honest) (found_later rings old now same found) (subst (AreGroups geometry) (sym same) groups)
             (subst (λ (image : Image). IsGroupOn geometry (group_on geometry image at) frames.0) (sym same) frames.1) in
             λ i. subst (λ (k : ℕ). IsCleanFrame geometry old.image k (frames_in (group_on geometry old.image k)) i) (sym here)
             (subst (λ (l : List Frame). IsCleanFrame geometry old.image at l i) (sym mine) (subst (λ (image : Image). IsCleanFrame geometry image at frames.0 i) same (says.0 c.if-not-clean.false i)))

@@ -37,7 +37,7 @@ returns-then-not-same-clause-following g c m honest found formed =
       below = omega (arith, end, below, all, segments, hi);
       near = omega (arith, low, oldest, slots, hi);
     } in
-    let heard = c.in-Ok.ensures.saved geometry c.loop-group.invariant.may_read (stays_honest old now reads.goes honest) (found_later rings old now same found) in (
+    let heard = c.in-Ok.ensures.saved geometry c.loop-group.invariant.may_read (stays_honest old now reads.preserves honest) (found_later rings old now same found) in (
       λ no. let wrong : false ≡ true = no in absurd (true≢false (sym wrong)),
       λ rule.
           let here : AreHeadsSaved geometry old.image group = (saved geometry m old.image formed rule).2 group live (omega (arith, below, segments, next)) in
@@ -64,10 +64,10 @@ loop-group-preserved g c =
     let reads = c.loop-group.invariant.reads in
     let group : ℕ = c.loop-group.group in
     record {
-      may_read = may_read_later geometry rings now new c.in-Ok.ensures.reads.goes c.loop-group.invariant.may_read;
+      may_read = may_read_later geometry rings now new c.in-Ok.ensures.reads.preserves c.loop-group.invariant.may_read;
       saved = λ honest found n live below.
           let same : now.image ≡ old.image = (reads.same honest).image in
-          let heard = c.in-Ok.ensures.saved geometry c.loop-group.invariant.may_read (stays_honest old now reads.goes honest) (found_later rings old now same found) in
+          let heard = c.in-Ok.ensures.saved geometry c.loop-group.invariant.may_read (stays_honest old now reads.preserves honest) (found_later rings old now same found) in
           let here : AreHeadsSaved geometry old.image group = subst (λ (image : Image). AreHeadsSaved geometry image group) same (heard.0 c.if-not-same.false) in
           elim (cases_eq n group) [
             | inl is ↦ subst (AreHeadsSaved geometry old.image) (sym is) here

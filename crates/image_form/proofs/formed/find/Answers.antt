@@ -19,7 +19,7 @@ find_log-requires g c =
     let s1 : State = g.S.Site.state c.rule_rings.new.site in
     let s2 : State = g.S.Site.state c.rule_master.new.site in
     let sizes : HasSizes c.in-Some.geometry s0.image = subst (λ (o : Option Geometry). SizesAre o s0.image) c.in-Some.is c.rule_lengths.ensures in
-    sizes_later c.in-Some.geometry s1 s2 c.in_ok-master.ensures.reads.goes (sizes_later c.in-Some.geometry s0 s1 c.in_ok-rings.ensures.reads.goes sizes)
+    sizes_later c.in-Some.geometry s1 s2 c.in_ok-master.ensures.reads.preserves (sizes_later c.in-Some.geometry s0 s1 c.in_ok-rings.ensures.reads.preserves sizes)
 
 pub returns-in-Err-clause-found : goal.returns-in-Err-clause-found
 returns-in-Err-clause-found g c honest =
@@ -27,7 +27,7 @@ returns-in-Err-clause-found g c honest =
     let s0 : State = g.S.Site.state c.args.site.now in
     let s1 : State = g.S.Site.state c.rule_rings.new.site in
     let sizes : HasSizes geometry s0.image = subst (λ (o : Option Geometry). SizesAre o s0.image) c.in-Some.is c.rule_lengths.ensures in
-    let sizes1 : HasSizes geometry s1.image = sizes_later geometry s0 s1 c.in_ok-rings.ensures.reads.goes sizes in
+    let sizes1 : HasSizes geometry s1.image = sizes_later geometry s0 s1 c.in_ok-rings.ensures.reads.preserves sizes in
     let none : AreRings geometry s1.image → ⊥ = subst (λ (o : Result Rings Place). RingsAre geometry o s1) c.in-Err.is (c.in_ok-rings.ensures.rings honest) in
     λ other m formed. none (subst (λ (x : Geometry). AreRings x s1.image) (one_size other geometry s1.image formed.sizes sizes1) formed.rings)
 

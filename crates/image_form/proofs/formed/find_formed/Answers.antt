@@ -23,4 +23,4 @@ pub returns-clause-may_read : goal.returns-clause-may_read
 returns-clause-may_read g c =
     let s1 : State = g.S.Site.state c.find.new.site in
     let s2 : State = g.S.Site.state c.find_unformed.new.site in
-    may_be_read_later c.in-Ok.found s1 s2 c.in_ok-place.ensures.reads.goes (subst (λ (o : Result Found Place). IfOk o (λ found. MayBeRead found s1)) c.in-Ok.is c.in_ok-found.ensures.may_read)
+    may_be_read_later c.in-Ok.found s1 s2 c.in_ok-place.ensures.reads.preserves (subst (λ (o : Result Found Place). IfOk o (λ found. MayBeRead found s1)) c.in-Ok.is c.in_ok-found.ensures.may_read)

@@ -5,7 +5,7 @@ use Rattle.site.specs.State.{State}
 use Rattle.site.proofs.Working.{looks_then, looks_answered}
 use Rattle.image_form.specs.Octets.{AreBlocks, AreGroups, SegmentsAreFormed, AreVersions}
 use Rattle.image_form.specs.Findings.{MayRead}
-use Rattle.image_form.specs.Verdict.{Rule1}
+use Rattle.image_form.specs.Verdict.{OctetsAreFormed}
 use Rattle.image_form.proofs.FirstRule.{StillThere, may_be_read_later, still_there, part_holds, part_fails, placed, unplaced, answers_as}
 use Rattle.image_form.proofs.formed.find_unformed.Goals as goal
 
@@ -14,7 +14,7 @@ rule_groups-requires g c =
     let found = c.args.found.now in
     let s0 : State = g.S.Site.state c.args.site.now in
     let s1 : State = g.S.Site.state c.rule_blocks.new.site in
-    subst (λ (x : Geometry). MayRead x found.rings s1) (sym c.geometry-geometry.ensures) (may_be_read_later found s0 s1 c.in_ok-place.ensures.reads.goes c.requires).may_read
+    subst (λ (x : Geometry). MayRead x found.rings s1) (sym c.geometry-geometry.ensures) (may_be_read_later found s0 s1 c.in_ok-place.ensures.reads.preserves c.requires).may_read
 
 pub rule_segments-requires : goal.rule_segments-requires
 rule_segments-requires g c =
@@ -22,7 +22,7 @@ rule_segments-requires g c =
     let s0 : State = g.S.Site.state c.args.site.now in
     let s1 : State = g.S.Site.state c.rule_blocks.new.site in
     let s2 : State = g.S.Site.state c.rule_groups.new.site in
-    subst (λ (x : Geometry). MayRead x found.rings s2) (sym c.geometry-geometry.ensures) (may_be_read_later found s1 s2 c.in_ok-place-2.ensures.reads.goes (may_be_read_later found s0 s1 c.in_ok-place.ensures.reads.goes c.requires)).may_read
+    subst (λ (x : Geometry). MayRead x found.rings s2) (sym c.geometry-geometry.ensures) (may_be_read_later found s1 s2 c.in_ok-place-2.ensures.reads.preserves (may_be_read_later found s0 s1 c.in_ok-place.ensures.reads.preserves c.requires)).may_read
 
 pub rule_versions-requires : goal.rule_versions-requires
 rule_versions-requires g c =
@@ -31,7 +31,7 @@ rule_versions-requires g c =
     let s1 : State = g.S.Site.state c.rule_blocks.new.site in
     let s2 : State = g.S.Site.state c.rule_groups.new.site in
     let s3 : State = g.S.Site.state c.rule_segments.new.site in
-    subst (λ (x : Geometry). MayRead x found.rings s3) (sym c.geometry-geometry.ensures) (may_be_read_later found s2 s3 c.in_ok-place-3.ensures.reads.goes (may_be_read_later found s1 s2 c.in_ok-place-2.ensures.reads.goes (may_be_read_later found s0 s1 c.in_ok-place.ensures.reads.goes c.requires))).may_read
+    subst (λ (x : Geometry). MayRead x found.rings s3) (sym c.geometry-geometry.ensures) (may_be_read_later found s2 s3 c.in_ok-place-3.ensures.reads.preserves (may_be_read_later found s1 s2 c.in_ok-place-2.ensures.reads.preserves (may_be_read_later found s0 s1 c.in_ok-place.ensures.reads.preserves c.requires))).may_read
 
 pub returns-in-Some-2-clause-formed : goal.returns-in-Some-2-clause-formed
 returns-in-Some-2-clause-formed g c there =
@@ -99,7 +99,7 @@ returns-clause-formed g c there =
     let segments : SegmentsAreFormed found.log.geometry s0.image = part_holds (SegmentsAreFormed found.log.geometry) (is_none c.in_ok-place-3.field-0) s0.image s2.image t2.same
     (subst (λ (x : Geometry). IsTrue (is_none c.in_ok-place-3.field-0) ↔ SegmentsAreFormed x s2.image) geo (c.in_ok-place-3.ensures.segments t2.there.log.honest t2.there.rings)) (unplaced c.in_ok-place-3.field-0 c.in_default-3.is) in
     let there3 : AreGroups c.geometry-geometry.result s3.image = subst (λ (x : Geometry). AreGroups x s3.image) (sym geo) (subst (AreGroups found.log.geometry) (sym t3.same) groups) in
-    answers_as c.rule_versions.result (λ failing. IsTrue (is_none failing) ↔ AreVersions c.geometry-geometry.result s3.image) (λ failing. IsTrue (is_none failing) ↔ Rule1 found.log.geometry found.master s0.image)
+    answers_as c.rule_versions.result (λ failing. IsTrue (is_none failing) ↔ AreVersions c.geometry-geometry.result s3.image) (λ failing. IsTrue (is_none failing) ↔ OctetsAreFormed found.log.geometry found.master s0.image)
     (λ failing says.
     let versions = subst (λ (x : Geometry). IsTrue (is_none failing) ↔ AreVersions x s3.image) geo says in (
       λ yes. record {

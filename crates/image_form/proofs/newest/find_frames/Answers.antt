@@ -39,7 +39,7 @@ returns-in-Ok-None-clause-formed g c honest found groups =
     } in
     let frames = groups n live in
     let there : IsGroup (group_on geometry now.image n) frames.0 = subst (λ (image : Image). IsGroup (group_on geometry image n) frames.0) (sym same) frames.1.group in
-    let says = c.in-Ok-None.ensures.heads geometry frames.0 c.loop-group.invariant.may_read (stays_honest old now reads.goes honest) (found_later rings old now same found) there in
+    let says = c.in-Ok-None.ensures.heads geometry frames.0 c.loop-group.invariant.may_read (stays_honest old now reads.preserves honest) (found_later rings old now same found) there in
     none-some (heads_of frames.0) (sym c.in-Ok-None.field-0-is ∙ says)
 
 pub loop-group-preserved : goal.loop-group-preserved
@@ -56,7 +56,7 @@ loop-group-preserved g c =
     let items : c.push.new.self.items ≡ list ++ heads ∷ [] = c.in-Ok.ensures.items in
     let count = c.loop-group.invariant.count in
     record {
-      may_read = may_read_later geometry rings now (g.S.Site.state c.heads_at.new.site) c.in-Ok-Some.ensures.reads.goes c.loop-group.invariant.may_read;
+      may_read = may_read_later geometry rings now (g.S.Site.state c.heads_at.new.site) c.in-Ok-Some.ensures.reads.preserves c.loop-group.invariant.may_read;
       formed = subst (All (λ x. AreGroupHeads x)) (sym items) (all_pushed list heads c.loop-group.invariant.formed (some_formed c.in-Ok-Some.field-0 heads c.in-Ok-Some.field-0-is c.in-Ok-Some.ensures.formed));
       count = let long = ap length items ∙ length-append list (heads ∷ []) in omega (arith, long, count);
       most = omega (arith, c.loop-group-test.true, c.hi-group-end.ensures);
@@ -72,7 +72,7 @@ loop-group-preserved g c =
           } in
           let frames = groups n live in
           let there : IsGroup (group_on geometry now.image n) frames.0 = subst (λ (image : Image). IsGroup (group_on geometry image n) frames.0) (sym same) frames.1.group in
-          let says = c.in-Ok-Some.ensures.heads geometry frames.0 c.loop-group.invariant.may_read (stays_honest old now reads.goes honest) (found_later rings old now same found) there in
+          let says = c.in-Ok-Some.ensures.heads geometry frames.0 c.loop-group.invariant.may_read (stays_honest old now reads.preserves honest) (found_later rings old now same found) there in
           let own : heads ≡ heads_of frames.0 = same_Some heads (heads_of frames.0) (sym c.in-Ok-Some.field-0-is ∙ says) in
           subst (AreHeadsFrom geometry old.image c.oldest-first.result) (sym items)
           (one_group_more geometry old.image c.oldest-first.result n list heads frames.0 (omega (arith, some)) live count frames.1.group own (c.loop-group.invariant.heads honest found groups));

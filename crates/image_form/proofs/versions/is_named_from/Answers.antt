@@ -34,7 +34,7 @@ returns-then-names-clause-named g c honest found groups =
     } in
     let frames = groups n live in
     let there : IsGroup (group_on geometry now.image n) frames.0 = subst (λ (image : Image). IsGroup (group_on geometry image n) frames.0) (sym same) frames.1.group in
-    let says = c.in-Ok.ensures.names geometry frames.0 c.loop-group.invariant.may_read (stays_honest old now reads.goes honest) (found_later rings old now same found) there in (
+    let says = c.in-Ok.ensures.names geometry frames.0 c.loop-group.invariant.may_read (stays_honest old now reads.preserves honest) (found_later rings old now same found) there in (
       λ yes. record {
         group = n;
         live = live;
@@ -54,7 +54,7 @@ loop-group-preserved g c =
     let reads = c.loop-group.invariant.reads in
     let at : ℕ = c.loop-group.group in
     record {
-      may_read = may_read_later geometry rings now (g.S.Site.state c.group_names.new.site) c.in-Ok.ensures.reads.goes c.loop-group.invariant.may_read;
+      may_read = may_read_later geometry rings now (g.S.Site.state c.group_names.new.site) c.in-Ok.ensures.reads.preserves c.loop-group.invariant.may_read;
       none = λ honest found groups n live first below. elim (cases_eq n at) [
         | inl here ↦
             let same : now.image ≡ old.image = (reads.same honest).image in
@@ -62,7 +62,7 @@ loop-group-preserved g c =
             let lives : IsLive (group_shape geometry) (hi_of (group_shape geometry) old.image.flash) at = subst (λ (h : ℕ). IsLive (group_shape geometry) h at) hi (subst (IsLive (group_shape geometry) ring.hi) here live) in
             let frames = groups at lives in
             let there : IsGroup (group_on geometry now.image at) frames.0 = subst (λ (image : Image). IsGroup (group_on geometry image at) frames.0) (sym same) frames.1.group in
-            let says = c.in-Ok.ensures.names geometry frames.0 c.loop-group.invariant.may_read (stays_honest old now reads.goes honest) (found_later rings old now same found) there in
+            let says = c.in-Ok.ensures.names geometry frames.0 c.loop-group.invariant.may_read (stays_honest old now reads.preserves honest) (found_later rings old now same found) there in
             let off : has_frame c.args.page (frames_in (group_on geometry old.image at)) ≡ false = ap (has_frame c.args.page) (frames_are_in (group_on geometry old.image at) frames.0 frames.1.group) ∙ sym says ∙ c.if-names.false in
             subst (λ (k : ℕ). has_frame c.args.page (frames_in (group_on geometry old.image k)) ≡ false) (sym here) off
         | inr other ↦ c.loop-group.invariant.none honest found groups n live first (omega (arith, below, other))

@@ -19,7 +19,7 @@ returns-then-sound-clause-sound g c honest found groups =
     )
 
 pub is_named_from-requires : goal.is_named_from-requires
-is_named_from-requires g c = may_read_later c.args.geometry.now c.args.rings.now (g.S.Site.state c.args.site.now) (g.S.Site.state c.is_sound_page.new.site) c.in-Ok.ensures.reads.goes c.requires.may_read
+is_named_from-requires g c = may_read_later c.args.geometry.now c.args.rings.now (g.S.Site.state c.args.site.now) (g.S.Site.state c.is_sound_page.new.site) c.in-Ok.ensures.reads.preserves c.requires.may_read
 
 pub returns-in-Ok-is_named_from-clause-sound : goal.returns-in-Ok-is_named_from-clause-sound
 returns-in-Ok-is_named_from-clause-sound g c honest found groups =
@@ -31,7 +31,7 @@ returns-in-Ok-is_named_from-clause-sound g c honest found groups =
     let some = c.requires.may_read.sizes.limits.groups in
     let slots : 3 ≤ geometry.groups = omega (arith, some) in
     let off : IsSound (disk_on old.image c.args.page) → ⊥ = λ sound. true≢false (sym ((c.in-Ok.ensures.sound honest).1 sound) ∙ c.if-sound.false) in
-    let says = c.in-Ok-is_named_from.ensures.named (stays_honest old now reads.goes honest) (found_later c.args.rings.now old now same found) (subst (AreGroups geometry) (sym same) groups) in (
+    let says = c.in-Ok-is_named_from.ensures.named (stays_honest old now reads.preserves honest) (found_later c.args.rings.now old now same found) (subst (AreGroups geometry) (sym same) groups) in (
       λ yes. sound_by_frame geometry old.image c.args.page slots groups (subst (λ (image : Image). IsNamedFrom geometry image 0 c.args.page) same (says.0 yes)),
       λ sound. elim (cases_Bool c.in-Ok-is_named_from.named) [
         | inl there ↦ there

@@ -16,7 +16,7 @@ returns-then-not-stands-clause-versions g c honest found groups =
     let reads = c.loop-page.invariant.reads in
     let same : now.image ≡ old.image = (reads.same honest).image in
     let page : ℕ = c.loop-page.page in
-    let says = c.in-Ok.ensures.sound (stays_honest old now reads.goes honest) (found_later c.args.rings.now old now same found) (subst (AreGroups geometry) (sym same) groups) in (
+    let says = c.in-Ok.ensures.sound (stays_honest old now reads.preserves honest) (found_later c.args.rings.now old now same found) (subst (AreGroups geometry) (sym same) groups) in (
       λ wrong. absurd (true≢false (sym wrong)),
       λ all. absurd (true≢false (sym (says.1 (subst (λ (image : Image). IsSound (version_on geometry image page)) (sym same) (all page c.loop-page-test.true))) ∙ c.if-not-stands.true)),
     )
@@ -29,11 +29,11 @@ loop-page-preserved g c =
     let reads = c.loop-page.invariant.reads in
     let page : ℕ = c.loop-page.page in
     record {
-      may_read = may_read_later geometry c.args.rings.now now (g.S.Site.state c.is_sound_version.new.site) c.in-Ok.ensures.reads.goes c.loop-page.invariant.may_read;
+      may_read = may_read_later geometry c.args.rings.now now (g.S.Site.state c.is_sound_version.new.site) c.in-Ok.ensures.reads.preserves c.loop-page.invariant.may_read;
       stand = λ honest found groups n below. elim (cases_eq n page) [
         | inl here ↦
             let same : now.image ≡ old.image = (reads.same honest).image in
-            let says = c.in-Ok.ensures.sound (stays_honest old now reads.goes honest) (found_later c.args.rings.now old now same found) (subst (AreGroups geometry) (sym same) groups) in
+            let says = c.in-Ok.ensures.sound (stays_honest old now reads.preserves honest) (found_later c.args.rings.now old now same found) (subst (AreGroups geometry) (sym same) groups) in
             let sound : IsSound (version_on geometry old.image page) = subst (λ (image : Image). IsSound (version_on geometry image page)) same (says.0 c.if-not-stands.false) in
             subst (λ (k : ℕ). IsSound (version_on geometry old.image k)) (sym here) sound
         | inr other ↦ c.loop-page.invariant.stand honest found groups n (omega (arith, below, other))

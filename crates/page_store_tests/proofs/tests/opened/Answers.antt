@@ -7,7 +7,7 @@ pub returns : goal.returns
 returns c =
     let log = c.in_ok-log.log in
     let going = c.in_ok-log.ensures.going in
-    let goes = c.start-2.ensures.goes in
+    let goes = c.start-2.ensures.preserves in
     record {
       going = record {
         pages = c.in_ok-pages.ensures.going;

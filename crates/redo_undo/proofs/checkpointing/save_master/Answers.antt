@@ -45,10 +45,10 @@ within : (kept low next block first : ℕ) → low ≡ kept → (kept ≤ first)
 within kept low next block first is there so = so (let a = there.0 in omega (arith, a, is)) there.1
 
 pub returns-in-Err-clause-log_going : goal.returns-in-Err-clause-log_going
-returns-in-Err-clause-log_going g c = log_still c.args.log.now (g.S.Site.state c.args.site.now) (g.S.Site.state c.save.new.site) c.save.ensures.goes c.requires.going
+returns-in-Err-clause-log_going g c = log_still c.args.log.now (g.S.Site.state c.args.site.now) (g.S.Site.state c.save.new.site) c.save.ensures.preserves c.requires.going
 
 pub returns-clause-log_going : goal.returns-clause-log_going
-returns-clause-log_going g c = c.keep.ensures.going (g.S.Site.state c.save.new.site) (log_still c.args.log.now (g.S.Site.state c.args.site.now) (g.S.Site.state c.save.new.site) c.save.ensures.goes c.requires.going)
+returns-clause-log_going g c = c.keep.ensures.going (g.S.Site.state c.save.new.site) (log_still c.args.log.now (g.S.Site.state c.args.site.now) (g.S.Site.state c.save.new.site) c.save.ensures.preserves c.requires.going)
 
 -- the master that is saved, and what its unit leaves
 
@@ -91,8 +91,8 @@ returns-clause-saved g c pages newest records table sizes h empty clean may =
     may.unfinished (kept g s pages newest records table sizes h empty clean may)
     c.save.ensures.unit may.orderly _ (c.in-Ok.ensures.reaches pages.flash.geometry h.log_holds.rings.limits h.log_holds.rings.lengths
     h.log_holds.ready.blocks.honest may.ring)
-    (c.save.ensures.changes h.log_holds.ready.blocks.honest) c.save.ensures.goes c.keep.new.self c.keep.ensures.kept (c.keep.ensures.finds _)
-    (c.keep.ensures.holds _ _ (log_still c.args.log.now (g.S.Site.state c.args.site.now) _ c.save.ensures.goes c.requires.going)) c.save.new.ring
+    (c.save.ensures.changes h.log_holds.ready.blocks.honest) c.save.ensures.preserves c.keep.new.self c.keep.ensures.kept (c.keep.ensures.finds _)
+    (c.keep.ensures.holds _ _ (log_still c.args.log.now (g.S.Site.state c.args.site.now) _ c.save.ensures.preserves c.requires.going)) c.save.new.ring
     (record { form = ready.form; hi = ready.hi })
 
 pub returns-in-Err-clause-keeps : goal.returns-in-Err-clause-keeps
@@ -133,7 +133,7 @@ returns-clause-keeps g c pages newest records table sizes h empty clean may =
           (front g s pages newest records table sizes h empty clean may quiet)
           (ap blocks_to c.keep.ensures.kept)
           (save_calls pages.flash.geometry (unit (m g s pages newest records table sizes h empty clean may)) site (g.S.Site.state c.save.new.site) (c.save.ensures.changes h.log_holds.ready.blocks.honest)
-          (c.in-Ok.ensures.reaches pages.flash.geometry h.log_holds.rings.limits h.log_holds.rings.lengths h.log_holds.ready.blocks.honest may.ring) (c.in-Ok.ensures.past h.log_holds.ready.blocks.honest));
+          (c.in-Ok.ensures.reaches pages.flash.geometry h.log_holds.rings.limits h.log_holds.rings.lengths h.log_holds.ready.blocks.honest may.ring) (c.in-Ok.ensures.device_calls h.log_holds.ready.blocks.honest));
       masters = λ none. absurd (omega (arith, none));
     }
 
@@ -151,7 +151,7 @@ returns-clause-next g c honest block master =
     let old = g.S.Site.state c.args.site.now in
     let new = g.S.Site.state c.save.new.site in
     let log = c.args.log.now in (
-      c.keep.ensures.is_next new (block ∙ sym (blocks_beside log.geometry old new c.requires.going.limits c.requires.going.lengths c.save.ensures.goes (c.in-Ok.ensures.beside honest))),
+      c.keep.ensures.is_next new (block ∙ sym (blocks_beside log.geometry old new c.requires.going.limits c.requires.going.lengths c.save.ensures.preserves (c.in-Ok.ensures.beside honest))),
       subst (λ (s : Shape). c.save.new.ring.hi ≡ hi_of s (region s new)) c.save.ensures.shape
           (c.in-Ok.ensures.fits honest (subst (λ (s : Shape). c.args.masters.now.hi ≡ hi_of s (region s old)) (sym c.requires.shape) master)),
     )

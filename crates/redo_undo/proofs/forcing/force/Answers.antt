@@ -33,7 +33,7 @@ returns-clause-holds g c pages newest records table commits sizes h =
     ok_five c.force.result _ _ _ _ _ (Represents c.force.new.self pages new newest records table commits)
     (λ holds finds' reaches next empty.
     forced_holds c.log_laws.ensures c.page_laws.ensures c.beside_laws.ensures log pages site newest records table commits h sizes c.force.new.self new some c.requires.going.high
-    (record { next = next; empty = empty; kept = c.force.ensures.seals.kept; geometry = c.force.ensures.seals.geometry; holds = holds; finds = finds'; reaches = reaches; changes = changes; goes = c.force.ensures.seals.goes }))
+    (record { next = next; empty = empty; kept = c.force.ensures.seals.kept; geometry = c.force.ensures.seals.geometry; holds = holds; finds = finds'; reaches = reaches; changes = changes; preserves = c.force.ensures.seals.preserves }))
     (c.force.ensures.holds list finds ready.records) (c.force.ensures.seals.finds finds) (c.force.ensures.seals.reaches list finds ready.records) c.force.ensures.seals.next c.force.ensures.empty
 
 pub returns-then-tail_empty-clause-keeps : goal.returns-then-tail_empty-clause-keeps
@@ -60,7 +60,7 @@ returns-clause-keeps g c pages newest records table commits h =
       numbers = λ going quiet. log_skips c.ring_kept.ensures c.force.result log.geometry log c.force.new.self list (has_tail log) site new 0 (ready_next pages log list site ready) (λ tail. tail)
           (c.force.ensures.seals.any_moment list (log_fits log site quiet ready.blocks) ready.records) (c.force.ensures.seals.front list (log_fits log site quiet ready.blocks) ready.records quiet)
           (ok_both c.force.result _ _ _ (λ next empty. same_at_most log c.force.new.self some next empty) c.force.ensures.seals.next c.force.ensures.empty)
-          (log_calls c.force.result log.geometry log.ring.hi c.force.new.self.ring.hi list (has_tail log) site new (c.force.ensures.seals.changes ready.blocks.honest) (c.force.ensures.seals.reaches list ready.blocks ready.records) c.force.ensures.seals.next (c.force.ensures.seals.past ready.blocks.honest));
+          (log_calls c.force.result log.geometry log.ring.hi c.force.new.self.ring.hi list (has_tail log) site new (c.force.ensures.seals.changes ready.blocks.honest) (c.force.ensures.seals.reaches list ready.blocks ready.records) c.force.ensures.seals.next (c.force.ensures.seals.device_calls ready.blocks.honest));
       quiet = λ quiet. quiet_stops c.force.result new site quiet (λ is. ap g.S.Site.state (c.force.ensures.unchanged (inr (c.force.ensures.seals.worn.0 is).1))) c.force.ensures.seals.stops;
       worn_log = λ is. (let worn = (c.force.ensures.seals.worn.0 is).1 in log_at_end log site new ready.blocks (ap g.S.Site.state (c.force.ensures.unchanged (inr worn))) worn);
       masters = ok_as c.force.result _ (KeepsUnits master_shape site.image new.image)

@@ -3,7 +3,7 @@ use Rattle.std.specs.Prelude.{Ok, ⊤, Option}
 use Rattle.log_records.specs.Log.{log_from}
 use Rattle.checkpoint.specs.declared.master.Master.{Master}
 use Rattle.checkpoint.specs.Newest.{seen}
-use Rattle.image_meaning.specs.Meaning.{kept_by, saved_by, picture_under}
+use Rattle.image_meaning.specs.Meaning.{kept_by, saved_by, logical_image_under}
 use Rattle.analysis.specs.Read.{IsAnalysis}
 use Rattle.redo_undo.specs.Redoing.{AsksAtRest, Opening, IsOpened, asked_of, HasTaken}
 use Rattle.log_laws.proofs.LogBlocks.{block_of, log_split}
@@ -66,7 +66,7 @@ loop-block-init g c =
     }
 
 pub take_block-requires-clause-going : goal.take_block-requires-clause-going
-take_block-requires-clause-going g c = going_still c.loop-block.log c.loop-block.pages (g.S.Site.state c.loop-block.site) (g.S.Site.state c.read_block.new.site) c.read_block.ensures.reads.goes c.loop-block.invariant.works.going
+take_block-requires-clause-going g c = going_still c.loop-block.log c.loop-block.pages (g.S.Site.state c.loop-block.site) (g.S.Site.state c.read_block.new.site) c.read_block.ensures.reads.preserves c.loop-block.invariant.works.going
 
 -- One block more is read.
 
@@ -74,7 +74,7 @@ module _ (g : Over) (c : In-Ok-read_block g) where
   read_one : ReadsOne {T = ℕ} (Ok c.in-Ok-read_block.used) (g.S.Site.state c.loop-block.site) (g.S.Site.state c.read_block.new.site)
   read_one = record {
     same = c.read_block.ensures.reads.same;
-    goes = c.read_block.ensures.reads.goes;
+    preserves = c.read_block.ensures.reads.preserves;
     log_reads = c.read_block.ensures.reads.reads;
     others = c.read_block.ensures.reads.others;
     device = c.in-Ok-read_block.ensures.reads.device Log;
@@ -109,14 +109,14 @@ module _ (g : Over) (c : In-Ok-read_block g) (newest : Option Master) (blocks : 
   next =
       let found = finds c.redo_laws.ensures o c.loop-block.log c.loop-block.pages old mid c.loop-block.so_far c.loop-block.block up in
       next_block c.redo_laws.ensures o c.loop-block.log c.loop-block.pages old mid c.loop-block.so_far c.loop-block.block up read c.read_block.new.into c.in-Ok-read_block.used
-      c.read_block.ensures.reads.goes (c.read_block.ensures.reads.same up.taken.pages_are.ready.blocks.honest) inside
+      c.read_block.ensures.reads.preserves (c.read_block.ensures.reads.same up.taken.pages_are.ready.blocks.honest) inside
       (c.in-Ok-read_block.ensures.holds (record { first = kept_by newest; blocks = blocks; tail = [] }) found up.taken.pages_are.ready.records
       (let from = up.from in omega (arith, from)))
 
   asked_now : AsksAtRest {T = ⊤} (Ok tt) (asked_of o (log_from (kept_by newest) (take (c.loop-block.block - kept_by newest) blocks))) c.args.pages.now
       c.loop-block.pages old read
   asked_now = asks_with_read o c.args.pages.now c.loop-block.pages old mid read (log_from (kept_by newest) (take (c.loop-block.block - kept_by newest) blocks))
-      (c.loop-block.invariant.asked newest blocks table commits own h) c.read_block.ensures.reads.others (stages_read c.read_block.ensures.reads.same c.read_block.ensures.reads.goes)
+      (c.loop-block.invariant.asked newest blocks table commits own h) c.read_block.ensures.reads.others (stages_read c.read_block.ensures.reads.same c.read_block.ensures.reads.preserves)
 
   kept_now : Keeps (Ok c.in-Ok-read_block.used) c.args.pages.now.flash.geometry c.args.log.now c.loop-block.log old read
       (LeavesTableUnder newest c.args.pages.now.flash.geometry table commits old.told) 0 0
@@ -206,7 +206,7 @@ returns-clause-count g c newest blocks table commits own h = (all_taken g c newe
 pub returns-clause-unfinished : goal.returns-clause-unfinished
 returns-clause-unfinished g c newest blocks table commits own h =
     let table_is = (all_taken g c newest blocks table commits own h).analysis.table in
-    unfinished_by c.redo_laws.ensures (picture_under newest c.args.pages.now.flash.geometry (g.S.Site.state c.args.site.now).image blocks) h.sound.records c.loop-block.so_far.found table_is
+    unfinished_by c.redo_laws.ensures (logical_image_under newest c.args.pages.now.flash.geometry (g.S.Site.state c.args.site.now).image blocks) h.sound.records c.loop-block.so_far.found table_is
 
 pub returns-clause-asks : goal.returns-clause-asks
 returns-clause-asks g c newest blocks table commits own h =
@@ -245,7 +245,7 @@ returns-in-Err-read_block-clause-asks g c newest blocks table commits own h =
     (c.loop-block.invariant.asked newest blocks table commits own h) {A = ⊤} c.in-Err-read_block.stop [] _ (log_from (kept_by newest) blocks)
     (some_group c.requires.going)
     (log_split (kept_by newest) (c.loop-block.block - kept_by newest) c.loop-block.block blocks (omega (arith, from, c.kept-block.ensures, own_kept)) inside)
-    (stops_reading c.in-Err-read_block.stop pages mid read c.read_block.ensures.reads.others (read_refuses c.in-Err-read_block.stop c.in-Err-read_block.ensures.stops) (stages_read c.read_block.ensures.reads.same c.read_block.ensures.reads.goes))
+    (stops_reading c.in-Err-read_block.stop pages mid read c.read_block.ensures.reads.others (read_refuses c.in-Err-read_block.stop c.in-Err-read_block.ensures.stops) (stages_read c.read_block.ensures.reads.same c.read_block.ensures.reads.preserves))
 
 pub returns-in-Err-read_block-clause-keeps : goal.returns-in-Err-read_block-clause-keeps
 returns-in-Err-read_block-clause-keeps g c newest blocks table commits own h =

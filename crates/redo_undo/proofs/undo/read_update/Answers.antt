@@ -1,7 +1,7 @@
 use Rattle.std.proofs.Common.{Some, Err, sym, ap, ◌∙◌, arith}
 use Rattle.site.specs.declared.geometry.Geometry.{Geometry}
 use Rattle.log_records.specs.declared.log_record.LogRecord.TheVariants.{Update}
-use Rattle.image_meaning.specs.Meaning.{picture_under}
+use Rattle.image_meaning.specs.Meaning.{logical_image_under}
 use Rattle.redo_laws.proofs.CallsInSequence.{found_now}
 use Rattle.redo_undo.proofs.Compensations.{to_undo, read_is, wanted_is, is_there, next_below, is_one, next_late}
 use Rattle.log_records.specs.Log.{number_of, before_of}
@@ -12,7 +12,7 @@ use Rattle.redo_undo.proofs.undo.read_update.Goals as goal
 pub returns-then-at-clause-readable : goal.returns-then-at-clause-readable
 returns-then-at-clause-readable g c pages newest records table commits x sizes h unfinished at some = λ same.
     let wanted = to_undo c.page_laws.ensures c.undo_laws.ensures c.args.log.now pages (g.S.Site.state c.args.site.now) newest records table commits h x unfinished some in
-    let below = next_below (picture_under newest pages.flash.geometry (g.S.Site.state c.args.site.now).image h.log_holds.blocks) records x wanted.0.rec wanted.2 in
+    let below = next_below (logical_image_under newest pages.flash.geometry (g.S.Site.state c.args.site.now).image h.log_holds.blocks) records x wanted.0.rec wanted.2 in
     absurd (omega (arith, below, at.last, at.next, c.if-at.true))
 
 pub returns-in-Err-clause-readable : goal.returns-in-Err-clause-readable
@@ -47,7 +47,7 @@ pub returns-in_default-clause-readable : goal.returns-in_default-clause-readable
 returns-in_default-clause-readable g c pages newest records table commits x sizes h unfinished at some = λ same.
     let is = read_is c.page_laws.ensures c.undo_laws.ensures c.args.log.now pages (g.S.Site.state c.args.site.now) newest records table commits h x unfinished c.args.at.now.next c.in-Ok.rec some at.next
     (c.in-Ok.ensures.found _ (found_now h) h.log_holds.ready.records (omega arith)) in
-    is_one (picture_under newest pages.flash.geometry (g.S.Site.state c.args.site.now).image h.log_holds.blocks) records x c.in-Ok.rec is (λ txn prev page slot before after e. c.in_default.not-Update txn prev page slot before after e)
+    is_one (logical_image_under newest pages.flash.geometry (g.S.Site.state c.args.site.now).image h.log_holds.blocks) records x c.in-Ok.rec is (λ txn prev page slot before after e. c.in_default.not-Update txn prev page slot before after e)
 
 pub returns-else-page-geometry-clause-last_left : goal.returns-else-page-geometry-clause-last_left
 returns-else-page-geometry-clause-last_left g c pages newest records table commits x u rest sizes h unfinished at left =
@@ -59,6 +59,6 @@ pub returns-then-at-kept-clause-readable : goal.returns-then-at-kept-clause-read
 returns-then-at-kept-clause-readable g c pages newest records table commits x sizes h unfinished at some = λ same.
     let site = g.S.Site.state c.args.site.now in
     let wanted = to_undo c.page_laws.ensures c.undo_laws.ensures c.args.log.now pages site newest records table commits h x unfinished some in
-    let late = next_late (picture_under newest pages.flash.geometry site.image h.log_holds.blocks) records x wanted.0.rec wanted.2 in
+    let late = next_late (logical_image_under newest pages.flash.geometry site.image h.log_holds.blocks) records x wanted.0.rec wanted.2 in
     let begun = begin_kept c.page_laws.ensures c.found_laws.ensures c.undo_laws.ensures c.args.log.now pages site newest records table commits h x unfinished in
     absurd (omega (arith, late, begun, h.log_holds.kept, at.next, c.kept.ensures, c.if-at-kept.true))

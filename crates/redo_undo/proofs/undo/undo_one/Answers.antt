@@ -33,14 +33,14 @@ use Rattle.redo_undo.proofs.undo.undo_one.Goals as goal
 use Rattle.log_store.specs.declared.store.LogStore.{LogStore}
 use Rattle.page_store.specs.Caching.{rules}
 use Rattle.second_chance.specs.Machine.{rules_of}
-use Rattle.redo_undo.specs.declared.undo.Undoing.{Undoing}
+use Rattle.redo_undo.specs.declared.undo.UndoCursor.{UndoCursor}
 use Rattle.redo_undo.specs.Mirroring.{PerformsOn, clrs_for, undo_one_work}
 use Rattle.ring_machine.specs.Commands.{ends}
 use Rattle.ring_machine.proofs.Performing.{performs_by, performs_then, performs_stopped, performs_answered, performs_failed, performs_refused}
 use Rattle.redo_undo.proofs.UndoneWork.{performs_read, read_refuses}
 
 pub undo_updates-requires-clause-going : goal.undo_updates-requires-clause-going
-undo_updates-requires-clause-going g c = going_still c.args.log.now c.args.pages.now (g.S.Site.state c.args.site.now) (g.S.Site.state c.read_last.new.site) c.read_last.ensures.reads.goes c.requires.going
+undo_updates-requires-clause-going g c = going_still c.args.log.now c.args.pages.now (g.S.Site.state c.args.site.now) (g.S.Site.state c.read_last.new.site) c.read_last.ensures.reads.preserves c.requires.going
 
 -- What its Updates' undoing reads, however that ends.
 
@@ -89,7 +89,7 @@ module _ (g : Over) (c : In-Ok-undo_updates g) (newest : Option Master) (records
       keeps_few (omega arith) (keeps_then h.log_holds.ready.blocks.honest refl refl (calls_read read) (keeps_read c.requires.going.sizes h read tt)
       (c.in-Ok-undo_updates.ensures.keeps newest records table commits x still unfinished at))
 
-  performed : PerformsOn {T = Undoing} (Ok c.in-Ok-undo_updates.at) (clrs_for (left_open records x.txn)) c.args.log.now c.undo_updates.new.log c.args.pages.now c.undo_updates.new.pages old site
+  performed : PerformsOn {T = UndoCursor} (Ok c.in-Ok-undo_updates.at) (clrs_for (left_open records x.txn)) c.args.log.now c.undo_updates.new.log c.args.pages.now c.undo_updates.new.pages old site
   performed = performs_read (c.read_last.ensures.reads.same h.log_holds.ready.blocks.honest).image (c.in-Ok-undo_updates.ensures.performs newest records table commits x still unfinished at)
 
   same_rules : rules c.undo_updates.new.pages ≡ rules c.args.pages.now
@@ -110,7 +110,7 @@ module _ (g : Over) (c : In-Ok-undo_updates g) (newest : Option Master) (records
       subst (λ (t : ℕ). StepsMachine r (undo_one_works records t) pages pages' old new) own
       (asks_before c.in-Ok-undo_updates.at r (undo_one_works records x.txn) pages pages' old site new (some_group c.requires.going) same stages
       (asks_later (Ok c.in-Ok-undo_updates.at) (undo_one_works records x.txn) pages pages' old mid site (log_alone old mid c.read_last.ensures.reads.others)
-      (stages_read c.read_last.ensures.reads.same c.read_last.ensures.reads.goes)
+      (stages_read c.read_last.ensures.reads.same c.read_last.ensures.reads.preserves)
       (c.in-Ok-undo_updates.ensures.asks newest records table commits x still unfinished at)))
 
 pub returns-in-Ok-log_record : goal.returns-in-Ok-log_record
@@ -223,7 +223,7 @@ returns-in-Err-log_record g c =
 pub returns-in-Err-clause-asks : goal.returns-in-Err-clause-asks
 returns-in-Err-clause-asks g c newest records table commits x h unfinished own last =
     asks_refused c.in-Err.stop (undo_one_works records c.args.txn) c.args.pages.now _ _ (some_group c.requires.going) (log_alone _ _ c.read_last.ensures.reads.others)
-    (stages_read c.in-Err.ensures.reads.same c.in-Err.ensures.reads.goes)
+    (stages_read c.in-Err.ensures.reads.same c.in-Err.ensures.reads.preserves)
 
 pub returns-in-Err-undo_updates-clause-asks : goal.returns-in-Err-undo_updates-clause-asks
 returns-in-Err-undo_updates-clause-asks g c newest records table commits x h unfinished own last =
@@ -237,7 +237,7 @@ returns-in-Err-undo_updates-clause-asks g c newest records table commits x h unf
     let stop = c.in-Err-undo_updates.stop in
     subst (λ (t : ℕ). StepsMachine {T = ⊤} (Err stop) (undo_one_works records t) pages new old now) own
     (asks_err stop (undo_one_works records x.txn) pages new old now
-    (asks_later (Err stop) (undo_one_works records x.txn) pages new old mid now (log_alone old mid read.others) (stages_read read.same read.goes)
+    (asks_later (Err stop) (undo_one_works records x.txn) pages new old mid now (log_alone old mid read.others) (stages_read read.same read.preserves)
     (c.in-Err-undo_updates.ensures.asks newest records table commits x (held_read c.beside_laws.ensures.fits h read) unfinished at)))
 
 pub returns-in-Err-clause-keeps : goal.returns-in-Err-clause-keeps
@@ -263,4 +263,4 @@ returns-in-Err-undo_updates-clause-performs g c newest records table commits x h
     let at = c.in-Ok.ensures.at pages newest records table commits x c.requires.going.sizes h unfinished own last in
     let stop = c.in-Err-undo_updates.stop in
     subst (λ (t : ℕ). PerformsOn {T = ⊤} (Err stop) (undo_one_work records t) c.args.log.now c.undo_updates.new.log pages c.undo_updates.new.pages old now) own
-    (performs_stopped {A = Undoing} ends (performs_read (read.same h.log_holds.ready.blocks.honest).image (c.in-Err-undo_updates.ensures.performs newest records table commits x (held_read c.beside_laws.ensures.fits h read) unfinished at)))
+    (performs_stopped {A = UndoCursor} ends (performs_read (read.same h.log_holds.ready.blocks.honest).image (c.in-Err-undo_updates.ensures.performs newest records table commits x (held_read c.beside_laws.ensures.fits h read) unfinished at)))

@@ -17,7 +17,7 @@ use Rattle.ring_machine.proofs.Performing.{performs_as, performs_answered, perfo
 use Rattle.redo_undo.proofs.UndoneWork.{clr_is, performs_read, read_refuses}
 
 pub compensate-requires-clause-going : goal.compensate-requires-clause-going
-compensate-requires-clause-going g c = going_still c.args.log.now c.args.pages.now (g.S.Site.state c.args.site.now) (g.S.Site.state c.read_update.new.site) c.read_update.ensures.reads.goes c.requires.going
+compensate-requires-clause-going g c = going_still c.args.log.now c.args.pages.now (g.S.Site.state c.args.site.now) (g.S.Site.state c.read_update.new.site) c.read_update.ensures.reads.preserves c.requires.going
 
 pub returns : goal.returns
 returns g c =
@@ -28,7 +28,7 @@ returns g c =
     record {
       undone = λ newest records table commits x h unfinished at some.
           let same = c.read_update.ensures.reads.same h.log_holds.ready.blocks.honest in
-          let still = holds_still c.beside_laws.ensures.fits _ pages _ mid newest records table commits c.read_update.ensures.reads.goes same h in
+          let still = holds_still c.beside_laws.ensures.fits _ pages _ mid newest records table commits c.read_update.ensures.reads.preserves same h in
           let wanted = c.in-Ok.ensures.wanted pages newest records table commits x c.requires.going.sizes h unfinished at some in
           let there : IsWanted pages.flash.geometry mid.image newest records x w = subst (λ (i : Image). IsWanted pages.flash.geometry i newest records x w) (sym same.image) wanted in
           let may = may_compensate c.page_laws.ensures c.undo_laws.ensures _ pages mid newest records table commits still x unfinished c.args.at w c.in-Ok-compensate.last at some there in
@@ -42,7 +42,7 @@ returns g c =
       asks = λ newest records table commits x u rest h unfinished at left.
           asks_ok c.in-Ok-compensate.last _ (works_of (u ∷ [])) pages _ _ _
           (asks_of_update (Ok c.in-Ok-compensate.last) u c.in-Ok.wanted.page c.in-Ok.wanted.slot pages _ _ mid _ c.in-Ok.ensures.form.0
-          (c.in-Ok.ensures.last_left pages newest records table commits x u rest c.requires.going.sizes h unfinished at left).0 (log_alone _ mid c.read_update.ensures.reads.others) (stages_read c.read_update.ensures.reads.same c.read_update.ensures.reads.goes) c.in-Ok-compensate.ensures.asks);
+          (c.in-Ok.ensures.last_left pages newest records table commits x u rest c.requires.going.sizes h unfinished at left).0 (log_alone _ mid c.read_update.ensures.reads.others) (stages_read c.read_update.ensures.reads.same c.read_update.ensures.reads.preserves) c.in-Ok-compensate.ensures.asks);
       performs = λ newest records table commits x u rest h unfinished at left.
           let is = c.in-Ok.ensures.last_left pages newest records table commits x u rest c.requires.going.sizes h unfinished at left in
           performs_answered (performs_as (clr_is u (32 * w.page + w.slot) w.before is.0 is.1) (performs_read (c.read_update.ensures.reads.same h.log_holds.ready.blocks.honest).image
@@ -58,19 +58,19 @@ returns g c =
 pub returns-in-Err-clause-asks : goal.returns-in-Err-clause-asks
 returns-in-Err-clause-asks g c newest records table commits x u rest h unfinished at left =
     asks_refused c.in-Err.stop (works_of (u ∷ [])) _ (g.S.Site.state c.args.site.now) (g.S.Site.state c.read_update.new.site) (some_group c.requires.going)
-    (log_alone (g.S.Site.state c.args.site.now) (g.S.Site.state c.read_update.new.site) c.read_update.ensures.reads.others) (stages_read c.read_update.ensures.reads.same c.read_update.ensures.reads.goes)
+    (log_alone (g.S.Site.state c.args.site.now) (g.S.Site.state c.read_update.new.site) c.read_update.ensures.reads.others) (stages_read c.read_update.ensures.reads.same c.read_update.ensures.reads.preserves)
 
 pub returns-then-not-has_room-clause-asks : goal.returns-then-not-has_room-clause-asks
 returns-then-not-has_room-clause-asks g c newest records table commits x u rest h unfinished at left =
     asks_refused Foreign (works_of (u ∷ [])) _ (g.S.Site.state c.args.site.now) (g.S.Site.state c.read_update.new.site)
     (some_group c.requires.going)
-    (log_alone (g.S.Site.state c.args.site.now) (g.S.Site.state c.read_update.new.site) c.read_update.ensures.reads.others) (stages_read c.read_update.ensures.reads.same c.read_update.ensures.reads.goes)
+    (log_alone (g.S.Site.state c.args.site.now) (g.S.Site.state c.read_update.new.site) c.read_update.ensures.reads.others) (stages_read c.read_update.ensures.reads.same c.read_update.ensures.reads.preserves)
 
 pub returns-in-Err-compensate-clause-asks : goal.returns-in-Err-compensate-clause-asks
 returns-in-Err-compensate-clause-asks g c newest records table commits x u rest h unfinished at left =
     asks_err c.in-Err-compensate.stop (works_of (u ∷ [])) _ _ _ _
     (asks_of_update (Err c.in-Err-compensate.stop) u c.in-Ok.wanted.page c.in-Ok.wanted.slot _ _ _ _ _ c.in-Ok.ensures.form.0
-    (c.in-Ok.ensures.last_left _ newest records table commits x u rest c.requires.going.sizes h unfinished at left).0 (log_alone _ _ c.read_update.ensures.reads.others) (stages_read c.read_update.ensures.reads.same c.read_update.ensures.reads.goes) c.in-Err-compensate.ensures.asks)
+    (c.in-Ok.ensures.last_left _ newest records table commits x u rest c.requires.going.sizes h unfinished at left).0 (log_alone _ _ c.read_update.ensures.reads.others) (stages_read c.read_update.ensures.reads.same c.read_update.ensures.reads.preserves) c.in-Err-compensate.ensures.asks)
 
 pub returns-in-Err-clause-keeps : goal.returns-in-Err-clause-keeps
 returns-in-Err-clause-keeps g c newest records table commits x h unfinished at some =

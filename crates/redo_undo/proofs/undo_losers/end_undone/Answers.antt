@@ -7,7 +7,7 @@ use Rattle.redo_undo.proofs.undo_losers.end_undone.Goals as goal
 use Rattle.std.proofs.Common.{suc, ◌≡◌, ◌+◌, ℕ, List, ◌++◌, replicate}
 use Rattle.site.specs.declared.outside.Stop.TheVariants.{Worn}
 use Rattle.site.proofs.Working.{no_error}
-use Rattle.ring_machine.specs.Machine.{Work, logged}
+use Rattle.ring_machine.specs.Machine.{RingOp, logged}
 use Rattle.ring_machine.specs.Commands.{ends}
 use Rattle.ring_machine.proofs.Performing.{performs_as, performs_then, performs_stopped, performs_answered, performs_nothing}
 use Rattle.std.proofs.Common.{filter, length, ◌-◌, ap, ◌∙◌}
@@ -89,7 +89,7 @@ returns-in-Err-clause-performs g c pages newest records table commits going h =
     let left : ℕ = length (filter none_remains (listed c.loop-txn.found.table)) - 1 in
     let split : length (filter none_remains (listed c.args.found.now.table)) ≡ suc before.count + left = omega (arith, all, some) in
     let is : ends_for (listed c.args.found.now.table) ≡ (replicate before.count (logged 9) ++ ends) ++ replicate left (logged 9) =
-    ap (λ (n : ℕ). replicate n (logged 9)) split ∙ more_ends (suc before.count) left ∙ ap (λ (w : List Work). w ++ replicate left (logged 9)) (one_end before.count) in
+    ap (λ (n : ℕ). replicate n (logged 9)) split ∙ more_ends (suc before.count) left ∙ ap (λ (w : List RingOp). w ++ replicate left (logged 9)) (one_end before.count) in
     performs_as is (performs_stopped (replicate left (logged 9)) (performs_then before.made
     (c.in-Err.ensures.performs pages newest _ table commits c.loop-txn.last (inv.works.going pages going) (inv.updates pages newest records table commits going h).some.now)))
 

@@ -27,7 +27,7 @@ use Rattle.redo_undo.proofs.undo_losers.undo_all.Goals.{After-end_undone, After-
 use Rattle.redo_undo.proofs.undo_losers.undo_all.Goals as goal
 use Rattle.std.proofs.Common.{reverse, sym, ap}
 use Rattle.log_records.specs.Log.{Entry}
-use Rattle.ring_machine.specs.Machine.{Work}
+use Rattle.ring_machine.specs.Machine.{RingOp}
 use Rattle.ring_machine.specs.Restart.{undoing_work}
 use Rattle.ring_machine.proofs.Performing.{performs_answered, performs_stopped, performs_as}
 use Rattle.redo_undo.specs.Mirroring.{ends_for}
@@ -89,7 +89,7 @@ loop-next-init g c =
             let s = (goal.at.loop-next-init g c).After-end_undone in
             let ordered = order c.found_laws.ensures c.undo_laws.ensures c.args.log.now c.args.pages.now (g.S.Site.state c.args.site.now) newest records table commits c.args.found.now h is in
             let updates = c.in-Ok.ensures.updates c.args.pages.now newest records table commits c.requires.going (undoing g s newest records table commits none h is) in
-            ap (λ (w : List Work). w ++ undoing_work (reverse (pending records))) (sym (ends_are c.found_laws.ensures.one c.found_laws.ensures.unfinished records (listed c.args.found.now.table) (512 * kept_by newest) _ is ordered))
+            ap (λ (w : List RingOp). w ++ undoing_work (reverse (pending records))) (sym (ends_are c.found_laws.ensures.one c.found_laws.ensures.unfinished records (listed c.args.found.now.table) (512 * kept_by newest) _ is ordered))
             ∙ ap (λ (l : List Entry). ends_for (listed c.args.found.now.table) ++ undoing_work l) updates.left;
         performs = performs_answered (c.in-Ok.ensures.performs c.args.pages.now newest records table commits c.requires.going (undoing g (goal.at.loop-next-init g c).After-end_undone newest records table commits none h is));
       };
@@ -211,7 +211,7 @@ pub returns-in-Err-clause-performs : goal.returns-in-Err-clause-performs
 returns-in-Err-clause-performs g c newest records table commits none h is =
     let s = (goal.at.returns-in-Err-clause-performs g c).After-end_undone in
     let ordered = order c.found_laws.ensures c.undo_laws.ensures c.args.log.now c.args.pages.now (g.S.Site.state c.args.site.now) newest records table commits c.args.found.now h is in
-    performs_as (ap (λ (w : List Work). w ++ undoing_work (reverse (pending records))) (sym (ends_are c.found_laws.ensures.one c.found_laws.ensures.unfinished records (listed c.args.found.now.table) (512 * kept_by newest) _ is ordered)))
+    performs_as (ap (λ (w : List RingOp). w ++ undoing_work (reverse (pending records))) (sym (ends_are c.found_laws.ensures.one c.found_laws.ensures.unfinished records (listed c.args.found.now.table) (512 * kept_by newest) _ is ordered)))
     (performs_stopped (undoing_work (reverse (pending records))) (c.in-Err.ensures.performs c.args.pages.now newest records table commits c.requires.going (undoing g s newest records table commits none h is)))
 
 pub returns-in-Err-undo_next-clause-performs : goal.returns-in-Err-undo_next-clause-performs

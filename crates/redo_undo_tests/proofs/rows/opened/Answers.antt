@@ -13,7 +13,7 @@ returns-clause-going g c =
     let none : (if has_tail log then 1 else 0) ≡ 0 = ap {B = ℕ} (λ (b : Bool). if b then 1 else 0) (none_now log c.in_ok-log.ensures.empty) in
     record {
       log_going = going;
-      pages_going = pages_later c.in_ok-pages.pages (g.S.Site.state c.start.new.site) (g.S.Site.state c.start-2.new.site) c.start-2.ensures.reads.goes c.in_ok-pages.ensures.going;
+      pages_going = pages_later c.in_ok-pages.pages (g.S.Site.state c.start.new.site) (g.S.Site.state c.start-2.new.site) c.start-2.ensures.reads.preserves c.in_ok-pages.ensures.going;
       sizes = c.in_ok-log.ensures.geometry ∙ sym c.in_ok-pages.ensures.geometry;
       room = omega (arith, going.live, going.limits.blocks, none);
     }

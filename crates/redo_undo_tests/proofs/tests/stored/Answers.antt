@@ -10,7 +10,7 @@ returns-clause-may c =
     let sizes = ap (λ (g : Geometry). g.blocks) c.requires.going.sizes in
     record {
       going = record {
-        both = going_still c.args.log c.args.pages (state_of c.args.site.now) (state_of c.newest.new.site) c.newest.ensures.reads.goes c.requires.going;
+        both = going_still c.args.log c.args.pages (state_of c.args.site.now) (state_of c.newest.new.site) c.newest.ensures.reads.preserves c.requires.going;
         blocks = omega (arith, sixteen, c.requires.room);
         bounded = omega arith;
         masters = c.in_ok-masters.ensures.usable;

@@ -22,7 +22,7 @@ returns-clause-any_moment g c honest settled staged =
     let new = g.S.Site.state c.sync.new.self in
     then_sync old mid new (LeavesEither c.args.shape c.args.hi (region c.args.shape old)) c.args.shape.dev c.sync.result
     (opening c.args.shape c.args.hi old c.requires.fits c.requires.bounded mid c.write_at.result settled staged (c.write_at.ensures.wrote honest))
-    (c.sync.ensures.synced (stays_honest old mid c.write_at.ensures.goes honest))
+    (c.sync.ensures.synced (stays_honest old mid c.write_at.ensures.preserves honest))
 
 pub returns-clause-changes : goal.returns-clause-changes
 returns-clause-changes g c honest =
@@ -32,7 +32,7 @@ returns-clause-changes g c honest =
     let new = g.S.Site.state c.sync.new.self in
     changes_in_sequence dev old mid new
     (wrote_changes dev _ _ old mid c.write_at.result (c.write_at.ensures.wrote honest))
-    (synced_changes dev mid new c.sync.result (c.sync.ensures.synced (stays_honest old mid c.write_at.ensures.goes honest)))
+    (synced_changes dev mid new c.sync.result (c.sync.ensures.synced (stays_honest old mid c.write_at.ensures.preserves honest)))
 
 pub returns-clause-opens : goal.returns-clause-opens
 returns-clause-opens g c honest =
@@ -41,13 +41,13 @@ returns-clause-opens g c honest =
     let new = g.S.Site.state c.sync.new.self in
     on_ok c.sync.result (Opens c.args.shape c.args.hi (region c.args.shape old) (region c.args.shape new))
     (opened c.args.shape c.args.hi old c.requires.fits c.requires.bounded mid new c.sync.result (c.in_ok-write_at.ensures.wrote honest).written
-    (c.sync.ensures.synced (stays_honest old mid c.write_at.ensures.goes honest)))
+    (c.sync.ensures.synced (stays_honest old mid c.write_at.ensures.preserves honest)))
 
-pub returns-clause-past : goal.returns-clause-past
-returns-clause-past g c honest =
+pub returns-clause-device_calls : goal.returns-clause-device_calls
+returns-clause-device_calls g c honest =
     let old = g.S.Site.state c.args.site.now in
     let mid = g.S.Site.state c.write_at.new.self in
     let new = g.S.Site.state c.sync.new.self in
     let one = one_call_more _ old mid (c.in_ok-write_at.ensures.wrote honest).past_ok in
     ok_as c.sync.result _ _ (λ adds. let two = one_call_more _ mid new adds in omega (arith, one, two))
-    (c.sync.ensures.synced (stays_honest old mid c.write_at.ensures.goes honest)).past_ok
+    (c.sync.ensures.synced (stays_honest old mid c.write_at.ensures.preserves honest)).past_ok

@@ -21,7 +21,7 @@ returns-in_err-stage-clause-sealed g c honest =
       settled = search rules;
       form = λ form. search rules;
       stands = λ form. search rules;
-      past = search rules;
+      device_calls = search rules;
     }
 
 pub returns-clause-sealed : goal.returns-clause-sealed
@@ -31,7 +31,7 @@ returns-clause-sealed g c honest =
     let old = g.S.Site.state c.args.site.now in
     let mid = g.S.Site.state c.stage.new.site in
     let new = g.S.Site.state c.open.new.site in
-    let honest-mid = stays_honest old mid c.stage.ensures.writes.goes honest in
+    let honest-mid = stays_honest old mid c.stage.ensures.writes.preserves honest in
     let staged = c.stage.ensures.staged honest in
     let stages = (c.in_ok-stage.ensures.staged honest).stages in
     let settled = (c.in_ok-stage.ensures.staged honest).settled in
@@ -46,7 +46,7 @@ returns-clause-sealed g c honest =
       settled = c.open.ensures.settled honest-mid;
       form = λ form. form_ok s c.args.hi bytes (region s old) (region s mid) (region s new) c.requires.fits c.requires.bounded stages form c.open.result opens;
       stands = λ form. stands_ok s c.args.hi bytes (region s old) (region s mid) (region s new) c.requires.fits c.requires.bounded stages form c.open.result opens;
-      past =
-          let before = (c.in_ok-stage.ensures.staged honest).past in
-          ok_as c.open.result _ _ (λ opened. omega (arith, before, opened)) (c.open.ensures.past honest-mid);
+      device_calls =
+          let before = (c.in_ok-stage.ensures.staged honest).device_calls in
+          ok_as c.open.result _ _ (λ opened. omega (arith, before, opened)) (c.open.ensures.device_calls honest-mid);
     }

@@ -21,7 +21,7 @@ returns-in_err-write_at-clause-staged g c honest =
       changes = wrote_changes s.dev _ _ old mid c.write_at.result wrote;
       stages = search rules;
       settled = search rules;
-      past = search rules;
+      device_calls = search rules;
     }
 
 pub returns-in_err-write_at-2-clause-staged : goal.returns-in_err-write_at-2-clause-staged
@@ -31,7 +31,7 @@ returns-in_err-write_at-2-clause-staged g c honest =
     let mid = g.S.Site.state c.write_at.new.self in
     let late = g.S.Site.state c.write_at-2.new.self in
     let wrote = c.write_at.ensures.wrote honest in
-    let wrote-2 = c.write_at-2.ensures.wrote (stays_honest old mid c.write_at.ensures.goes honest) in
+    let wrote-2 = c.write_at-2.ensures.wrote (stays_honest old mid c.write_at.ensures.preserves honest) in
     let long : length c.spell.new.into ≡ 8 + s.room = ap length c.spell.ensures ∙ length-append (to_be_bytes w64 c.args.hi) c.args.content.now ∙ omega (arith, c.requires.may.room) in
     record {
       any_moment = λ rest. second s c.args.hi old c.requires.may.fits c.requires.may.bounded c.spell.new.into mid late c.write_at-2.result long rest
@@ -40,7 +40,7 @@ returns-in_err-write_at-2-clause-staged g c honest =
       changes = changes_in_sequence s.dev old mid late (wrote_changes s.dev _ _ old mid c.write_at.result wrote) (wrote_changes s.dev _ _ mid late c.write_at-2.result wrote-2);
       stages = search rules;
       settled = search rules;
-      past = search rules;
+      device_calls = search rules;
     }
 
 pub returns-clause-staged : goal.returns-clause-staged
@@ -50,10 +50,10 @@ returns-clause-staged g c honest =
     let mid = g.S.Site.state c.write_at.new.self in
     let late = g.S.Site.state c.write_at-2.new.self in
     let new = g.S.Site.state c.sync.new.self in
-    let honest-mid = stays_honest old mid c.write_at.ensures.goes honest in
+    let honest-mid = stays_honest old mid c.write_at.ensures.preserves honest in
     let wrote = c.write_at.ensures.wrote honest in
     let wrote-2 = c.write_at-2.ensures.wrote honest-mid in
-    let synced = c.sync.ensures.synced (stays_honest mid late c.write_at-2.ensures.goes honest-mid) in
+    let synced = c.sync.ensures.synced (stays_honest mid late c.write_at-2.ensures.preserves honest-mid) in
     let one = (c.in_ok-write_at.ensures.wrote honest).written in
     let two = (c.in_ok-write_at-2.ensures.wrote honest-mid).written in
     let long : length c.spell.new.into ≡ 8 + s.room = ap length c.spell.ensures ∙ length-append (to_be_bytes w64 c.args.hi) c.args.content.now ∙ omega (arith, c.requires.may.room) in
@@ -67,7 +67,7 @@ returns-clause-staged g c honest =
       stages = on_ok c.sync.result (Stages s c.args.hi c.args.content.now (region s old) (region s new))
           (staged s c.args.hi old c.requires.may.fits c.requires.may.bounded c.spell.new.into c.args.content.now mid late new c.sync.result c.spell.ensures c.requires.may.room one two synced);
       settled = synced_settles s.dev late new c.sync.result synced;
-      past =
+      device_calls =
           let first = one_call_more _ old mid (c.in_ok-write_at.ensures.wrote honest).past_ok in
           let second = one_call_more _ mid late (c.in_ok-write_at-2.ensures.wrote honest-mid).past_ok in
           ok_as c.sync.result _ _ (λ adds. let third = one_call_more _ late new adds in omega (arith, first, second, third)) synced.past_ok;

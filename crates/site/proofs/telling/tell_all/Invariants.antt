@@ -11,12 +11,12 @@ invariant-loop-at g l =
     let now = g.S.Site.state l.site in
     record {
       at : l.at ≤ length l.piece;
-      goes : Preserves old now;
+      preserves : Preserves old now;
       reads : SameReads old now;
       faults : faults_in now ≡ faults_in old;
       same : IsTrue old.honest → SameDevices old now;
       told : IsTrue old.honest → now.told ≡ old.told ++ take l.at l.piece;
-      past : IsTrue old.honest → TellsOnly l.at old now;
+      tells_only : IsTrue old.honest → TellsOnly l.at old now;
       any_moment : IsTrue old.honest → EachMoment old now (TellsPart l.piece old);
     }
 

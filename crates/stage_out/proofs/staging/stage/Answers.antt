@@ -32,7 +32,7 @@ returns-clause-any_moment g c honest =
     let old = g.S.Site.state c.args.site.now in
     let mid = g.S.Site.state c.write_all.new.site in
     let new = g.S.Site.state c.sync_disk.new.site in
-    let later = stays_honest old mid c.write_all.ensures.writes.goes honest in
+    let later = stays_honest old mid c.write_all.ensures.writes.preserves honest in
     left_staged c.args.pages.now old new (sync_left c.args.pages.now old mid new (c.write_all.ensures.left honest) (c.sync_disk.ensures.changes later) (c.sync_disk.ensures.any_moment later))
 
 pub returns-clause-front : goal.returns-clause-front
@@ -40,7 +40,7 @@ returns-clause-front g c geometry honest lengths quiet =
     let old = g.S.Site.state c.args.site.now in
     let mid = g.S.Site.state c.write_all.new.site in
     let new = g.S.Site.state c.sync_disk.new.site in
-    let later = stays_honest old mid c.write_all.ensures.writes.goes honest in
+    let later = stays_honest old mid c.write_all.ensures.writes.preserves honest in
     let some : 0 < length c.args.pages.now = grind arith in
     front geometry c.args.pages.now old new some lengths c.requires.lie quiet
     (left_staged c.args.pages.now old new (sync_left c.args.pages.now old mid new (c.write_all.ensures.left honest) (c.sync_disk.ensures.changes later) (c.sync_disk.ensures.any_moment later)))
@@ -50,7 +50,7 @@ returns-clause-reaches g c geometry honest lengths =
     let old = g.S.Site.state c.args.site.now in
     let mid = g.S.Site.state c.write_all.new.site in
     let new = g.S.Site.state c.sync_disk.new.site in
-    let later = stays_honest old mid c.write_all.ensures.writes.goes honest in
+    let later = stays_honest old mid c.write_all.ensures.writes.preserves honest in
     let some : 0 < length c.args.pages.now = grind arith in
     let pages = c.args.pages.now in
     let contents = c.args.contents.now in
@@ -63,7 +63,7 @@ returns-clause-changes g c honest =
     let old = g.S.Site.state c.args.site.now in
     let mid = g.S.Site.state c.write_all.new.site in
     let new = g.S.Site.state c.sync_disk.new.site in
-    let later = stays_honest old mid c.write_all.ensures.writes.goes honest in
+    let later = stays_honest old mid c.write_all.ensures.writes.preserves honest in
     changes_in_sequence Disk old mid new (c.write_all.ensures.left honest).changes (c.sync_disk.ensures.changes later)
 
 pub returns-clause-quiet : goal.returns-clause-quiet
@@ -71,7 +71,7 @@ returns-clause-quiet g c honest quiet =
     let old = g.S.Site.state c.args.site.now in
     let mid = g.S.Site.state c.write_all.new.site in
     let new = g.S.Site.state c.sync_disk.new.site in
-    let later = stays_honest old mid c.write_all.ensures.writes.goes honest in
+    let later = stays_honest old mid c.write_all.ensures.writes.preserves honest in
     let changes = changes_in_sequence Disk old mid new (c.write_all.ensures.left honest).changes (c.sync_disk.ensures.changes later) in
     on_ok_weaker c.sync_disk.result (λ settled. quiet_again Disk old new changes quiet settled) (c.sync_disk.ensures.settled later)
 

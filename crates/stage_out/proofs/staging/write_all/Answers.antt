@@ -17,7 +17,7 @@ loop-place-init g c = record {
 pub write_page-requires-clause-lies : goal.write_page-requires-clause-lies
 write_page-requires-clause-lies g c =
     let there = c.requires.lie c.loop-place.place 0 c.loop-place-test.true in
-    let size = c.loop-place.invariant.writes.goes.sizes Disk in
+    let size = c.loop-place.invariant.writes.preserves.sizes Disk in
     omega (arith, there, size)
 
 pub returns-in-Err-clause-left : goal.returns-in-Err-clause-left
@@ -25,7 +25,7 @@ returns-in-Err-clause-left g c honest =
     let old = g.S.Site.state c.args.site.now in
     let mid = g.S.Site.state c.loop-place.site in
     let new = g.S.Site.state c.write_page.new.site in
-    let later = stays_honest old mid c.loop-place.invariant.writes.goes honest in
+    let later = stays_honest old mid c.loop-place.invariant.writes.preserves honest in
     write_leaves c.args.pages.now c.args.contents.now c.loop-place.place old mid new c.loop-place-test.true (c.loop-place.invariant.written honest) (c.loop-place.invariant.left honest)
     (c.write_page.ensures.changes later) (c.write_page.ensures.any_moment later)
 
@@ -44,11 +44,11 @@ loop-place-preserved g c =
     let is : c.octets_at.result.now ≡ get_or contents place [] = c.octets_at.ensures.octets in
     record {
       left = λ honest.
-          let later = stays_honest old mid c.loop-place.invariant.writes.goes honest in
+          let later = stays_honest old mid c.loop-place.invariant.writes.preserves honest in
           write_leaves pages contents place old mid new c.loop-place-test.true (c.loop-place.invariant.written honest) (c.loop-place.invariant.left honest)
           (c.write_page.ensures.changes later) (c.write_page.ensures.any_moment later);
       written = λ honest.
-          let later = stays_honest old mid c.loop-place.invariant.writes.goes honest in
+          let later = stays_honest old mid c.loop-place.invariant.writes.preserves honest in
           write_done pages contents place old mid new c.loop-place-test.true (c.loop-place.invariant.written honest) c.requires.once c.requires.lie
           (subst (λ (b : List ℕ). length b ≡ 4096) is c.octets_at.ensures.size)
           (subst (λ (b : List ℕ). Lies Disk (4096 * get_or pages place 0) b mid new) is (c.in-Ok.ensures.written later))

@@ -22,14 +22,14 @@ returns-in-Err-list_segments-clause-foreign g c says honest first stand saved ha
     let two = g.S.Site.state c.scan_near.new.site in
     let segments = c.in-Ok.segments in
     let groups = c.in-Ok-scan_near.groups in
-    let honest_one = stays_honest old one c.in-Ok.ensures.reads.goes honest in
+    let honest_one = stays_honest old one c.in-Ok.ensures.reads.preserves honest in
     let same_one = (c.in-Ok.ensures.reads.same honest).image in
     let same_two = (c.in-Ok-scan_near.ensures.reads.same honest_one).image in
     let segments_fit : RingFits segments one = c.in-Ok.ensures.fits honest in
     let near = near_segments geometry segments one first stand saved c.group_shape.result c.group_shape.ensures (c.in-Ok.ensures.shape ∙ c.segment_shape.ensures) segments_fit
     (subst (HasGroups geometry first stand) (sym same_one) has) (subst (HasSaved geometry stand saved) (sym same_one) holds) in
     let groups_fit : RingFits groups two = c.in-Ok-scan_near.ensures.fits honest_one (subst (IsNear c.group_shape.result (region c.group_shape.result one)) (omega (arith, c.hi-2.ensures)) near) in
-    c.in-Err-list_segments.ensures.foreign (err_again _ _ says) (stays_honest one two c.in-Ok-scan_near.ensures.reads.goes honest_one) (fits_again segments one two same_two segments_fit) groups_fit
+    c.in-Err-list_segments.ensures.foreign (err_again _ _ says) (stays_honest one two c.in-Ok-scan_near.ensures.reads.preserves honest_one) (fits_again segments one two same_two segments_fit) groups_fit
     first stand saved (subst (HasGroups geometry first stand) (sym (same_two ∙ same_one)) has) (subst (HasSaved geometry stand saved) (sym (same_two ∙ same_one)) holds)
 
 pub returns-in-Err-list_tail-clause-foreign : goal.returns-in-Err-list_tail-clause-foreign
@@ -40,7 +40,7 @@ returns-in-Err-list_tail-clause-foreign g c says honest first stand saved has ho
     let two = g.S.Site.state c.scan_near.new.site in
     let segments = c.in-Ok.segments in
     let groups = c.in-Ok-scan_near.groups in
-    let honest_one = stays_honest old one c.in-Ok.ensures.reads.goes honest in
+    let honest_one = stays_honest old one c.in-Ok.ensures.reads.preserves honest in
     let same_one = (c.in-Ok.ensures.reads.same honest).image in
     let same_two = (c.in-Ok-scan_near.ensures.reads.same honest_one).image in
     let segments_fit : RingFits segments one = c.in-Ok.ensures.fits honest in
@@ -48,9 +48,9 @@ returns-in-Err-list_tail-clause-foreign g c says honest first stand saved has ho
     (subst (HasGroups geometry first stand) (sym same_one) has) (subst (HasSaved geometry stand saved) (sym same_one) holds) in
     let groups_fit : RingFits groups two = c.in-Ok-scan_near.ensures.fits honest_one (subst (IsNear c.group_shape.result (region c.group_shape.result one)) (omega (arith, c.hi-2.ensures)) near) in
     let three = g.S.Site.state c.list_segments.new.site in
-    let honest_two = stays_honest one two c.in-Ok-scan_near.ensures.reads.goes honest_one in
+    let honest_two = stays_honest one two c.in-Ok-scan_near.ensures.reads.preserves honest_one in
     let same_three = (c.in_default.ensures.reads.same honest_two).image in
-    c.in-Err-list_tail.ensures.foreign (err_again _ _ says) (stays_honest two three c.in_default.ensures.reads.goes honest_two) (fits_again groups two three same_three groups_fit)
+    c.in-Err-list_tail.ensures.foreign (err_again _ _ says) (stays_honest two three c.in_default.ensures.reads.preserves honest_two) (fits_again groups two three same_three groups_fit)
     first stand (subst (HasGroups geometry first stand) (sym (same_three ∙ same_two ∙ same_one)) has)
 
 pub returns-clause-finds : goal.returns-clause-finds
@@ -61,7 +61,7 @@ returns-clause-finds g c honest first stand saved has holds =
     let two = g.S.Site.state c.scan_near.new.site in
     let segments = c.in-Ok.segments in
     let groups = c.in-Ok-scan_near.groups in
-    let honest_one = stays_honest old one c.in-Ok.ensures.reads.goes honest in
+    let honest_one = stays_honest old one c.in-Ok.ensures.reads.preserves honest in
     let same_one = (c.in-Ok.ensures.reads.same honest).image in
     let same_two = (c.in-Ok-scan_near.ensures.reads.same honest_one).image in
     let segments_fit : RingFits segments one = c.in-Ok.ensures.fits honest in
@@ -70,8 +70,8 @@ returns-clause-finds g c honest first stand saved has holds =
     let groups_fit : RingFits groups two = c.in-Ok-scan_near.ensures.fits honest_one (subst (IsNear c.group_shape.result (region c.group_shape.result one)) (omega (arith, c.hi-2.ensures)) near) in
     let three = g.S.Site.state c.list_segments.new.site in
     let four = g.S.Site.state c.list_tail.new.site in
-    let honest_two = stays_honest one two c.in-Ok-scan_near.ensures.reads.goes honest_one in
-    let honest_three = stays_honest two three c.in_default.ensures.reads.goes honest_two in
+    let honest_two = stays_honest one two c.in-Ok-scan_near.ensures.reads.preserves honest_one in
+    let honest_three = stays_honest two three c.in_default.ensures.reads.preserves honest_two in
     let same_three = (c.in_default.ensures.reads.same honest_two).image in
     let same_four = (c.in_default-list_tail.ensures.reads.same honest_three).image in
     let has_three = subst (HasGroups geometry first stand) (sym (same_three ∙ same_two ∙ same_one)) has in
@@ -97,9 +97,9 @@ returns-clause-segments g c honest =
     let two = g.S.Site.state c.scan_near.new.site in
     let three = g.S.Site.state c.list_segments.new.site in
     let four = g.S.Site.state c.list_tail.new.site in
-    let honest_one = stays_honest (g.S.Site.state c.args.site.now) one c.in-Ok.ensures.reads.goes honest in
-    let honest_two = stays_honest one two c.in-Ok-scan_near.ensures.reads.goes honest_one in
+    let honest_one = stays_honest (g.S.Site.state c.args.site.now) one c.in-Ok.ensures.reads.preserves honest in
+    let honest_two = stays_honest one two c.in-Ok-scan_near.ensures.reads.preserves honest_one in
     let same_two = (c.in-Ok-scan_near.ensures.reads.same honest_one).image in
     let same_three = (c.in_default.ensures.reads.same honest_two).image in
-    let same_four = (c.in_default-list_tail.ensures.reads.same (stays_honest two three c.in_default.ensures.reads.goes honest_two)).image in
+    let same_four = (c.in_default-list_tail.ensures.reads.same (stays_honest two three c.in_default.ensures.reads.preserves honest_two)).image in
     fits_again c.in-Ok.segments one four (same_four ∙ same_three ∙ same_two) (c.in-Ok.ensures.fits honest)

@@ -18,7 +18,7 @@ returns-in-Err-list_row-clause-foreign g c says honest segments_fit groups_fit f
     let same = inv.reads.same honest in
     let ring = c.args.segments.now in
     let fits_mid : RingFits ring mid = fits_again ring old mid same.image segments_fit in
-    let hold = c.in-Ok.ensures.hold (stays_honest old mid inv.reads.goes honest) fits_mid saved (subst (HasSegments c.args.geometry.now saved) (sym same.image) holds.has) in
+    let hold = c.in-Ok.ensures.hold (stays_honest old mid inv.reads.preserves honest) fits_mid saved (subst (HasSegments c.args.geometry.now saved) (sym same.image) holds.has) in
     c.in-Err-list_row.ensures.foreign says (λ i. heads_with ring.hi saved (segment + i)) hold
     (row_exists c.args.geometry.now c.args.groups.now ring old first c.oldest-first.result segment c.in-Ok.count stand saved c.requires.rings groups_fit segments_fit has holds c.oldest-first.ensures inv.least
     (omega (arith, c.in-Ok.ensures.count, c.loop-segment-test.true)))
@@ -42,7 +42,7 @@ loop-segment-preserved g c =
       front = λ honest segments_fit groups_fit number stand saved has holds.
           let same = inv.reads.same honest in
           let fits_mid : RingFits ring mid = fits_again ring old mid same.image segments_fit in
-          let hold = c.in-Ok.ensures.hold (stays_honest old mid inv.reads.goes honest) fits_mid saved (subst (HasSegments c.args.geometry.now saved) (sym same.image) holds.has) in
+          let hold = c.in-Ok.ensures.hold (stays_honest old mid inv.reads.preserves honest) fits_mid saved (subst (HasSegments c.args.geometry.now saved) (sym same.image) holds.has) in
           c.in_default.ensures.front (map heads_of stand) (λ i. heads_with ring.hi saved (segment + i)) hold
           (row_goes_on c.args.geometry.now c.args.groups.now ring old number first segment count stand saved c.requires.rings groups_fit segments_fit has holds c.oldest-first.ensures inv.least most)
           (inv.front honest segments_fit groups_fit number stand saved has holds);

@@ -24,7 +24,7 @@ returns-in-Err-clause-foreign g c says honest fits first stand has =
     let ring = c.args.groups.now in
     let same = c.loop-group.invariant.reads.same honest in
     let fits_mid : RingFits ring mid = fits_again ring old mid same.image fits in
-    c.in-Err.ensures.foreign (err_again _ _ says) (stays_honest old mid c.loop-group.invariant.reads.goes honest) fits_mid first stand (subst (HasGroups c.args.geometry.now first stand) (sym same.image) has)
+    c.in-Err.ensures.foreign (err_again _ _ says) (stays_honest old mid c.loop-group.invariant.reads.preserves honest) fits_mid first stand (subst (HasGroups c.args.geometry.now first stand) (sym same.image) has)
 
 pub returns-clause-count : goal.returns-clause-count
 returns-clause-count g c =
@@ -63,7 +63,7 @@ loop-group-preserved g c =
           let less : length list < length (map heads_of stand) = let all = length-map stand heads_of in omega (arith, all, inv.count, c.loop-group-test.true, c.loop-group.auto.group-end, hi, slots, own, next) in
           let fits_mid : RingFits ring mid = fits_again ring old mid same.image fits in
           let is : heads ≡ get_or (map heads_of stand) (length list) [] =
-          c.in-Ok.ensures.heads (stays_honest old mid inv.reads.goes honest) fits_mid first stand (subst (HasGroups geometry first stand) (sym same.image) has)
+          c.in-Ok.ensures.heads (stays_honest old mid inv.reads.preserves honest) fits_mid first stand (subst (HasGroups geometry first stand) (sym same.image) has)
           ∙ ap (λ (k : ℕ). get_or (map heads_of stand) k []) at in
           subst (IsFront (map heads_of stand)) (sym items) (front_more (map heads_of stand) list heads (inv.front honest fits first stand has begun) less is);
       reads = reads_answered heads tt (length list - length c.args.list.now.items + 1) _ old new (omega (arith, inv.least, longer))

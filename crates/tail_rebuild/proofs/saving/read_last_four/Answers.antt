@@ -23,7 +23,7 @@ returns-in-Err-clause-foreign g c says honest fits first stand has =
     let old = g.S.Site.state c.args.site.now in
     let mid = g.S.Site.state c.loop-place.site in
     let same = c.loop-place.invariant.reads.same honest in
-    c.in-Err.ensures.foreign (err_again _ _ says) (stays_honest old mid c.loop-place.invariant.reads.goes honest) (fits_again c.args.groups.now old mid same.image fits)
+    c.in-Err.ensures.foreign (err_again _ _ says) (stays_honest old mid c.loop-place.invariant.reads.preserves honest) (fits_again c.args.groups.now old mid same.image fits)
     first stand (subst (HasGroups c.args.geometry.now first stand) (sym same.image) has)
 
 pub loop-place-preserved : goal.loop-place-preserved
@@ -62,7 +62,7 @@ loop-place-preserved g c =
           let at : (c.hi-from.result - 4) + place - first ≡ length stand - 4 + place = omega (arith, hi, own, next, four, number, many, room) in
           let less : length stand - 4 + place < length stand = omega (arith, live, hi, four, many, room) in
           let long = length-drop (length stand - 4) stand in
-          let read = c.in-Ok.ensures.heads (stays_honest old mid inv.reads.goes honest) (fits_again ring old mid same.image groups_fit) first stand (subst (HasGroups geometry first stand) (sym same.image) has) in
+          let read = c.in-Ok.ensures.heads (stays_honest old mid inv.reads.preserves honest) (fits_again ring old mid same.image groups_fit) first stand (subst (HasGroups geometry first stand) (sym same.image) has) in
           let is : eight ≡ heads_of (get_or (drop (length stand - 4) stand) place []) =
           read ∙ ap (λ (k : ℕ). get_or (map heads_of stand) k []) at ∙ get_or-map heads_of stand (length stand - 4 + place) [] [] less ∙ sym (ap heads_of (get_or-drop (length stand - 4) stand place [])) in
           ap (take (8 * (place + 1))) c.put_heads.ensures ∙ put_front heads eight rest place fits are.eight

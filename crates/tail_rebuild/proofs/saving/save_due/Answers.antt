@@ -42,7 +42,7 @@ returns-in-Err-append-clause-saves g c first stand saved stands =
     let is_next : groups.hi ≡ 4 * segments.hi + 4 = (sym c.hi.ensures) ∙ c.if-hi.false ∙ ap (λ (n : ℕ). 4 * n + 4) c.hi-2.ensures in
     let due : is_due groups.hi segments.hi ≡ true = eq-eqb groups.hi (4 * segments.hi + 4) is_next in
     let same = c.in-Ok.ensures.reads.same stands.honest in
-    let honest_mid = stays_honest old mid c.in-Ok.ensures.reads.goes stands.honest in
+    let honest_mid = stays_honest old mid c.in-Ok.ensures.reads.preserves stands.honest in
     let is = c.write_segment.ensures.written ∙ ap spelling_of_all (c.in-Ok.ensures.heads stands.honest stands.groups_fit first stand stands.has) in
     let size : length c.write_segment.new.content ≡ 512 = omega (arith) in
     let changes = c.append.ensures.changes honest_mid in
@@ -58,7 +58,7 @@ returns-in-Err-append-clause-changes g c honest =
     let old = g.S.Site.state c.args.site.now in
     let mid = g.S.Site.state c.read_last_four.new.site in
     changes_in_sequence Flash old mid (g.S.Site.state c.append.new.site) (unchanged_changes Flash old mid (c.in-Ok.ensures.reads.same honest))
-    (subst (λ (s : Shape). ChangesOnly s.dev mid (g.S.Site.state c.append.new.site)) c.requires.rings.segments_shape (c.append.ensures.changes (stays_honest old mid c.in-Ok.ensures.reads.goes honest)))
+    (subst (λ (s : Shape). ChangesOnly s.dev mid (g.S.Site.state c.append.new.site)) c.requires.rings.segments_shape (c.append.ensures.changes (stays_honest old mid c.in-Ok.ensures.reads.preserves honest)))
 
 pub returns-in-Err-append-clause-reads : goal.returns-in-Err-append-clause-reads
 returns-in-Err-append-clause-reads g c = omega (arith, c.append.ensures.reads Flash, c.in-Ok.ensures.reads.reads)
@@ -74,12 +74,12 @@ returns-clause-saves g c first stand saved stands =
     let is_next : groups.hi ≡ 4 * segments.hi + 4 = (sym c.hi.ensures) ∙ c.if-hi.false ∙ ap (λ (n : ℕ). 4 * n + 4) c.hi-2.ensures in
     let due : is_due groups.hi segments.hi ≡ true = eq-eqb groups.hi (4 * segments.hi + 4) is_next in
     let same = c.in-Ok.ensures.reads.same stands.honest in
-    let honest_mid = stays_honest old mid c.in-Ok.ensures.reads.goes stands.honest in
+    let honest_mid = stays_honest old mid c.in-Ok.ensures.reads.preserves stands.honest in
     let is = c.write_segment.ensures.written ∙ ap spelling_of_all (c.in-Ok.ensures.heads stands.honest stands.groups_fit first stand stands.has) in
     let size : length c.write_segment.new.content ≡ 512 = omega (arith) in
     let changes = c.append.ensures.changes honest_mid in
     let finds = finds_mid geometry groups segments first stand saved old mid c.requires.limits c.requires.lengths c.requires.rings due same stands in
-    let goes = c.append.ensures.goes in
+    let goes = c.append.ensures.preserves in
     let ready = c.in_default.ensures.ready honest_mid finds in
     let outside = c.in_default.ensures.outside honest_mid in
     let units = c.in_default.ensures.stands honest_mid finds in
@@ -100,10 +100,10 @@ returns-clause-fits g c honest groups segments =
     let geometry = c.args.geometry.now in
     let reads = c.in-Ok.ensures.reads in
     let same = (reads.same honest).image in
-    let honest_mid = stays_honest old mid reads.goes honest in
+    let honest_mid = stays_honest old mid reads.preserves honest in
     let finds = finds_later c.args.segments.now old mid same segments in
     both_found geometry c.args.groups.now c.args.segments.now c.append.new.self mid (g.S.Site.state c.append.new.site) c.write_segment.new.content c.requires.limits (subst (HasLengths geometry) (sym same) c.requires.lengths)
-    c.requires.rings.groups_shape c.requires.rings.segments_shape (omega (arith)) c.append.ensures.goes c.append.ensures.shape (c.in_default.ensures.ready honest_mid finds) (c.in_default.ensures.outside honest_mid)
+    c.requires.rings.groups_shape c.requires.rings.segments_shape (omega (arith)) c.append.ensures.preserves c.append.ensures.shape (c.in_default.ensures.ready honest_mid finds) (c.in_default.ensures.outside honest_mid)
     (c.append.ensures.changes honest_mid).only (c.in_default.ensures.stands honest_mid finds) (finds_later c.args.groups.now old mid same groups)
 
 pub returns-clause-changes : goal.returns-clause-changes
@@ -111,15 +111,15 @@ returns-clause-changes g c honest =
     let old = g.S.Site.state c.args.site.now in
     let mid = g.S.Site.state c.read_last_four.new.site in
     changes_in_sequence Flash old mid (g.S.Site.state c.append.new.site) (unchanged_changes Flash old mid (c.in-Ok.ensures.reads.same honest))
-    (subst (λ (s : Shape). ChangesOnly s.dev mid (g.S.Site.state c.append.new.site)) c.requires.rings.segments_shape (c.append.ensures.changes (stays_honest old mid c.in-Ok.ensures.reads.goes honest)))
+    (subst (λ (s : Shape). ChangesOnly s.dev mid (g.S.Site.state c.append.new.site)) c.requires.rings.segments_shape (c.append.ensures.changes (stays_honest old mid c.in-Ok.ensures.reads.preserves honest)))
 
 pub returns-clause-reads : goal.returns-clause-reads
 returns-clause-reads g c = omega (arith, c.append.ensures.reads Flash, c.in-Ok.ensures.reads.reads)
 
-pub returns-clause-past : goal.returns-clause-past
-returns-clause-past g c honest =
+pub returns-clause-device_calls : goal.returns-clause-device_calls
+returns-clause-device_calls g c honest =
     let same = ap length (c.in-Ok.ensures.reads.same honest).past in
-    let five = c.in_default.ensures.past (stays_honest (g.S.Site.state c.args.site.now) (g.S.Site.state c.read_last_four.new.site) c.in-Ok.ensures.reads.goes honest) in
+    let five = c.in_default.ensures.device_calls (stays_honest (g.S.Site.state c.args.site.now) (g.S.Site.state c.read_last_four.new.site) c.in-Ok.ensures.reads.preserves honest) in
     omega (arith, same, five)
 
 pub returns-clause-segments : goal.returns-clause-segments
@@ -127,4 +127,4 @@ returns-clause-segments g c honest fit =
     let old = g.S.Site.state c.args.site.now in
     let mid = g.S.Site.state c.read_last_four.new.site in
     let reads = c.in-Ok.ensures.reads in
-    c.in_default.ensures.fits (stays_honest old mid reads.goes honest) (fits_again c.args.segments.now old mid (reads.same honest).image fit)
+    c.in_default.ensures.fits (stays_honest old mid reads.preserves honest) (fits_again c.args.segments.now old mid (reads.same honest).image fit)

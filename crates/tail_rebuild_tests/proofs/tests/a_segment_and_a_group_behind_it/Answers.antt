@@ -4,4 +4,4 @@ use Rattle.tail_rebuild_tests.proofs.tests.a_segment_and_a_group_behind_it.Goals
 
 pub rebuild-requires-clause-lengths : goal.rebuild-requires-clause-lengths
 rebuild-requires-clause-lengths g c =
-    lengths_later _ (state_of c.scan.new.site) (state_of c.append.new.site) c.append.ensures.goes (lengths_later _ (state_of c.in_ok-site.site) (state_of c.scan.new.site) c.scan.ensures.reads.goes c.in_ok-site.ensures)
+    lengths_later _ (state_of c.scan.new.site) (state_of c.append.new.site) c.append.ensures.preserves (lengths_later _ (state_of c.in_ok-site.site) (state_of c.scan.new.site) c.scan.ensures.reads.preserves c.in_ok-site.ensures)

@@ -2,8 +2,8 @@ use Rattle.std.proofs.Common.{◌≡◌, List, ℕ, nat_eq, true, slice_set, opt
 use Rattle.std.specs.Map.{set_value}
 use Rattle.std.specs.Box.{with_value}
 use Rattle.std.proofs.lemmas.Option.{none-some}
-use Rattle.slotted_page.specs.Layout.{IsSound, Matches, slots_of}
-use Rattle.buffer_pool.specs.declared.kept.Kept.{Kept}
+use Rattle.slotted_page.specs.Layout.{IsSound, FitsPage, slots_of}
+use Rattle.buffer_pool.specs.declared.pool_entry.PoolEntry.{PoolEntry}
 use Rattle.buffer_pool.specs.Entries.{frames_in, state_in}
 use Rattle.buffer_pool.specs.Listing.{struck}
 use Rattle.buffer_pool.proofs.Known.{framed-same, knows_same}
@@ -23,7 +23,7 @@ set-requires-clause-sound c = subst IsSound
     c.in-Some-peek_mut.kept.now c.self.view_is (sym c.in-Some.ensures) c.in-Some-peek_mut.ensures.value ∙ sym c.deref_mut.ensures.value) c.requires.sound
 
 pub set-requires-clause-fits : goal.set-requires-clause-fits
-set-requires-clause-fits c = subst (λ (octets : List ℕ). Matches (slots_of octets) c.args.slot (option_copied c.args.value))
+set-requires-clause-fits c = subst (λ (octets : List ℕ). FitsPage (slots_of octets) c.args.slot (option_copied c.args.value))
     (front_content c.args.self.now c.self.inside.size c.self.inside.pages.entries (c.in-Some.page.now, c.in-Some.field-0-1.now)
     c.in-Some-peek_mut.kept.now c.self.view_is (sym c.in-Some.ensures) c.in-Some-peek_mut.ensures.value ∙ sym c.deref_mut.ensures.value) c.requires.fits
 
@@ -32,8 +32,8 @@ set-requires-clause-fits c = subst (λ (octets : List ℕ). Matches (slots_of oc
 pub invariant_of-self : goal.invariant_of-self
 invariant_of-self c =
     let es : List Entry = c.self.inside.pages.entries in
-    let kept : Kept = c.in-Some-peek_mut.kept.now in
-    let now : Kept = record { changed = kept.changed; framed = kept.framed; stamp = kept.stamp; content = with_value kept.content c.set.new.self } in (
+    let kept : PoolEntry = c.in-Some-peek_mut.kept.now in
+    let now : PoolEntry = record { changed = kept.changed; framed = kept.framed; stamp = kept.stamp; content = with_value kept.content c.set.new.self } in (
       c.self.invariant.0,
       pool-kept c.self.inside.size es c.in-Some.page.now now c.self.invariant.1,
       index_same c.self.inside.index es c.in-Some.page.now kept now refl refl refl (sym c.in-Some-peek_mut.ensures.value) c.self.invariant.2,
@@ -42,8 +42,8 @@ invariant_of-self c =
 pub returns-then-kept-clause-front : goal.returns-then-kept-clause-front
 returns-then-kept-clause-front c =
     let es : List Entry = c.self.inside.pages.entries in
-    let kept : Kept = c.in-Some-peek_mut.kept.now in
-    let now : Kept = record { changed = kept.changed; framed = kept.framed; stamp = kept.stamp; content = with_value kept.content c.set.new.self } in
+    let kept : PoolEntry = c.in-Some-peek_mut.kept.now in
+    let now : PoolEntry = record { changed = kept.changed; framed = kept.framed; stamp = kept.stamp; content = with_value kept.content c.set.new.self } in
     let n : ℕ = c.self.inside.size in
     let before : (front_of (frames_in es)).content ≡ kept.content.value =
     front_content (state_in n es) n es (c.in-Some.page.now, c.in-Some.field-0-1.now) kept refl (sym c.in-Some.ensures)
@@ -55,8 +55,8 @@ returns-then-kept-clause-front c =
 pub returns-then-kept-clause-framed : goal.returns-then-kept-clause-framed
 returns-then-kept-clause-framed c =
     let es : List Entry = c.self.inside.pages.entries in
-    let kept : Kept = c.in-Some-peek_mut.kept.now in
-    let now : Kept = record { changed = kept.changed; framed = kept.framed; stamp = kept.stamp; content = with_value kept.content c.set.new.self } in
+    let kept : PoolEntry = c.in-Some-peek_mut.kept.now in
+    let now : PoolEntry = record { changed = kept.changed; framed = kept.framed; stamp = kept.stamp; content = with_value kept.content c.set.new.self } in
     rw (← c.self.view_is) (knows_same c.self.inside.size es (set_value (nat_eq c.in-Some.page.now) es now) c.self.invariant.1.distinct
     (pool-kept c.self.inside.size es c.in-Some.page.now now c.self.invariant.1).distinct (framed-same es c.in-Some.page.now kept now (sym c.in-Some-peek_mut.ensures.value) refl))
 
@@ -65,8 +65,8 @@ returns-then-kept-clause-framed c =
 pub invariant_of-self-2 : goal.invariant_of-self-2
 invariant_of-self-2 c =
     let es : List Entry = c.self.inside.pages.entries in
-    let kept : Kept = c.in-Some-peek_mut.kept.now in
-    let now : Kept = record { changed = true; framed = kept.framed; stamp = kept.stamp; content = with_value kept.content c.set.new.self } in (
+    let kept : PoolEntry = c.in-Some-peek_mut.kept.now in
+    let now : PoolEntry = record { changed = true; framed = kept.framed; stamp = kept.stamp; content = with_value kept.content c.set.new.self } in (
       c.self.invariant.0,
       pool-kept c.self.inside.size es c.in-Some.page.now now c.self.invariant.1,
       index_stays c.self.inside.index c.strike.new.self c.list.new.self es c.in-Some.page.now kept now refl (sym c.in-Some-peek_mut.ensures.value) c.self.invariant.2
@@ -77,8 +77,8 @@ invariant_of-self-2 c =
 pub returns-clause-front : goal.returns-clause-front
 returns-clause-front c =
     let es : List Entry = c.self.inside.pages.entries in
-    let kept : Kept = c.in-Some-peek_mut.kept.now in
-    let now : Kept = record { changed = true; framed = kept.framed; stamp = kept.stamp; content = with_value kept.content c.set.new.self } in
+    let kept : PoolEntry = c.in-Some-peek_mut.kept.now in
+    let now : PoolEntry = record { changed = true; framed = kept.framed; stamp = kept.stamp; content = with_value kept.content c.set.new.self } in
     let n : ℕ = c.self.inside.size in
     let before : (front_of (frames_in es)).content ≡ kept.content.value =
     front_content (state_in n es) n es (c.in-Some.page.now, c.in-Some.field-0-1.now) kept refl (sym c.in-Some.ensures)
@@ -90,7 +90,7 @@ returns-clause-front c =
 pub returns-clause-framed : goal.returns-clause-framed
 returns-clause-framed c =
     let es : List Entry = c.self.inside.pages.entries in
-    let kept : Kept = c.in-Some-peek_mut.kept.now in
-    let now : Kept = record { changed = true; framed = kept.framed; stamp = kept.stamp; content = with_value kept.content c.set.new.self } in
+    let kept : PoolEntry = c.in-Some-peek_mut.kept.now in
+    let now : PoolEntry = record { changed = true; framed = kept.framed; stamp = kept.stamp; content = with_value kept.content c.set.new.self } in
     rw (← c.self.view_is) (knows_same c.self.inside.size es (set_value (nat_eq c.in-Some.page.now) es now) c.self.invariant.1.distinct
     (pool-kept c.self.inside.size es c.in-Some.page.now now c.self.invariant.1).distinct (framed-same es c.in-Some.page.now kept now (sym c.in-Some-peek_mut.ensures.value) refl))

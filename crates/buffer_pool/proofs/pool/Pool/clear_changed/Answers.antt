@@ -1,7 +1,7 @@
 use Rattle.std.proofs.Common.{◌≡◌, nat_eq, List, None, false, is_some, refl, ap, sym, ◌∙◌}
 use Rattle.std.specs.Map.{set_value}
 use Rattle.std.proofs.lemmas.Bool.{true≢false}
-use Rattle.buffer_pool.specs.declared.kept.Kept.{Kept}
+use Rattle.buffer_pool.specs.declared.pool_entry.PoolEntry.{PoolEntry}
 use Rattle.buffer_pool.specs.Entries.{framed_pages}
 use Rattle.buffer_pool.specs.Frames.{State, frame_of}
 use Rattle.buffer_pool.specs.Listing.{struck, enlisted}
@@ -19,8 +19,8 @@ unreachable-requires c =
 pub invariant_of-self : goal.invariant_of-self
 invariant_of-self c =
     let es : List Entry = c.self.inside.pages.entries in
-    let kept : Kept = c.in-Some.kept.now in
-    let now : Kept = record { changed = false; framed = kept.framed; stamp = kept.stamp; content = kept.content } in (
+    let kept : PoolEntry = c.in-Some.kept.now in
+    let now : PoolEntry = record { changed = false; framed = kept.framed; stamp = kept.stamp; content = kept.content } in (
       c.self.invariant.0,
       pool-kept c.self.inside.size es c.args.page now c.self.invariant.1,
       index_stays c.self.inside.index c.strike.new.self c.list.new.self es c.args.page kept now refl (sym c.in-Some.ensures.value) c.self.invariant.2
@@ -31,16 +31,16 @@ invariant_of-self c =
 pub returns-clause-after : goal.returns-clause-after
 returns-clause-after c =
     let es : List Entry = c.self.inside.pages.entries in
-    let kept : Kept = c.in-Some.kept.now in
-    let now : Kept = record { changed = false; framed = kept.framed; stamp = kept.stamp; content = kept.content } in
+    let kept : PoolEntry = c.in-Some.kept.now in
+    let now : PoolEntry = record { changed = false; framed = kept.framed; stamp = kept.stamp; content = kept.content } in
     rw (← c.self.view_is) (ap (state c.self.inside.size (framed_pages (set_value (nat_eq c.args.page) es now)))
     (frames-cleared es c.args.page kept now refl refl c.self.invariant.1.distinct (sym c.in-Some.ensures.value)))
 
 pub returns-clause-framed : goal.returns-clause-framed
 returns-clause-framed c =
     let es : List Entry = c.self.inside.pages.entries in
-    let kept : Kept = c.in-Some.kept.now in
-    let now : Kept = record { changed = false; framed = kept.framed; stamp = kept.stamp; content = kept.content } in
+    let kept : PoolEntry = c.in-Some.kept.now in
+    let now : PoolEntry = record { changed = false; framed = kept.framed; stamp = kept.stamp; content = kept.content } in
     rw (← c.self.view_is) (knows_same c.self.inside.size es (set_value (nat_eq c.args.page) es now) c.self.invariant.1.distinct
     (pool-kept c.self.inside.size es c.args.page now c.self.invariant.1).distinct (framed-same es c.args.page kept now (sym c.in-Some.ensures.value) refl))
 

@@ -1,6 +1,6 @@
 use Rattle.std.proofs.Common.{◌≡◌, ◌<◌, ◌∷◌, nat_eq, List, None, false, length, arith, refl, ap, sym, ◌∙◌}
 use Rattle.lru.specs.LruCache.{put_entries}
-use Rattle.buffer_pool.specs.declared.kept.Kept.{Kept}
+use Rattle.buffer_pool.specs.declared.pool_entry.PoolEntry.{PoolEntry}
 use Rattle.buffer_pool.specs.Entries.{frames_in, framed_pages, state_in}
 use Rattle.buffer_pool.specs.Frames.{State, IsPool, Knows, frame_of}
 use Rattle.buffer_pool.specs.Listing.{IsIndex}
@@ -12,7 +12,7 @@ use Rattle.buffer_pool.proofs.pool.Pool.put.Goals as goal
 pub invariant_of-self-2 : goal.invariant_of-self-2
 invariant_of-self-2 c =
     let es : List Entry = c.self.inside.pages.entries in
-    let kept : Kept = record { changed = false; framed = c.args.framed; stamp = c.self.inside.index.next; content = c.in_ok-new.field-0 } in
+    let kept : PoolEntry = record { changed = false; framed = c.args.framed; stamp = c.self.inside.index.next; content = c.in_ok-new.field-0 } in
     let none : frame_of (frames_in es) c.args.page ≡ None = ap (λ (p : State). frame_of p.frames c.args.page) c.self.view_is ∙ c.requires.absent in
     let frames : frames_in es ≡ c.args.self.now.frames = ap (λ (p : State). p.frames) c.self.view_is in
     let size : c.self.inside.size ≡ c.args.self.now.size = ap (λ (p : State). p.size) c.self.view_is in
@@ -27,7 +27,7 @@ invariant_of-self-2 c =
 pub returns-clause-ok : goal.returns-clause-ok
 returns-clause-ok c =
     let es : List Entry = c.self.inside.pages.entries in
-    let kept : Kept = record { changed = false; framed = c.args.framed; stamp = c.self.inside.index.next; content = c.in_ok-new.field-0 } in
+    let kept : PoolEntry = record { changed = false; framed = c.args.framed; stamp = c.self.inside.index.next; content = c.in_ok-new.field-0 } in
     let none : frame_of (frames_in es) c.args.page ≡ None = ap (λ (p : State). frame_of p.frames c.args.page) c.self.view_is ∙ c.requires.absent in
     let frames : frames_in es ≡ c.args.self.now.frames = ap (λ (p : State). p.frames) c.self.view_is in
     let size : c.self.inside.size ≡ c.args.self.now.size = ap (λ (p : State). p.size) c.self.view_is in
@@ -41,7 +41,7 @@ returns-clause-ok c =
 pub returns-clause-framed : goal.returns-clause-framed
 returns-clause-framed c =
     let es : List Entry = c.self.inside.pages.entries in
-    let kept : Kept = record { changed = false; framed = c.args.framed; stamp = c.self.inside.index.next; content = c.in_ok-new.field-0 } in
+    let kept : PoolEntry = record { changed = false; framed = c.args.framed; stamp = c.self.inside.index.next; content = c.in_ok-new.field-0 } in
     let none : frame_of (frames_in es) c.args.page ≡ None = ap (λ (p : State). frame_of p.frames c.args.page) c.self.view_is ∙ c.requires.absent in
     let frames : frames_in es ≡ c.args.self.now.frames = ap (λ (p : State). p.frames) c.self.view_is in
     let size : c.self.inside.size ≡ c.args.self.now.size = ap (λ (p : State). p.size) c.self.view_is in

@@ -2,7 +2,7 @@ use Rattle.std.proofs.Common.{◌≡◌, nat_eq, List, None, is_some, refl, ap, 
 use Rattle.std.specs.Map.{set_value}
 use Rattle.std.proofs.lemmas.Bool.{true≢false}
 use Rattle.std.proofs.lemmas.Option.{none-some}
-use Rattle.buffer_pool.specs.declared.kept.Kept.{Kept}
+use Rattle.buffer_pool.specs.declared.pool_entry.PoolEntry.{PoolEntry}
 use Rattle.buffer_pool.specs.Entries.{framed_pages}
 use Rattle.buffer_pool.specs.Frames.{State, frame_of}
 use Rattle.buffer_pool.specs.Listing.{struck, enlisted}
@@ -20,8 +20,8 @@ returns-in_default-clause-framed c some =
 pub invariant_of-self-2 : goal.invariant_of-self-2
 invariant_of-self-2 c =
     let es : List Entry = c.self.inside.pages.entries in
-    let kept : Kept = c.in-Some.kept.now in
-    let now : Kept = record { changed = kept.changed; framed = c.args.framed; stamp = kept.stamp; content = kept.content } in (
+    let kept : PoolEntry = c.in-Some.kept.now in
+    let now : PoolEntry = record { changed = kept.changed; framed = c.args.framed; stamp = kept.stamp; content = kept.content } in (
       c.self.invariant.0,
       pool-kept c.self.inside.size es c.args.page now c.self.invariant.1,
       index_stays c.self.inside.index c.strike.new.self c.list.new.self es c.args.page kept now refl (sym c.in-Some.ensures.value) c.self.invariant.2
@@ -32,16 +32,16 @@ invariant_of-self-2 c =
 pub returns-clause-kept : goal.returns-clause-kept
 returns-clause-kept c =
     let es : List Entry = c.self.inside.pages.entries in
-    let kept : Kept = c.in-Some.kept.now in
-    let now : Kept = record { changed = kept.changed; framed = c.args.framed; stamp = kept.stamp; content = kept.content } in
+    let kept : PoolEntry = c.in-Some.kept.now in
+    let now : PoolEntry = record { changed = kept.changed; framed = c.args.framed; stamp = kept.stamp; content = kept.content } in
     rw (← c.self.view_is) (ap (state c.self.inside.size (framed_pages (set_value (nat_eq c.args.page) es now)))
     (frames-kept es c.args.page kept now refl refl (sym c.in-Some.ensures.value)))
 
 pub returns-clause-framed : goal.returns-clause-framed
 returns-clause-framed c some =
     let es : List Entry = c.self.inside.pages.entries in
-    let kept : Kept = c.in-Some.kept.now in
-    let now : Kept = record { changed = kept.changed; framed = c.args.framed; stamp = kept.stamp; content = kept.content } in
+    let kept : PoolEntry = c.in-Some.kept.now in
+    let now : PoolEntry = record { changed = kept.changed; framed = c.args.framed; stamp = kept.stamp; content = kept.content } in
     rw (← c.self.view_is) (knows c.self.inside.size c.args.page c.args.framed es (set_value (nat_eq c.args.page) es now) c.self.invariant.1.distinct
     (pool-kept c.self.inside.size es c.args.page now c.self.invariant.1).distinct (framed-set es c.args.page kept now (sym c.in-Some.ensures.value)))
 

@@ -1,6 +1,6 @@
 use Rattle.std.proofs.Common.{List, nat_eq, false, ap, sym, subst, ◌∙◌}
 use Rattle.std.specs.Map.{remove_entry}
-use Rattle.buffer_pool.specs.declared.kept.Kept.{Kept}
+use Rattle.buffer_pool.specs.declared.pool_entry.PoolEntry.{PoolEntry}
 use Rattle.buffer_pool.specs.Entries.{framed_pages, state_in}
 use Rattle.buffer_pool.specs.Listing.{IsIndex, struck}
 use Rattle.buffer_pool.proofs.Known.{framed-removed, knows}
@@ -41,7 +41,7 @@ returns-in_err-kept-clause-framed c =
 pub invariant_of-self-2 : goal.invariant_of-self-2
 invariant_of-self-2 c =
     let es : List Entry = c.self.inside.pages.entries in
-    let kept : Kept = c.in_ok-kept.kept in
+    let kept : PoolEntry = c.in_ok-kept.kept in
     rw c.pop.ensures.entries (
       c.self.invariant.0,
       pool-remove_entry c.self.inside.size es c.args.page c.self.invariant.1,

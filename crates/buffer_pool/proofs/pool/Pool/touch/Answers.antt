@@ -2,7 +2,7 @@ use Rattle.std.proofs.Common.{◌≡◌, ◌<◌, ◌∷◌, nat_eq, List, lengt
 use Rattle.std.specs.Map.{lookup, remove_entry, set_value}
 use Rattle.lru.specs.LruCache.{promoted}
 use Rattle.buffer_pool.specs.declared.frame.Frame.{Frame}
-use Rattle.buffer_pool.specs.declared.kept.Kept.{Kept}
+use Rattle.buffer_pool.specs.declared.pool_entry.PoolEntry.{PoolEntry}
 use Rattle.buffer_pool.specs.Entries.{frames_in, framed_pages, state_in}
 use Rattle.buffer_pool.specs.Frames.{IsPool, KnowsSame, frame_of, touched, front_of}
 use Rattle.buffer_pool.specs.Listing.{IsIndex, struck, enlisted}
@@ -30,8 +30,8 @@ returns-in_default-clause-absent c = λ is. rw (← c.self.view_is) (missing c.s
 pub invariant_of-self-2 : goal.invariant_of-self-2
 invariant_of-self-2 c =
     let es : List Entry = c.self.inside.pages.entries in
-    let kept : Kept = c.in-Some.kept.now in
-    let now : Kept = record { changed = kept.changed; framed = kept.framed; stamp = c.add-kept.result; content = kept.content } in
+    let kept : PoolEntry = c.in-Some.kept.now in
+    let now : PoolEntry = record { changed = kept.changed; framed = kept.framed; stamp = c.add-kept.result; content = kept.content } in
     let is : lookup (nat_eq c.args.page) es ≡ Some kept = sym c.in-Some.ensures.value in
     let entries : set_value (nat_eq c.args.page) (promoted (nat_eq c.args.page) es) now ≡ (c.args.page, now) ∷ remove_entry (nat_eq c.args.page) es = set_promoted es c.args.page kept now is in
     let left = index_leaves c.self.inside.index c.strike.new.self es c.args.page kept is c.self.invariant.2
@@ -49,8 +49,8 @@ returns-clause-found c = rw (← c.self.view_is, found c.self.inside.pages.entri
 pub returns-clause-after : goal.returns-clause-after
 returns-clause-after c =
     let es : List Entry = c.self.inside.pages.entries in
-    let kept : Kept = c.in-Some.kept.now in
-    let now : Kept = record { changed = kept.changed; framed = kept.framed; stamp = c.add-kept.result; content = kept.content } in
+    let kept : PoolEntry = c.in-Some.kept.now in
+    let now : PoolEntry = record { changed = kept.changed; framed = kept.framed; stamp = c.add-kept.result; content = kept.content } in
     let is : lookup (nat_eq c.args.page) es ≡ Some kept = sym c.in-Some.ensures.value in
     let entries : set_value (nat_eq c.args.page) (promoted (nat_eq c.args.page) es) now ≡ (c.args.page, now) ∷ remove_entry (nat_eq c.args.page) es = set_promoted es c.args.page kept now is in
     let after : state_in c.self.inside.size ((c.args.page, now) ∷ remove_entry (nat_eq c.args.page) es)
@@ -61,8 +61,8 @@ returns-clause-after c =
 pub returns-clause-framed : goal.returns-clause-framed
 returns-clause-framed c =
     let es : List Entry = c.self.inside.pages.entries in
-    let kept : Kept = c.in-Some.kept.now in
-    let now : Kept = record { changed = kept.changed; framed = kept.framed; stamp = c.add-kept.result; content = kept.content } in
+    let kept : PoolEntry = c.in-Some.kept.now in
+    let now : PoolEntry = record { changed = kept.changed; framed = kept.framed; stamp = c.add-kept.result; content = kept.content } in
     let is : lookup (nat_eq c.args.page) es ≡ Some kept = sym c.in-Some.ensures.value in
     let entries : set_value (nat_eq c.args.page) (promoted (nat_eq c.args.page) es) now ≡ (c.args.page, now) ∷ remove_entry (nat_eq c.args.page) es = set_promoted es c.args.page kept now is in
     let same : KnowsSame (state_in c.self.inside.size es) (state_in c.self.inside.size ((c.args.page, now) ∷ remove_entry (nat_eq c.args.page) es)) =
@@ -76,8 +76,8 @@ returns-clause-pool c = (invariant_of-self-2 c).1
 pub returns-clause-front : goal.returns-clause-front
 returns-clause-front c = λ really.
     let es : List Entry = c.self.inside.pages.entries in
-    let kept : Kept = c.in-Some.kept.now in
-    let now : Kept = record { changed = kept.changed; framed = kept.framed; stamp = c.add-kept.result; content = kept.content } in
+    let kept : PoolEntry = c.in-Some.kept.now in
+    let now : PoolEntry = record { changed = kept.changed; framed = kept.framed; stamp = c.add-kept.result; content = kept.content } in
     let is : lookup (nat_eq c.args.page) es ≡ Some kept = sym c.in-Some.ensures.value in
     let entries : set_value (nat_eq c.args.page) (promoted (nat_eq c.args.page) es) now ≡ (c.args.page, now) ∷ remove_entry (nat_eq c.args.page) es = set_promoted es c.args.page kept now is in
     let frames = frames-renewed es c.args.page kept now c.self.invariant.1.distinct is refl refl in
@@ -88,8 +88,8 @@ returns-clause-front c = λ really.
 pub returns-clause-there : goal.returns-clause-there
 returns-clause-there c = λ really.
     let es : List Entry = c.self.inside.pages.entries in
-    let kept : Kept = c.in-Some.kept.now in
-    let now : Kept = record { changed = kept.changed; framed = kept.framed; stamp = c.add-kept.result; content = kept.content } in
+    let kept : PoolEntry = c.in-Some.kept.now in
+    let now : PoolEntry = record { changed = kept.changed; framed = kept.framed; stamp = c.add-kept.result; content = kept.content } in
     let is : lookup (nat_eq c.args.page) es ≡ Some kept = sym c.in-Some.ensures.value in
     let entries : set_value (nat_eq c.args.page) (promoted (nat_eq c.args.page) es) now ≡ (c.args.page, now) ∷ remove_entry (nat_eq c.args.page) es = set_promoted es c.args.page kept now is in
     let frames = frames-renewed es c.args.page kept now c.self.invariant.1.distinct is refl refl in

@@ -12,7 +12,7 @@ use Rattle.txn_table.specs.declared.active.Active.{Active}
 use Rattle.txn_table.specs.Entries.{IsTable, entry_of}
 use Rattle.engine.specs.declared.engine.Engine.{Engine}
 use Rattle.engine.specs.Representation.{Matches, IsCarriedOut}
-use Rattle.engine.specs.Calls.{Does}
+use Rattle.engine.specs.Calls.{CommandEffect}
 use Rattle.engine.proofs.Actives.{some_active}
 use Rattle.txn_table.proofs.Owing.{entry_is}
 use Rattle.engine.proofs.Replies.{carried_out, wants_active_is, refused_session}
@@ -27,8 +27,8 @@ runs engine site s n entry fits at =
     let found = some_active fits.newest fits.records engine.active s fits.sessions n entry at in
     carried_out s (Abort n) refl (wants_active_is s n found.session found.is) refl
 
-of_session : {r : Result Reply Stop} {old new : Engine} {before now : Site} {s : State} {P : Snapshot → Type 0} (n k : ℕ) → n ≡ k → Does r old new before now s (effect s (Abort n)) P 0 → Does r old new before now s (effect s (Abort k)) P 0
-of_session {r = r} {old = old} {new = new} {before = before} {now = now} {s = s} {P = P} n k same does = subst (λ (j : ℕ). Does r old new before now s (effect s (Abort j)) P 0) same does
+of_session : {r : Result Reply Stop} {old new : Engine} {before now : Site} {s : State} {P : Snapshot → Type 0} (n k : ℕ) → n ≡ k → CommandEffect r old new before now s (effect s (Abort n)) P 0 → CommandEffect r old new before now s (effect s (Abort k)) P 0
+of_session {r = r} {old = old} {new = new} {before = before} {now = now} {s = s} {P = P} n k same does = subst (λ (j : ℕ). CommandEffect r old new before now s (effect s (Abort j)) P 0) same does
 
 pub carry_out_abort-requires-clause-active : goal.carry_out_abort-requires-clause-active
 carry_out_abort-requires-clause-active g c =

@@ -1,6 +1,6 @@
 use Rattle.engine.specs.LogReads.{undo_reads}
 use Rattle.record_model.specs.State.{Session, writes_of}
-use Rattle.record_model.specs.Touches.{write_touch, CacheWork}
+use Rattle.record_model.specs.Touches.{write_touch, CacheOp}
 use Rattle.redo_laws.proofs.Asking.{asks_same, asks_ok, asks_err}
 use Rattle.std.proofs.Common.{refl, sym, arith, ap, Option, Some, List, map, reverse, length}
 use Rattle.site.specs.Laws.{stays_honest}
@@ -37,7 +37,7 @@ returns-in-Ok-clause-does g c s fits =
     let part = owes engine.active c.args.entry.session c.args.entry c.requires.going.table c.requires.active in
     let mid : Engine = record engine { store = c.roll_back.new.self } in
     does_of (omega (arith, count, ap (λ (o : Option Session). length (writes_of o)) found.is))
-    (aborted_fits engine mid _ _ _ s c.args.entry fits c.requires.going.table c.requires.active (stays_honest _ _ c.roll_back.ensures.works.calls.goes fits.honest) (c.in-Ok.ensures.undone fits.newest fits.records s.table s.commits fits.holds found.session.writes found.under_way.is_active count)
+    (aborted_fits engine mid _ _ _ s c.args.entry fits c.requires.going.table c.requires.active (stays_honest _ _ c.roll_back.ensures.works.calls.preserves fits.honest) (c.in-Ok.ensures.undone fits.newest fits.records s.table s.commits fits.holds found.session.writes found.under_way.is_active count)
     refl c.in-Ok.ensures.works.made c.release.ensures c.remove.ensures.entry c.remove.ensures.owed refl refl refl)
     (keeps_answered (c.in-Ok.ensures.keeps fits.newest fits.records s.table s.commits fits.holds found.session.writes found.under_way.is_active count (omega (arith, fits.sessions.owes, c.owed.ensures, part))))
 
@@ -49,7 +49,7 @@ returns-in-Err-clause-does g c s fits =
     let part = owes c.args.self.now.active c.args.entry.session c.args.entry c.requires.going.table c.requires.active in
     does_of (omega (arith, count, many)) tt (keeps_failed (c.in-Err.ensures.keeps fits.newest fits.records s.table s.commits fits.holds found.session.writes found.under_way.is_active count (omega (arith, fits.sessions.owes, c.owed.ensures, part))))
 
-undone_by : Option Session → List CacheWork
+undone_by : Option Session → List CacheOp
 undone_by o = map (λ write. write_touch write.0) (reverse (writes_of o))
 
 pub returns-in-Err-clause-asks : goal.returns-in-Err-clause-asks

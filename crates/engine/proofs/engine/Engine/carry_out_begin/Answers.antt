@@ -26,7 +26,7 @@ returns-clause-does g c s fits =
     let count = fits.sessions.count in
     let small = c.requires.may.session in
     does_of (omega arith) (record {
-      honest = stays_honest _ (g.S.Site.state c.begin.new.site) c.begin.ensures.works.calls.goes fits.honest;
+      honest = stays_honest _ (g.S.Site.state c.begin.new.site) c.begin.ensures.works.calls.preserves fits.honest;
       newest = fits.newest;
       records = fits.records ++ begin_at _ ∷ [];
       holds = c.in-Ok.ensures.holds fits.newest fits.records s.table s.commits fits.holds may;

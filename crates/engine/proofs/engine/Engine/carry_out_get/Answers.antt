@@ -24,12 +24,12 @@ returns-in-Ok g c =
     record {
       reply = λ s fits.
           let holds = c.in-Ok.ensures.holds fits.newest fits.records s.table s.commits fits.holds in
-          let fits_mid : Matches mid _ s = touched_fits engine c.touch.new.self _ _ s fits (stays_honest _ _ c.touch.ensures.works.calls.goes fits.honest) holds c.touch.ensures.made in
+          let fits_mid : Matches mid _ s = touched_fits engine c.touch.new.self _ _ s fits (stays_honest _ _ c.touch.ensures.works.calls.preserves fits.honest) holds c.touch.ensures.made in
           let free : model.busy_read s None number ≡ None = sym (busy_read_is engine.locks s fits.locks_are None number) ∙ c.requires.may.free in
           c.found.ensures ∙ ap found (c.shown.ensures.shown _ fits.newest fits.records s.table s.commits holds ∙ sym (got_is mid _ s fits_mid number c.requires.going.table less free));
       does = λ s fits.
           let holds = c.in-Ok.ensures.holds fits.newest fits.records s.table s.commits fits.holds in
-          does_of (omega arith) (touched_fits c.args.self.now c.touch.new.self _ _ s fits (stays_honest _ _ c.touch.ensures.works.calls.goes fits.honest) holds c.touch.ensures.made)
+          does_of (omega arith) (touched_fits c.args.self.now c.touch.new.self _ _ s fits (stays_honest _ _ c.touch.ensures.works.calls.preserves fits.honest) holds c.touch.ensures.made)
           (keeps_answered (c.in-Ok.ensures.keeps fits.newest fits.records s.table s.commits fits.holds));
       serves = record {
         keeps = serves_still c.requires.going (works_answered c.in-Ok.ensures.works) refl refl refl (omega (arith, c.requires.going.budget)) (omega (arith, c.requires.going.commits, c.in-Ok.ensures.works.rises));

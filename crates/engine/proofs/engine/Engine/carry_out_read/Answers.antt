@@ -27,12 +27,12 @@ returns-in-Ok-add g c =
     record {
       content = λ s fits.
           let holds = c.in-Ok.ensures.holds fits.newest fits.records s.table s.commits fits.holds in
-          let fits_mid : Matches mid _ s = touched_fits engine c.touch.new.self _ _ s fits (stays_honest _ _ c.touch.ensures.works.calls.goes fits.honest) holds c.touch.ensures.made in
+          let fits_mid : Matches mid _ s = touched_fits engine c.touch.new.self _ _ s fits (stays_honest _ _ c.touch.ensures.works.calls.preserves fits.honest) holds c.touch.ensures.made in
           let free : model.busy_read s (Some n) number ≡ None = sym (busy_read_is engine.locks s fits.locks_are (Some n) number) ∙ c.requires.may.shown.free in
           c.shown.ensures.shown _ fits.newest fits.records s.table s.commits holds ∙ sym (seen_is mid _ s fits_mid n number own.own c.requires.going.table less own.is free);
       does = λ s fits.
           let holds = c.in-Ok.ensures.holds fits.newest fits.records s.table s.commits fits.holds in
-          let fits_mid : Matches mid _ s = touched_fits engine c.touch.new.self _ _ s fits (stays_honest _ _ c.touch.ensures.works.calls.goes fits.honest) holds c.touch.ensures.made in
+          let fits_mid : Matches mid _ s = touched_fits engine c.touch.new.self _ _ s fits (stays_honest _ _ c.touch.ensures.works.calls.preserves fits.honest) holds c.touch.ensures.made in
           does_of (omega arith) (read_fits mid c.add.new.self _ s c.args.session number own.own fits_mid c.requires.going.table own.is c.in-Ok-add.ensures.ok)
           (keeps_answered (c.in-Ok.ensures.keeps fits.newest fits.records s.table s.commits fits.holds));
       serves = record {

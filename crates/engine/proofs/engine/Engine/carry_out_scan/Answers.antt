@@ -10,7 +10,7 @@ use Rattle.engine.specs.Invariant.{sizes_of}
 use Rattle.engine.specs.Representation.{with_reads}
 use Rattle.engine.specs.Leaves.{LeavesTable}
 use Rattle.engine.specs.Scans.{items_seen}
-use Rattle.engine.specs.Calls.{Does}
+use Rattle.engine.specs.Calls.{CommandEffect}
 use Rattle.engine.proofs.Asking.{scan_more, scan_stops, has_group}
 use Rattle.engine.proofs.Scans.{free_at, still_busy, reads_none, reads_more, range_more, items_next}
 use Rattle.engine.proofs.Calling.{does_nothing, does_answered, does_failed, does_then, does_no_memory, late_table, serves_nothing, serves_answered, serves_then, serves_failed, serves_no_memory, still}
@@ -29,7 +29,7 @@ loop-offset-init g c =
       active = refl;
       busy = λ r. refl;
       kept = refl;
-      does = λ s fits. subst (λ (u : State). Does {T = Unit {0}} (Ok tt) c.args.self.now c.args.self.now old old s u (LeavesTable (sizes_of c.args.self.now.store) s.table s.commits old.told) 0) (sym (reads_none s c.args.session)) (does_nothing fits c.requires.going (still c.hold_together.ensures.moment fits c.requires.going));
+      does = λ s fits. subst (λ (u : State). CommandEffect {T = Unit {0}} (Ok tt) c.args.self.now c.args.self.now old old s u (LeavesTable (sizes_of c.args.self.now.store) s.table s.commits old.told) 0) (sym (reads_none s c.args.session)) (does_nothing fits c.requires.going (still c.hold_together.ensures.moment fits c.requires.going));
       items = λ s fits. c.new-items.ensures;
       asks = no_asks c.args.self.now.store.pages old;
       performs = λ s fits. performs_rest refl;
@@ -62,7 +62,7 @@ loop-offset-preserved g c =
       busy = λ r. still_busy c.loop-offset.self.locks c.carry_out_read.new.self.locks c.args.session (number + offset) c.in-Ok.ensures.locks c.args.session r ∙ inv.busy r;
       kept = c.carry_out_read.ensures.kept ∙ inv.kept;
       does = λ s fits.
-          subst (λ (u : State). Does {T = Unit {0}} (Ok tt) c.args.self.now c.carry_out_read.new.self old new s u (LeavesTable (sizes_of c.args.self.now.store) s.table s.commits old.told) 0)
+          subst (λ (u : State). CommandEffect {T = Unit {0}} (Ok tt) c.args.self.now c.carry_out_read.new.self old new s u (LeavesTable (sizes_of c.args.self.now.store) s.table s.commits old.told) 0)
           (reads_more s c.args.session (number + offset) (range_with_len number offset) (omega (arith, eight, fits.sessions.count)) ∙ ap (with_reads s c.args.session) (sym (range_more number offset)))
           (does_answered (does_then fits.honest refl (λ x p. p) (late_table inv.serves.sizes) inv.serves (inv.does s fits) (c.in-Ok.ensures.does (with_reads s c.args.session (range_with_len c.args.number c.loop-offset.offset)) (inv.does s fits).after_fits)));
       items = λ s fits.
@@ -112,7 +112,7 @@ returns g c =
     record {
       items = λ s fits. c.loop-offset.invariant.items s fits ∙ ap (λ (k : ℕ). items_seen s c.args.session (range_with_len c.args.number k)) same;
       does = λ s fits.
-          does_answered (subst (λ (k : ℕ). Does {T = Unit {0}} (Ok tt) c.args.self.now c.loop-offset.self old (g.S.Site.state c.loop-offset.site) s (with_reads s c.args.session (range_with_len c.args.number k)) (LeavesTable (sizes_of c.args.self.now.store) s.table s.commits old.told) 0) same (c.loop-offset.invariant.does s fits));
+          does_answered (subst (λ (k : ℕ). CommandEffect {T = Unit {0}} (Ok tt) c.args.self.now c.loop-offset.self old (g.S.Site.state c.loop-offset.site) s (with_reads s c.args.session (range_with_len c.args.number k)) (LeavesTable (sizes_of c.args.self.now.store) s.table s.commits old.told) 0) same (c.loop-offset.invariant.does s fits));
       serves = serves_answered c.loop-offset.invariant.serves;
       asks =
           asks_same _ _ _ _ _ _ _ (ap (λ (k : ℕ). map read_touch (range_with_len c.args.number k)) (sym same))

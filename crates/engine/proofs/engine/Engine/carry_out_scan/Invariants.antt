@@ -9,7 +9,7 @@ use Rattle.engine.specs.Leaves.{LeavesTable}
 use Rattle.engine.specs.Scans.{items_seen}
 use Rattle.record_model.specs.Touches.{read_touch}
 use Rattle.redo_laws.specs.MachineSteps.{StepsMachine}
-use Rattle.engine.specs.Calls.{KeepsUnread, Does}
+use Rattle.engine.specs.Calls.{KeepsUnread, CommandEffect}
 use Rattle.engine.proofs.engine.Engine.carry_out_scan.Given as goal
 use Rattle.std.specs.Prelude.{flat_map}
 use Rattle.ring_machine.specs.Commands.{reads}
@@ -21,7 +21,7 @@ invariant-loop-offset g l =
     let now = g.S.Site.state l.site in
     record {
       serves : KeepsUnread {T = Unit {0}} (Ok tt) l.fn.self l.self old now;
-      does : (s : State) → Matches l.fn.self old s → Does {T = Unit {0}} (Ok tt) l.fn.self l.self old now s (with_reads s l.session (range_with_len l.number l.offset)) (LeavesTable (sizes_of l.fn.self.store) s.table s.commits old.told) 0;
+      does : (s : State) → Matches l.fn.self old s → CommandEffect {T = Unit {0}} (Ok tt) l.fn.self l.self old now s (with_reads s l.session (range_with_len l.number l.offset)) (LeavesTable (sizes_of l.fn.self.store) s.table s.commits old.told) 0;
       active : l.self.active ≡ l.fn.self.active;
       busy : (r : ℕ) → busy_read l.self.locks (Some l.session) r ≡ busy_read l.fn.self.locks (Some l.session) r;
       kept : l.self.store.log.kept ≡ l.fn.self.store.log.kept;

@@ -41,7 +41,7 @@ returns-in-Ok-seal_commit-clause-does g c s fits =
     let sealed = c.in-Ok-seal_commit.ensures.holds fits.newest w.log s.table s.commits w.holds may in
     let works = works_then c.in-Ok.ensures.works c.in-Ok-seal_commit.ensures.works in
     does_of (omega arith)
-    (set_fits engine one c.seal_commit.new.self old _ _ s c.args.number c.in-Ok.txn sealed.0 c.args.after.now fits w (stays_honest old _ works.calls.goes fits.honest) sealed.1
+    (set_fits engine one c.seal_commit.new.self old _ _ s c.args.number c.in-Ok.txn sealed.0 c.args.after.now fits w (stays_honest old _ works.calls.preserves fits.honest) sealed.1
     c.log_set.ensures.rest c.seal_commit.ensures.rest c.in-Ok-seal_commit.ensures.commits c.in-Ok.ensures.works.made c.in-Ok-seal_commit.ensures.works.made)
     (keeps_then fits.honest (early (sizes_of engine.store) s after old.told) (late_commit (sizes_of engine.store) (sizes_of one.store) old _ s c.args.number c.args.after.now (writes_in c.in-Ok.txn w.log) c.log_set.ensures.works.sizes (sym w.active.writes_are))
     c.in-Ok.ensures.works (c.in-Ok.ensures.keeps s fits) (c.in-Ok-seal_commit.ensures.keeps fits.newest w.log s.table s.commits w.holds may))

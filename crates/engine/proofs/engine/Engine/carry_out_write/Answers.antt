@@ -74,12 +74,12 @@ returns-in-Ok-update g c =
       done = search rules;
       does = λ s fits.
           let holds = c.in-Ok.ensures.holds fits.newest fits.records s.table s.commits fits.holds in
-          let fits_mid : Matches mid new s = touched_fits engine c.touch.new.self old new s fits (stays_honest old new c.touch.ensures.works.calls.goes fits.honest) holds c.touch.ensures.made in
+          let fits_mid : Matches mid new s = touched_fits engine c.touch.new.self old new s fits (stays_honest old new c.touch.ensures.works.calls.preserves fits.honest) holds c.touch.ensures.made in
           let may = may_write mid new s fits_mid entry number lsn after going.table c.requires.active less c.requires.may.free (omega (arith, made, room)) (let kept = c.touch.ensures.works.kept in omega (arith, blocks, going.store.blocks, made, kept)) (omega (arith, going.cap, count)) in
           does_of (omega arith)
           (write_fits mid _ new last s entry number lsn (shown_in c.touch.new.self new fits.records number) after fits_mid going.table c.requires.active
-          (stays_honest old last (goes_in_sequence old new last c.touch.ensures.works.calls.goes c.update.ensures.works.calls.goes) fits.honest)
-          (sym (seen_there engine c.touch.new.self old new s entry number fits (stays_honest old new c.touch.ensures.works.calls.goes fits.honest) going.table c.requires.active less c.requires.may.free holds c.touch.ensures.made))
+          (stays_honest old last (goes_in_sequence old new last c.touch.ensures.works.calls.preserves c.update.ensures.works.calls.preserves) fits.honest)
+          (sym (seen_there engine c.touch.new.self old new s entry number fits (stays_honest old new c.touch.ensures.works.calls.preserves fits.honest) going.table c.requires.active less c.requires.may.free holds c.touch.ensures.made))
           (c.in-Ok-update.ensures.holds fits.newest fits.records s.table s.commits holds may)
           c.in-Ok-update.ensures.works.made refl refl c.in-Ok-add.ensures.ok c.wrote.ensures.entry c.wrote.ensures.owed)
           (keeps_answered (keeps_both fits.honest c.in-Ok.ensures.works (c.in-Ok.ensures.keeps fits.newest fits.records s.table s.commits fits.holds) (c.in-Ok-update.ensures.keeps fits.newest fits.records s.table s.commits (c.in-Ok.ensures.holds fits.newest fits.records s.table s.commits fits.holds))));
@@ -111,7 +111,7 @@ returns-in-Ok-update g c =
           };
       performs = λ s fits.
           store_then c.in-Ok.ensures.asks.rules_are (c.in-Ok.ensures.performs fits.newest fits.records s.table s.commits fits.holds)
-          (performs_answered (performs_as (ap (λ (x : Content). updates number x after) (seen_there c.args.self.now c.touch.new.self old new s entry number fits (stays_honest old new c.touch.ensures.works.calls.goes fits.honest) going.table c.requires.active less c.requires.may.free (c.in-Ok.ensures.holds fits.newest fits.records s.table s.commits fits.holds) c.touch.ensures.made))
+          (performs_answered (performs_as (ap (λ (x : Content). updates number x after) (seen_there c.args.self.now c.touch.new.self old new s entry number fits (stays_honest old new c.touch.ensures.works.calls.preserves fits.honest) going.table c.requires.active less c.requires.may.free (c.in-Ok.ensures.holds fits.newest fits.records s.table s.commits fits.holds) c.touch.ensures.made))
           (c.in-Ok-update.ensures.performs fits.newest fits.records s.table s.commits (c.in-Ok.ensures.holds fits.newest fits.records s.table s.commits fits.holds))));
       asks =
           change_ok c.in-Ok.field-0 _ (c.args.number / 32) _ _ _ _ _ _ (has_group c.requires.going) c.touch_then_change.ensures c.in-Ok.ensures.asks c.in-Ok-update.ensures.machine c.update.ensures.rules_stay c.update.ensures.reads (stages_ok c.in-Ok-update.ensures.stages);
@@ -142,5 +142,5 @@ returns-in-Err-update-clause-performs g c s fits =
     let less : number < 32 * (sizes_of c.touch.new.self).pages = omega (arith, same, c.requires.may.number) in
     let held = c.in-Ok.ensures.holds fits.newest fits.records s.table s.commits fits.holds in
     store_then c.in-Ok.ensures.asks.rules_are (c.in-Ok.ensures.performs fits.newest fits.records s.table s.commits fits.holds)
-    (performs_failed (performs_as (ap (λ (x : Content). updates number x c.args.after.now) (seen_there c.args.self.now c.touch.new.self old new s c.args.entry number fits (stays_honest old new c.touch.ensures.works.calls.goes fits.honest) c.requires.going.table c.requires.active less c.requires.may.free held c.touch.ensures.made))
+    (performs_failed (performs_as (ap (λ (x : Content). updates number x c.args.after.now) (seen_there c.args.self.now c.touch.new.self old new s c.args.entry number fits (stays_honest old new c.touch.ensures.works.calls.preserves fits.honest) c.requires.going.table c.requires.active less c.requires.may.free held c.touch.ensures.made))
     (c.in-Err-update.ensures.performs fits.newest fits.records s.table s.commits held)))

@@ -3,7 +3,7 @@ use Rattle.std.specs.Prelude.{Ok, Err, [], if◌then◌else◌}
 use Rattle.engine.specs.Invariant.{sizes_of}
 use Rattle.engine.specs.Representation.{checkpointed_if}
 use Rattle.engine.specs.Leaves.{LeavesTable}
-use Rattle.engine.specs.Calls.{Does}
+use Rattle.engine.specs.Calls.{CommandEffect}
 use Rattle.redo_laws.specs.MachineSteps.{StepsMachine, checkpoint_works}
 use Rattle.engine.proofs.Calling.{does_nothing, does_answered, does_failed, serves_nothing, still, asks_rest}
 use Rattle.engine.proofs.engine.Engine.checkpoint_if.Goals as goal
@@ -19,7 +19,7 @@ returns-then-not-wanted g c =
     let pages = c.args.self.now.store.pages in
     record {
       does = λ s fits.
-          subst (λ (b : Bool). Does {T = Unit {0}} (Ok tt) c.args.self.now c.args.self.now old old s (checkpointed_if b s) (LeavesTable (sizes_of c.args.self.now.store) s.table s.commits old.told) (if b then 1 else 0)) (sym is)
+          subst (λ (b : Bool). CommandEffect {T = Unit {0}} (Ok tt) c.args.self.now c.args.self.now old old s (checkpointed_if b s) (LeavesTable (sizes_of c.args.self.now.store) s.table s.commits old.told) (if b then 1 else 0)) (sym is)
           (does_nothing fits c.requires.going (still c.hold_together.ensures.moment fits c.requires.going));
       serves = serves_nothing c.requires.going;
       locks = refl;
@@ -33,14 +33,14 @@ pub returns-in-Ok-clause-does : goal.returns-in-Ok-clause-does
 returns-in-Ok-clause-does g c s fits =
     let is : c.args.wanted ≡ true = search rules in
     let old = g.S.Site.state c.args.site.now in
-    subst (λ (b : Bool). Does {T = Unit {0}} (Ok tt) c.args.self.now c.carry_out_checkpoint.new.self old (g.S.Site.state c.carry_out_checkpoint.new.site) s (checkpointed_if b s) (LeavesTable (sizes_of c.args.self.now.store) s.table s.commits old.told) (if b then 1 else 0)) (sym is)
+    subst (λ (b : Bool). CommandEffect {T = Unit {0}} (Ok tt) c.args.self.now c.carry_out_checkpoint.new.self old (g.S.Site.state c.carry_out_checkpoint.new.site) s (checkpointed_if b s) (LeavesTable (sizes_of c.args.self.now.store) s.table s.commits old.told) (if b then 1 else 0)) (sym is)
     (does_answered (c.in-Ok.ensures.does s fits))
 
 pub returns-in-Err-clause-does : goal.returns-in-Err-clause-does
 returns-in-Err-clause-does g c s fits =
     let is : c.args.wanted ≡ true = search rules in
     let old = g.S.Site.state c.args.site.now in
-    subst (λ (b : Bool). Does {T = Unit {0}} (Err c.in-Err.stop) c.args.self.now (record c.carry_out_checkpoint.new.self { ended = true }) old (g.S.Site.state c.carry_out_checkpoint.new.site) s (checkpointed_if b s) (LeavesTable (sizes_of c.args.self.now.store) s.table s.commits old.told) (if b then 1 else 0)) (sym is)
+    subst (λ (b : Bool). CommandEffect {T = Unit {0}} (Err c.in-Err.stop) c.args.self.now (record c.carry_out_checkpoint.new.self { ended = true }) old (g.S.Site.state c.carry_out_checkpoint.new.site) s (checkpointed_if b s) (LeavesTable (sizes_of c.args.self.now.store) s.table s.commits old.told) (if b then 1 else 0)) (sym is)
     (does_failed (omega arith) (c.in-Err.ensures.does s fits))
 
 pub returns-in-Ok-clause-performs : goal.returns-in-Ok-clause-performs

@@ -15,7 +15,7 @@ use Rattle.engine.specs.declared.engine.Engine.{Engine}
 use Rattle.engine.specs.Invariant.{sizes_of}
 use Rattle.engine.specs.Representation.{checkpointed_if}
 use Rattle.engine.specs.Leaves.{LeavesEither}
-use Rattle.engine.specs.Calls.{Does}
+use Rattle.engine.specs.Calls.{CommandEffect}
 use Rattle.engine.proofs.Replies.{full_is, has_room}
 use Rattle.engine.proofs.Calling.{serves_then, serves_failed, serves_ended, serves_nothing, refused_as, first_then, first_failed, does_nothing, does_weaker, does_failed, asks_rest, early, late_either, still}
 use Rattle.engine.proofs.Performing.{performs_rest, performs_first, performs_unmade}
@@ -23,10 +23,10 @@ use Rattle.engine.proofs.engine.Engine.set.Goals as goal
 
 -- what is written is the value
 written : {r : Result Reply Stop} {old new : Engine} {before now : Site} {s : State} (number : ℕ) {x y : Content} → x ≡ y →
-    Does r old new before now s (making 3 (committed s ((number, x) ∷ []))) (LeavesEither (sizes_of old.store) s (making 3 (committed s ((number, x) ∷ []))) before.told) 0 →
-    Does r old new before now s (making 3 (committed s ((number, y) ∷ []))) (LeavesEither (sizes_of old.store) s (making 3 (committed s ((number, y) ∷ []))) before.told) 0
+    CommandEffect r old new before now s (making 3 (committed s ((number, x) ∷ []))) (LeavesEither (sizes_of old.store) s (making 3 (committed s ((number, x) ∷ []))) before.told) 0 →
+    CommandEffect r old new before now s (making 3 (committed s ((number, y) ∷ []))) (LeavesEither (sizes_of old.store) s (making 3 (committed s ((number, y) ∷ []))) before.told) 0
 written {r = r} {old = old} {new = new} {before = before} {now = now} {s = s} number is does =
-    subst (λ (x : Content). Does r old new before now s (making 3 (committed s ((number, x) ∷ []))) (LeavesEither (sizes_of old.store) s (making 3 (committed s ((number, x) ∷ []))) before.told) 0) is does
+    subst (λ (x : Content). CommandEffect r old new before now s (making 3 (committed s ((number, x) ∷ []))) (LeavesEither (sizes_of old.store) s (making 3 (committed s ((number, x) ∷ []))) before.told) 0) is does
 
 pub carry_out_set-requires-clause-may : goal.carry_out_set-requires-clause-may
 carry_out_set-requires-clause-may g c = record {

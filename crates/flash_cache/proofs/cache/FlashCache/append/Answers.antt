@@ -22,7 +22,7 @@ returns-clause-appends g c fits =
     let cache = c.args.self.now in
     let old = g.S.Site.state c.args.site.now in
     let finds = ring_found cache old c.requires.going.rings.groups_shape fits in
-    append_is cache c.append.new.self c.args.content.now old (g.S.Site.state c.append.new.site) c.requires.going c.requires.room c.append.ensures.goes c.append.ensures.shape
+    append_is cache c.append.new.self c.args.content.now old (g.S.Site.state c.append.new.site) c.requires.going c.requires.room c.append.ensures.preserves c.append.ensures.shape
     (c.in_ok-append.ensures.ready fits.honest finds) (c.in_ok-append.ensures.outside fits.honest) (c.append.ensures.changes fits.honest).only (c.in_ok-append.ensures.stands fits.honest finds)
 
 pub returns-in_err-append-clause-keeps : goal.returns-in_err-append-clause-keeps
@@ -37,7 +37,7 @@ returns-in_err-append-clause-keeps g c =
         next = λ is. search rules;
         worn = λ is says. let full : cache.ring.hi ≡ 2 ^ 40 = search rules in spent_at_end cache old new c.requires.going is full (ap g.S.Site.state (c.append.ensures.unchanged full));
       };
-      going = goes_on_same cache c.append.new.self cache.directory old new c.requires.going c.append.ensures.goes c.append.ensures.shape (ap (λ (r : Ring). r.hi) c.in_err-append.ensures.err) refl;
+      going = goes_on_same cache c.append.new.self cache.directory old new c.requires.going c.append.ensures.preserves c.append.ensures.shape (ap (λ (r : Ring). r.hi) c.in_err-append.ensures.err) refl;
       worn_end = λ fits says. search rules;
     }
 
@@ -48,7 +48,7 @@ returns-in-Err-clause-keeps g c =
       ends = search rules;
       fits = λ fits. tt;
       next_segment = λ honest. record { next = λ is. tt; worn = search rules };
-      going = goes_on_same c.args.self.now ring c.push_group.new.self (g.S.Site.state c.args.site.now) (g.S.Site.state c.append.new.site) c.requires.going c.append.ensures.goes
+      going = goes_on_same c.args.self.now ring c.push_group.new.self (g.S.Site.state c.args.site.now) (g.S.Site.state c.append.new.site) c.requires.going c.append.ensures.preserves
           c.append.ensures.shape c.hi-hi.ensures c.in-Err.ensures.err;
       worn_end = λ fits says. search rules;
     }
@@ -59,7 +59,7 @@ returns-clause-keeps g c =
     let old = g.S.Site.state c.args.site.now in
     let new = g.S.Site.state c.append.new.site in
     let going = c.requires.going in
-    let goes = c.append.ensures.goes in
+    let goes = c.append.ensures.preserves in
     let shape = c.append.ensures.shape in
     record {
       ends = search rules;

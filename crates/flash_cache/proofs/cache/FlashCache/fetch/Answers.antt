@@ -8,11 +8,11 @@ use Rattle.flash_cache.proofs.cache.FlashCache.fetch.Goals as goal
 
 pub returns-in_default-read_part-clause-going : goal.returns-in_default-read_part-clause-going
 returns-in_default-read_part-clause-going g c =
-    goes_on_ended c.args.self.now (g.S.Site.state c.args.site.now) (g.S.Site.state c.read_part.new.site) c.requires c.read_part.ensures.reads.goes
+    goes_on_ended c.args.self.now (g.S.Site.state c.args.site.now) (g.S.Site.state c.read_part.new.site) c.requires c.read_part.ensures.reads.preserves
 
 pub returns-clause-going : goal.returns-clause-going
 returns-clause-going g c =
-    goes_on_marked c.args.self.now c.args.page c.set_referenced.new.self (g.S.Site.state c.args.site.now) (g.S.Site.state c.read_part.new.site) c.requires c.read_part.ensures.reads.goes c.set_referenced.ensures
+    goes_on_marked c.args.self.now c.args.page c.set_referenced.new.self (g.S.Site.state c.args.site.now) (g.S.Site.state c.read_part.new.site) c.requires c.read_part.ensures.reads.preserves c.set_referenced.ensures
 
 pub returns-clause-holds : goal.returns-clause-holds
 returns-clause-holds g c groups fits holds =

@@ -94,7 +94,7 @@ unreachable-requires g c =
     c.in_default.ensures.bad (heads_of (first ++ frames_given pages changed contents)) (begins_with_heads c.group_content-content.result (first ++ frames_given pages changed contents) has.is_group)
 
 pub write-requires-clause-going : goal.write-requires-clause-going
-write-requires-clause-going g c = goes_on_later c.args.self.now (g.S.Site.state c.args.site.now) (g.S.Site.state c.frames_leaving.new.site) c.requires.going c.frames_leaving.ensures.reads.goes
+write-requires-clause-going g c = goes_on_later c.args.self.now (g.S.Site.state c.args.site.now) (g.S.Site.state c.frames_leaving.new.site) c.requires.going c.frames_leaving.ensures.reads.preserves
 
 pub write-requires-clause-once : goal.write-requires-clause-once
 write-requires-clause-once g c =
@@ -161,7 +161,7 @@ returns-clause-any_moment g c groups fits holds quiet =
     let all = c.group_content-content.ensures.content ∙ (λ i. group (first i ++ made i)) in
     with_parts (λ a b d. LeavesOnly old new (LeavesPush cache.geometry a b d old)) _ _ _ _ _ _ numbers staged all
     (pushed_since cache.geometry c.as_slice-pages.result.now c.as_slice-octets.result.now c.group_content-content.result old mid new same
-    (c.write.ensures.any_moment (fits_read cache old mid fits c.frames_leaving.ensures.reads.goes same) (same.loose ∙ quiet)))
+    (c.write.ensures.any_moment (fits_read cache old mid fits c.frames_leaving.ensures.reads.preserves same) (same.loose ∙ quiet)))
 
 pub returns-clause-reaches : goal.returns-clause-reaches
 returns-clause-reaches g c groups fits holds =
@@ -183,7 +183,7 @@ returns-clause-reaches g c groups fits holds =
     on_ok_weaker c.write.result (λ reaches.
     with_parts (λ a b d. Reaches cache.geometry (changes_of_push a d) old.image new.image) _ _ [] [] _ _ numbers refl all
     (subst (λ (i : Image). Reaches cache.geometry (changes_of_push c.as_slice-pages.result.now c.group_content-content.result) i new.image) same.image reaches))
-    (c.write.ensures.reaches (fits_read cache old mid fits c.frames_leaving.ensures.reads.goes same))
+    (c.write.ensures.reaches (fits_read cache old mid fits c.frames_leaving.ensures.reads.preserves same))
 
 pub returns-clause-staged : goal.returns-clause-staged
 returns-clause-staged g c groups fits holds =
@@ -201,13 +201,13 @@ returns-clause-staged g c groups fits holds =
     on_ok_weaker c.write.result (λ has.
     with_parts (λ a b d. HasStaged a b old.image.disk new.image.disk) _ _ _ _ [] [] numbers staged refl
     (subst (λ (i : Image). HasStaged c.as_slice-pages.result.now c.as_slice-octets.result.now i.disk new.image.disk) same.image has))
-    (c.write.ensures.staged (fits_read cache old mid fits c.frames_leaving.ensures.reads.goes same))
+    (c.write.ensures.staged (fits_read cache old mid fits c.frames_leaving.ensures.reads.preserves same))
 
 pub returns-clause-changes : goal.returns-clause-changes
 returns-clause-changes g c honest =
     let old = g.S.Site.state c.args.site.now in
     let mid = g.S.Site.state c.frames_leaving.new.site in
-    pages_in_sequence old mid (g.S.Site.state c.write.new.site) (pages_read old mid (c.frames_leaving.ensures.reads.same honest)) (c.write.ensures.changes (stays_honest old mid c.frames_leaving.ensures.reads.goes honest))
+    pages_in_sequence old mid (g.S.Site.state c.write.new.site) (pages_read old mid (c.frames_leaving.ensures.reads.same honest)) (c.write.ensures.changes (stays_honest old mid c.frames_leaving.ensures.reads.preserves honest))
 
 pub returns-clause-alone : goal.returns-clause-alone
 returns-clause-alone g c honest none =
@@ -217,7 +217,7 @@ returns-clause-alone g c honest none =
     let items : c.as_slice-pages.result.now ≡ c.in-Ok.both.0.pages.items = search rules in
     let numbers = items ∙ pages_are c.args.self.now c.args.plan.now.staged c.in-Ok.both.0 c.in-Ok.ensures.staged c.requires.staged in
     untouched_in_sequence Disk old mid new (read_untouched Disk old mid (c.frames_leaving.ensures.reads.same honest))
-    (c.write.ensures.alone (stays_honest old mid c.frames_leaving.ensures.reads.goes honest) (numbers ∙ none))
+    (c.write.ensures.alone (stays_honest old mid c.frames_leaving.ensures.reads.preserves honest) (numbers ∙ none))
 
 pub returns-clause-shown : goal.returns-clause-shown
 returns-clause-shown g c honest some =
@@ -229,10 +229,10 @@ returns-clause-shown g c honest some =
     let numbers : c.as_slice-pages.result.now ≡ staged_pages c.args.self.now = items ∙ pages_are c.args.self.now c.args.plan.now.staged c.in-Ok.both.0 c.in-Ok.ensures.staged c.requires.staged in
     on_ok_weaker c.write.result (λ shown. some_after_reads old mid new (SameAt Flash old) same.past
     (some_weaker mid new (SameAt Flash mid) (SameAt Flash old) (λ m is. record { content = is.content ∙ ap (λ (i : Image). i.flash) same.image; loose = is.loose ∙ ap (λ (l : Loose). l.flash) same.loose }) shown))
-    (c.write.ensures.shown (stays_honest old mid c.frames_leaving.ensures.reads.goes honest) (subst (λ (l : List ℕ). 1 ≤ length l) (sym numbers) some))
+    (c.write.ensures.shown (stays_honest old mid c.frames_leaving.ensures.reads.preserves honest) (subst (λ (l : List ℕ). 1 ≤ length l) (sym numbers) some))
 
-pub returns-clause-past : goal.returns-clause-past
-returns-clause-past g c honest =
+pub returns-clause-device_calls : goal.returns-clause-device_calls
+returns-clause-device_calls g c honest =
     let old = g.S.Site.state c.args.site.now in
     let mid = g.S.Site.state c.frames_leaving.new.site in
     let new = g.S.Site.state c.write.new.site in
@@ -240,14 +240,14 @@ returns-clause-past g c honest =
     let items : c.as_slice-pages.result.now ≡ c.in-Ok.both.0.pages.items = search rules in
     let numbers : c.as_slice-pages.result.now ≡ staged_pages c.args.self.now = items ∙ pages_are c.args.self.now c.args.plan.now.staged c.in-Ok.both.0 c.in-Ok.ensures.staged c.requires.staged in
     let calls = ap calls_of numbers in
-    on_ok_weaker c.write.result (λ wrote. omega (arith, same, calls, wrote)) (c.write.ensures.past (stays_honest old mid c.frames_leaving.ensures.reads.goes honest))
+    on_ok_weaker c.write.result (λ wrote. omega (arith, same, calls, wrote)) (c.write.ensures.device_calls (stays_honest old mid c.frames_leaving.ensures.reads.preserves honest))
 
 pub returns-in-Err-clause-keeps : goal.returns-in-Err-clause-keeps
 returns-in-Err-clause-keeps g c = record {
   ends = search rules;
   fits = λ fits. tt;
   next_segment = λ honest. record { next = λ is. tt; worn = search rules };
-  going = goes_on_later c.args.self.now (g.S.Site.state c.args.site.now) (g.S.Site.state c.frames_leaving.new.site) c.requires.going c.frames_leaving.ensures.reads.goes;
+  going = goes_on_later c.args.self.now (g.S.Site.state c.args.site.now) (g.S.Site.state c.frames_leaving.new.site) c.requires.going c.frames_leaving.ensures.reads.preserves;
   worn_end = λ fits says. search rules;
 }
 
@@ -259,9 +259,9 @@ returns-clause-keeps g c =
     let reads = c.frames_leaving.ensures.reads in
     record {
       ends = search rules;
-      fits = λ fits. c.write.ensures.keeps.fits (fits_read cache old mid fits reads.goes (reads.same fits.honest));
+      fits = λ fits. c.write.ensures.keeps.fits (fits_read cache old mid fits reads.preserves (reads.same fits.honest));
       next_segment = λ honest. next_then refl (next_elsewhere {T = Unit {0}} (Ok tt) cache cache old mid refl refl (ap (λ (i : Image). i.flash) (reads.same honest).image) (λ says. no_error says))
-          (c.write.ensures.keeps.next_segment (stays_honest old mid reads.goes honest));
+          (c.write.ensures.keeps.next_segment (stays_honest old mid reads.preserves honest));
       going = c.write.ensures.keeps.going;
-      worn_end = λ fits says. c.write.ensures.keeps.worn_end (fits_read cache old mid fits reads.goes (reads.same fits.honest)) says;
+      worn_end = λ fits says. c.write.ensures.keeps.worn_end (fits_read cache old mid fits reads.preserves (reads.same fits.honest)) says;
     }

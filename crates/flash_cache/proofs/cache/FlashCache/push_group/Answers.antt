@@ -66,7 +66,7 @@ returns-in-Err-clause-foreign g c groups fits holds says =
 
 pub push-requires-clause-going : goal.push-requires-clause-going
 push-requires-clause-going g c =
-    goes_on_saved c.args.self.now c.save_due.new.segments c.args.self.now.ended (g.S.Site.state c.args.site.now) (g.S.Site.state c.save_due.new.site) c.requires.going c.save_due.ensures.goes c.save_due.ensures.rings
+    goes_on_saved c.args.self.now c.save_due.new.segments c.args.self.now.ended (g.S.Site.state c.args.site.now) (g.S.Site.state c.save_due.new.site) c.requires.going c.save_due.ensures.preserves c.save_due.ensures.rings
 
 pub returns-in-Err-push-clause-frames : goal.returns-in-Err-push-clause-frames
 returns-in-Err-push-clause-frames g c groups fits holds =
@@ -88,14 +88,14 @@ pub returns-in-Err-push-clause-changes : goal.returns-in-Err-push-clause-changes
 returns-in-Err-push-clause-changes g c honest =
     let old = g.S.Site.state c.args.site.now in
     let mid = g.S.Site.state c.save_due.new.site in
-    pages_in_sequence old mid (g.S.Site.state c.push.new.site) (pages_changed Flash old mid (λ h. cc) (c.save_due.ensures.changes honest)) (c.push.ensures.changes (stays_honest old mid c.save_due.ensures.goes honest))
+    pages_in_sequence old mid (g.S.Site.state c.push.new.site) (pages_changed Flash old mid (λ h. cc) (c.save_due.ensures.changes honest)) (c.push.ensures.changes (stays_honest old mid c.save_due.ensures.preserves honest))
 
 pub returns-in-Err-push-clause-alone : goal.returns-in-Err-push-clause-alone
 returns-in-Err-push-clause-alone g c honest none =
     let old = g.S.Site.state c.args.site.now in
     let mid = g.S.Site.state c.save_due.new.site in
     untouched_in_sequence Disk old mid (g.S.Site.state c.push.new.site) (others_untouched Flash Disk old mid (λ h. cc) (c.save_due.ensures.changes honest).only)
-    (c.push.ensures.alone (stays_honest old mid c.save_due.ensures.goes honest) none)
+    (c.push.ensures.alone (stays_honest old mid c.save_due.ensures.preserves honest) none)
 
 pub returns-in-Err-push-clause-front : goal.returns-in-Err-push-clause-front
 returns-in-Err-push-clause-front g c groups fits holds quiet =
@@ -133,14 +133,14 @@ pub returns-clause-changes : goal.returns-clause-changes
 returns-clause-changes g c honest =
     let old = g.S.Site.state c.args.site.now in
     let mid = g.S.Site.state c.save_due.new.site in
-    pages_in_sequence old mid (g.S.Site.state c.push.new.site) (pages_changed Flash old mid (λ h. cc) (c.save_due.ensures.changes honest)) (c.push.ensures.changes (stays_honest old mid c.save_due.ensures.goes honest))
+    pages_in_sequence old mid (g.S.Site.state c.push.new.site) (pages_changed Flash old mid (λ h. cc) (c.save_due.ensures.changes honest)) (c.push.ensures.changes (stays_honest old mid c.save_due.ensures.preserves honest))
 
 pub returns-clause-alone : goal.returns-clause-alone
 returns-clause-alone g c honest none =
     let old = g.S.Site.state c.args.site.now in
     let mid = g.S.Site.state c.save_due.new.site in
     untouched_in_sequence Disk old mid (g.S.Site.state c.push.new.site) (others_untouched Flash Disk old mid (λ h. cc) (c.save_due.ensures.changes honest).only)
-    (c.push.ensures.alone (stays_honest old mid c.save_due.ensures.goes honest) none)
+    (c.push.ensures.alone (stays_honest old mid c.save_due.ensures.preserves honest) none)
 
 pub returns-clause-front : goal.returns-clause-front
 returns-clause-front g c groups fits holds quiet =
@@ -186,7 +186,7 @@ returns-clause-last g c groups fits holds quiet =
     let new = g.S.Site.state c.push.new.site in
     let stands = stands_there cache groups old c.requires.going fits holds in
     let b = is_behind cache groups c.save_due.new.segments old mid holds c.save_due.ensures.rings (c.save_due.ensures.changes fits.honest) (c.in_default.ensures.saves cache.directory.first groups holds.saved.segments stands) in
-    let honest = stays_honest old mid c.save_due.ensures.goes fits.honest in
+    let honest = stays_honest old mid c.save_due.ensures.preserves fits.honest in
     staged_last cache old groups c.requires.going holds new (λ some.
     some_behind old mid new (c.save_due.ensures.changes fits.honest).only.grown (c.push.ensures.changes honest).log.grown (Leaves (λ s. HasGroups cache.geometry cache.directory.first groups s.image))
     (some_weaker mid new (SameAt Flash mid) (Leaves (λ s. HasGroups cache.geometry cache.directory.first groups s.image))
@@ -211,10 +211,10 @@ returns-clause-holds g c groups fits holds =
     c.args.pages.now c.args.changed.now c.args.contents.now c.requires.marks c.requires.lists c.requires.apart (returns-clause-frames g c groups fits holds)
     c.push.new.self (g.S.Site.state c.push.new.site).image (returns-clause-staged g c groups fits holds) (returns-clause-reaches g c groups fits holds) c.in_default-push.ensures.directory c.push.ensures.keeps.geometry
 
-pub returns-clause-past : goal.returns-clause-past
-returns-clause-past g c honest =
-    let saved = c.in_default.ensures.past honest in
-    let pushed = c.in_default-push.ensures.past (stays_honest (g.S.Site.state c.args.site.now) (g.S.Site.state c.save_due.new.site) c.save_due.ensures.goes honest) in
+pub returns-clause-device_calls : goal.returns-clause-device_calls
+returns-clause-device_calls g c honest =
+    let saved = c.in_default.ensures.device_calls honest in
+    let pushed = c.in_default-push.ensures.device_calls (stays_honest (g.S.Site.state c.args.site.now) (g.S.Site.state c.save_due.new.site) c.save_due.ensures.preserves honest) in
     let nine = calls_few c.args.self.now c.requires.going.sizes in
     omega (arith, saved, pushed, nine)
 
@@ -223,7 +223,7 @@ returns-in-Err-clause-keeps g c = record {
   ends = search rules;
   fits = λ fits. tt;
   next_segment = λ honest. record { next = λ is. tt; worn = search rules };
-  going = goes_on_saved c.args.self.now c.save_due.new.segments true (g.S.Site.state c.args.site.now) (g.S.Site.state c.save_due.new.site) c.requires.going c.save_due.ensures.goes c.save_due.ensures.rings;
+  going = goes_on_saved c.args.self.now c.save_due.new.segments true (g.S.Site.state c.args.site.now) (g.S.Site.state c.save_due.new.site) c.requires.going c.save_due.ensures.preserves c.save_due.ensures.rings;
   worn_end = λ fits says. search rules;
 }
 
@@ -233,7 +233,7 @@ returns-in-Err-push-clause-keeps g c =
     let old = g.S.Site.state c.args.site.now in
     let mid = g.S.Site.state c.save_due.new.site in
     let rings = c.requires.going.rings in
-    let goes = c.save_due.ensures.goes in
+    let goes = c.save_due.ensures.preserves in
     let keeps = c.in-Err-push.ensures.keeps in
     record {
       ends = search rules;
@@ -253,7 +253,7 @@ returns-clause-keeps g c =
     let old = g.S.Site.state c.args.site.now in
     let mid = g.S.Site.state c.save_due.new.site in
     let rings = c.requires.going.rings in
-    let goes = c.save_due.ensures.goes in
+    let goes = c.save_due.ensures.preserves in
     let keeps = c.in_default-push.ensures.keeps in
     record {
       ends = search rules;

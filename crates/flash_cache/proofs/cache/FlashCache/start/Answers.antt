@@ -34,7 +34,7 @@ returns-clause-fits g c honest first groups has saved =
     let rings = c.in-Ok.ensures.start.rings in
     let same = (c.in-Ok.ensures.reads.same honest).image in
     record {
-      honest = stays_honest old new c.in-Ok.ensures.reads.goes honest;
+      honest = stays_honest old new c.in-Ok.ensures.reads.preserves honest;
       form = subst (λ (i : Image). IsRing (group_shape c.args.geometry.now) i.flash) (sym same) has.form;
       hi = finds.groups_fit ∙ ap (λ (s : Shape). hi_of s (region s new)) rings.groups_shape;
       segments_form = subst (λ (i : Image). IsRing (segment_shape c.args.geometry.now) i.flash) (sym same) saved.follow.has.form;
@@ -84,7 +84,7 @@ returns-clause-going g c =
     let count = start.count in
     subst (λ (q : Queue). let cache : FlashCache = record { alloc = c.args.alloc; geometry = geometry; ring = ring; segments = c.in-Ok.heads.segments; directory = q; ended = false } in Invariant cache new) (sym is) (record {
       limits = c.requires.limits;
-      lengths = lengths_later geometry old new c.in-Ok.ensures.reads.goes c.requires.lengths;
+      lengths = lengths_later geometry old new c.in-Ok.ensures.reads.preserves c.requires.lengths;
       rings = start.rings;
       next = omega (arith, oldest, count, many, slots);
       few = let groups = c.requires.limits.groups in omega (arith, count, many, groups);

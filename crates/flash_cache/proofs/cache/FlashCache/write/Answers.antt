@@ -29,7 +29,7 @@ pub returns-in-Err-clause-changes : goal.returns-in-Err-clause-changes
 returns-in-Err-clause-changes g c honest = pages_changed Disk (g.S.Site.state c.args.site.now) (g.S.Site.state c.stage.new.site) (λ h. cc) (c.stage.ensures.changes honest)
 
 pub append-requires-clause-going : goal.append-requires-clause-going
-append-requires-clause-going g c = goes_on_later c.args.self.now (g.S.Site.state c.args.site.now) (g.S.Site.state c.stage.new.site) c.requires.going c.stage.ensures.writes.goes
+append-requires-clause-going g c = goes_on_later c.args.self.now (g.S.Site.state c.args.site.now) (g.S.Site.state c.stage.new.site) c.requires.going c.stage.ensures.writes.preserves
 
 pub returns-clause-any_moment : goal.returns-clause-any_moment
 returns-clause-any_moment g c fits quiet =
@@ -37,9 +37,9 @@ returns-clause-any_moment g c fits quiet =
     let old = g.S.Site.state c.args.site.now in
     let mid = g.S.Site.state c.stage.new.site in
     let new = g.S.Site.state c.append.new.site in
-    let fits_mid = fits_on cache old mid fits c.stage.ensures.writes.goes (c.stage.ensures.changes fits.honest) in
+    let fits_mid = fits_on cache old mid fits c.stage.ensures.writes.preserves (c.stage.ensures.changes fits.honest) in
     push_leaves cache.geometry c.args.staged.now c.args.octets.now c.args.content.now old mid new c.requires.going.limits
-    (lengths_later cache.geometry old mid c.stage.ensures.writes.goes c.requires.going.lengths) (c.in_default.ensures.quiet fits.honest quiet) c.requires.room
+    (lengths_later cache.geometry old mid c.stage.ensures.writes.preserves c.requires.going.lengths) (c.in_default.ensures.quiet fits.honest quiet) c.requires.room
     (c.stage.ensures.front cache.geometry fits.honest c.requires.going.lengths quiet) (c.in_default.ensures.reaches cache.geometry fits.honest c.requires.going.lengths)
     (c.in_default.ensures.staged fits.honest) (c.stage.ensures.changes fits.honest).only.now.told (c.append.ensures.any_moment fits_mid (quiet_settled Flash mid (c.in_default.ensures.quiet fits.honest quiet))) (c.append.ensures.changes fits_mid.honest).only
 
@@ -49,7 +49,7 @@ returns-clause-reaches g c fits =
     let old = g.S.Site.state c.args.site.now in
     let mid = g.S.Site.state c.stage.new.site in
     let new = g.S.Site.state c.append.new.site in
-    let fits_mid = fits_on cache old mid fits c.stage.ensures.writes.goes (c.stage.ensures.changes fits.honest) in
+    let fits_mid = fits_on cache old mid fits c.stage.ensures.writes.preserves (c.stage.ensures.changes fits.honest) in
     on_ok_weaker c.append.result (all_made cache.geometry c.args.staged.now c.args.content.now old.image mid.image new.image (c.in_default.ensures.reaches cache.geometry fits.honest c.requires.going.lengths))
     (c.append.ensures.appends fits_mid)
 
@@ -57,7 +57,7 @@ pub returns-clause-staged : goal.returns-clause-staged
 returns-clause-staged g c fits =
     let old = g.S.Site.state c.args.site.now in
     let mid = g.S.Site.state c.stage.new.site in
-    let honest_mid = stays_honest old mid c.stage.ensures.writes.goes fits.honest in
+    let honest_mid = stays_honest old mid c.stage.ensures.writes.preserves fits.honest in
     on_ok c.append.result _ (subst (HasStaged c.args.staged.now c.args.octets.now old.image.disk) (sym ((c.append.ensures.changes honest_mid).only.now.content Disk (λ h. cc))) (c.in_default.ensures.staged fits.honest))
 
 pub returns-clause-changes : goal.returns-clause-changes
@@ -66,7 +66,7 @@ returns-clause-changes g c honest =
     let mid = g.S.Site.state c.stage.new.site in
     let new = g.S.Site.state c.append.new.site in
     pages_in_sequence old mid new (pages_changed Disk old mid (λ h. cc) (c.stage.ensures.changes honest))
-    (pages_changed Flash mid new (λ h. cc) (c.append.ensures.changes (stays_honest old mid c.stage.ensures.writes.goes honest)))
+    (pages_changed Flash mid new (λ h. cc) (c.append.ensures.changes (stays_honest old mid c.stage.ensures.writes.preserves honest)))
 
 pub returns-clause-alone : goal.returns-clause-alone
 returns-clause-alone g c honest none =
@@ -75,7 +75,7 @@ returns-clause-alone g c honest none =
     let new = g.S.Site.state c.append.new.site in
     let same : mid ≡ old = ap g.S.Site.state (c.stage.ensures.none none).0 in
     subst (λ (s : State). Untouched Disk s new) same
-    (others_untouched Flash Disk mid new (λ h. cc) (c.append.ensures.changes (stays_honest old mid c.stage.ensures.writes.goes honest)).only)
+    (others_untouched Flash Disk mid new (λ h. cc) (c.append.ensures.changes (stays_honest old mid c.stage.ensures.writes.preserves honest)).only)
 
 pub returns-clause-shown : goal.returns-clause-shown
 returns-clause-shown g c honest some =
@@ -83,7 +83,7 @@ returns-clause-shown g c honest some =
     let mid = g.S.Site.state c.stage.new.site in
     let new = g.S.Site.state c.append.new.site in
     let changes = c.stage.ensures.changes honest in
-    let later = c.append.ensures.changes (stays_honest old mid c.stage.ensures.writes.goes honest) in
+    let later = c.append.ensures.changes (stays_honest old mid c.stage.ensures.writes.preserves honest) in
     let calls = c.in_default.ensures.calls honest in
     let one = calls_some c.args.staged.now some in
     on_ok c.append.result _ (some_first old mid new changes.only.grown later.only.grown (SameAt Flash old)
@@ -91,17 +91,17 @@ returns-clause-shown g c honest some =
     (each_weaker old mid (SameBut Disk old) (SameAt Flash old) (λ m same. record { content = same.content Flash (λ h. cc); loose = same.loose Flash (λ h. cc) }) changes.only)
     (omega (arith, calls, one))))
 
-pub returns-clause-past : goal.returns-clause-past
-returns-clause-past g c honest =
+pub returns-clause-device_calls : goal.returns-clause-device_calls
+returns-clause-device_calls g c honest =
     let first = c.in_default.ensures.calls honest in
-    ok_as c.append.result _ _ (λ more. omega (arith, first, more)) (c.append.ensures.past (stays_honest (g.S.Site.state c.args.site.now) (g.S.Site.state c.stage.new.site) c.stage.ensures.writes.goes honest))
+    ok_as c.append.result _ _ (λ more. omega (arith, first, more)) (c.append.ensures.device_calls (stays_honest (g.S.Site.state c.args.site.now) (g.S.Site.state c.stage.new.site) c.stage.ensures.writes.preserves honest))
 
 pub returns-in-Err-clause-keeps : goal.returns-in-Err-clause-keeps
 returns-in-Err-clause-keeps g c = record {
   ends = search rules;
   fits = λ fits. tt;
   next_segment = λ honest. record { next = λ is. tt; worn = search rules };
-  going = goes_on_later c.args.self.now (g.S.Site.state c.args.site.now) (g.S.Site.state c.stage.new.site) c.requires.going c.stage.ensures.writes.goes;
+  going = goes_on_later c.args.self.now (g.S.Site.state c.args.site.now) (g.S.Site.state c.stage.new.site) c.requires.going c.stage.ensures.writes.preserves;
   worn_end = λ fits says. search rules;
 }
 
@@ -110,7 +110,7 @@ returns-clause-keeps g c =
     let cache = c.args.self.now in
     let old = g.S.Site.state c.args.site.now in
     let mid = g.S.Site.state c.stage.new.site in
-    let goes = c.stage.ensures.writes.goes in
+    let goes = c.stage.ensures.writes.preserves in
     record {
       ends = search rules;
       fits = λ fits. c.append.ensures.keeps.fits (fits_on cache old mid fits goes (c.stage.ensures.changes fits.honest));

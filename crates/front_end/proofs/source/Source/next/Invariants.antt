@@ -11,7 +11,7 @@ invariant-loop-octet g l =
     let old = g.S.Site.state l.fn.site in
     let now = g.S.Site.state l.site in
     record {
-      goes : Preserves old now;
+      preserves : Preserves old now;
       faults : SameFaults old now;
       source : IsSource l.self;
       len : l.len ≤ 501;

@@ -22,7 +22,7 @@ returns-in-Ok-None-clause-shown g c finds versions =
     let same : now.image ≡ old.image = (reads.same finds.honest).image in
     let page : ℕ = c.loop-page.page in
     let contents = c.args.self.now.expected.contents in
-    let says = c.in-Ok-None.ensures.shown (versions_later geometry c.args.rings.now c.args.frames.now old now reads.goes same finds) (subst (AreVersions geometry) (sym same) versions) in (
+    let says = c.in-Ok-None.ensures.shown (versions_later geometry c.args.rings.now c.args.frames.now old now reads.preserves same finds) (subst (AreVersions geometry) (sym same) versions) in (
       λ wrong. absurd (true≢false (sym wrong)),
       λ all. absurd (true≢false (sym (says.1 (subst (λ (image : Image). HasContents contents page (version_on geometry image page)) (sym same) (all page c.loop-page-test.true))) ∙ ap is_some c.in-Ok-None.field-0-is)),
     )
@@ -40,11 +40,11 @@ loop-page-preserved g c =
     let contents = c.args.self.now.expected.contents in
     let some : c.in-Ok-Some.field-0 ≡ Some c.in-Ok-Some.more = c.in-Ok-Some.field-0-is in
     record {
-      may_read = may_read_later geometry rings now new c.in-Ok-Some.ensures.reads.goes c.loop-page.invariant.may_read;
+      may_read = may_read_later geometry rings now new c.in-Ok-Some.ensures.reads.preserves c.loop-page.invariant.may_read;
       have = λ finds versions n below. elim (cases_eq n page) [
         | inl here ↦
             let same : now.image ≡ old.image = (reads.same finds.honest).image in
-            let says = c.in-Ok-Some.ensures.shown (versions_later geometry rings frames old now reads.goes same finds) (subst (AreVersions geometry) (sym same) versions) in
+            let says = c.in-Ok-Some.ensures.shown (versions_later geometry rings frames old now reads.preserves same finds) (subst (AreVersions geometry) (sym same) versions) in
             let shown : HasContents contents page (version_on geometry old.image page) = subst (λ (image : Image). HasContents contents page (version_on geometry image page)) same (says.0 (ap is_some some)) in
             subst (λ (k : ℕ). HasContents contents k (version_on geometry old.image k)) (sym here) shown
         | inr other ↦ c.loop-page.invariant.have finds versions n (omega (arith, below, other))
@@ -52,7 +52,7 @@ loop-page-preserved g c =
       counted = λ log finds versions are.
           let same : now.image ≡ old.image = (reads.same finds.honest).image in
           let more = subst (λ (o : Option ℕ). IfSome o (λ count. count ≡ values_among (value_of log (versions_on geometry now.image)) (32 * page) 32)) some
-          (c.in-Ok-Some.ensures.values log (versions_later geometry rings frames old now reads.goes same finds) (subst (AreVersions geometry) (sym same) versions) are) in
+          (c.in-Ok-Some.ensures.values log (versions_later geometry rings frames old now reads.preserves same finds) (subst (AreVersions geometry) (sym same) versions) are) in
           page_more (value_of log (versions_on geometry old.image)) page c.loop-page.count c.in-Ok-Some.more (c.loop-page.invariant.counted log finds versions are)
           (more ∙ ap (λ (image : Image). values_among (value_of log (versions_on geometry image)) (32 * page) 32) same);
       few = let before = c.loop-page.invariant.few in let more = subst (λ (o : Option ℕ). IfSome o (λ count. count ≤ 32)) some c.in-Ok-Some.ensures.few in omega (arith, before, more);

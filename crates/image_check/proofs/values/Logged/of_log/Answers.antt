@@ -50,7 +50,7 @@ returns-then-not-is_known_early-clause-known g c blocks finds has = (
       let same : now.image ≡ old.image = (reads.same finds.honest).image in
       let so_far = c.loop-logged.invariant.heard blocks finds has in
       let w = so_far.0 in
-      let gives = gives_at log c.loop-logged.walk c.next.new.self now.image old.image w.left c.in_ok-lsn.field-0 same w.stands (c.in_ok-lsn.ensures.next w.left (finds_later log old now reads.goes same finds)) in
+      let gives = gives_at log c.loop-logged.walk c.next.new.self now.image old.image w.left c.in_ok-lsn.field-0 same w.stands (c.in_ok-lsn.ensures.next w.left (finds_later log old now reads.preserves same finds)) in
       let more = subst (λ (o : Option (ℕ × LogRecord)). Gives o w.left c.next.new.self log old.image) c.in-Some.is gives in
       let e : Entry = record { lsn = c.in-Some.lsn; rec = c.in-Some.rec } in
       let all : log_from c.args.master.now.kept blocks ≡ w.done ++ e ∷ more.0 = w.split ∙ ap (λ (l : List Entry). w.done ++ l) more.1 in
@@ -75,13 +75,13 @@ loop-logged-preserved g c =
     let redo : ℕ = c.args.master.now.redo in
     let lsns : List ℕ = c.args.lsns.now in
     record {
-      going = going_later log now (g.S.Site.state c.next.new.site) c.in_ok-lsn.ensures.reads.goes c.loop-logged.invariant.going;
+      going = going_later log now (g.S.Site.state c.next.new.site) c.in_ok-lsn.ensures.reads.preserves c.loop-logged.invariant.going;
       walks = c.in_ok-lsn.ensures.walk;
       heard = λ blocks finds has.
           let same : now.image ≡ old.image = (reads.same finds.honest).image in
           let so_far = c.loop-logged.invariant.heard blocks finds has in
           let w = so_far.0 in
-          let gives = gives_at log c.loop-logged.walk c.next.new.self now.image old.image w.left c.in_ok-lsn.field-0 same w.stands (c.in_ok-lsn.ensures.next w.left (finds_later log old now reads.goes same finds)) in
+          let gives = gives_at log c.loop-logged.walk c.next.new.self now.image old.image w.left c.in_ok-lsn.field-0 same w.stands (c.in_ok-lsn.ensures.next w.left (finds_later log old now reads.preserves same finds)) in
           let more = subst (λ (o : Option (ℕ × LogRecord)). Gives o w.left c.next.new.self log old.image) c.in-Some.is gives in
           let e : Entry = record { lsn = c.in-Some.lsn; rec = c.in-Some.rec } in
           let all : List Entry = log_from c.args.master.now.kept blocks in
@@ -105,7 +105,7 @@ whole g c blocks finds has =
     let same : now.image ≡ old.image = (reads.same finds.honest).image in
     let so_far = c.loop-logged.invariant.heard blocks finds has in
     let w = so_far.0 in
-    let gives = gives_at log c.loop-logged.walk c.next.new.self now.image old.image w.left c.in_ok-lsn.field-0 same w.stands (c.in_ok-lsn.ensures.next w.left (finds_later log old now reads.goes same finds)) in
+    let gives = gives_at log c.loop-logged.walk c.next.new.self now.image old.image w.left c.in_ok-lsn.field-0 same w.stands (c.in_ok-lsn.ensures.next w.left (finds_later log old now reads.preserves same finds)) in
     let none : w.left ≡ [] = subst (λ (o : Option (ℕ × LogRecord)). Gives o w.left c.next.new.self log old.image) c.in_default.is gives in
     let all : List Entry = log_from c.args.master.now.kept blocks in
     subst (Hears c.args.master.now.redo c.args.lsns.now all c.loop-logged.logged) (sym (walked_all c.loop-logged.walk log old.image all w none)) so_far.1

@@ -42,9 +42,9 @@ returns-in_err-append-clause-seals g c =
       };
       outside = λ honest. search rules;
       beside = λ fits. seal_beside store old new c.tail_block-content.result going (c.append.ensures.any_moment fits.honest (ring_ready store old going fits));
-      past = λ honest. search rules;
+      device_calls = λ honest. search rules;
       going =
-          goes_on store _ old new going c.append.ensures.goes refl c.append.ensures.usable c.append.ensures.shape
+          goes_on store _ old new going c.append.ensures.preserves refl c.append.ensures.usable c.append.ensures.shape
           (let kept = going.kept in omega (arith, kept, same)) (let live = going.live in omega (arith, live, same)) going.low going.high;
     }
 
@@ -57,7 +57,7 @@ returns-clause-seals g c =
     let wants : c.args.wanted ≡ true = search rules in
     let more = ap (λ (r : Ring). r.hi) c.in_ok-append.ensures.ok in
     let shape = c.append.ensures.shape ∙ going.shape in
-    let goes = c.append.ensures.goes in
+    let goes = c.append.ensures.preserves in
     record {
       keeps = record {
         finds = λ found.
@@ -79,7 +79,7 @@ returns-clause-seals g c =
         err = tt;
         kept = refl;
         geometry = refl;
-        goes = goes;
+        preserves = goes;
         faults = c.in_ok-append.ensures.faults;
         reads = c.append.ensures.reads;
         worn = (λ says. absurd (no_error says), λ both. absurd (no_error (c.in_ok-append.ensures.worn.1 both.1)));
@@ -95,20 +95,20 @@ returns-clause-seals g c =
       reaches = λ log found holds.
           let there = ring_finds store old going found in
           seal_reaches store old new log c.tail_block-content.result going found holds c.requires.room (c.requires.some wants) (c.tail_block-content.ensures log.tail holds.tail) (c.append.ensures.changes found.honest).only
-          c.append.ensures.goes c.append.new.self (c.in_ok-append.ensures.ready found.honest there) c.append.ensures.shape (c.in_ok-append.ensures.outside found.honest)
+          c.append.ensures.preserves c.append.new.self (c.in_ok-append.ensures.ready found.honest there) c.append.ensures.shape (c.in_ok-append.ensures.outside found.honest)
           (c.in_ok-append.ensures.stands found.honest there) c.args.wanted wants;
       next_block = λ honest. record {
         next = λ is. subst (λ (s : Shape). c.append.new.self.hi ≡ hi_of s (region s new)) (c.append.ensures.shape ∙ going.shape)
             (c.in_ok-append.ensures.fits honest (subst (λ (s : Shape). store.ring.hi ≡ hi_of s (region s old)) (sym going.shape) is));
-        masters = masters_beside store.geometry old new going.limits going.lengths c.append.ensures.goes
+        masters = masters_beside store.geometry old new going.limits going.lengths c.append.ensures.preserves
             (subst (λ (s : Shape). SameOutside s (region s old) (region s new)) going.shape (c.in_ok-append.ensures.outside honest));
         worn = λ is says. absurd (no_error says);
       };
       outside = λ honest. subst (λ (s : Shape). SameOutside s (region s old) (region s new)) going.shape (c.in_ok-append.ensures.outside honest);
       beside = λ fits. seal_beside store old new c.tail_block-content.result going (c.append.ensures.any_moment fits.honest (ring_ready store old going fits));
-      past = λ honest. let five = c.in_ok-append.ensures.past honest in omega (arith, more, five);
+      device_calls = λ honest. let five = c.in_ok-append.ensures.device_calls honest in omega (arith, more, five);
       going =
-          goes_on store _ old new going c.append.ensures.goes refl c.append.ensures.usable c.append.ensures.shape
+          goes_on store _ old new going c.append.ensures.preserves refl c.append.ensures.usable c.append.ensures.shape
           (let kept = going.kept in omega (arith, kept, more)) (let room = c.requires.room in let kept = going.kept in omega (arith, room, more, kept)) (omega arith) (omega arith);
     }
 
@@ -120,5 +120,5 @@ returns-clause-holds g c log found holds =
     let wants : c.args.wanted ≡ true = search rules in
     let there = ring_finds store old c.requires.going found in
     seal_holds store old new log c.tail_block-content.result c.requires.going found holds c.requires.room (c.requires.some wants) (c.tail_block-content.ensures log.tail holds.tail) (c.append.ensures.changes found.honest).only
-    c.append.ensures.goes c.append.new.self (c.in_ok-append.ensures.ready found.honest there) c.append.ensures.shape (c.in_ok-append.ensures.outside found.honest)
+    c.append.ensures.preserves c.append.new.self (c.in_ok-append.ensures.ready found.honest there) c.append.ensures.shape (c.in_ok-append.ensures.outside found.honest)
     (c.in_ok-append.ensures.stands found.honest there) c.args.wanted wants c.append.new.self

@@ -49,7 +49,7 @@ returns-in-Ok-clause-works g c =
       log_reads = read.log_reads ∙ first.log_reads;
       stops = search rules;
       next = λ honest. next_then first.forces.geometry first.geometry (first.next honest)
-          (next_read c.read_in.result (read.same (stays_honest (g.S.Site.state c.args.site.now) (g.S.Site.state c.make_room.new.site) first.calls.goes honest)) read.segments read.geometry (search rules) (search rules));
+          (next_read c.read_in.result (read.same (stays_honest (g.S.Site.state c.args.site.now) (g.S.Site.state c.make_room.new.site) first.calls.preserves honest)) read.segments read.geometry (search rules) (search rules));
     }
 
 pub returns-in-Ok-clause-keeps : goal.returns-in-Ok-clause-keeps
@@ -85,7 +85,7 @@ returns-in-Ok-clause-stands g c list ready =
           (stands.ahead ahead).pool put content;
       rings = λ newest rings. subst (AreRingsSoundUnder newest store.flash.geometry) (sym same.image) (stands.rings newest rings);
       reaches = subst (λ (i : Image). Reaches store.flash.geometry changes old.image i) (sym same.image) stands.reaches;
-      past = counts_then store.flash.geometry old mid new stands.past (calls_unchanged store.flash.geometry mid new same);
+      device_calls = counts_then store.flash.geometry old mid new stands.device_calls (calls_unchanged store.flash.geometry mid new same);
     })
     (read.fits fits) (c.read_in.ensures.current fits) c.read_in.ensures.put (c.read_in.ensures.read fits)
 

@@ -83,16 +83,16 @@ returns-in-Ok g c =
     let new = g.S.Site.state c.push_group-pushed.new.site in
     let store = c.args.self.now in
     let cache = c.push_group-pushed.new.self in
-    let after = c.tell_pages.new.self in
+    let after = c.update_framed_pages.new.self in
     let store' : PageStore = record store { flash = cache } in
-    let first_told : c.tell_marks.new.self ≡ record store' { pool = record store.pool { framed = c.tell_marks.new.self.pool.framed } } = c.tell_marks.ensures.kept in
+    let first_told : c.update_framed_marks.new.self ≡ record store' { pool = record store.pool { framed = c.update_framed_marks.new.self.pool.framed } } = c.update_framed_marks.ensures.kept in
     let told : after ≡ record store' { pool = record store.pool { framed = after.pool.framed } } =
-    c.tell_pages.ensures.kept ∙ ap (λ (s : PageStore). let t : PageStore = record s { pool = record s.pool { framed = after.pool.framed } } in t) first_told in
+    c.update_framed_pages.ensures.kept ∙ ap (λ (s : PageStore). let t : PageStore = record s { pool = record s.pool { framed = after.pool.framed } } in t) first_told in
     let flash : after.flash ≡ cache = ap (λ (s : PageStore). s.flash) told in
     let frames : after.pool.frames ≡ store.pool.frames = ap (λ (s : PageStore). s.pool.frames) told in
-    let are_told : AreTold after = told_pushed c.push_group-pushed.result store cache _ c.args.pages.now c.args.changed.now c.tell_marks.new.self after c.requires.going.pages_going.own.told
+    let are_told : AreTold after = told_pushed c.push_group-pushed.result store cache _ c.args.pages.now c.args.changed.now c.update_framed_marks.new.self after c.requires.going.pages_going.own.told
     c.push_group-pushed.ensures.directory c.push_group-pushed.ensures.keeps.kept c.leaving-count.ensures.marks
-    (ap (λ (s : PageStore). s.pool.frames) first_told) (ap (λ (s : PageStore). s.pool.frames) c.tell_pages.ensures.kept) c.tell_marks.ensures.told c.tell_pages.ensures.told in
+    (ap (λ (s : PageStore). s.pool.frames) first_told) (ap (λ (s : PageStore). s.pool.frames) c.update_framed_pages.ensures.kept) c.update_framed_marks.ensures.told c.update_framed_pages.ensures.told in
     let h = store.flash.geometry in
     let log = c.args.log.now in
     let log' = c.force_for.new.log in
@@ -106,7 +106,7 @@ returns-in-Ok g c =
     let same_sizes : log'.geometry ≡ h = c.force_for.ensures.forces.geometry ∙ sizes in
     let rises = c.force_for.ensures.forces.rises in
     let b = λ (list : LogList) (ready : AreReady store log list old). between store log log' sealing list old mid ready
-    (c.force_for.ensures.seals.changes ready.blocks.honest) c.force_for.ensures.calls.goes (c.in-Ok.ensures.seals.finds ready.blocks)
+    (c.force_for.ensures.seals.changes ready.blocks.honest) c.force_for.ensures.calls.preserves (c.in-Ok.ensures.seals.finds ready.blocks)
     (c.in-Ok.ensures.holds list ready.blocks ready.records) in
     let has = λ (list : LogList) (ready : AreReady store log list old). c.push_group-pushed.ensures.frames ready.pages.groups (b list ready).fits
     (b list ready).holds in
@@ -179,8 +179,8 @@ returns-in-Ok g c =
           record {
             gives = gives;
             reaches = made;
-            past = push_calls h list sealing (changes_of_group store.flash old.image pages changed contents) log.ring.hi log'.ring.hi old mid new made (paid_group store.flash old.image pages changed contents)
-                c.in-Ok.ensures.forces.next (c.in-Ok.ensures.seals.past ready.blocks.honest) past (own.told ∙ b.told) (c.force_for.ensures.seals.changes ready.blocks.honest).only.grown own.log.grown;
+            device_calls = push_calls h list sealing (changes_of_group store.flash old.image pages changed contents) log.ring.hi log'.ring.hi old mid new made (paid_group store.flash old.image pages changed contents)
+                c.in-Ok.ensures.forces.next (c.in-Ok.ensures.seals.device_calls ready.blocks.honest) past (own.told ∙ b.told) (c.force_for.ensures.seals.changes ready.blocks.honest).only.grown own.log.grown;
             leaves = λ given are given_clean. pushed_pages store.flash groups pages changed contents old mid new b.flash b.disk b.told c.ring_kept.ensures
                 (masters_kept c.ring_kept.ensures h (first list) old (snapshot_of mid) (own_sealing sealing list) (reached_all h (first list) old mid b.told (reached list ready))) given sealing list are (sealed_blocks list ready)
                 (snapshot_of new) now (clean (cleaned given_clean)) (reached_all h _ mid new own.told reaches);
@@ -191,13 +191,13 @@ returns-in-Ok g c =
                 (c.rings_kept_under.ensures newest) h _ mid.image new.image ((c.rings_kept_under.ensures newest) h (first list) old.image mid.image rings (sealing_keeps h old.image sealing list) (reached list ready)) (kept_rings list ready sound) reaches;
             ready = λ given_clean sound marked. record {
               pages = fits_told store' after new told (fits_behind store cache log list old ready c.push_group-pushed.ensures.keeps.geometry pages contents new _ fits holds (clean (cleaned given_clean)) gives c.requires.lists sound marked);
-              blocks = log_found log' mid new units c.push_group-pushed.ensures.keeps.goes b.log_fits;
+              blocks = log_found log' mid new units c.push_group-pushed.ensures.keeps.preserves b.log_fits;
               records = c.stays_beside.ensures.holds log' mid.image new.image (sealed_if sealing list) units b.log_holds;
             };
           })
           c.push_group-pushed.ensures.directory (c.push_group-pushed.ensures.gives groups b.fits b.holds b.clean) (c.push_group-pushed.ensures.reaches groups b.fits b.holds)
           (ok_under c.push_group-pushed.result _ _ (c.push_group-pushed.ensures.clean groups b.fits b.holds b.clean)) (c.push_group-pushed.ensures.keeps.fits b.fits) (c.push_group-pushed.ensures.holds groups b.fits b.holds)
-          (c.push_group-pushed.ensures.past b.honest);
+          (c.push_group-pushed.ensures.device_calls b.honest);
       pushes =
           let log_reads = c.push_group-pushed.ensures.others Log (λ same. cc) ∙ c.force_for.ensures.seals.reads Log in
           let going : Invariant after new = going_told store cache after old new c.push_group-pushed.ensures.keeps.geometry told c.push_group-pushed.ensures.keeps.going are_told c.requires.going.pages_going in
@@ -212,10 +212,10 @@ returns-in-Ok g c =
               log_reads = log_reads;
               stops = search rules;
               next = λ honest.
-                  let own = c.push_group-pushed.ensures.changes (stays_honest old mid c.force_for.ensures.calls.goes honest) in
+                  let own = c.push_group-pushed.ensures.changes (stays_honest old mid c.force_for.ensures.calls.preserves honest) in
                   next_with {middle = store'} refl flash (next_then {a = tt} {between = store} c.force_for.ensures.forces.geometry refl
                   (next_logged {pages = store} (c.in-Ok.ensures.seals.next_block honest) (c.force_for.ensures.seals.changes honest) (λ says. no_error says))
-                  (next_pushed {pages' = store'} (c.push_group-pushed.ensures.keeps.next_segment (stays_honest old mid c.force_for.ensures.calls.goes honest)) own.log.now.content (search rules)));
+                  (next_pushed {pages' = store'} (c.push_group-pushed.ensures.keeps.next_segment (stays_honest old mid c.force_for.ensures.calls.preserves honest)) own.log.now.content (search rules)));
             };
             logged = λ all. (let all_told = subst (AllByRecursion (λ (f : Frame). IsLogged (end_forced log) f.content)) (sym frames) all in search rules);
             ended = ap (λ (s : PageStore). s.ended) told;

@@ -63,7 +63,7 @@ module _ (g : Over) (c : After-read_disk g) where
   goes_on : Invariant (record c.args.self.now { flash = c.fetch.new.self }) (g.S.Site.state c.read_disk.new.site)
   goes_on =
       let new = g.S.Site.state c.read_disk.new.site in
-      let flash = flash_later c.fetch.new.self (g.S.Site.state c.fetch.new.site) new c.read_disk.ensures.calls.goes c.fetch.ensures.going in
+      let flash = flash_later c.fetch.new.self (g.S.Site.state c.fetch.new.site) new c.read_disk.ensures.calls.preserves c.fetch.ensures.going in
       store_with c.args.self.now c.fetch.new.self (g.S.Site.state c.args.site.now) new same_geometry (λ n. ap (λ (f : FlashCache). has_frame f.directory n) (c.fetch.ensures.none unframed).1) flash c.requires.going
 
 pub returns-in-Ok-read_disk-clause-reads : goal.returns-in-Ok-read_disk-clause-reads
@@ -79,11 +79,11 @@ returns-in-Ok-read_disk-clause-reads g c =
       same = search rules;
       fits = λ fits.
           let first = c.fetch.ensures.reads.same fits.flash.honest in
-          let honest = stays_honest old mid c.fetch.ensures.reads.goes fits.flash.honest in
+          let honest = stays_honest old mid c.fetch.ensures.reads.preserves fits.flash.honest in
           let second = c.read_disk.ensures.same honest in
           let flash = ap (λ i. i.flash) second.image in
           ok_as c.sound_page-in-Ok-read_disk.result _ (Matches (record store { flash = cache }) new) (λ x. fits_with store cache old new fits (same_geometry g s) (unchanged_in_sequence old mid new first second)
-          (flash_fits_same cache mid new flash (stays_honest mid new c.read_disk.ensures.calls.goes honest) (c.in-Ok.ensures.fits fits.flash))
+          (flash_fits_same cache mid new flash (stays_honest mid new c.read_disk.ensures.calls.preserves honest) (c.in-Ok.ensures.fits fits.flash))
           (flash_holds_same cache mid.image new.image fits.groups flash (c.in-Ok.ensures.holds fits.groups fits.flash fits.holds))) c.sound_page-in-Ok-read_disk.ensures.sound;
       going = goes_on g s;
       geometry = same_geometry g s;
@@ -94,7 +94,7 @@ returns-in-Ok-read_disk-clause-reads g c =
       log_reads = search rules;
       foreign = λ is fits.
           let first = c.fetch.ensures.reads.same fits.flash.honest in
-          let read = c.in-Ok-read_disk.ensures.read (stays_honest old mid c.fetch.ensures.reads.goes fits.flash.honest) in
+          let read = c.in-Ok-read_disk.ensures.read (stays_honest old mid c.fetch.ensures.reads.preserves fits.flash.honest) in
           kept_where c.sound_page-in-Ok-read_disk.result Foreign _ is c.sound_page-in-Ok-read_disk.ensures.unsound
           (subst IsSound (sym (read ∙ ap (λ (i : Image). page_on c.args.page i.disk) first.image ∙ sym (c.unframed_is_disk.ensures store.flash old.image fits.groups c.args.page fits.holds (unframed g s)))) (fits.sound c.args.page c.requires.exists));
     }
@@ -127,10 +127,10 @@ returns-in-Ok-read_disk-clause-stages g c =
     let new = g.S.Site.state c.read_disk.new.site in
     let after : PageStore = record store { flash = c.fetch.new.self } in
     stages_still (ok_always c.sound_page-in-Ok-read_disk.result _ refl) (omega arith) (search rules) c.fetch.ensures.geometry (λ has.
-    let honest = stays_honest (g.S.Site.state c.args.site.now) mid c.fetch.ensures.reads.goes has.fits.honest in
+    let honest = stays_honest (g.S.Site.state c.args.site.now) mid c.fetch.ensures.reads.preserves has.fits.honest in
     let second = c.read_disk.ensures.same honest in
     ok_always c.sound_page-in-Ok-read_disk.result (HasQueueOn after new)
-    (queue_same after after mid new refl (ap (λ i. i.flash) second.image) (stays_honest mid new c.read_disk.ensures.calls.goes honest)
+    (queue_same after after mid new refl (ap (λ i. i.flash) second.image) (stays_honest mid new c.read_disk.ensures.calls.preserves honest)
     (queue_pushed {T = Bool} (Ok c.in-Ok.found) c.fetch.new.self store has.groups mid c.fetch.ensures.going (c.in-Ok.ensures.fits has.fits) (c.in-Ok.ensures.holds has.groups has.fits has.holds))))
 
 pub returns-in-Err-read_disk-clause-stages : goal.returns-in-Err-read_disk-clause-stages

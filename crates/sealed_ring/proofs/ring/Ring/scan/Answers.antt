@@ -10,7 +10,7 @@ pub returns-then-head-ge-HI_MAX-clause-foreign : goal.returns-then-head-ge-HI_MA
 returns-then-head-ge-HI_MAX-clause-foreign g c says honest form =
     let old = g.S.Site.state c.args.site.now in
     let now = g.S.Site.state c.loop-slot.site in
-    let honest-now = stays_honest old now c.loop-slot.invariant.reads.goes honest in
+    let honest-now = stays_honest old now c.loop-slot.invariant.reads.preserves honest in
     let there = ap (content_of c.args.shape.dev) (c.loop-slot.invariant.reads.same honest).image in
     let its_gate = c.in-Ok.ensures.gate honest-now ∙ ap (λ x. gate c.args.shape x c.loop-slot.slot) there in
     let its_number = c.in-Ok.ensures.number honest-now ∙ ap (λ x. number c.args.shape x c.loop-slot.slot) there in

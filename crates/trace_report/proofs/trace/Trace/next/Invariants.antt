@@ -10,7 +10,7 @@ invariant-loop-octet g l =
     let old = g.S.Site.state l.fn.site in
     let now = g.S.Site.state l.site in
     record {
-      goes : Preserves old now;
+      preserves : Preserves old now;
       reads : SameReads old now;
       faults : faults_in now ≡ faults_in old;
       usable : IsUsable l.self;

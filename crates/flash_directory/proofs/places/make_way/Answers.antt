@@ -1,8 +1,0 @@
-use Rattle.std.proofs.Common.{nat_eq}
-use Rattle.indexmap.specs.IndexMap.{get}
-use Rattle.flash_directory.proofs.Keeping.{places_left}
-use Rattle.flash_directory.proofs.places.make_way.Goals as goal
-
-pub returns-clause-places : goal.returns-clause-places
-returns-clause-places c = λ finds. λ page. rw (c.if-not-drop_front.false) (places_left c.args.first c.args.groups.now.items c.pop_front.new.self.items c.in-Some.front page (get nat_eq c.args.places.now page)
-    (get nat_eq c.forget_group.new.places page) c.in-Some.ensures.items (finds page) (c.forget_group.ensures.forgets page))

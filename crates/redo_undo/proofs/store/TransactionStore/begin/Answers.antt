@@ -1,0 +1,60 @@
+use Rattle.std.proofs.Common.{refl, ℕ, ◌+◌, rules}
+use Rattle.image_meaning.proofs.Leaving.{under_leaves_for}
+use Rattle.page_store.proofs.StagingLaws.{stages_ok, stages_err}
+use Rattle.redo_laws.proofs.Asking.{asks_nothing, stages_log}
+use Rattle.redo_laws.proofs.AskingFlush.{never_worn_flash}
+use Rattle.redo_undo.proofs.Calling.{keeps_appended, log_stops}
+use Rattle.site.proofs.Working.{no_error}
+use Rattle.page_store.proofs.NextUnits.{next_logged}
+use Rattle.redo_undo.specs.StoreCalls.{KeepsNext}
+use Rattle.redo_undo.proofs.NextUnits.{store_next}
+use Rattle.redo_undo.proofs.StoreCalling.{keeps_of}
+use Rattle.redo_undo.proofs.Saved.{finds_kept}
+use Rattle.std.specs.Prelude.{Ok, Err, IsTrue}
+use Rattle.redo_undo.proofs.store.TransactionStore.begin.Goals as goal
+use Rattle.redo_undo.proofs.MirroringStores.{store_performs}
+
+pub returns-in-Ok-clause-holds : goal.returns-in-Ok-clause-holds
+returns-in-Ok-clause-holds g c newest records table commits h = λ may.
+    let going = c.requires.may.going in
+    record {
+      both = c.in-Ok.ensures.holds c.args.self.now.pages newest records table commits going.both.sizes h.both refl may;
+      orderly = c.in-Ok.ensures.orderly c.args.self.now.pages newest records table commits going.both.sizes h.both may h.orderly;
+      masters = finds_kept c.args.self.now.masters (g.S.Site.state c.args.site.now) (g.S.Site.state c.log_record.new.site) going.shape ((c.in-Ok.ensures.keeps c.args.self.now.pages newest records table commits h.both).masters) h.masters;
+    }
+
+pub returns-in-Ok-clause-asks : goal.returns-in-Ok-clause-asks
+returns-in-Ok-clause-asks g c = asks_nothing _ c.args.self.now.pages _ _ c.log_record.ensures.works.reads (stages_ok (stages_log c.in-Ok.ensures.works))
+
+pub returns-in-Err-clause-asks : goal.returns-in-Err-clause-asks
+returns-in-Err-clause-asks g c = asks_nothing _ c.args.self.now.pages _ _ c.log_record.ensures.works.reads (stages_err (stages_log c.in-Err.ensures.works))
+
+pub returns-in-Ok-clause-keeps : goal.returns-in-Ok-clause-keeps
+returns-in-Ok-clause-keeps g c newest records table commits h =
+    keeps_of (under_leaves_for newest _ _ _ table commits _) (keeps_appended c.requires.may.going.both tt (c.in-Ok.ensures.keeps c.args.self.now.pages newest records table commits h.both))
+
+pub returns-in-Err-clause-keeps : goal.returns-in-Err-clause-keeps
+returns-in-Err-clause-keeps g c newest records table commits h =
+    keeps_of (under_leaves_for newest _ _ _ table commits _) (keeps_appended c.requires.may.going.both c.in-Err.ensures.stops (c.in-Err.ensures.keeps c.args.self.now.pages newest records table commits h.both))
+
+pub returns-in-Ok-clause-works : goal.returns-in-Ok-clause-works
+returns-in-Ok-clause-works g c =
+    let works = c.in-Ok.ensures.works in
+    let next : IsTrue (g.S.Site.state c.args.site.now).honest → KeepsNext {T = ℕ} (Ok c.in-Ok.lsn) c.args.self.now (record c.args.self.now { log = c.log_record.new.log; made = c.args.self.now.made + 1 })
+    (g.S.Site.state c.args.site.now) (g.S.Site.state c.log_record.new.site) =
+    λ honest. store_next c.requires.may.going.both.sizes refl tt (next_logged (works.next honest) (works.changes honest) (λ says. no_error says)) in
+    search rules
+
+pub returns-in-Err-clause-works : goal.returns-in-Err-clause-works
+returns-in-Err-clause-works g c =
+    let works = c.in-Err.ensures.works in
+    let next : IsTrue (g.S.Site.state c.args.site.now).honest → KeepsNext {T = ℕ} (Err c.in-Err.stop) c.args.self.now (record c.args.self.now { log = c.log_record.new.log })
+    (g.S.Site.state c.args.site.now) (g.S.Site.state c.log_record.new.site) =
+    λ honest. store_next c.requires.may.going.both.sizes refl (log_stops c.in-Err.stop c.in-Err.ensures.stops) (next_logged (works.next honest) (works.changes honest) (never_worn_flash (Err c.in-Err.stop) c.in-Err.ensures.stops)) in
+    search rules
+
+pub returns-in-Ok-clause-performs : goal.returns-in-Ok-clause-performs
+returns-in-Ok-clause-performs g c newest records table commits h = store_performs refl refl (c.in-Ok.ensures.performs c.args.self.now.pages newest records table commits c.requires.may.going.both h.both)
+
+pub returns-in-Err-clause-performs : goal.returns-in-Err-clause-performs
+returns-in-Err-clause-performs g c newest records table commits h = store_performs refl refl (c.in-Err.ensures.performs c.args.self.now.pages newest records table commits c.requires.may.going.both h.both)

@@ -1,0 +1,29 @@
+use Rattle.std.proofs.Common.{refl, rules}
+use Rattle.std.specs.Prelude.{IsTrue}
+use Rattle.redo_undo.specs.StoreCalls.{KeepsNext}
+use Rattle.redo_undo.proofs.NextUnits.{store_next}
+use Rattle.image_meaning.proofs.Leaving.{under_leaves_for}
+use Rattle.redo_undo.proofs.Saved.{finds_kept}
+use Rattle.redo_undo.proofs.StoreCalling.{keeps_of, where_two}
+use Rattle.redo_undo.proofs.store.TransactionStore.touch.Goals as goal
+use Rattle.redo_undo.proofs.MirroringStores.{store_performs}
+
+pub returns-clause-holds : goal.returns-clause-holds
+returns-clause-holds g c newest records table commits h =
+    let keeps = finds_kept c.args.self.now.masters (g.S.Site.state c.args.site.now) (g.S.Site.state c.touch.new.site) c.requires.going.shape in
+    where_two _ _ _ c.touch.result (c.touch.ensures.holds newest records table commits h.both) ((c.touch.ensures.keeps newest records table commits h.both).masters refl)
+    (λ both units. record { both = both; orderly = h.orderly; masters = keeps units h.masters })
+
+pub returns-clause-keeps : goal.returns-clause-keeps
+returns-clause-keeps g c newest records table commits h = keeps_of (under_leaves_for newest _ _ _ table commits _) (c.touch.ensures.keeps newest records table commits h.both)
+
+pub returns-clause-works : goal.returns-clause-works
+returns-clause-works g c =
+    let works = c.touch.ensures.logs_nothing.works in
+    let next : IsTrue (g.S.Site.state c.args.site.now).honest → KeepsNext c.touch.result c.args.self.now (record c.args.self.now { log = c.touch.new.log; pages = c.touch.new.pages })
+    (g.S.Site.state c.args.site.now) (g.S.Site.state c.touch.new.site) =
+    λ honest. store_next c.requires.going.both.sizes refl works.stops (works.next honest) in
+    search rules
+
+pub returns-clause-performs : goal.returns-clause-performs
+returns-clause-performs g c newest records table commits h = store_performs refl refl (c.touch.ensures.performs newest records table commits h.both)

@@ -1,0 +1,72 @@
+use Rattle.image_meaning.proofs.Leaving.{under_leaves_for}
+use Rattle.std.proofs.Common.{refl, ℕ, List, rules, ◌≡◌, ◌+◌, ◌++◌, ◌∷◌, [], sym, subst}
+use Rattle.log_records.specs.declared.log_record.LogRecord.{LogRecord}
+use Rattle.redo_undo.proofs.Saved.{finds_kept}
+use Rattle.std.specs.Prelude.{Ok, Err, IsTrue}
+use Rattle.redo_undo.proofs.StoreCalling.{keeps_of}
+use Rattle.redo_undo.specs.StoreCalls.{KeepsNext}
+use Rattle.redo_undo.proofs.NextUnits.{store_next}
+use Rattle.redo_undo.specs.Stores.{Represents, MayGrow, shown_in, update_by}
+use Rattle.redo_undo.proofs.store.TransactionStore.update.Goals as goal
+use Rattle.ring_machine.specs.Machine.{RingOp, changed}
+use Rattle.ring_machine.specs.Octets as octets
+use Rattle.ring_machine.proofs.Performing.{performs_as}
+use Rattle.redo_undo.specs.Mirroring.{updates}
+use Rattle.redo_undo.proofs.MirroringStores.{store_performs}
+use Rattle.buffer_pool.specs.Frames.{front_of}
+
+pub returns-in-Ok-clause-holds : goal.returns-in-Ok-clause-holds
+returns-in-Ok-clause-holds g c newest records table commits h = λ may.
+    let store = c.args.self.now in
+    let old = g.S.Site.state c.args.site.now in
+    let new = g.S.Site.state c.log_change.new.site in
+    let lsn = c.in-Ok.lsn in
+    let is : update_by c.args.txn c.args.prev c.args.number c.shown.result c.copy_of.result ≡ update_by c.args.txn c.args.prev c.args.number (shown_in store old records c.args.number) c.args.after.now =
+    λ i. update_by c.args.txn c.args.prev c.args.number ((c.shown.ensures.shown old newest records table commits h) i) (c.copy_of.ensures i) in
+    let grows = subst (λ (rec : LogRecord). MayGrow store old newest records (record { lsn = lsn; rec = rec })) (sym is) may in
+    subst (λ (rec : LogRecord). Represents (record { log = c.log_change.new.log; pages = c.log_change.new.pages; masters = store.masters; made = store.made + 1 }) new newest (records ++ record { lsn = lsn; rec = rec } ∷ []) table commits) is
+    (record {
+      both = c.in-Ok.ensures.holds newest records table commits h.both grows;
+      orderly = c.in-Ok.ensures.orderly newest records table commits h.both grows h.orderly;
+      masters = finds_kept store.masters old new c.requires.may.going.shape ((c.in-Ok.ensures.keeps newest records table commits h.both).masters refl) h.masters;
+    })
+
+pub returns-in-Ok-clause-keeps : goal.returns-in-Ok-clause-keeps
+returns-in-Ok-clause-keeps g c newest records table commits h = keeps_of (under_leaves_for newest _ _ _ table commits _) (c.in-Ok.ensures.keeps newest records table commits h.both)
+
+pub returns-in-Err-clause-keeps : goal.returns-in-Err-clause-keeps
+returns-in-Err-clause-keeps g c newest records table commits h = keeps_of (under_leaves_for newest _ _ _ table commits _) (c.in-Err.ensures.keeps newest records table commits h.both)
+
+pub returns-in-Ok-clause-works : goal.returns-in-Ok-clause-works
+returns-in-Ok-clause-works g c =
+    let works = c.in-Ok.ensures.works in
+    let next : IsTrue (g.S.Site.state c.args.site.now).honest → KeepsNext {T = ℕ} (Ok c.in-Ok.lsn) c.args.self.now
+    (record c.args.self.now { log = c.log_change.new.log; pages = c.log_change.new.pages; made = c.args.self.now.made + 1 }) (g.S.Site.state c.args.site.now) (g.S.Site.state c.log_change.new.site) =
+    λ honest. store_next c.requires.may.going.both.sizes refl tt (works.next honest) in
+    search rules
+
+pub returns-in-Err-clause-works : goal.returns-in-Err-clause-works
+returns-in-Err-clause-works g c =
+    let works = c.in-Err.ensures.works in
+    let next : IsTrue (g.S.Site.state c.args.site.now).honest → KeepsNext {T = ℕ} (Err c.in-Err.stop) c.args.self.now
+    (record c.args.self.now { log = c.log_change.new.log; pages = c.log_change.new.pages }) (g.S.Site.state c.args.site.now) (g.S.Site.state c.log_change.new.site) =
+    λ honest. store_next c.requires.may.going.both.sizes refl works.stops (works.next honest) in
+    search rules
+
+pub returns-in-Ok-clause-performs : goal.returns-in-Ok-clause-performs
+returns-in-Ok-clause-performs g c newest records table commits h =
+    let store = c.args.self.now in
+    let old = g.S.Site.state c.args.site.now in
+    let front = (front_of store.pages.pool.frames).page in
+    let is : ◌≡◌ {A = List RingOp} (updates c.args.number (shown_in store old records c.args.number) c.args.after.now) (changed (octets.update_octets c.shown.result c.copy_of.result) front ∷ []) =
+    λ i. changed (octets.update_octets ((sym (c.shown.ensures.shown old newest records table commits h)) i) ((sym c.copy_of.ensures) i)) ((sym c.requires.front.page) i) ∷ [] in
+    store_performs refl refl (performs_as is (c.in-Ok.ensures.performs newest records table commits h.both))
+
+pub returns-in-Err-clause-performs : goal.returns-in-Err-clause-performs
+returns-in-Err-clause-performs g c newest records table commits h =
+    let store = c.args.self.now in
+    let old = g.S.Site.state c.args.site.now in
+    let front = (front_of store.pages.pool.frames).page in
+    let is : ◌≡◌ {A = List RingOp} (updates c.args.number (shown_in store old records c.args.number) c.args.after.now) (changed (octets.update_octets c.shown.result c.copy_of.result) front ∷ []) =
+    λ i. changed (octets.update_octets ((sym (c.shown.ensures.shown old newest records table commits h)) i) ((sym c.copy_of.ensures) i)) ((sym c.requires.front.page) i) ∷ [] in
+    store_performs refl refl (performs_as is (c.in-Err.ensures.performs newest records table commits h.both))
