@@ -65,7 +65,7 @@ def main():
     if len(sys.argv) != 2:
         sys.exit(__doc__)
     face = find_program()
-    folder = tempfile.mkdtemp(dir=sys.argv[1])
+    folder = os.path.realpath(tempfile.mkdtemp(dir=sys.argv[1]))
     os.chdir(folder)
     try:
         octets = make_database(face)
