@@ -46,11 +46,11 @@ class File:
     def line_of(self, place):
         return self.code.count("\n", 0, place) + 1
 
-    def comment(self, first=0, step=1):
+    def comment(self, first=0, step=1, mark="--"):
         """The comment lines from one on, downwards or upwards, joined."""
         lines, found = self.text.split("\n"), []
-        while 0 <= first < len(lines) and lines[first].startswith("--"):
-            found.append(lines[first][2:].strip())
+        while 0 <= first < len(lines) and lines[first].strip().startswith(mark):
+            found.append(lines[first].strip().lstrip("/-! "))
             first += step
         return " ".join(found[::step])
 
