@@ -29,7 +29,6 @@ use engine::{queue_is_on_flash, versions_are_seen};
 use front_end::{Halt, Heard, Source, tell_halt, tell_memory};
 use mem_site::MemSite;
 use record_model::{Command, serial_order};
-use redo_undo::ops_compose;
 use site::Site;
 use std::alloc::Global;
 
@@ -55,7 +54,6 @@ fn run_lines<S: Site>(alloc: Global, pool: u32, site: &mut S) -> Result<(), Halt
     ensures preserves { Preserves (S.state site.old) (S.state site.new) }
     ensures faults { RunFaults result (S.state site.old) (S.state site.new) }
 {
-    ops_compose();
     queue_is_on_flash();
     versions_are_seen();
     let mut engine = match open(alloc, pool, site) {
@@ -128,7 +126,6 @@ pub fn lack_memory<S: Site>(site: &mut S) -> u8
     ensures first { FirstDecides result (S.state site.old) (S.state site.new) }
     ensures preserves { Preserves (S.state site.old) (S.state site.new) }
 {
-    ops_compose();
     serial_order();
     let _ = tell_memory(site);
     4
