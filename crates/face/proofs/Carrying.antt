@@ -62,7 +62,7 @@ quiet_always (Err h) P p = λ other. p
 -- A command of the database.
 
 -- the call that it names has failed
-stop_faults : (A B : Type 0) (stop : Stop) (old new : Site) → WorkFaults {T = A} (Err stop) old new → RunFaults {T = B} (Err (halt.Stop stop)) old new
+pub stop_faults : (A B : Type 0) (stop : Stop) (old new : Site) → WorkFaults {T = A} (Err stop) old new → RunFaults {T = B} (Err (halt.Stop stop)) old new
 stop_faults A B (Device dev) old new is = is
 stop_faults A B Memory old new is = is
 stop_faults A B (Worn dev) old new is = is

@@ -35,6 +35,7 @@ mod Runs
 mod RunsSoFar
 mod SerialRuns
 mod Serving
+mod Statuses
 mod ToldFaults
 mod Trials
 mod Turns

@@ -11,6 +11,7 @@ use Rattle.redo_undo.specs.StoreCalls.{AreNext}
 use Rattle.engine.specs.declared.engine.Engine.{Engine}
 use Rattle.engine.specs.Representation.{Matches}
 use Rattle.engine.specs.Invariant.{Invariant, sizes_of}
+use Rattle.engine.specs.Leaves.{HasNoSizes}
 use Rattle.engine.specs.Image.{IsSound, Opens, Stands, log_under}
 use Rattle.log_records.specs.declared.log_record.LogRecord.{LogRecord}
 use Rattle.checkpoint.specs.declared.master.Master.{Master}
@@ -33,6 +34,7 @@ use Rattle.face.specs.Worn.{IsMirrored}
 pub record GoesOn (entry now : Site) (engine : Engine) : Type 0 where
   pub preserves : Preserves entry now
   pub faults : SameFaults entry now
+  pub sized : HasNoSizes entry → ⊥
   pub going : Invariant engine now
   pub fits : IsTrue entry.honest → (g : Geometry) (table : List Content) (commits : ℕ)
       → Stands g entry.image table commits → ((s : State) × Matches engine now s) × (sizes_of engine.store ≡ g)

@@ -1,6 +1,6 @@
 // A stated workload: its sets, the gets on the same records, and its summary.
 ghost use Rattle.std.specs.Prelude.{◌≡◌, ◌≢◌, ◌≤◌, ◌<◌, ◌+◌, ◌*◌, ◌&&◌, [], IfOk, IfErr, if◌then◌else◌};
-ghost use Rattle.front_end.specs.Faults.{FirstDecides, RunFaults, SameFaults};
+ghost use Rattle.front_end.specs.Faults.{FirstDecides, SameFaults};
 ghost use Rattle.site.specs.Calls.{Preserves};
 ghost use Rattle.site.specs.declared.geometry.Geometry.{Geometry};
 ghost use Rattle.front_end.specs.declared.halt.Halt.{Halt};
@@ -9,7 +9,7 @@ ghost use Rattle.record_model.specs.Run as model;
 ghost use Rattle.workload.specs.Generator.{following};
 ghost use Rattle.engine.specs.Invariant.{Invariant, sizes_of};
 ghost use Rattle.engine.specs.Leaves.{HasNoSizes};
-ghost use Rattle.face.specs.Causes.{HasCause, RefusesAsForeign};
+ghost use Rattle.face.specs.Causes.{WorkEnds};
 ghost use Rattle.face.specs.TopCall.{LoadContract};
 ghost use Rattle.face.specs.Headline.{IsGood};
 ghost use Rattle.command_line.specs.Words.{HasLoadLimits};
@@ -151,10 +151,7 @@ fn run_load<S: Site>(alloc: Global, load: &Load, site: &mut S) -> Result<Counts,
     ensures counts { (g : Geometry) (opening : State) → IsGood g opening (S.state site.old) → IfOk result (λ counts.
         HasCounted (load_run g opening load.now) counts.committed counts.checkpoints counts.found) }
     ensures halts { IfErr result (λ halt. (halt ≢ Halt.Input) × (halt ≢ Halt.Limit)) }
-    ensures cause { IfErr result (λ halt. HasCause halt (S.state site.old) (S.state site.new)) }
-    ensures refuses { HasNoSizes (S.state site.old) → RefusesAsForeign result (S.state site.old) (S.state site.new) }
-    ensures preserves { Preserves (S.state site.old) (S.state site.new) }
-    ensures faults { RunFaults result (S.state site.old) (S.state site.new) }
+    ensures ends { WorkEnds result (S.state site.old) (S.state site.new) }
 {
     queue_is_on_flash();
     versions_are_seen();
@@ -188,10 +185,7 @@ fn load_and_tell<S: Site>(alloc: Global, load: &Load, site: &mut S) -> Result<()
         → LoadWorks load.now.pool (load_run g opening load.now) (summary_text (load_run g opening load.now) load.now)
         (S.state site.old) (S.state site.new) result }
     ensures halts { IfErr result (λ halt. (halt ≢ Halt.Input) × (halt ≢ Halt.Limit)) }
-    ensures cause { IfErr result (λ halt. HasCause halt (S.state site.old) (S.state site.new)) }
-    ensures refuses { HasNoSizes (S.state site.old) → RefusesAsForeign result (S.state site.old) (S.state site.new) }
-    ensures preserves { Preserves (S.state site.old) (S.state site.new) }
-    ensures faults { RunFaults result (S.state site.old) (S.state site.new) }
+    ensures ends { WorkEnds result (S.state site.old) (S.state site.new) }
 {
     let counts = match run_load(alloc, load, site) {
         Ok(counts) => counts,

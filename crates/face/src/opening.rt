@@ -1,10 +1,7 @@
 // How a run or a load begins.
 ghost use Rattle.std.specs.Prelude.{◌≡◌, ◌≢◌, ◌≤◌, IsTrue, IfOk, IfErr};
-ghost use Rattle.front_end.specs.Faults.{RunFaults};
-ghost use Rattle.site.specs.Calls.{Preserves};
 ghost use Rattle.front_end.specs.declared.halt.Halt.{Halt};
-ghost use Rattle.engine.specs.Leaves.{HasNoSizes};
-ghost use Rattle.face.specs.Causes.{HasCause, RefusesAsForeign};
+ghost use Rattle.face.specs.Causes.{WorkEnds};
 ghost use Rattle.face.specs.Headline.{IsGood};
 ghost use Rattle.face.specs.Run.{Run};
 ghost use Rattle.face.specs.RunInProgress.{GoesOn, NeverOpens, RunInProgress};
@@ -28,10 +25,7 @@ pub fn open<S: Site>(alloc: Global, pool: u32, site: &mut S) -> Result<Engine, H
     ensures going { IfOk result (λ engine. GoesOn (S.state site.old) (S.state site.new) engine) }
     ensures left { IsTrue (S.state site.old).honest → (S.state site.new).input ≡ (S.state site.old).input }
     ensures halts { IfErr result (λ halt. (halt ≢ Halt.Input) × (halt ≢ Halt.Limit)) }
-    ensures cause { IfErr result (λ halt. HasCause halt (S.state site.old) (S.state site.new)) }
-    ensures refuses { HasNoSizes (S.state site.old) → RefusesAsForeign result (S.state site.old) (S.state site.new) }
-    ensures preserves { Preserves (S.state site.old) (S.state site.new) }
-    ensures faults { RunFaults result (S.state site.old) (S.state site.new) }
+    ensures ends { WorkEnds result (S.state site.old) (S.state site.new) }
 {
     let engine = match Engine::start(alloc, site, pool) {
         Ok(engine) => engine,

@@ -1,7 +1,6 @@
 use Rattle.std.proofs.Common.{◌≡◌, ◌-◌, ◌+◌, ◌*◌, ◌<◌, ◌≤◌, ◌&&◌, ⊎_elim, ℕ, suc, List, [], ◌∷◌, drop, false, true≢false, refl, sym, ◌∙◌, ap, subst, arith, add-one}
 use Rattle.std.proofs.lemmas.Bool.{cases_lt}
 use Rattle.site.specs.declared.geometry.Geometry.{Geometry}
-use Rattle.site.specs.Laws.{goes_in_sequence}
 use Rattle.site.specs.State.{State as Site}
 use Rattle.record_model.specs.State.{State, is_due}
 use Rattle.record_model.specs.Run.{Line, is_cache}
@@ -12,7 +11,7 @@ use Rattle.face.specs.Run.{Run, answered, first_lines, listing_at, state_at, ste
 use Rattle.face.specs.Workload.{checkpoints_in, committed_in, found_in, get_line, has_passed, load_run, makes_one, set_line}
 use Rattle.face.proofs.Ends.{answer_takes_nothing}
 use Rattle.face.proofs.Fronts.{whole_turns}
-use Rattle.face.proofs.Going.{fails_there, faults_since, goes_next}
+use Rattle.face.proofs.Going.{ends_as, ends_well, fails_there, goes_next}
 use Rattle.face.proofs.Loadings.{get_at, lines_count, load_finished, load_never_opened, load_next, load_opened, load_stopped, set_at}
 use Rattle.face.proofs.LoadCounts.{counted_next, get_makes, one_most, set_makes}
 use Rattle.face.proofs.load.run_load.Given.{Over}
@@ -135,15 +134,15 @@ returns-in-Err-carry_out-clause-works g c geometry opening good =
 pub returns-in-Err-carry_out-clause-halts : goal.returns-in-Err-carry_out-clause-halts
 returns-in-Err-carry_out-clause-halts g c = answer_takes_nothing c.in-Err-carry_out.halt c.loop-place.engine (g.S.Site.state c.loop-place.site) (g.S.Site.state c.carry_out.new.site) c.in-Err-carry_out.ensures.course.cause
 
-pub returns-in-Err-carry_out-clause-cause : goal.returns-in-Err-carry_out-clause-cause
-returns-in-Err-carry_out-clause-cause g c =
+pub returns-in-Err-clause-ends : goal.returns-in-Err-clause-ends
+returns-in-Err-clause-ends g c = ends_as c.in-Err.halt _ _ c.in-Err.ensures.ends
+
+pub returns-in-Err-carry_out-clause-ends : goal.returns-in-Err-carry_out-clause-ends
+returns-in-Err-carry_out-clause-ends g c =
     fails_there _ (g.S.Site.state c.loop-place.site) (g.S.Site.state c.carry_out.new.site) c.loop-place.engine c.loop-place.invariant.going c.in-Err-carry_out.halt c.line_at.result c.carry_out.new.engine c.in-Err-carry_out.ensures.course
 
-pub returns-in-Err-carry_out-clause-preserves : goal.returns-in-Err-carry_out-clause-preserves
-returns-in-Err-carry_out-clause-preserves g c = goes_in_sequence _ _ _ c.loop-place.invariant.going.preserves c.in-Err-carry_out.ensures.course.preserves
-
-pub returns-in-Err-carry_out-clause-faults : goal.returns-in-Err-carry_out-clause-faults
-returns-in-Err-carry_out-clause-faults g c = faults_since c.in-Err-carry_out.halt (g.S.Site.state c.args.site.now) (g.S.Site.state c.loop-place.site) (g.S.Site.state c.carry_out.new.site) c.loop-place.invariant.going.faults c.in-Err-carry_out.ensures.course.faults
+pub returns-clause-ends : goal.returns-clause-ends
+returns-clause-ends g c = ends_well _ _ (g.S.Site.state c.loop-place.site) c.loop-place.engine c.loop-place.invariant.going
 
 pub returns-clause-works : goal.returns-clause-works
 returns-clause-works g c geometry opening good =

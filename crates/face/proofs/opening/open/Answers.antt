@@ -15,6 +15,9 @@ use Rattle.shell_text.specs.Texts.{open_text}
 use Rattle.front_end.specs.Texts.{status_of}
 use Rattle.front_end.specs.declared.halt.Halt.TheVariants as halt
 use Rattle.face.specs.Run.{first_lines}
+use Rattle.engine.specs.declared.engine.Engine.{Engine}
+use Rattle.face.proofs.Carrying.{stop_faults}
+use Rattle.face.proofs.Going.{ends_told, ends_untold}
 use Rattle.face.proofs.CallCounts.{calls_told}
 use Rattle.face.proofs.CommandLaws.{start_cause}
 use Rattle.face.proofs.Counted.{first_counted, restart_numbers, restart_told}
@@ -45,8 +48,16 @@ returns-in-Err-clause-never g c run good =
           (λ newest blocks sound. first_reads c.args.pool run newest old.image blocks c.start.result (λ e. e.store.pages) old new new (λ dev. refl) (c.start.ensures.writes good.honest good.quiet run.geometry newest blocks sound) (c.start.ensures.asks good.honest run.geometry newest blocks sound) (c.start.ensures.log_reads good.honest run.geometry newest blocks sound));
     }
 
-pub returns-in-Err-clause-cause : goal.returns-in-Err-clause-cause
-returns-in-Err-clause-cause g c = start_cause c.start.result c.in-Err.stop (g.S.Site.state c.args.site.now) (g.S.Site.state c.start.new.site) c.in-Err.is c.in-Err.ensures.stops c.start.ensures.calls.device c.start.ensures.ends c.start.ensures.next
+pub returns-in-Err-clause-ends : goal.returns-in-Err-clause-ends
+returns-in-Err-clause-ends g c =
+    let old = g.S.Site.state c.args.site.now in
+    let new = g.S.Site.state c.start.new.site in
+    record {
+      cause = start_cause c.start.result c.in-Err.stop old new c.in-Err.is c.in-Err.ensures.stops c.start.ensures.calls.device c.start.ensures.ends c.start.ensures.next;
+      refuses = λ none. let refused = c.in-Err.ensures.refuses none in (ap halt.Stop refused.0, ap g.S.Site.state refused.1);
+      preserves = c.start.ensures.calls.preserves;
+      faults = stop_faults Engine Engine c.in-Err.stop old new c.in-Err.ensures.calls.faults;
+    }
 
 pub returns-in-Err-tell_all-clause-never : goal.returns-in-Err-tell_all-clause-never
 returns-in-Err-tell_all-clause-never g c run good =
@@ -67,11 +78,15 @@ returns-in-Err-tell_all-clause-never g c run good =
           (c.start.ensures.asks good.honest run.geometry newest blocks sound) (c.start.ensures.log_reads good.honest run.geometry newest blocks sound));
     }
 
-pub returns-in-Err-tell_all-clause-preserves : goal.returns-in-Err-tell_all-clause-preserves
-returns-in-Err-tell_all-clause-preserves g c = goes_in_sequence _ _ _ c.start.ensures.calls.preserves c.tell_all.ensures.preserves
+pub returns-in-Err-tell_all-clause-ends : goal.returns-in-Err-tell_all-clause-ends
+returns-in-Err-tell_all-clause-ends g c =
+    ends_untold c.in-Ok.engine (g.S.Site.state c.args.site.now) (g.S.Site.state c.start.new.site) (g.S.Site.state c.tell_all.new.site) (record { cause = tt; refuses = c.in-Ok.ensures.refuses; preserves = c.start.ensures.calls.preserves; faults = c.in-Ok.ensures.calls.faults }) c.tell_all.ensures.preserves
+    c.in-Err-tell_all.ensures.faults c.in-Err-tell_all.ensures.cause
 
-pub returns-in-Ok-tell_all-clause-preserves : goal.returns-in-Ok-tell_all-clause-preserves
-returns-in-Ok-tell_all-clause-preserves g c = goes_in_sequence _ _ _ c.start.ensures.calls.preserves c.tell_all.ensures.preserves
+pub returns-in-Ok-tell_all-clause-ends : goal.returns-in-Ok-tell_all-clause-ends
+returns-in-Ok-tell_all-clause-ends g c =
+    ends_told c.in-Ok.engine (g.S.Site.state c.args.site.now) (g.S.Site.state c.start.new.site) (g.S.Site.state c.tell_all.new.site) (record { cause = tt; refuses = c.in-Ok.ensures.refuses; preserves = c.start.ensures.calls.preserves; faults = c.in-Ok.ensures.calls.faults }) c.tell_all.ensures.preserves
+    c.in-Ok.engine c.in-Ok-tell_all.ensures.faults
 
 pub returns-in-Ok-tell_all-clause-opens : goal.returns-in-Ok-tell_all-clause-opens
 returns-in-Ok-tell_all-clause-opens g c run good =
@@ -114,6 +129,7 @@ returns-in-Ok-tell_all-clause-going g c =
     record {
       preserves = goes_in_sequence old mid new c.start.ensures.calls.preserves c.tell_all.ensures.preserves;
       faults = c.in-Ok-tell_all.ensures.faults ∙ c.in-Ok.ensures.calls.faults;
+      sized = c.in-Ok.ensures.refuses;
       going = goes_on engine mid new c.in-Ok.ensures.going c.tell_all.ensures.preserves;
       fits = λ honest geometry table commits stands.
           let opens = opens_where_it_stands geometry old.image table commits stands in

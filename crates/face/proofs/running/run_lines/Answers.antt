@@ -12,7 +12,7 @@ use Rattle.face.specs.RunInProgress.{GoesOn, HasAnswered}
 use Rattle.face.proofs.Answered.{answered_heard, answered_next, begins_well}
 use Rattle.face.proofs.Cuts.{Cut, no_cut, cut_more, cut_stays, line_is, cut_few_octets}
 use Rattle.face.proofs.Ends.{lists_nothing, never_opened, taking_failed, finished, answer_failed, heard_end, line_heard, quitted, taking_cause, answer_takes_nothing}
-use Rattle.face.proofs.Going.{fails_there, faults_since, goes_heard, goes_next}
+use Rattle.face.proofs.Going.{ends_as, ends_well, fails_there, faults_since, goes_heard, goes_next}
 use Rattle.face.proofs.Hearings.{hears_answer, hears_cut, hears_end, hears_nothing, hears_quit}
 use Rattle.face.proofs.Listed.{asked, is_asked}
 use Rattle.face.proofs.Waits.{answers_none}
@@ -200,39 +200,47 @@ returns-clause-works g c = (
       absurd (omega (arith, few, c.loop-line-test.false)),
 )
 
-pub returns-clause-cause : goal.returns-clause-cause
-returns-clause-cause g c = λ honest.
-    let few = cut_few_octets _ c.loop-line.source (g.S.Site.state c.loop-line.site) c.loop-line._line (c.loop-line.invariant.cut honest) c.loop-line.invariant.source in
-    absurd (omega (arith, few, c.loop-line-test.false))
+-- How it ends on any site.
 
-pub returns-in-Err-next-clause-cause : goal.returns-in-Err-next-clause-cause
-returns-in-Err-next-clause-cause g c =
+pub returns-in-Err-clause-ends : goal.returns-in-Err-clause-ends
+returns-in-Err-clause-ends g c = ends_as c.in-Err.halt _ _ c.in-Err.ensures.ends
+
+pub returns-in-Err-next-clause-ends : goal.returns-in-Err-next-clause-ends
+returns-in-Err-next-clause-ends g c =
     let entry = g.S.Site.state c.args.site.now in
     let mid = g.S.Site.state c.loop-line.site in
-    taking_cause c.in-Err-next.halt c.loop-line.source entry mid (g.S.Site.state c.next.new.site) c.in-Err-next.ensures.halts (λ e. c.in-Err-next.ensures.input (ap Err e)) c.loop-line.invariant.going.preserves.input_faults
-    (λ honest. let cut = c.loop-line.invariant.cut honest in (cut.taken, c.in-Err-next.ensures.cut_off (stays_honest entry mid c.loop-line.invariant.going.preserves honest) cut.ended))
+    let next = g.S.Site.state c.next.new.site in
+    let going = c.loop-line.invariant.going in
+    record {
+      cause = taking_cause c.in-Err-next.halt c.loop-line.source entry mid next c.in-Err-next.ensures.halts (λ e. c.in-Err-next.ensures.input (ap Err e)) going.preserves.input_faults
+          (λ honest. let cut = c.loop-line.invariant.cut honest in (cut.taken, c.in-Err-next.ensures.cut_off (stays_honest entry mid going.preserves honest) cut.ended));
+      refuses = λ none. absurd (going.sized none);
+      preserves = goes_in_sequence entry mid next going.preserves c.next.ensures.preserves;
+      faults = faults_since c.in-Err-next.halt entry mid next going.faults c.in-Err-next.ensures.faults;
+    }
 
-pub returns-in-Err-answer-clause-cause : goal.returns-in-Err-answer-clause-cause
-returns-in-Err-answer-clause-cause g c =
-    fails_there _ (g.S.Site.state c.next.new.site) (g.S.Site.state c.answer.new.site) c.loop-line.engine (goes_there g (goal.at.returns-in-Err-answer-clause-cause g c).In-Line) c.in-Err-answer.halt c.in-Line.line c.answer.new.engine c.in-Err-answer.ensures.course
+pub returns-in-End-clause-ends : goal.returns-in-End-clause-ends
+returns-in-End-clause-ends g c =
+    ends_well _ _ (g.S.Site.state c.next.new.site) c.loop-line.engine (goes_heard (g.S.Site.state c.args.site.now) (g.S.Site.state c.loop-line.site) (g.S.Site.state c.next.new.site) c.loop-line.engine c.loop-line.invariant.going c.next.ensures.preserves c.next.ensures.same c.in-Ok-next.ensures.faults)
 
-pub returns-in-Err-next-clause-preserves : goal.returns-in-Err-next-clause-preserves
-returns-in-Err-next-clause-preserves g c = goes_in_sequence _ _ _ c.loop-line.invariant.going.preserves c.next.ensures.preserves
+pub returns-in-Err-answer-clause-ends : goal.returns-in-Err-answer-clause-ends
+returns-in-Err-answer-clause-ends g c =
+    fails_there _ (g.S.Site.state c.next.new.site) (g.S.Site.state c.answer.new.site) c.loop-line.engine (goes_there g (goal.at.returns-in-Err-answer-clause-ends g c).In-Line) c.in-Err-answer.halt c.in-Line.line c.answer.new.engine c.in-Err-answer.ensures.course
 
-pub returns-in-Err-answer-clause-preserves : goal.returns-in-Err-answer-clause-preserves
-returns-in-Err-answer-clause-preserves g c = goes_in_sequence _ _ _ (goes_there g (goal.at.returns-in-Err-answer-clause-preserves g c).In-Line).preserves c.in-Err-answer.ensures.course.preserves
+pub returns-then-last-clause-ends : goal.returns-then-last-clause-ends
+returns-then-last-clause-ends g c =
+    let new = g.S.Site.state c.answer.new.site in
+    ends_well _ _ new c.answer.new.engine (goes_next _ (g.S.Site.state c.next.new.site) new c.loop-line.engine (goes_there g (goal.at.returns-then-last-clause-ends g c).In-Line) c.in_default.field-0 c.in-Line.line c.answer.new.engine c.in_default.ensures.course)
 
-pub returns-in-End-clause-preserves : goal.returns-in-End-clause-preserves
-returns-in-End-clause-preserves g c = goes_in_sequence _ _ _ c.loop-line.invariant.going.preserves c.next.ensures.preserves
-
-pub returns-then-last-clause-preserves : goal.returns-then-last-clause-preserves
-returns-then-last-clause-preserves g c = goes_in_sequence _ _ _ (goes_there g (goal.at.returns-then-last-clause-preserves g c).In-Line).preserves c.in_default.ensures.course.preserves
-
-pub returns-in-Err-next-clause-faults : goal.returns-in-Err-next-clause-faults
-returns-in-Err-next-clause-faults g c = faults_since c.in-Err-next.halt (g.S.Site.state c.args.site.now) (g.S.Site.state c.loop-line.site) (g.S.Site.state c.next.new.site) c.loop-line.invariant.going.faults c.in-Err-next.ensures.faults
-
-pub returns-in-Err-answer-clause-faults : goal.returns-in-Err-answer-clause-faults
-returns-in-Err-answer-clause-faults g c = faults_since c.in-Err-answer.halt (g.S.Site.state c.args.site.now) (g.S.Site.state c.next.new.site) (g.S.Site.state c.answer.new.site) (goes_there g (goal.at.returns-in-Err-answer-clause-faults g c).In-Line).faults c.in-Err-answer.ensures.course.faults
+pub returns-clause-ends : goal.returns-clause-ends
+returns-clause-ends g c = record {
+  cause = λ honest.
+      let few = cut_few_octets _ c.loop-line.source (g.S.Site.state c.loop-line.site) c.loop-line._line (c.loop-line.invariant.cut honest) c.loop-line.invariant.source in
+      absurd (omega (arith, few, c.loop-line-test.false));
+  refuses = λ none. absurd (c.loop-line.invariant.going.sized none);
+  preserves = c.loop-line.invariant.going.preserves;
+  faults = c.loop-line.invariant.going.faults;
+}
 
 -- What was heard.
 
