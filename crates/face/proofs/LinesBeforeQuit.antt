@@ -4,7 +4,6 @@ use Rattle.std.specs.Prelude.{count_by, if◌then◌else◌}
 use Rattle.std.specs.List.{AllByRecursion}
 use Rattle.std.proofs.lemmas.List.{append-nil, map-append}
 use Rattle.std.proofs.lemmas.Bool.{cases_lt}
-use Rattle.std.proofs.lemmas.List.Recursion.{is_count_by}
 use Rattle.record_model.specs.declared.words.CacheLine.{CacheLine}
 use Rattle.record_model.specs.State.{State}
 use Rattle.record_model.specs.Run.{Line, is_quit, is_cache, later_listings}
@@ -12,6 +11,7 @@ use Rattle.front_end.specs.Lines.{up_to_quit}
 use Rattle.face.specs.Run.{step, after_lines}
 use Rattle.face.specs.Workload.{numbers_of}
 use Rattle.workload.specs.Generator.{generated}
+use Rattle.std.proofs.lemmas.List.Sums.{sum_by-append, sum_by_push}
 
 -- none of them quits
 abbrev pub NoneQuits : List Line → Type 0
@@ -47,31 +47,13 @@ none_quits_map f (x ∷ xs) goes = (goes x, none_quits_map f xs goes)
 
 -- Counts.
 
-tally : {X : Type 0} → (X → Bool) → List X → ℕ
-tally p [] = 0
-tally p (x ∷ xs) = cond (p x) (1 + tally p xs) (tally p xs)
-
-tally_is : {X : Type 0} (p : X → Bool) (xs : List X) → tally p xs ≡ count_by p xs
-unfolding tally
-tally_is p xs = is_count_by (tally p) p refl (λ x xs. refl) xs
-
-tally_join : {X : Type 0} (p : X → Bool) (xs ys : List X) → tally p (xs ++ ys) ≡ tally p xs + tally p ys
-unfolding tally
-tally_join p [] ys = omega arith
-tally_join p (x ∷ xs) ys = by (p x) _ _ _ (tally_join p xs ys)
-  where
-    by : (b : Bool) (n a c : ℕ) → n ≡ a + c → cond b (1 + n) n ≡ cond b (1 + a) a + c
-    by true n a c e = omega (arith, e)
-    by false n a c e = e
-
 pub count_join : {X : Type 0} (p : X → Bool) (xs ys : List X) → count_by p (xs ++ ys) ≡ count_by p xs + count_by p ys
-count_join p xs ys = sym (tally_is p (xs ++ ys)) ∙ tally_join p xs ys ∙ (λ i. tally_is p xs i + tally_is p ys i)
+count_join p xs ys = sum_by-append (λ x. cond (p x) 1 0) xs ys
 
 pub count_one : {X : Type 0} (p : X → Bool) (x : X) → count_by p (x ∷ []) ≡ (if p x then 1 else 0)
-unfolding tally
-count_one p x = sym (tally_is p (x ∷ [])) ∙ by (p x)
+count_one p x = sum_by_push (λ y. cond (p y) 1 0) [] x ∙ by (p x)
   where
-    by : (b : Bool) → cond b (1 + 0) 0 ≡ (if b then 1 else 0)
+    by : (b : Bool) → 0 + cond b 1 0 ≡ (if b then 1 else 0)
     by true = omega arith
     by false = refl
 
