@@ -13,7 +13,7 @@ use Rattle.record_model.specs.declared.words.CacheLine.{CacheLine}
 use Rattle.record_model.specs.State.{State}
 use Rattle.record_model.specs.Run.{Line, Turn, after_commits, commit_marks, is_quit, replies}
 use Rattle.record_model.specs.Serial.{Serial}
-use Rattle.std.specs.List.{AllByRecursion, list_any}
+use Rattle.std.specs.List.{list_any}
 use Rattle.front_end.specs.declared.halt.Halt.{Halt}
 use Rattle.front_end.specs.declared.halt.Halt.TheVariants as halt
 use Rattle.front_end.specs.Texts.{fault_line, status_of}
@@ -22,7 +22,7 @@ use Rattle.engine.specs.Image.{Stands}
 use Rattle.face.specs.Causes.{HasCause, HasCauses, EndsInTime}
 use Rattle.front_end.specs.Faults.{NoFaultRose}
 use Rattle.face.proofs.WornFronts.{earlier_same, never_worn}
-use Rattle.front_end.specs.Lines.{commands_of, up_to_quit, answered_of, limit}
+use Rattle.front_end.specs.Lines.{commands_of, answered_of, limit}
 use Rattle.face.specs.Run.{Run, answered, first_lines, Begins}
 use Rattle.face.specs.Working.{Demands, HasHeard, HasTakenAll, IsBetween, StandsNear, StopsTaking, TakingFails, RunOutcome}
 use Rattle.face.proofs.Waits.{answers_still}
@@ -35,7 +35,8 @@ use Rattle.face.proofs.Demanded.{asked_done, asked_halted, demands_failed}
 use Rattle.face.specs.TopCall.{RunContract}
 use Rattle.face.specs.Headline.{Durability, IsGood, IsToldWhole, Headline, TellsFault}
 use Rattle.site.specs.declared.outside.Dev.{Dev}
-use Rattle.face.proofs.Fronts.{begun_same, first_commands, first_same, lines_first, no_quits, told_first, told_same, up_append, waits_same, whole_turns}
+use Rattle.face.proofs.Fronts.{begun_same, first_commands, first_same, lines_first, no_quits, told_first, told_same, waits_same, whole_turns}
+use Rattle.face.proofs.LinesBeforeQuit.{all_answered}
 use Rattle.face.proofs.Lefts.{left_whole}
 use Rattle.face.proofs.Runs.{texts_count}
 use Rattle.face.proofs.Meanings.{stands_by}
@@ -84,9 +85,6 @@ module _ (run : Run) (old mid new : Site) where
       (λ ne. told_whole (fault_line h) (inr (h, refl)) so_far (between ne) tells) (output_or_not h)
 
 -- The run over all octets that are left is the one over those that were taken, as far as its lines were heard.
-all_of : (ls : List Line) → AllByRecursion (λ l. is_quit l ≡ false) ls → up_to_quit ls ≡ ls
-all_of ls none = ap up_to_quit (sym (append-nil ls)) ∙ up_append ls [] none ∙ append-nil ls
-
 module _ (g : Geometry) (opening : State) (listings : List (List CacheLine)) (old mid : Site) (heard : ℕ) (octets : List ℕ) (ended : Bool) (h : HasHeard heard octets ended old mid) where
   abbrev all : Run
   all = run_of g opening true old.input.left listings
@@ -105,7 +103,7 @@ module _ (g : Geometry) (opening : State) (listings : List (List CacheLine)) (ol
       let lines = commands_of false (take limit octets) in
       let first = first_commands ended (take limit octets) (drop limit octets) in
       let is : commands_of ended octets ≡ lines ++ first.0 = ap (commands_of ended) (sym (take-append-drop limit octets)) ∙ first.1 in
-      let long : length lines ≡ heard = sym (ap (λ (l : List Line). length l) (all_of lines (no_quits lines none))) ∙ count in
+      let long : length lines ≡ heard = sym (ap (λ (l : List Line). length l) (all_answered lines (no_quits lines none))) ∙ count in
       take_all heard lines (omega (arith, long)) ∙ sym (ap (take heard) is ∙ take_at lines first.0 heard long) ∙ h.same
 
   pub told_whole_lines : (new : Site) (fault : List ℕ) → HasTakenAll all heard octets old mid → ((k : ℕ) × (new.told ≡ mid.told ++ take k fault)) → IsToldWhole (run_of g opening false (take limit octets) listings) fault old new

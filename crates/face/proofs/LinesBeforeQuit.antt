@@ -37,10 +37,6 @@ pub all_answered : (lines : List Line) → NoneQuits lines → up_to_quit lines 
 all_answered [] goes = refl
 all_answered (line ∷ lines) goes = λ i. line ∷ (if goes.0 i then [] else all_answered lines goes.1 i)
 
-pub none_quits_join : (first later : List Line) → NoneQuits first → NoneQuits later → NoneQuits (first ++ later)
-none_quits_join [] later a b = b
-none_quits_join (line ∷ first) later a b = (a.0, none_quits_join first later a.1 b)
-
 pub none_quits_map : (f : ℕ → Line) (xs : List ℕ) → ((x : ℕ) → is_quit (f x) ≡ false) → NoneQuits (map f xs)
 none_quits_map f [] goes = tt
 none_quits_map f (x ∷ xs) goes = (goes x, none_quits_map f xs goes)

@@ -1,14 +1,15 @@
 -- What a load leaves: while it opens, while its lines are carried out, and when they are done.
-use Rattle.std.proofs.Common.{◌≡◌, ◌⊎◌, inl, inr, ⊎_elim, ℕ, zero, suc, ◌+◌, ◌-◌, ◌*◌, ◌<◌, ◌≤◌, Bool, List, [], ◌∷◌, ◌++◌, length, map, take, drop, refl, sym, ◌∙◌, ap, subst, arith, append_assoc, take-append-drop, length-append}
+use Rattle.std.proofs.Common.{◌≡◌, ◌⊎◌, inl, inr, ⊎_elim, ℕ, zero, suc, ◌+◌, ◌-◌, ◌*◌, ◌<◌, ◌≤◌, Bool, false, List, [], ◌∷◌, ◌++◌, length, map, take, drop, refl, sym, ◌∙◌, ap, subst, arith, append_assoc, take-append-drop, length-append}
 use Rattle.std.specs.Prelude.{Result, Ok, Err, count_by}
 use Rattle.std.proofs.lemmas.List.{append-nil, drop_at, length-map, take-take}
+use Rattle.std_lemmas.proofs.AllOf.{all_append}
 use Rattle.site.specs.declared.geometry.Geometry.{Geometry}
 use Rattle.site.specs.State.{State as Site, Image, Snapshot, MayLeave, now_of}
 use Rattle.site.specs.Moments.{Leaves, LeavesOnly}
 use Rattle.site.specs.Laws.{holds_now, image_is, in_sequence, leaves_weaker}
 use Rattle.record_model.specs.declared.words.Reply.{Reply}
 use Rattle.record_model.specs.State.{State}
-use Rattle.record_model.specs.Run.{Line, commit_marks, commits_among}
+use Rattle.record_model.specs.Run.{Line, commit_marks, commits_among, is_quit}
 use Rattle.workload.specs.Generator.{generated}
 use Rattle.engine.specs.declared.engine.Engine.{Engine}
 use Rattle.engine.specs.Invariant.{sizes_of}
@@ -28,7 +29,7 @@ use Rattle.face.specs.Working.{StandsNear, Stops}
 use Rattle.face.specs.Workload.{get_line, get_lines, load_run, numbers_of, opening_text, set_line, set_lines}
 use Rattle.face.proofs.Demanded.{demands_as}
 use Rattle.face.proofs.Lefts.{left_first, left_none, none_among}
-use Rattle.face.proofs.LinesBeforeQuit.{all_answered, count_join, front_lines, none_quits_join, none_quits_map, one_more}
+use Rattle.face.proofs.LinesBeforeQuit.{all_answered, count_join, front_lines, none_quits_map, one_more}
 use Rattle.face.proofs.Pagings.{after_same}
 use Rattle.face.proofs.Ranges.{all_among, stands_after}
 use Rattle.face.proofs.Runs.{state_next}
@@ -70,7 +71,7 @@ module _ (g : Geometry) (opening : State) (load : Load) where
   records = 32 * g.pages
 
   all_lines : answered run ≡ run.lines
-  all_lines = all_answered run.lines (none_quits_join (set_lines records load.seed load.count) (get_lines records load.seed load.count)
+  all_lines = all_answered run.lines (all_append (λ (l : Line). is_quit l ≡ false) (set_lines records load.seed load.count) (get_lines records load.seed load.count)
       (none_quits_map (set_line records) (numbers_of load.seed load.count) (λ x. refl)) (none_quits_map (get_line records) (numbers_of load.seed load.count) (λ x. refl)))
 
   pub lines_count : length (answered run) ≡ 2 * load.count
