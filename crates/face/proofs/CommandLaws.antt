@@ -1,5 +1,5 @@
 -- Why a command and a restart fail.
-use Rattle.std.proofs.Common.{◌≡◌, ◌⊎◌, ⊎_elim, ℕ, List, IsTrue, IfErr, IsErrOf, refl, sym, ap, subst}
+use Rattle.std.proofs.Common.{◌≡◌, ℕ, List, IsTrue, IfErr, IsErrOf, refl}
 use Rattle.std.specs.Prelude.{Result, Ok, Err}
 use Rattle.site.specs.declared.outside.Dev.{Dev}
 use Rattle.site.specs.declared.outside.Dev.TheVariants.{Log, Flash, Disk}
@@ -36,13 +36,6 @@ fails_by (Err (Worn Log)) engine old new stops next rose log flash foreign = (λ
 fails_by (Err (Worn Flash)) engine old new stops next rose log flash foreign = (λ honest is. (next honest).worn is Flash refl, λ s fits. flash s fits refl)
 fails_by (Err (Worn Disk)) engine old new stops next rose log flash foreign = absurd stops
 fails_by (Err Foreign) engine old new stops next rose log flash foreign = foreign refl
-
--- a command that makes no call on pages
-pub log_fails : {T : Type 0} (result : Result T Stop) (engine : Engine) {after : TransactionStore} (old new : Site) → IfErr result (λ stop. (stop ≡ Device Log) ⊎ (stop ≡ Worn Log)) → (IsTrue old.honest → KeepsNext result engine.store after old new) → ((d : Dev) → IsErrOf result (Device d) → FaultRose d old new)
-    → ((s : State) → Matches engine old s → IsErrOf result (Worn Log) → IsLogWorn (sizes_of engine.store) new.image) → IfErr result (λ stop. FailsBy stop engine old new)
-log_fails (Ok done) engine old new stops next rose log = tt
-log_fails (Err stop) engine old new stops next rose log =
-    ⊎_elim (λ device. subst (λ (x : Stop). FailsBy x engine old new) (sym device) (rose Log (ap Err device))) (λ worn. subst (λ (x : Stop). FailsBy x engine old new) (sym worn) (λ honest is. (next honest).worn is Log (ap Err worn), λ s fits. log s fits (ap Err worn))) stops
 
 -- why restart stops
 pub start_cause : {T : Type 0} {store_of : T → TransactionStore} (result : Result T Stop) (stop : Stop) (old new : Site) → result ≡ Err stop → MayStop stop → ((d : Dev) → IsErrOf result (Device d) → FaultRose d old new)

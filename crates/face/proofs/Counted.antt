@@ -1,5 +1,5 @@
 -- How many numbers a run gives to the rings on the log's device, line by line.
-use Rattle.std.proofs.Common.{◌≡◌, ℕ, suc, ◌+◌, ◌≤◌, Bool, true, false, List, [], ◌∷◌, ◌++◌, take, drop, refl, sym, ◌∙◌, ap, subst, arith}
+use Rattle.std.proofs.Common.{◌≡◌, ℕ, suc, ◌+◌, ◌≤◌, Bool, true, false, List, [], ◌∷◌, drop, refl, sym, ◌∙◌, ap, subst, arith}
 use Rattle.std.specs.Prelude.{Result, Ok, Err, OnOk, Some, None, if◌then◌else◌}
 use Rattle.std_lemmas.proofs.Results.{on_ok}
 use Rattle.site.specs.declared.geometry.Geometry.{Geometry}
@@ -11,15 +11,13 @@ use Rattle.site.specs.Moments.{EachMoment, Leaves, LeavesOnly}
 use Rattle.site.specs.Telling.{TellsPart}
 use Rattle.sealed_ring.specs.Ring.{hi_of}
 use Rattle.image_changes.specs.Costs.{CallsForUnits}
-use Rattle.image_changes.specs.Rings.{log_shape, master_shape}
+use Rattle.image_changes.specs.Rings.{master_shape}
 use Rattle.image_changes.proofs.Counting.{calls_then}
 use Rattle.record_model.specs.declared.words.CacheLine.{CacheLine}
-use Rattle.record_model.specs.declared.words.Reply.{Reply}
 use Rattle.record_model.specs.declared.words.Reply.TheVariants as reply
 use Rattle.record_model.specs.State.{State}
 use Rattle.record_model.specs.Run.{Line, Turn, is_quit, later_listings, next_listing, turn, turns}
 use Rattle.log_records.specs.Log.{Entry}
-use Rattle.log_records.specs.Unfinished.{owed}
 use Rattle.log_store.specs.declared.store.LogStore.{LogStore}
 use Rattle.redo_laws.specs.Holding.{blocks_to}
 use Rattle.redo_laws.specs.Numbers.{HasNumbers}
@@ -30,18 +28,17 @@ use Rattle.engine.specs.Invariant.{Invariant, sizes_of}
 use Rattle.engine.specs.Image.{log_under}
 use Rattle.engine.specs.Numbers.{CountsOn, RestartsWithin}
 use Rattle.face.specs.RunInProgress.{IsCounted}
-use Rattle.front_end.specs.Lines.{HearsOnly, up_to_quit}
+use Rattle.front_end.specs.Lines.{up_to_quit}
 use Rattle.face.specs.RunMeaning.{GivesNumbers, SkipsNoNumber, blocks_by, made_by, masters_by}
-use Rattle.face.proofs.CallCounts.{calls_heard}
-use Rattle.face.proofs.Writings.{images_heard, images_told}
+use Rattle.face.proofs.Writings.{images_told}
 use Rattle.face.specs.Run.{Run, after_lines, answered, checkpoints_of, first_lines, line_checkpoints, listing_at, state_at, step, turns_of}
 use Rattle.face.specs.Workload.{checkpoints_in, makes_one}
-use Rattle.engine.specs.Numbers.{RestCountsNothing}
-use Rattle.face.proofs.Pagings.{after_same, same_after}
+use Rattle.face.proofs.Pagings.{after_same}
 use Rattle.face.proofs.Runs.{state_next, turn_at, turns_next}
-use Rattle.face.proofs.LinesBeforeQuit.{after_cons, count_join, count_one}
+use Rattle.face.proofs.LinesBeforeQuit.{count_join, count_one}
 use Rattle.face.proofs.Fronts.{lines_first}
 use Rattle.face.proofs.Turns.{left_are}
+use Rattle.engine.proofs.RingCounts.{count_nothing}
 
 -- Calls.
 
@@ -74,32 +71,13 @@ counts_err e f old new before now s after n c = record {
   skips = record { log = tt; any_moment = c.any_moment; device_calls = tt };
 }
 
--- no call
-pub counts_none : {T F : Type 0} (r : Result T F) (engine : Engine) (site : Site) (s : State) → RestCountsNothing → Matches engine site s → Invariant engine site → IsQuiet site → CountsOn r engine engine site site s s 0
-counts_none r engine site s rest fits going quiet = counts_as reply.Done r engine engine site site s s 0 (rest reply.Done engine site s fits going quiet)
-
 -- a line that asks for no call
-pub counts_idle : (r : Result Reply Stop) (line : Line) (engine : Engine) (site : Site) (s : State) → RestCountsNothing → Matches engine site s → Invariant engine site → IsQuiet site → (step s line []).after ≡ s → line_checkpoints s line ≡ 0 →
+pub counts_idle : {T F : Type 0} (r : Result T F) (line : Line) (engine : Engine) (site : Site) (s : State) → Matches engine site s → Invariant engine site → IsQuiet site → (step s line []).after ≡ s → line_checkpoints s line ≡ 0 →
     CountsOn r engine engine site site s (step s line []).after (line_checkpoints s line)
-counts_idle r line engine site s rest fits going quiet stays none =
+counts_idle {T} {F} r line engine site s fits going quiet stays none =
     subst (λ (n : ℕ). CountsOn r engine engine site site s (step s line []).after n) (sym none)
-    (subst (λ (a : State). CountsOn r engine engine site site s a 0) (sym stays) (counts_none r engine site s rest fits going quiet))
-
--- a call, for the line that it carries out
-pub counts_line : {T E : Type 0} (r : Result T E) (line : Line) (a b : Engine) (before now : Site) (s : State) → CountsOn r a b before now s (step s line []).after (line_checkpoints s line) → CountsOn r a b before now s (after_lines s (line ∷ []) []) (checkpoints_of s (line ∷ []))
-counts_line r line a b before now s c =
-    let one : line_checkpoints s line ≡ checkpoints_of s (line ∷ []) = omega arith in
-    subst (λ (n : ℕ). CountsOn r a b before now s (step s line []).after n) one c
-
--- The checkpoints of lines.
-
--- the checkpoints of some lines, and of those behind them
-pub checkpoints_join : (s : State) (first later : List Line) → checkpoints_of s (first ++ later) ≡ checkpoints_of s first + checkpoints_of (after_lines s first []) later
-checkpoints_join s [] later = omega arith
-checkpoints_join s (line ∷ first) later =
-    let rest = checkpoints_join (step s line []).after first later in
-    let same = ap (λ (x : State). checkpoints_of x later) (after_cons s line first) in
-    omega (arith, rest, same)
+    (subst (λ (a : State). CountsOn r engine engine site site s a 0) (sym stays)
+    (counts_as reply.Done r engine engine site site s s 0 (count_nothing {E = F} reply.Done engine site s s fits going quiet (omega arith))))
 
 -- What the turns of a run make.
 
@@ -127,10 +105,6 @@ turns_make s (line ∷ lines) listings =
         checkpoints_in (if b then [] else turns (step s line (next_listing listings)).after lines (later_listings line listings)) ≡ checkpoints_of (step s line []).after (if b then [] else up_to_quit lines)
     by true later = refl
     by false later = later
-
--- and their checkpoints
-pub checkpoints_are : (run : Run) (lines : ℕ) → checkpoints_in (turns_of (first_lines run lines)) ≡ checkpoints_of run.opening (take lines (answered run))
-checkpoints_are run lines = turns_make run.opening (take lines run.lines) run.listings ∙ ap (checkpoints_of run.opening) (lines_first run lines)
 
 -- What one line more makes.
 
@@ -172,60 +146,40 @@ module _ (run : Run) (records : List Entry) (entry : Site) where
     calls = calls_then run.geometry entry mid now within.device_calls calls;
   }
 
-  -- while only is heard
-  pub counts_still : (mid now : Site) (i : ℕ) → HearsOnly mid now → LeavesOnly entry mid (λ s. Given i s.image) → LeavesOnly entry now (λ s. Given i s.image)
-  counts_still mid now i same counts = images_heard (Given i) entry mid now counts same
+  -- a line more is carried out, however that ends
+  module _ (mid new : Site) (engine engine' : Engine) (i : ℕ) (line : Line) (rest : List Line) (is : drop i (answered run) ≡ line ∷ rest) (sizes : sizes_of engine.store ≡ run.geometry) (counted : IsCounted run records entry mid engine i)
+      {T E : Type 0} (result : Result T E) (c : CountsOn result engine engine' mid new (state_at run i) (step (state_at run i) line []).after (line_checkpoints (state_at run i) line)) where
+    more_blocks : blocks_to engine.store.log + c.records ≤ blocks_at (suc i)
+    more_blocks = let was = made_are run i in let made = made_next run i line rest is in let log = counted.log in let some = c.made in omega (arith, was, made, log, some)
 
-  module _ (mid next new : Site) (engine engine' : Engine) (i : ℕ) (line : Line) (rest : List Line) (is : drop i (answered run) ≡ line ∷ rest) (same : HearsOnly mid next) (sizes : sizes_of engine.store ≡ run.geometry)
-      (counted : IsCounted run records entry mid engine i) where
-    -- a line was heard, however its answer ends
-    module _ {T E : Type 0} (result : Result T E) (c : CountsOn result engine engine' next new (state_at run i) (step (state_at run i) line []).after (line_checkpoints (state_at run i) line)) where
-      before : LeavesOnly entry next (λ s. Given i s.image)
-      before = counts_still mid next i same counted.numbers
+    more_masters : hi_of master_shape mid.image.log + line_checkpoints (state_at run i) line ≤ masters_at (suc i)
+    more_masters = let has = (holds_now entry mid (λ s. Given i s.image) counted.numbers).masters in let checkpoints = checkpoints_next run i line rest is in omega (arith, has, checkpoints)
 
-      more_blocks : blocks_to engine.store.log + c.records ≤ blocks_at (suc i)
-      more_blocks = let was = made_are run i in let made = made_next run i line rest is in let log = counted.log in let some = c.made in omega (arith, was, made, log, some)
-
-      more_masters : hi_of master_shape next.image.log + line_checkpoints (state_at run i) line ≤ masters_at (suc i)
-      more_masters = let has = (holds_now entry next (λ s. Given i s.image) before).masters in let checkpoints = checkpoints_next run i line rest is in omega (arith, has, checkpoints)
-
-      pub counts_next : LeavesOnly entry new (λ s. Given (suc i) s.image)
-      counts_next =
-          let was = made_are run i in
-          let made = made_next run i line rest is in
-          let some = c.made in
-          let checkpoints = checkpoints_next run i line rest is in
-          let own : LeavesOnly next new (λ s. HasNumbers run.geometry (blocks_to engine.store.log + c.records) (hi_of master_shape next.image.log + line_checkpoints (state_at run i) line) s.image) =
-          subst (λ (g : Geometry). LeavesOnly next new (λ s. HasNumbers g (blocks_to engine.store.log + c.records) (hi_of master_shape next.image.log + line_checkpoints (state_at run i) line) s.image)) sizes c.any_moment in
-          in_sequence entry next new (Leaves (λ s. Given (suc i) s.image))
-          (leaves_more run.geometry entry next (blocks_at i) (blocks_at (suc i)) (masters_at i) (masters_at (suc i)) (omega (arith, was, made, some)) (omega (arith, checkpoints)) before)
-          (leaves_more run.geometry next new _ (blocks_at (suc i)) _ (masters_at (suc i)) more_blocks more_masters own)
-
-    -- it was answered
-    pub next_counted : {T E : Type 0} (x : T) → CountsOn {T = T} {E = E} (Ok x) engine engine' next new (state_at run i) (step (state_at run i) line []).after (line_checkpoints (state_at run i) line) → IsCounted run records entry new engine' (suc i)
-    next_counted x c =
+    pub counts_next : LeavesOnly entry new (λ s. Given (suc i) s.image)
+    counts_next =
         let was = made_are run i in
         let made = made_next run i line rest is in
-        let log = counted.log in
         let some = c.made in
-        record {
-          log = let few = c.log in omega (arith, few, log, was, made, some);
-          numbers = counts_next (Ok x) c;
-          calls = calls_then run.geometry entry mid new counted.calls
-              (calls_then run.geometry mid next new (calls_heard run.geometry mid next same) (subst (λ (g : Geometry). CallsForUnits g next new) sizes c.device_calls));
-        }
+        let checkpoints = checkpoints_next run i line rest is in
+        let own : LeavesOnly mid new (λ s. HasNumbers run.geometry (blocks_to engine.store.log + c.records) (hi_of master_shape mid.image.log + line_checkpoints (state_at run i) line) s.image) =
+        subst (λ (g : Geometry). LeavesOnly mid new (λ s. HasNumbers g (blocks_to engine.store.log + c.records) (hi_of master_shape mid.image.log + line_checkpoints (state_at run i) line) s.image)) sizes c.any_moment in
+        in_sequence entry mid new (Leaves (λ s. Given (suc i) s.image))
+        (leaves_more run.geometry entry mid (blocks_at i) (blocks_at (suc i)) (masters_at i) (masters_at (suc i)) (omega (arith, was, made, some)) (omega (arith, checkpoints)) counted.numbers)
+        (leaves_more run.geometry mid new _ (blocks_at (suc i)) _ (masters_at (suc i)) more_blocks more_masters own)
 
--- it doesn't depend on what the cache lists
-pub counted_on : (run : Run) (listings : List (List CacheLine)) (records : List Entry) (old now : Site) (engine : Engine) (i : ℕ) → IsCounted (record run { listings = listings }) records old now engine i → IsCounted run records old now engine i
-counted_on run listings records old now engine i counted =
-    let own : Run = record run { listings = listings } in
-    let made = made_are own i ∙ ap (λ (s : State). s.made) (same_after run.opening (take i (answered run)) listings run.listings) ∙ sym (made_are run i) in
-    let checkpoints = checkpoints_are own i ∙ sym (checkpoints_are run i) in
-    record {
-      log = let log = counted.log in omega (arith, log, made);
-      numbers = leaves_more run.geometry old now _ _ _ _ (omega (arith, made)) (omega (arith, checkpoints)) counted.numbers;
-      calls = counted.calls;
-    }
+  -- it was answered
+  pub next_counted : (mid new : Site) (engine engine' : Engine) (i : ℕ) (line : Line) (rest : List Line) (is : drop i (answered run) ≡ line ∷ rest) → sizes_of engine.store ≡ run.geometry → IsCounted run records entry mid engine i →
+      {T E : Type 0} (x : T) → CountsOn {T = T} {E = E} (Ok x) engine engine' mid new (state_at run i) (step (state_at run i) line []).after (line_checkpoints (state_at run i) line) → IsCounted run records entry new engine' (suc i)
+  next_counted mid new engine engine' i line rest is sizes counted {T} {E} x c =
+      let was = made_are run i in
+      let made = made_next run i line rest is in
+      let log = counted.log in
+      let some = c.made in
+      record {
+        log = let few = c.log in omega (arith, few, log, was, made, some);
+        numbers = counts_next mid new engine engine' i line rest is sizes counted {T = T} {E = E} (Ok x) c;
+        calls = calls_then run.geometry entry mid new counted.calls (subst (λ (g : Geometry). CallsForUnits g mid new) sizes c.device_calls);
+      }
 
 -- what nothing was done to
 pub counts_nothing : (run : Run) (old : Site) → IsQuiet old → SkipsNoNumber (first_lines run 0) old old
@@ -234,32 +188,3 @@ counts_nothing run old quiet newest blocks sound = leaves_unchanged old old (λ 
 -- something is told
 pub skips_still : (run : Run) (piece : List ℕ) (old mid now : Site) → EachMoment mid now (TellsPart piece mid) → SkipsNoNumber run old mid → SkipsNoNumber run old now
 skips_still run piece old mid now tells skips newest blocks sound = images_told (λ (i : Image). GivesNumbers run (log_under newest blocks) old.image i) piece old mid now (skips newest blocks sound) tells
-
--- a run that opens, and then carries its first lines out or stops within them
-module _ {T E : Type 0} (result : Result T E) (run : Run) (lines : ℕ) (records : List Entry) (a b : Engine) (old mid now : Site) (sizes : sizes_of a.store ≡ run.geometry) (log : blocks_to a.store.log ≤ hi_of (log_shape run.geometry) old.image.log + owed records + run.opening.made)
-    (first : LeavesOnly old mid (λ s. HasNumbers run.geometry (hi_of (log_shape run.geometry) old.image.log + owed records + run.opening.made) (hi_of master_shape old.image.log + 1) s.image))
-    (c : CountsOn result a b mid now run.opening (state_at run lines) (checkpoints_of run.opening (take lines (answered run)))) where
-  abbrev blocks_all : ℕ
-  blocks_all = blocks_by (first_lines run lines) records old.image
-
-  abbrev masters_all : ℕ
-  masters_all = masters_by (first_lines run lines) old.image
-
-  course_blocks : blocks_to a.store.log + c.records ≤ blocks_all
-  course_blocks = let made = made_are run lines in let some = c.made in omega (arith, made, some, log)
-
-  course_masters : hi_of master_shape mid.image.log + checkpoints_of run.opening (take lines (answered run)) ≤ masters_all
-  course_masters =
-      let has = (holds_now old mid (λ s. HasNumbers run.geometry (hi_of (log_shape run.geometry) old.image.log + owed records + run.opening.made) (hi_of master_shape old.image.log + 1) s.image) first).masters in
-      let checkpoints = checkpoints_are run lines in
-      omega (arith, has, checkpoints)
-
-  pub skips_course : LeavesOnly old now (λ s. GivesNumbers (first_lines run lines) records old.image s.image)
-  skips_course =
-      let made = made_are run lines in
-      let some = c.made in
-      let own : LeavesOnly mid now (λ s. HasNumbers run.geometry (blocks_to a.store.log + c.records) (hi_of master_shape mid.image.log + checkpoints_of run.opening (take lines (answered run))) s.image) =
-      subst (λ (g : Geometry). LeavesOnly mid now (λ s. HasNumbers g (blocks_to a.store.log + c.records) (hi_of master_shape mid.image.log + checkpoints_of run.opening (take lines (answered run))) s.image)) sizes c.any_moment in
-      in_sequence old mid now (Leaves (λ s. GivesNumbers (first_lines run lines) records old.image s.image))
-      (leaves_more run.geometry old mid _ blocks_all _ masters_all (omega (arith, made, some)) (omega arith) first)
-      (leaves_more run.geometry mid now _ blocks_all _ masters_all course_blocks course_masters own)

@@ -3,6 +3,7 @@ use Rattle.std.proofs.Common.{◌≡◌, ◌≢◌, ℕ, suc, ◌+◌, ◌-◌, 
 use Rattle.std.specs.Prelude.{Bool, true, false, map, if◌then◌else◌}
 use Rattle.std.specs.List.{AllByRecursion, list_any}
 use Rattle.std.proofs.lemmas.List.{append-nil, take_at, drop_at, take_all}
+use Rattle.std_lemmas.proofs.AllOf.{all_append}
 use Rattle.site.specs.State.{Input, State as Site}
 use Rattle.record_model.specs.Run.{Line, is_quit}
 use Rattle.front_end.specs.declared.source.Source.{Source}
@@ -48,10 +49,6 @@ no_cut entry source now empty taken going left = record {
 lines_then : (a b : List ℕ) (l m : List Line) (ended : Bool) → AreLines a l false → AreLines b m ended → AreLines (a ++ b) (l ++ m) ended
 lines_then a b l m ended first second more e premise =
     ap (commands_of e) (append_assoc a b more) ∙ first (b ++ more) e (λ no. cc) ∙ ap (λ (x : List Line). l ++ x) (second more e premise) ∙ sym (append_assoc l m (commands_of e more))
-
-all_then : (ls : List Line) (line : Line) → AllByRecursion (λ l. is_quit l ≡ false) ls → is_quit line ≡ false → AllByRecursion (λ l. is_quit l ≡ false) (ls ++ line ∷ [])
-all_then [] line none is = (is, tt)
-all_then (l ∷ ls) line none is = (none.0, all_then ls line none.1 is)
 
 module _ (entry : List ℕ) (source : Source) (now : Site) (i : ℕ) (cut : Cut entry source now i) (is_source : IsSource source) where
   nothing_more : source.ended ≡ true → (to_hear source now ≡ []) × (true ≡ true)
@@ -99,7 +96,7 @@ module _ (entry : List ℕ) (source : Source) (now : Site) (i : ℕ) (cut : Cut 
     many = let long = length-append cut.octets h.octets in let many = cut.many in let some = h.some in omega (arith, long, many, some);
     all = cut.all ∙ ap (λ (l : List ℕ). cut.octets ++ l) h.all ∙ sym (append_assoc cut.octets h.octets (to_hear source' new));
     are = lines_then cut.octets h.octets cut.lines (line ∷ []) source'.ended (subst (λ (b : Bool). AreLines cut.octets cut.lines b) h.going cut.are) h.is_line;
-    no_quit = all_then cut.lines line cut.no_quit goes_on;
+    no_quit = all_append (λ (l : Line). is_quit l ≡ false) cut.lines (line ∷ []) cut.no_quit (goes_on, tt);
     ended = ended;
     taken = same ∙ cut.taken;
   }

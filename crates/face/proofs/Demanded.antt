@@ -39,6 +39,10 @@ module _ (pool : ℕ) (run : Run) (old new : Site) where
   pub demands_err : {T : Type 0} (h : Halt) → ((dev : Dev) → h ≡ halt.Stop (Worn dev) → WearsFirst pool run dev old.image) → SkipsNoNumber run old new → AsksNoMore pool run old new → Demands {T = T} pool run old new (Err h)
   demands_err {T} h worn numbers reads = record { worn = λ dev is. worn dev (same_halt {T = T} h (halt.Stop (Worn dev)) is); room = tt; queue = tt; versions = tt; rings = tt; staged = tt; calls = tt; numbers = numbers; reads = reads }
 
+-- an error of one call is that of another
+pub demands_as : {T U : Type 0} (pool : ℕ) (run : Run) (old new : Site) (h : Halt) → Demands {T = U} pool run old new (Err h) → Demands {T = T} pool run old new (Err h)
+demands_as pool run old new h d = demands_err pool run old new h (λ dev e. d.worn dev (ap Err e)) d.numbers d.reads
+
 -- where something more is told
 module _ (pool : ℕ) (run : Run) (old mid new : Site) (image : new.image ≡ mid.image) (reads : SameReads mid new) {piece : List ℕ} (tells : EachMoment mid new (TellsPart piece mid)) where
   still_reads : AsksNoMore pool run old mid → AsksNoMore pool run old new

@@ -1,5 +1,5 @@
 -- How a run comes to its end.
-use Rattle.std.proofs.Common.{◌≡◌, ◌≢◌, ◌⊎◌, inl, inr, ⊎_elim, IsTrue, ℕ, ◌≤◌, List, [], ◌∷◌, ◌++◌, length, suc, refl, sym, ◌∙◌, ap, subst, arith}
+use Rattle.std.proofs.Common.{◌≡◌, ◌≢◌, ◌⊎◌, inl, inr, ⊎_elim, IsTrue, ℕ, ◌≤◌, List, [], ◌∷◌, ◌++◌, length, drop, suc, refl, sym, ◌∙◌, ap, subst, arith}
 use Rattle.std.specs.Prelude.{Ok, Err, true, false, Bool}
 use Rattle.std.proofs.lemmas.List.{append-nil}
 use Rattle.site.specs.State.{Input, State as Site, Image, faults_of}
@@ -25,21 +25,25 @@ use Rattle.engine.specs.declared.engine.Engine.{Engine}
 use Rattle.face.specs.Causes.{HasCause, AnswerFailsBy}
 use Rattle.front_end.specs.Lines.{HasEnded, to_hear, total, IsSource, HearsLine, Hears, IsCutOff}
 use Rattle.site.specs.declared.outside.Dev.TheVariants.{Log, Flash, Disk}
-use Rattle.face.specs.RunMeaning.{AsksNoMore, HasBegun, IsLeft, LeavesItsQueue, LeavesStaged, LeavesVersions, ListsTheMachine, SkipsNoNumber, WritesAsTold}
-use Rattle.face.specs.Worn.{LeavesItsRings, WearsFirst, WearsNone, WearsNoneBefore}
-use Rattle.image_changes.specs.Costs.{CallsForUnits}
-use Rattle.face.specs.Run.{Run, first_lines}
-use Rattle.face.specs.Working.{AnswersFirst, HasHeard, Stops, StopsTaking, TakingFails, RunOutcome}
-use Rattle.face.specs.RunInProgress.{RunInProgress}
+use Rattle.record_model.specs.declared.words.CacheLine.{CacheLine}
+use Rattle.engine.specs.Listings.{QueueIsOnFlash, listing_of}
+use Rattle.engine.specs.SeenVersions.{WhereItFits}
+use Rattle.front_end.specs.Lines.{HeardAll, answered_of}
+use Rattle.front_end.specs.Texts.{status_of}
+use Rattle.face.specs.Carrying.{CarriesOut, TellsAnswer}
+use Rattle.face.specs.RunMeaning.{IsLeft, ListsTheMachine}
+use Rattle.face.specs.Run.{Run, answered, first_lines, listing_at, state_at, step}
+use Rattle.face.specs.Working.{HasHeard, RunOutcome, StopsTaking, TakingFails}
+use Rattle.face.specs.RunInProgress.{HasAnswered, NeverOpens}
 use Rattle.face.proofs.Cuts.{Cut, has_heard_all, input_failed, over_limit, taken_by, heard_line, quit_is_last}
-use Rattle.face.proofs.RunsSoFar.{begun_before, stopped, ended}
-use Rattle.face.proofs.Demanded.{demands_err, demands_ok}
-use Rattle.face.proofs.WornFronts.{none_first}
+use Rattle.face.proofs.RunsSoFar.{begun_after, begun_before, cut_short, ended as is_whole, stopped}
+use Rattle.face.proofs.Demanded.{demands_as}
+use Rattle.face.proofs.Serving.{line_asks, line_fails, none_before, none_worn, served_all, served_so_far}
 use Rattle.site.specs.declared.outside.Dev.{Dev}
 use Rattle.face.proofs.Lefts.{left_first}
-use Rattle.face.proofs.Listed.{no_turn}
-use Rattle.face.proofs.Waits.{answers_none}
-use Rattle.face.proofs.Written.{written_opened}
+use Rattle.face.proofs.Listed.{asked, listed_next, no_turn}
+use Rattle.face.proofs.Waits.{answers_more, answers_none, answers_still}
+use Rattle.face.proofs.Written.{written_answered, written_opened}
 
 -- taking wasn't what failed
 pub not_taking : (h : Halt) (run : Run) (i : ℕ) (octets : List ℕ) (old new : Site) → (h ≢ halt.Input) × (h ≢ halt.Limit) → StopsTaking h run i octets old new
@@ -58,16 +62,34 @@ no_taking T halt.Limit ne fails = ne.1 refl
 pub lists_nothing : (pool : ℕ) (run : Run) (image : Image) → ListsTheMachine pool (first_lines run 0) image
 lists_nothing pool run image newest blocks sound before later t is = absurd (no_turn before later t is)
 
+-- it comes to its end
+whole : {T : Type 0} {later : List (List CacheLine)} (pool : ℕ) (run : Run) (old new : Site) (engine : Engine) (i : ℕ) (so_far : HasAnswered pool run later old new engine i) (x : T) (octets : List ℕ) (ended : Bool) → HasHeard i octets ended old new → QueueIsOnFlash → WhereItFits →
+    HeardAll ended octets × (length (answered_of ended octets) ≡ i) → RunOutcome pool run old new (Ok x)
+whole pool run old new engine i so_far x octets ended heard queue seen all = record {
+  heard = i;
+  octets = octets;
+  ended = ended;
+  has_heard = heard;
+  stops = tt;
+  begun = begun_before run old new engine i so_far.progress;
+  done = (all.0, all.1, so_far.moments, is_whole run old new engine i so_far.progress, so_far.quiet);
+  demands = served_all pool run old new engine i so_far.served queue seen x;
+  earlier = none_before pool run old new engine i so_far.served i (omega arith);
+  taking = λ fails. absurd fails;
+  listed = so_far.listed;
+  written = so_far.written;
+  answers = so_far.answers;
+}
+
 -- before the first line
-pub never_opened : {T : Type 0} (pool : ℕ) (run : Run) (old new : Site) (h : Halt) → Stops run 0 old new h → (h ≢ halt.Input) × (h ≢ halt.Limit) → new.input ≡ old.input → ((dev : Dev) → h ≡ halt.Stop (Worn dev) → WearsFirst pool (first_lines run 0) dev old.image) → SkipsNoNumber (first_lines run 0) old new → AsksNoMore pool (first_lines run 0) old new →
-    RunOutcome {T = T} pool run old new (Err h)
-never_opened {T} pool run old new h stops ne left worn numbers reads = record {
+pub never_opened : {T : Type 0} (pool : ℕ) (run : Run) (old new : Site) (h : Halt) → NeverOpens pool run old new h → (h ≢ halt.Input) × (h ≢ halt.Limit) → new.input ≡ old.input → RunOutcome {T = T} pool run old new (Err h)
+never_opened {T} pool run old new h never ne left = record {
   heard = 0;
   octets = [];
   ended = false;
   has_heard = record { taken = sym (ap (λ (input : Input). input.left) left); end = λ no. cc; enough = omega arith; same = refl };
-  stops = (stops, not_taking h run 0 [] old new ne);
-  begun = let a = holds_now old new (IsLeft (first_lines run 0) old.told []) stops.any_moment in
+  stops = (never.stops, not_taking h run 0 [] old new ne);
+  begun = let a = holds_now old new (IsLeft (first_lines run 0) old.told []) never.stops.any_moment in
       let front = left_first run a.told a.is_told in
       record {
         few = omega arith;
@@ -78,125 +100,86 @@ never_opened {T} pool run old new h stops ne left worn numbers reads = record {
         told = a.told_is ∙ ap (λ (l : List ℕ). old.told ++ l) (sym (append-nil a.told));
       };
   done = tt;
-  demands = demands_err pool (first_lines run 0) old new h worn numbers reads;
+  demands = demands_as pool (first_lines run 0) old new h never.demands;
   earlier = λ lines less. absurd (omega (arith, less));
   taking = λ fails. absurd (no_taking T h ne fails);
   listed = lists_nothing pool run old.image;
-  written = written_opened pool run old new stops.any_moment reads;
+  written = written_opened pool run old new never.stops.any_moment never.demands.reads;
   answers = answers_none run old new left;
 }
 
-module _ (pool : ℕ) (run : Run) (old mid new : Site) (engine : Engine) (source : Source) (i : ℕ) (cut : Cut old.input.left source mid i) (is_source : IsSource source) (going : RunInProgress run old new engine i) (listed : ListsTheMachine pool (first_lines run i) old.image) (reads : AsksNoMore pool (first_lines run i) old new) (answers : AnswersFirst run i old new) (written : WritesAsTold pool run i old new) (room : WearsNone pool (first_lines run i) old.image) where
-  -- none in front of them did either
-  earlier : WearsNoneBefore pool run i old.image
-  earlier lines less = none_first pool run lines i old.image (omega (arith, less)) room
-
+-- So many lines were answered, and more was heard.
+module _ {later : List (List CacheLine)} (pool : ℕ) (run : Run) (old mid new : Site) (engine : Engine) (source : Source) (i : ℕ) (cut : Cut old.input.left source mid i) (is_source : IsSource source) (so_far : HasAnswered pool run later old new engine i) where
   -- taking failed within a line
-  pub taking_failed : {T : Type 0} (h : Halt) → (h ≡ halt.Input) ⊎ (h ≡ halt.Limit) → IsCutOff h source.ended (total source mid) (to_hear source mid) new.input.left → SkipsNoNumber (first_lines run i) old new → RunOutcome {T = T} pool run old new (Err h)
-  taking_failed (halt.Stop stop) which off numbers = ⊎_elim (λ e. absurd cc) (λ e. absurd cc) which
-  taking_failed halt.Output which off numbers = ⊎_elim (λ e. absurd cc) (λ e. absurd cc) which
-  taking_failed halt.Input which off numbers =
+  failed : {T : Type 0} (h : Halt) (octets : List ℕ) → ((dev : Dev) → h ≡ halt.Stop (Worn dev) → ⊥) → HasHeard i octets false old new → StopsTaking h run i octets old new → RunOutcome {T = T} pool run old new (Err h)
+  failed h octets never heard taking = record {
+    heard = i;
+    octets = octets;
+    ended = false;
+    has_heard = heard;
+    stops = (stopped run old new engine i so_far.progress h, taking);
+    begun = begun_before run old new engine i so_far.progress;
+    done = tt;
+    demands = served_so_far pool run old new engine i so_far.served h never;
+    earlier = none_before pool run old new engine i so_far.served i (omega arith);
+    taking = λ fails. none_worn pool run old new engine i so_far.served;
+    listed = so_far.listed;
+    written = so_far.written;
+    answers = so_far.answers;
+  }
+
+  pub taking_failed : {T : Type 0} (h : Halt) → (h ≡ halt.Input) ⊎ (h ≡ halt.Limit) → IsCutOff h source.ended (total source mid) (to_hear source mid) new.input.left → RunOutcome {T = T} pool run old new (Err h)
+  taking_failed (halt.Stop stop) which off = ⊎_elim (λ e. absurd cc) (λ e. absurd cc) which
+  taking_failed halt.Output which off = ⊎_elim (λ e. absurd cc) (λ e. absurd cc) which
+  taking_failed halt.Input which off =
       let f = input_failed old.input.left source mid i cut is_source new.input.left off.octets off.rest off.none off.all_of_it off.going old new refl refl off.ends.0 off.ends.1 in
-      record {
-        heard = i;
-        octets = cut.octets ++ off.octets;
-        ended = false;
-        has_heard = f.0;
-        stops = (stopped run old new engine i going halt.Input, record { count = f.1.0; no_quit = f.1.1; told = going.told });
-        begun = begun_before run old new engine i going;
-        done = tt;
-        demands = demands_err pool (first_lines run i) old new halt.Input (λ dev e. cc) numbers reads;
-        earlier = earlier;
-        taking = λ fails. room;
-        listed = listed;
-        written = written;
-        answers = answers;
-      }
-  taking_failed halt.Limit which off numbers =
+      failed halt.Input (cut.octets ++ off.octets) (λ dev e. cc) f.0 (record { count = f.1.0; no_quit = f.1.1; told = so_far.told })
+  taking_failed halt.Limit which off =
       let f = over_limit old.input.left source mid i cut is_source new.input.left off.octets off.rest off.none off.all_of_it off.going off.ends.0 off.ends.1 off.ends.2 old new refl refl in
-      record {
-        heard = i;
-        octets = (cut.octets ++ off.octets) ++ off.ends.0 ∷ [];
-        ended = false;
-        has_heard = f.0;
-        stops = (stopped run old new engine i going halt.Limit, (record { count = f.1.0; no_quit = f.1.1; told = going.told }, f.2));
-        begun = begun_before run old new engine i going;
-        done = tt;
-        demands = demands_err pool (first_lines run i) old new halt.Limit (λ dev e. cc) numbers reads;
-        earlier = earlier;
-        taking = λ fails. room;
-        listed = listed;
-        written = written;
-        answers = answers;
-      }
+      failed halt.Limit ((cut.octets ++ off.octets) ++ off.ends.0 ∷ []) (λ dev e. cc) f.0 (record { count = f.1.0; no_quit = f.1.1; told = so_far.told }, f.2)
 
   -- there are no more lines
-  pub finished : {T : Type 0} (x : T) → to_hear source mid ≡ [] → new.input.left ≡ [] → LeavesItsQueue pool (first_lines run i) old.image new.image → LeavesVersions pool (first_lines run i) old.image new.image → LeavesStaged pool (first_lines run i) old new → LeavesItsRings pool (first_lines run i) old.image new.image → CallsForUnits run.geometry old new → SkipsNoNumber (first_lines run i) old new →
-      RunOutcome pool run old new (Ok x)
-  finished x none left queue versions staged rings calls numbers =
+  pub finished : {T : Type 0} (x : T) → QueueIsOnFlash → WhereItFits → to_hear source mid ≡ [] → new.input.left ≡ [] → RunOutcome pool run old new (Ok x)
+  finished x queue seen none left =
       let f = has_heard_all old.input.left source mid i cut is_source old new refl none left in
-      record {
-        heard = i;
-        octets = cut.octets;
-        ended = true;
-        has_heard = f.0;
-        stops = tt;
-        begun = begun_before run old new engine i going;
-        done = (inl refl, f.1, going.moments, ended run old new engine i going, going.quiet);
-        demands = demands_ok pool (first_lines run i) old new x room queue versions staged rings calls numbers reads;
-        earlier = earlier;
-        taking = λ fails. absurd fails;
-        listed = listed;
-        written = written;
-        answers = answers;
-      }
+      whole pool run old new engine i so_far x cut.octets true f.0 queue seen (inl refl, f.1)
 
+-- A line was heard.
 module _ (pool : ℕ) (run : Run) (old mid next new : Site) (source source' : Source) (i : ℕ) (cut : Cut old.input.left source mid i) (is_source : IsSource source) (line : Line) (h : HearsLine line source.ended source'.ended (to_hear source mid) (to_hear source' next))
-    (last : HasEnded source' next) (is' : IsSource source') (left : new.input ≡ next.input) (listed : ListsTheMachine pool (first_lines run (suc i)) old.image) (reads : AsksNoMore pool (first_lines run (suc i)) old new) (answers : AnswersFirst run (suc i) old new) (written : WritesAsTold pool run (suc i) old new) (room : WearsNone pool (first_lines run i) old.image) where
-  none_before : WearsNoneBefore pool run (suc i) old.image
-  none_before lines less = none_first pool run lines i old.image (omega (arith, less)) room
-
+    (last : HasEnded source' next) (is' : IsSource source') (left : new.input ≡ next.input) where
   has_heard_it : HasHeard (suc i) (taken_by old.input.left source mid i cut is_source source' next line h last is') source'.ended old new
   has_heard_it = heard_line old.input.left source mid i cut is_source source' next line h last is' old new refl left
 
-  -- a line's answer failed
-  pub answer_failed : {T : Type 0} (fault : Halt) → Stops run (suc i) old new fault → HasBegun run (suc i) [] old new → (fault ≢ halt.Input) × (fault ≢ halt.Limit) → ((dev : Dev) → fault ≡ halt.Stop (Worn dev) → WearsFirst pool (first_lines run (suc i)) dev old.image) → SkipsNoNumber (first_lines run (suc i)) old new → RunOutcome {T = T} pool run old new (Err fault)
-  answer_failed {T} fault stops begun ne worn numbers = record {
-    heard = suc i;
-    octets = taken_by old.input.left source mid i cut is_source source' next line h last is';
-    ended = source'.ended;
-    has_heard = has_heard_it;
-    stops = (stops, not_taking fault run (suc i) _ old new ne);
-    begun = begun;
-    done = tt;
-    demands = demands_err pool (first_lines run (suc i)) old new fault worn numbers reads;
-    earlier = none_before;
-    taking = λ fails. absurd (no_taking T fault ne fails);
-    listed = listed;
-    written = written;
-    answers = answers;
-  }
-
-  -- a quit was answered
-  pub quitted : {T : Type 0} (x : T) (engine : Engine) → is_quit line ≡ true → RunInProgress run old new engine (suc i) → WearsNone pool (first_lines run (suc i)) old.image → LeavesItsQueue pool (first_lines run (suc i)) old.image new.image → LeavesVersions pool (first_lines run (suc i)) old.image new.image → LeavesStaged pool (first_lines run (suc i)) old new → LeavesItsRings pool (first_lines run (suc i)) old.image new.image → CallsForUnits run.geometry old new → SkipsNoNumber (first_lines run (suc i)) old new →
-      RunOutcome pool run old new (Ok x)
-  quitted x engine quits going whole queue versions staged rings calls numbers =
-      let all = quit_is_last old.input.left source mid i cut is_source source' next line h last is' quits in
+  -- its answer failed
+  pub answer_failed : {T U : Type 0} (later : List (List CacheLine)) (engine engine' : Engine) (so_far : HasAnswered pool run (asked line (listing_of engine) ++ later) old next engine i) (rest : List Line) (is : drop i (answered run) ≡ line ∷ rest) (fault : Halt) →
+      CarriesOut {T = U} (Err fault) line engine engine' next new → TellsAnswer {T = U} (Err fault) (sizes_of engine.store) (state_at run i) (step (state_at run i) line (listing_at run i)) next new → (fault ≢ halt.Input) × (fault ≢ halt.Limit) → RunOutcome {T = T} pool run old new (Err fault)
+  answer_failed {T} {U} later engine engine' so_far rest is fault c tells ne =
+      let asks = line_asks pool run old next engine i so_far.served line rest is engine' new (Err fault) c in
       record {
         heard = suc i;
         octets = taken_by old.input.left source mid i cut is_source source' next line h last is';
         ended = source'.ended;
         has_heard = has_heard_it;
-        stops = tt;
-        begun = begun_before run old new engine (suc i) going;
-        done = (inr all.1, all.0, going.moments, ended run old new engine (suc i) going, going.quiet);
-        demands = demands_ok pool (first_lines run (suc i)) old new x whole queue versions staged rings calls numbers reads;
-        earlier = none_before;
-        taking = λ fails. absurd fails;
-        listed = listed;
-        written = written;
-        answers = answers;
+        stops = (
+          cut_short run old next engine i so_far.progress new line rest is tells.any_moment fault
+              (λ three. (c.does (state_at run i) so_far.fits).quiet so_far.quiet (λ d e. three (ap status_of e))) tells.untold,
+          not_taking fault run (suc i) _ old new ne,
+        );
+        begun = begun_after run old next engine i so_far.progress new line rest is tells.any_moment;
+        done = tt;
+        demands = line_fails pool run old next engine i so_far.served line rest is engine' new (Err fault) c fault refl;
+        earlier = none_before pool run old next engine i so_far.served (suc i) (omega arith);
+        taking = λ fails. absurd (no_taking T fault ne fails);
+        listed = listed_next line later so_far rest is;
+        written = written_answered pool run i old next new so_far.told tells.any_moment asks so_far.written;
+        answers = answers_more run i (suc i) old new (omega arith) (answers_still run i old next new left so_far.answers);
       }
+
+  -- a quit was answered
+  pub quitted : {T : Type 0} {later : List (List CacheLine)} (x : T) (engine : Engine) → is_quit line ≡ true → QueueIsOnFlash → WhereItFits → HasAnswered pool run later old new engine (suc i) → RunOutcome pool run old new (Ok x)
+  quitted x engine quits queue seen so_far =
+      let all = quit_is_last old.input.left source mid i cut is_source source' next line h last is' quits in
+      whole pool run old new engine (suc i) so_far x _ source'.ended has_heard_it queue seen (inr all.1, all.0)
 
 -- what was heard
 pub heard_end : (h : Heard) (was ended : Bool) (before after : List ℕ) → Hears h was ended before after → h ≡ heard.End → (before ≡ []) × (ended ≡ true)

@@ -9,12 +9,11 @@ use Rattle.site.specs.Laws.{in_sequence, leaves_weaker, stays_honest, told_is, t
 use Rattle.site.specs.Telling.{TellsPart}
 use Rattle.site.specs.declared.outside.Failed.{Failed}
 use Rattle.site.specs.declared.geometry.Geometry.{Geometry}
-use Rattle.site.specs.declared.outside.Stop.TheVariants.{Device, Memory, Worn, Foreign}
 use Rattle.record_model.specs.declared.words.CacheLine.{CacheLine}
 use Rattle.record_model.specs.State.{State}
 use Rattle.record_model.specs.Run.{Line, Turn, after_commits, commit_marks, is_quit, replies}
 use Rattle.record_model.specs.Serial.{Serial}
-use Rattle.std.specs.List.{AllByRecursion, list_any}
+use Rattle.std.specs.List.{list_any}
 use Rattle.front_end.specs.declared.halt.Halt.{Halt}
 use Rattle.front_end.specs.declared.halt.Halt.TheVariants as halt
 use Rattle.front_end.specs.Texts.{fault_line, status_of}
@@ -23,7 +22,7 @@ use Rattle.engine.specs.Image.{Stands}
 use Rattle.face.specs.Causes.{HasCause, HasCauses, EndsInTime}
 use Rattle.front_end.specs.Faults.{NoFaultRose}
 use Rattle.face.proofs.WornFronts.{earlier_same, never_worn}
-use Rattle.front_end.specs.Lines.{commands_of, up_to_quit, answered_of, limit}
+use Rattle.front_end.specs.Lines.{commands_of, answered_of, limit}
 use Rattle.face.specs.Run.{Run, answered, first_lines, Begins}
 use Rattle.face.specs.Working.{Demands, HasHeard, HasTakenAll, IsBetween, StandsNear, StopsTaking, TakingFails, RunOutcome}
 use Rattle.face.proofs.Waits.{answers_still}
@@ -36,19 +35,15 @@ use Rattle.face.proofs.Demanded.{asked_done, asked_halted, demands_failed}
 use Rattle.face.specs.TopCall.{RunContract}
 use Rattle.face.specs.Headline.{Durability, IsGood, IsToldWhole, Headline, TellsFault}
 use Rattle.site.specs.declared.outside.Dev.{Dev}
-use Rattle.face.proofs.Fronts.{begun_same, first_commands, first_same, lines_first, no_quits, told_first, told_same, up_append, waits_same, whole_turns}
+use Rattle.face.proofs.Fronts.{begun_same, first_commands, first_same, lines_first, no_quits, told_first, told_same, waits_same, whole_turns}
+use Rattle.face.proofs.LinesBeforeQuit.{all_answered}
 use Rattle.face.proofs.Lefts.{left_whole}
 use Rattle.face.proofs.Runs.{texts_count}
 use Rattle.face.proofs.Meanings.{stands_by}
+use Rattle.face.proofs.Statuses.{not_zero, of_five, of_seven, output_or_not, worn_by}
 use Rattle.face.proofs.SerialRuns.{run_is_serial, told_is_serial}
 use Rattle.face.proofs.Ranges.{IsFault, is_left, all_text}
 use Rattle.face.proofs.Written.{written_same, written_told}
-
-pub output_or_not : (h : Halt) → (h ≡ halt.Output) ⊎ (h ≢ halt.Output)
-output_or_not (halt.Stop stop) = inr (λ e. cc)
-output_or_not halt.Input = inr (λ e. cc)
-output_or_not halt.Output = inl refl
-output_or_not halt.Limit = inr (λ e. cc)
 
 -- no part of a fault line is a part of any
 no_fault : (run : Run) (so_far fault : List ℕ) (s : Snapshot) → IsLeft run so_far [] s → IsLeft run so_far fault s
@@ -90,9 +85,6 @@ module _ (run : Run) (old mid new : Site) where
       (λ ne. told_whole (fault_line h) (inr (h, refl)) so_far (between ne) tells) (output_or_not h)
 
 -- The run over all octets that are left is the one over those that were taken, as far as its lines were heard.
-all_of : (ls : List Line) → AllByRecursion (λ l. is_quit l ≡ false) ls → up_to_quit ls ≡ ls
-all_of ls none = ap up_to_quit (sym (append-nil ls)) ∙ up_append ls [] none ∙ append-nil ls
-
 module _ (g : Geometry) (opening : State) (listings : List (List CacheLine)) (old mid : Site) (heard : ℕ) (octets : List ℕ) (ended : Bool) (h : HasHeard heard octets ended old mid) where
   abbrev all : Run
   all = run_of g opening true old.input.left listings
@@ -111,7 +103,7 @@ module _ (g : Geometry) (opening : State) (listings : List (List CacheLine)) (ol
       let lines = commands_of false (take limit octets) in
       let first = first_commands ended (take limit octets) (drop limit octets) in
       let is : commands_of ended octets ≡ lines ++ first.0 = ap (commands_of ended) (sym (take-append-drop limit octets)) ∙ first.1 in
-      let long : length lines ≡ heard = sym (ap (λ (l : List Line). length l) (all_of lines (no_quits lines none))) ∙ count in
+      let long : length lines ≡ heard = sym (ap (λ (l : List Line). length l) (all_answered lines (no_quits lines none))) ∙ count in
       take_all heard lines (omega (arith, long)) ∙ sym (ap (take heard) is ∙ take_at lines first.0 heard long) ∙ h.same
 
   pub told_whole_lines : (new : Site) (fault : List ℕ) → HasTakenAll all heard octets old mid → ((k : ℕ) × (new.told ≡ mid.told ++ take k fault)) → IsToldWhole (run_of g opening false (take limit octets) listings) fault old new
@@ -138,34 +130,9 @@ is_whole run n few old new w = record {
 pub begins : (g : Geometry) (opening : State) (listings : List (List CacheLine)) (old : Site) → IsGood g opening old → Begins (run_of g opening true old.input.left listings) old
 begins g opening listings old good = record { honest = good.honest; quiet = good.quiet; opens = good.opens; lines = refl }
 
-pub not_zero : (h : Halt) → status_of h ≢ 0
-not_zero (halt.Stop (Device dev)) e = omega (arith, e)
-not_zero (halt.Stop Memory) e = omega (arith, e)
-not_zero (halt.Stop (Worn dev)) e = omega (arith, e)
-not_zero (halt.Stop Foreign) e = omega (arith, e)
-not_zero halt.Input e = omega (arith, e)
-not_zero halt.Output e = omega (arith, e)
-not_zero halt.Limit e = omega (arith, e)
-
--- with 8 a device is worn
-pub worn_by : (h : Halt) → status_of h ≡ 8 → (dev : Dev) × (h ≡ halt.Stop (Worn dev))
-worn_by (halt.Stop (Device dev)) e = absurd (omega (arith, e))
-worn_by (halt.Stop Memory) e = absurd (omega (arith, e))
-worn_by (halt.Stop (Worn dev)) e = (dev, refl)
-worn_by (halt.Stop Foreign) e = absurd (omega (arith, e))
-worn_by halt.Input e = absurd (omega (arith, e))
-worn_by halt.Output e = absurd (omega (arith, e))
-worn_by halt.Limit e = absurd (omega (arith, e))
-
 -- with 5 and 7 taking was what failed
 taking_by : (T : Type 0) (h : Halt) → (status_of h ≡ 5) ⊎ (status_of h ≡ 7) → TakingFails {T = T} (Err h)
-taking_by T (halt.Stop (Device dev)) which = ⊎_elim (λ e. absurd (omega (arith, e))) (λ e. absurd (omega (arith, e))) which
-taking_by T (halt.Stop Memory) which = ⊎_elim (λ e. absurd (omega (arith, e))) (λ e. absurd (omega (arith, e))) which
-taking_by T (halt.Stop (Worn dev)) which = ⊎_elim (λ e. absurd (omega (arith, e))) (λ e. absurd (omega (arith, e))) which
-taking_by T (halt.Stop Foreign) which = ⊎_elim (λ e. absurd (omega (arith, e))) (λ e. absurd (omega (arith, e))) which
-taking_by T halt.Input which = tt
-taking_by T halt.Output which = ⊎_elim (λ e. absurd (omega (arith, e))) (λ e. absurd (omega (arith, e))) which
-taking_by T halt.Limit which = tt
+taking_by T h which = ⊎_elim (λ e. subst (λ (x : Halt). TakingFails {T = T} (Err x)) (sym (of_five h e)) tt) (λ e. subst (λ (x : Halt). TakingFails {T = T} (Err x)) (sym (of_seven h e)) tt) which
 
 module _ (pool : ℕ) (g : Geometry) (opening : State) (listings : List (List CacheLine)) (old : Site) where
   abbrev run : Run
@@ -173,22 +140,10 @@ module _ (pool : ℕ) (g : Geometry) (opening : State) (listings : List (List Ca
 
   -- where taking failed all whole lines are answered
   taken_by : (h : Halt) (heard : ℕ) (octets : List ℕ) (mid : Site) → StopsTaking h run heard octets old mid → (status_of h ≡ 5) ⊎ (status_of h ≡ 7) → HasTakenAll run heard octets old mid
-  taken_by (halt.Stop (Device dev)) heard octets mid s which = ⊎_elim (λ e. absurd (omega (arith, e))) (λ e. absurd (omega (arith, e))) which
-  taken_by (halt.Stop Memory) heard octets mid s which = ⊎_elim (λ e. absurd (omega (arith, e))) (λ e. absurd (omega (arith, e))) which
-  taken_by (halt.Stop (Worn dev)) heard octets mid s which = ⊎_elim (λ e. absurd (omega (arith, e))) (λ e. absurd (omega (arith, e))) which
-  taken_by (halt.Stop Foreign) heard octets mid s which = ⊎_elim (λ e. absurd (omega (arith, e))) (λ e. absurd (omega (arith, e))) which
-  taken_by halt.Output heard octets mid s which = ⊎_elim (λ e. absurd (omega (arith, e))) (λ e. absurd (omega (arith, e))) which
-  taken_by halt.Input heard octets mid s which = s
-  taken_by halt.Limit heard octets mid s which = s.0
+  taken_by h heard octets mid s which = ⊎_elim (λ e. subst (λ (x : Halt). StopsTaking x run heard octets old mid) (of_five h e) s) (λ e. (subst (λ (x : Halt). StopsTaking x run heard octets old mid) (of_seven h e) s).0) which
 
   over_by : (h : Halt) (heard : ℕ) (octets : List ℕ) (mid : Site) → StopsTaking h run heard octets old mid → status_of h ≡ 7 → (length octets ≡ limit + 1) × (list_any is_quit (commands_of false (take limit octets)) ≡ false)
-  over_by (halt.Stop (Device dev)) heard octets mid s e = absurd (omega (arith, e))
-  over_by (halt.Stop Memory) heard octets mid s e = absurd (omega (arith, e))
-  over_by (halt.Stop (Worn dev)) heard octets mid s e = absurd (omega (arith, e))
-  over_by (halt.Stop Foreign) heard octets mid s e = absurd (omega (arith, e))
-  over_by halt.Output heard octets mid s e = absurd (omega (arith, e))
-  over_by halt.Input heard octets mid s e = absurd (omega (arith, e))
-  over_by halt.Limit heard octets mid s e = (s.1, s.0.no_quit)
+  over_by h heard octets mid s e = let own = subst (λ (x : Halt). StopsTaking x run heard octets old mid) (of_seven h e) s in (own.1, own.0.no_quit)
 
   -- the texts before the fault line are whole
   ends_behind : {T U : Type 0} (mid new : Site) (h : Halt) (result : Result U Failed) (works : RunOutcome {T = T} pool run old mid (Err h)) → Preserves old mid → IsTrue mid.honest → Tells (fault_line h) mid new result → h ≢ halt.Output

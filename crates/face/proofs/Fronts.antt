@@ -1,9 +1,9 @@
 -- Two runs whose first lines are the same.
-use Rattle.std.proofs.Common.{◌≡◌, ℕ, zero, suc, ◌+◌, ◌≤◌, ◌<◌, Bool, true, false, List, [], ◌∷◌, ◌++◌, length, take, get_or, refl, sym, ◌∙◌, ap, subst, arith, append_assoc}
+use Rattle.std.proofs.Common.{◌≡◌, ℕ, suc, ◌+◌, ◌≤◌, Bool, true, false, List, [], ◌∷◌, ◌++◌, length, take, get_or, refl, sym, ◌∙◌, ap, subst, arith, append_assoc}
 use Rattle.std.specs.Prelude.{flat_map, map, if◌then◌else◌, ◌||◌, ◌==◌}
 use Rattle.std.specs.List.{AllByRecursion, list_any}
 use Rattle.std.proofs.lemmas.Bool.{or_right}
-use Rattle.std.proofs.lemmas.List.{append-nil, take-map, take_all, take-take}
+use Rattle.std.proofs.lemmas.List.{append-nil, take-map, take_all, take-take, get_or-take}
 use Rattle.site.specs.State.{State as Site}
 use Rattle.site.specs.declared.outside.Take.{Take}
 use Rattle.record_model.specs.Run.{Line, Turn, is_quit, left_by, replies}
@@ -16,12 +16,6 @@ use Rattle.face.specs.Run.{Run, answered, after_lines, first_lines, state_at, tu
 use Rattle.face.specs.Waiting.{IsAnswered, NobodyWaits}
 use Rattle.face.specs.Working.{AnswersFirst, IsEarly}
 use Rattle.face.proofs.Turns.{first_answered, first_turns, left_are, turns_count}
-
-pub get_within : {X : Type 0} (i n : ℕ) (xs : List X) (d : X) → i < n → get_or (take n xs) i d ≡ get_or xs i d
-get_within i zero xs d less = absurd (omega (arith, less))
-get_within i (suc n) [] d less = refl
-get_within zero (suc n) (x ∷ xs) d less = refl
-get_within (suc i) (suc n) (x ∷ xs) d less = get_within i n xs d (omega (arith, less))
 
 -- A run, and the run over its first lines.
 module _ (run : Run) (n : ℕ) where
@@ -40,7 +34,7 @@ module _ (run : Run) (n : ℕ) where
   told_first w le = ap (flat_map (λ (x : List ℕ). x)) (ap (take w) texts_first ∙ take-take w (suc n) (texts run) (omega (arith, le)))
 
   pub text_first : (w : ℕ) → w ≤ n → text_at (first_lines run n) w ≡ text_at run w
-  text_first w le = ap (λ (l : List (List ℕ)). get_or l w []) texts_first ∙ get_within w (suc n) (texts run) [] (omega (arith, le))
+  text_first w le = ap (λ (l : List (List ℕ)). get_or l w []) texts_first ∙ get_or-take (suc n) (texts run) w [] (omega (arith, le))
 
   pub state_first : (w : ℕ) → w ≤ n → state_at (first_lines run n) w ≡ state_at run w
   state_first w le = ap (λ (l : List Line). after_lines run.opening l run.listings) (ap (take w) lines_first ∙ take-take w n (answered run) le)

@@ -1,9 +1,8 @@
 -- What was heard of the input when a run ends.
-use Rattle.std.proofs.Common.{◌≡◌, ◌≢◌, ◌⊎◌, inl, inr, ⊎_elim, ℕ, suc, ◌+◌, ◌≤◌, Bool, true, false, List, [], ◌++◌, length, refl, sym, ◌∙◌, ap, arith}
+use Rattle.std.proofs.Common.{◌≡◌, ◌≢◌, ◌⊎◌, inl, inr, ⊎_elim, ℕ, suc, ◌+◌, ◌≤◌, Bool, true, false, List, [], ◌++◌, length, refl, sym, ◌∙◌, ap, subst, arith}
 use Rattle.std.specs.Prelude.{Ok, Err}
 use Rattle.std.proofs.lemmas.List.{length-append}
 use Rattle.site.specs.State.{State as Site, Input}
-use Rattle.site.specs.declared.outside.Stop.TheVariants.{Device, Memory, Worn, Foreign}
 use Rattle.record_model.specs.Run.{Line, is_quit}
 use Rattle.front_end.specs.declared.halt.Halt.{Halt}
 use Rattle.front_end.specs.declared.halt.Halt.TheVariants as halt
@@ -12,6 +11,7 @@ use Rattle.face.specs.Hearing.{EndsHearing, HasTaken, HearsInTime, IsTooLong, Wo
 use Rattle.front_end.specs.Lines.{HasEnded, HearsLine, IsCutOff, IsSource, limit, pending, to_hear, total}
 use Rattle.front_end.specs.Texts.{status_of}
 use Rattle.face.specs.Working.{HasHeard}
+use Rattle.face.proofs.Statuses.{not_zero, of_seven}
 use Rattle.face.proofs.Cuts.{Cut, has_heard_all, heard_line, input_failed, over_limit, quit_is_last, taken_by}
 
 -- where a run halts for another reason no more octets were taken than it may take
@@ -111,28 +111,13 @@ pub heard_done : {T : Type 0} (x : T) (old new : Site) → WorkHears (Ok x) old 
 heard_done x old new w = record { octets = w.octets; ended = w.ended; has_taken = w.has_taken; all = λ zero. w.all.0; over = λ seven. absurd (omega (arith, seven)); within = λ ne. w.all.1 }
 
 over_by : (h : Halt) (status : ℕ) (octets : List ℕ) → status ≡ status_of h → EndsHearing h octets → status ≡ 7 → IsTooLong octets
-over_by (halt.Stop (Device dev)) status octets is ends e = absurd (omega (arith, is, e))
-over_by (halt.Stop Memory) status octets is ends e = absurd (omega (arith, is, e))
-over_by (halt.Stop (Worn dev)) status octets is ends e = absurd (omega (arith, is, e))
-over_by (halt.Stop Foreign) status octets is ends e = absurd (omega (arith, is, e))
-over_by halt.Input status octets is ends e = absurd (omega (arith, is, e))
-over_by halt.Output status octets is ends e = absurd (omega (arith, is, e))
-over_by halt.Limit status octets is ends e = ends
+over_by h status octets is ends e = subst (λ (x : Halt). EndsHearing x octets) (of_seven h (sym is ∙ e)) ends
 
 within_by : (h : Halt) (status : ℕ) (octets : List ℕ) → status ≡ status_of h → EndsHearing h octets → status ≢ 7 → length octets ≤ limit
 within_by (halt.Stop stop) status octets is ends ne = ends
 within_by halt.Input status octets is ends ne = ends
 within_by halt.Output status octets is ends ne = ends
 within_by halt.Limit status octets is ends ne = absurd (ne is)
-
-some_status : (h : Halt) (status : ℕ) → status ≡ status_of h → status ≢ 0
-some_status (halt.Stop (Device dev)) status is e = omega (arith, is, e)
-some_status (halt.Stop Memory) status is e = omega (arith, is, e)
-some_status (halt.Stop (Worn dev)) status is e = omega (arith, is, e)
-some_status (halt.Stop Foreign) status is e = omega (arith, is, e)
-some_status halt.Input status is e = omega (arith, is, e)
-some_status halt.Output status is e = omega (arith, is, e)
-some_status halt.Limit status is e = omega (arith, is, e)
 
 -- behind which the fault line is told
 pub heard_halted : {T : Type 0} (h : Halt) (status : ℕ) (old mid new : Site) → status ≡ status_of h → new.input ≡ mid.input → WorkHears {T = T} (Err h) old mid → HearsInTime status old new
@@ -143,7 +128,7 @@ heard_halted h status old mid new is same w = record {
     taken = w.has_taken.taken ∙ ap (λ (input : Input). w.octets ++ input.left) (sym same);
     end = λ e. ap (λ (input : Input). input.left) same ∙ w.has_taken.end e;
   };
-  all = λ zero. absurd (some_status h status is zero);
+  all = λ zero. absurd (not_zero h (sym is ∙ zero));
   over = over_by h status w.octets is w.stops;
   within = within_by h status w.octets is w.stops;
 }

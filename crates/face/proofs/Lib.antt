@@ -1,4 +1,6 @@
+mod Answered
 mod CallCounts
+mod Carrying
 mod CauseLaws
 mod CommandLaws
 mod Counted
@@ -7,6 +9,7 @@ mod Demanded
 mod Ends
 mod Faults
 mod Fronts
+mod Going
 mod Hearings
 mod Lefts
 mod LinesBeforeQuit
@@ -31,13 +34,13 @@ mod RingLives
 mod Runs
 mod RunsSoFar
 mod SerialRuns
+mod Serving
+mod Statuses
 mod ToldFaults
 mod Trials
 mod Turns
-mod UntoldLines
 mod Waits
 mod WornFronts
-mod WornLines
 mod WornRuns
 mod Writings
 mod Written

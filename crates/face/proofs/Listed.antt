@@ -1,8 +1,6 @@
 -- Lines that ask for the listing of the cache, and lines that don't.
-use Rattle.std.proofs.Common.{◌≡◌, ◌⊎◌, inl, inr, ⊎_elim, ℕ, suc, Bool, true, false, true≢false, List, [], ◌∷◌, ◌++◌, drop, Option, None, Some, refl, sym, ap, subst, ◌∙◌, append_assoc}
-use Rattle.std.specs.Prelude.{Result, Ok, Err, IfErr, OnOk, if◌then◌else◌}
-use Rattle.site.specs.declared.outside.Stop.{Stop}
-use Rattle.site.specs.declared.outside.Stop.TheVariants.{Memory}
+use Rattle.std.proofs.Common.{◌≡◌, ◌⊎◌, inl, inr, ⊎_elim, ℕ, suc, Bool, true, false, true≢false, List, [], ◌∷◌, ◌++◌, drop, Option, None, Some, refl, sym, ap, ◌∙◌}
+use Rattle.std.specs.Prelude.{if◌then◌else◌}
 use Rattle.site.specs.State.{State as Site}
 use Rattle.record_model.specs.declared.words.Command.{Command}
 use Rattle.record_model.specs.declared.words.Command.TheVariants.{Cache}
@@ -13,17 +11,12 @@ use Rattle.record_model.specs.State.{State}
 use Rattle.record_model.specs.Step.{refusal, outcome}
 use Rattle.record_model.specs.Run.{Line, Turn, is_cache, next_listing, later_listings}
 use Rattle.engine.specs.declared.engine.Engine.{Engine}
-use Rattle.engine.specs.Image.{IsSound}
 use Rattle.engine.specs.Listings.{listing_of}
-use Rattle.checkpoint.specs.declared.master.Master.{Master}
-use Rattle.log_records.specs.declared.log_record.LogRecord.{LogRecord}
 use Rattle.second_chance.specs.Machine.{listing}
-use Rattle.face.specs.Causes.{FailsBy}
-use Rattle.face.specs.RunMeaning.{ListsTheMachine, WritesAsTold, cache_by}
-use Rattle.face.specs.Run.{Run, Begins, IsAsked, step, answered, first_lines, listings_left, listing_at, state_at, turns_of}
-use Rattle.face.specs.Working.{AnswersFirst}
-use Rattle.face.specs.RunInProgress.{RunInProgress, IsPaged, IsUnderWay}
+use Rattle.face.specs.RunMeaning.{ListsTheMachine, cache_by}
+use Rattle.face.specs.Run.{Run, IsAsked, step, answered, first_lines, listings_left, listing_at, state_at, turns_of}
 use Rattle.face.proofs.Runs.{left_next, turn_at, turns_next}
+use Rattle.face.specs.RunInProgress.{HasAnswered}
 
 -- Which lines ask for it.
 
@@ -49,15 +42,6 @@ same_outcome s other listing None not_cache = refl
 pub same_step : (s : State) (line : Line) (listing : List CacheLine) → is_cache line ≡ false → step s line listing ≡ step s line []
 same_step s None listing not_cache = refl
 same_step s (Some command) listing not_cache = same_outcome s command listing (refusal s command) not_cache
-
--- where it can't be given memory is wanting
-pub memory_fails : {T : Type 0} (result : Result T Stop) (engine : Engine) (old new : Site) → IfErr result (λ stop. stop ≡ Memory) → IfErr result (λ stop. FailsBy stop engine old new)
-memory_fails (Ok done) engine old new stops = tt
-memory_fails (Err stop) engine old new stops = subst (λ (x : Stop). FailsBy x engine old new) (sym stops) tt
-
-pub on_ok : {T : Type 0} (result : Result T Stop) (P : Type 0) → P → OnOk result P
-on_ok (Ok done) P p = p
-on_ok (Err stop) P p = tt
 
 -- The listings of a run.
 
@@ -90,40 +74,22 @@ last_or_earlier (x ∷ xs) last (b ∷ before) later t is =
     let rest : xs ++ last ∷ [] ≡ before ++ t ∷ later = cc in
     ⊎_elim (λ earlier. inl (earlier.0, λ i. same i ∷ earlier.1 i)) (λ own. inr (λ i. sym same i ∷ own.0 i, own.1)) (last_or_earlier xs last before later t rest)
 
-module _ (pool : ℕ) (entry mid : Site) (engine : Engine) (i : ℕ) (so_far : IsUnderWay pool entry mid engine i) (line : Line) where
-  -- the listings with the line's own
-  abbrev pub with_line : List (List CacheLine)
-  with_line = so_far.listings ++ asked line (listing_of engine)
+module _ {pool : ℕ} {run : Run} {entry mid : Site} {engine : Engine} {i : ℕ} (line : Line) (later : List (List CacheLine)) (so_far : HasAnswered pool run (asked line (listing_of engine) ++ later) entry mid engine i) where
+  pub is_asked : IsAsked line (listing_of engine) (listing_at run i)
+  is_asked = λ asks. ap next_listing so_far.left ∙ first_asked line (listing_of engine) later asks
 
-  module _ (run : Run) (later : List (List CacheLine)) (begins : Begins run entry) (is : run.listings ≡ with_line ++ later) where
-    before : run.listings ≡ so_far.listings ++ (asked line (listing_of engine) ++ later)
-    before = is ∙ append_assoc so_far.listings (asked line (listing_of engine)) later
-
-    pub going_before : RunInProgress run entry mid engine i
-    going_before = so_far.going run (asked line (listing_of engine) ++ later) begins before
-
-    pub answers_before : AnswersFirst run i entry mid
-    answers_before = so_far.answers run (asked line (listing_of engine) ++ later) begins before
-
-    pub written_before : WritesAsTold pool run i entry mid
-    written_before = so_far.written run (asked line (listing_of engine) ++ later) begins before
-
-    pub is_asked : IsAsked line (listing_of engine) (listing_at run i)
-    is_asked = λ asks. ap next_listing (so_far.left run (asked line (listing_of engine) ++ later) begins before) ∙ first_asked line (listing_of engine) later asks
-
+  module _ (rest : List Line) (at : drop i (answered run) ≡ line ∷ rest) where
     -- where the cache has done what was asked so far, the line's own is the machine's too
-    pub listed_next : (rest : List Line) → drop i (answered run) ≡ line ∷ rest → ((newest : Option Master) (blocks : List (List LogRecord)) → IsSound newest run.geometry entry.image blocks → IsPaged pool run newest entry.image blocks engine i) →
-        ListsTheMachine pool (first_lines run (suc i)) entry.image
-    listed_next rest at paged newest blocks sound first others t split asks = ⊎_elim
-        (λ earlier. so_far.listed run (asked line (listing_of engine) ++ later) begins before newest blocks sound first earlier.0 t earlier.1 asks)
+    pub listed_next : ListsTheMachine pool (first_lines run (suc i)) entry.image
+    listed_next newest blocks sound first others t split asks = ⊎_elim
+        (λ earlier. so_far.listed newest blocks sound first earlier.0 t earlier.1 asks)
         (λ own.
         let its : is_cache line ≡ true = ap (λ (u : Turn). is_cache u.line) (sym own.1) ∙ asks in
         ap (λ (u : Turn). u.reply) own.1
         ∙ cache_reply (state_at run i) line (listing_at run i) its
-        ∙ ap Listing (is_asked its ∙ ap listing (paged newest blocks sound).machine)
+        ∙ ap Listing (is_asked its ∙ ap listing (so_far.paged newest blocks sound).machine)
         ∙ ap (λ (l : List Turn). Listing (listing (cache_by pool run l newest entry.image blocks))) (sym own.0))
         (last_or_earlier (turns_of (first_lines run i)) (turn_at run i line rest at) first others t (sym (turns_next run i line rest at) ∙ split))
 
-    pub left_after : (rest : List Line) → drop i (answered run) ≡ line ∷ rest → listings_left run (suc i) ≡ later
-    left_after rest at =
-        left_next run i line rest at ∙ ap (later_listings line) (so_far.left run (asked line (listing_of engine) ++ later) begins before) ∙ rest_asked line (listing_of engine) later
+    pub left_after : listings_left run (suc i) ≡ later
+    left_after = left_next run i line rest at ∙ ap (later_listings line) so_far.left ∙ rest_asked line (listing_of engine) later

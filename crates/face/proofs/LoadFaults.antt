@@ -4,7 +4,6 @@ use Rattle.std.specs.Prelude.{Ok, Err, Result, IsTrue}
 use Rattle.std.proofs.lemmas.List.{append-nil, take_all}
 use Rattle.site.specs.declared.geometry.Geometry.{Geometry}
 use Rattle.site.specs.declared.outside.Dev.{Dev}
-use Rattle.site.specs.declared.outside.Stop.TheVariants.{Device, Memory, Worn, Foreign}
 use Rattle.site.specs.State.{State as Site, Snapshot, now_of}
 use Rattle.site.specs.Calls.{Preserves, SameReads}
 use Rattle.site.specs.Moments.{EachMoment, Leaves, LeavesOnly}
@@ -31,7 +30,7 @@ use Rattle.face.specs.Workload.{load_run, load_texts, opening_text, summary_text
 use Rattle.face.proofs.CallCounts.{calls_told}
 use Rattle.front_end.proofs.Endings.{ends_whole, ends_with}
 use Rattle.face.proofs.Demanded.{asked_done, asked_halted, demands_done, demands_err, demands_failed, demands_lost}
-use Rattle.face.proofs.Faults.{not_zero, worn_by, output_or_not}
+use Rattle.face.proofs.Statuses.{not_zero, of_five, of_seven, output_or_not, worn_by}
 use Rattle.face.proofs.Meanings.{stands_by}
 
 no_text : (rest text : List ℕ) → IsFront rest [] → IsFront rest text
@@ -246,13 +245,7 @@ module _ (load : Load) (g : Geometry) (opening : State) (old : Site) (good : IsG
 
 -- a status of none that speaks of input
 pub not_taken : (h : Halt) (status : ℕ) → status ≡ status_of h → (h ≢ halt.Input) × (h ≢ halt.Limit) → (status ≢ 5) × (status ≢ 7)
-not_taken (halt.Stop (Device dev)) status is ne = (λ e. omega (arith, is, e), λ e. omega (arith, is, e))
-not_taken (halt.Stop Memory) status is ne = (λ e. omega (arith, is, e), λ e. omega (arith, is, e))
-not_taken (halt.Stop (Worn dev)) status is ne = (λ e. omega (arith, is, e), λ e. omega (arith, is, e))
-not_taken (halt.Stop Foreign) status is ne = (λ e. omega (arith, is, e), λ e. omega (arith, is, e))
-not_taken halt.Input status is ne = absurd (ne.0 refl)
-not_taken halt.Output status is ne = (λ e. omega (arith, is, e), λ e. omega (arith, is, e))
-not_taken halt.Limit status is ne = absurd (ne.1 refl)
+not_taken h status is ne = (λ e. ne.0 (of_five h (sym is ∙ e)), λ e. ne.1 (of_seven h (sym is ∙ e)))
 
 -- the contract of a load
 pub load_contract : (load : Load) (old new : Site) (status : ℕ) → ((g : Geometry) (opening : State) → IsGood g opening old → LoadHeadline load g opening old new status) → HasCauses status old new → (status ≢ 5) × (status ≢ 7) → (IsTrue old.honest → TellsFault status old new)

@@ -1,14 +1,13 @@
 -- The database of a site of which only counts, told and heard octets change.
-use Rattle.std.proofs.Common.{◌≡◌, ℕ, ◌<◌, List, Option, Some, false, sym, subst, ◌∙◌}
-use Rattle.site.specs.declared.outside.Dev.TheVariants.{Log, Flash, Disk}
+use Rattle.std.proofs.Common.{◌≡◌, ℕ, ◌<◌, List, Option, Some, false, sym, subst}
 use Rattle.site.specs.declared.geometry.Geometry.{Geometry}
-use Rattle.site.specs.Geometry.{HasLengths}
 use Rattle.site.specs.State.{State as Site, Image, content_of}
 use Rattle.site.specs.Calls.{Preserves}
 use Rattle.site.specs.Laws.{stays_honest}
 use Rattle.sealed_ring.specs.declared.ring.Ring.{Ring}
-use Rattle.sealed_ring.specs.Ring.{FitsIn, IsRing, hi_of}
-use Rattle.sealed_ring.specs.Ready.{IsUsable, Finds}
+use Rattle.sealed_ring.specs.Ring.{IsRing, hi_of}
+use Rattle.sealed_ring.specs.Ready.{Finds}
+use Rattle.sealed_ring.proofs.Stays.{usable_later}
 use Rattle.image_changes.specs.Rings.{log_shape, group_shape, segment_shape}
 use Rattle.record_model.specs.State.{State, Content}
 use Rattle.log_records.specs.Log.{Entry}
@@ -18,17 +17,17 @@ use Rattle.buffer_pool.specs.declared.frame.Frame.{Frame}
 use Rattle.buffer_pool.specs.Frames.{frame_of}
 use Rattle.log_store.specs.declared.store.LogStore.{LogStore}
 use Rattle.log_store.specs.Representation as log_store
-use Rattle.log_store.specs.Representation.{end_of, HasBlocks}
+use Rattle.log_store.specs.Representation.{end_of}
 use Rattle.flash_cache.specs.Representation as flash_cache
 use Rattle.flash_cache.specs.Representation.{version_on, IsCleanOn}
 use Rattle.checkpoint.specs.declared.master.Master.{Master}
 use Rattle.page_store.specs.declared.store.PageStore.{PageStore}
 use Rattle.page_store.specs.Representation as page_store
 use Rattle.page_store.specs.Representation.{current}
-use Rattle.page_store.proofs.Versions.{pages_later}
 use Rattle.page_store.specs.Ahead.{IsAhead}
 use Rattle.image_meaning.specs.Meaning.{kept_by, logical_image_under}
 use Rattle.image_meaning.specs.Beside.{AreRingsSoundUnder}
+use Rattle.redo_laws.proofs.CallsInSequence.{going_still, stands_there}
 use Rattle.redo_laws.specs.Running.{RunsOn}
 use Rattle.redo_laws.specs.Holding.{RepresentsLog, RepresentsIn, ShowRecords}
 use Rattle.engine.specs.declared.engine.Engine.{Engine}
@@ -36,55 +35,27 @@ use Rattle.engine.specs.Invariant.{Invariant, sizes_of}
 use Rattle.engine.specs.Representation.{Matches}
 use Rattle.face.specs.Run.{StandsFor}
 
--- the lengths are kept
-lengths_stay : (g : Geometry) (a b : Site) → HasLengths g a.image → Preserves a b → HasLengths g b.image
-lengths_stay g a b lengths goes = record { log = goes.sizes Log ∙ lengths.log; flash = goes.sizes Flash ∙ lengths.flash; disk = goes.sizes Disk ∙ lengths.disk }
-
--- a ring may be used as before
-ring_goes_on : (ring : Ring) (a b : Site) → IsUsable ring a → Preserves a b → IsUsable ring b
-ring_goes_on ring a b usable goes = record { fits = subst (FitsIn ring.shape) (sym (goes.sizes ring.shape.dev)) usable.fits; bounded = usable.bounded }
-
--- a log goes on after calls that keep the lengths
-log_goes_on : (log : LogStore) (a b : Site) → log_store.Invariant log a → Preserves a b → log_store.Invariant log b
-log_goes_on log a b going goes = record {
-  limits = going.limits;
-  lengths = lengths_stay log.geometry a b going.lengths goes;
-  usable = ring_goes_on log.ring a b going.usable goes;
-  shape = going.shape;
-  kept = going.kept;
-  live = going.live;
-  low = going.low;
-  high = going.high;
-}
-
--- and the database
+-- it goes on after calls that keep the lengths
 pub goes_on : (engine : Engine) (a b : Site) → Invariant engine a → Preserves a b → Invariant engine b
-goes_on engine a b go goes =
-    let both = go.store.both in
-    record {
-      store = record {
-        both = record {
-          log_going = log_goes_on engine.store.log a b both.log_going goes;
-          pages_going = pages_later engine.store.pages a b goes both.pages_going;
-          sizes = both.sizes;
-          room = both.room;
-        };
-        blocks = go.store.blocks;
-        bounded = go.store.bounded;
-        masters = ring_goes_on engine.store.masters a b go.store.masters goes;
-        shape = go.store.shape;
-      };
-      going = go.going;
-      cap = go.cap;
-      table = go.table;
-      room = go.room;
-      since = go.since;
-      bounded = go.bounded;
-      budget = go.budget;
-      commits = go.commits;
-      lasts = go.lasts;
-      differ = go.differ;
-    }
+goes_on engine a b go goes = record {
+  store = record {
+    both = going_still engine.store.log engine.store.pages a b goes go.store.both;
+    blocks = go.store.blocks;
+    bounded = go.store.bounded;
+    masters = usable_later engine.store.masters a b goes go.store.masters;
+    shape = go.store.shape;
+  };
+  going = go.going;
+  cap = go.cap;
+  table = go.table;
+  room = go.room;
+  since = go.since;
+  bounded = go.bounded;
+  budget = go.budget;
+  commits = go.commits;
+  lasts = go.lasts;
+  differ = go.differ;
+}
 
 module _ (a b : Site) (goes : Preserves a b) (image : b.image ≡ a.image) where
   -- what is said of the image alone
@@ -161,25 +132,4 @@ still_fits engine a b s fits goes image = record {
 
 -- the devices stand for the table and the count of this state
 pub fits_stands : (engine : Engine) (site : Site) (s : State) → engine.store.log.geometry ≡ sizes_of engine.store → Matches engine site s → StandsFor (sizes_of engine.store) site.image s
-fits_stands engine site s sizes fits =
-    let h = fits.holds.both.log_holds in
-    record {
-      newest = fits.newest;
-      stands = record {
-        blocks = h.blocks;
-        sound = record {
-          octets = record {
-            limits = h.rings.limits;
-            lengths = h.rings.lengths;
-            masters = h.rings.masters;
-            segments = h.rings.segments;
-            groups = h.rings.groups;
-            versions = h.ready.pages.sound;
-            clean = h.ready.pages.clean;
-          };
-          held = subst (λ (g : Geometry). HasBlocks g (kept_by fits.newest) h.blocks site.image) sizes h.ready.records.blocks;
-          records = h.runs_on.carries.sound;
-        };
-        means = h.runs_on.means;
-      };
-    }
+fits_stands engine site s sizes fits = record { newest = fits.newest; stands = stands_there engine.store.log engine.store.pages site fits.newest fits.records s.table s.commits sizes fits.holds.both }

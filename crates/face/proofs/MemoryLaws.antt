@@ -3,7 +3,7 @@ use Rattle.std.proofs.Common.{◌≡◌, inl, inr, ℕ, [], refl, sym, subst, ar
 use Rattle.std.specs.Prelude.{Err, Result}
 use Rattle.site.specs.declared.outside.Stop.TheVariants.{Memory}
 use Rattle.site.specs.declared.geometry.Geometry.{Geometry}
-use Rattle.site.specs.State.{IsQuiet, State as Site}
+use Rattle.site.specs.State.{State as Site}
 use Rattle.site.specs.Moments.{Leaves, LeavesOnly}
 use Rattle.site.specs.declared.outside.Failed.{Failed}
 use Rattle.record_model.specs.State.{State}
@@ -16,14 +16,16 @@ use Rattle.front_end.specs.Tells.{Tells}
 use Rattle.face.specs.Run.{Run, first_lines}
 use Rattle.face.specs.Working.{RunOutcome}
 use Rattle.face.proofs.Pagings.{none_read}
-use Rattle.redo_laws.specs.MachineSteps.{NumbersRise}
+use Rattle.redo_laws.proofs.Costs.{numbers_rise}
 use Rattle.front_end.specs.New.{New, NewCauses}
 use Rattle.front_end.specs.Refusals.{LacksMemory, memory_fault}
-use Rattle.face.specs.RunMeaning.{AsksNoMore, run_of}
+use Rattle.face.specs.RunInProgress.{NeverOpens}
+use Rattle.face.specs.RunMeaning.{run_of}
 use Rattle.command_line.specs.declared.request.Load.{Load}
 use Rattle.face.specs.Loads.{LoadHeadline, LoadWorks}
 use Rattle.face.specs.Workload.{load_run, summary_text}
 use Rattle.face.proofs.Counted.{counts_nothing}
+use Rattle.face.proofs.Demanded.{demands_err}
 use Rattle.face.proofs.ToldFaults.{tells_fault}
 use Rattle.face.proofs.LoadFaults.{load_contract, load_halted, stopped_before}
 use Rattle.face.proofs.Loadings.{load_never_opened}
@@ -48,35 +50,37 @@ still g opening old good =
       stands = subst (λ (x : Image). Stands g x opening.table opening.commits) (sym (image_is (now_of old) s good.quiet left)) (stands_by g old.image opening good.opens);
     })
 
--- nothing was read
-reads_nothing : NumbersRise → (pool : ℕ) (run : Run) (site : Site) → IsQuiet site → AsksNoMore pool (first_lines run 0) site site
-reads_nothing rise pool run site quiet newest blocks sound = none_read pool run.geometry _ _ site rise (let least = sound.octets.limits.groups in omega (arith, least)) quiet
+-- nothing was done
+never : (pool : ℕ) (run : Run) (old : Site) → IsGood run.geometry run.opening old → NeverOpens pool run old old lacks
+never pool run old good = record {
+  stops = not_opened run old old (still run.geometry run.opening old good) lacks (λ ne. good.quiet);
+  demands = demands_err pool (first_lines run 0) old old lacks (λ dev e. cc) (counts_nothing run old good.quiet)
+      (λ newest blocks sound. none_read pool run.geometry _ _ old numbers_rise (let least = sound.octets.limits.groups in omega (arith, least)) good.quiet);
+}
 
-pub lacked_headline : Serial → NumbersRise → (pool : ℕ) (g : Geometry) (opening : State) (old new : Site) → {T : Type 0} (result : Result T Failed) → IsGood g opening old → Tells memory_fault old new result → Headline pool g opening old new 4
-lacked_headline law rise pool g opening old new result good tells =
+pub lacked_headline : Serial → (pool : ℕ) (g : Geometry) (opening : State) (old new : Site) → {T : Type 0} (result : Result T Failed) → IsGood g opening old → Tells memory_fault old new result → Headline pool g opening old new 4
+lacked_headline law pool g opening old new result good tells =
     let run = run_of g opening true old.input.left [] in
-    let stops = not_opened run old old (still g opening old good) lacks (λ ne. good.quiet) in
-    let works : RunOutcome {T = ℕ} pool run old old (Err lacks) = never_opened pool run old old lacks stops (λ e. cc, λ e. cc) refl (λ dev e. cc) (counts_nothing run old good.quiet) (reads_nothing rise pool run old good.quiet) in
+    let works : RunOutcome {T = ℕ} pool run old old (Err lacks) = never_opened pool run old old lacks (never pool run old good) (λ e. cc, λ e. cc) refl in
     halted pool g opening [] old law old new lacks good works (goes_nowhere old) result tells tt 4 refl
 
 -- the same of a load
-pub lacked_load : NumbersRise → (load : Load) (g : Geometry) (opening : State) (old new : Site) → {T : Type 0} (result : Result T Failed) → IsGood g opening old → Tells memory_fault old new result → LoadHeadline load g opening old new 4
-lacked_load rise load g opening old new result good tells =
+pub lacked_load : (load : Load) (g : Geometry) (opening : State) (old new : Site) → {T : Type 0} (result : Result T Failed) → IsGood g opening old → Tells memory_fault old new result → LoadHeadline load g opening old new 4
+lacked_load load g opening old new result good tells =
     let run = load_run g opening load in
-    let stops = not_opened (run_of g opening true old.input.left []) old old (still g opening old good) lacks (λ ne. good.quiet) in
     let works : LoadWorks {T = ℕ} load.pool run (summary_text run load) old old (Err lacks) =
-    stopped_before load.pool run (summary_text run load) old {T = ℕ} old lacks (load_never_opened g opening load old old lacks stops (λ dev e. cc) (counts_nothing (run_of g opening true old.input.left []) old good.quiet) (reads_nothing rise load.pool (run_of g opening true old.input.left []) old good.quiet) refl) in
+    stopped_before load.pool run (summary_text run load) old {T = ℕ} old lacks (load_never_opened g opening load old old lacks (never load.pool run old good) refl) in
     load_halted load g opening old good old new lacks works (goes_nowhere old) result tells tt 4 refl
 
 -- the contracts of a run and of a load
-pub lacked_run : Serial → NumbersRise → (pool : ℕ) (old new : Site) → {T : Type 0} (result : Result T Failed) → Tells memory_fault old new result → RunContract pool old new 4
-lacked_run law rise pool old new result tells = run_contract pool old new 4
-    (λ g opening good. lacked_headline law rise pool g opening old new result good tells)
+pub lacked_run : Serial → (pool : ℕ) (old new : Site) → {T : Type 0} (result : Result T Failed) → Tells memory_fault old new result → RunContract pool old new 4
+lacked_run law pool old new result tells = run_contract pool old new 4
+    (λ g opening good. lacked_headline law pool g opening old new result good tells)
     (status_causes lacks 4 old new refl tt) (λ honest. tells_fault lacks 4 old old new result refl tt (goes_nowhere old) honest tells)
 
-pub lacked_load_run : NumbersRise → (load : Load) (old new : Site) → {T : Type 0} (result : Result T Failed) → Tells memory_fault old new result → LoadContract load old new 4
-lacked_load_run rise load old new result tells = load_contract load old new 4
-    (λ g opening good. lacked_load rise load g opening old new result good tells)
+pub lacked_load_run : (load : Load) (old new : Site) → {T : Type 0} (result : Result T Failed) → Tells memory_fault old new result → LoadContract load old new 4
+lacked_load_run load old new result tells = load_contract load old new 4
+    (λ g opening good. lacked_load load g opening old new result good tells)
     (status_causes lacks 4 old new refl tt) (λ e. omega (arith, e), λ e. omega (arith, e)) (λ honest. tells_fault lacks 4 old old new result refl tt (goes_nowhere old) honest tells)
 
 module _ (status : ℕ) (old new : Site) (l : LacksMemory status old new) where

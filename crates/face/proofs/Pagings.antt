@@ -1,13 +1,12 @@
 -- What a run asks of the page cache, line by line.
 use Rattle.engine.specs.LogReads.{restart_log_reads}
 use Rattle.flash_cache.specs.Representation.{start_reads}
-use Rattle.std.proofs.Common.{◌≡◌, ℕ, suc, ◌+◌, ◌≤◌, Bool, true, false, List, [], ◌∷◌, ◌++◌, length, take, drop, arith, refl, sym, ap, subst, ◌∙◌, append_assoc, ◌-◌, IsTrue}
-use Rattle.std.specs.Prelude.{Result, Ok, Err, Option, Some, None, IfErr, if◌then◌else◌}
+use Rattle.std.proofs.Common.{◌≡◌, ℕ, suc, ◌+◌, ◌≤◌, Bool, true, false, List, [], ◌∷◌, ◌++◌, length, drop, arith, refl, sym, ap, subst, ◌∙◌, append_assoc, ◌-◌}
+use Rattle.std.specs.Prelude.{Result, Ok, Option, Some, None, if◌then◌else◌}
 use Rattle.std.proofs.lemmas.List.{append-nil}
 use Rattle.site.specs.Calls.{SameReads}
 use Rattle.site.specs.declared.outside.Dev.TheVariants.{Flash, Disk, Log}
 use Rattle.site.specs.declared.outside.Stop.{Stop}
-use Rattle.site.specs.declared.outside.Stop.TheVariants.{Memory}
 use Rattle.site.specs.State.{State as Site, Image}
 use Rattle.record_model.specs.State.{State}
 use Rattle.record_model.specs.Run.{Line, Turn, is_quit, left_by, turns, next_listing, later_listings}
@@ -21,32 +20,29 @@ use Rattle.checkpoint.specs.declared.master.Master.{Master}
 use Rattle.image_meaning.specs.Meaning.{logical_image_under}
 use Rattle.second_chance.specs.Machine.{Rules, Cache, rules_of, after_works, opened}
 use Rattle.page_store.specs.declared.store.PageStore.{PageStore}
-use Rattle.page_store.specs.Caching.{cache_of, rules}
 use Rattle.site.specs.Moments.{EachMoment}
 use Rattle.site.specs.Telling.{TellsPart}
 use Rattle.site.specs.Laws.{unchanged}
 use Rattle.site.specs.State.{IsQuiet}
-use Rattle.page_store.proofs.StagingLaws.{stages_none}
 use Rattle.engine.proofs.Asking.{still_writes}
 use Rattle.front_end.specs.Lines.{HearsOnly}
-use Rattle.face.proofs.Writings.{last_heard, last_told, last_works, writes_told, writes_heard, writes_then}
-use Rattle.redo_laws.specs.MachineSteps.{StepsMachine, NumbersRise, ReadsAddUp, ReadsFor, OpsCompose}
+use Rattle.face.proofs.Writings.{writes_told, writes_heard}
+use Rattle.redo_laws.specs.MachineSteps.{NumbersRise, ReadsFor}
 use Rattle.engine.specs.declared.engine.Engine.{Engine}
 use Rattle.engine.specs.Representation.{Matches}
 use Rattle.engine.specs.Invariant.{sizes_of}
 use Rattle.engine.specs.Listings.{QueueIsOnFlash}
 use Rattle.engine.specs.SeenVersions.{VersionsAreSeen, WhereItFits}
-use Rattle.engine.specs.Paging.{HasLastFrom, WritesFrom, AsksFrom, restart_works, cache_on}
+use Rattle.engine.specs.Paging.{WritesFrom, AsksFrom, restart_works, cache_on}
 use Rattle.front_end.specs.declared.halt.Halt.TheVariants as halt
 use Rattle.front_end.specs.Lines.{commands_of, up_to_quit}
 use Rattle.face.proofs.Fronts.{first_commands, state_by_turns, whole_turns}
 use Rattle.face.proofs.Runs.{turn_at, turns_next}
-use Rattle.face.proofs.Turns.{first_answered}
 use Rattle.site.specs.declared.geometry.Geometry.{Geometry}
-use Rattle.face.specs.RunInProgress.{IsPaged, LineStepsMachine}
+use Rattle.face.specs.RunInProgress.{IsPaged}
 use Rattle.flash_cache.specs.OnDisk.{HasLastStaged}
 use Rattle.face.specs.RunMeaning.{cache_by, staged_by_run, LeavesItsQueue, LeavesStaged, LeavesVersions, log_reads_in}
-use Rattle.face.specs.Run.{Run, answered, first_lines, step, after_lines, state_at, works_of, AsksFew, turns_of, line_log_reads, log_reads_of}
+use Rattle.face.specs.Run.{Run, answered, first_lines, step, after_lines, state_at, works_of, AsksFew, turns_of, line_log_reads}
 use Rattle.face.specs.Working.{asked_after, log_reads_after}
 
 -- Lines. What they ask doesn't depend on what the cache lists.
@@ -97,18 +93,6 @@ turns_ask s (line ∷ lines) listings =
     by true later = refl
     by false later = ap (λ (w : List CacheOp). line_touches s line ++ w) later
 
--- and its first turns for what its first lines do
-pub first_ask : (n : ℕ) (s : State) (lines : List Line) (listings : List (List CacheLine)) → run_touches (turns s (take n lines) listings) ≡ works_of s (take n (up_to_quit lines))
-first_ask n s lines listings = turns_ask s (take n lines) listings ∙ ap (works_of s) (first_answered n lines)
-
--- by lines
-pub asked_is : (run : Run) (newest : Option Master) (image : Image) (blocks : List (List LogRecord)) (n : ℕ) → asked_after run newest image blocks n ≡ restart_works (logical_image_under newest run.geometry image blocks) ++ works_of run.opening (take n (answered run))
-asked_is run newest image blocks n = ap (λ (w : List CacheOp). restart_works (logical_image_under newest run.geometry image blocks) ++ w) (first_ask n run.opening run.lines run.listings)
-
--- whatever the cache lists
-pub asked_with : (run : Run) (listings : List (List CacheLine)) (newest : Option Master) (image : Image) (blocks : List (List LogRecord)) (n : ℕ) → asked_after (record run { listings = listings }) newest image blocks n ≡ asked_after run newest image blocks n
-asked_with run listings newest image blocks n = asked_is (record run { listings = listings }) newest image blocks n ∙ sym (asked_is run newest image blocks n)
-
 -- a line more asks for its own work behind that of the others
 pub asked_next : (run : Run) (newest : Option Master) (image : Image) (blocks : List (List LogRecord)) (i : ℕ) (line : Line) (rest : List Line) → drop i (answered run) ≡ line ∷ rest →
     asked_after run newest image blocks (suc i) ≡ asked_after run newest image blocks i ++ line_touches (state_at run i) line
@@ -126,28 +110,6 @@ asked_next run newest image blocks i line rest is =
 log_reads_join : (first later : List Turn) → log_reads_in (first ++ later) ≡ log_reads_in first + log_reads_in later
 log_reads_join [] later = omega arith
 log_reads_join (t ∷ first) later = let rest = log_reads_join first later in omega (arith, rest)
-
--- the turns of a run, as its lines
-turns_read_log : (s : State) (lines : List Line) (listings : List (List CacheLine)) → log_reads_in (turns s lines listings) ≡ log_reads_of s (up_to_quit lines)
-turns_read_log s [] listings = refl
-turns_read_log s (line ∷ lines) listings =
-    by (is_quit line) (turns_read_log (step s line (next_listing listings)).after lines (later_listings line listings) ∙ ap (λ (x : State). log_reads_of x (up_to_quit lines)) (after_same s line (next_listing listings) []))
-  where
-    by : (b : Bool) → log_reads_in (turns (step s line (next_listing listings)).after lines (later_listings line listings)) ≡ log_reads_of (step s line []).after (up_to_quit lines) →
-        line_log_reads s line + log_reads_in (if b then [] else turns (step s line (next_listing listings)).after lines (later_listings line listings)) ≡ line_log_reads s line + log_reads_of (step s line []).after (if b then [] else up_to_quit lines)
-    by true later = refl
-    by false later = ap (λ (n : ℕ). line_log_reads s line + n) later
-
--- its first turns, as its first lines
-pub first_log_reads : (n : ℕ) (s : State) (lines : List Line) (listings : List (List CacheLine)) → log_reads_in (turns s (take n lines) listings) ≡ log_reads_of s (take n (up_to_quit lines))
-first_log_reads n s lines listings = turns_read_log s (take n lines) listings ∙ ap (log_reads_of s) (first_answered n lines)
-
--- whatever the cache lists
-pub log_reads_with : (run : Run) (listings : List (List CacheLine)) (newest : Option Master) (blocks : List (List LogRecord)) (n : ℕ) → log_reads_after (record run { listings = listings }) newest blocks n ≡ log_reads_after run newest blocks n
-log_reads_with run listings newest blocks n =
-    let own = first_log_reads n run.opening run.lines listings in
-    let same = first_log_reads n run.opening run.lines run.listings in
-    omega (arith, own, same)
 
 -- a line more
 pub log_reads_next : (run : Run) (newest : Option Master) (blocks : List (List LogRecord)) (i : ℕ) (line : Line) (rest : List Line) → drop i (answered run) ≡ line ∷ rest →
@@ -221,61 +183,6 @@ module _ (pool : ℕ) (run : Run) (newest : Option Master) (image : Image) (bloc
       subst (λ (w : List CacheOp). AsksFew pool run.geometry w (log_reads_after run newest blocks 0) old new) (sym (append-nil restart))
       (record { log_reads = omega (arith, read, none); reads = reads_still r restart (cache_on run.geometry old.image) (record old { flash_reads = old.flash_reads + start_reads run.geometry }) mid new same (record { flash = asks.flash; disk = asks.disk }); writes = writes })
 
-  module _ (add : OpsCompose) (i : ℕ) (line : Line) (rest : List Line) (is : drop i (answered run) ≡ line ∷ rest) (engine : Engine) (paged : IsPaged pool run newest image blocks engine i) where
-    -- what the pages come to by the line's work
-    pub next_is : after_works (rules engine.store.pages) (line_touches (state_at run i) line) (cache_of engine.store.pages) ≡ after_works r (asked_after run newest image blocks (suc i)) (cache_on run.geometry image)
-    next_is =
-        (λ j. after_works (paged.rules_are j) (line_touches (state_at run i) line) (paged.machine j))
-        ∙ sym (add r (asked_after run newest image blocks i) (line_touches (state_at run i) line) (cache_on run.geometry image))
-        ∙ ap (λ (w : List CacheOp). after_works r w (cache_on run.geometry image)) (sym (asked_next run newest image blocks i line rest is))
-
-    -- it is answered
-    pub next_paged : {T : Type 0} (x : T) (engine' : Engine) (before now : Site) → LineStepsMachine {T = T} (Ok x) (line_touches (state_at run i) line) (line_log_reads (state_at run i) line) engine.store.pages engine'.store.pages before now → IsPaged pool run newest image blocks engine' (suc i)
-    next_paged x engine' before now serves = record { machine = serves.machine ∙ next_is; rules_are = serves.rules_are ∙ paged.rules_are }
-
-    -- however that ends, no more is read than it asks for
-    pub next_reads : ReadsAddUp → (entry mid next new : Site) → entry.image ≡ image → HearsOnly mid next → AsksFew pool run.geometry (asked_after run newest image blocks i) (log_reads_after run newest blocks i) entry mid → engine.store.pages.flash.geometry ≡ run.geometry → 1 ≤ run.geometry.groups - 1 →
-        ReadsFor (rules engine.store.pages) (line_touches (state_at run i) line) (cache_of engine.store.pages) next new → WritesFrom engine.store.pages.flash.geometry (rules engine.store.pages) (line_touches (state_at run i) line) (cache_of engine.store.pages) next new →
-        new.log_reads ≤ next.log_reads + line_log_reads (state_at run i) line → AsksFew pool run.geometry (asked_after run newest image blocks (suc i)) (log_reads_after run newest blocks (suc i)) entry new
-    next_reads reads_add entry mid next new at same so_far sizes some later written read =
-        let before : Site = record entry { flash_reads = entry.flash_reads + start_reads run.geometry } in
-        let first = reads_still r (asked_after run newest image blocks i) (cache_on run.geometry entry.image) before mid next same.reads so_far.reads in
-        let there : cache_of engine.store.pages ≡ after_works r (asked_after run newest image blocks i) (cache_on run.geometry entry.image) =
-        paged.machine ∙ ap (λ (x : Image). after_works r (asked_after run newest image blocks i) (cache_on run.geometry x)) (sym at) in
-        let own : ReadsFor r (line_touches (state_at run i) line) (after_works r (asked_after run newest image blocks i) (cache_on run.geometry entry.image)) next new =
-        subst (λ (c : Cache). ReadsFor r (line_touches (state_at run i) line) c next new) there (subst (λ (x : Rules). ReadsFor x (line_touches (state_at run i) line) (cache_of engine.store.pages) next new) paged.rules_are later) in
-        subst (λ (w : List CacheOp). AsksFew pool run.geometry w (log_reads_after run newest blocks (suc i)) entry new) (sym (asked_next run newest image blocks i line rest is))
-        (record {
-          log_reads = let few = so_far.log_reads in let none : next.log_reads ≡ mid.log_reads = same.reads Log in let more = log_reads_next run newest blocks i line rest is in omega (arith, few, none, read, more);
-          reads = reads_add r (asked_after run newest image blocks i) (line_touches (state_at run i) line) (cache_on run.geometry entry.image) before next new first own;
-          writes = writes_then run.geometry r (asked_after run newest image blocks i) (line_touches (state_at run i) line) (cache_on run.geometry entry.image) entry next new some
-              (writes_heard run.geometry r (asked_after run newest image blocks i) (cache_on run.geometry entry.image) entry mid next so_far.writes same)
-              (subst (λ (c : Cache). WritesFrom run.geometry r (line_touches (state_at run i) line) c next new) there
-              (subst (λ (x : Rules). WritesFrom run.geometry x (line_touches (state_at run i) line) (cache_of engine.store.pages) next new) paged.rules_are
-              (subst (λ (g : Geometry). WritesFrom g (rules engine.store.pages) (line_touches (state_at run i) line) (cache_of engine.store.pages) next new) sizes written)));
-        })
-
-    -- what the disk has behind it
-    pub next_last : (entry mid next new : Site) → entry.image ≡ image → HearsOnly mid next → AsksFew pool run.geometry (asked_after run newest image blocks i) (log_reads_after run newest blocks i) entry mid → engine.store.pages.flash.geometry ≡ run.geometry →
-        WritesFrom engine.store.pages.flash.geometry (rules engine.store.pages) (line_touches (state_at run i) line) (cache_of engine.store.pages) next new → HasLastFrom run.geometry r (asked_after run newest image blocks i) (cache_on run.geometry entry.image) entry mid →
-        HasLastFrom engine.store.pages.flash.geometry (rules engine.store.pages) (line_touches (state_at run i) line) (cache_of engine.store.pages) next new → HasLastFrom run.geometry r (asked_after run newest image blocks (suc i)) (cache_on run.geometry entry.image) entry new
-    next_last entry mid next new at same so_far sizes written last own =
-        let line_works = line_touches (state_at run i) line in
-        let start = cache_on run.geometry entry.image in
-        let first = asked_after run newest image blocks i in
-        let there : cache_of engine.store.pages ≡ after_works r first start =
-        paged.machine ∙ ap (λ (x : Image). after_works r first (cache_on run.geometry x)) (sym at) in
-        subst (λ (w : List CacheOp). HasLastFrom run.geometry r w start entry new) (sym (asked_next run newest image blocks i line rest is))
-        (last_works run.geometry r first line_works start entry next new
-        (writes_heard run.geometry r first start entry mid next so_far.writes same)
-        (subst (λ (c : Cache). WritesFrom run.geometry r line_works c next new) there
-        (subst (λ (x : Rules). WritesFrom run.geometry x line_works (cache_of engine.store.pages) next new) paged.rules_are
-        (subst (λ (g : Geometry). WritesFrom g (rules engine.store.pages) line_works (cache_of engine.store.pages) next new) sizes written)))
-        (last_heard run.geometry r first start entry mid next same last)
-        (subst (λ (c : Cache). HasLastFrom run.geometry r line_works c next new) there
-        (subst (λ (x : Rules). HasLastFrom run.geometry x line_works (cache_of engine.store.pages) next new) paged.rules_are
-        (subst (λ (g : Geometry). HasLastFrom g (rules engine.store.pages) line_works (cache_of engine.store.pages) next new) sizes own))))
-
   -- its queue is on flash
   pub paged_queue : QueueIsOnFlash → (engine : Engine) (site : Site) (s : State) (i : ℕ) → Matches engine site s → sizes_of engine.store ≡ run.geometry → IsPaged pool run newest image blocks engine i →
       cache_on run.geometry site.image ≡ opened (after_works r (asked_after run newest image blocks i) (cache_on run.geometry image)).queue
@@ -289,30 +196,6 @@ module _ (pool : ℕ) (run : Run) (newest : Option Master) (image : Image) (bloc
       subst (VersionsAreSeen run.geometry (after_works r (asked_after run newest image blocks i) (cache_on run.geometry image)).pool site.image) (state_by_turns run i)
       (subst (λ (g : Geometry). VersionsAreSeen g (after_works r (asked_after run newest image blocks i) (cache_on run.geometry image)).pool site.image (state_at run i)) sizes
       (subst (λ (c : Cache). VersionsAreSeen (sizes_of engine.store) c.pool site.image (state_at run i)) paged.machine (law engine site (state_at run i) fits)))
-
--- a line that asks for nothing
-pub idle_asks : {T : Type 0} (x : T) (pages : PageStore) (now : Site) → StepsMachine {T = T} (Ok x) [] pages pages now now
-idle_asks {T} x pages now = record { machine = refl; reads = record { flash = omega arith; disk = omega arith }; rules_are = refl; stages = stages_none refl (omega arith) refl }
-
-pub idle_line : {T : Type 0} (x : T) (works : List CacheOp) (pages : PageStore) (now : Site) → works ≡ [] → StepsMachine {T = T} (Ok x) works pages pages now now
-idle_line {T} x works pages now none = subst (λ (w : List CacheOp). StepsMachine {T = T} (Ok x) w pages pages now now) (sym none) (idle_asks x pages now)
-
-pub idle_stops : {T : Type 0} (stop : Stop) (pages : PageStore) (now : Site) → stop ≡ Memory → StepsMachine {T = T} (Err stop) [] pages pages now now
-idle_stops {T} stop pages now memory = record { machine = tt; reads = record { flash = omega arith; disk = omega arith }; rules_are = refl; stages = stages_none tt (omega arith) refl }
-
-pub listing_asks : {T : Type 0} (result : Result T Stop) (pages : PageStore) (now : Site) → IfErr result (λ stop. stop ≡ Memory) → StepsMachine result [] pages pages now now
-listing_asks (Ok x) pages now stops = idle_asks x pages now
-listing_asks (Err stop) pages now stops = idle_stops stop pages now stops
-
--- a call of the engine, as a line is served
-pub serves_ok : {A B : Type 0} (a : A) (b : B) (works : List CacheOp) (n : ℕ) (old new : PageStore) (before mid now : Site) → SameReads mid now → mid.log_reads ≤ before.log_reads + n → {piece : List ℕ} → (IsTrue before.honest → EachMoment mid now (TellsPart piece mid)) → StepsMachine {T = A} (Ok a) works old new before mid → LineStepsMachine {T = B} (Ok b) works n old new before now
-serves_ok {A} {B} a b works n old new before mid now same read {piece} tells asks = record { log_reads = let none : now.log_reads ≡ mid.log_reads = same Log in omega (arith, read, none); machine = asks.machine; reads = reads_still (rules old) works (cache_of old) before mid now same asks.reads; rules_are = asks.rules_are; writes = λ has quiet. writes_told old.flash.geometry (rules old) works (cache_of old) piece before mid now (asks.stages.writes has quiet) (tells has.fits.honest); last = λ has quiet. last_told old.flash.geometry (rules old) works (cache_of old) piece before mid now (asks.stages.writes has quiet).grown (tells has.fits.honest) (asks.stages.last has quiet); geometry = asks.stages.sizes }
-
-pub serves_err : {A B : Type 0} (stop : Stop) (works : List CacheOp) (n : ℕ) (old new : PageStore) (before now : Site) → now.log_reads ≤ before.log_reads + n → StepsMachine {T = A} (Err stop) works old new before now → LineStepsMachine {T = B} (Err (halt.Stop stop)) works n old new before now
-serves_err {A} {B} stop works n old new before now read asks = record { log_reads = read; machine = tt; reads = asks.reads; rules_are = asks.rules_are; writes = asks.stages.writes; last = λ has quiet. tt; geometry = asks.stages.sizes }
-
-pub serves_lost : {A B : Type 0} (a : A) (works : List CacheOp) (n : ℕ) (old new : PageStore) (before mid now : Site) → SameReads mid now → mid.log_reads ≤ before.log_reads + n → {piece : List ℕ} → (IsTrue before.honest → EachMoment mid now (TellsPart piece mid)) → StepsMachine {T = A} (Ok a) works old new before mid → LineStepsMachine {T = B} (Err halt.Output) works n old new before now
-serves_lost {A} {B} a works n old new before mid now same read {piece} tells asks = record { log_reads = let none : now.log_reads ≡ mid.log_reads = same Log in omega (arith, read, none); machine = tt; reads = reads_still (rules old) works (cache_of old) before mid now same asks.reads; rules_are = asks.rules_are; writes = λ has quiet. writes_told old.flash.geometry (rules old) works (cache_of old) piece before mid now (asks.stages.writes has quiet) (tells has.fits.honest); last = λ has quiet. tt; geometry = asks.stages.sizes }
 
 -- Whole runs.
 

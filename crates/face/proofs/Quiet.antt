@@ -7,7 +7,7 @@ use Rattle.site.specs.Laws.{no_call, image_is, told_is, in_sequence, leaves_weak
 use Rattle.site.specs.Telling.{TellsPart}
 use Rattle.site.specs.declared.geometry.Geometry.{Geometry}
 use Rattle.record_model.specs.State.{State}
-use Rattle.engine.specs.Leaves.{LeavesTable, LeavesEither}
+use Rattle.engine.specs.Leaves.{LeavesEither}
 use Rattle.face.specs.Run.{StandsFor, LeavesAnswer}
 
 -- a command that makes no call leaves what was there
@@ -16,10 +16,6 @@ no_change g s before after quiet stands = no_call s (Leaves (LeavesEither g befo
   told = told_is s snapshot left;
   stands = inl (subst (λ (x : Image). StandsFor g x before) (sym (image_is (now_of s) snapshot quiet left)) stands);
 })
-
--- so does one that commits nothing
-pub table_stays : (g : Geometry) (old new : Site) (before after : State) → LeavesOnly old new (LeavesTable g before.table before.commits old.told) → LeavesOnly old new (LeavesEither g before after old.told)
-table_stays g old new before after leaves = leaves_weaker old new (LeavesTable g before.table before.commits old.told) (LeavesEither g before after old.told) (λ s t. record { told = t.told; stands = inl t.stands }) leaves
 
 -- before the reply
 pub not_told : (g : Geometry) (old mid : Site) (before after : State) (text : List ℕ) → LeavesOnly old mid (LeavesEither g before after old.told) → LeavesOnly old mid (LeavesAnswer g before after text old.told)

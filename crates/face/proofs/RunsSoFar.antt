@@ -5,14 +5,13 @@ use Rattle.site.specs.State.{State as Site, Image, Snapshot, MayLeave, now_of, n
 use Rattle.site.specs.Calls.{Preserves}
 use Rattle.site.specs.Moments.{Leaves, LeavesOnly, EachMoment}
 use Rattle.site.specs.Laws.{in_sequence, leaves_weaker, image_is, calm, now_same, holds_now, tell_leaves}
-use Rattle.site.specs.Telling.{TellsPart, SameDevices}
+use Rattle.site.specs.Telling.{TellsPart}
 use Rattle.site.specs.declared.geometry.Geometry.{Geometry}
 use Rattle.record_model.specs.State.{State}
 use Rattle.record_model.specs.Run.{Line}
 use Rattle.engine.specs.declared.engine.Engine.{Engine}
 use Rattle.engine.specs.Image.{Stands}
 use Rattle.engine.specs.Leaves.{LeavesTable}
-use Rattle.engine.specs.Representation.{Matches}
 use Rattle.engine.specs.Invariant.{sizes_of}
 use Rattle.shell_text.specs.Texts.{open_text, reply_text}
 use Rattle.front_end.specs.declared.halt.Halt.{Halt}
@@ -22,21 +21,22 @@ use Rattle.front_end.specs.Lines.{HearsOnly}
 use Rattle.face.specs.RunMeaning.{HasBegun, IsLeft, IsWhole, StandsAfter, first_texts, text_at}
 use Rattle.face.specs.Run.{Run, answered, first_lines, step, state_at, listing_at, StandsFor, StandsAt, LeavesAnswer}
 use Rattle.face.specs.Working.{StandsNear, Stops}
-use Rattle.face.specs.RunInProgress.{RunInProgress}
-use Rattle.face.proofs.Logs.{still_fits, fits_stands}
+use Rattle.face.specs.RunInProgress.{RunInProgress, HasServed}
+use Rattle.face.proofs.Logs.{fits_stands}
 use Rattle.face.proofs.Fronts.{lines_first, told_first}
 use Rattle.face.proofs.Lefts.{answer_more, between, first_after, first_before, front_count, stands_first, within}
 use Rattle.face.proofs.Ranges.{all_among, all_text, stands_after}
 use Rattle.face.proofs.Runs.{below, told_more, state_next, text_next}
 use Rattle.face.proofs.Turns.{turns_count}
+use Rattle.face.proofs.Serving.{served_heard}
 
 -- the devices of a quiet site stand for this after each crash now
 stands_now : (run : Run) (now : Site) (i : ℕ) → now.loose ≡ no_loose → StandsAt run i now.image → (s : Snapshot) → MayLeave (now_of now) s → StandsAt run i s.image
 stands_now run now i quiet stands s left = subst (λ (x : Image). StandsAt run i x) (sym (image_is (now_of now) s quiet left)) stands
 
-going_stands : (run : Run) (entry now : Site) (engine : Engine) (i : ℕ) → RunInProgress run entry now engine i → StandsAt run i now.image
+pub going_stands : {pool : ℕ} (run : Run) (entry now : Site) (engine : Engine) (i : ℕ) → HasServed pool run entry now engine i → StandsAt run i now.image
 going_stands run entry now engine i going =
-    subst (λ (g : Geometry). StandsFor g now.image (state_at run i)) going.geometry (fits_stands engine now (state_at run i) going.same going.fits)
+    subst (λ (g : Geometry). StandsFor g now.image (state_at run i)) going.geometry (fits_stands engine now (state_at run i) going.going.store.both.sizes going.fits)
 
 -- restart
 
@@ -79,31 +79,23 @@ module _ (run : Run) (entry mid : Site) (leaves : LeavesOnly entry mid (LeavesTa
     pub opening_lost : IsQuiet new → Stops run 0 entry new Output
     opening_lost quiet = record { any_moment = opening; between = λ ne. absurd (ne refl); quiet = λ ne. quiet }
 
-    pub opened : (engine : Engine) → Preserves mid new → SameDevices mid new → IsQuiet new → new.told ≡ mid.told ++ text → Matches engine mid run.opening → sizes_of engine.store ≡ run.geometry → engine.store.log.geometry ≡ sizes_of engine.store → RunInProgress run entry new engine 0
-    opened engine goes devices quiet told fits geometry same = record {
-      fits = still_fits engine mid new run.opening fits goes devices.image;
-      quiet = quiet;
-      geometry = geometry;
-      same = same;
+    pub opened : {pool : ℕ} (engine : Engine) → HasServed pool run entry new engine 0 → new.told ≡ mid.told ++ text → RunInProgress pool run entry new engine 0
+    opened engine served told = record {
+      served = served;
       told = told ∙ (λ i. untold i ++ is i) ∙ ap (λ (l : List ℕ). entry.told ++ l) (sym (told_more run 0 (omega arith)));
-      few = omega arith;
       moments = opening;
     }
 
 -- a line is heard
 
-pub moved : (run : Run) (entry mid new : Site) (engine : Engine) (i : ℕ) → RunInProgress run entry mid engine i → Preserves mid new → HearsOnly mid new → RunInProgress run entry new engine i
-moved run entry mid new engine i going goes hears = record {
-  fits = still_fits engine mid new (state_at run i) going.fits goes hears.image;
-  quiet = hears.loose ∙ going.quiet;
-  geometry = going.geometry;
-  same = going.same;
+pub moved : (pool : ℕ) (run : Run) (entry mid new : Site) (engine : Engine) (i : ℕ) → RunInProgress pool run entry mid engine i → Preserves mid new → HearsOnly mid new → RunInProgress pool run entry new engine i
+moved pool run entry mid new engine i going goes hears = record {
+  served = served_heard pool run entry mid engine i going.served new goes hears;
   told = hears.told ∙ going.told;
-  few = going.few;
   moments = calm entry mid new (Leaves (IsLeft (first_lines run i) entry.told [])) going.moments hears.past (now_same mid new hears.told hears.image hears.loose);
 }
 
-module _ (run : Run) (entry mid : Site) (engine : Engine) (i : ℕ) (going : RunInProgress run entry mid engine i) where
+module _ {pool : ℕ} (run : Run) (entry mid : Site) (engine : Engine) (i : ℕ) (going : RunInProgress pool run entry mid engine i) where
   -- it stops there
   pub stopped : (halt : Halt) → Stops run i entry mid halt
   stopped halt = record {
@@ -112,7 +104,7 @@ module _ (run : Run) (entry mid : Site) (engine : Engine) (i : ℕ) (going : Run
       whole = suc i;
       few = let long = front_count run i going.few in omega (arith, long);
       told = going.told ∙ ap (λ (n : ℕ). entry.told ++ first_texts run n) (add-one i) ∙ ap (λ (l : List ℕ). entry.told ++ l) (sym (told_first run i (suc i) (omega arith)));
-      stands = λ s left. first_before run i going.few i s.image (omega arith) (stands_now run mid i going.quiet (going_stands run entry mid engine i going) s left);
+      stands = λ s left. first_before run i going.few i s.image (omega arith) (stands_now run mid i going.quiet (going_stands run entry mid engine i going.served) s left);
     };
     quiet = λ ne. going.quiet;
   }
@@ -140,7 +132,7 @@ module _ (run : Run) (entry mid : Site) (engine : Engine) (i : ℕ) (going : Run
       record {
         told = going.told ∙ ap (λ (l : List ℕ). entry.told ++ l) (sym (told_first run i (i + 1) (omega arith)) ∙ ap (λ (n : ℕ). first_texts front (n + 1)) (sym long) ∙ all_text front);
         stands = subst (λ (k : ℕ). StandsAfter front k mid.image) (all_among front) (stands_after front (length (answered front)) mid.image
-            (subst (λ (n : ℕ). StandsAt front n mid.image) (sym long) (stands_first run i going.few i mid.image (omega arith) (going_stands run entry mid engine i going))));
+            (subst (λ (n : ℕ). StandsAt front n mid.image) (sym long) (stands_first run i going.few i mid.image (omega arith) (going_stands run entry mid engine i going.served))));
       }
 
   -- a line is answered
@@ -187,16 +179,12 @@ module _ (run : Run) (entry mid : Site) (engine : Engine) (i : ℕ) (going : Run
           };
         }
 
-    pub goes_on : (engine' : Engine) → sizes_of engine'.store ≡ sizes_of engine.store → engine'.store.log.geometry ≡ sizes_of engine'.store → Matches engine' new (step (state_at run i) line (listing_at run i)).after → new.loose ≡ no_loose → new.told ≡ mid.told ++ reply_text (step (state_at run i) line (listing_at run i)).reply → RunInProgress run entry new engine' (suc i)
-    goes_on engine' geometry same fits quiet told = record {
-      fits = subst (Matches engine' new) (sym (state_next run i line rest is)) fits;
-      quiet = quiet;
-      geometry = geometry ∙ going.geometry;
-      same = same;
+    pub goes_on : (engine' : Engine) → HasServed pool run entry new engine' (suc i) → new.told ≡ mid.told ++ reply_text (step (state_at run i) line (listing_at run i)).reply → RunInProgress pool run entry new engine' (suc i)
+    goes_on engine' served told = record {
+      served = served;
       told = told ∙ (λ j. told_suc j ++ sym (text_next run i line rest is) j)
           ∙ append_assoc entry.told (first_texts run (suc i)) (text_at run (suc i))
           ∙ ap (λ (l : List ℕ). entry.told ++ l) (sym (told_more run (suc i) (let less = below (answered run) i line rest is in omega (arith, less))))
           ∙ ap (λ (n : ℕ). entry.told ++ first_texts run n) (sym (add-one (suc i)));
-      few = below (answered run) i line rest is;
       moments = moments';
     }

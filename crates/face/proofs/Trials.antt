@@ -3,8 +3,8 @@ use Rattle.std.proofs.Common.{◌≡◌, ◌≢◌, ◌⊎◌, inl, inr, ⊎_eli
 use Rattle.std.specs.Prelude.{Option, Some, None, min, Result, Ok, Err, OnErr, slice_get, slice_range}
 use Rattle.std.proofs.lemmas.List.{append-nil, take_all, take_at}
 use Rattle.site.specs.State.{Input, State as Site, Image, MayLeave, no_loose, now_of}
-use Rattle.site.specs.Calls.{Preserves, Rose}
-use Rattle.site.specs.Laws.{calm, each_weaker, goes_nowhere, in_sequence, no_call, now_leaves, now_same, rose_then}
+use Rattle.site.specs.Calls.{Preserves, Rose, SameReads}
+use Rattle.site.specs.Laws.{calm, each_weaker, goes_in_sequence, goes_nowhere, in_sequence, no_call, now_leaves, now_same, rose_then, stays_honest}
 use Rattle.site.specs.Moments.{EachMoment}
 use Rattle.site.specs.Telling.{TellsPart}
 use Rattle.site.specs.declared.geometry.Geometry.{Geometry}
@@ -20,11 +20,11 @@ use Rattle.front_end.specs.declared.halt.Halt.{Halt}
 use Rattle.front_end.specs.declared.halt.Halt.TheVariants as halt
 use Rattle.face.specs.Image.{BlankLaw, blank_table}
 use Rattle.front_end.specs.Lines.{HearsOnly}
-use Rattle.face.specs.Living.{Ends, Finds, HasLivedOne, IsGivenUp, IsHaltOfTrial, IsReady}
+use Rattle.face.specs.Living.{Ends, Finds, HasLivedOne, IsGivenUp, IsHaltOfTrial, IsReady, KeepsDevices}
 use Rattle.face.specs.Run.{IsFront}
 use Rattle.front_end.specs.Tells.{Tells}
 use Rattle.front_end.specs.Texts.{fault_line, status_of}
-use Rattle.face.specs.Trial.{Between, HaveLived, IsLife, IsNewSite, IsStatus, LeavesDevices, Lives, TellsAll, TellsSome, TrialCauses, TrialContract, at_first, is_within, life_line, numbers_of, script_limit}
+use Rattle.face.specs.Trial.{Between, HaveLived, IsLife, IsNewSite, IsStatus, Lives, TellsAll, TellsSome, TrialCauses, TrialContract, at_first, is_within, life_line, numbers_of, script_limit}
 use Rattle.front_end.proofs.Endings.{ends_with}
 use Rattle.face.proofs.Longer.{front_more}
 
@@ -87,19 +87,30 @@ module _ (script : List ℕ) where
 
 -- The devices of a site.
 
-pub devices_then : (a b c : Site) → LeavesDevices a b → LeavesDevices b c → LeavesDevices a c
-devices_then a b c first second =
-    in_sequence a b c (λ m. (m.image ≡ a.image) × (m.loose ≡ a.loose)) first
-    (each_weaker b c (λ m. (m.image ≡ b.image) × (m.loose ≡ b.loose)) (λ m. (m.image ≡ a.image) × (m.loose ≡ a.loose)) (λ m same. (same.0 ∙ first.now.0, same.1 ∙ first.now.1)) second)
+pub keeps_then : (a b c : Site) → KeepsDevices a b → KeepsDevices b c → KeepsDevices a c
+keeps_then a b c first second = record {
+  devices = λ honest. let one = first.devices honest in in_sequence a b c (λ m. (m.image ≡ a.image) × (m.loose ≡ a.loose)) one
+      (each_weaker b c (λ m. (m.image ≡ b.image) × (m.loose ≡ b.loose)) (λ m. (m.image ≡ a.image) × (m.loose ≡ a.loose)) (λ m same. (same.0 ∙ one.now.0, same.1 ∙ one.now.1)) (second.devices (stays_honest a b first.preserves honest)));
+  reads = λ dev. second.reads dev ∙ first.reads dev;
+  preserves = goes_in_sequence a b c first.preserves second.preserves;
+}
 
-pub devices_told : (piece : List ℕ) (a b : Site) → EachMoment a b (TellsPart piece a) → LeavesDevices a b
-devices_told piece a b tells = each_weaker a b (TellsPart piece a) (λ m. (m.image ≡ a.image) × (m.loose ≡ a.loose)) (λ m part. (part.image, part.loose)) tells
+pub keeps_told : (piece : List ℕ) (a b : Site) → (IsTrue a.honest → EachMoment a b (TellsPart piece a)) → SameReads a b → Preserves a b → KeepsDevices a b
+keeps_told piece a b tells reads goes = record {
+  devices = λ honest. each_weaker a b (TellsPart piece a) (λ m. (m.image ≡ a.image) × (m.loose ≡ a.loose)) (λ m part. (part.image, part.loose)) (tells honest);
+  reads = reads;
+  preserves = goes;
+}
 
-pub devices_still : (a : Site) → LeavesDevices a a
-devices_still a = no_call a (λ m. (m.image ≡ a.image) × (m.loose ≡ a.loose)) (refl, refl)
+pub keeps_heard : (a b : Site) → (IsTrue a.honest → HearsOnly a b) → SameReads a b → Preserves a b → KeepsDevices a b
+keeps_heard a b hears reads goes = record {
+  devices = λ honest. let same = hears honest in calm a a b (λ m. (m.image ≡ a.image) × (m.loose ≡ a.loose)) (no_call a (λ m. (m.image ≡ a.image) × (m.loose ≡ a.loose)) (refl, refl)) same.past (now_same a b same.told same.image same.loose);
+  reads = reads;
+  preserves = goes;
+}
 
-pub devices_heard : (a b : Site) → HearsOnly a b → LeavesDevices a b
-devices_heard a b hears = calm a a b (λ m. (m.image ≡ a.image) × (m.loose ≡ a.loose)) (devices_still a) hears.past (now_same a b hears.told hears.image hears.loose)
+pub keeps_still : (a : Site) → KeepsDevices a a
+keeps_still a = record { devices = λ honest. no_call a (λ m. (m.image ≡ a.image) × (m.loose ≡ a.loose)) (refl, refl); reads = λ dev. refl; preserves = goes_nowhere a }
 
 -- Fronts.
 
@@ -368,7 +379,7 @@ lacked_trial {T} g old new result tells = record {
     few = λ e. absurd (not_memory_output e);
     limit = λ e. absurd (not_memory_limit e);
   }) tells.preserves (λ honest. (tells.devices honest).left);
-  devices = λ honest. devices_told (fault_line (halt.Stop Memory)) old new (tells.any_moment honest);
+  devices = (keeps_told (fault_line (halt.Stop Memory)) old new tells.any_moment tells.reads tells.preserves).devices;
   reads = tells.reads;
 }
   where

@@ -28,22 +28,27 @@ answers_still run lines old now new same answers = record {
   count = ap (λ (input : Input). input.heard + length input.left) same ∙ answers.count;
 }
 
+-- or more is answered
+pub answers_more : (run : Run) (i lines : ℕ) (old now : Site) → i ≤ lines → AnswersFirst run i old now → AnswersFirst run lines old now
+answers_more run i lines old now more answers = record {
+  waits = answers.waits;
+  early = all_weaker (IsEarly i old) (IsEarly lines old) (λ t early heard here. let few = early heard here in omega (arith, few, more)) answers.waits.takes answers.early;
+  count = answers.count;
+}
+
 -- so many lines were answered, and the next one is heard
-pub answers_next : (run : Run) (old mid new : Site) (source : Source) (i lines : ℕ) (cut : Cut old.input.left source mid i) → IsSource source → mid.told ≡ old.told ++ first_texts run (i + 1) → i ≤ lines
-    → AnswersFirst run i old mid → TakesWithin source mid new → AnswersFirst run lines old new
-answers_next run old mid new source i lines cut is_source told more answers takes = record {
+pub answers_next : (run : Run) (old mid new : Site) (source : Source) (i : ℕ) (cut : Cut old.input.left source mid i) → IsSource source → mid.told ≡ old.told ++ first_texts run (i + 1)
+    → AnswersFirst run i old mid → TakesWithin source mid new → AnswersFirst run i old new
+answers_next run old mid new source i cut is_source told answers takes = record {
   waits = record {
     takes = answers.waits.takes ++ takes.takes;
     are = takes.are ∙ ap (λ (l : List Take). l ++ takes.takes) answers.waits.are ∙ append_assoc old.input.takes answers.waits.takes takes.takes;
     answered = all_append (IsAnswered run old) answers.waits.takes takes.takes answers.waits.answered (all_weaker (TookWithin source mid) (IsAnswered run old) is_answered takes.takes takes.within);
   };
-  early = all_append (IsEarly lines old) answers.waits.takes takes.takes (all_weaker (IsEarly i old) (IsEarly lines old) still_early answers.waits.takes answers.early) (all_weaker (TookWithin source mid) (IsEarly lines old) is_early takes.takes takes.within);
+  early = all_append (IsEarly i old) answers.waits.takes takes.takes answers.early (all_weaker (TookWithin source mid) (IsEarly i old) is_early takes.takes takes.within);
   count = takes.count ∙ answers.count;
 }
   where
-    still_early : (t : Take) → IsEarly i old t → IsEarly lines old t
-    still_early t early heard here = let few = early heard here in omega (arith, few, more)
-
     here_is : (t : Take) (took : TookWithin source mid t) → t.heard ≡ old.input.heard + length (cut.octets ++ took.octets)
     here_is t took =
         let here = took.here in
@@ -58,12 +63,12 @@ answers_next run old mid new source i lines cut is_source told more answers take
         let whole = whole_before old.input.left source mid i cut is_source took.octets took.rest took.none took.all took.going in
         ap (λ (l : List ℕ). length (answered_of false l)) whole.0 ∙ whole.1
 
-    is_early : (t : Take) → TookWithin source mid t → IsEarly lines old t
+    is_early : (t : Take) → TookWithin source mid t → IsEarly i old t
     is_early t took heard here =
         let own = here_is t took in
         let count = number t took in
         let same : heard ≡ length (cut.octets ++ took.octets) = omega (arith, here, own) in
-        subst (λ (n : ℕ). length (answered_of false (take n old.input.left)) ≤ lines) (sym same) (omega (arith, count, more))
+        subst (λ (n : ℕ). length (answered_of false (take n old.input.left)) ≤ i) (sym same) (omega (arith, count))
 
     is_answered : (t : Take) → TookWithin source mid t → IsAnswered run old t
     is_answered t took =

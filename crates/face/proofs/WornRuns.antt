@@ -1,12 +1,9 @@
 -- Runs as work of the machine of the rings.
 use Rattle.std.proofs.Common.{◌≡◌, ℕ, suc, ◌≤◌, Bool, true, false, List, [], ◌∷◌, ◌++◌, length, drop, take, append_assoc, append-nil, Option, Some, None, refl, sym, ap, subst, ◌∙◌}
-use Rattle.std.specs.Prelude.{Result, Ok, Err, IfErr, IsErrOf, if◌then◌else◌, ⊤}
+use Rattle.std.specs.Prelude.{Ok, if◌then◌else◌, ⊤}
 use Rattle.std.proofs.lemmas.Grind.{flat_map-append}
 use Rattle.site.specs.declared.outside.Dev.{Dev}
-use Rattle.site.specs.declared.outside.Stop.{Stop}
-use Rattle.site.specs.declared.outside.Stop.TheVariants.{Memory, Worn}
 use Rattle.site.specs.State.{State as Site, Image}
-use Rattle.site.proofs.Working.{no_error, of_error}
 use Rattle.record_model.specs.declared.words.CacheLine.{CacheLine}
 use Rattle.record_model.specs.Run.{Line, Turn, is_quit, turns, next_listing, later_listings}
 use Rattle.record_model.specs.State.{State}
@@ -15,7 +12,7 @@ use Rattle.record_model.specs.Step.{is_accepted}
 use Rattle.log_records.specs.declared.log_record.LogRecord.{LogRecord}
 use Rattle.checkpoint.specs.declared.master.Master.{Master}
 use Rattle.image_meaning.specs.Meaning.{logical_image_under}
-use Rattle.second_chance.specs.Machine.{Rules, rules_of}
+use Rattle.second_chance.specs.Machine.{Rules}
 use Rattle.sealed_ring.specs.declared.slots.Shape.{Shape}
 use Rattle.sealed_ring.specs.Ring.{hi_of}
 use Rattle.sealed_ring.specs.Ready.{region}
@@ -23,22 +20,19 @@ use Rattle.redo_laws.proofs.RingNumbers.{hi_on}
 use Rattle.engine.specs.Representation.{Matches}
 use Rattle.engine.specs.Invariant.{Invariant, sizes_of}
 use Rattle.site.specs.declared.geometry.Geometry.{Geometry}
-use Rattle.ring_machine.specs.Machine.{Machine, RingOp, after_all, first_worn}
-use Rattle.ring_machine.proofs.Works.{first_stopped, first_then}
+use Rattle.ring_machine.specs.Machine.{Machine, RingOp, first_worn}
+use Rattle.ring_machine.proofs.Works.{first_stopped}
 use Rattle.ring_machine.specs.Commands.{line_work, run_work}
 use Rattle.ring_machine.specs.Restart.{restart_work}
 use Rattle.ring_machine.specs.Performing.{Performs}
-use Rattle.ring_machine.proofs.Performing.{performs_as, performs_by, performs_nothing, performs_answered, performs_then}
-use Rattle.page_store.specs.Caching.{rules}
-use Rattle.redo_undo.specs.declared.store.TransactionStore.{TransactionStore}
-use Rattle.redo_undo.specs.Mirroring.{MirrorsStore, PerformsStore}
+use Rattle.ring_machine.proofs.Performing.{performs_as, performs_answered}
+use Rattle.redo_undo.specs.Mirroring.{MirrorsStore}
 use Rattle.engine.specs.declared.engine.Engine.{Engine}
 use Rattle.engine.specs.RingWork.{machine_on}
-use Rattle.front_end.specs.declared.halt.Halt.{Halt}
 use Rattle.front_end.specs.declared.halt.Halt.TheVariants as halt
 use Rattle.front_end.specs.Lines.{up_to_quit}
 use Rattle.face.specs.Run.{Run, after_lines, answered, first_lines, state_at, step, turns_of}
-use Rattle.face.specs.Worn.{HasRings, IsMirrored, LeavesItsRings, LinePerforms, WearsNone, machine_by, rings_by, rings_of, worn_by}
+use Rattle.face.specs.Worn.{HasRings, IsMirrored, LeavesItsRings, WearsNone, machine_by, rings_by, rings_of, worn_by}
 use Rattle.face.proofs.Fronts.{whole_turns}
 use Rattle.face.proofs.LinesBeforeQuit.{after_cons}
 use Rattle.face.proofs.Pagings.{after_same}
@@ -59,35 +53,6 @@ quit_work s = idle (is_accepted s Quit)
 
 pub cache_work : (s : State) → line_work s (Some Cache) ≡ []
 cache_work s = idle (is_accepted s Cache)
-
-pub idle_performs : {T : Type 0} {x : T} {r : Rules} {works : List RingOp} {P : Machine → Type 0} → works ≡ [] → Performs {T = T} (Ok x) r works P P
-idle_performs {T = T} {x = x} none = performs_as none (performs_nothing (λ m is. is) (λ dev says. absurd (no_error {T = T} {x = x} {e = Worn dev} says)))
-
--- a listing may want memory
-pub listing_performs : {T : Type 0} (result : Result T Stop) {r : Rules} {works : List RingOp} {P : Machine → Type 0} → IfErr result (λ stop. stop ≡ Memory) → works ≡ [] → Performs result r works P P
-listing_performs {T = T} (Ok x) memory none = idle_performs none
-listing_performs {T = T} (Err stop) memory none = performs_as none (performs_nothing (λ m is. tt) (λ dev says. other dev (of_error {T = T} (Err stop) (λ s. s ≡ Memory) (Worn dev) memory says)))
-  where
-    other : (dev : Dev) → Worn dev ≡ Memory → ⊥
-    other dev same = cc
-
--- The answer to a line: telling changes no device.
-
-pub line_answered : {A B : Type 0} {a : A} {b : B} {works : List RingOp} {old new : TransactionStore} {image : Image} (before now : Site) → now.image ≡ image → Performs {T = A} (Ok a) (rules old.pages) works (MirrorsStore old before.image) (MirrorsStore new image) →
-    LinePerforms {T = B} (Ok b) works old new before now
-line_answered {works = works} {old = old} {new = new} before now same performs = record {
-  done = subst (λ (i : Image). Performs {T = ⊤} (Ok tt) (rules old.pages) works (MirrorsStore old before.image) (MirrorsStore new i)) (sym same) (performs_answered performs);
-  worn = λ m is dev says. absurd cc;
-}
-
-pub line_stopped : {A B : Type 0} {stop : Stop} {works : List RingOp} {old new : TransactionStore} (before now : Site) → Performs {T = A} (Err stop) (rules old.pages) works (MirrorsStore old before.image) (MirrorsStore new now.image) → LinePerforms {T = B} (Err (halt.Stop stop)) works old new before now
-line_stopped {A = A} {B = B} {stop = stop} before now performs = record { done = tt; worn = λ m is dev says. performs.worn m is dev (again dev says) }
-  where
-    again : (dev : Dev) → IsErrOf {T = B} (Err (halt.Stop stop)) (halt.Stop (Worn dev)) → IsErrOf {T = A} (Err stop) (Worn dev)
-    again dev says = cc
-
-pub line_untold : {B : Type 0} {works : List RingOp} {old new : TransactionStore} {before now : Site} → LinePerforms {T = B} (Err halt.Output) works old new before now
-line_untold = record { done = tt; worn = λ m is dev says. absurd cc }
 
 -- A line more does its own work behind that of the others.
 
@@ -134,19 +99,6 @@ rings_join s (line ∷ first) later =
     ∙ sym (append_assoc (line_work s line) (rings_of (step s line []).after first) (rings_of (after_lines (step s line []).after first []) later))
     ∙ ap (λ (x : State). rings_of s (line ∷ first) ++ rings_of x later) (sym (after_cons s line first))
 
-pub rings_with : (run : Run) (listings : List (List CacheLine)) (newest : Option Master) (image : Image) (blocks : List (List LogRecord)) (n : ℕ) →
-    rings_by (record run { listings = listings }) (turns_of (first_lines (record run { listings = listings }) n)) newest image blocks ≡ rings_by run (turns_of (first_lines run n)) newest image blocks
-rings_with run listings newest image blocks n =
-    ap (λ (w : List RingOp). restart_work (logical_image_under newest run.geometry image blocks) ++ w) (first_work n run.opening run.lines listings ∙ sym (first_work n run.opening run.lines run.listings))
-
--- one line more is answered
-pub next_mirrored : (pool : ℕ) (run : Run) (newest : Option Master) (image : Image) (blocks : List (List LogRecord)) (i : ℕ) (line : Line) (rest : List Line) → drop i (answered run) ≡ line ∷ rest → (engine engine' : Engine) (mid next now : Site) → rules engine.store.pages ≡ rules_of pool run.geometry.groups →
-    IsMirrored pool run newest image blocks engine mid i → next.image ≡ mid.image → PerformsStore {T = ⊤} (Ok tt) (line_work (state_at run i) line) engine.store engine'.store next now → IsMirrored pool run newest image blocks engine' now (suc i)
-next_mirrored pool run newest image blocks i line rest is engine engine' mid next now rules_are so_far same performs =
-    performs_as (rings_next run newest image blocks i line rest is)
-    (performs_then (subst (λ (x : Image). Performs {T = ⊤} (Ok tt) (rules_of pool run.geometry.groups) (rings_by run (turns_of (first_lines run i)) newest image blocks) (λ m. m ≡ machine_on run.geometry image) (MirrorsStore engine.store x)) (sym same) so_far)
-    (performs_by (sym rules_are) performs))
-
 -- where some work finds none, no front of it does
 pub none_prefix : (r : Rules) (first later : List RingOp) (m : Machine) → first_worn r (first ++ later) m ≡ None → first_worn r first m ≡ None
 none_prefix r first later m none = by (first_worn r first m) refl
@@ -154,20 +106,6 @@ none_prefix r first later m none = by (first_worn r first m) refl
     by : (o : Option Dev) → first_worn r first m ≡ o → first_worn r first m ≡ None
     by None is = is
     by (Some dev) is = let all = first_stopped r first later m dev is in absurd cc
-
--- Where one line more isn't, since a ring is worn.
-pub wears_next : {T : Type 0} {result : Result T Halt} (pool : ℕ) (run : Run) (newest : Option Master) (image : Image) (blocks : List (List LogRecord)) (i : ℕ) (line : Line) (rest : List Line) → drop i (answered run) ≡ line ∷ rest → (engine engine' : Engine) (mid next now : Site) → rules engine.store.pages ≡ rules_of pool run.geometry.groups →
-    IsMirrored pool run newest image blocks engine mid i → next.image ≡ mid.image → LinePerforms result (line_work (state_at run i) line) engine.store engine'.store next now → (dev : Dev) → IsErrOf result (halt.Stop (Worn dev)) → worn_by pool run (turns_of (first_lines run (suc i))) newest image blocks ≡ Some dev
-wears_next pool run newest image blocks i line rest is engine engine' mid next now rules_are so_far same performs dev says =
-    let r = rules_of pool run.geometry.groups in
-    let start = machine_on run.geometry image in
-    let first = rings_by run (turns_of (first_lines run i)) newest image blocks in
-    let own = line_work (state_at run i) line in
-    let d = so_far.done start refl in
-    ap (λ (w : List RingOp). first_worn r w start) (rings_next run newest image blocks i line rest is)
-    ∙ first_then r first own start d.0
-    ∙ ap (λ (x : Rules). first_worn x own (after_all r first start)) (sym rules_are)
-    ∙ performs.worn (after_all r first start) (subst (λ (x : Image). MirrorsStore engine.store x (after_all r first start)) (sym same) d.1) dev says
 
 -- Whole runs.
 

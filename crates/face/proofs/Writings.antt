@@ -1,11 +1,11 @@
 -- What a run writes, one line after the other.
-use Rattle.std.proofs.Common.{◌≡◌, ◌≤◌, ℕ, List, [], ◌++◌, refl, arith, sym, ap, subst}
+use Rattle.std.proofs.Common.{◌≡◌, ◌≤◌, ℕ, List, [], ◌++◌, arith, sym, ap, subst}
 use Rattle.site.specs.declared.geometry.Geometry.{Geometry}
 use Rattle.site.specs.State.{State as Site, Snapshot, Image, IsQuiet}
 use Rattle.site.specs.Moments.{EachMoment, Leaves, LeavesOnly, since}
 use Rattle.flash_cache.specs.OnDisk.{HasLastStaged}
 use Rattle.site.specs.Telling.{TellsPart}
-use Rattle.site.specs.Laws.{in_sequence, leaves_weaker, holds_now, tell_leaves, calm, now_same, unchanged, no_call}
+use Rattle.site.specs.Laws.{in_sequence, leaves_weaker, holds_now, tell_leaves, calm, now_same, unchanged}
 use Rattle.record_model.specs.Touches.{CacheOp}
 use Rattle.record_model.specs.State.{State}
 use Rattle.second_chance.specs.Machine.{Rules, Cache, Staged, after_works, staged_by_works}
@@ -85,7 +85,3 @@ last_works g r first later start old mid new one two last more =
 -- no work
 pub writes_nothing : (pages : PageStore) (site : Site) → HasQueueOn pages site → IsQuiet site → WritesFrom pages.flash.geometry (rules pages) [] (cache_of pages) site site
 writes_nothing pages site has quiet = (let is = has.next in still_leaves pages.flash.geometry [] (next_group (cache_of pages)) site site (omega (arith, is)) quiet (unchanged site))
-
--- nothing is told
-pub tells_none : (site : Site) → EachMoment site site (TellsPart [] site)
-tells_none site = no_call site (TellsPart [] site) (record { image = refl; loose = refl; told = λ j. (j, refl) })

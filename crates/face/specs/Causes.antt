@@ -1,6 +1,6 @@
 -- When a run halts.
 use Rattle.std.specs.Prelude.{◌≡◌, ◌⊎◌, ℕ, ◌+◌, ◌<◌, ◌≤◌, List, length, take, true, false, ⊤, Result, Ok, Err}
-use Rattle.std.specs.Prelude.{IsTrue}
+use Rattle.std.specs.Prelude.{IfErr, IsTrue}
 use Rattle.site.specs.declared.outside.Dev.{Dev}
 use Rattle.site.specs.declared.outside.Dev.TheVariants.{Log, Flash, Disk}
 use Rattle.site.specs.declared.outside.Stop.{Stop}
@@ -8,13 +8,14 @@ use Rattle.site.specs.declared.outside.Stop.TheVariants.{Device, Memory, Worn, F
 use Rattle.site.specs.declared.geometry.Geometry.{Geometry}
 use Rattle.site.specs.Geometry.{HasLimits, HasLengths}
 use Rattle.site.specs.State.{State, Image, faults_of}
-use Rattle.site.specs.Calls.{Rose}
+use Rattle.site.specs.Calls.{Preserves, Rose}
 use Rattle.record_model.specs.State.{Content}
 use Rattle.record_model.specs.State as model
 use Rattle.front_end.specs.declared.halt.Halt.{Halt}
 use Rattle.front_end.specs.declared.halt.Halt.TheVariants as halt
 use Rattle.engine.specs.declared.engine.Engine.{Engine}
 use Rattle.engine.specs.Image.{Stands}
+use Rattle.engine.specs.Leaves.{HasNoSizes}
 use Rattle.engine.specs.Representation.{Matches}
 use Rattle.engine.specs.Invariant.{sizes_of}
 use Rattle.flash_cache.specs.Representation.{IsWorn}
@@ -22,6 +23,7 @@ use Rattle.redo_laws.specs.Holding.{IsLogWorn, IsSpent}
 use Rattle.redo_undo.specs.StoreCalls.{AreNext}
 use Rattle.std.specs.List.{list_any}
 use Rattle.record_model.specs.Run.{is_quit}
+use Rattle.front_end.specs.Faults.{RunFaults}
 use Rattle.front_end.specs.Lines.{limit, commands_of}
 
 -- of an honest site: the image isn't sound
@@ -96,3 +98,11 @@ EndsInTime site = (length site.input.left ≤ limit)
 abbrev pub RefusesAsForeign : {T : Type 0} → Result T Halt → State → State → Type 0
 RefusesAsForeign (Ok done) old new = ⊥
 RefusesAsForeign (Err h) old new = (h ≡ halt.Stop Foreign) × (new ≡ old)
+
+-- How work ends on any site: where it stops there is a cause, devices without sizes were refused, and a call that
+-- fails is the last one.
+pub record WorkEnds {T : Type 0} (result : Result T Halt) (old new : State) : Type 0 where
+  pub cause : IfErr result (λ h. HasCause h old new)
+  pub refuses : HasNoSizes old → RefusesAsForeign result old new
+  pub preserves : Preserves old new
+  pub faults : RunFaults result old new

@@ -1,3 +1,4 @@
+pub mod Carrying
 pub mod Causes
 pub mod RunInProgress
 pub mod Headline

@@ -1,6 +1,7 @@
 -- Lives under way.
 use Rattle.std.specs.Prelude.{◌≡◌, ◌⊎◌, ℕ, ◌-◌, List, [], ◌∷◌, ◌++◌, IsTrue, Result, Ok, Err}
 use Rattle.site.specs.State.{State as Site, Image, MayLeave, no_loose, now_of}
+use Rattle.site.specs.Calls.{Preserves, SameReads}
 use Rattle.site.specs.declared.geometry.Geometry.{Geometry}
 use Rattle.site.specs.declared.outside.Stop.TheVariants.{Memory}
 use Rattle.mem_site.specs.MemState.{state_of}
@@ -11,7 +12,13 @@ use Rattle.front_end.specs.declared.halt.Halt.{Halt}
 use Rattle.front_end.specs.declared.halt.Halt.TheVariants as halt
 use Rattle.face.specs.Headline.{IsGood}
 use Rattle.face.specs.Run.{Run}
-use Rattle.face.specs.Trial.{Between, GoesOn, HaveLived, IsTextOf, TellsAll, TellsSome, life_run}
+use Rattle.face.specs.Trial.{Between, GoesOn, HaveLived, IsTextOf, LeavesDevices, TellsAll, TellsSome, life_run}
+
+-- The site that a trial is called with keeps its devices, and none is read.
+pub record KeepsDevices (old new : Site) : Type 0 where
+  pub devices : IsTrue old.honest → LeavesDevices old new
+  pub reads : SameReads old new
+  pub preserves : Preserves old new
 
 -- a run over the site opens with this table and this many commits
 abbrev pub Finds : Geometry → List Content → ℕ → Site → Type 0

@@ -1,32 +1,23 @@
 -- What a load does, and what a crash at any moment leaves of it.
-use Rattle.std.specs.Prelude.{◌≡◌, ◌≢◌, ◌⊎◌, ℕ, ◌+◌, ◌-◌, ◌≤◌, List, [], ◌++◌, length, take, IsTrue}
+use Rattle.std.specs.Prelude.{◌≡◌, ◌≢◌, ◌⊎◌, ℕ, ◌-◌, ◌≤◌, List, [], ◌++◌, length}
 use Rattle.std.specs.Prelude.{Result, IfErr, OnOk}
-use Rattle.site.specs.State.{State as Site, Snapshot, MayLeave, now_of, IsQuiet, no_loose}
-use Rattle.site.specs.Calls.{Preserves}
+use Rattle.site.specs.State.{State as Site, Snapshot, MayLeave, now_of, no_loose}
 use Rattle.site.specs.Moments.{LeavesOnly}
 use Rattle.site.specs.declared.geometry.Geometry.{Geometry}
-use Rattle.site.specs.declared.outside.Dev.{Dev}
-use Rattle.site.specs.declared.outside.Stop.TheVariants.{Device}
 use Rattle.record_model.specs.State.{State}
-use Rattle.record_model.specs.Run.{Line, Turn, commit_marks, commits_among}
-use Rattle.redo_undo.specs.StoreCalls.{AreNext}
+use Rattle.record_model.specs.Run.{commit_marks, commits_among}
 use Rattle.engine.specs.declared.engine.Engine.{Engine}
-use Rattle.engine.specs.Representation.{Matches}
-use Rattle.engine.specs.Invariant.{Invariant, sizes_of}
 use Rattle.front_end.specs.declared.halt.Halt.{Halt}
-use Rattle.front_end.specs.declared.halt.Halt.TheVariants.{Stop, Output}
+use Rattle.front_end.specs.declared.halt.Halt.TheVariants.{Output}
 use Rattle.command_line.specs.declared.request.Load.{Load}
-use Rattle.face.specs.Causes.{AnswerFailsBy}
-use Rattle.face.specs.RunInProgress.{LineStepsMachine}
+use Rattle.face.specs.RunInProgress.{HasServed}
 use Rattle.face.specs.Headline.{IsFaultOf, Resources}
 use Rattle.front_end.specs.Tells.{EndsBehind}
 use Rattle.face.specs.RunMeaning.{all_commits, StandsAfter}
-use Rattle.face.specs.Run.{Run, IsFront, StandsFor, after_lines, answered, first_lines, works_of, checkpoints_of}
-use Rattle.face.specs.Run.{log_reads_of, turns_of}
-use Rattle.engine.specs.Numbers.{CountsOn}
+use Rattle.face.specs.Run.{Run, IsFront, answered, first_lines, turns_of}
 use Rattle.front_end.specs.Texts.{IsLineOf, status_of}
 use Rattle.face.specs.Working.{Demands}
-use Rattle.face.specs.Worn.{LinesPerform, WearsNoneBefore}
+use Rattle.face.specs.Worn.{WearsNoneBefore}
 use Rattle.face.specs.Workload.{committed_in, checkpoints_in, found_in, load_run, load_texts, opening_text}
 use Rattle.face.specs.Workload.{summary_text}
 
@@ -129,51 +120,10 @@ pub record HasCounted (run : Run) (committed checkpoints found : ℕ) : Type 0 w
   pub checkpoints_are : checkpoints ≡ checkpoints_in (turns_of run)
   pub found_is : found ≡ found_in (turns_of run)
 
--- the same of sets alone
-pub record HasMade (run : List Turn) (committed checkpoints : ℕ) : Type 0 where
-  pub committed_is : committed ≡ committed_in run
-  pub checkpoints_are : checkpoints ≡ checkpoints_in run
-
--- Lines that are carried out, one after the other, while nothing is told.
-
--- a crash meanwhile leaves the table after some of them
-pub record LeavesSome (g : Geometry) (s : State) (lines : List Line) (so_far : List ℕ) (snapshot : Snapshot)
-    : Type 0 where
-  pub done : ℕ
-  pub few : done ≤ length lines
-  pub stands : StandsFor g snapshot.image (after_lines s (take done lines) [])
-  pub told : snapshot.told ≡ so_far
-
--- The lines are carried out, or where it fails all but the last of them, and perhaps that one.
-pub record CarriesOut {T : Type 0} (result : Result T Halt) (lines : List Line) (before after : Engine) (old new : Site)
-    : Type 0 where
-  -- of an honest site that the database fits
-  pub any_moment : (s : State) → Matches before old s → IsQuiet old →
-      LeavesOnly old new (LeavesSome (sizes_of before.store) s lines old.told)
-  pub last : (s : State) → Matches before old s → IsQuiet old → (snapshot : Snapshot) → MayLeave (now_of new) snapshot →
-      (done : ℕ) × (length lines ≤ done + 1)
-      × StandsFor (sizes_of before.store) snapshot.image (after_lines s (take done lines) [])
-  pub fits : (s : State) → Matches before old s → OnOk result (Matches after new (after_lines s lines []))
-  pub serves : (s : State) → Matches before old s →
-      LineStepsMachine result (works_of s lines) (log_reads_of s lines) before.store.pages after.store.pages old new
-  pub numbers : (s : State) → Matches before old s → IsQuiet old →
-      CountsOn result before after old new s (after_lines s lines []) (checkpoints_of s lines)
-  pub performs : (s : State) → Matches before old s → LinesPerform result s lines before.store after.store old new
-  pub left : IsTrue old.honest → new.input ≡ old.input
-  pub stays_quiet : IsTrue old.honest → IsQuiet old → OnOk result (IsQuiet new)
-  pub quiet : (s : State) → Matches before old s → IsQuiet old →
-      IfErr result (λ halt. ((d : Dev) → halt ≢ Stop (Device d)) → IsQuiet new)
-  -- of every site
-  pub going : OnOk result (Invariant after new)
-  pub cause : IfErr result (λ halt. AnswerFailsBy halt before old new)
-  pub next : IsTrue old.honest → AreNext before.store old → OnOk result (AreNext after.store new)
-  pub preserves : Preserves old new
-  pub sizes : sizes_of after.store ≡ sizes_of before.store
-
--- All of the lines are carried out, or where it fails the first ones.
-pub record CarriesFirst {T : Type 0} (result : Result T Halt) (lines : List Line) (before after : Engine)
-    (old new : Site) : Type 0 where
-  pub begun : ℕ
-  pub few : begun ≤ length lines
-  pub all : OnOk result (begun ≡ length lines)
-  pub course : CarriesOut result (take begun lines) before after old new
+-- So many lines were carried out: nothing was told of them, and a crash leaves the commits of some of them.
+pub record LoadInProgress (pool : ℕ) (run : Run) (entry now : Site) (engine : Engine) (lines : ℕ) : Type 0 where
+  pub served : HasServed pool run entry now engine lines
+  pub open served use *
+  pub told : now.told ≡ entry.told ++ opening_text run
+  pub moments : LeavesOnly entry now (IsLeftOf run [] [] entry.told)
+  pub left : now.input ≡ entry.input

@@ -64,14 +64,10 @@ abbrev pub works_of : State → List Line → List CacheOp
 works_of s [] = []
 works_of s (line ∷ lines) = line_touches s line ++ works_of (step s line []).after lines
 
--- how often a line reads the log at most, and how often lines do, whatever the cache lists
+-- how often a line reads the log at most
 abbrev pub line_log_reads : State → Line → ℕ
 line_log_reads s None = 0
 line_log_reads s (Some command) = log_reads_by s command
-
-abbrev pub log_reads_of : State → List Line → ℕ
-log_reads_of s [] = 0
-log_reads_of s (line ∷ lines) = line_log_reads s line + log_reads_of (step s line []).after lines
 
 -- since the run opened on this site no more is read than this work needs, and of flash as often as a start may beside
 -- it

@@ -72,18 +72,18 @@ is_value (reply.Busy session) = false
 is_value (reply.Full used owed cap) = false
 is_value (reply.Refused why) = false
 
--- whether a reply says that no test refused the command, whatever room there was
+-- whether a reply is that of a set that no test refused, whatever room there was
 abbrev pub has_passed : Reply → Bool
-has_passed reply.Done = true
-has_passed (reply.Value value) = true
-has_passed reply.Nothing = true
+has_passed reply.Done = false
+has_passed (reply.Value value) = false
+has_passed reply.Nothing = false
 has_passed (reply.Committed count) = true
-has_passed reply.Aborted = true
-has_passed reply.Checked = true
-has_passed (reply.Items items) = true
-has_passed (reply.Listing lines) = true
-has_passed (reply.Stat counts) = true
-has_passed reply.Bye = true
+has_passed reply.Aborted = false
+has_passed reply.Checked = false
+has_passed (reply.Items items) = false
+has_passed (reply.Listing lines) = false
+has_passed (reply.Stat counts) = false
+has_passed reply.Bye = false
 has_passed (reply.Busy session) = false
 has_passed (reply.Full used owed cap) = true
 has_passed (reply.Refused why) = false

@@ -1,8 +1,7 @@
 -- Which ring a run finds at its end first, by the machine of the rings.
-use Rattle.std.specs.Prelude.{◌≡◌, ℕ, ◌<◌, ◌++◌, List, [], ◌∷◌, length, take, Option}
-use Rattle.std.specs.Prelude.{Some, None, Result, Ok, OnOk, IsErrOf, ⊤}
+use Rattle.std.specs.Prelude.{◌≡◌, ℕ, ◌<◌, ◌++◌, List, [], ◌∷◌, Option}
+use Rattle.std.specs.Prelude.{Some, None, Ok, ⊤}
 use Rattle.site.specs.declared.outside.Dev.{Dev}
-use Rattle.site.specs.declared.outside.Stop.TheVariants.{Worn}
 use Rattle.site.specs.State.{State as Site, Image}
 use Rattle.site.specs.declared.geometry.Geometry.{Geometry}
 use Rattle.sealed_ring.specs.Ring.{hi_of}
@@ -17,14 +16,10 @@ use Rattle.ring_machine.specs.Machine.{Machine, RingOp, after_all, first_worn}
 use Rattle.ring_machine.specs.Commands.{line_work, run_work}
 use Rattle.ring_machine.specs.Restart.{restart_work}
 use Rattle.ring_machine.specs.Performing.{Performs}
-use Rattle.page_store.specs.Caching.{rules}
-use Rattle.redo_undo.specs.declared.store.TransactionStore.{TransactionStore}
-use Rattle.redo_undo.specs.Mirroring.{MirrorsStore, PerformsStore}
+use Rattle.redo_undo.specs.Mirroring.{MirrorsStore}
 use Rattle.engine.specs.declared.engine.Engine.{Engine}
 use Rattle.engine.specs.Image.{IsSound}
 use Rattle.engine.specs.RingWork.{machine_on}
-use Rattle.front_end.specs.declared.halt.Halt.{Halt}
-use Rattle.front_end.specs.declared.halt.Halt.TheVariants.{Stop}
 use Rattle.face.specs.Run.{Run, first_lines, step, turns_of}
 
 -- what the run asks of log and cache over this image: the restart's work, then that of these turns
@@ -81,20 +76,3 @@ IsMirrored pool run newest image blocks engine now lines =
     Performs {T = ⊤} (Ok tt) (rules_of pool run.geometry.groups)
     (rings_by run (turns_of (first_lines run lines)) newest image blocks) (λ m. m ≡ machine_on run.geometry image)
     (MirrorsStore engine.store now.image)
-
--- the answer to a line does this work
-pub record LinePerforms {T : Type 0} (result : Result T Halt) (works : List RingOp) (old new : TransactionStore)
-    (before now : Site) : Type 0 where
-  pub done : OnOk result (PerformsStore {T = ⊤} (Ok tt) works old new before now)
-  pub worn : (m : Machine) → MirrorsStore old before.image m → (dev : Dev) → IsErrOf result (Stop (Worn dev))
-      → first_worn (rules old.pages) works m ≡ Some dev
-
--- Lines do their work one after the other. Where this fails all but the last of them append to no ring at its end.
-pub record LinesPerform {T : Type 0} (result : Result T Halt) (s : State) (lines : List Line)
-    (old new : TransactionStore)
-    (before now : Site) : Type 0 where
-  pub done : OnOk result (PerformsStore {T = ⊤} (Ok tt) (rings_of s lines) old new before now)
-  pub worn : (m : Machine) → MirrorsStore old before.image m → (dev : Dev) → IsErrOf result (Stop (Worn dev))
-      → first_worn (rules old.pages) (rings_of s lines) m ≡ Some dev
-  pub earlier : (m : Machine) → MirrorsStore old before.image m → (n : ℕ) → n < length lines
-      → first_worn (rules old.pages) (rings_of s (take n lines)) m ≡ None

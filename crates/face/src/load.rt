@@ -1,47 +1,36 @@
 // A stated workload: its sets, the gets on the same records, and its summary.
-ghost use Rattle.std.specs.Prelude.{◌≡◌, ◌≢◌, ◌*◌, ◌&&◌, false, [], ◌∷◌, IfOk, IfErr, if◌then◌else◌, OnOk};
-ghost use Rattle.front_end.specs.Faults.{FirstDecides, RunFaults, SameFaults};
+ghost use Rattle.std.specs.Prelude.{◌≡◌, ◌≢◌, ◌≤◌, ◌<◌, ◌+◌, ◌*◌, ◌&&◌, [], IfOk, IfErr, if◌then◌else◌};
+ghost use Rattle.front_end.specs.Faults.{FirstDecides, SameFaults};
 ghost use Rattle.site.specs.Calls.{Preserves};
 ghost use Rattle.site.specs.declared.geometry.Geometry.{Geometry};
-ghost use Rattle.site.specs.declared.outside.Dev.{Dev};
-ghost use Rattle.site.specs.declared.outside.Stop.{Stop};
 ghost use Rattle.front_end.specs.declared.halt.Halt.{Halt};
 ghost use Rattle.record_model.specs.State.{State};
 ghost use Rattle.record_model.specs.Run as model;
-ghost use Rattle.record_model.specs.Run.{is_cache};
-ghost use Rattle.engine.specs.Representation.{Matches};
+ghost use Rattle.workload.specs.Generator.{following};
 ghost use Rattle.engine.specs.Invariant.{Invariant, sizes_of};
 ghost use Rattle.engine.specs.Leaves.{HasNoSizes};
-ghost use Rattle.face.specs.Causes.{HasCause, RefusesAsForeign};
+ghost use Rattle.face.specs.Causes.{WorkEnds};
 ghost use Rattle.face.specs.TopCall.{LoadContract};
-ghost use Rattle.face.specs.Run.{step};
 ghost use Rattle.face.specs.Headline.{IsGood};
 ghost use Rattle.command_line.specs.Words.{HasLoadLimits};
 ghost use Rattle.front_end.specs.Refusals.{RefusesDevices};
 ghost use Rattle.face.specs.Workload as stated;
-ghost use Rattle.face.specs.Workload.{found_in, get_lines, load_run, set_lines, summary_of, summary_text};
-ghost use Rattle.face.specs.Loads.{CarriesFirst, CarriesOut, HasCounted, HasMade, LoadWorks};
+ghost use Rattle.face.specs.Workload.{get_line, load_run, set_line, summary_of, summary_text};
+ghost use Rattle.face.specs.Loads.{HasCounted, LoadWorks};
 
 use crate::commands::carry_out;
 use crate::opening::open;
 use command_line::Load;
-use engine::{Engine, queue_is_on_flash, rest_counts_nothing, versions_are_seen};
+use engine::{Engine, queue_is_on_flash, versions_are_seen};
 use front_end::{Halt, tell_halt};
 use record_model::{Command, Reply};
-use redo_undo::ops_compose;
 use shell_text::Line;
 use site::{Dev, Geometry, Site, tell_all};
 use std::alloc::Global;
 use workload::{load_set, next};
 
-// What is counted of the sets of a load: those that were committed, and the checkpoints that they made.
-#[derive(Clone, Copy, Drop)]
-struct SetCounts {
-    committed: u32,
-    checkpoints: u32,
-}
-
-// What is counted of a load.
+// What is counted of a load: the sets that were committed, the checkpoints that they made, and the gets that answered
+// a value.
 #[derive(Clone, Copy, Drop)]
 struct Counts {
     committed: u32,
@@ -80,10 +69,10 @@ fn is_value(reply: &Reply) -> bool
 fn has_passed(reply: &Reply) -> bool
     ensures { result ≡ stated.has_passed reply.now }
 {
-    !matches!(reply, Reply::Busy(_) | Reply::Refused(_))
+    matches!(reply, Reply::Committed(_) | Reply::Full { .. })
 }
 
-// Whether a set with this reply has made a checkpoint: one was due before it, and no test refused it.
+// Whether a line with this reply is a set that has made a checkpoint: one was due before it, and no test refused it.
 fn made_one(due: bool, reply: &Reply) -> bool
     ensures { result ≡ (due && stated.has_passed reply.now) }
 {
@@ -96,93 +85,46 @@ fn one_if(test: bool) -> u32
     if test { 1 } else { 0 }
 }
 
-// Carries out a command. Nothing is told.
-fn carry_on<S: Site>(
-    engine: &mut Engine,
-    site: &mut S,
-    line: Option<Command>,
-) -> Result<Reply, Halt>
-    requires going { Invariant engine.old (S.state site.old) }
-    requires plain { is_cache line ≡ false }
-    ensures course { CarriesOut result (line ∷ []) engine.old engine.new (S.state site.old) (S.state site.new) }
-    ensures reply { (s : State) → Matches engine.old (S.state site.old) s
-        → IfOk result (λ reply. reply ≡ (step s line []).reply) }
-    ensures faults { RunFaults result (S.state site.old) (S.state site.new) }
+// Counts a line more, by its reply and by whether a checkpoint was due before it.
+fn count_line(counts: Counts, due: bool, reply: &Reply) -> Counts
+    requires committed { counts.committed ≤ 200000 }
+    requires checkpoints { counts.checkpoints ≤ 200000 }
+    requires found { counts.found ≤ 200000 }
+    ensures committed { result.committed
+        ≡ counts.committed + (if model.is_committed reply.now then 1 else 0) }
+    ensures checkpoints { result.checkpoints
+        ≡ counts.checkpoints + (if due && stated.has_passed reply.now then 1 else 0) }
+    ensures found { result.found ≡ counts.found + (if stated.is_value reply.now then 1 else 0) }
 {
-    match carry_out(engine, site, line) {
-        Ok(reply) => Ok(reply),
-        Err(stop) => Err(Halt::Stop(stop)),
+    Counts {
+        committed: counts.committed + one_if(is_committed(reply)),
+        checkpoints: counts.checkpoints + one_if(made_one(due, reply)),
+        found: counts.found + one_if(is_value(reply)),
     }
 }
 
-// Makes the sets of a load, or the first of them, and counts those that were committed, and the checkpoints that they
-// made.
-fn make_sets<S: Site>(
-    engine: &mut Engine,
-    site: &mut S,
-    load: &Load,
-    pages: u32,
-) -> Result<SetCounts, Halt>
-    requires going { Invariant engine.old (S.state site.old) }
-    requires pages { pages ≢ 0 }
-    ensures course { CarriesFirst result (set_lines (32 * pages) load.now.seed load.now.count)
-        engine.old engine.new (S.state site.old) (S.state site.new) }
-    ensures made { (s : State) → Matches engine.old (S.state site.old) s → IfOk result (λ made.
-        HasMade (model.turns s (set_lines (32 * pages) load.now.seed load.now.count) [])
-        made.committed made.checkpoints) }
-    ensures faults { RunFaults result (S.state site.old) (S.state site.new) }
+// The generator's number for the line at a place: with the gets it begins anew.
+fn number_at(place: u32, load: &Load, x: u64) -> u64
+    ensures anew { place ≡ load.now.count → result ≡ following load.now.seed }
+    ensures next { place ≢ load.now.count → result ≡ following x }
 {
-    ops_compose();
-    rest_counts_nothing();
-    let mut x = load.seed;
-    let mut committed = 0;
-    let mut checkpoints = 0;
-    for _set in 0..load.count {
-        x = next(x);
-        let (number, value) = load_set(x, pages);
-        let due = engine.is_due();
-        let reply = match carry_on(engine, site, Some(Command::Set { number, value })) {
-            Ok(reply) => reply,
-            Err(halt) => return Err(halt),
-        };
-        committed += one_if(is_committed(&reply));
-        checkpoints += one_if(made_one(due, &reply));
+    if place == load.count {
+        return next(load.seed);
     }
-    Ok(SetCounts {
-        committed,
-        checkpoints,
-    })
+    next(x)
 }
 
-// Makes the gets of a load, or the first of them, and counts those that answered a value.
-fn make_gets<S: Site>(
-    engine: &mut Engine,
-    site: &mut S,
-    load: &Load,
-    pages: u32,
-) -> Result<u32, Halt>
-    requires going { Invariant engine.old (S.state site.old) }
+// The line at a place, by its number: first come the sets, and then the gets.
+fn line_at(place: u32, load: &Load, x: u64, pages: u32) -> Option<Command>
     requires pages { pages ≢ 0 }
-    ensures course { CarriesFirst result (get_lines (32 * pages) load.now.seed load.now.count)
-        engine.old engine.new (S.state site.old) (S.state site.new) }
-    ensures count { (s : State) → Matches engine.old (S.state site.old) s → IfOk result (λ count.
-        count ≡ found_in (model.turns s (get_lines (32 * pages) load.now.seed load.now.count) [])) }
-    ensures faults { RunFaults result (S.state site.old) (S.state site.new) }
+    ensures sets { place < load.now.count → result ≡ set_line (32 * pages) x }
+    ensures gets { load.now.count ≤ place → result ≡ get_line (32 * pages) x }
 {
-    ops_compose();
-    rest_counts_nothing();
-    let mut x = load.seed;
-    let mut found = 0;
-    for _get in 0..load.count {
-        x = next(x);
-        let (number, _value) = load_set(x, pages);
-        let reply = match carry_on(engine, site, Some(Command::Get { number })) {
-            Ok(reply) => reply,
-            Err(halt) => return Err(halt),
-        };
-        found += one_if(is_value(&reply));
+    let (number, value) = load_set(x, pages);
+    if place < load.count {
+        return Some(Command::Set { number, value });
     }
-    Ok(found)
+    Some(Command::Get { number })
 }
 
 fn summary_line(load: &Load, counts: Counts) -> Line
@@ -209,12 +151,8 @@ fn run_load<S: Site>(alloc: Global, load: &Load, site: &mut S) -> Result<Counts,
     ensures counts { (g : Geometry) (opening : State) → IsGood g opening (S.state site.old) → IfOk result (λ counts.
         HasCounted (load_run g opening load.now) counts.committed counts.checkpoints counts.found) }
     ensures halts { IfErr result (λ halt. (halt ≢ Halt.Input) × (halt ≢ Halt.Limit)) }
-    ensures cause { IfErr result (λ halt. HasCause halt (S.state site.old) (S.state site.new)) }
-    ensures refuses { HasNoSizes (S.state site.old) → RefusesAsForeign result (S.state site.old) (S.state site.new) }
-    ensures preserves { Preserves (S.state site.old) (S.state site.new) }
-    ensures faults { RunFaults result (S.state site.old) (S.state site.new) }
+    ensures ends { WorkEnds result (S.state site.old) (S.state site.new) }
 {
-    ops_compose();
     queue_is_on_flash();
     versions_are_seen();
     let mut engine = match open(alloc, load.pool, site) {
@@ -222,18 +160,22 @@ fn run_load<S: Site>(alloc: Global, load: &Load, site: &mut S) -> Result<Counts,
         Err(halt) => return Err(halt),
     };
     let pages = pages_of(&engine, site);
-    let made = match make_sets(&mut engine, site, load, pages) {
-        Ok(made) => made,
-        Err(halt) => return Err(halt),
+    let mut counts = Counts {
+        committed: 0,
+        checkpoints: 0,
+        found: 0,
     };
-    match make_gets(&mut engine, site, load, pages) {
-        Ok(found) => Ok(Counts {
-            committed: made.committed,
-            checkpoints: made.checkpoints,
-            found,
-        }),
-        Err(halt) => Err(halt),
+    let mut x = load.seed;
+    for place in 0..2 * load.count {
+        x = number_at(place, load, x);
+        let due = engine.is_due();
+        let reply = match carry_out(&mut engine, site, line_at(place, load, x, pages)) {
+            Ok(reply) => reply,
+            Err(halt) => return Err(halt),
+        };
+        counts = count_line(counts, due, &reply);
     }
+    Ok(counts)
 }
 
 // A load with its summary, but without a fault line.
@@ -243,10 +185,7 @@ fn load_and_tell<S: Site>(alloc: Global, load: &Load, site: &mut S) -> Result<()
         → LoadWorks load.now.pool (load_run g opening load.now) (summary_text (load_run g opening load.now) load.now)
         (S.state site.old) (S.state site.new) result }
     ensures halts { IfErr result (λ halt. (halt ≢ Halt.Input) × (halt ≢ Halt.Limit)) }
-    ensures cause { IfErr result (λ halt. HasCause halt (S.state site.old) (S.state site.new)) }
-    ensures refuses { HasNoSizes (S.state site.old) → RefusesAsForeign result (S.state site.old) (S.state site.new) }
-    ensures preserves { Preserves (S.state site.old) (S.state site.new) }
-    ensures faults { RunFaults result (S.state site.old) (S.state site.new) }
+    ensures ends { WorkEnds result (S.state site.old) (S.state site.new) }
 {
     let counts = match run_load(alloc, load, site) {
         Ok(counts) => counts,

@@ -1,13 +1,13 @@
 // The work of `run`, that of `trial` on a site of its own, and what comes of want of memory.
-ghost use Rattle.std.specs.Prelude.{◌≡◌, ◌≤◌, ◌∷◌, [], ℕ, List, Option, IfErr, IsTrue};
-ghost use Rattle.front_end.specs.Faults.{FirstDecides, RunFaults, SameFaults};
+ghost use Rattle.std.specs.Prelude.{◌≡◌, ◌≤◌, ◌∷◌, [], ℕ, List, Option, IsTrue};
+ghost use Rattle.front_end.specs.Faults.{FirstDecides, SameFaults};
 ghost use Rattle.site.specs.Calls.{Preserves};
 ghost use Rattle.front_end.specs.declared.halt.Halt.{Halt};
 ghost use Rattle.site.specs.declared.geometry.Geometry.{Geometry};
 ghost use Rattle.record_model.specs.declared.words.CacheLine.{CacheLine};
 ghost use Rattle.record_model.specs.Run.{is_quit};
 ghost use Rattle.engine.specs.Leaves.{HasNoSizes};
-ghost use Rattle.face.specs.Causes.{HasCause, RefusesAsForeign};
+ghost use Rattle.face.specs.Causes.{WorkEnds};
 ghost use Rattle.face.specs.Hearing.{HearsInTime, WorkHears};
 ghost use Rattle.face.specs.TopCall.{LoadContract, NewContract, RunContract};
 ghost use Rattle.face.specs.Run.{Run, Begins};
@@ -29,7 +29,6 @@ use engine::{queue_is_on_flash, versions_are_seen};
 use front_end::{Halt, Heard, Source, tell_halt, tell_memory};
 use mem_site::MemSite;
 use record_model::{Command, serial_order};
-use redo_undo::ops_compose;
 use site::Site;
 use std::alloc::Global;
 
@@ -49,13 +48,9 @@ fn run_lines<S: Site>(alloc: Global, pool: u32, site: &mut S) -> Result<(), Halt
     ensures works { (listings : List (List CacheLine))
         × ((run : Run) → Begins run (S.state site.old) → run.listings ≡ listings
         → RunOutcome pool run (S.state site.old) (S.state site.new) result) }
-    ensures cause { IfErr result (λ halt. HasCause halt (S.state site.old) (S.state site.new)) }
     ensures hears { IsTrue (S.state site.old).honest → WorkHears result (S.state site.old) (S.state site.new) }
-    ensures refuses { HasNoSizes (S.state site.old) → RefusesAsForeign result (S.state site.old) (S.state site.new) }
-    ensures preserves { Preserves (S.state site.old) (S.state site.new) }
-    ensures faults { RunFaults result (S.state site.old) (S.state site.new) }
+    ensures ends { WorkEnds result (S.state site.old) (S.state site.new) }
 {
-    ops_compose();
     queue_is_on_flash();
     versions_are_seen();
     let mut engine = match open(alloc, pool, site) {
@@ -128,7 +123,6 @@ pub fn lack_memory<S: Site>(site: &mut S) -> u8
     ensures first { FirstDecides result (S.state site.old) (S.state site.new) }
     ensures preserves { Preserves (S.state site.old) (S.state site.new) }
 {
-    ops_compose();
     serial_order();
     let _ = tell_memory(site);
     4

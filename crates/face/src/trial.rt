@@ -3,7 +3,6 @@ ghost use Rattle.std.specs.Prelude.{◌≡◌, ◌⊎◌, ◌+◌, ◌++◌, ◌
 ghost use Rattle.std.specs.Prelude.{OnErr};
 ghost use Rattle.std.specs.Prelude.{Err, [], length, true, false, take};
 ghost use Rattle.site.specs.Calls.{Preserves, Rose, SameReads};
-ghost use Rattle.site.specs.Telling.{SameDevices};
 ghost use Rattle.site.specs.declared.geometry.Geometry.{Geometry};
 ghost use Rattle.site.specs.declared.outside.Stop.{Stop};
 ghost use Rattle.mem_site.specs.MemState.{state_of, limits_of, lives_of as numbers_in};
@@ -13,10 +12,10 @@ ghost use Rattle.front_end.specs.Lines.{HearsOnly};
 ghost use Rattle.face.specs.Run.{IsFront};
 ghost use Rattle.front_end.specs.declared.halt.Halt.{Halt};
 ghost use Rattle.face.specs.Trial as spec;
-ghost use Rattle.face.specs.Trial.{Between, IsNewSite, IsStatus, LeavesDevices, TellsAll, TellsSome, TrialContract};
+ghost use Rattle.face.specs.Trial.{Between, IsNewSite, IsStatus, TrialContract};
 ghost use Rattle.face.specs.Trial.{numbers_of};
 ghost use Rattle.face.specs.Trial.{script_limit};
-ghost use Rattle.face.specs.Living.{Ends, HasLivedOne, IsGivenUp, IsHaltOfTrial, IsReady};
+ghost use Rattle.face.specs.Living.{Ends, HasLivedOne, IsHaltOfTrial, IsReady, KeepsDevices};
 
 use crate::laws::{blank_stands, what_is_left_opens};
 use crate::running::serve;
@@ -179,9 +178,7 @@ fn tell_life<S: Site>(site: &mut S, text: &[u8], number: u64, status: u8) -> Res
         × IsFront rest (text.now ++ spec.life_line number status)) }
     ensures output { OnErr result (Rose (S.state site.old).output_faults (S.state site.new).output_faults) }
     ensures left { IsTrue (S.state site.old).honest → (S.state site.new).input ≡ (S.state site.old).input }
-    ensures devices { IsTrue (S.state site.old).honest → LeavesDevices (S.state site.old) (S.state site.new) }
-    ensures reads { SameReads (S.state site.old) (S.state site.new) }
-    ensures preserves { Preserves (S.state site.old) (S.state site.new) }
+    ensures keeps { KeepsDevices (S.state site.old) (S.state site.new) }
     ensures faults { TellFaults result (S.state site.old) (S.state site.new) }
 {
     match tell_all(site, text) {
@@ -205,9 +202,7 @@ fn live_script<S: Site>(
     ensures output { result.0 ≡ Err Halt.Output
         → Rose (S.state site.old).output_faults (S.state site.new).output_faults }
     ensures left { IsTrue (S.state site.old).honest → (S.state site.new).input ≡ (S.state site.old).input }
-    ensures devices { IsTrue (S.state site.old).honest → LeavesDevices (S.state site.old) (S.state site.new) }
-    ensures reads { SameReads (S.state site.old) (S.state site.new) }
-    ensures preserves { Preserves (S.state site.old) (S.state site.new) }
+    ensures keeps { KeepsDevices (S.state site.old) (S.state site.new) }
     ensures faults { RunFaults result.0 (S.state site.old) (S.state site.new) }
 {
     blank_stands();
@@ -250,9 +245,7 @@ fn run_script<S: Site>(
     ensures input { result.0 ≡ Err Halt.Input → Rose (S.state site.old).input_faults (S.state site.new).input_faults }
     ensures output { result.0 ≡ Err Halt.Output → Rose (S.state site.old).output_faults (S.state site.new).output_faults
         × (IsTrue (S.state site.old).honest → length (S.state site.old).input.left ≤ script_limit) }
-    ensures devices { IsTrue (S.state site.old).honest → LeavesDevices (S.state site.old) (S.state site.new) }
-    ensures reads { SameReads (S.state site.old) (S.state site.new) }
-    ensures preserves { Preserves (S.state site.old) (S.state site.new) }
+    ensures keeps { KeepsDevices (S.state site.old) (S.state site.new) }
     ensures faults { RunFaults result.0 (S.state site.old) (S.state site.new) }
 {
     match read_script(alloc, site) {

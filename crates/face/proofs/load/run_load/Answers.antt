@@ -1,105 +1,160 @@
-use Rattle.std.proofs.Common.{◌≡◌, ◌*◌, ◌∙◌, ℕ, [], ◌++◌, true, ap, subst}
-use Rattle.std.specs.Prelude.{Ok, Err}
+use Rattle.std.proofs.Common.{◌≡◌, ◌-◌, ◌+◌, ◌*◌, ◌<◌, ◌≤◌, ◌&&◌, ⊎_elim, ℕ, suc, List, [], ◌∷◌, drop, false, true≢false, refl, sym, ◌∙◌, ap, subst, arith, add-one}
+use Rattle.std.proofs.lemmas.Bool.{cases_lt}
 use Rattle.site.specs.declared.geometry.Geometry.{Geometry}
-use Rattle.site.specs.Laws.{goes_in_sequence}
-use Rattle.record_model.specs.Run.{turns}
-use Rattle.face.specs.declared.load.Counts.{Counts}
-use Rattle.face.specs.Loads.{CarriesFirst, CarriesOut, HasMade}
-use Rattle.face.specs.RunMeaning.{run_of}
-use Rattle.face.specs.Run.{after_lines}
-use Rattle.face.specs.Workload.{found_in, get_lines, set_lines}
-use Rattle.face.proofs.UntoldLines.{all_carried, carries_more, carries_on, carries_with, some_carried}
-use Rattle.face.proofs.Ends.{answer_cause, answer_takes_nothing}
-use Rattle.face.proofs.Faults.{begins}
-use Rattle.face.proofs.Loadings.{load_finished, load_never_opened, load_stopped}
-use Rattle.face.proofs.LoadCounts.{has_counted}
+use Rattle.site.specs.State.{State as Site}
+use Rattle.record_model.specs.State.{State, is_due}
+use Rattle.record_model.specs.Run.{Line, is_cache}
+use Rattle.workload.specs.Generator.{following, generated, record_of, value_of}
+use Rattle.face.specs.Headline.{IsGood}
+use Rattle.face.specs.Loads.{LoadInProgress}
+use Rattle.face.specs.Run.{Run, answered, first_lines, listing_at, state_at, step, turns_of}
+use Rattle.face.specs.Workload.{checkpoints_in, committed_in, found_in, get_line, has_passed, load_run, makes_one, set_line}
+use Rattle.face.proofs.Ends.{answer_takes_nothing}
+use Rattle.face.proofs.Fronts.{whole_turns}
+use Rattle.face.proofs.Going.{ends_as, ends_well, fails_there, goes_next}
+use Rattle.face.proofs.Loadings.{get_at, lines_count, load_finished, load_never_opened, load_next, load_opened, load_stopped, set_at}
+use Rattle.face.proofs.LoadCounts.{counted_next, get_makes, one_most, set_makes}
+use Rattle.face.proofs.load.run_load.Given.{Over}
+use Rattle.face.proofs.load.run_load.Goals.{After-carry_out}
 use Rattle.face.proofs.load.run_load.Goals as goal
 
 pub returns-in-Err-clause-works : goal.returns-in-Err-clause-works
 returns-in-Err-clause-works g c geometry opening good =
-    let old = g.S.Site.state c.args.site.now in
-    let run = run_of geometry opening true old.input.left [] in
-    let start = begins geometry opening [] old good in
-    load_never_opened geometry opening c.args.load.now old (g.S.Site.state c.open.new.site) c.in-Err.halt (c.in-Err.ensures.stops run start) (λ dev is. c.in-Err.ensures.wears run start dev (ap Err is)) (c.in-Err.ensures.numbers run start) (c.in-Err.ensures.reads run start) (c.open.ensures.left good.honest)
+    load_never_opened geometry opening c.args.load.now (g.S.Site.state c.args.site.now) (g.S.Site.state c.open.new.site) c.in-Err.halt (c.in-Err.ensures.never (load_run geometry opening c.args.load.now) good) (c.open.ensures.left good.honest)
 
-pub returns-in-Err-make_sets-clause-works : goal.returns-in-Err-make_sets-clause-works
-returns-in-Err-make_sets-clause-works g c geometry opening good =
+pub loop-place-init : goal.loop-place-init
+loop-place-init g c = record {
+  going = c.in-Ok.ensures.going;
+  sets = λ few. refl;
+  gets = λ less. absurd (omega (arith, less));
+  committed = omega arith;
+  checkpoints = omega arith;
+  found = omega arith;
+  progress = λ geometry opening good. load_opened geometry opening c.args.load.now (g.S.Site.state c.args.site.now) (g.S.Site.state c.open.new.site) c.in-Ok.engine (c.in-Ok.ensures.opens (load_run geometry opening c.args.load.now) good) (c.open.ensures.left good.honest);
+  counted = λ geometry opening good. record { committed_is = refl; checkpoints_are = refl; found_is = refl };
+}
+
+-- A line was carried out, or has failed.
+module _ (g : Over) (c : After-carry_out g) where
+  abbrev i : ℕ
+  i = c.loop-place.place
+
+  abbrev count : ℕ
+  count = c.args.load.now.count
+
+  abbrev x : ℕ
+  x = c.number_at-x.result
+
+  abbrev line : Line
+  line = c.line_at.result
+
+  abbrev pages : ℕ
+  pages = c.pages_of-pages.result
+
+  x_sets : i < count → x ≡ generated c.args.load.now.seed (suc i)
+  x_sets less = c.number_at-x.ensures.next (λ e. omega (arith, less, e)) ∙ ap following (c.loop-place.invariant.sets (omega (arith, less)))
+
+  x_gets : count ≤ i → x ≡ generated c.args.load.now.seed (suc (i - count))
+  x_gets many = ⊎_elim
+      (λ less. c.number_at-x.ensures.next (λ e. omega (arith, less, e)) ∙ ap following (c.loop-place.invariant.gets less))
+      (λ few. let none : 0 ≡ i - count = omega (arith, few, many) in c.number_at-x.ensures.anew (omega (arith, few, many)) ∙ ap (λ (n : ℕ). generated c.args.load.now.seed (suc n)) none)
+      (cases_lt count i)
+
+  by_kind : (P : Line → Type 0) → ((y : ℕ) → P (set_line (32 * pages) y)) → ((y : ℕ) → P (get_line (32 * pages) y)) → P line
+  by_kind P sets gets = ⊎_elim (λ less. subst P (sym (c.line_at.ensures.sets less)) (sets x)) (λ many. subst P (sym (c.line_at.ensures.gets many)) (gets x)) (cases_lt i count)
+
+  plain : is_cache line ≡ false
+  plain = by_kind (λ l. is_cache l ≡ false) (λ y. refl) (λ y. refl)
+
+  makes : (s : State) → (is_due s && has_passed (step s line []).reply) ≡ makes_one s line
+  makes s = by_kind (λ l. (is_due s && has_passed (step s l []).reply) ≡ makes_one s l) (λ y. set_makes s (record_of y (32 * pages)) (value_of y)) (λ y. get_makes s (record_of y (32 * pages)))
+
+  module _ (geometry : Geometry) (opening : State) (good : IsGood geometry opening (g.S.Site.state c.args.site.now)) where
+    abbrev run : Run
+    run = load_run geometry opening c.args.load.now
+
+    pages_are : pages ≡ geometry.pages
+    pages_are = c.pages_of-pages.ensures.pages ∙ ap (λ (y : Geometry). y.pages) (c.in-Ok.ensures.opens run good).geometry
+
+    at : (rest : List Line) × (drop i (answered run) ≡ line ∷ rest)
+    at = ⊎_elim
+        (λ less.
+        let s = set_at geometry opening c.args.load.now i less in
+        (s.0, s.1 ∙ ap (λ (l : Line). l ∷ s.0) (sym (c.line_at.ensures.sets less ∙ (λ k. set_line (32 * pages_are k) (x_sets less k))))))
+        (λ many.
+        let s = get_at geometry opening c.args.load.now (i - count) (omega (arith, many, c.loop-place-test.true)) in
+        let place : i ≡ count + (i - count) = omega (arith, many) in
+        (s.0, ap (λ (n : ℕ). drop n (answered run)) place ∙ s.1 ∙ ap (λ (l : Line). l ∷ s.0) (sym (c.line_at.ensures.gets many ∙ (λ k. get_line (32 * pages_are k) (x_gets many k))))))
+        (cases_lt i count)
+
+pub loop-place-preserved : goal.loop-place-preserved
+loop-place-preserved g c =
+    let s = (goal.at.loop-place-preserved g c).After-carry_out in
     let old = g.S.Site.state c.args.site.now in
-    let mid = g.S.Site.state c.open.new.site in
-    let new = g.S.Site.state c.make_sets.new.site in
+    let mid = g.S.Site.state c.loop-place.site in
+    let new = g.S.Site.state c.carry_out.new.site in
+    let i = c.loop-place.place in
     let load = c.args.load.now in
-    let run = run_of geometry opening true old.input.left [] in
-    let start = begins geometry opening [] old good in
-    let going = c.in-Ok.ensures.going run start in
-    let pages : c.pages_of-pages.result ≡ geometry.pages = c.pages_of-pages.ensures.pages ∙ ap (λ (x : Geometry). x.pages) going.geometry in
-    load_stopped geometry opening load old c.ops_compose.ensures.works c.ops_compose.ensures.reads mid new c.in-Ok.engine c.make_sets.new.engine going (c.in-Ok.ensures.paged run start) (c.in-Ok.ensures.mirrored run start) (c.in-Ok.ensures.counted run start) (c.open.ensures.reads run start) c.in-Ok.ensures.goes_on (c.open.ensures.left good.honest) c.in-Err-make_sets.halt
-    (subst (λ (n : ℕ). CarriesFirst {T = Counts} (Err c.in-Err-make_sets.halt) (set_lines (32 * n) load.seed load.count ++ get_lines (32 * n) load.seed load.count) c.in-Ok.engine c.make_sets.new.engine mid new) pages
-    (some_carried c.in-Err-make_sets.halt (set_lines (32 * c.pages_of-pages.result) load.seed load.count) (get_lines (32 * c.pages_of-pages.result) load.seed load.count) c.in-Ok.engine c.make_sets.new.engine mid new c.in-Err-make_sets.ensures.course))
+    let inv = c.loop-place.invariant in
+    let reply = c.in-Ok-carry_out.reply in
+    record {
+      going = goes_next old mid new c.loop-place.engine inv.going reply c.line_at.result c.carry_out.new.engine c.in-Ok-carry_out.ensures.course;
+      sets = λ few. x_sets g s (omega (arith, few)) ∙ ap (generated load.seed) (sym (add-one i));
+      gets = λ less. let more : suc (i - load.count) ≡ i + 1 - load.count = omega (arith, less) in x_gets g s (omega (arith, less)) ∙ ap (generated load.seed) more;
+      committed = let few = one_most _ _ _ c.count_line-counts.ensures.committed in let so_far = inv.committed in omega (arith, few, so_far);
+      checkpoints = let few = one_most _ _ _ c.count_line-counts.ensures.checkpoints in let so_far = inv.checkpoints in omega (arith, few, so_far);
+      found = let few = one_most _ _ _ c.count_line-counts.ensures.found in let so_far = inv.found in omega (arith, few, so_far);
+      progress = λ geometry opening good.
+          let at = at g s geometry opening good in
+          subst (LoadInProgress load.pool (load_run geometry opening load) old new c.carry_out.new.engine) (sym (add-one i))
+          (load_next geometry opening load old mid c.loop-place.engine i (inv.progress geometry opening good) c.line_at.result at.0 at.1 c.carry_out.new.engine new reply c.in-Ok-carry_out.ensures);
+      counted = λ geometry opening good.
+          let run = load_run geometry opening load in
+          let at = at g s geometry opening good in
+          let fits = (inv.progress geometry opening good).fits in
+          let model = state_at run i in
+          let own = c.in-Ok-carry_out.ensures.reply model [] (λ asks. absurd (true≢false (sym asks ∙ plain g s))) fits in
+          let due = c.is_due-due.ensures model mid fits in
+          let counted = counted_next run i c.line_at.result at.0 at.1 _ _ _ (inv.counted geometry opening good) reply
+          (c.in-Ok-carry_out.ensures.reply model (listing_at run i) (λ asks. absurd (true≢false (sym asks ∙ plain g s))) fits) c.is_due-due.result ((λ k. due k && has_passed (own k)) ∙ makes g s model) in
+          record {
+            committed_is = c.count_line-counts.ensures.committed ∙ counted.committed_is ∙ ap (λ (n : ℕ). committed_in (turns_of (first_lines run n))) (sym (add-one i));
+            checkpoints_are = c.count_line-counts.ensures.checkpoints ∙ counted.checkpoints_are ∙ ap (λ (n : ℕ). checkpoints_in (turns_of (first_lines run n))) (sym (add-one i));
+            found_is = c.count_line-counts.ensures.found ∙ counted.found_is ∙ ap (λ (n : ℕ). found_in (turns_of (first_lines run n))) (sym (add-one i));
+          };
+    }
+
+pub returns-in-Err-carry_out-clause-works : goal.returns-in-Err-carry_out-clause-works
+returns-in-Err-carry_out-clause-works g c geometry opening good =
+    let s = (goal.at.returns-in-Err-carry_out-clause-works g c).After-carry_out in
+    let at = at g s geometry opening good in
+    load_stopped geometry opening c.args.load.now (g.S.Site.state c.args.site.now) (g.S.Site.state c.loop-place.site) c.loop-place.engine c.loop-place.place (c.loop-place.invariant.progress geometry opening good) c.line_at.result at.0 at.1 c.carry_out.new.engine (g.S.Site.state c.carry_out.new.site) c.in-Err-carry_out.halt
+    (let all = lines_count geometry opening c.args.load.now in omega (arith, all, c.loop-place-test.true)) c.in-Err-carry_out.ensures
+
+pub returns-in-Err-carry_out-clause-halts : goal.returns-in-Err-carry_out-clause-halts
+returns-in-Err-carry_out-clause-halts g c = answer_takes_nothing c.in-Err-carry_out.halt c.loop-place.engine (g.S.Site.state c.loop-place.site) (g.S.Site.state c.carry_out.new.site) c.in-Err-carry_out.ensures.course.cause
+
+pub returns-in-Err-clause-ends : goal.returns-in-Err-clause-ends
+returns-in-Err-clause-ends g c = ends_as c.in-Err.halt _ _ c.in-Err.ensures.ends
+
+pub returns-in-Err-carry_out-clause-ends : goal.returns-in-Err-carry_out-clause-ends
+returns-in-Err-carry_out-clause-ends g c =
+    fails_there _ (g.S.Site.state c.loop-place.site) (g.S.Site.state c.carry_out.new.site) c.loop-place.engine c.loop-place.invariant.going c.in-Err-carry_out.halt c.line_at.result c.carry_out.new.engine c.in-Err-carry_out.ensures.course
+
+pub returns-clause-ends : goal.returns-clause-ends
+returns-clause-ends g c = ends_well _ _ (g.S.Site.state c.loop-place.site) c.loop-place.engine c.loop-place.invariant.going
 
 pub returns-clause-works : goal.returns-clause-works
 returns-clause-works g c geometry opening good =
-    let old = g.S.Site.state c.args.site.now in
-    let mid = g.S.Site.state c.open.new.site in
-    let then = g.S.Site.state c.make_sets.new.site in
-    let new = g.S.Site.state c.make_gets.new.site in
-    let load = c.args.load.now in
-    let run = run_of geometry opening true old.input.left [] in
-    let start = begins geometry opening [] old good in
-    let going = c.in-Ok.ensures.going run start in
-    let pages : c.pages_of-pages.result ≡ geometry.pages = c.pages_of-pages.ensures.pages ∙ ap (λ (x : Geometry). x.pages) going.geometry in
-    load_stopped geometry opening load old c.ops_compose.ensures.works c.ops_compose.ensures.reads mid new c.in-Ok.engine c.make_gets.new.engine going (c.in-Ok.ensures.paged run start) (c.in-Ok.ensures.mirrored run start) (c.in-Ok.ensures.counted run start) (c.open.ensures.reads run start) c.in-Ok.ensures.goes_on (c.open.ensures.left good.honest) c.in-Err-make_gets.halt
-    (subst (λ (n : ℕ). CarriesFirst {T = ℕ} (Err c.in-Err-make_gets.halt) (set_lines (32 * n) load.seed load.count ++ get_lines (32 * n) load.seed load.count) c.in-Ok.engine c.make_gets.new.engine mid new) pages
-    (carries_on c.ops_compose.ensures.works c.ops_compose.ensures.reads c.in-Ok-make_sets.made (Err c.in-Err-make_gets.halt) (set_lines (32 * c.pages_of-pages.result) load.seed load.count) (get_lines (32 * c.pages_of-pages.result) load.seed load.count) c.in-Ok.engine c.make_sets.new.engine c.make_gets.new.engine mid then new (all_carried c.in-Ok-make_sets.made (set_lines (32 * c.pages_of-pages.result) load.seed load.count) c.in-Ok.engine c.make_sets.new.engine (g.S.Site.state c.open.new.site) (g.S.Site.state c.make_sets.new.site) c.in-Ok-make_sets.ensures.course) c.in-Err-make_gets.ensures.course))
+    load_finished geometry opening c.args.load.now (g.S.Site.state c.args.site.now) (g.S.Site.state c.loop-place.site) c.loop-place.engine c.loop-place.place (c.loop-place.invariant.progress geometry opening good) c.queue_is_on_flash.ensures c.versions_are_seen.ensures _ (omega (arith, c.loop-place-test.false, c.loop-place.auto.place-end))
 
-pub returns-in-Ok-make_gets-clause-works : goal.returns-in-Ok-make_gets-clause-works
-returns-in-Ok-make_gets-clause-works g c geometry opening good =
-    let counts : Counts = record { committed = c.in-Ok-make_sets.made.committed; checkpoints = c.in-Ok-make_sets.made.checkpoints; found = c.in-Ok-make_gets.found } in
-    let old = g.S.Site.state c.args.site.now in
-    let mid = g.S.Site.state c.open.new.site in
-    let then = g.S.Site.state c.make_sets.new.site in
-    let new = g.S.Site.state c.make_gets.new.site in
-    let load = c.args.load.now in
-    let run = run_of geometry opening true old.input.left [] in
-    let start = begins geometry opening [] old good in
-    let going = c.in-Ok.ensures.going run start in
-    let pages : c.pages_of-pages.result ≡ geometry.pages = c.pages_of-pages.ensures.pages ∙ ap (λ (x : Geometry). x.pages) going.geometry in
-    load_finished geometry opening load old c.ops_compose.ensures.works c.ops_compose.ensures.reads mid new c.in-Ok.engine c.make_gets.new.engine going (c.in-Ok.ensures.paged run start) (c.in-Ok.ensures.mirrored run start) (c.in-Ok.ensures.counted run start) (c.open.ensures.reads run start) c.in-Ok.ensures.goes_on (c.open.ensures.left good.honest) c.queue_is_on_flash.ensures c.versions_are_seen.ensures (c.in-Ok.ensures.staged run start) (c.in-Ok.ensures.counted run start good.opens.newest good.opens.blocks good.opens.sound).calls counts
-    (subst (λ (n : ℕ). CarriesOut {T = Counts} (Ok counts) (set_lines (32 * n) load.seed load.count ++ get_lines (32 * n) load.seed load.count) c.in-Ok.engine c.make_gets.new.engine mid new) pages
-    (carries_with c.in-Ok-make_gets.found counts (set_lines (32 * c.pages_of-pages.result) load.seed load.count ++ get_lines (32 * c.pages_of-pages.result) load.seed load.count) c.in-Ok.engine c.make_gets.new.engine mid new
-    (carries_more c.ops_compose.ensures.works c.ops_compose.ensures.reads c.in-Ok-make_sets.made (Ok c.in-Ok-make_gets.found) (set_lines (32 * c.pages_of-pages.result) load.seed load.count) (get_lines (32 * c.pages_of-pages.result) load.seed load.count) c.in-Ok.engine c.make_sets.new.engine c.make_gets.new.engine mid then new (all_carried c.in-Ok-make_sets.made (set_lines (32 * c.pages_of-pages.result) load.seed load.count) c.in-Ok.engine c.make_sets.new.engine (g.S.Site.state c.open.new.site) (g.S.Site.state c.make_sets.new.site) c.in-Ok-make_sets.ensures.course) (all_carried c.in-Ok-make_gets.found (get_lines (32 * c.pages_of-pages.result) load.seed load.count) c.make_sets.new.engine c.make_gets.new.engine (g.S.Site.state c.make_sets.new.site) (g.S.Site.state c.make_gets.new.site) c.in-Ok-make_gets.ensures.course))))
-
-pub returns-in-Ok-make_gets-clause-counts : goal.returns-in-Ok-make_gets-clause-counts
-returns-in-Ok-make_gets-clause-counts g c geometry opening good =
-    let old = g.S.Site.state c.args.site.now in
-    let load = c.args.load.now in
-    let run = run_of geometry opening true old.input.left [] in
-    let start = begins geometry opening [] old good in
-    let going = c.in-Ok.ensures.going run start in
-    let pages : c.pages_of-pages.result ≡ geometry.pages = c.pages_of-pages.ensures.pages ∙ ap (λ (x : Geometry). x.pages) going.geometry in
-    has_counted geometry opening load c.in-Ok-make_sets.made.committed c.in-Ok-make_sets.made.checkpoints c.in-Ok-make_gets.found
-    (subst (λ (n : ℕ). HasMade (turns opening (set_lines (32 * n) load.seed load.count) []) c.in-Ok-make_sets.made.committed c.in-Ok-make_sets.made.checkpoints) pages (c.in-Ok-make_sets.ensures.made opening going.fits))
-    (subst (λ (n : ℕ). c.in-Ok-make_gets.found ≡ found_in (turns (after_lines opening (set_lines (32 * n) load.seed load.count) []) (get_lines (32 * n) load.seed load.count) [])) pages
-    (c.in-Ok-make_gets.ensures.count _ ((all_carried c.in-Ok-make_sets.made (set_lines (32 * c.pages_of-pages.result) load.seed load.count) c.in-Ok.engine c.make_sets.new.engine (g.S.Site.state c.open.new.site) (g.S.Site.state c.make_sets.new.site) c.in-Ok-make_sets.ensures.course).fits opening going.fits)))
-
-pub returns-in-Err-make_sets-clause-cause : goal.returns-in-Err-make_sets-clause-cause
-returns-in-Err-make_sets-clause-cause g c =
-    answer_cause c.in-Err-make_sets.halt c.in-Ok.engine (g.S.Site.state c.args.site.now) (g.S.Site.state c.open.new.site) (g.S.Site.state c.make_sets.new.site) c.in-Err-make_sets.ensures.course.course.cause c.open.ensures.preserves c.in-Ok.ensures.fits c.in-Ok.ensures.next
-
-pub returns-clause-cause : goal.returns-clause-cause
-returns-clause-cause g c =
-    let load = c.args.load.now in
-    answer_cause c.in-Err-make_gets.halt c.in-Ok.engine (g.S.Site.state c.args.site.now) (g.S.Site.state c.open.new.site) (g.S.Site.state c.make_gets.new.site)
-    (carries_on c.ops_compose.ensures.works c.ops_compose.ensures.reads c.in-Ok-make_sets.made (Err c.in-Err-make_gets.halt) (set_lines (32 * c.pages_of-pages.result) load.seed load.count) (get_lines (32 * c.pages_of-pages.result) load.seed load.count) c.in-Ok.engine c.make_sets.new.engine c.make_gets.new.engine (g.S.Site.state c.open.new.site) (g.S.Site.state c.make_sets.new.site) (g.S.Site.state c.make_gets.new.site) (all_carried c.in-Ok-make_sets.made (set_lines (32 * c.pages_of-pages.result) load.seed load.count) c.in-Ok.engine c.make_sets.new.engine (g.S.Site.state c.open.new.site) (g.S.Site.state c.make_sets.new.site) c.in-Ok-make_sets.ensures.course) c.in-Err-make_gets.ensures.course).course.cause
-    c.open.ensures.preserves c.in-Ok.ensures.fits c.in-Ok.ensures.next
-
-pub returns-in-Err-make_sets-clause-halts : goal.returns-in-Err-make_sets-clause-halts
-returns-in-Err-make_sets-clause-halts g c = answer_takes_nothing c.in-Err-make_sets.halt c.in-Ok.engine (g.S.Site.state c.open.new.site) (g.S.Site.state c.make_sets.new.site) c.in-Err-make_sets.ensures.course.course.cause
-
-pub returns-in-Err-make_sets-clause-preserves : goal.returns-in-Err-make_sets-clause-preserves
-returns-in-Err-make_sets-clause-preserves g c = goes_in_sequence _ _ _ c.open.ensures.preserves c.in-Err-make_sets.ensures.course.course.preserves
-
-pub returns-in-Ok-make_gets-clause-preserves : goal.returns-in-Ok-make_gets-clause-preserves
-returns-in-Ok-make_gets-clause-preserves g c = goes_in_sequence _ _ _ c.open.ensures.preserves (goes_in_sequence _ _ _ c.in-Ok-make_sets.ensures.course.course.preserves c.in-Ok-make_gets.ensures.course.course.preserves)
-
-pub returns-clause-preserves : goal.returns-clause-preserves
-returns-clause-preserves g c = goes_in_sequence _ _ _ c.open.ensures.preserves (goes_in_sequence _ _ _ c.in-Ok-make_sets.ensures.course.course.preserves c.in-Err-make_gets.ensures.course.course.preserves)
+pub returns-clause-counts : goal.returns-clause-counts
+returns-clause-counts g c geometry opening good =
+    let run = load_run geometry opening c.args.load.now in
+    let counted = c.loop-place.invariant.counted geometry opening good in
+    let all = whole_turns run c.loop-place.place (let lines = lines_count geometry opening c.args.load.now in omega (arith, lines, c.loop-place-test.false)) in
+    record {
+      committed_is = counted.committed_is ∙ ap committed_in all;
+      checkpoints_are = counted.checkpoints_are ∙ ap checkpoints_in all;
+      found_is = counted.found_is ∙ ap found_in all;
+    }

@@ -20,8 +20,8 @@ returns-in-Err-clause-load g c =
     let old = g.S.Site.state c.args.site.now in
     let mid = g.S.Site.state c.load_and_tell.new.site in
     let new = g.S.Site.state c.tell_halt.new.site in
-    let goes = c.load_and_tell.ensures.preserves in
-    let cause = cause_then c.in-Err.halt old mid new c.in-Err.ensures.cause c.tell_halt.ensures.preserves (λ h. c.tell_halt.ensures.devices (stays_honest old mid goes h)) in
+    let goes = c.load_and_tell.ensures.ends.preserves in
+    let cause = cause_then c.in-Err.halt old mid new c.in-Err.ensures.ends.cause c.tell_halt.ensures.preserves (λ h. c.tell_halt.ensures.devices (stays_honest old mid goes h)) in
     load_contract c.args.load.now old new c.status.result
     (λ geometry opening good. load_halted c.args.load.now geometry opening old good mid new c.in-Err.halt (c.in-Err.ensures.works geometry opening good) goes c.tell_halt.result c.tell_halt.ensures cause c.status.result c.status.ensures)
     (status_causes c.in-Err.halt c.status.result old new c.status.ensures cause)
@@ -30,11 +30,11 @@ returns-in-Err-clause-load g c =
 
 pub returns-in-Err-clause-sizes : goal.returns-in-Err-clause-sizes
 returns-in-Err-clause-sizes g c none =
-    refuses_devices c.in-Err.halt c.status.result (g.S.Site.state c.args.site.now) (g.S.Site.state c.load_and_tell.new.site) (g.S.Site.state c.tell_halt.new.site) c.tell_halt.result c.status.ensures (c.in-Err.ensures.refuses none) c.tell_halt.ensures
+    refuses_devices c.in-Err.halt c.status.result (g.S.Site.state c.args.site.now) (g.S.Site.state c.load_and_tell.new.site) (g.S.Site.state c.tell_halt.new.site) c.tell_halt.result c.status.ensures (c.in-Err.ensures.ends.refuses none) c.tell_halt.ensures
 
 pub returns-in-Ok-clause-first : goal.returns-in-Ok-clause-first
-returns-in-Ok-clause-first g c = first_none _ _ c.in-Ok.ensures.faults
+returns-in-Ok-clause-first g c = first_none _ _ c.in-Ok.ensures.ends.faults
 
 pub returns-in-Err-clause-first : goal.returns-in-Err-clause-first
 returns-in-Err-clause-first g c =
-    first_halted c.in-Err.halt c.status.result (g.S.Site.state c.args.site.now) (g.S.Site.state c.load_and_tell.new.site) (g.S.Site.state c.tell_halt.new.site) c.tell_halt.result c.status.ensures c.in-Err.ensures.faults c.tell_halt.ensures.faults
+    first_halted c.in-Err.halt c.status.result (g.S.Site.state c.args.site.now) (g.S.Site.state c.load_and_tell.new.site) (g.S.Site.state c.tell_halt.new.site) c.tell_halt.result c.status.ensures c.in-Err.ensures.ends.faults c.tell_halt.ensures.faults

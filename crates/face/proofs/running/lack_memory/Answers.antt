@@ -17,8 +17,8 @@ returns g c =
     let new = g.S.Site.state c.tell_memory.new.site in
     let lacks : LacksMemory 4 old new = (refl, only_tells _ old new c.tell_memory.result c.tell_memory.ensures) in
     record {
-      run = λ pool. lacked_run c.serial_order.ensures c.ops_compose.ensures.rise pool old new c.tell_memory.result c.tell_memory.ensures;
-      load = λ load. lacked_load_run c.ops_compose.ensures.rise load old new c.tell_memory.result c.tell_memory.ensures;
+      run = λ pool. lacked_run c.serial_order.ensures pool old new c.tell_memory.result c.tell_memory.ensures;
+      load = λ load. lacked_load_run load old new c.tell_memory.result c.tell_memory.ensures;
       new = λ geometry. lacked_contract 4 old new lacks geometry;
       simulate = λ s. lacked s.groups s.pool old new c.tell_memory.result (record {
         any_moment = c.tell_memory.ensures.any_moment;

@@ -23,23 +23,23 @@ returns-in-Err-clause-run g c =
     let mid = g.S.Site.state c.run_lines.new.site in
     let new = g.S.Site.state c.tell_halt.new.site in
     let works = c.in-Err.ensures.works in
-    let cause = cause_then c.in-Err.halt old mid new c.in-Err.ensures.cause c.tell_halt.ensures.preserves (λ h. c.tell_halt.ensures.devices (stays_honest old mid c.run_lines.ensures.preserves h)) in
+    let cause = cause_then c.in-Err.halt old mid new c.in-Err.ensures.ends.cause c.tell_halt.ensures.preserves (λ h. c.tell_halt.ensures.devices (stays_honest old mid c.run_lines.ensures.ends.preserves h)) in
     run_contract c.args.pool old new c.status.result
     (λ geometry opening good. halted c.args.pool geometry opening works.0 old c.serial_order.ensures mid new c.in-Err.halt good (works.1 _ (begins geometry opening works.0 old good) refl)
-    c.run_lines.ensures.preserves c.tell_halt.result c.tell_halt.ensures cause c.status.result c.status.ensures)
+    c.run_lines.ensures.ends.preserves c.tell_halt.result c.tell_halt.ensures cause c.status.result c.status.ensures)
     (status_causes c.in-Err.halt c.status.result old new c.status.ensures cause)
-    (λ honest. tells_fault c.in-Err.halt c.status.result old mid new c.tell_halt.result c.status.ensures cause c.run_lines.ensures.preserves (stays_honest old mid c.run_lines.ensures.preserves honest) c.tell_halt.ensures)
+    (λ honest. tells_fault c.in-Err.halt c.status.result old mid new c.tell_halt.result c.status.ensures cause c.run_lines.ensures.ends.preserves (stays_honest old mid c.run_lines.ensures.ends.preserves honest) c.tell_halt.ensures)
 
 pub returns-in-Err-clause-sizes : goal.returns-in-Err-clause-sizes
 returns-in-Err-clause-sizes g c none =
-    refuses_devices c.in-Err.halt c.status.result (g.S.Site.state c.args.site.now) (g.S.Site.state c.run_lines.new.site) (g.S.Site.state c.tell_halt.new.site) c.tell_halt.result c.status.ensures (c.in-Err.ensures.refuses none) c.tell_halt.ensures
+    refuses_devices c.in-Err.halt c.status.result (g.S.Site.state c.args.site.now) (g.S.Site.state c.run_lines.new.site) (g.S.Site.state c.tell_halt.new.site) c.tell_halt.result c.status.ensures (c.in-Err.ensures.ends.refuses none) c.tell_halt.ensures
 
 pub returns-in-Ok-clause-first : goal.returns-in-Ok-clause-first
-returns-in-Ok-clause-first g c = first_none _ _ c.in-Ok.ensures.faults
+returns-in-Ok-clause-first g c = first_none _ _ c.in-Ok.ensures.ends.faults
 
 pub returns-in-Err-clause-first : goal.returns-in-Err-clause-first
 returns-in-Err-clause-first g c =
-    first_halted c.in-Err.halt c.status.result (g.S.Site.state c.args.site.now) (g.S.Site.state c.run_lines.new.site) (g.S.Site.state c.tell_halt.new.site) c.tell_halt.result c.status.ensures c.in-Err.ensures.faults c.tell_halt.ensures.faults
+    first_halted c.in-Err.halt c.status.result (g.S.Site.state c.args.site.now) (g.S.Site.state c.run_lines.new.site) (g.S.Site.state c.tell_halt.new.site) c.tell_halt.result c.status.ensures c.in-Err.ensures.ends.faults c.tell_halt.ensures.faults
 
 pub returns-in-Ok-clause-hears : goal.returns-in-Ok-clause-hears
 returns-in-Ok-clause-hears g c honest = heard_done _ (g.S.Site.state c.args.site.now) (g.S.Site.state c.run_lines.new.site) (c.in-Ok.ensures.hears honest)
@@ -48,4 +48,4 @@ pub returns-in-Err-clause-hears : goal.returns-in-Err-clause-hears
 returns-in-Err-clause-hears g c honest =
     let old = g.S.Site.state c.args.site.now in
     let mid = g.S.Site.state c.run_lines.new.site in
-    heard_halted c.in-Err.halt c.status.result old mid (g.S.Site.state c.tell_halt.new.site) c.status.ensures (c.tell_halt.ensures.devices (stays_honest old mid c.run_lines.ensures.preserves honest)).left (c.in-Err.ensures.hears honest)
+    heard_halted c.in-Err.halt c.status.result old mid (g.S.Site.state c.tell_halt.new.site) c.status.ensures (c.tell_halt.ensures.devices (stays_honest old mid c.run_lines.ensures.ends.preserves honest)).left (c.in-Err.ensures.hears honest)

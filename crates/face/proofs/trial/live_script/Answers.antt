@@ -1,17 +1,15 @@
 use Rattle.std.proofs.Common.{◌∙◌, ◌++◌, ◌+◌, ℕ, List, refl, sym, ap, subst, arith, add-one, ◌<◌, length}
-use Rattle.site.specs.Laws.{goes_in_sequence, goes_nowhere, stays_honest}
+use Rattle.site.specs.Laws.{stays_honest}
 use Rattle.face.specs.Run.{IsFront}
 use Rattle.workload.specs.Scripts.{lives_of as lives_in}
 use Rattle.face.specs.Trial.{life_line}
-use Rattle.face.proofs.Trials.{devices_still, devices_then, few_lives, goes_on, more_lives, none_yet, some_lives, told_in_part, told_last}
+use Rattle.face.proofs.Trials.{few_lives, goes_on, keeps_still, keeps_then, more_lives, none_yet, some_lives, told_in_part, told_last}
 use Rattle.face.proofs.trial.live_script.Goals as goal
 
 pub loop-place-init : goal.loop-place-init
 loop-place-init g c = record {
-  preserves = goes_nowhere (g.S.Site.state c.args.site.now);
-  devices = λ honest. devices_still (g.S.Site.state c.args.site.now);
+  keeps = keeps_still (g.S.Site.state c.args.site.now);
   left = λ honest. refl;
-  reads = λ dev. refl;
   faults = refl;
   there = some_lives c.args.script.now;
   lives = λ geometry new honest. none_yet c.blank_stands.ensures geometry c.args.script.now (g.S.Site.state c.args.site.now) c.args.inner new;
@@ -29,10 +27,8 @@ loop-place-preserved g c =
     let life = c.in-Some.life in
     let is_life = sym c.in-Some.ensures.life in
     record {
-      preserves = goes_in_sequence old mid new inv.preserves c.tell_life.ensures.preserves;
-      devices = λ honest. devices_then old mid new (inv.devices honest) (c.tell_life.ensures.devices (stays_honest old mid inv.preserves honest));
-      left = λ honest. c.tell_life.ensures.left (stays_honest old mid inv.preserves honest) ∙ inv.left honest;
-      reads = λ dev. c.tell_life.ensures.reads dev ∙ inv.reads dev;
+      keeps = keeps_then old mid new inv.keeps c.tell_life.ensures.keeps;
+      left = λ honest. c.tell_life.ensures.left (stays_honest old mid inv.keeps.preserves honest) ∙ inv.left honest;
       faults = c.in-Ok.ensures.faults ∙ inv.faults;
       there = subst (λ (n : ℕ). n < length (lives_in c.args.script.now)) (sym (add-one c.loop-place.place)) (more_lives c.args.script.now c.loop-place.place life _ is_life c.in-Some-stop.is);
       lives = λ geometry is_new honest.
@@ -40,27 +36,21 @@ loop-place-preserved g c =
           goes_on geometry c.args.script.now c.loop-place.place old mid c.loop-place.inner c.live.new.inner r c.live.ensures.lives life is_life c.in-Some-live.status
           (c.in-Some-live.ensures.life geometry r.before r.ready) c.in-Some-live.ensures.status _ c.in-Some-stop.is c.in-Some-stop.seed c.crash-inner.result
           c.crash-inner.ensures.state c.crash-inner.ensures.left c.crash-inner.ensures.lives new
-          (c.in-Ok.ensures.told (stays_honest old mid inv.preserves honest) ∙ ap (λ (l : List ℕ). mid.told ++ (l ++ life_line (c.loop-place.place + 1) c.in-Some-live.status)) c.told.ensures);
+          (c.in-Ok.ensures.told (stays_honest old mid inv.keeps.preserves honest) ∙ ap (λ (l : List ℕ). mid.told ++ (l ++ life_line (c.loop-place.place + 1) c.in-Some-live.status)) c.told.ensures);
     }
 
-pub returns-in_default-tell_life-clause-devices : goal.returns-in_default-tell_life-clause-devices
-returns-in_default-tell_life-clause-devices g c honest =
-    let old = g.S.Site.state c.args.site.now in
-    let mid = g.S.Site.state c.loop-place.site in
-    devices_then old mid (g.S.Site.state c.tell_life.new.site) (c.loop-place.invariant.devices honest) (c.tell_life.ensures.devices (stays_honest old mid c.loop-place.invariant.preserves honest))
+pub returns-in_default-tell_life-clause-keeps : goal.returns-in_default-tell_life-clause-keeps
+returns-in_default-tell_life-clause-keeps g c = keeps_then _ _ _ c.loop-place.invariant.keeps c.tell_life.ensures.keeps
 
-pub returns-in_default-stop-clause-devices : goal.returns-in_default-stop-clause-devices
-returns-in_default-stop-clause-devices g c honest =
-    let old = g.S.Site.state c.args.site.now in
-    let mid = g.S.Site.state c.loop-place.site in
-    devices_then old mid (g.S.Site.state c.tell_life.new.site) (c.loop-place.invariant.devices honest) (c.tell_life.ensures.devices (stays_honest old mid c.loop-place.invariant.preserves honest))
+pub returns-in_default-stop-clause-keeps : goal.returns-in_default-stop-clause-keeps
+returns-in_default-stop-clause-keeps g c = keeps_then _ _ _ c.loop-place.invariant.keeps c.tell_life.ensures.keeps
 
 pub returns-in_default-tell_life-clause-lives : goal.returns-in_default-tell_life-clause-lives
 returns-in_default-tell_life-clause-lives g c geometry is_new honest =
     let old = g.S.Site.state c.args.site.now in
     let mid = g.S.Site.state c.loop-place.site in
     let r = c.loop-place.invariant.lives geometry is_new honest in
-    let part = c.in_default-tell_life.ensures.part (stays_honest old mid c.loop-place.invariant.preserves honest) in
+    let part = c.in_default-tell_life.ensures.part (stays_honest old mid c.loop-place.invariant.keeps.preserves honest) in
     told_in_part geometry c.args.script.now c.loop-place.place old mid c.loop-place.inner c.live.new.inner r c.live.ensures.lives c.in-Some.life (sym c.in-Some.ensures.life) c.in-Some-live.status
     (c.in-Some-live.ensures.life geometry r.before r.ready) c.in-Some-live.ensures.status (g.S.Site.state c.tell_life.new.site) part.0 part.1
     (subst (λ (l : List ℕ). IsFront part.0 (l ++ life_line (c.loop-place.place + 1) c.in-Some-live.status)) c.told.ensures part.2)
@@ -72,5 +62,5 @@ returns-in_default-stop-clause-lives g c geometry is_new honest =
     let r = c.loop-place.invariant.lives geometry is_new honest in
     told_last geometry c.args.script.now c.loop-place.place old mid c.loop-place.inner c.live.new.inner r c.live.ensures.lives c.in-Some.life (sym c.in-Some.ensures.life) c.in-Some-live.status
     (c.in-Some-live.ensures.life geometry r.before r.ready) c.in-Some-live.ensures.status (g.S.Site.state c.tell_life.new.site)
-    (c.in-Ok.ensures.told (stays_honest old mid c.loop-place.invariant.preserves honest) ∙ ap (λ (l : List ℕ). mid.told ++ (l ++ life_line (c.loop-place.place + 1) c.in-Some-live.status)) c.told.ensures)
+    (c.in-Ok.ensures.told (stays_honest old mid c.loop-place.invariant.keeps.preserves honest) ∙ ap (λ (l : List ℕ). mid.told ++ (l ++ life_line (c.loop-place.place + 1) c.in-Some-live.status)) c.told.ensures)
     c.in_default-stop.is

@@ -1,10 +1,10 @@
 use Rattle.std.proofs.Common.{◌≡◌, ◌<◌, IsTrue, length}
-use Rattle.site.specs.Calls.{Preserves, SameReads}
 use Rattle.site.specs.declared.geometry.Geometry.{Geometry}
 use Rattle.workload.specs.Scripts.{lives_of}
 use Rattle.front_end.specs.Faults.{SameFaults}
-use Rattle.face.specs.Trial.{IsNewSite, LeavesDevices}
+use Rattle.face.specs.Trial.{IsNewSite}
 use Rattle.face.proofs.Trials.{Reached}
+use Rattle.face.specs.Living.{KeepsDevices}
 use Rattle.face.proofs.trial.live_script.Given as goal
 
 abbrev pub invariant-loop-place : goal.invariant-loop-place
@@ -12,10 +12,8 @@ invariant-loop-place g l =
     let old = g.S.Site.state l.fn.site in
     let now = g.S.Site.state l.site in
     record {
-      preserves : Preserves old now;
-      devices : IsTrue old.honest → LeavesDevices old now;
+      keeps : KeepsDevices old now;
       left : IsTrue old.honest → now.input ≡ old.input;
-      reads : SameReads old now;
       faults : SameFaults old now;
       there : l.place < length (lives_of l.script);
       lives : (geometry : Geometry) → IsNewSite geometry l.fn.inner → IsTrue old.honest → Reached geometry l.script l.place old now l.inner;

@@ -1,9 +1,10 @@
-use Rattle.site.specs.Laws.{stays_honest}
-use Rattle.face.proofs.Trials.{devices_heard, devices_then}
+use Rattle.face.proofs.Trials.{keeps_heard, keeps_then}
 use Rattle.face.proofs.trial.run_script.Goals as goal
 
-pub returns-in-Ok-clause-devices : goal.returns-in-Ok-clause-devices
-returns-in-Ok-clause-devices g c honest =
-    let old = g.S.Site.state c.args.site.now in
-    let mid = g.S.Site.state c.read_script.new.site in
-    devices_then old mid (g.S.Site.state c.live_script.new.site) (devices_heard old mid (c.read_script.ensures.same honest)) (c.live_script.ensures.devices (stays_honest old mid c.read_script.ensures.preserves honest))
+pub returns-in-Ok-clause-keeps : goal.returns-in-Ok-clause-keeps
+returns-in-Ok-clause-keeps g c =
+    let script = c.read_script.ensures in
+    keeps_then (g.S.Site.state c.args.site.now) (g.S.Site.state c.read_script.new.site) (g.S.Site.state c.live_script.new.site) (keeps_heard _ _ script.same script.reads script.preserves) c.live_script.ensures.keeps
+
+pub returns-in-Err-clause-keeps : goal.returns-in-Err-clause-keeps
+returns-in-Err-clause-keeps g c = keeps_heard (g.S.Site.state c.args.site.now) (g.S.Site.state c.read_script.new.site) c.read_script.ensures.same c.read_script.ensures.reads c.read_script.ensures.preserves

@@ -3,7 +3,7 @@ use Rattle.site.specs.Laws.{stays_honest}
 use Rattle.site.specs.Moments.{EachMoment}
 use Rattle.site.specs.Telling.{TellsPart}
 use Rattle.face.specs.Trial.{life_line}
-use Rattle.face.proofs.Trials.{devices_then, devices_told, on_err, told_first_part, told_part}
+use Rattle.face.proofs.Trials.{keeps_then, keeps_told, on_err, told_first_part, told_part}
 use Rattle.face.proofs.trial.tell_life.Goals as goal
 
 pub returns-in-Ok-clause-part : goal.returns-in-Ok-clause-part
@@ -15,16 +15,18 @@ returns-in-Ok-clause-part g c honest =
     let tells = subst (λ (l : List ℕ). EachMoment mid new (TellsPart l mid)) line (c.tell_all-in-Ok.ensures.any_moment (stays_honest old mid c.tell_all.ensures.preserves honest)) in
     on_err _ c.tell_all-in-Ok.result (told_part old mid new c.args.text.now (life_line c.args.number c.args.status) (c.in-Ok.ensures.told honest) tells)
 
-pub returns-in-Ok-clause-devices : goal.returns-in-Ok-clause-devices
-returns-in-Ok-clause-devices g c honest =
+pub returns-in-Ok-clause-keeps : goal.returns-in-Ok-clause-keeps
+returns-in-Ok-clause-keeps g c =
     let old = g.S.Site.state c.args.site.now in
     let mid = g.S.Site.state c.tell_all.new.site in
     let new = g.S.Site.state c.tell_all-in-Ok.new.site in
-    devices_then old mid new (devices_told c.args.text.now old mid (c.tell_all.ensures.any_moment honest)) (devices_told c.as_slice.result.now mid new (c.tell_all-in-Ok.ensures.any_moment (stays_honest old mid c.tell_all.ensures.preserves honest)))
+    let one = c.tell_all.ensures in
+    let two = c.tell_all-in-Ok.ensures in
+    keeps_then old mid new (keeps_told c.args.text.now old mid one.any_moment one.reads one.preserves) (keeps_told c.as_slice.result.now mid new two.any_moment two.reads two.preserves)
 
 pub returns-in-Err-clause-part : goal.returns-in-Err-clause-part
 returns-in-Err-clause-part g c honest =
     told_first_part (g.S.Site.state c.args.site.now) (g.S.Site.state c.tell_all.new.site) c.args.text.now (life_line c.args.number c.args.status) (c.tell_all.ensures.any_moment honest)
 
-pub returns-in-Err-clause-devices : goal.returns-in-Err-clause-devices
-returns-in-Err-clause-devices g c honest = devices_told c.args.text.now (g.S.Site.state c.args.site.now) (g.S.Site.state c.tell_all.new.site) (c.tell_all.ensures.any_moment honest)
+pub returns-in-Err-clause-keeps : goal.returns-in-Err-clause-keeps
+returns-in-Err-clause-keeps g c = keeps_told c.args.text.now (g.S.Site.state c.args.site.now) (g.S.Site.state c.tell_all.new.site) c.tell_all.ensures.any_moment c.tell_all.ensures.reads c.tell_all.ensures.preserves

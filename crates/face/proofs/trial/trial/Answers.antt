@@ -6,7 +6,7 @@ use Rattle.face.specs.Living.{Ends, IsHaltOfTrial}
 use Rattle.front_end.specs.Texts.{fault_line}
 use Rattle.face.specs.Trial.{numbers_of}
 use Rattle.front_end.specs.declared.halt.Halt.{Halt}
-use Rattle.face.proofs.Trials.{caused_by, devices_then, devices_told, numbers_unbegun, told_and_fault}
+use Rattle.face.proofs.Trials.{caused_by, keeps_then, keeps_told, numbers_unbegun, told_and_fault}
 use Rattle.front_end.proofs.Firsts.{first_halted, first_none}
 use Rattle.face.proofs.trial.trial.Goals as goal
 
@@ -16,10 +16,11 @@ returns-in-Err-clause-trial g c geometry is_new =
     let mid = g.S.Site.state c.run_script-lived.new.site in
     let new = g.S.Site.state c.tell_halt.new.site in
     let work = c.run_script-lived.ensures in
+    let kept = keeps_then old mid new work.keeps (keeps_told (fault_line c.in-Err.halt) mid new c.tell_halt.ensures.any_moment c.tell_halt.ensures.reads c.tell_halt.ensures.preserves) in
     let numbers = numbers_of c.run_script-lived.result.1 in
     record {
       lives = λ honest.
-          told_and_fault {T = Unit {0}} geometry old.input.left old mid new numbers c.status.result c.tell_halt.result work.preserves (stays_honest old mid work.preserves honest) c.in-Err.halt c.status.ensures
+          told_and_fault {T = Unit {0}} geometry old.input.left old mid new numbers c.status.result c.tell_halt.result work.keeps.preserves (stays_honest old mid work.keeps.preserves honest) c.in-Err.halt c.status.ensures
           (subst (λ (r : Result (Unit {0}) Halt). Ends geometry old.input.left r old mid numbers) c.in-Err.is (work.lives geometry is_new honest))
           (λ which. ap numbers_of (work.unbegun (⊎_elim (λ e. inl (c.in-Err.is ∙ ap Err e)) (λ e. inr (c.in-Err.is ∙ ap Err e)) which)) ∙ numbers_unbegun geometry c.args.inner is_new)
           c.tell_halt.ensures;
@@ -29,9 +30,9 @@ returns-in-Err-clause-trial g c geometry is_new =
         output = λ e. (work.output (c.in-Err.is ∙ ap Err e)).0;
         few = λ e. (work.output (c.in-Err.is ∙ ap Err e)).1;
         limit = λ e honest. work.limit honest (c.in-Err.is ∙ ap Err e);
-      }) c.tell_halt.ensures.preserves (λ honest. (c.tell_halt.ensures.devices (stays_honest old mid work.preserves honest)).left);
-      devices = λ honest. devices_then old mid new (work.devices honest) (devices_told (fault_line c.in-Err.halt) mid new (c.tell_halt.ensures.any_moment (stays_honest old mid work.preserves honest)));
-      reads = λ dev. c.tell_halt.ensures.reads dev ∙ work.reads dev;
+      }) c.tell_halt.ensures.preserves (λ honest. (c.tell_halt.ensures.devices (stays_honest old mid work.keeps.preserves honest)).left);
+      devices = kept.devices;
+      reads = kept.reads;
     }
 
 pub returns-in-Ok-clause-first : goal.returns-in-Ok-clause-first

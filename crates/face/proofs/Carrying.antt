@@ -1,0 +1,332 @@
+-- A line is carried out: a command of the database, one that asks for nothing, and one whose reply is told.
+use Rattle.std.proofs.Common.{◌≡◌, inl, ℕ, ◌+◌, ◌++◌, ◌≤◌, true, false, List, [], IsTrue, IfErr, IfOk, OnOk, IsErrOf, refl, sym, ◌∙◌, ap, subst, arith, ◌≢◌}
+use Rattle.std.specs.Prelude.{Result, Ok, Err, Some, None, ⊤}
+use Rattle.site.specs.declared.outside.Dev.{Dev}
+use Rattle.site.specs.declared.outside.Dev.TheVariants.{Log}
+use Rattle.site.specs.declared.outside.Failed.{Failed}
+use Rattle.site.specs.declared.outside.Stop.{Stop}
+use Rattle.site.specs.declared.outside.Stop.TheVariants.{Device, Memory, Worn, Foreign}
+use Rattle.site.specs.declared.geometry.Geometry.{Geometry}
+use Rattle.site.specs.Calls.{Rose}
+use Rattle.site.specs.Faults.{WorkFaults, faults_in, with_output_fault}
+use Rattle.site.specs.State.{State as Site, Image, Snapshot, IsQuiet}
+use Rattle.site.specs.Moments.{EachMoment, LeavesOnly}
+use Rattle.site.specs.Laws.{goes_in_sequence, goes_nowhere, holds_now, leaves_weaker, rose_since, stays_honest, stays_quiet}
+use Rattle.site.specs.Telling.{TellsPart}
+use Rattle.site.proofs.Working.{ok_always}
+use Rattle.record_model.specs.declared.words.CacheLine.{CacheLine}
+use Rattle.record_model.specs.declared.words.Command.{Command}
+use Rattle.record_model.specs.declared.words.Command.TheVariants.{Cache, Quit, Stat}
+use Rattle.record_model.specs.declared.words.Reply.TheVariants.{Listing}
+use Rattle.record_model.specs.declared.words.Reply.{Reply}
+use Rattle.record_model.specs.State.{State}
+use Rattle.record_model.specs.Step.{Outcome}
+use Rattle.record_model.specs.Run.{Line, is_cache}
+use Rattle.record_model.specs.Touches.{CacheOp, line_touches}
+use Rattle.page_store.proofs.StagingLaws.{last_none}
+use Rattle.redo_undo.specs.Mirroring.{MirrorsStore, PerformsStore}
+use Rattle.ring_machine.specs.Performing.{Performs}
+use Rattle.ring_machine.specs.Commands.{line_work}
+use Rattle.ring_machine.proofs.Performing.{performs_answered, performs_as, performs_nothing}
+use Rattle.page_store.specs.Caching.{cache_of, rules}
+use Rattle.engine.specs.declared.engine.Engine.{Engine}
+use Rattle.engine.specs.Calls.{CommandContract, KeepsEngine}
+use Rattle.engine.specs.Representation.{Matches}
+use Rattle.engine.specs.Invariant.{Invariant, sizes_of}
+use Rattle.engine.specs.Leaves.{LeavesEither, LeavesTable}
+use Rattle.engine.specs.Listings.{listing_of}
+use Rattle.engine.specs.LogReads.{log_reads_by}
+use Rattle.image_changes.specs.Costs.{CallsForUnits}
+use Rattle.shell_text.specs.Texts.{reply_text}
+use Rattle.front_end.specs.declared.halt.Halt.{Halt}
+use Rattle.front_end.specs.declared.halt.Halt.TheVariants as halt
+use Rattle.front_end.specs.Faults.{RunFaults}
+use Rattle.front_end.specs.Tells.{Tells}
+use Rattle.face.specs.Carrying.{CarriesOut, CarriesUntold, DoesLine, LineStepsMachine, TellsAnswer, halted}
+use Rattle.face.specs.Causes.{AnswerFailsBy}
+use Rattle.face.specs.Run.{IsAsked, StandsFor, line_checkpoints, line_log_reads, step, LeavesAnswer}
+use Rattle.face.proofs.CommandLaws.{fails_by}
+use Rattle.face.proofs.Counted.{counts_as, counts_err, counts_idle, counts_told}
+use Rattle.face.proofs.Listed.{cache_line, same_step}
+use Rattle.face.proofs.Logs.{fits_stands, goes_on, still_fits}
+use Rattle.face.proofs.NextUnits.{next_later}
+use Rattle.face.proofs.Pagings.{after_same, reads_still}
+use Rattle.face.proofs.Quiet.{is_told, no_change, not_told}
+use Rattle.face.proofs.WornRuns.{cache_work, quit_work, stat_work}
+use Rattle.face.proofs.Writings.{last_told, writes_nothing, writes_told}
+
+quiet_always : {T : Type 0} (result : Result T Halt) (P : Type 0) → P → IfErr result (λ h. ((d : Dev) → h ≢ halt.Stop (Device d)) → P)
+quiet_always (Ok x) P p = tt
+quiet_always (Err h) P p = λ other. p
+
+-- A command of the database.
+
+-- the call that it names has failed
+pub stop_faults : (A B : Type 0) (stop : Stop) (old new : Site) → WorkFaults {T = A} (Err stop) old new → RunFaults {T = B} (Err (halt.Stop stop)) old new
+stop_faults A B (Device dev) old new is = is
+stop_faults A B Memory old new is = is
+stop_faults A B (Worn dev) old new is = is
+stop_faults A B Foreign old new is = is
+
+module _ (command : Command) (old new : Engine) (before now : Site) where
+  -- it answers what the model answers, and does its work; a crash meanwhile leaves P
+  pub record Answers (P : State → Snapshot → Type 0) (result : Result Reply Stop) : Type 0 where
+    pub keeps : KeepsEngine result old new before now
+    pub log_reads : (s : State) → Matches old before s → now.log_reads ≤ before.log_reads + log_reads_by s command
+    pub answers : (s : State) → Matches old before s → CommandContract result old new before now s (step s (Some command) []) (line_touches s (Some command)) (P s) (line_checkpoints s (Some command))
+    pub performs : (s : State) → Matches old before s → PerformsStore result (line_work s (Some command)) old.store new.store before now
+
+  module _ (plain : is_cache (Some command) ≡ false) (P : State → Snapshot → Type 0) (left : (s : State) (snapshot : Snapshot) → P s snapshot → LeavesEither (sizes_of old.store) s (step s (Some command) []).after before.told snapshot) where
+    does : (result : Result Reply Stop) → Answers P result → (s : State) → Matches old before s → DoesLine (halted result) s (Some command) old new before now
+    does (Ok x) c s fits =
+        let a = c.answers s fits in
+        record {
+          fits = a.does.after_fits;
+          asks = record { machine = a.asks.machine; reads = a.asks.reads; log_reads = c.log_reads s fits; writes = a.asks.stages.writes; last = a.asks.stages.last; rules_are = a.asks.rules_are };
+          performs = record { done = performs_answered (c.performs s fits); worn = λ m is dev says. absurd cc };
+          numbers = λ quiet. counts_as x (Ok x) old new before now s _ _ (a.does.numbers quiet);
+          quiet = λ quiet. tt;
+        }
+    does (Err stop) c s fits =
+        let a = c.answers s fits in
+        record {
+          fits = tt;
+          asks = record { machine = tt; reads = a.asks.reads; log_reads = c.log_reads s fits; writes = a.asks.stages.writes; last = λ has quiet. tt; rules_are = a.asks.rules_are };
+          performs = record { done = tt; worn = λ m is dev says. (c.performs s fits).worn m is dev (again dev says) };
+          numbers = λ quiet. counts_err stop (halt.Stop stop) old new before now s _ _ (a.does.numbers quiet);
+          quiet = λ quiet other. a.does.quiet quiet (λ d is. other d (ap halt.Stop is));
+        }
+      where
+        again : (dev : Dev) → IsErrOf {T = Reply} (Err (halt.Stop stop)) (halt.Stop (Worn dev)) → IsErrOf {T = Reply} (Err stop) (Worn dev)
+        again dev says = cc
+
+    course : (result : Result Reply Stop) → Answers P result → CarriesOut (halted result) (Some command) old new before now
+    course (Ok x) c = record {
+      does = does (Ok x) c;
+      left = c.keeps.calls.left;
+      stays_quiet = c.keeps.calls.stays_quiet;
+      going = c.keeps.going;
+      cause = tt;
+      next = λ honest is. (c.keeps.next honest).next is;
+      preserves = c.keeps.calls.preserves;
+      sizes = c.keeps.sizes;
+      faults = c.keeps.calls.faults;
+    }
+    course (Err stop) c = record {
+      does = does (Err stop) c;
+      left = c.keeps.calls.left;
+      stays_quiet = λ honest quiet. tt;
+      going = tt;
+      cause = fails_by (Err stop) old before now c.keeps.stops c.keeps.next c.keeps.calls.device (λ s fits. (c.answers s fits).does.worn_log) (λ s fits. (c.answers s fits).does.worn) (λ is s fits. (c.answers s fits).does.readable is);
+      next = λ honest is. tt;
+      preserves = c.keeps.calls.preserves;
+      sizes = c.keeps.sizes;
+      faults = stop_faults Reply Reply stop before now c.keeps.calls.faults;
+    }
+
+    replies : (result : Result Reply Stop) → Answers P result → (s : State) (listing : List CacheLine) → Matches old before s → IfOk (halted result) (λ reply. reply ≡ (step s (Some command) listing).reply)
+    replies (Ok x) c s listing fits = (c.answers s fits).reply ∙ ap (λ (o : Outcome). o.reply) (sym (same_step s (Some command) listing plain))
+    replies (Err stop) c s listing fits = tt
+
+    carried : (line : Line) → line ≡ Some command → (result : Result Reply Stop) → Answers P result → CarriesUntold (halted result) line old new before now
+    carried line is result c = subst (λ (l : Line). CarriesUntold (halted result) l old new before now) (sym is) (record {
+      course = course result c;
+      reply = λ s listing asked fits. replies result c s listing fits;
+      any_moment = λ s fits quiet. leaves_weaker before now (P s) (LeavesEither (sizes_of old.store) s (step s (Some command) []).after before.told) (left s) ((c.answers s fits).does.any_moment quiet);
+    })
+
+-- one that commits nothing, and one that may commit
+pub keeps_table : (command : Command) → is_cache (Some command) ≡ false → (line : Line) → line ≡ Some command → (result : Result Reply Stop) (old new : Engine) (before now : Site) → Answers command old new before now (λ s. LeavesTable (sizes_of old.store) s.table s.commits before.told) result → CarriesUntold (halted result) line old new before now
+keeps_table command plain line is result old new before now c =
+    carried command old new before now plain (λ s. LeavesTable (sizes_of old.store) s.table s.commits before.told) (λ s snapshot t. record { told = t.told; stands = inl t.stands }) line is result c
+
+pub may_commit : (command : Command) → is_cache (Some command) ≡ false → (line : Line) → line ≡ Some command → (result : Result Reply Stop) (old new : Engine) (before now : Site) → Answers command old new before now (λ s. LeavesEither (sizes_of old.store) s (step s (Some command) []).after before.told) result → CarriesUntold (halted result) line old new before now
+may_commit command plain line is result old new before now c =
+    carried command old new before now plain (λ s. LeavesEither (sizes_of old.store) s (step s (Some command) []).after before.told) (λ s snapshot e. e) line is result c
+
+-- A line that changes nothing, and asks for nothing.
+pub record IsIdle (line : Line) : Type 0 where
+  pub after : (s : State) → (step s line []).after ≡ s
+  pub touches : (s : State) → line_touches s line ≡ []
+  pub work : (s : State) → line_work s line ≡ []
+  pub checkpoints : (s : State) → line_checkpoints s line ≡ 0
+
+pub none_idles : IsIdle None
+none_idles = record { after = λ s. refl; touches = λ s. refl; work = λ s. refl; checkpoints = λ s. refl }
+
+pub stat_idles : IsIdle (Some Stat)
+stat_idles = record { after = λ s. refl; touches = λ s. refl; work = stat_work; checkpoints = λ s. refl }
+
+pub quit_idles : IsIdle (Some Quit)
+quit_idles = record { after = λ s. refl; touches = λ s. refl; work = quit_work; checkpoints = λ s. refl }
+
+pub cache_idles : IsIdle (Some Cache)
+cache_idles = record { after = λ s. refl; touches = λ s. refl; work = cache_work; checkpoints = λ s. refl }
+
+pub carries_idle : (line other : Line) → line ≡ other → IsIdle other → (result : Result Reply Stop) (engine : Engine) (site : Site) → Invariant engine site → IfErr result (λ stop. stop ≡ Memory) →
+    ((s : State) (listing : List CacheLine) → IsAsked line (listing_of engine) listing → Matches engine site s → IfOk (halted result) (λ reply. reply ≡ (step s line listing).reply)) → CarriesUntold (halted result) line engine engine site site
+carries_idle line other is idles result engine site going stops reply = record {
+  course = by result stops;
+  reply = reply;
+  any_moment = λ s fits quiet. no_change (sizes_of engine.store) site s _ quiet (fits_stands engine site s going.store.both.sizes fits);
+}
+  where
+    idle : IsIdle line
+    idle = subst IsIdle (sym is) idles
+
+    does_it : {T : Type 0} (h : Result T Halt) → ((dev : Dev) → IsErrOf h (halt.Stop (Worn dev)) → ⊥) → (s : State) → Matches engine site s → DoesLine h s line engine engine site site
+    does_it h never s fits = record {
+      fits = ok_always h _ (subst (Matches engine site) (sym (idle.after s)) fits);
+      asks = subst (λ (w : List CacheOp). LineStepsMachine h w (line_log_reads s line) engine.store.pages engine.store.pages site site) (sym (idle.touches s)) (record {
+        machine = ok_always h _ refl;
+        reads = record { flash = omega arith; disk = omega arith };
+        log_reads = omega arith;
+        writes = λ has quiet. writes_nothing engine.store.pages site has quiet;
+        last = λ has quiet. ok_always h _ (last_none engine.store.pages.flash.geometry [] site site refl);
+        rules_are = refl;
+      });
+      performs = record {
+        done = ok_always h _ (performs_as (idle.work s) (performs_nothing (λ m is. is) (λ dev says. absurd cc)));
+        worn = λ m is dev says. absurd (never dev says);
+      };
+      numbers = λ quiet. counts_idle h line engine site s fits going quiet (idle.after s) (idle.checkpoints s);
+      quiet = λ quiet. quiet_always h (IsQuiet site) quiet;
+    }
+
+    by : (r : Result Reply Stop) → IfErr r (λ stop. stop ≡ Memory) → CarriesOut (halted r) line engine engine site site
+    by (Ok x) memory = record {
+      does = does_it (Ok x) (λ dev says. cc);
+      left = λ honest. refl;
+      stays_quiet = λ honest quiet. quiet;
+      going = going;
+      cause = tt;
+      next = λ honest is. is;
+      preserves = goes_nowhere site;
+      sizes = refl;
+      faults = refl;
+    }
+    by (Err stop) memory = subst (λ (e : Stop). CarriesOut {T = Reply} (Err (halt.Stop e)) line engine engine site site) (sym memory) (record {
+      does = does_it (Err (halt.Stop Memory)) (λ dev says. cc);
+      left = λ honest. refl;
+      stays_quiet = λ honest quiet. tt;
+      going = tt;
+      cause = tt;
+      next = λ honest is. tt;
+      preserves = goes_nowhere site;
+      sizes = refl;
+      faults = refl;
+    })
+
+-- the listing of the cache, which may want memory
+pub listing_is : (line : Line) → is_cache line ≡ true → (result : Result Reply Stop) (engine : Engine) (s : State) (listing : List CacheLine) → IsAsked line (listing_of engine) listing → IfOk result (λ reply. reply ≡ Listing (listing_of engine)) → IfOk (halted result) (λ reply. reply ≡ (step s line listing).reply)
+listing_is line asks (Ok x) engine s listing asked is = is ∙ ap Listing (sym (asked asks)) ∙ sym (ap (λ (l : Line). (step s l listing).reply) (cache_line line asks))
+listing_is line asks (Err stop) engine s listing asked is = tt
+
+-- What it answers is told.
+
+-- an error of the line is one of its answer
+pub carries_err : {A B : Type 0} (h : Halt) (line : Line) (a b : Engine) (old new : Site) → CarriesOut {T = A} (Err h) line a b old new → CarriesOut {T = B} (Err h) line a b old new
+carries_err {A} {B} h line a b old new c = record {
+  does = λ s fits. let d = c.does s fits in record {
+    fits = tt;
+    asks = record { machine = tt; reads = d.asks.reads; log_reads = d.asks.log_reads; writes = d.asks.writes; last = λ has quiet. tt; rules_are = d.asks.rules_are };
+    performs = record { done = tt; worn = λ m is dev says. d.performs.worn m is dev (again dev says) };
+    numbers = λ quiet. counts_err h h a b old new s _ _ (d.numbers quiet);
+    quiet = d.quiet;
+  };
+  left = c.left;
+  stays_quiet = λ honest quiet. tt;
+  going = tt;
+  cause = c.cause;
+  next = λ honest is. tt;
+  preserves = c.preserves;
+  sizes = c.sizes;
+  faults = c.faults;
+}
+  where
+    again : (dev : Dev) → IsErrOf {T = B} (Err h) (halt.Stop (Worn dev)) → IsErrOf {T = A} (Err h) (halt.Stop (Worn dev))
+    again dev says = cc
+
+module _ {A : Type 0} (reply : A) (line : Line) (a b : Engine) (old mid new : Site) (c : CarriesOut {T = A} (Ok reply) line a b old mid) {N : Type 0} {piece : List ℕ} {told : Result N Failed} (tells : Tells piece mid new told) where
+  -- what is told changes nothing
+  module _ {B : Type 0} (result : Result B Halt) (never : (dev : Dev) → IsErrOf result (halt.Stop (Worn dev)) → ⊥) (cause : IfErr result (λ h. AnswerFailsBy h a old new)) (calls : IsTrue mid.honest → OnOk result (CallsForUnits (sizes_of a.store) mid new)) (faults : RunFaults result old new) where
+    still : IsTrue old.honest → IsTrue mid.honest
+    still honest = stays_honest old mid c.preserves honest
+
+    carries_told : CarriesOut result line a b old new
+    carries_told = record {
+      does = λ s fits.
+          let d = c.does s fits in
+          let honest = still fits.honest in
+          let same = tells.devices honest in
+          let each = tells.any_moment honest in
+          record {
+            fits = ok_always result _ (still_fits b mid new _ d.fits tells.preserves same.image);
+            asks = record {
+              machine = ok_always result _ d.asks.machine;
+              reads = reads_still (rules a.store.pages) (line_touches s line) (cache_of a.store.pages) old mid new tells.reads d.asks.reads;
+              log_reads = let read = d.asks.log_reads in let none : new.log_reads ≡ mid.log_reads = tells.reads Log in omega (arith, read, none);
+              writes = λ has quiet. writes_told a.store.pages.flash.geometry (rules a.store.pages) (line_touches s line) (cache_of a.store.pages) piece old mid new (d.asks.writes has quiet) each;
+              last = λ has quiet. ok_always result _ (last_told a.store.pages.flash.geometry (rules a.store.pages) (line_touches s line) (cache_of a.store.pages) piece old mid new (d.asks.writes has quiet).grown each (d.asks.last has quiet));
+              rules_are = d.asks.rules_are;
+            };
+            performs = record {
+              done = ok_always result _ (subst (λ (i : Image). Performs {T = ⊤} (Ok tt) (rules a.store.pages) (line_work s line) (MirrorsStore a.store old.image) (MirrorsStore b.store i)) (sym same.image) d.performs.done);
+              worn = λ m is dev says. absurd (never dev says);
+            };
+            numbers = λ quiet. counts_told reply result a b piece old mid new s _ _ each (calls honest) (d.numbers quiet);
+            quiet = λ quiet. quiet_always result (IsQuiet new) (stays_quiet mid new same (c.stays_quiet fits.honest quiet));
+          };
+      left = λ honest. (tells.devices (still honest)).left ∙ c.left honest;
+      stays_quiet = λ honest quiet. ok_always result _ (stays_quiet mid new (tells.devices (still honest)) (c.stays_quiet honest quiet));
+      going = ok_always result _ (goes_on b mid new c.going tells.preserves);
+      cause = cause;
+      next = λ honest is. ok_always result _ (next_later b.store mid new (tells.devices (still honest)).image (c.next honest is));
+      preserves = goes_in_sequence old mid new c.preserves tells.preserves;
+      sizes = c.sizes;
+      faults = faults;
+    }
+
+  -- all of it, or a front
+  pub all_told : {B : Type 0} (x : B) → (IsTrue mid.honest → CallsForUnits (sizes_of a.store) mid new) → faults_in new ≡ faults_in mid → CarriesOut {T = B} (Ok x) line a b old new
+  all_told x calls same = carries_told (Ok x) (λ dev says. cc) tt calls (same ∙ c.faults)
+
+  pub not_all_told : {B : Type 0} → faults_in new ≡ with_output_fault (faults_in mid) → Rose mid.output_faults new.output_faults → CarriesOut {T = B} (Err halt.Output) line a b old new
+  not_all_told {B} same rose = carries_told {B = B} (Err halt.Output) (λ dev says. cc) (rose_since old.output_faults mid.output_faults new.output_faults c.preserves.output_faults rose) (λ honest. tt) (same ∙ ap with_output_fault c.faults)
+
+-- What its reply tells.
+module _ (line : Line) (a b : Engine) (old mid : Site) (result : Result Reply Halt) (c : CarriesUntold result line a b old mid) (s : State) (listing : List CacheLine) (fits : Matches a old s) (quiet : IsQuiet old) where
+  abbrev next : Outcome
+  next = step s line listing
+
+  moments : LeavesOnly old mid (LeavesEither (sizes_of a.store) s next.after old.told)
+  moments = subst (λ (x : State). LeavesOnly old mid (LeavesEither (sizes_of a.store) s x old.told)) (after_same s line [] listing) (c.any_moment s fits quiet)
+
+  untold : mid.told ≡ old.told
+  untold = (holds_now old mid (LeavesEither (sizes_of a.store) s next.after old.told) moments).told
+
+  -- nothing: it has failed
+  pub tells_nothing : {B : Type 0} (h : Halt) → TellsAnswer {T = B} (Err h) (sizes_of a.store) s next old mid
+  tells_nothing h = record { any_moment = not_told (sizes_of a.store) old mid s next.after (reply_text next.reply) moments; told = tt; untold = λ ne. untold }
+
+-- all of it, or a front
+module _ (line : Line) (a b : Engine) (old mid new : Site) (reply : Reply) (c : CarriesUntold (Ok reply) line a b old mid) {N : Type 0} {told : Result N Failed} (tells : Tells (reply_text reply) mid new told) (s : State) (listing : List CacheLine) (asked : IsAsked line (listing_of a) listing) (fits : Matches a old s) (quiet : IsQuiet old) where
+  text : reply_text reply ≡ reply_text (step s line listing).reply
+  text = ap reply_text (c.reply s listing asked fits)
+
+  honest : IsTrue mid.honest
+  honest = stays_honest old mid c.preserves fits.honest
+
+  some_told : LeavesOnly old new (LeavesAnswer (sizes_of a.store) s (step s line listing).after (reply_text (step s line listing).reply) old.told)
+  some_told =
+      let after = (step s line listing).after in
+      let there = subst (Matches b mid) (after_same s line [] listing) (c.does s fits).fits in
+      is_told (sizes_of a.store) old mid new s after (reply_text (step s line listing).reply) (moments line a b old mid (Ok reply) c s listing fits quiet) (c.stays_quiet fits.honest quiet)
+      (subst (λ (x : Geometry). StandsFor x mid.image after) c.sizes (fits_stands b mid after c.going.store.both.sizes there))
+      (subst (λ (t : List ℕ). EachMoment mid new (TellsPart t mid)) text (tells.any_moment honest))
+
+  pub tells_all_of_it : {B : Type 0} (x : B) → new.told ≡ mid.told ++ reply_text reply → TellsAnswer {T = B} (Ok x) (sizes_of a.store) s (step s line listing) old new
+  tells_all_of_it x is = record { any_moment = some_told; told = is ∙ (λ i. untold line a b old mid (Ok reply) c s listing fits quiet i ++ text i); untold = tt }
+
+  pub tells_front : {B : Type 0} → TellsAnswer {T = B} (Err halt.Output) (sizes_of a.store) s (step s line listing) old new
+  tells_front = record { any_moment = some_told; told = tt; untold = λ ne. absurd (ne refl) }

@@ -1,0 +1,25 @@
+use Rattle.std.proofs.Common.{◌≡◌, ◌-◌, ◌<◌, ◌≤◌}
+use Rattle.site.specs.declared.geometry.Geometry.{Geometry}
+use Rattle.record_model.specs.State.{State}
+use Rattle.workload.specs.Generator.{generated}
+use Rattle.face.specs.Headline.{IsGood}
+use Rattle.face.specs.Loads.{HasCounted, LoadInProgress}
+use Rattle.face.specs.Run.{first_lines}
+use Rattle.face.specs.RunInProgress.{GoesOn}
+use Rattle.face.specs.Workload.{load_run}
+use Rattle.face.proofs.load.run_load.Given as goal
+
+abbrev pub invariant-loop-place : goal.invariant-loop-place
+invariant-loop-place g l =
+    let old = g.S.Site.state l.fn.site in
+    let now = g.S.Site.state l.site in
+    record {
+      going : GoesOn old now l.engine;
+      sets : l.place ≤ l.load.count → l.x ≡ generated l.load.seed l.place;
+      gets : l.load.count < l.place → l.x ≡ generated l.load.seed (l.place - l.load.count);
+      committed : l.counts.committed ≤ l.place;
+      checkpoints : l.counts.checkpoints ≤ l.place;
+      found : l.counts.found ≤ l.place;
+      progress : (g : Geometry) (opening : State) → IsGood g opening old → LoadInProgress l.load.pool (load_run g opening l.load) old now l.engine l.place;
+      counted : (g : Geometry) (opening : State) → IsGood g opening old → HasCounted (first_lines (load_run g opening l.load) l.place) l.counts.committed l.counts.checkpoints l.counts.found;
+    }
