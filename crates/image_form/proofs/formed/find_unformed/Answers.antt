@@ -1,4 +1,4 @@
-use Rattle.std.proofs.Common.{rules, ◌≡◌, ◌↔◌, IsTrue, true, false, true≢false, Ok, refl, sym, subst}
+use Rattle.std.proofs.Common.{rules, ◌≡◌, ◌↔◌, IsTrue, true≢false, Ok, refl, sym, subst}
 use Rattle.std.specs.Prelude.{Some, is_none}
 use Rattle.site.specs.declared.geometry.Geometry.{Geometry}
 use Rattle.site.specs.State.{State}
