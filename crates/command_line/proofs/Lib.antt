@@ -1,4 +1,3 @@
 mod ClapInverse
 mod ClapLaws
 pub mod WordLaws
-mod WordLists

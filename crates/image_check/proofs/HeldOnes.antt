@@ -4,7 +4,7 @@ use Rattle.std.specs.Prelude.{filter, ◌==◌}
 use Rattle.std.specs.List.{AllByRecursion, list_any}
 use Rattle.std.specs.Option.{option_or}
 use Rattle.std.specs.Map.{lookup}
-use Rattle.std.proofs.lemmas.Bool.{and_from, and_parts, or_left, or_right, cases_Bool, eqb-true, eq-eqb, not-true, not_from_false}
+use Rattle.std.proofs.lemmas.Bool.{and_from, and_parts, or_left, cases_Bool, eqb-true, eq-eqb, not-true, not_from_false}
 use Rattle.std.proofs.lemmas.List.{append-nil}
 use Rattle.std.proofs.lemmas.List.Elements.{filter-append}
 use Rattle.std_lemmas.proofs.AllOf.{all_push, all_weaker, all_between}
@@ -14,10 +14,11 @@ use Rattle.log_records.specs.declared.log_record.LogRecord.{LogRecord}
 use Rattle.log_records.specs.declared.log_record.LogRecord.TheVariants.{Begin, Update, Clr, Commit, End}
 use Rattle.log_records.specs.Log.{Entry, txn_of, is_of, is_closed, is_update, is_number, is_on, number_of, entries_of, last_where, last_on}
 use Rattle.log_records.specs.Unfinished.{is_begin, losers}
-use Rattle.log_records.specs.Sound.{LogicalImage, Pairwise, HoldsOff}
+use Rattle.log_records.specs.Sound.{LogicalImage, Pairwise, HoldsOff, IsLoserChain}
 use Rattle.log_laws.specs.Analysis.{unfinished_at}
 use Rattle.log_laws.proofs.Lists.{one_true, last_where-filter, last_passes}
-use Rattle.log_laws.proofs.Listing.{listed_is_loser}
+use Rattle.log_laws.proofs.Listing.{listed_is_loser, begun_is_listed}
+use Rattle.log_laws.proofs.Losers.{any_of_those}
 use Rattle.log_laws.proofs.Values.{last_same, last_new}
 use Rattle.image_check.specs.declared.unfinished.Left.{Left}
 use Rattle.image_check.specs.Unended.{AreLeft, left_of}
@@ -34,60 +35,24 @@ left_has log t (n ∷ ns) = ap (λ (b : Bool). (n == t) || b) (left_has log t ns
 pub has_is : (log : List Entry) (items : List Left) (t : ℕ) → AreLeft log items → list_any (λ (x : Left). x.txn == t) items ≡ list_any (λ n. n == t) (losers log)
 has_is log items t is = ap (list_any (λ (x : Left). x.txn == t)) is.are ∙ left_has log t (losers log)
 
-abbrev pub begins_there : ℕ → Entry → Bool
-begins_there t x = is_begin x.rec && (x.lsn == t)
-
-pub begin_found : (t : ℕ) (xs rest : List Entry) → filter (is_of t) xs ≡ record { lsn = t; rec = Begin } ∷ rest → list_any (begins_there t) xs ≡ true
-begin_found t [] rest is = let none : ⊥ = cc in absurd none
-begin_found t (x ∷ xs) rest is = by (is_of t x) is (begin_found t xs rest)
-  where
-    by : (b : Bool) → cond b (x ∷ filter (is_of t) xs) (filter (is_of t) xs) ≡ record { lsn = t; rec = Begin } ∷ rest →
-        (filter (is_of t) xs ≡ record { lsn = t; rec = Begin } ∷ rest → list_any (begins_there t) xs ≡ true) → (begins_there t x || list_any (begins_there t) xs) ≡ true
-    by true same again =
-        let here : x ≡ record { lsn = t; rec = Begin } = cc in
-        or_left (begins_there t x) (list_any (begins_there t) xs) (ap (begins_there t) here ∙ eq-eqb t t refl)
-    by false same again = or_right (begins_there t x) (list_any (begins_there t) xs) (again same)
-
-pub listed_there : (closed : ℕ → Bool) (t : ℕ) (xs : List Entry) → closed t ≡ false → list_any (begins_there t) xs ≡ true →
-    list_any (λ n. n == t) (map (λ (x : Entry). x.lsn) (filter (λ x. is_begin x.rec && not (closed x.lsn)) xs)) ≡ true
-listed_there closed t [] lives some = some
-listed_there closed t (x ∷ xs) lives some = by (is_begin x.rec) (x.lsn == t) refl some (listed_there closed t xs lives)
-  where
-    rest : List Entry
-    rest = filter (λ y. is_begin y.rec && not (closed y.lsn)) xs
-
-    has : List Entry → Bool
-    has ys = list_any (λ n. n == t) (map (λ (y : Entry). y.lsn) ys)
-
-    more : (k : Bool) → has rest ≡ true → has (cond k (x ∷ rest) rest) ≡ true
-    more true there = or_right (x.lsn == t) (has rest) there
-    more false there = there
-
-    by : (b q : Bool) → (x.lsn == t) ≡ q → ((b && q) || list_any (begins_there t) xs) ≡ true → (list_any (begins_there t) xs ≡ true → has rest ≡ true) →
-        has (cond (b && not (closed x.lsn)) (x ∷ rest) rest) ≡ true
-    by true true own here again =
-        let same : closed x.lsn ≡ false = ap closed (eqb-true x.lsn t own) ∙ lives in
-        ap (λ (k : Bool). has (cond (not k) (x ∷ rest) rest)) same ∙ or_left (x.lsn == t) (has rest) own
-    by true false own later again = more (not (closed x.lsn)) (again later)
-    by false q own later again = more false (again later)
+-- one with its chain is on it
+pub chain_listed : (log : List Entry) (t : ℕ) → is_closed log t ≡ false → IsLoserChain t (entries_of t log) → list_any (λ n. n == t) (losers log) ≡ true
+chain_listed log t lives chain =
+    begun_is_listed log t lives log (any_of_those (λ x. is_begin x.rec && (x.lsn == t)) (is_of t) log
+    (ap (list_any (λ x. is_begin x.rec && (x.lsn == t))) chain.begins ∙ or_left (t == t) (list_any (λ x. is_begin x.rec && (x.lsn == t)) (drop 1 (entries_of t log))) (eq-eqb t t refl)))
 
 -- where each unfinished transaction has its chain, each one with a record is on the list or closed
 pub listed : (p : LogicalImage) (front : List Entry) (e : Entry) (back : List Entry) → p.log ≡ front ++ e ∷ back → LosersCanBeUndone p → IsListed p.log (txn_of e)
 listed p front e back split fourth = elim (cases_Bool (is_closed p.log t)) [
   | inl closed ↦
       let off : list_any (λ n. n == t) (losers p.log) ≡ false = elim (cases_Bool (list_any (λ n. n == t) (losers p.log))) [
-        | inl there ↦
-            let loser = and_parts (list_any (is_of t) p.log) (not (is_closed p.log t)) (listed_is_loser p.log t there) in
-            absurd (true≢false (sym closed ∙ not-true (is_closed p.log t) loser.1))
+        | inl there ↦ absurd (true≢false (sym closed ∙ not-true (is_closed p.log t) (and_parts (list_any (is_of t) p.log) (not (is_closed p.log t)) (listed_is_loser p.log t there)).1))
         | inr other ↦ other
       ] in
       closed ∙ sym (ap not off)
   | inr lives ↦
       let some : list_any (is_of t) p.log ≡ true = ap (list_any (is_of t)) split ∙ any_between (is_of t) front e back (eq-eqb (txn_of e) t refl) in
-      let chain = fourth t (and_from (list_any (is_of t) p.log) (not (is_closed p.log t)) some (not_from_false (is_closed p.log t) lives)) in
-      let begun = begin_found t p.log (drop 1 (entries_of t p.log)) chain.begins in
-      let there : list_any (λ n. n == t) (losers p.log) ≡ true = listed_there (is_closed p.log) t p.log lives begun in
-      lives ∙ sym (ap not there)
+      lives ∙ sym (ap not (chain_listed p.log t lives (fourth t (and_from (list_any (is_of t) p.log) (not (is_closed p.log t)) some (not_from_false (is_closed p.log t) lives)))))
 ]
   where
     t : ℕ

@@ -6,6 +6,7 @@ use Rattle.std.proofs.lemmas.Bool.{cases_Bool, eqb-true, ltb-false, lt-ltb}
 use Rattle.std.proofs.lemmas.List.{append-nil, map-append, length-map}
 use Rattle.std.proofs.lemmas.List.Elements.{filter-append}
 use Rattle.std.proofs.lemmas.List.Quantifiers.{position-Some}
+use Rattle.std.proofs.lemmas.List.Sums.{count_by-le-length, length-filter}
 use Rattle.std.proofs.lemmas.Option.{none-some}
 use Rattle.std_lemmas.proofs.AllOf.{all_weaker}
 use Rattle.std_lemmas.proofs.Lists.{map_same}
@@ -23,7 +24,7 @@ use Rattle.log_laws.proofs.Analysing.{unfinished_begin, unfinished_more, unfinis
 use Rattle.checkpoint.specs.declared.pairs.Pair.{Pair}
 use Rattle.image_check.specs.declared.unfinished.Left.{Left}
 use Rattle.image_check.specs.Unended.{AreLeft, left_of}
-use Rattle.log_records.proofs.Entries.{in_order_from}
+use Rattle.image_check.proofs.OpenOnes.{begin_only}
 
 -- A record of a transaction that isn't in the list.
 
@@ -142,12 +143,10 @@ open_few updates (e ∷ entries) =
     one us x (End txn) = omega arith
 
 passed_few : (test : Entry → Bool) (xs : List Entry) → length (filter test xs) ≤ length xs
-passed_few test [] = omega arith
-passed_few test (x ∷ xs) = by (test x) (passed_few test xs)
-  where
-    by : (b : Bool) → length (filter test xs) ≤ length xs → length (cond b (x ∷ filter test xs) (filter test xs)) ≤ suc (length xs)
-    by true few = omega (arith, few)
-    by false few = omega (arith, few)
+passed_few test xs =
+    let count = length-filter test xs in
+    let few = count_by-le-length test xs in
+    omega (arith, count, few)
 
 remaining_few : (log : List Entry) (front : List Unfinished) (x : Unfinished) (back : List Unfinished) → unfinished_in log ≡ front ++ x ∷ back → x.remaining ≤ length log
 remaining_few log front x back is =
@@ -160,14 +159,12 @@ remaining_few log front x back is =
 
 pub left_begins : (records : List Entry) (lsn : ℕ) (rec : LogRecord) (items : List Left) → is_begin rec ≡ true → IsFresh lsn records → AreLeft records items →
     AreLeft (records ++ record { lsn = lsn; rec = rec } ∷ []) (items ++ record { txn = lsn; last = lsn; remaining = 0 } ∷ [])
-left_begins records lsn Begin items begins fresh is = record {
-  are = ap (λ (l : List Left). l ++ record { txn = lsn; last = lsn; remaining = 0 } ∷ []) is.are ∙ sym (map-append left_of (unfinished_in records) (record { txn = lsn; last = lsn; next = lsn; remaining = 0 } ∷ []))
-      ∙ ap (map left_of) (sym (unfinished_begin records lsn fresh));
-}
-left_begins records lsn (Update txn prev page slot before after) items begins fresh is = absurd (true≢false (sym begins))
-left_begins records lsn (Clr txn prev undo_next page slot after) items begins fresh is = absurd (true≢false (sym begins))
-left_begins records lsn (Commit txn number) items begins fresh is = absurd (true≢false (sym begins))
-left_begins records lsn (End txn) items begins fresh is = absurd (true≢false (sym begins))
+left_begins records lsn rec items begins fresh is =
+    let first : Left = record { txn = lsn; last = lsn; remaining = 0 } in
+    subst (λ (r : LogRecord). AreLeft (records ++ record { lsn = lsn; rec = r } ∷ []) (items ++ first ∷ [])) (sym (begin_only rec begins)) (record {
+      are = ap (λ (l : List Left). l ++ first ∷ []) is.are ∙ sym (map-append left_of (unfinished_in records) (record { txn = lsn; last = lsn; next = lsn; remaining = 0 } ∷ []))
+          ∙ ap (map left_of) (sym (unfinished_begin records lsn fresh));
+    })
 
 pub left_same : (records : List Entry) (e : Entry) (items : List Left) → is_begin e.rec ≡ false → AreLeft records items → position (is_of_txn (txn_of e)) items ≡ None → AreLeft (records ++ e ∷ []) items
 left_same records e items old is none =
@@ -217,22 +214,6 @@ abbrev pub pair_of : Left → Pair
 pair_of x = record { begin = x.txn; last = x.last }
 
 -- The records before another one, and those before a block.
-
-pub early_in_order : (redo from : ℕ) (records : List Entry) (to : ℕ) → IsInOrder from records to → IsInOrder from (before_block redo records) to
-early_in_order redo from [] to order = order
-early_in_order redo from (x ∷ records) to order = by (nat_lt x.lsn (512 * redo)) (early_in_order redo (x.lsn + 1) records to order.1)
-  where
-    by : (b : Bool) → IsInOrder (x.lsn + 1) (before_block redo records) to → IsInOrder from (cond b (x ∷ before_block redo records) (before_block redo records)) to
-    by true later = (order.0, later)
-    by false later = in_order_from (x.lsn + 1) from (before_block redo records) to (let first = order.0 in omega (arith, first)) later
-
-pub early_fresh : (redo lsn : ℕ) (records : List Entry) → IsFresh lsn records → IsFresh lsn (before_block redo records)
-early_fresh redo lsn [] fresh = tt
-early_fresh redo lsn (x ∷ records) fresh = by (nat_lt x.lsn (512 * redo)) (early_fresh redo lsn records fresh.1)
-  where
-    by : (b : Bool) → IsFresh lsn (before_block redo records) → IsFresh lsn (cond b (x ∷ before_block redo records) (before_block redo records))
-    by true later = (fresh.0, later)
-    by false later = later
 
 pub early_least : (redo : ℕ) (records : List Entry) → length (before_block redo records) ≤ length records
 early_least redo records = passed_few (λ x. nat_lt x.lsn (512 * redo)) records

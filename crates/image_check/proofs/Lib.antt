@@ -1,4 +1,5 @@
 pub mod Decisions
+pub mod Walking
 pub mod Numbering
 pub mod Readings
 pub mod Standing

@@ -1,5 +1,5 @@
 -- The numbers of the commits, record by record.
-use Rattle.std.proofs.Common.{◌≡◌, ◌⊎◌, inl, inr, ℕ, ◌+◌, ◌-◌, ◌*◌, ◌≤◌, Bool, true, false, true≢false, List, [], ◌∷◌, ◌++◌, length, filter, get_or, refl, sym, ap, ◌∙◌, arith}
+use Rattle.std.proofs.Common.{◌≡◌, ◌⊎◌, inl, inr, ℕ, ◌+◌, ◌-◌, ◌*◌, ◌/◌, ◌<◌, ◌≤◌, Bool, true, false, true≢false, List, [], ◌∷◌, ◌++◌, length, filter, get_or, refl, sym, ap, ◌∙◌, arith}
 use Rattle.std.specs.Prelude.{Option, Some, None, nat_lt, nat_le, not, if◌then◌else◌}
 use Rattle.std.specs.List.{range_with_len, cons_option}
 use Rattle.std.proofs.lemmas.Bool.{cases_lt, cases_eq}
@@ -110,6 +110,13 @@ one_side : (lsn k : ℕ) → nat_le k lsn ≡ not (nat_lt lsn k)
 one_side lsn k = elim (cases_lt lsn k) [
   | inl less ↦ let yes : nat_lt lsn k ≡ true = grind (arith, nat_tests) in let no : nat_le k lsn ≡ false = grind (arith, nat_tests) in no ∙ sym (ap not yes)
   | inr other ↦ let no : nat_lt lsn k ≡ false = grind (arith, nat_tests) in let yes : nat_le k lsn ≡ true = grind (arith, nat_tests) in yes ∙ sym (ap not no)
+]
+
+-- and that by its block
+pub early_block : (lsn redo : ℕ) → nat_lt (lsn / 512) redo ≡ nat_lt lsn (512 * redo)
+early_block lsn redo = elim (cases_lt lsn (512 * redo)) [
+  | inl less ↦ let below : lsn / 512 < redo = omega (arith, less) in grind (arith, nat_tests, below, less)
+  | inr other ↦ let above : redo ≤ lsn / 512 = omega (arith, other) in grind (arith, nat_tests, above, other)
 ]
 
 -- one Commit more

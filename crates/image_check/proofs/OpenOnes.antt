@@ -1,5 +1,5 @@
 -- Which transactions are open after one record more.
-use Rattle.std.proofs.Common.{◌≡◌, ℕ, ◌+◌, ◌*◌, ◌<◌, ◌≤◌, inl, inr, Bool, true, false, true≢false, not, ◌&&◌, ◌||◌, cond, List, [], ◌∷◌, ◌++◌, refl, sym, ap, subst, ◌∙◌, arith}
+use Rattle.std.proofs.Common.{◌≡◌, ℕ, ◌*◌, ◌≤◌, inl, inr, Bool, true, false, true≢false, not, ◌&&◌, ◌||◌, cond, List, [], ◌∷◌, ◌++◌, refl, sym, ap, subst, ◌∙◌}
 use Rattle.std.specs.Prelude.{filter, map, nat_le, ◌==◌}
 use Rattle.std.specs.List.{AllByRecursion, list_any}
 use Rattle.std.proofs.lemmas.List.Elements.{filter-append}
@@ -11,7 +11,7 @@ use Rattle.log_records.specs.declared.log_record.LogRecord.{LogRecord}
 use Rattle.log_records.specs.declared.log_record.LogRecord.TheVariants.{Begin, Update, Clr, Commit, End}
 use Rattle.log_records.specs.Log.{Entry, txn_of, is_of, is_closing, is_closed}
 use Rattle.log_records.specs.Unfinished.{is_begin}
-use Rattle.log_records.specs.Sound.{Active, Master, LogicalImage, IsInOrder, InTurn, IsOfOpenTransaction, is_known, from_block}
+use Rattle.log_records.specs.Sound.{Active, Master, LogicalImage, InTurn, IsOfOpenTransaction, is_known, from_block}
 use Rattle.log_laws.specs.Follow.{IsFresh}
 use Rattle.log_laws.proofs.Values.{closed_push}
 use Rattle.log_laws.proofs.Appends.{fresh_open}
@@ -20,17 +20,6 @@ use Rattle.log_laws.proofs.Parts.{InTurn-right}
 use Rattle.checkpoint.specs.declared.pairs.Pair.{Pair}
 use Rattle.image_check.specs.Opening.{AreOpen, MayStand}
 use Rattle.image_form.specs.Verdict.{RecordsFollowBegins}
-
--- Records one after the other.
-
--- an entry stands behind all before it
-least : (from : ℕ) (front : List Entry) (e : Entry) (back : List Entry) (to : ℕ) → IsInOrder from (front ++ e ∷ back) to → from ≤ e.lsn
-least from [] e back to order = order.0
-least from (x ∷ front) e back to order = let later = least (x.lsn + 1) front e back to order.1 in let here = order.0 in omega (arith, here, later)
-
-pub all_before : (from : ℕ) (front : List Entry) (e : Entry) (back : List Entry) (to : ℕ) → IsInOrder from (front ++ e ∷ back) to → AllByRecursion (λ x. x.lsn < e.lsn) front
-all_before from [] e back to order = tt
-all_before from (x ∷ front) e back to order = (let later = least (x.lsn + 1) front e back to order.1 in omega (arith, later), all_before (x.lsn + 1) front e back to order.1)
 
 -- Which transactions are known.
 
@@ -163,9 +152,12 @@ third_of p stand = record {
 
 -- Which records they are.
 
+pub begin_only : (rec : LogRecord) → is_begin rec ≡ true → rec ≡ Begin
+begin_only Begin begins = refl
+begin_only (Update txn prev page slot before after) begins = absurd (true≢false (sym begins))
+begin_only (Clr txn prev undo_next page slot after) begins = absurd (true≢false (sym begins))
+begin_only (Commit txn number) begins = absurd (true≢false (sym begins))
+begin_only (End txn) begins = absurd (true≢false (sym begins))
+
 pub begins_go_on : (rec : LogRecord) → is_begin rec ≡ true → is_closing rec ≡ false
-begins_go_on Begin begins = refl
-begins_go_on (Update txn prev page slot before after) begins = refl
-begins_go_on (Clr txn prev undo_next page slot after) begins = refl
-begins_go_on (Commit txn number) begins = absurd (true≢false (sym begins))
-begins_go_on (End txn) begins = absurd (true≢false (sym begins))
+begins_go_on rec begins = ap is_closing (begin_only rec begins)

@@ -102,18 +102,22 @@ a_reading g m image formed live =
 
 -- Sound devices fail no rule.
 
-pub rule_past : (i : ℕ) (r : Reading) (image : Image) → 12 ≤ i → Rule i r image
-rule_past i r image past = record {
-  third = λ is. absurd (omega (arith, past, is));
-  fourth = λ is. absurd (omega (arith, past, is));
-  fifth = λ is. absurd (omega (arith, past, is));
-  sixth = λ is. absurd (omega (arith, past, is));
-  seventh = λ is. absurd (omega (arith, past, is));
-  eighth = λ is. absurd (omega (arith, past, is));
-  ninth = λ is. absurd (omega (arith, past, is));
-  tenth = λ is. absurd (omega (arith, past, is));
-  eleventh = λ is. absurd (omega (arith, past, is));
+-- no rule has another number
+pub no_rule : (i : ℕ) (r : Reading) (image : Image) → (3 ≤ i → i ≤ 11 → ⊥) → Rule i r image
+no_rule i r image outside = record {
+  third = λ is. absurd (outside (omega (arith, is)) (omega (arith, is)));
+  fourth = λ is. absurd (outside (omega (arith, is)) (omega (arith, is)));
+  fifth = λ is. absurd (outside (omega (arith, is)) (omega (arith, is)));
+  sixth = λ is. absurd (outside (omega (arith, is)) (omega (arith, is)));
+  seventh = λ is. absurd (outside (omega (arith, is)) (omega (arith, is)));
+  eighth = λ is. absurd (outside (omega (arith, is)) (omega (arith, is)));
+  ninth = λ is. absurd (outside (omega (arith, is)) (omega (arith, is)));
+  tenth = λ is. absurd (outside (omega (arith, is)) (omega (arith, is)));
+  eleventh = λ is. absurd (outside (omega (arith, is)) (omega (arith, is)));
 }
+
+pub rule_past : (i : ℕ) (r : Reading) (image : Image) → 12 ≤ i → Rule i r image
+rule_past i r image past = no_rule i r image (λ low high. omega (arith, past, high))
 
 pub sound_fails_none : OneNewest → SoundFailsNone
 sound_fails_none newest image records commits zero sound fails = fails

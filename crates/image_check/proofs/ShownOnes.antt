@@ -1,6 +1,6 @@
 -- What versions know of a log, record by record, and the sixth rule of it.
 use Rattle.std.proofs.Common.{◌≡◌, ℕ, suc, ◌+◌, ◌*◌, ◌/◌, ◌≤◌, ◌<◌, ◌==◌, ◌&&◌, inl, inr, Bool, true, false, true≢false, cond, nat_eq, nat_lt, nat_le, List, [], ◌∷◌, ◌++◌, length, map, Option, Some, None, option_map, refl, sym, ap, ◌∙◌, subst, arith}
-use Rattle.std.specs.Prelude.{slice_get}
+use Rattle.std.specs.Prelude.{slice_get, Ok}
 use Rattle.std.specs.List.{AllByRecursion, list_all, range_with_len}
 use Rattle.std.specs.Option.{option_or}
 use Rattle.std.proofs.lemmas.Bool.{and_from, cases_Bool, cases_eq, eqb-true, ne_eqb}
@@ -11,8 +11,8 @@ use Rattle.std.proofs.lemmas.List.Folds.{list_all-map, list_all_at}
 use Rattle.std.proofs.lemmas.List.FromFn.{get_or-map-range_with_len, length-map-range_with_len, map-range_with_len_more}
 use Rattle.site.specs.declared.geometry.Geometry.{Geometry}
 use Rattle.site.specs.State.{State, Image}
-use Rattle.site.specs.Calls.{Preserves}
 use Rattle.site.specs.Laws.{stays_honest}
+use Rattle.site.specs.Work.{OnlyReads}
 use Rattle.indexmap.specs.IndexMap.{IndexMap, get}
 use Rattle.record_model.specs.State.{Content, content_at}
 use Rattle.log_records.specs.Log.{Entry, Version, blank_version, version_at, number_of, is_number, is_on, after_of, last_where}
@@ -21,7 +21,7 @@ use Rattle.slotted_page.specs.Layout.{lsn_of}
 use Rattle.second_chance.specs.Queue.{Queue}
 use Rattle.flash_cache.specs.Representation.{version_on}
 use Rattle.image_meaning.specs.Meaning.{version_in, versions_on}
-use Rattle.image_form.specs.declared.rings.Rings.{Rings}
+use Rattle.image_form.specs.declared.formed.Found.{Found}
 use Rattle.image_form.specs.Octets.{AreGroups}
 use Rattle.image_form.specs.Newest.{ShowsFrames}
 use Rattle.image_check.specs.Showing.{FindsVersions, AreExpected, IsKnownEarly, IsAs, HasContents, is_logged, written_by}
@@ -30,13 +30,15 @@ use Rattle.image_form.proofs.Lasting.{found_later}
 use Rattle.log_records.proofs.Lists.{last_where-append}
 
 -- What was found stays after calls that only read.
-pub versions_later : (g : Geometry) (rings : Rings) (frames : Queue) (a b : State) → Preserves a b → b.image ≡ a.image → FindsVersions g rings frames a → FindsVersions g rings frames b
-versions_later g rings frames a b goes same finds = record {
-  honest = stays_honest a b goes finds.honest;
-  found = found_later rings a b same finds.found;
-  groups = subst (AreGroups g) (sym same) finds.groups;
-  shown = subst (λ (image : Image). ShowsFrames g image frames) (sym same) finds.shown;
-}
+pub versions_later : {T : Type 0} {x : T} {found : Found} {frames : Queue} {a b : State} → OnlyReads {T = T} (Ok x) a b → FindsVersions found frames a → FindsVersions found frames b
+versions_later {found = found} {frames = frames} {a = a} {b = b} reads finds =
+    let same : b.image ≡ a.image = (reads.same finds.honest).image in
+    record {
+      honest = stays_honest a b reads.preserves finds.honest;
+      rings = found_later found.rings a b same finds.rings;
+      groups = subst (AreGroups found.log.geometry) (sym same) finds.groups;
+      shown = subst (λ (image : Image). ShowsFrames found.log.geometry image frames) (sym same) finds.shown;
+    }
 
 -- One record more.
 

@@ -1,9 +1,9 @@
 -- Sound by the rules, and standing for a table, are one.
-use Rattle.std.proofs.Common.{◌≡◌, inl, inr, ℕ, zero, suc, ◌+◌, ◌-◌, ◌*◌, ◌≤◌, ◌<◌, List, [], ◌∷◌, ◌++◌, length, get_or, refl, sym, ap, ◌∙◌, subst, arith}
+use Rattle.std.proofs.Common.{◌≡◌, inl, inr, ℕ, suc, ◌+◌, ◌-◌, ◌*◌, ◌≤◌, ◌<◌, List, [], ◌∷◌, length, get_or, refl, sym, ap, ◌∙◌, subst, arith}
 use Rattle.std.specs.Prelude.{Option, Some, None, map, is_some, count_by}
 use Rattle.std.specs.List.{AllByRecursion}
 use Rattle.std.proofs.lemmas.Bool.{cases_eq}
-use Rattle.std_lemmas.proofs.AllOf.{all_append}
+use Rattle.std_lemmas.proofs.AllOf.{all_append, all_at, all_left, all_right}
 use Rattle.site.specs.declared.geometry.Geometry.{Geometry}
 use Rattle.site.specs.State.{Image}
 use Rattle.sealed_ring.specs.Ring.{IsRing, hi_of, live, IsLive}
@@ -39,10 +39,6 @@ use Rattle.image_meaning.proofs.Versions.{length-versions}
 abbrev HasGroup : Geometry → List ℕ → Type 0
 HasGroup g content = (frames : List Frame) × IsGroupOn g content frames
 
-front_frames : (P : Frame → Type 0) (xs ys : List Frame) → AllByRecursion P (xs ++ ys) → AllByRecursion P xs × AllByRecursion P ys
-front_frames P [] ys all = (tt, all)
-front_frames P (x ∷ xs) ys all = let later = front_frames P xs ys all.1 in ((all.0, later.0), later.1)
-
 groups_of_form : (g : Geometry) (contents : List (List ℕ)) → AllByRecursion (HasGroup g) contents → AllByRecursion (λ content. IsGroup content (frames_in content)) contents
 groups_of_form g [] all = tt
 groups_of_form g (content ∷ contents) all =
@@ -55,20 +51,16 @@ frames_of_pages g (content ∷ contents) all =
 
 have_groups : (g : Geometry) (contents : List (List ℕ)) → AllByRecursion (λ content. IsGroup content (frames_in content)) contents → AllByRecursion (IsFrameOf g) (frames_of contents) → AllByRecursion (HasGroup g) contents
 have_groups g [] are frames = tt
-have_groups g (content ∷ contents) are frames =
-    let both = front_frames (IsFrameOf g) (frames_in content) (frames_of contents) frames in
-    ((frames_in content, record { group = are.0; sound = both.0 }), have_groups g contents are.1 both.1)
+have_groups g (content ∷ contents) are frames = (
+  (frames_in content, record { group = are.0; sound = all_left (IsFrameOf g) (frames_in content) (frames_of contents) frames }),
+  have_groups g contents are.1 (all_right (IsFrameOf g) (frames_in content) (frames_of contents) frames),
+)
 
 -- Blocks.
 
 indexed_all : (P : List LogRecord → Type 0) (xs : List (List LogRecord)) → ((i : ℕ) → i < length xs → P (get_or xs i [])) → AllByRecursion P xs
 indexed_all P [] each = tt
 indexed_all P (x ∷ xs) each = (each 0 (omega arith), indexed_all P xs (λ i less. each (suc i) (omega (arith, less))))
-
-all_indexed : (P : List LogRecord → Type 0) (xs : List (List LogRecord)) (i : ℕ) → i < length xs → AllByRecursion P xs → P (get_or xs i [])
-all_indexed P [] i less all = absurd (omega (arith, less))
-all_indexed P (x ∷ xs) zero less all = all.0
-all_indexed P (x ∷ xs) (suc i) less all = all_indexed P xs i (omega (arith, less)) all.1
 
 -- the blocks of a reading, one by one
 module _ (g : Geometry) (first : ℕ) (blocks : List (List LogRecord)) (image : Image) (has : HasBlocks g first blocks image) (some : 16 ≤ g.blocks) where
@@ -94,7 +86,7 @@ module _ (g : Geometry) (first : ℕ) (blocks : List (List LogRecord)) (image : 
         get_or blocks (n - first) [],
         record {
           block = stands_there g log image n has from (omega (arith, next, below));
-          exist = all_indexed (AllByRecursion (IsOnPage g.pages)) blocks (n - first) (omega (arith, next, below, from)) on;
+          exist = all_at (AllByRecursion (IsOnPage g.pages)) blocks (n - first) [] on (omega (arith, next, below, from));
         },
       )
 

@@ -1,31 +1,32 @@
 -- Unfinished transactions, with their Begin and without.
-use Rattle.std.proofs.Common.{◌≡◌, ◌⊎◌, ℕ, zero, suc, ◌+◌, ◌<◌, ◌≤◌, inl, inr, Bool, true, false, true≢false, not, ◌&&◌, ◌||◌, cond, List, [], ◌∷◌, ◌++◌, length, get_or, map, take, drop, refl, sym, ap, subst, ◌∙◌, arith}
+use Rattle.std.proofs.Common.{◌≡◌, ℕ, ◌+◌, ◌<◌, ◌≤◌, inl, inr, Bool, true, false, true≢false, not, ◌&&◌, ◌||◌, cond, List, [], ◌∷◌, ◌++◌, map, drop, refl, sym, ap, subst, ◌∙◌, arith}
 use Rattle.std.specs.Prelude.{filter, ◌==◌}
 use Rattle.std.specs.List.{list_any}
 use Rattle.std.proofs.lemmas.Bool.{and_parts, and_from, cases_Bool, eqb-true, eq-eqb, not-true, not_from_false, or_left, or_right}
-use Rattle.std.proofs.lemmas.List.{take_more}
 use Rattle.std.proofs.lemmas.List.Elements.{filter-append}
 use Rattle.std.proofs.lemmas.List.Folds.{list_any-append}
 use Rattle.std_lemmas.proofs.AllOf.{all_left}
-use Rattle.std_lemmas.proofs.Bools.{or_without_last}
-use Rattle.log_records.specs.declared.log_record.LogRecord.{LogRecord}
-use Rattle.log_records.specs.declared.log_record.LogRecord.TheVariants.{Begin, Update, Clr, Commit, End}
+use Rattle.std_lemmas.proofs.Bools.{and_true}
+use Rattle.std_lemmas.proofs.Lists.{any_between}
 use Rattle.log_records.specs.Log.{Entry, txn_of, is_of, is_closing, is_closed, entries_of}
 use Rattle.log_records.specs.Unfinished.{is_begin, losers}
 use Rattle.log_records.specs.Sound.{LogicalImage, InTurn, IsInOrder, IsLoserChain, Continues, HaveBegunBefore}
 use Rattle.log_laws.proofs.Orders.{filter_none}
-use Rattle.log_laws.proofs.Parts.{InTurn-right}
-use Rattle.log_laws.proofs.Values.{closed_push}
+use Rattle.log_laws.proofs.Values.{closed_by, closed_same}
 use Rattle.log_laws.proofs.Listing.{listed_is_loser}
 use Rattle.image_check.specs.declared.chain.Chain.{Chain}
-use Rattle.image_check.specs.declared.unfinished.Left.{Left}
 use Rattle.image_check.specs.Chaining.{IsKept, StandsThere, Breaks, AreStrays, begin_at}
 use Rattle.image_form.specs.Verdict.{LosersCanBeUndone}
-use Rattle.image_check.proofs.OpenOnes.{all_before, any_without}
-use Rattle.image_check.proofs.HeldOnes.{begins_there, begin_found, listed_there}
+use Rattle.log_laws.proofs.Parts.{InTurn-right, all_below}
+use Rattle.log_records.proofs.Entries.{in_order_left}
+use Rattle.image_check.proofs.HeldOnes.{chain_listed}
+use Rattle.image_check.proofs.OpenOnes.{any_without, begin_only}
 use Rattle.log_laws.proofs.Orderly.{fresh_of}
 
 -- A transaction on the list has its Begin, and this is its first record.
+
+abbrev begins_there : ℕ → Entry → Bool
+begins_there t x = is_begin x.rec && (x.lsn == t)
 
 begin_listed : (closed : ℕ → Bool) (t : ℕ) (xs : List Entry) → list_any (λ n. n == t) (map (λ (x : Entry). x.lsn) (filter (λ x. is_begin x.rec && not (closed x.lsn)) xs)) ≡ true → list_any (begins_there t) xs ≡ true
 begin_listed closed t [] some = some
@@ -45,14 +46,9 @@ begin_listed closed t (x ∷ xs) some = by (is_begin x.rec) (not (closed x.lsn))
     by false q is again = again is
 
 is_begin_at : (t : ℕ) (x : Entry) → begins_there t x ≡ true → x ≡ begin_at t
-is_begin_at t x is = by x.lsn x.rec (and_parts (is_begin x.rec) (x.lsn == t) is)
-  where
-    by : (lsn : ℕ) (rec : LogRecord) → (is_begin rec ≡ true) × ((lsn == t) ≡ true) → record { lsn = lsn; rec = rec } ≡ begin_at t
-    by lsn Begin both = let same : lsn ≡ t = eqb-true lsn t both.1 in (λ i. record { lsn = same i; rec = Begin })
-    by lsn (Update txn prev page slot before after) both = absurd (true≢false (sym both.0))
-    by lsn (Clr txn prev undo_next page slot after) both = absurd (true≢false (sym both.0))
-    by lsn (Commit txn number) both = absurd (true≢false (sym both.0))
-    by lsn (End txn) both = absurd (true≢false (sym both.0))
+is_begin_at t x is =
+    let both = and_parts (is_begin x.rec) (x.lsn == t) is in
+    (λ i. record { lsn = eqb-true x.lsn t both.1 i; rec = begin_only x.rec both.0 i })
 
 -- no record before a place is of that Begin
 none_there : (t from : ℕ) (xs : List Entry) (to : ℕ) → t < from → IsInOrder from xs to → list_any (begins_there t) xs ≡ false
@@ -93,7 +89,7 @@ first_is log t from to order begun listed = begins_first t from log to order beg
 pub stands_there : (log front : List Entry) (e : Entry) (back : List Entry) (t from to : ℕ) → log ≡ front ++ e ∷ back → IsInOrder from log to → HaveBegunBefore log → list_any (λ n. n == t) (losers log) ≡ true → StandsThere t front e
 stands_there log front e back t from to split order begun listed = record {
   first = λ own same.
-      let before = all_before from front e back to (subst (λ (l : List Entry). IsInOrder from l to) split order) in
+      let before = all_below from front e.lsn (in_order_left from front e back to (subst (λ (l : List Entry). IsInOrder from l to) split order)) in
       let low = all_left (λ x. txn_of x ≤ x.lsn) front (e ∷ back) (subst HaveBegunBefore split begun) in
       let fresh = fresh_of e.lsn front before low in
       ap (λ (n : ℕ). entries_of n front) (sym same) ∙ filter_none (is_of e.lsn) front fresh;
@@ -131,23 +127,21 @@ chain_of log t c first k = record { begins = first; continues = k.continues }
 -- Strays.
 
 pub not_closed_by : (log : List Entry) (e : Entry) (t : ℕ) → is_closed log t ≡ false → (is_of t e && is_closing e.rec) ≡ false → is_closed (log ++ e ∷ []) t ≡ false
-not_closed_by log e t before off = closed_push log e t ∙ or_without_last (is_closed log t) (is_of t e && is_closing e.rec) off ∙ before
+not_closed_by log e t before off = closed_same log e t off ∙ before
 
 pub closed_at : (front : List Entry) (e : Entry) (back : List Entry) (t : ℕ) → (is_of t e && is_closing e.rec) ≡ true → is_closed (front ++ e ∷ back) t ≡ true
-closed_at front e back t here =
-    list_any-append (λ x. is_of t x && is_closing x.rec) front (e ∷ back)
-    ∙ or_right (is_closed front t) ((is_of t e && is_closing e.rec) || is_closed back t) (or_left (is_of t e && is_closing e.rec) (is_closed back t) here)
+closed_at front e back t here = any_between (λ x. is_of t x && is_closing x.rec) front e back here
 
 -- a record closes its transaction, which isn't on the list
 pub strays_closed : (log records : List Entry) (e : Entry) (txns : List ℕ) → is_closing e.rec ≡ true → AreStrays log records txns → AreStrays log (records ++ e ∷ []) (filter (λ x. not (x == txn_of e)) txns)
 strays_closed log records e txns closing is = record {
   covers = λ t some. elim (cases_Bool (is_of t e)) [
     | inl own ↦
-        let closed : is_closed (records ++ e ∷ []) t ≡ true = closed_at records e [] t (and_from (is_of t e) (is_closing e.rec) own closing) in
+        let closed : is_closed (records ++ e ∷ []) t ≡ true = closed_by records e t (and_from (is_of t e) (is_closing e.rec) own closing) in
         ap (λ (b : Bool). list_any (λ n. n == t) (losers log) || (b || list_any (λ x. x == t) (filter (λ x. not (x == txn_of e)) txns))) closed ∙ or_right (list_any (λ n. n == t) (losers log)) true refl
     | inr other ↦
         let before : list_any (is_of t) records ≡ true = without (list_any (is_of t) records) (is_of t e) other (sym (list_any-append (is_of t) records (e ∷ [])) ∙ some) in
-        let same : is_closed (records ++ e ∷ []) t ≡ is_closed records t = closed_push records e t ∙ or_without_last (is_closed records t) (is_of t e && is_closing e.rec) (ap (λ (b : Bool). b && is_closing e.rec) other) in
+        let same : is_closed (records ++ e ∷ []) t ≡ is_closed records t = closed_same records e t (ap (λ (b : Bool). b && is_closing e.rec) other) in
         let stays : list_any (λ x. x == t) (filter (λ x. not (x == txn_of e)) txns) ≡ list_any (λ x. x == t) txns = any_without (txn_of e) t txns ∙ ap (λ (b : Bool). list_any (λ x. x == t) txns && not b) other ∙ and_true (list_any (λ x. x == t) txns) in
         (λ i. list_any (λ n. n == t) (losers log) || (same i || stays i)) ∙ is.covers t before
   ];
@@ -161,33 +155,6 @@ strays_closed log records e txns closing is = record {
     without true b off all = refl
     without false true off all = absurd (true≢false off)
     without false false off all = all
-
-    and_true : (a : Bool) → (a && true) ≡ a
-    and_true true = refl
-    and_true false = refl
-
--- Places of lists.
-
-pub any_index : (xs : List ℕ) (i d : ℕ) → i < length xs → list_any (λ x. x == get_or xs i d) xs ≡ true
-any_index [] i d less = absurd (omega (arith, less))
-any_index (x ∷ xs) zero d less = or_left (x == x) (list_any (λ y. y == x) xs) (eq-eqb x x refl)
-any_index (x ∷ xs) (suc i) d less = or_right (x == get_or xs i d) (list_any (λ y. y == get_or xs i d) xs) (any_index xs i d (omega (arith, less)))
-
-pub any_left_index : (xs : List Left) (i : ℕ) (d : Left) → i < length xs → list_any (λ (x : Left). x.txn == (get_or xs i d).txn) xs ≡ true
-any_left_index [] i d less = absurd (omega (arith, less))
-any_left_index (x ∷ xs) zero d less = or_left (x.txn == x.txn) (list_any (λ (y : Left). y.txn == x.txn) xs) (eq-eqb x.txn x.txn refl)
-any_left_index (x ∷ xs) (suc i) d less = or_right (x.txn == (get_or xs i d).txn) (list_any (λ (y : Left). y.txn == (get_or xs i d).txn) xs) (any_left_index xs i d (omega (arith, less)))
-
-either : (a b : Bool) → (a || (b || false)) ≡ true → (a ≡ true) ⊎ (b ≡ true)
-either true b is = inl refl
-either false true is = inr refl
-either false false is = absurd (true≢false (sym is))
-
-pub any_more : (p : ℕ → Bool) (xs : List ℕ) (i d : ℕ) → i < length xs → list_any p (take (i + 1) xs) ≡ true → (list_any p (take i xs) ≡ true) ⊎ (p (get_or xs i d) ≡ true)
-any_more p xs i d less some = either (list_any p (take i xs)) (p (get_or xs i d)) (sym (ap (list_any p) (take_more xs i d less) ∙ list_any-append p (take i xs) (get_or xs i d ∷ [])) ∙ some)
-
-pub any_left_more : (p : Left → Bool) (xs : List Left) (i : ℕ) (d : Left) → i < length xs → list_any p (take (i + 1) xs) ≡ true → (list_any p (take i xs) ≡ true) ⊎ (p (get_or xs i d) ≡ true)
-any_left_more p xs i d less some = either (list_any p (take i xs)) (p (get_or xs i d)) (sym (ap (list_any p) (take_more xs i d less) ∙ list_any-append p (take i xs) (get_or xs i d ∷ [])) ∙ some)
 
 -- The rule.
 
@@ -216,7 +183,6 @@ closed_of p txns strays rule t stray = elim (cases_Bool (is_closed p.log t)) [
   | inl closed ↦ closed
   | inr lives ↦
       let there = strays.there t stray in
-      let chain = rule t (and_from (list_any (is_of t) p.log) (not (is_closed p.log t)) there.0 (not_from_false (is_closed p.log t) lives)) in
-      let begun = begin_found t p.log (drop 1 (entries_of t p.log)) chain.begins in
-      absurd (true≢false (sym (listed_there (is_closed p.log) t p.log lives begun) ∙ there.1))
+      let loser = and_from (list_any (is_of t) p.log) (not (is_closed p.log t)) there.0 (not_from_false (is_closed p.log t) lives) in
+      absurd (true≢false (sym (chain_listed p.log t lives (rule t loser)) ∙ there.1))
 ]

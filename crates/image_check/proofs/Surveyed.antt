@@ -1,15 +1,15 @@
 -- What one walk over the kept blocks has found so far.
-use Rattle.std.proofs.Common.{◌≡◌, ℕ, ◌+◌, ◌*◌, ◌^◌, ◌≤◌, ◌<◌, List, [], ◌∷◌, ◌++◌, length, refl, arith}
+use Rattle.std.proofs.Common.{◌≡◌, ℕ, ◌+◌, ◌^◌, ◌≤◌, ◌<◌, List, [], ◌∷◌, ◌++◌, length, arith}
 use Rattle.std.specs.List.{AllByRecursion}
 use Rattle.std.proofs.lemmas.List.{length-append}
 use Rattle.log_records.specs.Log.{Entry, txn_of}
 use Rattle.log_records.specs.Sound.{Master, InTurn, IsInOrder}
-use Rattle.log_laws.specs.Follow.{IsFresh}
 use Rattle.log_laws.proofs.Orders.{InTurn-append, InTurn-all}
 use Rattle.image_check.specs.declared.survey.Survey.{Survey}
 use Rattle.image_check.specs.Opening.{AreOpen, MayStand}
 use Rattle.image_check.specs.Surveying.{Surveys}
-use Rattle.image_check.proofs.OpenOnes.{all_before}
+use Rattle.image_check.specs.Unended.{Comes}
+use Rattle.log_laws.proofs.Parts.{all_below}
 use Rattle.log_records.proofs.Entries.{in_order_left}
 use Rattle.log_laws.proofs.Orderly.{fresh_of}
 
@@ -20,20 +20,15 @@ pub record SurveyedSoFar (m : Master) (most : ℕ) (txns : List ℕ) (survey : S
   pub surveys : Surveys m.redo records survey
   pub few : length records + most ≤ 2 ^ 60
 
--- what the next record asks of those before it
-pub record Comes (from : ℕ) (records : List Entry) (e : Entry) : Type 0 where
-  pub in_order : IsInOrder from records e.lsn
-  pub fresh : IsFresh e.lsn records
-  pub few : length records < 2 ^ 62
-
 pub comes : {m : Master} {most : ℕ} {txns : List ℕ} {survey : Survey} (from : ℕ) (front : List Entry) (e : Entry) (back : List Entry) (to : ℕ) → SurveyedSoFar m most txns survey front → IsInOrder from (front ++ e ∷ back) to →
-    Comes from front e
+    Comes front e.lsn
 comes {m} from front e back to so_far order =
     let begun : AllByRecursion (λ x. txn_of x ≤ x.lsn) front = InTurn-all (MayStand m) (λ x. txn_of x ≤ x.lsn) (λ earlier x may. may.begun) [] front so_far.stand in
     let few = so_far.few in
     record {
+      from = from;
       in_order = in_order_left from front e back to order;
-      fresh = fresh_of e.lsn front (all_before from front e back to order) begun;
+      fresh = fresh_of e.lsn front (all_below from front e.lsn (in_order_left from front e back to order)) begun;
       few = omega (arith, few);
     }
 

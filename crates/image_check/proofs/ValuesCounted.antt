@@ -1,20 +1,17 @@
 -- Values counted page by page.
-use Rattle.std.proofs.Common.{◌≡◌, ℕ, zero, suc, ◌+◌, ◌*◌, ◌<◌, Bool, true, false, cond, ◌≤◌, option_map, List, [], ◌∷◌, ◌++◌, map, count_by, is_some, refl, sym, ap, subst, ◌∙◌, arith}
+use Rattle.std.proofs.Common.{◌≡◌, ℕ, zero, suc, ◌+◌, ◌*◌, ◌<◌, Bool, true, false, cond, ◌≤◌, List, [], ◌∷◌, ◌++◌, map, count_by, is_some, refl, sym, ap, subst, ◌∙◌, arith}
 use Rattle.std.specs.Prelude.{Option, Some, None, IfSome, IfNone}
-use Rattle.std.specs.List.{AllByRecursion, range_with_len}
+use Rattle.std.specs.List.{range_with_len}
 use Rattle.std.proofs.lemmas.List.FromFn.{sum_by-map-range_with_len_more}
 use Rattle.std_lemmas.proofs.AllOf.{all_left}
 use Rattle.site.specs.declared.geometry.Geometry.{Geometry}
 use Rattle.site.specs.State.{Image}
 use Rattle.record_model.specs.State.{Content, content_at}
 use Rattle.log_records.specs.Log.{Entry, Version, version_at, slot_at, value_of, table_of}
-use Rattle.log_records.specs.Sound.{Pairwise, HoldsOff}
+use Rattle.log_records.specs.Sound.{Pairwise}
 use Rattle.slotted_page.specs.Layout.{slots_of}
 use Rattle.second_chance.specs.Queue.{Queue}
-use Rattle.image_check.specs.declared.values.Logged.{Logged}
 use Rattle.image_form.specs.Newest.{ShowsFrames}
-use Rattle.image_check.specs.Showing.{AreExpected, IsKnownEarly}
-use Rattle.image_check.specs.Writing.{AreWritten}
 use Rattle.image_meaning.specs.Meaning.{version_in, versions_on}
 use Rattle.image_meaning.proofs.Redos.{slot_of_page}
 use Rattle.image_meaning.proofs.Versions.{length-versions}
@@ -68,19 +65,6 @@ pairs_front R (x ∷ xs) ys pairs = (all_left (R x) xs ys pairs.0, pairs_front R
 pub one_at_most : (n : ℕ) (b : Bool) → n ≡ cond b 1 0 → n ≤ 1
 one_at_most n true is = omega (arith, is)
 one_at_most n false is = omega (arith, is)
-
-pub some_mapped : {A B : Type 0} (f : A → B) (o : Option A) → is_some o ≡ is_some (option_map f o)
-some_mapped f None = refl
-some_mapped f (Some x) = refl
-
--- Record by record.
-
--- What was heard of a log whose redo block and whose versions' LSNs are these: each record so far that stands early is known, this is
--- expected of the versions, and this was written last where the log's records are apart.
-pub record Hears (redo : ℕ) (lsns : List ℕ) (log : List Entry) (logged : Logged) (records : List Entry) : Type 0 where
-  pub early : AllByRecursion (IsKnownEarly redo lsns) records
-  pub expected : AreExpected lsns records logged.expected.contents
-  pub written : Pairwise (HoldsOff log) log → AreWritten log records logged.written
 
 -- what was found
 

@@ -1,5 +1,5 @@
 -- One unfinished transaction, record by record.
-use Rattle.std.specs.Prelude.{◌≡◌, ℕ, List, [], ◌∷◌, map, reverse, drop, true, false, ◌==◌, ◌||◌}
+use Rattle.std.specs.Prelude.{◌≡◌, ℕ, Bool, List, [], ◌∷◌, ◌++◌, map, reverse, drop, true, false, ◌==◌, ◌||◌}
 use Rattle.std.specs.List.{list_any}
 use Rattle.log_records.specs.declared.log_record.LogRecord.TheVariants.{Begin}
 use Rattle.log_records.specs.Log.{Entry, is_of, is_closed, entries_of}
@@ -29,6 +29,11 @@ pub record Breaks (t : ℕ) (records : List Entry) (e : Entry) : Type 0 where
   pub own : is_of t e ≡ true
   pub behind : e.lsn ≡ t → ⊥
   pub breaks : Continues (begin_at t ∷ drop 1 (entries_of t records)) e → ⊥
+
+-- with this record of it, if it is one: the others continue it, and what is kept is of them; or it breaks
+pub record HearsOwn (t : ℕ) (new : Chain) (records : List Entry) (e : Entry) (goes_on : Bool) : Type 0 where
+  pub heard : StandsThere t records e → goes_on ≡ true → IsKept t new (drop 1 (entries_of t (records ++ e ∷ [])))
+  pub wrong : goes_on ≡ false → Breaks t records e
 
 -- of a log: each transaction of these records is unfinished with its Begin in the log, or closed, or one of these; and
 -- each of these has a record, and no Begin that leaves it unfinished

@@ -3,9 +3,11 @@ pub mod Counting
 pub mod Deciding
 pub mod Holding
 pub mod Judgement
+pub mod Judging
 pub mod Laws
 pub mod Opening
 pub mod Showing
 pub mod Surveying
 pub mod Unended
+pub mod Values
 pub mod Writing

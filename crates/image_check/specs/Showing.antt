@@ -1,7 +1,6 @@
 -- What versions know of a log, record by record.
 use Rattle.std.specs.Prelude.{◌≡◌, ℕ, ◌+◌, ◌*◌, ◌/◌, ◌≤◌, ◌<◌, ◌==◌, ◌||◌, nat_eq, nat_lt, Bool, List, slice_get}
 use Rattle.std.specs.Prelude.{Option, Some, None, option_map, IsTrue, ⊤}
-use Rattle.site.specs.declared.geometry.Geometry.{Geometry}
 use Rattle.site.specs.State.{State}
 use Rattle.indexmap.specs.IndexMap.{IndexMap, get}
 use Rattle.record_model.specs.State.{Content, content_at}
@@ -9,17 +8,17 @@ use Rattle.log_records.specs.Log.{Entry, after_of, number_of}
 use Rattle.log_records.specs.Sound.{last_known}
 use Rattle.slotted_page.specs.Layout.{slots_of}
 use Rattle.second_chance.specs.Queue.{Queue}
-use Rattle.image_form.specs.declared.rings.Rings.{Rings}
+use Rattle.image_form.specs.declared.formed.Found.{Found}
 use Rattle.image_form.specs.Octets.{AreGroups}
 use Rattle.image_form.specs.Findings.{AreFound}
 use Rattle.image_form.specs.Newest.{ShowsFrames}
 
 -- of an honest site: the rings are those that stand there, the groups are of the form, and the queue shows their frames
-pub record FindsVersions (g : Geometry) (rings : Rings) (frames : Queue) (site : State) : Type 0 where
+pub record FindsVersions (found : Found) (frames : Queue) (site : State) : Type 0 where
   pub honest : IsTrue site.honest
-  pub found : AreFound rings site
-  pub groups : AreGroups g site.image
-  pub shown : ShowsFrames g site.image frames
+  pub rings : AreFound found.rings site
+  pub groups : AreGroups found.log.geometry site.image
+  pub shown : ShowsFrames found.log.geometry site.image frames
 
 -- a version knows of nothing, or of no record behind an end
 abbrev pub is_logged : ℕ → ℕ → Bool

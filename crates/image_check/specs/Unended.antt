@@ -1,6 +1,8 @@
 -- The unfinished transactions, record by record.
-use Rattle.std.specs.Prelude.{◌≡◌, ℕ, ◌+◌, List, map, sum_by}
+use Rattle.std.specs.Prelude.{◌≡◌, ℕ, ◌+◌, ◌^◌, ◌<◌, List, length, map, sum_by}
 use Rattle.log_records.specs.Log.{Entry}
+use Rattle.log_records.specs.Sound.{IsInOrder}
+use Rattle.log_laws.specs.Follow.{IsFresh}
 use Rattle.log_laws.specs.Analysis.{Unfinished, unfinished_in}
 use Rattle.image_check.specs.declared.unfinished.Left.{Left}
 
@@ -11,6 +13,13 @@ left_of x = record { txn = x.txn; last = x.last; remaining = x.remaining }
 -- these are the transactions that records leave unfinished, in the order of their Begins
 pub record AreLeft (records : List Entry) (left : List Left) : Type 0 where
   pub are : left ≡ map left_of (unfinished_in records)
+
+-- what a record at an LSN asks of those before it
+pub record Comes (records : List Entry) (lsn : ℕ) : Type 0 where
+  pub from : ℕ
+  pub in_order : IsInOrder from records lsn
+  pub fresh : IsFresh lsn records
+  pub few : length records < 2 ^ 62
 
 -- the records that undoing all of them makes
 abbrev pub owed_for : List Left → ℕ

@@ -1,10 +1,10 @@
 // One unfinished transaction, record by record.
-ghost use Rattle.std.specs.Prelude.{◌≡◌, ◌↔◌, ◌++◌, ◌∷◌, [], ℕ, List, true, false, drop, IsTrue, IfOk, IfErr, OnOk};
-ghost use Rattle.site.specs.declared.outside.Stop.{Stop};
+ghost use Rattle.std.specs.Prelude.{◌≡◌, ◌↔◌, ◌++◌, ◌∷◌, [], ℕ, List, true, drop, IsTrue};
 ghost use Rattle.log_records.specs.Log.{Entry, entries_of, is_update};
 ghost use Rattle.log_records.specs.Unfinished.{is_clr, open_updates};
 ghost use Rattle.log_records.specs.Sound.{Compensates, Undoes, Continues};
-ghost use Rattle.image_check.specs.Chaining.{IsKept, StandsThere, Breaks, begin_at};
+ghost use Rattle.image_check.specs.Chaining.{IsKept, HearsOwn, begin_at};
+ghost use Rattle.image_check.specs.Judging.{OrMemory};
 
 use crate::txns::txn_of;
 use log_records::LogRecord;
@@ -101,10 +101,9 @@ impl Chain {
 
     /// Takes a record that may come next.
     pub fn add(&mut self, lsn: u64, rec: LogRecord) -> Result<(), Stop>
-        ensures kept { (t : ℕ) (rest : List Entry) → IsKept t self.old rest
+        ensures { OrMemory result (λ done. (t : ℕ) (rest : List Entry) → IsKept t self.old rest
             → Continues (begin_at t ∷ rest) (record { lsn = lsn; rec = rec })
-            → OnOk result (IsKept t self.new (rest ++ record { lsn = lsn; rec = rec } ∷ [])) }
-        ensures stops { IfErr result (λ stop. stop ≡ Stop.Memory) }
+            → IsKept t self.new (rest ++ record { lsn = lsn; rec = rec } ∷ [])) }
     {
         self.last = lsn;
         if !updates(&rec) {
@@ -120,13 +119,9 @@ impl Chain {
 
     /// Hears the next record of a log, and answers whether it continues the transaction, if it is one behind its Begin.
     pub fn hear(&mut self, txn: u64, lsn: u64, rec: LogRecord) -> Result<bool, Stop>
-        ensures heard { (records : List Entry) → IsKept txn self.old (drop 1 (entries_of txn records))
-            → StandsThere txn records (record { lsn = lsn; rec = rec })
-            → IfOk result (λ goes_on. IsTrue goes_on
-            → IsKept txn self.new (drop 1 (entries_of txn (records ++ record { lsn = lsn; rec = rec } ∷ [])))) }
-        ensures wrong { (records : List Entry) → IsKept txn self.old (drop 1 (entries_of txn records))
-            → IfOk result (λ goes_on. goes_on ≡ false → Breaks txn records (record { lsn = lsn; rec = rec })) }
-        ensures stops { IfErr result (λ stop. stop ≡ Stop.Memory) }
+        ensures { OrMemory result (λ goes_on. (records : List Entry)
+            → IsKept txn self.old (drop 1 (entries_of txn records))
+            → HearsOwn txn self.new records (record { lsn = lsn; rec = rec }) goes_on) }
     {
         if txn_of(lsn, &rec) != txn {
             return Ok(true);

@@ -2,14 +2,13 @@
 ghost use Rattle.std.specs.Prelude.{◌≡◌, ◌⊎◌, ◌↔◌, ◌+◌, ◌^◌, ◌<◌, ◌≤◌, ◌++◌, ◌∷◌, [], List, length, IsTrue};
 ghost use Rattle.site.specs.State.{State};
 ghost use Rattle.log_records.specs.declared.log_record.LogRecord.{LogRecord};
-ghost use Rattle.log_records.specs.Log.{Entry, log_from};
-ghost use Rattle.log_store.specs.Representation.{Finds};
+ghost use Rattle.log_records.specs.Log.{Entry};
 ghost use Rattle.image_check.specs.Counting.{Heard, NumbersAre, Counts, Fit, CommitsAre};
+ghost use Rattle.image_check.specs.Judging.{Sees, MayBeJudged, reading_of, records_of};
 ghost use Rattle.image_form.specs.Verdict.{logical_image_of};
 
-use checkpoint::Master;
+use image_form::Found;
 use log_records::LogRecord;
-use log_store::LogStore;
 
 /// Of the Commits heard so far: the number of the first one, and how many stand before the redo block and from it on.
 #[derive(Clone, Copy, Debug, PartialEq, Eq, Drop)]
@@ -62,7 +61,6 @@ impl Numbers {
 
     /// With the next record, `None` where the numbers don't run on.
     pub fn after(&self, lsn: u64, rec: &LogRecord, redo: u64) -> Option<Numbers>
-        requires { redo ≤ 2 ^ 40 }
         ensures { (records : List Entry) → length records < 2 ^ 62 → Heard redo self.now records
             → NumbersAre redo (records ++ record { lsn = lsn; rec = rec.now } ∷ []) result }
     {
@@ -72,7 +70,7 @@ impl Numbers {
         if !self.is_next(*number) {
             return None;
         }
-        Some(self.with(*number, lsn < 512 * redo))
+        Some(self.with(*number, lsn / 512 < redo))
     }
 
     // Whether they run on from the master's count, and are no more than the blocks.
@@ -94,21 +92,20 @@ impl Numbers {
 /// The eleventh rule, by the numbers of the commits: how many were made, or `None` exactly where they aren't numbered
 /// on by one, up to the master's count before the redo block and from there on, or are more than the blocks that were
 /// sealed.
-pub fn rule_commits(log: &LogStore, master: &Master, numbers: &Option<Numbers>) -> Option<u64>
-    requires bounded { log.now.ring.hi ≤ 2 ^ 40 }
+pub fn rule_commits(found: &Found, numbers: &Option<Numbers>) -> Option<u64>
+    requires { (site : State) × MayBeJudged found.now site }
 
-    ensures commits { (site : State) (blocks : List (List LogRecord)) → Finds log.now site
-        → length (log_from master.now.kept blocks) < 2 ^ 62
-        → NumbersAre master.now.redo (log_from master.now.kept blocks) numbers.now
-        → CommitsAre result (logical_image_of
-        (record { g = log.now.geometry; master = master.now; blocks = blocks }) site.image) }
+    ensures commits { (site : State) (blocks : List (List LogRecord)) → Sees found.now blocks site
+        → length (records_of found.now blocks) < 2 ^ 62
+        → NumbersAre found.now.master.redo (records_of found.now blocks) numbers.now
+        → CommitsAre result (logical_image_of (reading_of found.now blocks) site.image) }
 {
     let Some(numbers) = numbers else {
         return None;
     };
-    let hi = log.sealed_end() / 512;
-    if !numbers.fit(master.commits, hi) {
+    let hi = found.log.sealed_end() / 512;
+    if !numbers.fit(found.master.commits, hi) {
         return None;
     }
-    Some(master.commits + numbers.late)
+    Some(found.master.commits + numbers.late)
 }

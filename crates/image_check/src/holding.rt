@@ -1,23 +1,17 @@
 // The records that unfinished transactions have written, record by record.
-ghost use Rattle.std.specs.Prelude.{◌≡◌, ◌↔◌, ◌+◌, ◌-◌, ◌≤◌, ◌++◌, ◌∷◌, [], nat_eq, List, is_none, IsTrue, IfOk, IfErr};
-ghost use Rattle.std.specs.Prelude.{OnOk};
+ghost use Rattle.std.specs.Prelude.{◌≡◌, ◌↔◌, ◌+◌, ◌++◌, ◌∷◌, [], nat_eq, List, is_none, IsTrue, IfOk};
 ghost use Rattle.indexmap.specs.IndexMap.{get};
-ghost use Rattle.site.specs.declared.outside.Stop.{Stop};
-ghost use Rattle.site.specs.Work.{OnlyReads};
-ghost use Rattle.log_records.specs.declared.log_record.LogRecord.{LogRecord};
-ghost use Rattle.log_records.specs.Log.{Entry, txn_by, number_of, log_from};
-ghost use Rattle.log_store.specs.Representation.{Invariant, Finds, HasBlocks};
+ghost use Rattle.log_records.specs.Log.{Entry, txn_by, number_of};
+ghost use Rattle.image_check.specs.Judging.{Judges, MayBeJudged, OrMemory, reading_of, records_of};
 ghost use Rattle.image_check.specs.Unended.{AreLeft};
 ghost use Rattle.image_check.specs.Holding.{AreHeld, IsListed, clashes_by};
 ghost use Rattle.image_form.specs.Verdict.{LosersCanBeUndone, LosersHoldOthersOff, logical_image_of};
 
 use crate::txns::txn_of;
 use crate::unfinished::LeftTxns;
-use checkpoint::Master;
-use image_form::{Place, Walk};
+use image_form::{Found, Place, Walk};
 use indexmap::IndexMap;
 use log_records::LogRecord;
-use log_store::LogStore;
 use site::{Site, Stop};
 use std::alloc::Global;
 
@@ -55,10 +49,9 @@ impl HeldNumbers {
     // Hears the next record of a log that leaves these transactions unfinished: an Update of one of them holds its
     // number.
     fn hear(&mut self, lsn: u64, rec: &LogRecord, left: &LeftTxns) -> Result<(), Stop>
-        ensures heard { (log : List Entry) (records : List Entry) → AreLeft log left.now.left.items
+        ensures { OrMemory result (λ done. (log : List Entry) (records : List Entry) → AreLeft log left.now.left.items
             → IsListed log (txn_by lsn rec.now) → AreHeld log records self.old.held
-            → OnOk result (AreHeld log (records ++ record { lsn = lsn; rec = rec.now } ∷ []) self.new.held) }
-        ensures stops { IfErr result (λ stop. stop ≡ Stop.Memory) }
+            → AreHeld log (records ++ record { lsn = lsn; rec = rec.now } ∷ []) self.new.held) }
     {
         let LogRecord::Update {
             txn,
@@ -85,27 +78,22 @@ impl HeldNumbers {
 pub fn rule_apart<S: Site>(
     alloc: Global,
     site: &mut S,
-    log: &LogStore,
-    master: &Master,
+    found: &Found,
     left: &LeftTxns,
 ) -> Result<Option<Place>, Stop>
-    requires going { Invariant log.now (S.state site.old) }
-    requires live { log.now.ring.hi ≤ master.now.kept + (log.now.geometry.blocks - 1) }
+    requires { MayBeJudged found.now (S.state site.old) }
 
-    ensures apart { (blocks : List (List LogRecord)) → Finds log.now (S.state site.old)
-        → HasBlocks log.now.geometry master.now.kept blocks (S.state site.old).image
-        → LosersCanBeUndone (logical_image_of (record { g = log.now.geometry; master = master.now; blocks = blocks })
-        (S.state site.old).image)
-        → AreLeft (log_from master.now.kept blocks) left.now.left.items
-        → IfOk result (λ failing. IsTrue (is_none failing) ↔ LosersHoldOthersOff (logical_image_of
-        (record { g = log.now.geometry; master = master.now; blocks = blocks }) (S.state site.old).image)) }
-    ensures reads { OnlyReads result (S.state site.old) (S.state site.new) }
+    ensures { Judges found.now result (S.state site.old) (S.state site.new) (λ blocks failing.
+        LosersCanBeUndone (logical_image_of (reading_of found.now blocks) (S.state site.old).image)
+        → AreLeft (records_of found.now blocks) left.now.left.items
+        → (IsTrue (is_none failing)
+        ↔ LosersHoldOthersOff (logical_image_of (reading_of found.now blocks) (S.state site.old).image))) }
 {
-    let mut walk = Walk::start(log, master.kept);
+    let mut walk = Walk::start(&found.log, found.master.kept);
     let mut held = HeldNumbers {
         held: IndexMap::new(alloc),
     };
-    while let Some((lsn, rec)) = walk.next(site, log)? {
+    while let Some((lsn, rec)) = walk.next(site, &found.log)? {
         if held.clashes(lsn, &rec) {
             return Ok(Some(Place::Block(lsn / 512)));
         }

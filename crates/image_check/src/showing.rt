@@ -1,8 +1,7 @@
 // What versions have to show of the log.
 ghost use Rattle.std.specs.Prelude.{◌≡◌, ◌↔◌, ◌*◌, ◌/◌, ◌^◌, ◌<◌, ◌≤◌, ◌++◌, ◌∷◌, [], ℕ, nat_eq, List, length, map};
-ghost use Rattle.std.specs.Prelude.{slice_get, option_copied, is_none, IsTrue, IfOk, IfErr, OnOk};
+ghost use Rattle.std.specs.Prelude.{slice_get, option_copied, is_none, IsTrue, IfOk};
 ghost use Rattle.std.specs.List.{list_all};
-ghost use Rattle.site.specs.declared.outside.Stop.{Stop};
 ghost use Rattle.site.specs.Work.{OnlyReads};
 ghost use Rattle.indexmap.specs.IndexMap.{get};
 ghost use Rattle.record_model.specs.State.{content_at};
@@ -10,39 +9,39 @@ ghost use Rattle.log_records.specs.Log.{Entry, after_of};
 ghost use Rattle.slotted_page.specs.Layout.{slots_of, IsSound};
 ghost use Rattle.flash_cache.specs.Representation.{version_on};
 ghost use Rattle.image_meaning.specs.Meaning.{versions_on};
-ghost use Rattle.image_form.specs.Findings.{MayRead};
 ghost use Rattle.image_form.specs.Newest.{AreLive};
+ghost use Rattle.image_check.specs.Judging.{MayBeJudged, OrMemory};
 ghost use Rattle.image_check.specs.Showing.{FindsVersions, AreExpected, IsKnownEarly, IsAs, HasContents, is_logged};
 
 use crate::holding::number_of;
 use flash_directory::Directory;
 use frame_group::PAGE_LEN;
-use image_form::{Place, Rings, are_same, read_version};
+use image_form::{Found, Place, are_same, read_version};
 use indexmap::IndexMap;
 use log_records::LogRecord;
 use record_model::Octets;
-use site::{Geometry, Site, Stop};
+use site::{Site, Stop};
 use slotted_page::{Page, SLOTS};
 use std::alloc::Global;
 
 /// The version of a page.
 pub fn version_of<S: Site>(
     site: &mut S,
-    geometry: &Geometry,
-    rings: &Rings,
+    found: &Found,
     frames: &Directory,
     page: u32,
 ) -> Result<Page, Stop>
-    requires may_read { MayRead geometry.now rings.now (S.state site.old) }
-    requires live { AreLive rings.now frames.now }
-    requires exists { page < geometry.now.pages }
+    requires may { MayBeJudged found.now (S.state site.old) }
+    requires live { AreLive found.now.rings frames.now }
+    requires exists { page < found.now.log.geometry.pages }
 
-    ensures version { FindsVersions geometry.now rings.now frames.now (S.state site.old)
-        → IfOk result (λ version. version ≡ version_on geometry.now (S.state site.old).image page) }
+    ensures version { FindsVersions found.now frames.now (S.state site.old)
+        → IfOk result (λ version. version ≡ version_on found.now.log.geometry (S.state site.old).image page) }
     ensures reads { OnlyReads result (S.state site.old) (S.state site.new) }
 {
     let mut octets = [0u8; PAGE_LEN];
-    if let Err(stop) = read_version(site, geometry, rings, frames, page, &mut octets) {
+    let geometry = found.log.geometry();
+    if let Err(stop) = read_version(site, &geometry, &found.rings, frames, page, &mut octets) {
         return Err(stop);
     }
     Ok(Page::from_bytes(&octets))
@@ -52,21 +51,20 @@ pub fn version_of<S: Site>(
 pub fn version_lsns<S: Site>(
     alloc: Global,
     site: &mut S,
-    geometry: &Geometry,
-    rings: &Rings,
+    found: &Found,
     frames: &Directory,
 ) -> Result<Vec<u64>, Stop>
-    requires may_read { MayRead geometry.now rings.now (S.state site.old) }
-    requires live { AreLive rings.now frames.now }
+    requires may { MayBeJudged found.now (S.state site.old) }
+    requires live { AreLive found.now.rings frames.now }
 
-    ensures lsns { FindsVersions geometry.now rings.now frames.now (S.state site.old)
-        → IfOk result (λ lsns. lsns.items ≡ map (λ v. v.lsn) (versions_on geometry.now (S.state site.old).image)) }
-    ensures many { IfOk result (λ lsns. length lsns.items ≡ geometry.now.pages) }
+    ensures lsns { FindsVersions found.now frames.now (S.state site.old) → IfOk result (λ lsns.
+        lsns.items ≡ map (λ v. v.lsn) (versions_on found.now.log.geometry (S.state site.old).image)) }
+    ensures many { IfOk result (λ lsns. length lsns.items ≡ found.now.log.geometry.pages) }
     ensures reads { OnlyReads result (S.state site.old) (S.state site.new) }
 {
     let mut lsns = Vec::new(alloc);
-    for page in 0..geometry.pages {
-        let version = match version_of(site, geometry, rings, frames, page) {
+    for page in 0..found.log.geometry().pages {
+        let version = match version_of(site, found, frames, page) {
             Ok(version) => version,
             Err(stop) => return Err(stop),
         };
@@ -107,10 +105,9 @@ fn lsn_for(lsns: &[u64], number: u64) -> Option<u64>
 
 /// Whether a record stands from the redo block on, or the version of its page knows of it.
 pub fn is_known_early(lsns: &[u64], lsn: u64, rec: &LogRecord, redo: u64) -> bool
-    requires { redo ≤ 2 ^ 40 }
     ensures { IsTrue result ↔ IsKnownEarly redo lsns.now (record { lsn = lsn; rec = rec.now }) }
 {
-    if lsn >= 512 * redo {
+    if lsn / 512 >= redo {
         return true;
     }
     let Some(number) = number_of(rec) else {
@@ -164,9 +161,8 @@ impl Expected {
 
     /// Hears the next record of a log, where the versions have these LSNs.
     pub fn hear(&mut self, lsns: &[u64], lsn: u64, rec: LogRecord) -> Result<(), Stop>
-        ensures heard { (records : List Entry) → AreExpected lsns.now records self.old.contents
-            → OnOk result (AreExpected lsns.now (records ++ record { lsn = lsn; rec = rec } ∷ []) self.new.contents) }
-        ensures stops { IfErr result (λ stop. stop ≡ Stop.Memory) }
+        ensures { OrMemory result (λ done. (records : List Entry) → AreExpected lsns.now records self.old.contents
+            → AreExpected lsns.now (records ++ record { lsn = lsn; rec = rec } ∷ []) self.new.contents) }
     {
         let Some(number) = number_of(&rec) else {
             return Ok(());

@@ -1,13 +1,12 @@
 // The transactions that are open, record by record.
-ghost use Rattle.std.specs.Prelude.{◌≡◌, ◌↔◌, ◌^◌, ◌≤◌, ◌++◌, ◌∷◌, [], not, ◌==◌, filter, List, IsTrue, IfOk, IfErr};
-ghost use Rattle.std.specs.Prelude.{OnOk};
-ghost use Rattle.site.specs.declared.outside.Stop.{Stop};
+ghost use Rattle.std.specs.Prelude.{◌≡◌, ◌↔◌, ◌++◌, ◌∷◌, [], not, ◌==◌, filter, List, IsTrue};
 ghost use Rattle.log_records.specs.declared.log_record.LogRecord.{LogRecord};
 ghost use Rattle.log_records.specs.Log.{Entry, txn_by, is_closing};
 ghost use Rattle.log_records.specs.Unfinished.{is_begin};
 ghost use Rattle.log_records.specs.Sound as sound;
 ghost use Rattle.log_laws.specs.Follow.{IsFresh};
 ghost use Rattle.checkpoint.specs.Newest.{seen};
+ghost use Rattle.image_check.specs.Judging.{OrMemory};
 ghost use Rattle.image_check.specs.Opening.{AreOpen, MayStand};
 
 use checkpoint::Master;
@@ -58,8 +57,7 @@ pub struct OpenTxns {
 impl OpenTxns {
     /// Before the first record: those that the master names.
     pub fn start(alloc: Global, master: &Master) -> Result<OpenTxns, Stop>
-        ensures named { IfOk result (λ set. AreOpen (seen master.now) [] set.txns.items) }
-        ensures stops { IfErr result (λ stop. stop ≡ Stop.Memory) }
+        ensures { OrMemory result (λ set. AreOpen (seen master.now) [] set.txns.items) }
     {
         let mut txns = Vec::new(alloc);
         for place in 0..master.active.len() {
@@ -74,7 +72,6 @@ impl OpenTxns {
     /// Whether a record may come next: it isn't before its transaction's Begin, and from the redo block on it is a
     /// Begin or of an open transaction.
     pub fn admits(&self, lsn: u64, rec: &LogRecord, redo: u64) -> bool
-        requires { redo ≤ 2 ^ 40 }
         ensures { (m : sound.Master) (records : List Entry) → m.redo ≡ redo → AreOpen m records self.now.txns.items
             → IsTrue result ↔ MayStand m records (record { lsn = lsn; rec = rec.now }) }
     {
@@ -82,7 +79,7 @@ impl OpenTxns {
         if lsn < txn {
             return false;
         }
-        if lsn < 512 * redo {
+        if lsn / 512 < redo {
             return true;
         }
         if begins(rec) {
@@ -93,8 +90,7 @@ impl OpenTxns {
 
     // A transaction begins.
     fn begin(&mut self, txn: u64) -> Result<(), Stop>
-        ensures items { OnOk result (self.new.txns.items ≡ self.old.txns.items ++ txn ∷ []) }
-        ensures stops { IfErr result (λ stop. stop ≡ Stop.Memory) }
+        ensures { OrMemory result (λ done. self.new.txns.items ≡ self.old.txns.items ++ txn ∷ []) }
     {
         let Ok(()) = self.txns.push(txn) else {
             return Err(Stop::Memory);
@@ -111,11 +107,9 @@ impl OpenTxns {
 
     /// Hears a record that may come next.
     pub fn hear(&mut self, lsn: u64, rec: &LogRecord, redo: u64) -> Result<(), Stop>
-        requires { redo ≤ 2 ^ 40 }
-        ensures heard { (m : sound.Master) (records : List Entry) → m.redo ≡ redo
+        ensures { OrMemory result (λ done. (m : sound.Master) (records : List Entry) → m.redo ≡ redo
             → AreOpen m records self.old.txns.items → IsFresh lsn records
-            → OnOk result (AreOpen m (records ++ record { lsn = lsn; rec = rec.now } ∷ []) self.new.txns.items) }
-        ensures stops { IfErr result (λ stop. stop ≡ Stop.Memory) }
+            → AreOpen m (records ++ record { lsn = lsn; rec = rec.now } ∷ []) self.new.txns.items) }
     {
         if closes(rec) {
             self.close(txn_of(lsn, rec));
@@ -124,7 +118,7 @@ impl OpenTxns {
         if !begins(rec) {
             return Ok(());
         }
-        if lsn < 512 * redo {
+        if lsn / 512 < redo {
             return Ok(());
         }
         self.begin(lsn)

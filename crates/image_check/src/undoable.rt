@@ -1,52 +1,39 @@
 // Whether unfinished transactions can be undone.
-ghost use Rattle.std.specs.Prelude.{◌≡◌, ◌↔◌, ◌==◌, ◌+◌, ◌-◌, ◌≤◌, ◌++◌, ◌∷◌, [], true, not, filter, ◌&&◌, ℕ, List};
-ghost use Rattle.std.specs.Prelude.{is_none, IsTrue, IfOk, IfErr, OnOk};
+ghost use Rattle.std.specs.Prelude.{◌≡◌, ◌↔◌, ◌==◌, ◌++◌, ◌∷◌, [], true, not, filter, ◌&&◌, ℕ, List};
+ghost use Rattle.std.specs.Prelude.{is_none, IsTrue, IfOk};
 ghost use Rattle.std.specs.List.{list_any};
-ghost use Rattle.site.specs.declared.outside.Stop.{Stop};
-ghost use Rattle.site.specs.Work.{OnlyReads};
-ghost use Rattle.log_records.specs.declared.log_record.LogRecord.{LogRecord};
-ghost use Rattle.log_records.specs.Log.{Entry, entries_of, is_of, is_closing, is_closed, log_from};
+ghost use Rattle.log_records.specs.Log.{Entry, entries_of, is_of, is_closing, is_closed};
 ghost use Rattle.log_records.specs.Unfinished.{losers};
 ghost use Rattle.log_records.specs.Sound.{HaveBegunBefore, IsLoserChain};
-ghost use Rattle.log_store.specs.Representation.{Invariant, Finds, HasBlocks};
 ghost use Rattle.image_check.specs.Unended.{AreLeft};
 ghost use Rattle.image_check.specs.Chaining.{AreStrays};
+ghost use Rattle.image_check.specs.Judging.{Judges, MayBeJudged, OrMemory, reading_of, records_of};
 ghost use Rattle.image_form.specs.Verdict.{RecordsFollowBegins, LosersCanBeUndone, logical_image_of};
 
 use crate::chain::Chain;
 use crate::txns::{closes, txn_of};
 use crate::unfinished::LeftTxns;
-use checkpoint::Master;
-use image_form::{Place, Walk};
+use image_form::{Found, Place, Walk};
 use log_records::LogRecord;
-use log_store::LogStore;
 use site::{Site, Stop};
 use std::alloc::Global;
 
 // Whether the records of an unfinished transaction, which has its Begin among them, can be undone.
-fn is_chain<S: Site>(
-    alloc: Global,
-    site: &mut S,
-    log: &LogStore,
-    kept: u64,
-    txn: u64,
-) -> Result<bool, Stop>
-    requires going { Invariant log.now (S.state site.old) }
-    requires live { log.now.ring.hi ≤ kept + (log.now.geometry.blocks - 1) }
+fn is_chain<S: Site>(alloc: Global, site: &mut S, found: &Found, txn: u64) -> Result<bool, Stop>
+    requires { MayBeJudged found.now (S.state site.old) }
 
-    ensures chain { (blocks : List (List LogRecord)) → Finds log.now (S.state site.old)
-        → HasBlocks log.now.geometry kept blocks (S.state site.old).image → HaveBegunBefore (log_from kept blocks)
-        → list_any (λ t. t == txn) (losers (log_from kept blocks)) ≡ true
-        → IfOk result (λ stand. IsTrue stand ↔ IsLoserChain txn (entries_of txn (log_from kept blocks))) }
-    ensures reads { OnlyReads result (S.state site.old) (S.state site.new) }
+    ensures { Judges found.now result (S.state site.old) (S.state site.new) (λ blocks stand.
+        HaveBegunBefore (records_of found.now blocks)
+        → list_any (λ t. t == txn) (losers (records_of found.now blocks)) ≡ true
+        → (IsTrue stand ↔ IsLoserChain txn (entries_of txn (records_of found.now blocks)))) }
 {
-    let mut walk = Walk::start(log, kept);
+    let mut walk = Walk::start(&found.log, found.master.kept);
     let mut chain = Chain {
         last: txn,
         updates: Vec::new(alloc),
         undoing: false,
     };
-    while let Some((lsn, rec)) = walk.next(site, log)? {
+    while let Some((lsn, rec)) = walk.next(site, &found.log)? {
         let goes_on = match chain.hear(txn, lsn, rec) {
             Ok(goes_on) => goes_on,
             Err(stop) => return Err(stop),
@@ -59,17 +46,14 @@ fn is_chain<S: Site>(
 }
 
 // Whether a record closes a transaction.
-fn is_closed_in<S: Site>(site: &mut S, log: &LogStore, kept: u64, txn: u64) -> Result<bool, Stop>
-    requires going { Invariant log.now (S.state site.old) }
-    requires live { log.now.ring.hi ≤ kept + (log.now.geometry.blocks - 1) }
+fn is_closed_in<S: Site>(site: &mut S, found: &Found, txn: u64) -> Result<bool, Stop>
+    requires { MayBeJudged found.now (S.state site.old) }
 
-    ensures closed { (blocks : List (List LogRecord)) → Finds log.now (S.state site.old)
-        → HasBlocks log.now.geometry kept blocks (S.state site.old).image
-        → IfOk result (λ closed. closed ≡ is_closed (log_from kept blocks) txn) }
-    ensures reads { OnlyReads result (S.state site.old) (S.state site.new) }
+    ensures { Judges found.now result (S.state site.old) (S.state site.new) (λ blocks closed.
+        closed ≡ is_closed (records_of found.now blocks) txn) }
 {
-    let mut walk = Walk::start(log, kept);
-    while let Some((lsn, rec)) = walk.next(site, log)? {
+    let mut walk = Walk::start(&found.log, found.master.kept);
+    while let Some((lsn, rec)) = walk.next(site, &found.log)? {
         if closes_txn(lsn, &rec, txn) {
             return Ok(true);
         }
@@ -97,8 +81,7 @@ struct Strays {
 impl Strays {
     // A transaction is one of them.
     fn add(&mut self, txn: u64) -> Result<(), Stop>
-        ensures items { OnOk result (self.new.txns.items ≡ self.old.txns.items ++ txn ∷ []) }
-        ensures stops { IfErr result (λ stop. stop ≡ Stop.Memory) }
+        ensures { OrMemory result (λ done. self.new.txns.items ≡ self.old.txns.items ++ txn ∷ []) }
     {
         let Ok(()) = self.txns.push(txn) else {
             return Err(Stop::Memory);
@@ -115,10 +98,9 @@ impl Strays {
 
     // Hears the next record of a log that leaves these transactions unfinished.
     fn hear(&mut self, lsn: u64, rec: &LogRecord, left: &LeftTxns) -> Result<(), Stop>
-        ensures heard { (log : List Entry) (records : List Entry) → AreLeft log left.now.left.items
+        ensures { OrMemory result (λ done. (log : List Entry) (records : List Entry) → AreLeft log left.now.left.items
             → AreStrays log records self.old.txns.items
-            → OnOk result (AreStrays log (records ++ record { lsn = lsn; rec = rec.now } ∷ []) self.new.txns.items) }
-        ensures stops { IfErr result (λ stop. stop ≡ Stop.Memory) }
+            → AreStrays log (records ++ record { lsn = lsn; rec = rec.now } ∷ []) self.new.txns.items) }
     {
         let txn = txn_of(lsn, rec);
         if left.has(txn) {
@@ -139,24 +121,20 @@ impl Strays {
 fn find_strays<S: Site>(
     alloc: Global,
     site: &mut S,
-    log: &LogStore,
-    kept: u64,
+    found: &Found,
     left: &LeftTxns,
 ) -> Result<Strays, Stop>
-    requires going { Invariant log.now (S.state site.old) }
-    requires live { log.now.ring.hi ≤ kept + (log.now.geometry.blocks - 1) }
+    requires { MayBeJudged found.now (S.state site.old) }
 
-    ensures strays { (blocks : List (List LogRecord)) → Finds log.now (S.state site.old)
-        → HasBlocks log.now.geometry kept blocks (S.state site.old).image
-        → AreLeft (log_from kept blocks) left.now.left.items
-        → IfOk result (λ strays. AreStrays (log_from kept blocks) (log_from kept blocks) strays.txns.items) }
-    ensures reads { OnlyReads result (S.state site.old) (S.state site.new) }
+    ensures { Judges found.now result (S.state site.old) (S.state site.new) (λ blocks strays.
+        AreLeft (records_of found.now blocks) left.now.left.items
+        → AreStrays (records_of found.now blocks) (records_of found.now blocks) strays.txns.items) }
 {
-    let mut walk = Walk::start(log, kept);
+    let mut walk = Walk::start(&found.log, found.master.kept);
     let mut strays = Strays {
         txns: Vec::new(alloc),
     };
-    while let Some((lsn, rec)) = walk.next(site, log)? {
+    while let Some((lsn, rec)) = walk.next(site, &found.log)? {
         if let Err(stop) = strays.hear(lsn, &rec, left) {
             return Err(stop);
         }
@@ -165,23 +143,15 @@ fn find_strays<S: Site>(
 }
 
 // The first of some transactions that no record closes, `None` exactly where there is none.
-fn find_open<S: Site>(
-    site: &mut S,
-    log: &LogStore,
-    kept: u64,
-    txns: &[u64],
-) -> Result<Option<Place>, Stop>
-    requires going { Invariant log.now (S.state site.old) }
-    requires live { log.now.ring.hi ≤ kept + (log.now.geometry.blocks - 1) }
+fn find_open<S: Site>(site: &mut S, found: &Found, txns: &[u64]) -> Result<Option<Place>, Stop>
+    requires { MayBeJudged found.now (S.state site.old) }
 
-    ensures closed { (blocks : List (List LogRecord)) → Finds log.now (S.state site.old)
-        → HasBlocks log.now.geometry kept blocks (S.state site.old).image
-        → IfOk result (λ failing. IsTrue (is_none failing) ↔ ((t : ℕ) → list_any (λ x. x == t) txns.now ≡ true
-        → is_closed (log_from kept blocks) t ≡ true)) }
-    ensures reads { OnlyReads result (S.state site.old) (S.state site.new) }
+    ensures { Judges found.now result (S.state site.old) (S.state site.new) (λ blocks failing.
+        IsTrue (is_none failing) ↔ ((t : ℕ) → list_any (λ x. x == t) txns.now ≡ true
+        → is_closed (records_of found.now blocks) t ≡ true)) }
 {
     for place in 0..txns.len() {
-        let closed = match is_closed_in(site, log, kept, txns[place]) {
+        let closed = match is_closed_in(site, found, txns[place]) {
             Ok(closed) => closed,
             Err(stop) => return Err(stop),
         };
@@ -197,24 +167,21 @@ fn find_open<S: Site>(
 fn find_unchained<S: Site>(
     alloc: Global,
     site: &mut S,
-    log: &LogStore,
-    kept: u64,
+    found: &Found,
     left: &LeftTxns,
 ) -> Result<Option<Place>, Stop>
-    requires going { Invariant log.now (S.state site.old) }
-    requires live { log.now.ring.hi ≤ kept + (log.now.geometry.blocks - 1) }
+    requires { MayBeJudged found.now (S.state site.old) }
 
-    ensures chains { (blocks : List (List LogRecord)) → Finds log.now (S.state site.old)
-        → HasBlocks log.now.geometry kept blocks (S.state site.old).image → HaveBegunBefore (log_from kept blocks)
-        → AreLeft (log_from kept blocks) left.now.left.items
-        → IfOk result (λ failing. IsTrue (is_none failing)
-        ↔ ((t : ℕ) → list_any (λ n. n == t) (losers (log_from kept blocks)) ≡ true
-        → IsLoserChain t (entries_of t (log_from kept blocks)))) }
-    ensures reads { OnlyReads result (S.state site.old) (S.state site.new) }
+    ensures { Judges found.now result (S.state site.old) (S.state site.new) (λ blocks failing.
+        HaveBegunBefore (records_of found.now blocks)
+        → AreLeft (records_of found.now blocks) left.now.left.items
+        → (IsTrue (is_none failing)
+        ↔ ((t : ℕ) → list_any (λ n. n == t) (losers (records_of found.now blocks)) ≡ true
+        → IsLoserChain t (entries_of t (records_of found.now blocks))))) }
 {
     for place in 0..left.left.len() {
         let txn = left.left[place].txn;
-        let stands = match is_chain(alloc, site, log, kept, txn) {
+        let stands = match is_chain(alloc, site, found, txn) {
             Ok(stands) => stands,
             Err(stop) => return Err(stop),
         };
@@ -232,32 +199,27 @@ fn find_unchained<S: Site>(
 pub fn rule_undoable<S: Site>(
     alloc: Global,
     site: &mut S,
-    log: &LogStore,
-    master: &Master,
+    found: &Found,
     left: &LeftTxns,
 ) -> Result<Option<Place>, Stop>
-    requires going { Invariant log.now (S.state site.old) }
-    requires live { log.now.ring.hi ≤ master.now.kept + (log.now.geometry.blocks - 1) }
+    requires { MayBeJudged found.now (S.state site.old) }
 
-    ensures undoable { (blocks : List (List LogRecord)) → Finds log.now (S.state site.old)
-        → HasBlocks log.now.geometry master.now.kept blocks (S.state site.old).image
-        → RecordsFollowBegins (logical_image_of (record { g = log.now.geometry; master = master.now; blocks = blocks })
-        (S.state site.old).image)
-        → AreLeft (log_from master.now.kept blocks) left.now.left.items
-        → IfOk result (λ failing. IsTrue (is_none failing) ↔ LosersCanBeUndone (logical_image_of
-        (record { g = log.now.geometry; master = master.now; blocks = blocks }) (S.state site.old).image)) }
-    ensures reads { OnlyReads result (S.state site.old) (S.state site.new) }
+    ensures { Judges found.now result (S.state site.old) (S.state site.new) (λ blocks failing.
+        RecordsFollowBegins (logical_image_of (reading_of found.now blocks) (S.state site.old).image)
+        → AreLeft (records_of found.now blocks) left.now.left.items
+        → (IsTrue (is_none failing)
+        ↔ LosersCanBeUndone (logical_image_of (reading_of found.now blocks) (S.state site.old).image))) }
 {
-    match find_unchained(alloc, site, log, master.kept, left) {
+    match find_unchained(alloc, site, found, left) {
         Ok(None) => {}
         Ok(Some(place)) => return Ok(Some(place)),
         Err(stop) => return Err(stop),
     }
-    let strays = match find_strays(alloc, site, log, master.kept, left) {
+    let strays = match find_strays(alloc, site, found, left) {
         Ok(strays) => strays,
         Err(stop) => return Err(stop),
     };
-    match find_open(site, log, master.kept, &strays.txns) {
+    match find_open(site, found, &strays.txns) {
         Ok(failing) => Ok(failing),
         Err(stop) => Err(stop),
     }

@@ -1,25 +1,23 @@
 // The transactions that records leave unfinished, record by record.
-ghost use Rattle.std.specs.Prelude.{◌≡◌, ◌==◌, ◌↔◌, ◌^◌, ◌+◌, ◌-◌, ◌<◌, ◌≤◌, ◌++◌, ◌∷◌, [], ℕ, List, length, map};
-ghost use Rattle.std.specs.Prelude.{false, IsTrue, IfOk, IfErr, OnOk};
+ghost use Rattle.std.specs.Prelude.{◌≡◌, ◌==◌, ◌↔◌, ◌^◌, ◌+◌, ◌-◌, ◌<◌, ◌≤◌, ◌++◌, ◌∷◌, [], List, map};
+ghost use Rattle.std.specs.Prelude.{false, IsTrue};
 ghost use Rattle.std.specs.List.{list_any, position};
-ghost use Rattle.site.specs.declared.outside.Stop.{Stop};
 ghost use Rattle.site.specs.State.{State};
 ghost use Rattle.log_records.specs.declared.log_record.LogRecord.{LogRecord};
-ghost use Rattle.log_records.specs.Log.{Entry, log_from};
+ghost use Rattle.log_records.specs.Log.{Entry};
 ghost use Rattle.log_records.specs.Unfinished.{is_begin, losers};
-ghost use Rattle.log_records.specs.Sound.{IsInOrder, active_in, before_block};
-ghost use Rattle.log_laws.specs.Follow.{IsFresh};
+ghost use Rattle.log_records.specs.Sound.{active_in, before_block};
 ghost use Rattle.log_laws.specs.Analysis.{remaining_by};
-ghost use Rattle.log_store.specs.Representation.{Finds, HasBlocks};
 ghost use Rattle.checkpoint.specs.Newest.{seen};
 ghost use Rattle.checkpoint.specs.declared.pairs.Pair.{Pair};
-ghost use Rattle.image_check.specs.Unended.{AreLeft, owed_for};
+ghost use Rattle.image_check.specs.Judging.{Sees, MayBeJudged, OrMemory, reading_of, records_of};
+ghost use Rattle.image_check.specs.Unended.{AreLeft, Comes, owed_for};
 ghost use Rattle.image_form.specs.Verdict.{UndoHasRoom, logical_image_of};
 
 use crate::txns::{begins, closes, txn_of};
 use checkpoint::Master;
+use image_form::Found;
 use log_records::LogRecord;
-use log_store::LogStore;
 use site::Stop;
 use std::alloc::Global;
 
@@ -75,9 +73,8 @@ impl LeftTxns {
 
     // A transaction begins.
     fn begin(&mut self, lsn: u64) -> Result<(), Stop>
-        ensures items { OnOk result (self.new.left.items
+        ensures { OrMemory result (λ done. self.new.left.items
             ≡ self.old.left.items ++ record { txn = lsn; last = lsn; remaining = 0 } ∷ []) }
-        ensures stops { IfErr result (λ stop. stop ≡ Stop.Memory) }
     {
         let Ok(()) = self.left.push(Left {
             txn: lsn,
@@ -92,8 +89,8 @@ impl LeftTxns {
 
     // Hears a record that isn't a Begin.
     fn go_on(&mut self, lsn: u64, rec: &LogRecord)
-        ensures { (records : List Entry) (from : ℕ) → IsInOrder from records lsn → length records < 2 ^ 62
-            → is_begin rec.now ≡ false → AreLeft records self.old.left.items
+        ensures { (records : List Entry) → Comes records lsn → is_begin rec.now ≡ false
+            → AreLeft records self.old.left.items
             → AreLeft (records ++ record { lsn = lsn; rec = rec.now } ∷ []) self.new.left.items }
     {
         let Some(place) = place_of(&self.left, txn_of(lsn, rec)) else {
@@ -118,10 +115,9 @@ impl LeftTxns {
 
     /// Hears the next record.
     pub fn hear(&mut self, lsn: u64, rec: &LogRecord) -> Result<(), Stop>
-        ensures heard { (records : List Entry) (from : ℕ) → IsInOrder from records lsn → length records < 2 ^ 62
-            → IsFresh lsn records → AreLeft records self.old.left.items
-            → OnOk result (AreLeft (records ++ record { lsn = lsn; rec = rec.now } ∷ []) self.new.left.items) }
-        ensures stops { IfErr result (λ stop. stop ≡ Stop.Memory) }
+        ensures { OrMemory result (λ done. (records : List Entry) → Comes records lsn
+            → AreLeft records self.old.left.items
+            → AreLeft (records ++ record { lsn = lsn; rec = rec.now } ∷ []) self.new.left.items) }
     {
         if begins(rec) {
             return self.begin(lsn);
@@ -166,20 +162,16 @@ impl LeftTxns {
 }
 
 /// The ninth rule, by the unfinished transactions: whether there are blocks for all that undo will write.
-pub fn rule_room(log: &LogStore, master: &Master, left: &LeftTxns) -> bool
-    requires bounded { log.now.ring.hi ≤ 2 ^ 40 }
-    requires some { 1 ≤ log.now.geometry.blocks }
-    requires live { log.now.ring.hi ≤ master.now.kept + (log.now.geometry.blocks - 1) }
+pub fn rule_room(found: &Found, left: &LeftTxns) -> bool
+    requires { (site : State) × MayBeJudged found.now site }
 
-    ensures room { (site : State) (blocks : List (List LogRecord)) → Finds log.now site
-        → HasBlocks log.now.geometry master.now.kept blocks site.image
-        → AreLeft (log_from master.now.kept blocks) left.now.left.items
-        → IsTrue result ↔ UndoHasRoom (logical_image_of
-        (record { g = log.now.geometry; master = master.now; blocks = blocks }) site.image) }
+    ensures room { (site : State) (blocks : List (List LogRecord)) → Sees found.now blocks site
+        → AreLeft (records_of found.now blocks) left.now.left.items
+        → IsTrue result ↔ UndoHasRoom (logical_image_of (reading_of found.now blocks) site.image) }
 {
-    let hi = log.sealed_end() / 512;
-    let blocks = log.geometry().blocks as u64;
-    let free = (blocks - 1).saturating_sub(hi.saturating_sub(master.kept));
+    let hi = found.log.sealed_end() / 512;
+    let blocks = found.log.geometry().blocks as u64;
+    let free = (blocks - 1).saturating_sub(hi.saturating_sub(found.master.kept));
     left.fit(free)
 }
 

@@ -1,32 +1,28 @@
 // What versions show of the log, and the numbers that have a value.
-ghost use Rattle.std.specs.Prelude.{◌≡◌, ◌↔◌, ◌*◌, ◌-◌, ◌+◌, ◌<◌, ◌≤◌, ◌++◌, ◌∷◌, [], ℕ, List, map, count_by, is_some};
-ghost use Rattle.std.specs.Prelude.{is_ok, IsTrue, IfOk, IfErr, IfSome, OnOk, if◌then◌else◌};
+ghost use Rattle.std.specs.Prelude.{◌≡◌, ◌↔◌, ◌*◌, ◌+◌, ◌<◌, ◌≤◌, ◌++◌, ◌∷◌, [], ℕ, List, map, count_by, is_some};
+ghost use Rattle.std.specs.Prelude.{is_ok, IsTrue, IfOk, IfSome, if◌then◌else◌};
 ghost use Rattle.std.specs.List.{AllByRecursion, range_with_len};
-ghost use Rattle.site.specs.declared.outside.Stop.{Stop};
 ghost use Rattle.site.specs.Work.{OnlyReads};
-ghost use Rattle.log_records.specs.declared.log_record.LogRecord.{LogRecord};
-ghost use Rattle.log_records.specs.Log.{Entry, Version, version_at, value_of, table_of, log_from};
+ghost use Rattle.log_records.specs.Log.{Entry, Version, version_at, value_of, table_of};
 ghost use Rattle.log_records.specs.Sound.{Pairwise, HoldsOff};
-ghost use Rattle.log_store.specs.Representation.{Invariant, Finds, HasBlocks};
 ghost use Rattle.slotted_page.specs.Layout.{IsSound};
 ghost use Rattle.flash_cache.specs.Representation.{version_on};
 ghost use Rattle.image_meaning.specs.Meaning.{version_in, versions_on};
 ghost use Rattle.image_form.specs.Octets.{AreVersions};
-ghost use Rattle.image_form.specs.Findings.{MayRead, AreFound};
+ghost use Rattle.image_form.specs.Findings.{AreFound};
 ghost use Rattle.image_form.specs.Newest.{AreLive};
+ghost use Rattle.image_check.specs.Judging.{Judges, MayBeJudged, OrMemory, reading_of, records_of};
 ghost use Rattle.image_check.specs.Showing.{FindsVersions, AreExpected, IsKnownEarly, HasContents};
-ghost use Rattle.image_form.specs.Verdict.{OctetsAreFormed, LosersHoldOthersOff, VersionsFit, logical_image_of};
-ghost use Rattle.image_form.specs.Verdict.{values_of};
+ghost use Rattle.image_check.specs.Values.{Hears, ShowsLog};
+ghost use Rattle.image_form.specs.Verdict.{OctetsAreFormed, logical_image_of};
 ghost use Rattle.image_check.specs.Writing.{AreWritten};
 
 use crate::showing::{Expected, find_unlogged, is_known_early, version_lsns, version_of};
 use crate::written::Writings;
-use checkpoint::Master;
 use flash_directory::Directory;
-use image_form::{Place, Rings, Walk, find_frames};
+use image_form::{Found, Place, Walk, find_frames};
 use log_records::LogRecord;
-use log_store::LogStore;
-use site::{Geometry, Site, Stop};
+use site::{Site, Stop};
 use slotted_page::Page;
 use std::alloc::Global;
 
@@ -85,13 +81,12 @@ impl Logged {
 
     // Hears the next record of a log, where the versions have these LSNs.
     fn hear(&mut self, lsns: &[u64], lsn: u64, rec: LogRecord) -> Result<(), Stop>
-        ensures expected { (records : List Entry) → AreExpected lsns.now records self.old.expected.contents
-            → OnOk result (AreExpected lsns.now (records ++ record { lsn = lsn; rec = rec } ∷ [])
-            self.new.expected.contents) }
-        ensures written { (log : List Entry) (records : List Entry) → Pairwise (HoldsOff log) records
+        ensures { OrMemory result (λ done. ((records : List Entry)
+            → AreExpected lsns.now records self.old.expected.contents
+            → AreExpected lsns.now (records ++ record { lsn = lsn; rec = rec } ∷ []) self.new.expected.contents)
+            × ((log : List Entry) (records : List Entry) → Pairwise (HoldsOff log) records
             → AreWritten log records self.old.written
-            → OnOk result (AreWritten log (records ++ record { lsn = lsn; rec = rec } ∷ []) self.new.written) }
-        ensures stops { IfErr result (λ stop. stop ≡ Stop.Memory) }
+            → AreWritten log (records ++ record { lsn = lsn; rec = rec } ∷ []) self.new.written)) }
     {
         self.written.hear(&rec)?;
         self.expected.hear(lsns, lsn, rec)
@@ -102,33 +97,20 @@ impl Logged {
     fn of_log<S: Site>(
         alloc: Global,
         site: &mut S,
-        log: &LogStore,
-        master: &Master,
+        found: &Found,
         lsns: &[u64],
     ) -> Result<Result<Logged, Place>, Stop>
-        requires going { Invariant log.now (S.state site.old) }
-        requires live { log.now.ring.hi ≤ master.now.kept + (log.now.geometry.blocks - 1) }
-        requires redo { master.now.redo ≤ log.now.ring.hi }
+        requires { MayBeJudged found.now (S.state site.old) }
 
-        ensures known { (blocks : List (List LogRecord)) → Finds log.now (S.state site.old)
-            → HasBlocks log.now.geometry master.now.kept blocks (S.state site.old).image
-            → IfOk result (λ found. IsTrue (is_ok found)
-            ↔ AllByRecursion (IsKnownEarly master.now.redo lsns.now) (log_from master.now.kept blocks)) }
-        ensures expected { (blocks : List (List LogRecord)) → Finds log.now (S.state site.old)
-            → HasBlocks log.now.geometry master.now.kept blocks (S.state site.old).image
-            → IfOk result (λ found. IfOk found (λ logged.
-            AreExpected lsns.now (log_from master.now.kept blocks) logged.expected.contents)) }
-        ensures written { (blocks : List (List LogRecord)) → Finds log.now (S.state site.old)
-            → HasBlocks log.now.geometry master.now.kept blocks (S.state site.old).image
-            → Pairwise (HoldsOff (log_from master.now.kept blocks)) (log_from master.now.kept blocks)
-            → IfOk result (λ found. IfOk found (λ logged.
-            AreWritten (log_from master.now.kept blocks) (log_from master.now.kept blocks) logged.written)) }
-        ensures reads { OnlyReads result (S.state site.old) (S.state site.new) }
+        ensures { Judges found.now result (S.state site.old) (S.state site.new) (λ blocks answer. (IsTrue (is_ok answer)
+            ↔ AllByRecursion (IsKnownEarly found.now.master.redo lsns.now) (records_of found.now blocks))
+            × IfOk answer (λ logged.
+            Hears found.now.master.redo lsns.now (records_of found.now blocks) logged (records_of found.now blocks))) }
     {
-        let mut walk = Walk::start(log, master.kept);
+        let mut walk = Walk::start(&found.log, found.master.kept);
         let mut logged = Logged::new(alloc);
-        while let Some((lsn, rec)) = walk.next(site, log)? {
-            if !is_known_early(lsns, lsn, &rec, master.redo) {
+        while let Some((lsn, rec)) = walk.next(site, &found.log)? {
+            if !is_known_early(lsns, lsn, &rec, found.master.redo) {
                 return Ok(Err(page_of(&rec)));
             }
             if let Err(stop) = logged.hear(lsns, lsn, rec) {
@@ -143,27 +125,28 @@ impl Logged {
     fn count_page<S: Site>(
         &self,
         site: &mut S,
-        geometry: &Geometry,
-        rings: &Rings,
+        found: &Found,
         frames: &Directory,
         page: u32,
     ) -> Result<Option<u64>, Stop>
-        requires may_read { MayRead geometry.now rings.now (S.state site.old) }
-        requires live { AreLive rings.now frames.now }
-        requires exists { page < geometry.now.pages }
+        requires may { MayBeJudged found.now (S.state site.old) }
+        requires live { AreLive found.now.rings frames.now }
+        requires exists { page < found.now.log.geometry.pages }
 
-        ensures shown { FindsVersions geometry.now rings.now frames.now (S.state site.old)
-            → AreVersions geometry.now (S.state site.old).image
+        ensures shown { FindsVersions found.now frames.now (S.state site.old)
+            → AreVersions found.now.log.geometry (S.state site.old).image
             → IfOk result (λ count. IsTrue (is_some count)
-            ↔ HasContents self.now.expected.contents page (version_on geometry.now (S.state site.old).image page)) }
-        ensures values { (log : List Entry) → FindsVersions geometry.now rings.now frames.now (S.state site.old)
-            → AreVersions geometry.now (S.state site.old).image → AreWritten log log self.now.written
+            ↔ HasContents self.now.expected.contents page
+            (version_on found.now.log.geometry (S.state site.old).image page)) }
+        ensures values { (log : List Entry) → FindsVersions found.now frames.now (S.state site.old)
+            → AreVersions found.now.log.geometry (S.state site.old).image → AreWritten log log self.now.written
             → IfOk result (λ count. IfSome count (λ count. count ≡ count_by is_some (map
-            (value_of log (versions_on geometry.now (S.state site.old).image)) (range_with_len (32 * page) 32)))) }
+            (value_of log (versions_on found.now.log.geometry (S.state site.old).image))
+            (range_with_len (32 * page) 32)))) }
         ensures few { IfOk result (λ count. IfSome count (λ count. count ≤ 32)) }
         ensures reads { OnlyReads result (S.state site.old) (S.state site.new) }
     {
-        let version = match version_of(site, geometry, rings, frames, page) {
+        let version = match version_of(site, found, frames, page) {
             Ok(version) => version,
             Err(stop) => return Err(stop),
         };
@@ -181,27 +164,26 @@ impl Logged {
     fn count_pages<S: Site>(
         &self,
         site: &mut S,
-        geometry: &Geometry,
-        rings: &Rings,
+        found: &Found,
         frames: &Directory,
     ) -> Result<Result<u64, Place>, Stop>
-        requires may_read { MayRead geometry.now rings.now (S.state site.old) }
-        requires live { AreLive rings.now frames.now }
+        requires may { MayBeJudged found.now (S.state site.old) }
+        requires live { AreLive found.now.rings frames.now }
 
-        ensures shown { FindsVersions geometry.now rings.now frames.now (S.state site.old)
-            → AreVersions geometry.now (S.state site.old).image
-            → IfOk result (λ found. IsTrue (is_ok found) ↔ ((page : ℕ) → page < geometry.now.pages
+        ensures shown { FindsVersions found.now frames.now (S.state site.old)
+            → AreVersions found.now.log.geometry (S.state site.old).image
+            → IfOk result (λ answer. IsTrue (is_ok answer) ↔ ((page : ℕ) → page < found.now.log.geometry.pages
             → HasContents self.now.expected.contents page
-            (version_on geometry.now (S.state site.old).image page))) }
-        ensures values { (log : List Entry) → FindsVersions geometry.now rings.now frames.now (S.state site.old)
-            → AreVersions geometry.now (S.state site.old).image → AreWritten log log self.now.written
-            → IfOk result (λ found. IfOk found (λ count. count
-            ≡ count_by is_some (table_of log (versions_on geometry.now (S.state site.old).image)))) }
+            (version_on found.now.log.geometry (S.state site.old).image page))) }
+        ensures values { (log : List Entry) → FindsVersions found.now frames.now (S.state site.old)
+            → AreVersions found.now.log.geometry (S.state site.old).image → AreWritten log log self.now.written
+            → IfOk result (λ answer. IfOk answer (λ count. count
+            ≡ count_by is_some (table_of log (versions_on found.now.log.geometry (S.state site.old).image)))) }
         ensures reads { OnlyReads result (S.state site.old) (S.state site.new) }
     {
         let mut count = 0;
-        for page in 0..geometry.pages {
-            let more = match self.count_page(site, geometry, rings, frames, page) {
+        for page in 0..found.log.geometry().pages {
+            let more = match self.count_page(site, found, frames, page) {
                 Ok(Some(more)) => more,
                 Ok(None) => return Ok(Err(Place::Page(page))),
                 Err(stop) => return Err(stop),
@@ -216,48 +198,31 @@ impl Logged {
 fn show_log<S: Site>(
     alloc: Global,
     site: &mut S,
-    log: &LogStore,
-    rings: &Rings,
-    master: &Master,
+    found: &Found,
     frames: &Directory,
 ) -> Result<Result<u64, Place>, Stop>
-    requires going { Invariant log.now (S.state site.old) }
-    requires may_read { MayRead log.now.geometry rings.now (S.state site.old) }
-    requires live { log.now.ring.hi ≤ master.now.kept + (log.now.geometry.blocks - 1) }
-    requires redo { master.now.redo ≤ log.now.ring.hi }
-    requires frames { AreLive rings.now frames.now }
+    requires may { MayBeJudged found.now (S.state site.old) }
+    requires live { AreLive found.now.rings frames.now }
 
-    ensures shown { (blocks : List (List LogRecord)) → Finds log.now (S.state site.old)
-        → FindsVersions log.now.geometry rings.now frames.now (S.state site.old)
-        → AreVersions log.now.geometry (S.state site.old).image
-        → HasBlocks log.now.geometry master.now.kept blocks (S.state site.old).image
-        → IfOk result (λ found. IsTrue (is_ok found) ↔ VersionsFit (logical_image_of
-        (record { g = log.now.geometry; master = master.now; blocks = blocks }) (S.state site.old).image)) }
-    ensures values { (blocks : List (List LogRecord)) → Finds log.now (S.state site.old)
-        → FindsVersions log.now.geometry rings.now frames.now (S.state site.old)
-        → AreVersions log.now.geometry (S.state site.old).image
-        → HasBlocks log.now.geometry master.now.kept blocks (S.state site.old).image
-        → LosersHoldOthersOff (logical_image_of (record { g = log.now.geometry; master = master.now; blocks = blocks })
-        (S.state site.old).image)
-        → IfOk result (λ found. IfOk found (λ count. count ≡ values_of (logical_image_of
-        (record { g = log.now.geometry; master = master.now; blocks = blocks }) (S.state site.old).image))) }
-    ensures reads { OnlyReads result (S.state site.old) (S.state site.new) }
+    ensures { Judges found.now result (S.state site.old) (S.state site.new) (λ blocks answer.
+        FindsVersions found.now frames.now (S.state site.old)
+        → AreVersions found.now.log.geometry (S.state site.old).image
+        → ShowsLog (logical_image_of (reading_of found.now blocks) (S.state site.old).image) answer) }
 {
-    let geometry = log.geometry();
-    let lsns = match version_lsns(alloc, site, &geometry, rings, frames) {
+    let lsns = match version_lsns(alloc, site, found, frames) {
         Ok(lsns) => lsns,
         Err(stop) => return Err(stop),
     };
-    if let Some(place) = find_unlogged(&lsns, log.sealed_end()) {
+    if let Some(place) = find_unlogged(&lsns, found.log.sealed_end()) {
         return Ok(Err(place));
     }
-    let logged = match Logged::of_log(alloc, site, log, master, &lsns) {
+    let logged = match Logged::of_log(alloc, site, found, &lsns) {
         Ok(Ok(logged)) => logged,
         Ok(Err(place)) => return Ok(Err(place)),
         Err(stop) => return Err(stop),
     };
-    match logged.count_pages(site, &geometry, rings, frames) {
-        Ok(found) => Ok(found),
+    match logged.count_pages(site, found, frames) {
+        Ok(answer) => Ok(answer),
         Err(stop) => Err(stop),
     }
 }
@@ -271,38 +236,22 @@ fn show_log<S: Site>(
 pub fn rule_shown<S: Site>(
     alloc: Global,
     site: &mut S,
-    log: &LogStore,
-    rings: &Rings,
-    master: &Master,
+    found: &Found,
 ) -> Result<Result<u64, Place>, Stop>
-    requires going { Invariant log.now (S.state site.old) }
-    requires may_read { MayRead log.now.geometry rings.now (S.state site.old) }
-    requires live { log.now.ring.hi ≤ master.now.kept + (log.now.geometry.blocks - 1) }
-    requires redo { master.now.redo ≤ log.now.ring.hi }
+    requires { MayBeJudged found.now (S.state site.old) }
 
-    ensures shown { (blocks : List (List LogRecord)) → Finds log.now (S.state site.old)
-        → AreFound rings.now (S.state site.old)
-        → OctetsAreFormed log.now.geometry master.now (S.state site.old).image
-        → HasBlocks log.now.geometry master.now.kept blocks (S.state site.old).image
-        → IfOk result (λ found. IsTrue (is_ok found) ↔ VersionsFit (logical_image_of
-        (record { g = log.now.geometry; master = master.now; blocks = blocks }) (S.state site.old).image)) }
-    ensures values { (blocks : List (List LogRecord)) → Finds log.now (S.state site.old)
-        → AreFound rings.now (S.state site.old)
-        → OctetsAreFormed log.now.geometry master.now (S.state site.old).image
-        → HasBlocks log.now.geometry master.now.kept blocks (S.state site.old).image
-        → LosersHoldOthersOff (logical_image_of (record { g = log.now.geometry; master = master.now; blocks = blocks })
-        (S.state site.old).image)
-        → IfOk result (λ found. IfOk found (λ count. count ≡ values_of (logical_image_of
-        (record { g = log.now.geometry; master = master.now; blocks = blocks }) (S.state site.old).image))) }
-    ensures reads { OnlyReads result (S.state site.old) (S.state site.new) }
+    ensures { Judges found.now result (S.state site.old) (S.state site.new) (λ blocks answer.
+        AreFound found.now.rings (S.state site.old)
+        → OctetsAreFormed found.now.log.geometry found.now.master (S.state site.old).image
+        → ShowsLog (logical_image_of (reading_of found.now blocks) (S.state site.old).image) answer) }
 {
-    let frames = match find_frames(alloc, site, &log.geometry(), rings) {
+    let frames = match find_frames(alloc, site, &found.log.geometry(), &found.rings) {
         Ok(Some(frames)) => frames,
         Ok(None) => return Ok(Err(Place::Groups)),
         Err(stop) => return Err(stop),
     };
-    match show_log(alloc, site, log, rings, master, &frames) {
-        Ok(found) => Ok(found),
+    match show_log(alloc, site, found, &frames) {
+        Ok(answer) => Ok(answer),
         Err(stop) => Err(stop),
     }
 }

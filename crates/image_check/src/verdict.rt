@@ -3,7 +3,8 @@ ghost use Rattle.std.specs.Prelude.{◌≡◌, List, IsTrue, IfOk};
 ghost use Rattle.site.specs.State.{State};
 ghost use Rattle.site.specs.Work.{OnlyReads};
 ghost use Rattle.log_records.specs.declared.log_record.LogRecord.{LogRecord};
-ghost use Rattle.image_check.specs.Deciding.{MayBeJudged, MeetsBefore, HoldOr, IsSurveyOf, reading_of};
+ghost use Rattle.image_check.specs.Deciding.{Decides, MeetsBefore, HoldOr, IsSurveyOf};
+ghost use Rattle.image_check.specs.Judging.{MayBeJudged, reading_of};
 ghost use Rattle.image_check.specs.Judgement.{IsVerdictOn};
 ghost use Rattle.image_form.specs.Verdict.{logical_image_of, values_of};
 
@@ -35,15 +36,14 @@ fn failing_on_log<S: Site>(
 ) -> Result<Option<(u8, Place)>, Stop>
     requires { MayBeJudged found.now (S.state site.old) }
 
-    ensures judged { (blocks : List (List LogRecord)) → MeetsBefore 4 found.now blocks (S.state site.old)
-        → IsSurveyOf found.now blocks survey.now
-        → IfOk result (λ failing. HoldOr 6 failing (reading_of found.now blocks) (S.state site.old).image) }
-    ensures reads { OnlyReads result (S.state site.old) (S.state site.new) }
+    ensures { Decides 4 found.now result (S.state site.old) (S.state site.new) (λ blocks failing.
+        IsSurveyOf found.now blocks survey.now
+        → HoldOr 6 failing (reading_of found.now blocks) (S.state site.old).image) }
 {
-    if let Some(place) = rule_undoable(alloc, site, &found.log, &found.master, &survey.left)? {
+    if let Some(place) = rule_undoable(alloc, site, found, &survey.left)? {
         return Ok(Some((4, place)));
     }
-    if let Some(place) = rule_apart(alloc, site, &found.log, &found.master, &survey.left)? {
+    if let Some(place) = rule_apart(alloc, site, found, &survey.left)? {
         return Ok(Some((5, place)));
     }
     Ok(None)
@@ -53,9 +53,8 @@ fn failing_on_log<S: Site>(
 fn failing_on_flash<S: Site>(site: &mut S, found: &Found) -> Result<Option<(u8, Place)>, Stop>
     requires { MayBeJudged found.now (S.state site.old) }
 
-    ensures judged { (blocks : List (List LogRecord)) → MeetsBefore 7 found.now blocks (S.state site.old)
-        → IfOk result (λ failing. HoldOr 9 failing (reading_of found.now blocks) (S.state site.old).image) }
-    ensures reads { OnlyReads result (S.state site.old) (S.state site.new) }
+    ensures { Decides 7 found.now result (S.state site.old) (S.state site.new) (λ blocks failing.
+        HoldOr 9 failing (reading_of found.now blocks) (S.state site.old).image) }
 {
     let geometry = found.log.geometry();
     if let Some(place) = rule_clean(site, &geometry, &found.rings)? {
@@ -71,12 +70,12 @@ fn failing_on_flash<S: Site>(site: &mut S, found: &Found) -> Result<Option<(u8, 
 fn judge_counts(found: &Found, survey: &Survey, records: u64) -> Verdict
     requires { (site : State) × MayBeJudged found.now site }
 
-    ensures verdict { (site : State) (blocks : List (List LogRecord)) → MeetsBefore 9 found.now blocks site
+    ensures { (site : State) (blocks : List (List LogRecord)) → MeetsBefore 9 found.now blocks site
         → IsSurveyOf found.now blocks survey.now
         → records ≡ values_of (logical_image_of (reading_of found.now blocks) site.image)
         → IsVerdictOn site.image result }
 {
-    if !rule_room(&found.log, &found.master, &survey.left) {
+    if !rule_room(found, &survey.left) {
         return Verdict::Unsound {
             rule: 9,
             place: Place::Blocks,
@@ -88,7 +87,7 @@ fn judge_counts(found: &Found, survey: &Survey, records: u64) -> Verdict
             place: Place::Master,
         };
     }
-    match rule_commits(&found.log, &found.master, &survey.numbers) {
+    match rule_commits(found, &survey.numbers) {
         Some(commits) => Verdict::Sound { records, commits },
         None => Verdict::Unsound {
             rule: 11,
@@ -106,12 +105,11 @@ fn judge_pages<S: Site>(
 ) -> Result<Verdict, Stop>
     requires { MayBeJudged found.now (S.state site.old) }
 
-    ensures verdict { (blocks : List (List LogRecord)) → MeetsBefore 6 found.now blocks (S.state site.old)
-        → IsSurveyOf found.now blocks survey.now
-        → IfOk result (λ verdict. IsVerdictOn (S.state site.old).image verdict) }
-    ensures reads { OnlyReads result (S.state site.old) (S.state site.new) }
+    ensures { Decides 6 found.now result (S.state site.old) (S.state site.new) (λ blocks verdict.
+        IsSurveyOf found.now blocks survey.now
+        → IsVerdictOn (S.state site.old).image verdict) }
 {
-    let records = match rule_shown(alloc, site, &found.log, &found.rings, &found.master)? {
+    let records = match rule_shown(alloc, site, found)? {
         Ok(records) => records,
         Err(place) => return Ok(Verdict::Unsound { rule: 6, place }),
     };
@@ -125,11 +123,10 @@ fn judge_pages<S: Site>(
 fn judge_found<S: Site>(alloc: Global, site: &mut S, found: &Found) -> Result<Verdict, Stop>
     requires { MayBeJudged found.now (S.state site.old) }
 
-    ensures verdict { (blocks : List (List LogRecord)) → MeetsBefore 3 found.now blocks (S.state site.old)
-        → IfOk result (λ verdict. IsVerdictOn (S.state site.old).image verdict) }
-    ensures reads { OnlyReads result (S.state site.old) (S.state site.new) }
+    ensures { Decides 3 found.now result (S.state site.old) (S.state site.new) (λ blocks verdict.
+        IsVerdictOn (S.state site.old).image verdict) }
 {
-    let survey = match rule_transactions(alloc, site, &found.log, &found.master)? {
+    let survey = match rule_transactions(alloc, site, found)? {
         Ok(survey) => survey,
         Err(place) => return Ok(Verdict::Unsound { rule: 3, place }),
     };

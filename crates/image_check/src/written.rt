@@ -1,12 +1,12 @@
 // What a log has written to the records of the table, record by record.
-ghost use Rattle.std.specs.Prelude.{◌≡◌, ◌==◌, ◌++◌, ◌∷◌, [], ℕ, nat_eq, List, Some, true, is_some, IfErr, OnOk};
+ghost use Rattle.std.specs.Prelude.{◌≡◌, ◌==◌, ◌++◌, ◌∷◌, [], ℕ, nat_eq, List, Some, true, is_some};
 ghost use Rattle.std.specs.Prelude.{if◌then◌else◌};
 ghost use Rattle.std.specs.Option.{option_or};
-ghost use Rattle.site.specs.declared.outside.Stop.{Stop};
 ghost use Rattle.indexmap.specs.IndexMap.{get};
 ghost use Rattle.indexmap.specs.IndexSet.{contains};
 ghost use Rattle.log_records.specs.Log.{Entry, Version, slot_at, value_of};
 ghost use Rattle.log_records.specs.Sound.{Pairwise, HoldsOff};
+ghost use Rattle.image_check.specs.Judging.{OrMemory};
 ghost use Rattle.image_check.specs.Writing.{AreWritten, before_by};
 
 use indexmap::{IndexMap, IndexSet};
@@ -61,15 +61,13 @@ impl Writings {
         before: Option<bool>,
         after: bool,
     ) -> Result<(), Stop>
-        ensures last { OnOk result ((n : ℕ) → get nat_eq self.new.last n ≡ (if number == n
+        ensures { OrMemory result (λ done. ((n : ℕ) → get nat_eq self.new.last n ≡ (if number == n
             then Some (record {
               txn = txn;
               after = after;
               before = option_or (before_by (get nat_eq self.old.last number) txn) before;
             })
-            else get nat_eq self.old.last n)) }
-        ensures closed { OnOk result (self.new.closed ≡ self.old.closed) }
-        ensures stops { IfErr result (λ stop. stop ≡ Stop.Memory) }
+            else get nat_eq self.old.last n)) × (self.new.closed ≡ self.old.closed)) }
     {
         let written = Written {
             txn,
@@ -84,10 +82,8 @@ impl Writings {
 
     // A transaction is closed.
     fn close(&mut self, txn: u64) -> Result<(), Stop>
-        ensures closed { OnOk result ((t : ℕ) → contains nat_eq self.new.closed t
-            ≡ (if txn == t then true else contains nat_eq self.old.closed t)) }
-        ensures last { OnOk result (self.new.last ≡ self.old.last) }
-        ensures stops { IfErr result (λ stop. stop ≡ Stop.Memory) }
+        ensures { OrMemory result (λ done. ((t : ℕ) → contains nat_eq self.new.closed t
+            ≡ (if txn == t then true else contains nat_eq self.old.closed t)) × (self.new.last ≡ self.old.last)) }
     {
         let Ok(_) = self.closed.insert(txn) else {
             return Err(Stop::Memory);
@@ -97,10 +93,9 @@ impl Writings {
 
     /// Hears the next record.
     pub fn hear(&mut self, rec: &LogRecord) -> Result<(), Stop>
-        ensures heard { (log : List Entry) (records : List Entry) (lsn : ℕ) → Pairwise (HoldsOff log) records
-            → AreWritten log records self.old
-            → OnOk result (AreWritten log (records ++ record { lsn = lsn; rec = rec.now } ∷ []) self.new) }
-        ensures stops { IfErr result (λ stop. stop ≡ Stop.Memory) }
+        ensures { OrMemory result (λ done. (log : List Entry) (records : List Entry) (lsn : ℕ)
+            → Pairwise (HoldsOff log) records → AreWritten log records self.old
+            → AreWritten log (records ++ record { lsn = lsn; rec = rec.now } ∷ []) self.new) }
     {
         match rec {
             LogRecord::Begin => Ok(()),

@@ -1,7 +1,8 @@
 -- A group read frame by frame.
-use Rattle.std.proofs.Common.{◌≡◌, ℕ, zero, suc, ◌+◌, ◌-◌, ◌*◌, ◌<◌, ◌≤◌, true, List, [], ◌∷◌, ◌++◌, length, get_or, map, take, drop, replicate, refl, sym, ap, subst, ◌∙◌, arith}
+use Rattle.std.proofs.Common.{◌≡◌, ℕ, ◌+◌, ◌-◌, ◌*◌, ◌<◌, ◌≤◌, true, List, [], ◌∷◌, ◌++◌, length, get_or, map, take, drop, replicate, refl, sym, ap, subst, ◌∙◌, arith}
 use Rattle.std.specs.List.{AllByRecursion}
 use Rattle.std.proofs.lemmas.List.{take_all, take_more, length-append, length-map, get_or_append_left, get_or-map}
+use Rattle.std_lemmas.proofs.AllOf.{all_at, all_push}
 use Rattle.site.specs.declared.geometry.Geometry.{Geometry}
 use Rattle.byte_fields.specs.declared.frame_head.FrameHead.{FrameHead}
 use Rattle.byte_fields.specs.FrameHeads.{blank, present_in_front, AreGroupHeads}
@@ -45,11 +46,6 @@ frame_there content frames i head page is less heads pages =
     let octets : page ≡ f.octets = pages ∙ pages_stand content frames i no_frame is less in
     sym (λ k. frame_of (own k) (octets k))
 
-all_at : (P : Frame → Type 0) (xs : List Frame) (i : ℕ) → i < length xs → AllByRecursion P xs → P (get_or xs i no_frame)
-all_at P [] i less all = absurd (omega (arith, less))
-all_at P (x ∷ xs) zero less all = all.0
-all_at P (x ∷ xs) (suc i) less all = all_at P xs i (omega (arith, less)) all.1
-
 -- of a group on the disk's pages each head and page are those of a frame
 pub frame_by : (g : Geometry) (content : List ℕ) (frames : List Frame) (i : ℕ) (head : FrameHead) (page : List ℕ) → IsGroupOn g content frames → i < length frames →
     head ≡ get_or (heads_of frames) i blank → page ≡ take PAGE_LEN (drop (HEADS_LEN + PAGE_LEN * i) content) → IsFrameBy g.pages head page
@@ -57,16 +53,12 @@ frame_by g content frames i head page on less heads pages =
     let f : Frame = get_or frames i no_frame in
     let own : head ≡ head_of f = heads ∙ head_is frames i less in
     let octets : page ≡ f.octets = pages ∙ pages_stand content frames i no_frame on.group less in
-    let sound = all_at (IsFrameOf g) frames i less on.sound in
+    let sound = all_at (IsFrameOf g) frames i no_frame on.sound less in
     record {
       exists = subst (λ (n : ℕ). n < g.pages) (sym (ap (λ (h : FrameHead). h.page) own)) sound.exists;
       lsn = ap (λ (h : FrameHead). h.lsn) own ∙ sym (same_lsn f.octets) ∙ ap page_lsn (sym octets);
       sound = subst IsSound (sym octets) sound.sound;
     }
-
-all_more : (P : Frame → Type 0) (xs : List Frame) (x : Frame) → AllByRecursion P xs → P x → AllByRecursion P (xs ++ x ∷ [])
-all_more P [] x all p = (p, tt)
-all_more P (y ∷ xs) x all p = (all.0, all_more P xs x all.1 p)
 
 -- no frame yet
 pub put_none : (content again : List ℕ) (pages : ℕ) → again ≡ group [] → Put content again pages 0
@@ -82,8 +74,8 @@ put_more content again new pages n heads head page heads_are less head_is' page_
       frames = p.frames ++ f ∷ [];
       count = let more = length-append p.frames (f ∷ []) in let count = p.count in omega (arith, more, count);
       put = grown p.frames p.count p.put;
-      are = all_more IsFrame p.frames f p.are frame;
-      sound = λ g is. all_more (IsFrameOf g) p.frames f (p.sound g is) (record { exists = subst (λ (k : ℕ). head.page < k) (sym is) by.exists; sound = by.sound });
+      are = all_push IsFrame p.frames f p.are frame;
+      sound = λ g is. all_push (IsFrameOf g) p.frames f (p.sound g is) (record { exists = subst (λ (k : ℕ). head.page < k) (sym is) by.exists; sound = by.sound });
       only = λ others is.
           let all = heads_are others is in
           let many : n < length others = let c = frames_count others in let same = ap present_in_front all in omega (arith, less, c, same) in

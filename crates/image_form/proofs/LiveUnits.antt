@@ -1,6 +1,7 @@
 -- The live units of a ring, one by one and as a list.
-use Rattle.std.proofs.Common.{◌≡◌, ℕ, zero, suc, ◌+◌, ◌-◌, ◌%◌, ◌≤◌, ◌<◌, min, List, [], ◌∷◌, get_or, length, refl, subst, arith}
+use Rattle.std.proofs.Common.{◌≡◌, ℕ, zero, suc, ◌+◌, ◌-◌, ◌%◌, ◌≤◌, ◌<◌, min, List, [], refl, subst, arith}
 use Rattle.std.specs.List.{AllByRecursion}
+use Rattle.std_lemmas.proofs.AllOf.{all_at}
 use Rattle.site.specs.State.{Image}
 use Rattle.sealed_ring.specs.declared.slots.Shape.{Shape}
 use Rattle.sealed_ring.specs.Ring.{IsLive, hi_of, content_at, units_from, unit_at}
@@ -19,11 +20,6 @@ all_from P s c first (suc k) each =
           subst (λ (n : ℕ). P (content_at s c (n % s.slots))) there (each (suc i) (omega (arith, less)))),
     )
 
-all_at : (P : List ℕ → Type 0) (xs : List (List ℕ)) (i : ℕ) → i < length xs → AllByRecursion P xs → P (get_or xs i [])
-all_at P [] i less all = absurd (omega (arith, less))
-all_at P (x ∷ xs) zero less all = all.0
-all_at P (x ∷ xs) (suc i) less all = all_at P xs i (omega (arith, less)) all.1
-
 pub all_live : (P : List ℕ → Type 0) (s : Shape) (image : Image) → 3 ≤ s.slots → OfLive s image (λ n. P (unit_at s (units_on s image) n)) → AllByRecursion P (units_on s image).live
 all_live P s image slots each =
     let c : List ℕ = octets_of s image in
@@ -37,4 +33,4 @@ pub each_live : (P : List ℕ → Type 0) (s : Shape) (image : Image) → 3 ≤ 
 each_live P s image slots all n live =
     let c : List ℕ = octets_of s image in
     let count = live_count s c in
-    all_at P (units_on s image).live (n - (hi_of s c - (s.slots - 1))) (omega (arith, count, slots, live.below, live.near)) all
+    all_at P (units_on s image).live (n - (hi_of s c - (s.slots - 1))) [] all (omega (arith, count, slots, live.below, live.near))

@@ -1,14 +1,18 @@
 -- What was read of one live unit of a ring, and of all.
-use Rattle.std.proofs.Common.{◌≡◌, inl, inr, ℕ, ◌+◌, ◌≤◌, ◌<◌, List, take, drop, refl, sym, ap, ◌∙◌, subst, arith}
+use Rattle.std.proofs.Common.{◌≡◌, inl, inr, ℕ, ◌+◌, ◌-◌, ◌≤◌, ◌<◌, IsTrue, List, take, drop, refl, sym, ap, ◌∙◌, subst, arith}
 use Rattle.std.proofs.lemmas.Bool.{cases_eq}
 use Rattle.std.proofs.lemmas.List.{take-take}
+use Rattle.std.specs.Prelude.{Ok}
 use Rattle.site.specs.State.{State, Image}
+use Rattle.site.specs.Laws.{stays_honest}
+use Rattle.site.specs.Work.{OnlyReads}
 use Rattle.sealed_ring.specs.declared.slots.Shape.{Shape}
 use Rattle.sealed_ring.specs.declared.ring.Ring.{Ring}
 use Rattle.sealed_ring.specs.Ring.{IsLive, hi_of, unit_at}
 use Rattle.sealed_ring.specs.Ready.{region, units_in, Matches}
 use Rattle.sealed_ring.proofs.Heads.{unit_is}
 use Rattle.image_changes.specs.Rings.{units_on}
+use Rattle.image_form.proofs.Lasting.{fits_later}
 
 -- a unit that was read whole, from a ring of this shape
 pub unit_read : (s : Shape) (ring : Ring) (site : State) (n : ℕ) (read : List ℕ) → 3 ≤ s.slots → ring.shape ≡ s → Matches ring site → IsLive ring.shape ring.hi n →
@@ -22,6 +26,26 @@ unit_read s ring site n read slots shape fits live is =
     ∙ take-take ring.shape.room ring.shape.room _ (omega arith)
     ∙ sym stands
     ∙ ap (λ (t : Shape). unit_at t (units_on t site.image) n) shape
+
+-- where a ring that was found ends
+pub end_is : (s : Shape) (ring : Ring) (site : State) → ring.shape ≡ s → Matches ring site → ring.hi ≡ hi_of s (region s site)
+end_is s ring site shape fits = fits ∙ ap (λ (t : Shape). hi_of t (region t site)) shape
+
+-- a unit from the oldest one on is live
+pub live_there : (s : Shape) (ring : Ring) (site : State) (n : ℕ) → ring.shape ≡ s → Matches ring site → ring.hi ≤ n + (ring.shape.slots - 1) → n < ring.hi → IsLive s (hi_of s (region s site)) n
+live_there s ring site n shape fits near below =
+    subst (λ (t : Shape). IsLive t (hi_of t (region t site)) n) shape (subst (λ (h : ℕ). IsLive ring.shape h n) fits (record { below = below; near = omega (arith, near, below) }))
+
+-- and one that was read whole after calls that only read is that of the content at entry
+pub read_whole : (s : Shape) (ring : Ring) (old now : State) (n len : ℕ) (read : List ℕ) → 3 ≤ s.slots → len ≡ s.room → ring.shape ≡ s → OnlyReads {T = Unit {0}} (Ok tt) old now → IsTrue old.honest → Matches ring old →
+    ring.hi ≤ n + (ring.shape.slots - 1) → n < ring.hi → (IsTrue now.honest → Matches ring now → read ≡ take len (drop 0 (unit_at ring.shape (units_in ring.shape now) n))) → read ≡ unit_at s (units_on s old.image) n
+read_whole s ring old now n len read slots room shape reads honest fits near below part =
+    let same : now.image ≡ old.image = (reads.same honest).image in
+    let there : Matches ring now = fits_later ring old now same fits in
+    let whole : len ≡ ring.shape.room = room ∙ ap (λ (t : Shape). t.room) (sym shape) in
+    unit_read s ring now n read slots shape there (record { below = below; near = omega (arith, near, below) })
+    (part (stays_honest old now reads.preserves honest) there ∙ ap (λ (k : ℕ). take k (drop 0 (unit_at ring.shape (units_in ring.shape now) n))) whole)
+    ∙ ap (λ (image : Image). unit_at s (units_on s image) n) same
 
 -- one unit more
 pub one_more : (P : List ℕ → Type 0) (s : Shape) (image : Image) (hi at : ℕ) → P (unit_at s (units_on s image) at) → ((n : ℕ) → IsLive s hi n → n < at → P (unit_at s (units_on s image) n)) →

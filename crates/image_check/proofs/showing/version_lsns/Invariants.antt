@@ -1,7 +1,7 @@
 use Rattle.std.proofs.Common.{◌≡◌, length}
 use Rattle.std.specs.Prelude.{Ok}
 use Rattle.site.specs.Work.{OnlyReads}
-use Rattle.image_form.specs.Findings.{MayRead}
+use Rattle.image_check.specs.Judging.{MayBeJudged}
 use Rattle.image_check.specs.Showing.{FindsVersions}
 use Rattle.image_check.proofs.ShownOnes.{first_lsns}
 use Rattle.image_check.proofs.showing.version_lsns.Given as goal
@@ -9,10 +9,9 @@ use Rattle.image_check.proofs.showing.version_lsns.Given as goal
 abbrev pub invariant-loop-page : goal.invariant-loop-page
 invariant-loop-page g l =
     let old = g.S.Site.state l.fn.site in
-    let now = g.S.Site.state l.site in
     record {
-      may_read : MayRead l.geometry l.rings now;
+      may : MayBeJudged l.found (g.S.Site.state l.site);
       many : length l.lsns.items ≡ l.page;
-      lsns : FindsVersions l.geometry l.rings l.frames old → l.lsns.items ≡ first_lsns l.geometry old.image l.page;
-      reads : OnlyReads {T = Unit {0}} (Ok tt) old now;
+      lsns : FindsVersions l.found l.frames old → l.lsns.items ≡ first_lsns l.found.log.geometry old.image l.page;
+      reads : OnlyReads {T = Unit {0}} (Ok tt) old (g.S.Site.state l.site);
     }

@@ -1,26 +1,13 @@
-use Rattle.std.proofs.Common.{List}
-use Rattle.std.specs.Prelude.{Ok}
-use Rattle.log_records.specs.declared.log_record.LogRecord.{LogRecord}
-use Rattle.log_records.specs.Log.{log_from}
-use Rattle.log_store.specs.Representation.{Invariant, Finds, HasBlocks}
-use Rattle.site.specs.Work.{OnlyReads}
-use Rattle.image_form.specs.Walking.{MayWalk, to_go}
-use Rattle.image_check.specs.Unended.{AreLeft}
+use Rattle.image_form.specs.Walking.{to_go}
 use Rattle.image_check.specs.Chaining.{AreStrays}
-use Rattle.image_form.proofs.Walks.{Walked}
+use Rattle.image_check.specs.Judging.{records_of}
+use Rattle.image_check.specs.Unended.{AreLeft}
+use Rattle.image_check.proofs.Walking.{WalksOver}
 use Rattle.image_check.proofs.undoable.find_strays.Given as goal
 
 abbrev pub invariant-loop-strays : goal.invariant-loop-strays
-invariant-loop-strays g l =
-    let old = g.S.Site.state l.fn.site in
-    let now = g.S.Site.state l.site in
-    record {
-      going : Invariant l.log now;
-      walks : MayWalk l.log l.walk;
-      heard : (blocks : List (List LogRecord)) → Finds l.log old → HasBlocks l.log.geometry l.kept blocks old.image → AreLeft (log_from l.kept blocks) l.left.left.items →
-          (w : Walked l.walk l.log old.image (log_from l.kept blocks)) × AreStrays (log_from l.kept blocks) w.done l.strays.txns.items;
-      reads : OnlyReads {T = Unit {0}} (Ok tt) old now;
-    }
+invariant-loop-strays g l = WalksOver l.found l.walk (g.S.Site.state l.fn.site) (g.S.Site.state l.site) (λ blocks done. AreLeft (records_of l.found blocks) l.left.left.items →
+    AreStrays (records_of l.found blocks) done l.strays.txns.items)
 
 abbrev pub decreases-loop-strays : goal.decreases-loop-strays
-decreases-loop-strays g l = to_go l.log l.walk
+decreases-loop-strays g l = to_go l.found.log l.walk

@@ -1,6 +1,7 @@
-use Rattle.std.proofs.Common.{◌≡◌, ◌+◌, ◌*◌, ℕ, ap, ◌∙◌, arith}
+use Rattle.std.proofs.Common.{sym, ◌≡◌, ◌+◌, ◌*◌, ℕ, ap, ◌∙◌, arith}
 use Rattle.log_records.specs.Log.{value_of}
-use Rattle.image_check.proofs.ValuesCounted.{values_among, one_value, one_at_most, some_mapped, slot_has}
+use Rattle.image_check.proofs.ValuesCounted.{values_among, one_value, one_at_most, slot_has}
+use Rattle.std_lemmas.proofs.Options.{some_mapped}
 use Rattle.image_check.proofs.values.count_on.Goals as goal
 
 pub loop-slot-preserved : goal.loop-slot-preserved
@@ -8,7 +9,7 @@ loop-slot-preserved c = record {
   counted = λ log pages are version.
       let page : ℕ = c.args.page in
       let slot : ℕ = c.loop-slot.slot in
-      let there = slot_has pages page slot c.args.version.now _ c.is_some-in_slot.result c.loop-slot-test.true version c.get.ensures.content (c.is_some-in_slot.ensures ∙ some_mapped _ c.get.result) in
+      let there = slot_has pages page slot c.args.version.now _ c.is_some-in_slot.result c.loop-slot-test.true version c.get.ensures.content (c.is_some-in_slot.ensures ∙ sym (some_mapped _ c.get.result)) in
       ap (λ (k : ℕ). c.loop-slot.count + k) c.one_if-count.ensures
       ∙ one_value (value_of log pages) (32 * page) slot c.loop-slot.count c.has_value-has_value.result (c.has_value-has_value.ensures log pages are there) (c.loop-slot.invariant.counted log pages are version);
   few = let before = c.loop-slot.invariant.few in let more = one_at_most c.one_if-count.result c.has_value-has_value.result c.one_if-count.ensures in omega (arith, before, more);

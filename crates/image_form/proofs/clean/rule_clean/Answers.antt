@@ -1,10 +1,8 @@
-use Rattle.std.proofs.Common.{rules, ◌≡◌, ◌+◌, ◌-◌, ◌≤◌, inl, inr, ℕ, List, true≢false, refl, sym, ap, ◌∙◌, subst, arith}
+use Rattle.std.proofs.Common.{rules, ◌≡◌, inl, inr, ℕ, List, true≢false, refl, sym, ◌∙◌, subst, arith}
 use Rattle.std.proofs.lemmas.Bool.{cases_eq}
 use Rattle.site.specs.State.{State, Image}
 use Rattle.site.specs.Laws.{stays_honest}
-use Rattle.sealed_ring.specs.declared.slots.Shape.{Shape}
 use Rattle.sealed_ring.specs.Ring.{IsLive, hi_of}
-use Rattle.sealed_ring.specs.Ready.{region}
 use Rattle.image_changes.specs.Rings.{group_shape}
 use Rattle.frame_group.specs.Groups.{Frame, frames_in}
 use Rattle.frame_group.proofs.Contents.{frames_are_in}
@@ -13,6 +11,7 @@ use Rattle.image_form.specs.Octets.{IsGroupOn, AreGroups}
 use Rattle.image_form.specs.Framing.{IsCleanFrame}
 use Rattle.image_form.proofs.Lasting.{found_later, may_read_later}
 use Rattle.image_form.proofs.CleanOnes.{clean_of_each, each_clean}
+use Rattle.image_form.proofs.UnitsJudged.{end_is, live_there}
 use Rattle.image_form.proofs.clean.rule_clean.Goals as goal
 
 pub returns-then-not-clean-clause-clean : goal.returns-then-not-clean-clause-clean
@@ -25,14 +24,8 @@ returns-then-not-clean-clause-clean g c honest found groups =
     let reads = c.loop-group.invariant.reads in
     let same : now.image ≡ old.image = (reads.same honest).image in
     let n : ℕ = c.loop-group.group in
-    let slots : ring.shape.slots ≡ geometry.groups = ap (λ (s : Shape). s.slots) c.requires.groups_shape in
     let some = c.requires.sizes.limits.groups in
-    let hi : ring.hi ≡ hi_of (group_shape geometry) old.image.flash = found.groups ∙ ap (λ (s : Shape). hi_of s (region s old)) c.requires.groups_shape in
-    let low : ring.hi ≤ n + (geometry.groups - 1) = omega (arith, c.loop-group.auto.group, c.oldest-group.ensures, slots, some) in
-    let live : IsLive (group_shape geometry) (hi_of (group_shape geometry) old.image.flash) n = record {
-      below = omega (arith, c.loop-group-test.true, c.hi-group-end.ensures, hi);
-      near = omega (arith, low, hi, some);
-    } in
+    let live = live_there (group_shape geometry) ring old n c.requires.groups_shape found.groups (omega (arith, c.loop-group.auto.group, c.oldest-group.ensures)) (omega (arith, c.loop-group-test.true, c.hi-group-end.ensures)) in
     let frames = groups n live in
     let mine = frames_are_in (group_on geometry old.image n) frames.0 frames.1.group in
     let says = c.in-Ok.ensures.clean frames.0 (stays_honest old now reads.preserves honest) (found_later rings old now same found) (subst (AreGroups geometry) (sym same) groups)
@@ -56,7 +49,7 @@ loop-group-preserved g c =
       stand = λ honest found groups n live below. elim (cases_eq n at) [
         | inl here ↦
             let same : now.image ≡ old.image = (reads.same honest).image in
-            let hi : ring.hi ≡ hi_of (group_shape geometry) old.image.flash = found.groups ∙ ap (λ (s : Shape). hi_of s (region s old)) c.requires.groups_shape in
+            let hi : ring.hi ≡ hi_of (group_shape geometry) old.image.flash = end_is (group_shape geometry) ring old c.requires.groups_shape found.groups in
             let lives : IsLive (group_shape geometry) (hi_of (group_shape geometry) old.image.flash) at = subst (λ (h : ℕ). IsLive (group_shape geometry) h at) hi (subst (IsLive (group_shape geometry) ring.hi) here live) in
             let frames = groups at lives in
             let mine = frames_are_in (group_on geometry old.image at) frames.0 frames.1.group in
@@ -75,7 +68,7 @@ returns-clause-clean g c honest found groups =
     let ring = c.args.rings.now.groups in
     let old : State = g.S.Site.state c.args.site.now in
     let some = c.requires.sizes.limits.groups in
-    let hi : ring.hi ≡ hi_of (group_shape geometry) old.image.flash = found.groups ∙ ap (λ (s : Shape). hi_of s (region s old)) c.requires.groups_shape in (
+    let hi : ring.hi ≡ hi_of (group_shape geometry) old.image.flash = end_is (group_shape geometry) ring old c.requires.groups_shape found.groups in (
       λ yes. clean_of_each geometry old.image (omega (arith, some)) (λ n live i.
           let here = subst (λ (h : ℕ). IsLive (group_shape geometry) h n) (sym hi) live in
           let below = here.below in

@@ -47,11 +47,8 @@ returns-then-not-same-clause-following g c m honest found formed =
 -- src/following.rt:74:13
 pub returns-then-not-same-clause-reads : goal.returns-then-not-same-clause-reads
 returns-then-not-same-clause-reads g c =
-    let old : State = g.S.Site.state c.args.site.now in
-    let now : State = g.S.Site.state c.loop-group.site in
-    let new : State = g.S.Site.state c.are_saved.new.site in
     let group : ℕ = c.loop-group.group in
-    looks_answered c.in-Ok.same (Some (place.Group group)) old new (looks_then tt (Ok c.in-Ok.same) old now new c.loop-group.invariant.reads c.in-Ok.ensures.reads)
+    looks_answered c.in-Ok.same (Some (place.Group group)) _ _ (looks_then tt (Ok c.in-Ok.same) _ _ _ c.loop-group.invariant.reads c.in-Ok.ensures.reads)
 
 -- src/following.rt:68:5
 pub loop-group-preserved : goal.loop-group-preserved

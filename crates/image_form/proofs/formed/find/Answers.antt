@@ -1,4 +1,4 @@
-use Rattle.std.proofs.Common.{rules, ◌≡◌, subst}
+use Rattle.std.proofs.Common.{rules, subst}
 use Rattle.std.specs.Prelude.{Option, Result, Ok, Err}
 use Rattle.site.specs.declared.geometry.Geometry.{Geometry}
 use Rattle.site.specs.State.{State}
@@ -33,38 +33,23 @@ returns-in-Err-clause-found g c honest =
 
 pub returns-in_default-2-clause-reads : goal.returns-in_default-2-clause-reads
 returns-in_default-2-clause-reads g c =
-    let s0 : State = g.S.Site.state c.args.site.now in
-    let s1 : State = g.S.Site.state c.rule_rings.new.site in
-    let s2 : State = g.S.Site.state c.rule_master.new.site in
     let answer : Result Found Place = Err place.Master in
-    looks_then c.in_ok-rings.field-0 (Ok answer) s0 s1 s2 c.in_ok-rings.ensures.reads (looks_answered c.in_ok-master.field-0 answer s1 s2 c.in_ok-master.ensures.reads)
+    looks_then c.in_ok-rings.field-0 (Ok answer) _ _ _ c.in_ok-rings.ensures.reads (looks_answered c.in_ok-master.field-0 answer _ _ c.in_ok-master.ensures.reads)
 
 pub returns-in_err-log-clause-reads : goal.returns-in_err-log-clause-reads
 returns-in_err-log-clause-reads g c =
-    let s0 : State = g.S.Site.state c.args.site.now in
-    let s1 : State = g.S.Site.state c.rule_rings.new.site in
-    let s2 : State = g.S.Site.state c.rule_master.new.site in
-    let s3 : State = g.S.Site.state c.find_log.new.site in
-    looks_then c.in_ok-rings.field-0 c.from_residual-in_err-log.result s0 s1 s3 c.in_ok-rings.ensures.reads
-    (looks_then c.in_ok-master.field-0 c.from_residual-in_err-log.result s1 s2 s3 c.in_ok-master.ensures.reads (search rules))
+    looks_then c.in_ok-rings.field-0 c.from_residual-in_err-log.result _ _ _ c.in_ok-rings.ensures.reads
+    (looks_then c.in_ok-master.field-0 c.from_residual-in_err-log.result _ _ _ c.in_ok-master.ensures.reads (search rules))
 
 pub returns-in_default-3-clause-reads : goal.returns-in_default-3-clause-reads
 returns-in_default-3-clause-reads g c =
-    let s0 : State = g.S.Site.state c.args.site.now in
-    let s1 : State = g.S.Site.state c.rule_rings.new.site in
-    let s2 : State = g.S.Site.state c.rule_master.new.site in
-    let s3 : State = g.S.Site.state c.find_log.new.site in
     let answer : Result Found Place = Err place.Blocks in
-    looks_then c.in_ok-rings.field-0 (Ok answer) s0 s1 s3 c.in_ok-rings.ensures.reads
-    (looks_then c.in_ok-master.field-0 (Ok answer) s1 s2 s3 c.in_ok-master.ensures.reads (looks_answered c.in_ok-log.field-0 answer s2 s3 c.in_ok-log.ensures.reads))
+    looks_then c.in_ok-rings.field-0 (Ok answer) _ _ _ c.in_ok-rings.ensures.reads
+    (looks_then c.in_ok-master.field-0 (Ok answer) _ _ _ c.in_ok-master.ensures.reads (looks_answered c.in_ok-log.field-0 answer _ _ c.in_ok-log.ensures.reads))
 
 pub returns-clause-reads : goal.returns-clause-reads
 returns-clause-reads g c =
-    let s0 : State = g.S.Site.state c.args.site.now in
-    let s1 : State = g.S.Site.state c.rule_rings.new.site in
-    let s2 : State = g.S.Site.state c.rule_master.new.site in
-    let s3 : State = g.S.Site.state c.find_log.new.site in
     let found : Found = record { rings = c.in-Ok.rings; master = c.in-Some-2.master; log = c.in-Some-3.log } in
     let answer : Result Found Place = Ok found in
-    looks_then c.in_ok-rings.field-0 (Ok answer) s0 s1 s3 c.in_ok-rings.ensures.reads
-    (looks_then c.in_ok-master.field-0 (Ok answer) s1 s2 s3 c.in_ok-master.ensures.reads (looks_answered c.in_ok-log.field-0 answer s2 s3 c.in_ok-log.ensures.reads))
+    looks_then c.in_ok-rings.field-0 (Ok answer) _ _ _ c.in_ok-rings.ensures.reads
+    (looks_then c.in_ok-master.field-0 (Ok answer) _ _ _ c.in_ok-master.ensures.reads (looks_answered c.in_ok-log.field-0 answer _ _ c.in_ok-log.ensures.reads))

@@ -1,37 +1,41 @@
-use Rattle.std.proofs.Common.{rules, ◌≡◌, ◌↔◌, IsTrue, true, false, true≢false, Ok, refl, sym, subst}
+use Rattle.std.proofs.Common.{rules, ◌≡◌, ◌↔◌, IsTrue, true≢false, Ok, refl, sym, subst}
 use Rattle.std.specs.Prelude.{Some, is_none}
 use Rattle.site.specs.declared.geometry.Geometry.{Geometry}
 use Rattle.site.specs.State.{State}
 use Rattle.site.proofs.Working.{looks_then, looks_answered}
 use Rattle.image_form.specs.Octets.{AreBlocks, AreGroups, SegmentsAreFormed, AreVersions}
 use Rattle.image_form.specs.Findings.{MayRead}
+use Rattle.image_form.specs.Formed.{IsThere}
 use Rattle.image_form.specs.Verdict.{OctetsAreFormed}
 use Rattle.image_form.proofs.FirstRule.{StillThere, may_be_read_later, still_there, part_holds, part_fails, placed, unplaced, answers_as}
+use Rattle.image_form.proofs.formed.find_unformed.Given.{Over}
 use Rattle.image_form.proofs.formed.find_unformed.Goals as goal
+use Rattle.image_form.proofs.formed.find_unformed.Goals.{In_default, In_default-2}
 
 pub rule_groups-requires : goal.rule_groups-requires
 rule_groups-requires g c =
     let found = c.args.found.now in
-    let s0 : State = g.S.Site.state c.args.site.now in
-    let s1 : State = g.S.Site.state c.rule_blocks.new.site in
-    subst (λ (x : Geometry). MayRead x found.rings s1) (sym c.geometry-geometry.ensures) (may_be_read_later found s0 s1 c.in_ok-place.ensures.reads.preserves c.requires).may_read
+    let may = may_be_read_later found _ _ c.in_ok-place.ensures.reads.preserves c.requires in
+    subst (λ (x : Geometry). MayRead x found.rings (g.S.Site.state c.rule_blocks.new.site)) (sym c.geometry-geometry.ensures) may.may_read
 
 pub rule_segments-requires : goal.rule_segments-requires
 rule_segments-requires g c =
     let found = c.args.found.now in
-    let s0 : State = g.S.Site.state c.args.site.now in
-    let s1 : State = g.S.Site.state c.rule_blocks.new.site in
-    let s2 : State = g.S.Site.state c.rule_groups.new.site in
-    subst (λ (x : Geometry). MayRead x found.rings s2) (sym c.geometry-geometry.ensures) (may_be_read_later found s1 s2 c.in_ok-place-2.ensures.reads.preserves (may_be_read_later found s0 s1 c.in_ok-place.ensures.reads.preserves c.requires)).may_read
+    let may = may_be_read_later found _ _ c.in_ok-place-2.ensures.reads.preserves (may_be_read_later found _ _ c.in_ok-place.ensures.reads.preserves c.requires) in
+    subst (λ (x : Geometry). MayRead x found.rings (g.S.Site.state c.rule_groups.new.site)) (sym c.geometry-geometry.ensures) may.may_read
 
 pub rule_versions-requires : goal.rule_versions-requires
 rule_versions-requires g c =
     let found = c.args.found.now in
-    let s0 : State = g.S.Site.state c.args.site.now in
-    let s1 : State = g.S.Site.state c.rule_blocks.new.site in
-    let s2 : State = g.S.Site.state c.rule_groups.new.site in
-    let s3 : State = g.S.Site.state c.rule_segments.new.site in
-    subst (λ (x : Geometry). MayRead x found.rings s3) (sym c.geometry-geometry.ensures) (may_be_read_later found s2 s3 c.in_ok-place-3.ensures.reads.preserves (may_be_read_later found s1 s2 c.in_ok-place-2.ensures.reads.preserves (may_be_read_later found s0 s1 c.in_ok-place.ensures.reads.preserves c.requires))).may_read
+    let may = may_be_read_later found _ _ c.in_ok-place-2.ensures.reads.preserves (may_be_read_later found _ _ c.in_ok-place.ensures.reads.preserves c.requires) in
+    subst (λ (x : Geometry). MayRead x found.rings (g.S.Site.state c.rule_segments.new.site)) (sym c.geometry-geometry.ensures) (may_be_read_later found _ _ c.in_ok-place-3.ensures.reads.preserves may).may_read
+
+-- what was found is there after the first rule's parts
+still_one : (g : Over) (c : In_default g) → IsThere c.args.found.now (g.S.Site.state c.args.site.now) → StillThere c.args.found.now (g.S.Site.state c.args.site.now) (g.S.Site.state c.rule_blocks.new.site)
+still_one g c there = still_there c.in_ok-place.field-0 _ _ _ _ c.in_ok-place.ensures.reads (record { there = there; same = refl })
+
+still_two : (g : Over) (c : In_default-2 g) → IsThere c.args.found.now (g.S.Site.state c.args.site.now) → StillThere c.args.found.now (g.S.Site.state c.args.site.now) (g.S.Site.state c.rule_groups.new.site)
+still_two g c there = still_there c.in_ok-place-2.field-0 _ _ _ _ c.in_ok-place-2.ensures.reads (still_there c.in_ok-place.field-0 _ _ _ _ c.in_ok-place.ensures.reads (record { there = there; same = refl }))
 
 pub returns-in-Some-2-clause-formed : goal.returns-in-Some-2-clause-formed
 returns-in-Some-2-clause-formed g c there =
@@ -39,8 +43,7 @@ returns-in-Some-2-clause-formed g c there =
     let geo : c.geometry-geometry.result ≡ found.log.geometry = c.geometry-geometry.ensures in
     let s0 : State = g.S.Site.state c.args.site.now in
     let s1 : State = g.S.Site.state c.rule_blocks.new.site in
-    let t0 : StillThere found s0 s0 = record { there = there; same = refl } in
-    let t1 : StillThere found s0 s1 = still_there c.in_ok-place.field-0 found s0 s0 s1 c.in_ok-place.ensures.reads t0 in
+    let t1 = still_one g (goal.at.returns-in-Some-2-clause-formed g c).In_default there in
     let says = subst (λ (x : Geometry). IsTrue (is_none c.in_ok-place-2.field-0) ↔ AreGroups x s1.image) geo (c.in_ok-place-2.ensures.groups t1.there.log.honest t1.there.rings) in (
       λ wrong. absurd (true≢false (sym wrong)),
       λ rule. absurd (part_fails (AreGroups found.log.geometry) (is_none c.in_ok-place-2.field-0) s0.image s1.image t1.same says (placed c.in_ok-place-2.field-0 c.in-Some-2.place c.in-Some-2.is) rule.groups),
@@ -48,23 +51,16 @@ returns-in-Some-2-clause-formed g c there =
 
 pub returns-in_err-place-3-clause-reads : goal.returns-in_err-place-3-clause-reads
 returns-in_err-place-3-clause-reads g c =
-    let s0 : State = g.S.Site.state c.args.site.now in
-    let s1 : State = g.S.Site.state c.rule_blocks.new.site in
-    let s2 : State = g.S.Site.state c.rule_groups.new.site in
-    let s3 : State = g.S.Site.state c.rule_segments.new.site in
-    looks_then c.in_ok-place.field-0 c.from_residual-in_err-place-3.result s0 s1 s3 c.in_ok-place.ensures.reads
-    (looks_then c.in_ok-place-2.field-0 c.from_residual-in_err-place-3.result s1 s2 s3 c.in_ok-place-2.ensures.reads (search rules))
+    looks_then c.in_ok-place.field-0 c.from_residual-in_err-place-3.result _ _ _ c.in_ok-place.ensures.reads
+    (looks_then c.in_ok-place-2.field-0 c.from_residual-in_err-place-3.result _ _ _ c.in_ok-place-2.ensures.reads (search rules))
 
 pub returns-in-Some-3-clause-formed : goal.returns-in-Some-3-clause-formed
 returns-in-Some-3-clause-formed g c there =
     let found = c.args.found.now in
     let geo : c.geometry-geometry.result ≡ found.log.geometry = c.geometry-geometry.ensures in
     let s0 : State = g.S.Site.state c.args.site.now in
-    let s1 : State = g.S.Site.state c.rule_blocks.new.site in
     let s2 : State = g.S.Site.state c.rule_groups.new.site in
-    let t0 : StillThere found s0 s0 = record { there = there; same = refl } in
-    let t1 : StillThere found s0 s1 = still_there c.in_ok-place.field-0 found s0 s0 s1 c.in_ok-place.ensures.reads t0 in
-    let t2 : StillThere found s0 s2 = still_there c.in_ok-place-2.field-0 found s0 s1 s2 c.in_ok-place-2.ensures.reads t1 in
+    let t2 = still_two g (goal.at.returns-in-Some-3-clause-formed g c).In_default-2 there in
     let says = subst (λ (x : Geometry). IsTrue (is_none c.in_ok-place-3.field-0) ↔ SegmentsAreFormed x s2.image) geo (c.in_ok-place-3.ensures.segments t2.there.log.honest t2.there.rings) in (
       λ wrong. absurd (true≢false (sym wrong)),
       λ rule. absurd (part_fails (SegmentsAreFormed found.log.geometry) (is_none c.in_ok-place-3.field-0) s0.image s2.image t2.same says (placed c.in_ok-place-3.field-0 c.in-Some-3.place c.in-Some-3.is) rule.segments),
@@ -72,13 +68,9 @@ returns-in-Some-3-clause-formed g c there =
 
 pub returns-in-Some-3-clause-reads : goal.returns-in-Some-3-clause-reads
 returns-in-Some-3-clause-reads g c =
-    let s0 : State = g.S.Site.state c.args.site.now in
-    let s1 : State = g.S.Site.state c.rule_blocks.new.site in
-    let s2 : State = g.S.Site.state c.rule_groups.new.site in
-    let s3 : State = g.S.Site.state c.rule_segments.new.site in
-    looks_then c.in_ok-place.field-0 (Ok (Some c.in-Some-3.place)) s0 s1 s3 c.in_ok-place.ensures.reads
-    (looks_then c.in_ok-place-2.field-0 (Ok (Some c.in-Some-3.place)) s1 s2 s3 c.in_ok-place-2.ensures.reads
-    (looks_answered c.in_ok-place-3.field-0 (Some c.in-Some-3.place) s2 s3 c.in_ok-place-3.ensures.reads))
+    looks_then c.in_ok-place.field-0 (Ok (Some c.in-Some-3.place)) _ _ _ c.in_ok-place.ensures.reads
+    (looks_then c.in_ok-place-2.field-0 (Ok (Some c.in-Some-3.place)) _ _ _ c.in_ok-place-2.ensures.reads
+    (looks_answered c.in_ok-place-3.field-0 (Some c.in-Some-3.place) _ _ c.in_ok-place-3.ensures.reads))
 
 pub returns-clause-formed : goal.returns-clause-formed
 returns-clause-formed g c there =
@@ -88,14 +80,13 @@ returns-clause-formed g c there =
     let s1 : State = g.S.Site.state c.rule_blocks.new.site in
     let s2 : State = g.S.Site.state c.rule_groups.new.site in
     let s3 : State = g.S.Site.state c.rule_segments.new.site in
-    let t0 : StillThere found s0 s0 = record { there = there; same = refl } in
-    let t1 : StillThere found s0 s1 = still_there c.in_ok-place.field-0 found s0 s0 s1 c.in_ok-place.ensures.reads t0 in
-    let t2 : StillThere found s0 s2 = still_there c.in_ok-place-2.field-0 found s0 s1 s2 c.in_ok-place-2.ensures.reads t1 in
+    let t1 = still_one g (goal.at.returns-clause-formed g c).In_default there in
+    let t2 = still_two g (goal.at.returns-clause-formed g c).In_default-2 there in
     let t3 : StillThere found s0 s3 = still_there c.in_ok-place-3.field-0 found s0 s2 s3 c.in_ok-place-3.ensures.reads t2 in
     let groups : AreGroups found.log.geometry s0.image = part_holds (AreGroups found.log.geometry) (is_none c.in_ok-place-2.field-0) s0.image s1.image t1.same
     (subst (λ (x : Geometry). IsTrue (is_none c.in_ok-place-2.field-0) ↔ AreGroups x s1.image) geo (c.in_ok-place-2.ensures.groups t1.there.log.honest t1.there.rings)) (unplaced c.in_ok-place-2.field-0 c.in_default-2.is) in
-    let blocks : AreBlocks found.log.geometry found.master.kept s0.image = part_holds (AreBlocks found.log.geometry found.master.kept) (is_none c.in_ok-place.field-0) s0.image s0.image t0.same
-    (c.in_ok-place.ensures.blocks t0.there.log) (unplaced c.in_ok-place.field-0 c.in_default.is) in
+    let blocks : AreBlocks found.log.geometry found.master.kept s0.image = part_holds (AreBlocks found.log.geometry found.master.kept) (is_none c.in_ok-place.field-0) s0.image s0.image refl
+    (c.in_ok-place.ensures.blocks there.log) (unplaced c.in_ok-place.field-0 c.in_default.is) in
     let segments : SegmentsAreFormed found.log.geometry s0.image = part_holds (SegmentsAreFormed found.log.geometry) (is_none c.in_ok-place-3.field-0) s0.image s2.image t2.same
     (subst (λ (x : Geometry). IsTrue (is_none c.in_ok-place-3.field-0) ↔ SegmentsAreFormed x s2.image) geo (c.in_ok-place-3.ensures.segments t2.there.log.honest t2.there.rings)) (unplaced c.in_ok-place-3.field-0 c.in_default-3.is) in
     let there3 : AreGroups c.geometry-geometry.result s3.image = subst (λ (x : Geometry). AreGroups x s3.image) (sym geo) (subst (AreGroups found.log.geometry) (sym t3.same) groups) in
@@ -116,11 +107,6 @@ returns-clause-formed g c there =
 
 pub returns-clause-reads : goal.returns-clause-reads
 returns-clause-reads g c =
-    let s0 : State = g.S.Site.state c.args.site.now in
-    let s1 : State = g.S.Site.state c.rule_blocks.new.site in
-    let s2 : State = g.S.Site.state c.rule_groups.new.site in
-    let s3 : State = g.S.Site.state c.rule_segments.new.site in
-    let s4 : State = g.S.Site.state c.rule_versions.new.site in
-    looks_then c.in_ok-place.field-0 c.rule_versions.result s0 s1 s4 c.in_ok-place.ensures.reads
-    (looks_then c.in_ok-place-2.field-0 c.rule_versions.result s1 s2 s4 c.in_ok-place-2.ensures.reads
-    (looks_then c.in_ok-place-3.field-0 c.rule_versions.result s2 s3 s4 c.in_ok-place-3.ensures.reads c.rule_versions.ensures.reads))
+    looks_then c.in_ok-place.field-0 c.rule_versions.result _ _ _ c.in_ok-place.ensures.reads
+    (looks_then c.in_ok-place-2.field-0 c.rule_versions.result _ _ _ c.in_ok-place-2.ensures.reads
+    (looks_then c.in_ok-place-3.field-0 c.rule_versions.result _ _ _ c.in_ok-place-3.ensures.reads c.rule_versions.ensures.reads))

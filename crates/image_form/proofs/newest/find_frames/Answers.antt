@@ -1,4 +1,4 @@
-use Rattle.std.proofs.Common.{rules, ◌≡◌, ◌+◌, ◌-◌, ◌≤◌, ◌++◌, ◌∷◌, [], ℕ, List, All, map, length, sym, ap, ◌∙◌, subst, arith}
+use Rattle.std.proofs.Common.{rules, ◌≡◌, ◌++◌, ◌∷◌, [], ℕ, List, All, map, length, sym, ap, ◌∙◌, subst, arith}
 use Rattle.std.proofs.lemmas.List.{length-append}
 use Rattle.std.proofs.lemmas.Option.{none-some, same_Some}
 use Rattle.site.specs.State.{State, Image}
@@ -6,8 +6,7 @@ use Rattle.site.specs.Laws.{stays_honest}
 use Rattle.site.proofs.Working.{looks_then, looks_answered}
 use Rattle.std.specs.Prelude.{Ok}
 use Rattle.sealed_ring.specs.declared.slots.Shape.{Shape}
-use Rattle.sealed_ring.specs.Ring.{IsLive, hi_of}
-use Rattle.sealed_ring.specs.Ready.{region}
+use Rattle.sealed_ring.specs.Ring.{hi_of}
 use Rattle.byte_fields.specs.declared.frame_head.FrameHead.{FrameHead}
 use Rattle.byte_fields.specs.FrameHeads.{AreGroupHeads}
 use Rattle.image_changes.specs.Rings.{group_shape}
@@ -17,6 +16,7 @@ use Rattle.tail_rebuild.specs.Standing.{group_on}
 use Rattle.flash_directory.specs.Heads.{frames_in as known_in}
 use Rattle.image_form.proofs.Lasting.{found_later, may_read_later}
 use Rattle.image_form.proofs.NewestRead.{AreHeadsFrom, some_formed, all_pushed, one_group_more, all_groups}
+use Rattle.image_form.proofs.UnitsJudged.{end_is, live_there}
 use Rattle.image_form.proofs.newest.find_frames.Goals as goal
 
 pub returns-in-Ok-None-clause-formed : goal.returns-in-Ok-None-clause-formed
@@ -29,14 +29,7 @@ returns-in-Ok-None-clause-formed g c honest found groups =
     let reads = c.loop-group.invariant.reads in
     let same : now.image ≡ old.image = (reads.same honest).image in
     let n : ℕ = c.loop-group.group in
-    let slots : ring.shape.slots ≡ geometry.groups = ap (λ (s : Shape). s.slots) c.requires.groups_shape in
-    let some = c.requires.sizes.limits.groups in
-    let hi : ring.hi ≡ hi_of (group_shape geometry) old.image.flash = found.groups ∙ ap (λ (s : Shape). hi_of s (region s old)) c.requires.groups_shape in
-    let low : ring.hi ≤ n + (geometry.groups - 1) = omega (arith, c.loop-group.auto.group, c.oldest-first.ensures, slots, some) in
-    let live : IsLive (group_shape geometry) (hi_of (group_shape geometry) old.image.flash) n = record {
-      below = omega (arith, c.loop-group-test.true, c.hi-group-end.ensures, hi);
-      near = omega (arith, low, hi, some);
-    } in
+    let live = live_there (group_shape geometry) ring old n c.requires.groups_shape found.groups (omega (arith, c.loop-group.auto.group, c.oldest-first.ensures)) (omega (arith, c.loop-group-test.true, c.hi-group-end.ensures)) in
     let frames = groups n live in
     let there : IsGroup (group_on geometry now.image n) frames.0 = subst (λ (image : Image). IsGroup (group_on geometry image n) frames.0) (sym same) frames.1.group in
     let says = c.in-Ok-None.ensures.heads geometry frames.0 c.loop-group.invariant.may_read (stays_honest old now reads.preserves honest) (found_later rings old now same found) there in
@@ -62,14 +55,8 @@ loop-group-preserved g c =
       most = omega (arith, c.loop-group-test.true, c.hi-group-end.ensures);
       heads = λ honest found groups.
           let same : now.image ≡ old.image = (reads.same honest).image in
-          let slots : ring.shape.slots ≡ geometry.groups = ap (λ (s : Shape). s.slots) c.requires.groups_shape in
           let some = c.requires.sizes.limits.groups in
-          let hi : ring.hi ≡ hi_of (group_shape geometry) old.image.flash = found.groups ∙ ap (λ (s : Shape). hi_of s (region s old)) c.requires.groups_shape in
-          let low : ring.hi ≤ n + (geometry.groups - 1) = omega (arith, c.loop-group.auto.group, c.oldest-first.ensures, slots, some) in
-          let live : IsLive (group_shape geometry) (hi_of (group_shape geometry) old.image.flash) n = record {
-            below = omega (arith, c.loop-group-test.true, c.hi-group-end.ensures, hi);
-            near = omega (arith, low, hi, some);
-          } in
+          let live = live_there (group_shape geometry) ring old n c.requires.groups_shape found.groups (omega (arith, c.loop-group.auto.group, c.oldest-first.ensures)) (omega (arith, c.loop-group-test.true, c.hi-group-end.ensures)) in
           let frames = groups n live in
           let there : IsGroup (group_on geometry now.image n) frames.0 = subst (λ (image : Image). IsGroup (group_on geometry image n) frames.0) (sym same) frames.1.group in
           let says = c.in-Ok-Some.ensures.heads geometry frames.0 c.loop-group.invariant.may_read (stays_honest old now reads.preserves honest) (found_later rings old now same found) there in
@@ -93,7 +80,7 @@ returns-in-Ok-of_groups-clause-shown g c honest found groups =
     let first : ℕ = c.oldest-first.result in
     let slots : ring.shape.slots ≡ geometry.groups = ap (λ (s : Shape). s.slots) c.requires.groups_shape in
     let some = c.requires.sizes.limits.groups in
-    let hi : ring.hi ≡ hi_of (group_shape geometry) old.image.flash = found.groups ∙ ap (λ (s : Shape). hi_of s (region s old)) c.requires.groups_shape in
+    let hi : ring.hi ≡ hi_of (group_shape geometry) old.image.flash = end_is (group_shape geometry) ring old c.requires.groups_shape found.groups in
     let count = c.loop-group.invariant.count in
     let most = c.loop-group.invariant.most in
     let items : c.as_slice.result.now ≡ list = search rules in

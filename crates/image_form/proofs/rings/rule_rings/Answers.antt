@@ -72,25 +72,15 @@ returns-clause-may_read g c =
 
 pub returns-in-Err-judge-3-clause-reads : goal.returns-in-Err-judge-3-clause-reads
 returns-in-Err-judge-3-clause-reads g c =
-    let s0 : State = g.S.Site.state c.args.site.now in
-    let s1 : State = g.S.Site.state c.judge.new.site in
-    let s2 : State = g.S.Site.state c.judge-2.new.site in
-    let s3 : State = g.S.Site.state c.judge-3.new.site in
-    let s4 : State = g.S.Site.state c.judge-4.new.site in
-    looks_then c.in-Ok-Some.field-0 (Err c.in-Err-judge-3.stop) s0 s1 s4 c.in-Ok-Some.ensures.reads
-    (looks_then c.in-Ok-Some-judge.field-0 (Err c.in-Err-judge-3.stop) s1 s2 s4 c.in-Ok-Some-judge.ensures.reads
-    (looks_then c.in-Ok-Some-judge-2.field-0 (Err c.in-Err-judge-3.stop) s2 s3 s4 c.in-Ok-Some-judge-2.ensures.reads
-    (looks_failed c.in-Err-judge-3.stop s3 s4 c.in-Err-judge-3.ensures.reads)))
+    looks_then c.in-Ok-Some.field-0 (Err c.in-Err-judge-3.stop) _ _ _ c.in-Ok-Some.ensures.reads
+    (looks_then c.in-Ok-Some-judge.field-0 (Err c.in-Err-judge-3.stop) _ _ _ c.in-Ok-Some-judge.ensures.reads
+    (looks_then c.in-Ok-Some-judge-2.field-0 (Err c.in-Err-judge-3.stop) _ _ _ c.in-Ok-Some-judge-2.ensures.reads
+    (looks_failed c.in-Err-judge-3.stop _ _ c.in-Err-judge-3.ensures.reads)))
 
 pub returns-clause-reads : goal.returns-clause-reads
 returns-clause-reads g c =
-    let s0 : State = g.S.Site.state c.args.site.now in
-    let s1 : State = g.S.Site.state c.judge.new.site in
-    let s2 : State = g.S.Site.state c.judge-2.new.site in
-    let s3 : State = g.S.Site.state c.judge-3.new.site in
-    let s4 : State = g.S.Site.state c.judge-4.new.site in
     let answer : Rings = record { masters = c.in-Ok-Some.ring; blocks = c.in-Ok-Some-judge.ring; groups = c.in-Ok-Some-judge-2.ring; segments = c.in-Ok-Some-judge-3.ring } in
-    looks_then c.in-Ok-Some.field-0 (Ok (Ok answer)) s0 s1 s4 c.in-Ok-Some.ensures.reads
-    (looks_then c.in-Ok-Some-judge.field-0 (Ok (Ok answer)) s1 s2 s4 c.in-Ok-Some-judge.ensures.reads
-    (looks_then c.in-Ok-Some-judge-2.field-0 (Ok (Ok answer)) s2 s3 s4 c.in-Ok-Some-judge-2.ensures.reads
-    (looks_answered c.in-Ok-Some-judge-3.field-0 (Ok answer) s3 s4 c.in-Ok-Some-judge-3.ensures.reads)))
+    looks_then c.in-Ok-Some.field-0 (Ok (Ok answer)) _ _ _ c.in-Ok-Some.ensures.reads
+    (looks_then c.in-Ok-Some-judge.field-0 (Ok (Ok answer)) _ _ _ c.in-Ok-Some-judge.ensures.reads
+    (looks_then c.in-Ok-Some-judge-2.field-0 (Ok (Ok answer)) _ _ _ c.in-Ok-Some-judge-2.ensures.reads
+    (looks_answered c.in-Ok-Some-judge-3.field-0 (Ok answer) _ _ c.in-Ok-Some-judge-3.ensures.reads)))

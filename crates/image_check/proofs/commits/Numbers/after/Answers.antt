@@ -1,10 +1,9 @@
-use Rattle.std.proofs.Common.{◌≡◌, ◌+◌, ◌^◌, ◌<◌, ◌++◌, ◌∷◌, [], List, true≢false, sym, ap, ◌∙◌, subst, append_assoc, arith}
+use Rattle.std.proofs.Common.{Bool, ◌≡◌, ◌++◌, ◌∷◌, [], true≢false, sym, ap, ◌∙◌, subst, append_assoc, arith}
 use Rattle.std.specs.List.{range_with_len}
 use Rattle.log_records.specs.declared.log_record.LogRecord.{LogRecord}
-use Rattle.log_records.specs.Log.{Entry}
 use Rattle.log_records.specs.Sound.{commit_numbers}
-use Rattle.image_check.specs.Counting.{Heard}
-use Rattle.image_check.proofs.Numbering.{not_commit, heard_other, heard_commit, heard_wrong, heard_few}
+use Rattle.image_check.specs.Counting.{Counts, Heard}
+use Rattle.image_check.proofs.Numbering.{early_block, not_commit, heard_other, heard_commit, heard_wrong, heard_few}
 use Rattle.image_check.proofs.commits.Numbers.after.Goals as goal
 
 pub returns-in_default : goal.returns-in_default
@@ -24,4 +23,5 @@ returns c records size heard =
     let few = heard_few c.args.redo c.args.self.now records heard in
     subst (λ (rec : LogRecord). Heard c.args.redo c.with.result (records ++ record { lsn = c.args.lsn; rec = rec } ∷ [])) (sym c.in-Commit.is)
     (heard_commit c.args.redo c.args.self.now c.with.result records c.args.lsn c.in-Commit.txn c.in-Commit.number heard
-    ((c.is_next.ensures (omega (arith, few, size))).0 c.if-not-is_next.false) (c.with.ensures (omega (arith, few, size))))
+    ((c.is_next.ensures (omega (arith, few, size))).0 c.if-not-is_next.false)
+    (subst (λ (b : Bool). Counts c.args.self.now c.in-Commit.number b c.with.result) (early_block c.args.lsn c.args.redo) (c.with.ensures (omega (arith, few, size)))))

@@ -1,27 +1,28 @@
-use Rattle.std.proofs.Common.{◌≡◌, ◌*◌, ◌==◌, ◌++◌, ◌∷◌, [], not, true, filter, ℕ, nat_le, sym, ap, subst, ◌∙◌, arith}
+use Rattle.std.proofs.Common.{◌≡◌, ◌*◌, ◌≤◌, ◌==◌, ◌++◌, ◌∷◌, [], not, true, filter, ℕ, nat_le, sym, ap, subst, ◌∙◌, arith}
 use Rattle.std.proofs.lemmas.Bool.Decides.{nat_tests}
-use Rattle.std.proofs.lemmas.Result.{on_ok_weaker}
 use Rattle.log_records.specs.Log.{Entry, is_closing}
 use Rattle.log_records.specs.Unfinished.{is_begin}
 use Rattle.image_check.specs.Opening.{AreOpen}
+use Rattle.image_check.proofs.Walking.{goes_well, memory_as}
 use Rattle.image_check.proofs.OpenOnes.{open_more, open_without, begins_go_on}
 use Rattle.log_records.proofs.Entries.{closing_is_no_begin}
 use Rattle.image_check.proofs.txns.OpenTxns.hear.Goals as goal
 
-pub returns-then-closes-clause-heard : goal.returns-then-closes-clause-heard
-returns-then-closes-clause-heard c m records redo is fresh =
-    let e : Entry = record { lsn = c.args.lsn; rec = c.args.rec.now } in
+pub returns-then-closes : goal.returns-then-closes
+returns-then-closes c =
     let items = c.args.self.now.txns.items in
     let closing : is_closing c.args.rec.now ≡ true = sym c.closes.ensures ∙ c.if-closes.true in
-    subst (AreOpen m (records ++ e ∷ [])) (sym (c.close.ensures ∙ ap (λ (n : ℕ). filter (λ x. not (x == n)) items) c.txn_of.ensures))
-    (open_without m records e items closing (closing_is_no_begin c.args.rec.now closing) is)
-
-pub returns-clause-heard : goal.returns-clause-heard
-returns-clause-heard c m records redo is fresh =
+    goes_well (λ m records redo is fresh.
     let e : Entry = record { lsn = c.args.lsn; rec = c.args.rec.now } in
-    let items = c.args.self.now.txns.items in
+    subst (AreOpen m (records ++ e ∷ [])) (sym (c.close.ensures ∙ ap (λ (n : ℕ). filter (λ x. not (x == n)) items) c.txn_of.ensures))
+    (open_without m records e items closing (closing_is_no_begin c.args.rec.now closing) is))
+
+pub returns : goal.returns
+returns c =
     let begins : is_begin c.args.rec.now ≡ true = sym c.begins.ensures ∙ c.if-not-begins.false in
     let behind = c.if-lsn-redo.false in
-    let late : nat_le (512 * m.redo) c.args.lsn ≡ true = grind (arith, nat_tests, behind, redo) in
-    on_ok_weaker {P = c.begin.new.self.txns.items ≡ items ++ c.args.lsn ∷ []} {Q = AreOpen m (records ++ e ∷ []) c.begin.new.self.txns.items} c.begin.result
-    (λ pushed. subst (AreOpen m (records ++ e ∷ [])) (sym pushed) (open_more m records e items (begins_go_on c.args.rec.now begins) begins late fresh is)) c.begin.ensures.items
+    memory_as c.begin.result (λ x pushed m records redo is fresh.
+    let e : Entry = record { lsn = c.args.lsn; rec = c.args.rec.now } in
+    let after : 512 * m.redo ≤ c.args.lsn = omega (arith, behind, redo) in
+    let late : nat_le (512 * m.redo) c.args.lsn ≡ true = grind (arith, nat_tests, after) in
+    subst (AreOpen m (records ++ e ∷ [])) (sym pushed) (open_more m records e c.args.self.now.txns.items (begins_go_on c.args.rec.now begins) begins late fresh is)) c.begin.ensures

@@ -5,7 +5,7 @@ use Rattle.log_records.specs.Log.{Entry, value_of}
 use Rattle.flash_cache.specs.Representation.{version_on}
 use Rattle.image_meaning.specs.Meaning.{versions_on}
 use Rattle.image_form.specs.Octets.{AreVersions}
-use Rattle.image_form.specs.Findings.{MayRead}
+use Rattle.image_check.specs.Judging.{MayBeJudged}
 use Rattle.image_check.specs.Showing.{FindsVersions, HasContents}
 use Rattle.image_check.specs.Writing.{AreWritten}
 use Rattle.image_check.proofs.ValuesCounted.{values_among}
@@ -14,13 +14,13 @@ use Rattle.image_check.proofs.values.Logged.count_pages.Given as goal
 abbrev pub invariant-loop-page : goal.invariant-loop-page
 invariant-loop-page g l =
     let old = g.S.Site.state l.fn.site in
-    let now = g.S.Site.state l.site in
+    let sizes = l.found.log.geometry in
     record {
-      may_read : MayRead l.geometry l.rings now;
-      have : FindsVersions l.geometry l.rings l.frames old → AreVersions l.geometry old.image → (n : ℕ) → n < l.page → HasContents l.self.expected.contents n (version_on l.geometry old.image n);
-      counted : (log : List Entry) → FindsVersions l.geometry l.rings l.frames old → AreVersions l.geometry old.image → AreWritten log log l.self.written →
-          l.count ≡ values_among (value_of log (versions_on l.geometry old.image)) 0 (32 * l.page);
+      may : MayBeJudged l.found (g.S.Site.state l.site);
+      have : FindsVersions l.found l.frames old → AreVersions sizes old.image → (n : ℕ) → n < l.page → HasContents l.self.expected.contents n (version_on sizes old.image n);
+      counted : (log : List Entry) → FindsVersions l.found l.frames old → AreVersions sizes old.image → AreWritten log log l.self.written →
+          l.count ≡ values_among (value_of log (versions_on sizes old.image)) 0 (32 * l.page);
       few : l.count ≤ 32 * l.page;
-      most : l.page ≤ l.geometry.pages;
-      reads : OnlyReads {T = Unit {0}} (Ok tt) old now;
+      most : l.page ≤ sizes.pages;
+      reads : OnlyReads {T = Unit {0}} (Ok tt) old (g.S.Site.state l.site);
     }

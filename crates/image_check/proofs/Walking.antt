@@ -1,0 +1,125 @@
+-- Calls that only read, one after the other, and walks over the log that was found.
+use Rattle.std.proofs.Common.{◌≡◌, ℕ, ◌+◌, ◌*◌, List, [], ◌∷◌, ◌++◌, length, sym, ap, ◌∙◌, subst, arith}
+use Rattle.std.specs.Prelude.{Option, Some, None, Result, Ok, Err}
+use Rattle.site.specs.declared.outside.Stop.{Stop}
+use Rattle.site.specs.declared.outside.Stop.TheVariants.{Device, Memory}
+use Rattle.site.specs.State.{State, Image}
+use Rattle.site.specs.Work.{OnlyReads}
+use Rattle.site.proofs.Working.{looks_then, looks_answered}
+use Rattle.log_records.specs.declared.log_record.LogRecord.{LogRecord}
+use Rattle.log_records.specs.Log.{Entry}
+use Rattle.log_records.specs.Sound.{IsInOrder}
+use Rattle.log_store.specs.Representation.{Finds, HasBlocks}
+use Rattle.image_form.specs.declared.formed.Found.{Found}
+use Rattle.image_form.specs.declared.walk.Walk.{Walk}
+use Rattle.image_form.specs.Walking.{MayWalk, StandsBefore, Gives}
+use Rattle.image_form.proofs.BlockLists.{log_in_order}
+use Rattle.image_form.proofs.BlocksJudged.{finds_later}
+use Rattle.image_form.proofs.FirstRule.{may_be_read_later}
+use Rattle.image_form.proofs.Walks.{Walked, walked_none, walked_more, walked_all, gives_at}
+use Rattle.image_check.specs.Judging.{MayBeJudged, Sees, Judges, OrMemory, records_of}
+
+-- What was found is there after calls that only read.
+
+pub may_later : {T : Type 0} {x : T} {found : Found} {a b : State} → OnlyReads {T = T} (Ok x) a b → MayBeJudged found a → MayBeJudged found b
+may_later {found = found} {a = a} {b = b} reads may = record { read = may_be_read_later found a b reads.preserves may.read; live = may.live; redo = may.redo }
+
+pub sees_later : {T : Type 0} {x : T} {found : Found} {blocks : List (List LogRecord)} {a b : State} → OnlyReads {T = T} (Ok x) a b → Sees found blocks a → Sees found blocks b
+sees_later {found = found} {blocks = blocks} {a = a} {b = b} reads sees =
+    let same : b.image ≡ a.image = (reads.same sees.log.honest).image in
+    record { log = finds_later found.log a b reads.preserves same sees.log; has = subst (HasBlocks found.log.geometry found.master.kept blocks) (sym same) sees.has }
+
+pub in_order : {found : Found} {blocks : List (List LogRecord)} {site : State} → Sees found blocks site →
+    IsInOrder (512 * found.master.kept) (records_of found blocks) (512 * (found.master.kept + length blocks))
+in_order {found = found} {blocks = blocks} sees = log_in_order found.master.kept blocks (512 * (found.master.kept + length blocks)) sees.has.are_blocks (omega arith)
+
+-- calls that only read, behind which memory lacks
+pub reads_lacked : {A B : Type 0} {x : A} {stop : Stop} {a b : State} → stop ≡ Memory → OnlyReads {T = A} (Ok x) a b → OnlyReads {T = B} (Err stop) a b
+reads_lacked {B = B} {a = a} {b = b} is reads = subst (λ (s : Stop). OnlyReads {T = B} (Err s) a b) (sym is) (record {
+  same = reads.same;
+  preserves = reads.preserves;
+  faults = reads.faults;
+  device = λ d says. absurd (let same : Memory ≡ Device d = cc in let never : ⊥ = cc in never);
+  stops = tt;
+})
+
+-- what is said of an answer
+pub goes_well : {T : Type 0} {x : T} {P : T → Type 0} → P x → OrMemory (Ok x) P
+goes_well says = record { done = says; stops = tt }
+
+-- and said otherwise
+pub memory_as : {T : Type 0} (r : Result T Stop) {P Q : T → Type 0} → ((x : T) → P x → Q x) → OrMemory r P → OrMemory r Q
+memory_as (Ok x) f says = record { done = f x says.done; stops = tt }
+memory_as (Err e) f says = record { done = tt; stops = says.stops }
+
+-- A walk over the records of what was found.
+
+-- it may go on, and this holds of the records that it has given
+pub record WalksOver (found : Found) (walk : Walk) (old now : State) (P : List (List LogRecord) → List Entry → Type 0) : Type 0 where
+  pub may : MayBeJudged found now
+  pub walks : MayWalk found.log walk
+  pub heard : (blocks : List (List LogRecord)) → Sees found blocks old → (w : Walked walk found.log old.image (records_of found blocks)) × P blocks w.done
+  pub reads : OnlyReads {T = Unit {0}} (Ok tt) old now
+
+pub walk_begins : {found : Found} {walk : Walk} {site : State} → MayBeJudged found site → MayWalk found.log walk →
+    ((image : Image) (blocks : List (List LogRecord)) → HasBlocks found.log.geometry found.master.kept blocks image → StandsBefore walk found.log image (records_of found blocks)) →
+    (P : List (List LogRecord) → List Entry → Type 0) → ((blocks : List (List LogRecord)) → Sees found blocks site → P blocks []) → OnlyReads {T = Unit {0}} (Ok tt) site site → WalksOver found walk site site P
+walk_begins {found = found} {walk = walk} {site = site} may walks stands P holds reads = record {
+  may = may;
+  walks = walks;
+  heard = λ blocks sees. walked_none walk found.log site.image (records_of found blocks) (stands site.image blocks sees.has) (P blocks) (holds blocks sees);
+  reads = reads;
+}
+
+-- where a record stands among those of the log
+pub record StandsAmong (found : Found) (blocks : List (List LogRecord)) (e : Entry) (P : List Entry → Type 0) : Type 0 where
+  pub front : List Entry
+  pub back : List Entry
+  pub is : records_of found blocks ≡ front ++ e ∷ back
+  pub holds : P front
+
+-- the next step of the walk
+module _ {found : Found} {walk : Walk} {old now : State} {P : List (List LogRecord) → List Entry → Type 0} (so_far : WalksOver found walk old now P) (answer : Option (ℕ × LogRecord)) (new : Walk)
+    (gives : (left : List Entry) → Finds found.log now → StandsBefore walk found.log now.image left → Gives answer left new found.log now.image) where
+  given : (blocks : List (List LogRecord)) (sees : Sees found blocks old) → Gives answer (so_far.heard blocks sees).0.left new found.log old.image
+  given blocks sees =
+      let w = (so_far.heard blocks sees).0 in
+      gives_at found.log walk new now.image old.image w.left answer (so_far.reads.same sees.log.honest).image w.stands (gives w.left (sees_later so_far.reads sees).log)
+
+  module _ (lsn : ℕ) (rec : LogRecord) (is : answer ≡ Some (lsn, rec)) where
+    abbrev e : Entry
+    e = record { lsn = lsn; rec = rec }
+
+    more : (blocks : List (List LogRecord)) (sees : Sees found blocks old) → Gives (Some (lsn, rec)) (so_far.heard blocks sees).0.left new found.log old.image
+    more blocks sees = subst (λ (o : Option (ℕ × LogRecord)). Gives o (so_far.heard blocks sees).0.left new found.log old.image) is (given blocks sees)
+
+    pub walk_at : (blocks : List (List LogRecord)) → Sees found blocks old → StandsAmong found blocks e (P blocks)
+    walk_at blocks sees =
+        let so = so_far.heard blocks sees in
+        let one = more blocks sees in
+        record { front = so.0.done; back = one.0; is = so.0.split ∙ ap (λ (l : List Entry). so.0.done ++ l) one.1; holds = so.1 }
+
+    pub walk_goes_on : {next : State} → MayWalk found.log new → OnlyReads {T = Option (ℕ × LogRecord)} (Ok answer) now next → (Q : List (List LogRecord) → List Entry → Type 0) →
+        ((blocks : List (List LogRecord)) → Sees found blocks old → (at : StandsAmong found blocks e (P blocks)) → Q blocks (at.front ++ e ∷ [])) → WalksOver found new old next Q
+    unfolding walk_at
+    walk_goes_on {next = next} walks reads Q holds = record {
+      may = may_later reads so_far.may;
+      walks = walks;
+      heard = λ blocks sees. walked_more walk new found.log old.image (records_of found blocks) (so_far.heard blocks sees).0 lsn rec (more blocks sees) (Q blocks) (holds blocks sees (walk_at blocks sees));
+      reads = looks_then tt _ old now next so_far.reads (looks_answered answer tt now next reads);
+    }
+
+    pub judged_at : {next : State} {B : Type 0} (y : B) (Says : List (List LogRecord) → B → Type 0) → OnlyReads {T = Option (ℕ × LogRecord)} (Ok answer) now next →
+        ((blocks : List (List LogRecord)) → Sees found blocks old → StandsAmong found blocks e (P blocks) → Says blocks y) → Judges {T = B} found (Ok y) old next Says
+    judged_at {next = next} y Says reads says = record { says = λ blocks sees. says blocks sees (walk_at blocks sees); reads = looks_then tt _ old now next so_far.reads (looks_answered answer y now next reads) }
+
+  -- where none is left
+  pub judged_end : {next : State} {B : Type 0} (y : B) (Says : List (List LogRecord) → B → Type 0) → answer ≡ None → OnlyReads {T = Option (ℕ × LogRecord)} (Ok answer) now next →
+      ((blocks : List (List LogRecord)) → Sees found blocks old → P blocks (records_of found blocks) → Says blocks y) → Judges {T = B} found (Ok y) old next Says
+  judged_end {next = next} y Says is reads says = record {
+    says = λ blocks sees.
+        let so = so_far.heard blocks sees in
+        let none : so.0.left ≡ [] = subst (λ (o : Option (ℕ × LogRecord)). Gives o so.0.left new found.log old.image) is (given blocks sees) in
+        says blocks sees (subst (P blocks) (sym (walked_all walk found.log old.image (records_of found blocks) so.0 none)) so.1);
+    reads = looks_then tt _ old now next so_far.reads (looks_answered answer y now next reads);
+  }
