@@ -1,0 +1,4 @@
+mod Served
+pub mod Following
+mod Lines
+mod Durable

@@ -1,0 +1,124 @@
+-- The run that calls are, turn by turn, and its commits.
+use Rattle.std.proofs.Common.{◌≡◌, ℕ, zero, suc, ◌+◌, ◌≤◌, Bool, true, false, List, [], ◌∷◌, ◌++◌, drop, Option, None, Some, refl, sym, subst, ◌∙◌, arith}
+use Rattle.std.specs.Prelude.{if◌then◌else◌}
+use Rattle.record_model.specs.declared.words.CacheLine.{CacheLine}
+use Rattle.record_model.specs.declared.words.Command.{Command}
+use Rattle.record_model.specs.declared.words.Command.TheVariants.{Begin, Read, Write, Erase, Scan, Commit, Abort, Get, Set, Checkpoint, Cache, Stat, Quit}
+use Rattle.record_model.specs.declared.words.Reply.{Reply}
+use Rattle.record_model.specs.State.{State, content_at, seen}
+use Rattle.record_model.specs.Step.{Outcome, answer, lacks_room, ready, refusal, outcome, step}
+use Rattle.record_model.specs.Run.{Turn, turn, turns, state_at, is_cache, is_quit, is_committed, next_listing, later_listings}
+use Rattle.record_model.specs.Laws.{IsCountedIn}
+use Rattle.record_model.proofs.StepLaws.{commits_once, found_is, IsNoCommit, refusals}
+use Rattle.record_model.proofs.RunLaws.{IsRun}
+use Rattle.engine.specs.Listings.{listing_of}
+use Rattle.database.specs.Serving.{meaning}
+use Rattle.database.specs.Course.{Call, begun, is_answer, lines_of, listings_of, may_commit, run_of}
+
+-- A turn.
+
+-- but for the cache command, what is answered doesn't depend on a listing
+same_outcome : (s : State) (command : Command) (listing : List CacheLine) (o : Option Reply) → is_cache (Some command) ≡ false → outcome s command listing o ≡ outcome s command [] o
+same_outcome s command listing (Some refused) other = refl
+same_outcome s Cache listing None other = absurd cc
+same_outcome s command listing None other = refl
+
+-- the listing of a call is the first one, and it takes it away
+told : (s : State) (command : Command) (listing : List CacheLine) (later : List (List CacheLine)) (b : Bool) → is_cache (Some command) ≡ b →
+    step s command (next_listing ((if b then listing ∷ [] else []) ++ later)) ≡ step s command (if b then listing else [])
+told s command listing later true is = refl
+told s command listing later false is = same_outcome s command (next_listing later) (refusal s command) is
+
+rest : (listing : List CacheLine) (later : List (List CacheLine)) (b : Bool) → (if b then drop 1 ((if b then listing ∷ [] else []) ++ later) else (if b then listing ∷ [] else []) ++ later) ≡ later
+rest listing later true = refl
+rest listing later false = refl
+
+-- what comes of a call, as a turn
+abbrev pub turn_of : State → Call → Turn
+turn_of s call = let o = meaning s call.command call.before.engine in record { before = s; line = Some call.command; reply = o.reply; after = o.after }
+
+one_turn : (s : State) (call : Call) (later : List Call) → is_quit (Some call.command) ≡ false →
+    turns s (lines_of (call ∷ later)) (listings_of (call ∷ later)) ≡ turn_of s call ∷ turns (turn_of s call).after (lines_of later) (listings_of later)
+one_turn s call later goes_on =
+    let own = listing_of call.before.engine in
+    let listings = listings_of (call ∷ later) in
+    let same = told s call.command own (listings_of later) (is_cache (Some call.command)) refl in
+    let left : later_listings (Some call.command) listings ≡ listings_of later = rest own (listings_of later) (is_cache (Some call.command)) in
+    let first = turn s (Some call.command) (next_listing listings) in
+    (λ i. first ∷ (if goes_on i then [] else turns first.after (lines_of later) (later_listings (Some call.command) listings)))
+    ∙ (λ i. (let t : Turn = record { before = s; line = Some call.command; reply = (same i).reply; after = (same i).after } in t) ∷ turns (same i).after (lines_of later) (left i))
+
+-- so the first call is the first turn, and it is the last one where it isn't answered
+pub run_cons : (s : State) (call : Call) (later : List Call) (b : Bool) → is_answer call.answer ≡ b → is_quit (Some call.command) ≡ false →
+    run_of s (call ∷ later) ≡ turn_of s call ∷ (if b then run_of (turn_of s call).after later else [])
+run_cons s call later true is goes_on =
+    (λ i. let more = if is i then begun later else [] in turns s (lines_of (call ∷ more)) (listings_of (call ∷ more))) ∙ one_turn s call (begun later) goes_on
+run_cons s call later false is goes_on =
+    (λ i. let more = if is i then begun later else [] in turns s (lines_of (call ∷ more)) (listings_of (call ∷ more))) ∙ one_turn s call [] goes_on
+
+-- Commits.
+
+-- at most one more
+one_step : (s : State) (o : Outcome) (b : Bool) → is_committed o.reply ≡ b → IsCountedIn s o → (s.commits ≤ o.after.commits) × (o.after.commits ≤ s.commits + 1)
+one_step s o true is counted = let more = (counted.committed is).1 in (omega (arith, more), omega (arith, more))
+one_step s o false is counted = let same = (counted.others is).1 in (omega (arith, same), omega (arith, same))
+
+turn_counts : (s : State) (t : Turn) (listing : List CacheLine) → t ≡ turn s t.line listing → (s.commits ≤ t.after.commits) × (t.after.commits ≤ s.commits + 1)
+turn_counts s t listing is =
+    let o : Turn → Outcome = λ u. record { after = u.after; reply = u.reply } in
+    let c = commits_once s t.line listing in
+    one_step s (o t) (is_committed t.reply) refl (subst (λ (u : Turn). IsCountedIn s (o u)) (sym is) (record { committed = c.committed; others = c.others }))
+
+-- the count never falls
+pub rises : (s : State) (run : List Turn) → IsRun s run → (i j : ℕ) → i ≤ j → (state_at run s i).commits ≤ (state_at run s j).commits
+rises s run is zero zero le = omega arith
+rises s [] is zero (suc j) le = omega arith
+rises s (t ∷ run) is zero (suc j) le =
+    let one = (turn_counts s t is.0 is.1).0 in
+    let more = rises t.after run is.2 zero j (omega arith) in
+    omega (arith, one, more)
+rises s run is (suc i) zero le = absurd (omega (arith, le))
+rises s [] is (suc i) (suc j) le = omega arith
+rises s (t ∷ run) is (suc i) (suc j) le = rises t.after run is.2 i j (omega (arith, le))
+
+pub rises_by_one : (s : State) (run : List Turn) → IsRun s run → (i : ℕ) → (state_at run s (suc i)).commits ≤ (state_at run s i).commits + 1
+rises_by_one s [] is zero = omega arith
+rises_by_one s [] is (suc i) = omega arith
+rises_by_one s (t ∷ run) is zero = (turn_counts s t is.0 is.1).1
+rises_by_one s (t ∷ run) is (suc i) = rises_by_one t.after run is.2 i
+
+-- only a commit and a set make one
+
+chosen_reply : (b : Bool) (o p : Outcome) → is_committed o.reply ≡ false → is_committed p.reply ≡ false → is_committed (if b then o else p).reply ≡ false
+chosen_reply true o p h k = h
+chosen_reply false o p h k = k
+
+answers_none : (s : State) (command : Command) (listing : List CacheLine) → may_commit command ≡ false → is_committed (answer s command listing) ≡ false
+answers_none s (Begin n) listing h = refl
+answers_none s (Read n number) listing h = found_is (seen s n number)
+answers_none s (Write n number value) listing h = refl
+answers_none s (Erase n number) listing h = refl
+answers_none s (Scan n number count) listing h = refl
+answers_none s (Commit n) listing h = absurd cc
+answers_none s (Abort n) listing h = refl
+answers_none s (Get number) listing h = found_is (content_at s.table number)
+answers_none s (Set number value) listing h = absurd cc
+answers_none s Checkpoint listing h = refl
+answers_none s Cache listing h = refl
+answers_none s Stat listing h = refl
+answers_none s Quit listing h = refl
+
+commits_none : (s : State) (command : Command) (listing : List CacheLine) (o : Option Reply) → IsNoCommit o → may_commit command ≡ false → is_committed (outcome s command listing o).reply ≡ false
+unfolding IsNoCommit
+commits_none s command listing (Some refused) harmless h = harmless
+commits_none s command listing None harmless h = chosen_reply (lacks_room (ready s command) command) _ _ refl (answers_none (ready s command) command listing h)
+
+pub counts_few : (s : State) (call : Call) → (turn_of s call).after.commits ≤ s.commits + (if may_commit call.command then 1 else 0)
+counts_few s call = by (may_commit call.command) refl
+  where
+    listing : List CacheLine
+    listing = if is_cache (Some call.command) then listing_of call.before.engine else []
+
+    by : (b : Bool) → may_commit call.command ≡ b → (turn_of s call).after.commits ≤ s.commits + (if b then 1 else 0)
+    by true is = (one_step s (step s call.command listing) (is_committed (step s call.command listing).reply) refl (commits_once s (Some call.command) listing)).1
+    by false is = let same = ((commits_once s (Some call.command) listing).others (commits_none s call.command listing (refusal s call.command) (refusals s call.command) is)).1 in omega (arith, same)

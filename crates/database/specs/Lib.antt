@@ -1,0 +1,4 @@
+pub mod Held
+pub mod Serving
+pub mod Opening
+pub mod Course

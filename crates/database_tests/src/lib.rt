@@ -1,0 +1,5 @@
+//! Tests of `database`.
+#![tactic(auto)]
+
+#[cfg(test)]
+mod tests;
