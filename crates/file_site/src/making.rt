@@ -2,8 +2,9 @@
 // has its name before it is whole and stable.
 
 use crate::device::{DEVS, Device, Devices};
+use crate::folder::{Folder, draft_name, file_name};
 use crate::lock::{LockFile, hold};
-use crate::opening::{is_busy, open, path};
+use crate::opening::{is_busy, open};
 use crate::progress::Progress;
 use crate::trouble::Absence;
 use site::Dev;
@@ -79,24 +80,15 @@ impl Which {
     }
 }
 
-// The name of a device's file until it is whole and stable.
-fn draft_path(dev: Dev) -> &'static str {
-    match dev {
-        Dev::Log => "face.log.new",
-        Dev::Flash => "face.flash.new",
-        Dev::Disk => "face.disk.new",
-    }
-}
-
-// The current folder, locked so that no other program makes files in it.
-fn hold_folder<R: Files>(rt: &R) -> Result<R::File, Absence>
+// The folder, locked so that no other program makes files in it.
+fn hold_folder<R: Files>(rt: &R, folder: &Folder) -> Result<R::File, Absence>
 where
     R::File: LockFile,
 {
-    match OpenOptions::new().read(true).open(rt, ".") {
-        Ok(folder) => {
-            if hold(&folder) {
-                Ok(folder)
+    match OpenOptions::new().read(true).open(rt, folder.itself()) {
+        Ok(held) => {
+            if hold(&held) {
+                Ok(held)
             } else {
                 Err(Absence::Busy("."))
             }
@@ -114,32 +106,32 @@ fn is_free<R: Files>(rt: &R, path: &str) -> bool {
 }
 
 // The device's file; where there is none it is one to be made, of this length.
-fn look<R: Files>(rt: &R, dev: Dev, len: u64) -> Device<R::File>
+fn look<R: Files>(rt: &R, folder: &Folder, dev: Dev, len: u64) -> Device<R::File>
 where
     R::File: LockFile,
 {
-    match open(rt, dev) {
+    match open(rt, folder, dev) {
         Ok(device) => device,
         Err(Absence::Missing) => {
-            if is_free(rt, path(dev)) {
+            if is_free(rt, folder.path(dev)) {
                 return Device::Blank(len);
             }
             let error = io::Error::from(ErrorKind::NotFound);
-            Device::Closed(Absence::Unopened(path(dev), error))
+            Device::Closed(Absence::Unopened(file_name(dev), error))
         }
         Err(absence) => Device::Closed(absence),
     }
 }
 
 // What is there of a new database.
-fn look_for_all<R: Files>(rt: &R, lengths: &Lengths) -> Devices<R::File>
+fn look_for_all<R: Files>(rt: &R, folder: &Folder, lengths: &Lengths) -> Devices<R::File>
 where
     R::File: LockFile,
 {
     Devices {
-        log: look(rt, Dev::Log, lengths.log),
-        flash: look(rt, Dev::Flash, lengths.flash),
-        disk: look(rt, Dev::Disk, lengths.disk),
+        log: look(rt, folder, Dev::Log, lengths.log),
+        flash: look(rt, folder, Dev::Flash, lengths.flash),
+        disk: look(rt, folder, Dev::Disk, lengths.disk),
     }
 }
 
@@ -182,7 +174,7 @@ fn are_fit<F: FileExt>(found: &Devices<F>, lengths: &Lengths) -> Result<bool, Ab
         match is_fit(found.of(dev), lengths.of(dev)) {
             Ok(true) => {}
             Ok(false) => return Ok(false),
-            Err(error) => return Err(Absence::Unopened(path(dev), error)),
+            Err(error) => return Err(Absence::Unopened(file_name(dev), error)),
         }
     }
     Ok(true)
@@ -222,6 +214,7 @@ fn create<R: Files>(rt: &R, path: &str) -> io::Result<R::File> {
 // program left under that name is replaced.
 fn draft<R: Files + Clock + Eprint>(
     rt: &R,
+    folder: &Folder,
     dev: Dev,
     len: u64,
     zeros: &[u8],
@@ -229,25 +222,26 @@ fn draft<R: Files + Clock + Eprint>(
 where
     R::File: LockFile,
 {
-    let path = draft_path(dev);
+    let path = folder.draft_path(dev);
     let _ = rt.remove_file(path);
     let mut file = match create(rt, path) {
         Ok(file) => file,
-        Err(error) => return Err(Absence::Unmade(path, error)),
+        Err(error) => return Err(Absence::Unmade(draft_name(dev), error)),
     };
     if is_busy(dev, &file) {
-        return Err(Absence::Busy(path));
+        return Err(Absence::Busy(draft_name(dev)));
     }
-    let mut progress = Progress::new(rt, path, len);
+    let mut progress = Progress::new(rt, draft_name(dev), len);
     match fill(&mut file, len, zeros, &mut progress) {
         Ok(()) => Ok(Device::File(file, len)),
-        Err(error) => Err(Absence::Unmade(path, error)),
+        Err(error) => Err(Absence::Unmade(draft_name(dev), error)),
     }
 }
 
 // What was found for the device, or the draft of its file where it is missing.
 fn found_or_draft<R: Files + Clock + Eprint>(
     rt: &R,
+    folder: &Folder,
     dev: Dev,
     found: Device<R::File>,
     zeros: &[u8],
@@ -256,17 +250,22 @@ where
     R::File: LockFile,
 {
     match found {
-        Device::Blank(len) => draft(rt, dev, len, zeros),
+        Device::Blank(len) => draft(rt, folder, dev, len, zeros),
         there => Ok(there),
     }
 }
 
 // Gives the drafts of these devices their names, and notes each that has it.
-fn name_drafts<R: Files>(rt: &R, missing: &Which, named: &mut Which) -> Result<(), Absence> {
+fn name_drafts<R: Files>(
+    rt: &R,
+    folder: &Folder,
+    missing: &Which,
+    named: &mut Which,
+) -> Result<(), Absence> {
     for dev in DEVS {
         if missing.has(dev) {
-            if let Err(error) = rt.rename(draft_path(dev), path(dev)) {
-                return Err(Absence::Unmade(path(dev), error));
+            if let Err(error) = rt.rename(folder.draft_path(dev), folder.path(dev)) {
+                return Err(Absence::Unmade(file_name(dev), error));
             }
             named.add(dev);
         }
@@ -276,8 +275,8 @@ fn name_drafts<R: Files>(rt: &R, missing: &Which, named: &mut Which) -> Result<(
 
 // Makes the folder's names stable, also those of an earlier program. A file system that has no sync of folders is
 // taken to keep them.
-fn sync_folder<F: OpenFile>(folder: &F) -> Result<(), Absence> {
-    match folder.sync_all() {
+fn sync_folder<F: OpenFile>(held: &F) -> Result<(), Absence> {
+    match held.sync_all() {
         Ok(()) => Ok(()),
         Err(error) => match error.kind() {
             ErrorKind::InvalidInput | ErrorKind::Unsupported => Ok(()),
@@ -289,7 +288,8 @@ fn sync_folder<F: OpenFile>(folder: &F) -> Result<(), Absence> {
 // Makes the files that are missing, and notes each that has its name.
 fn make_missing<R: Files + Clock + Eprint>(
     rt: &R,
-    folder: &R::File,
+    folder: &Folder,
+    held: &R::File,
     found: Devices<R::File>,
     zeros: &[u8],
     named: &mut Which,
@@ -299,22 +299,22 @@ where
 {
     let missing = Which::missing(&found);
     let devices = Devices {
-        log: found_or_draft(rt, Dev::Log, found.log, zeros)?,
-        flash: found_or_draft(rt, Dev::Flash, found.flash, zeros)?,
-        disk: found_or_draft(rt, Dev::Disk, found.disk, zeros)?,
+        log: found_or_draft(rt, folder, Dev::Log, found.log, zeros)?,
+        flash: found_or_draft(rt, folder, Dev::Flash, found.flash, zeros)?,
+        disk: found_or_draft(rt, folder, Dev::Disk, found.disk, zeros)?,
     };
-    name_drafts(rt, &missing, named)?;
-    sync_folder(folder)?;
+    name_drafts(rt, folder, &missing, named)?;
+    sync_folder(held)?;
     Ok(devices)
 }
 
 // Removes what was made of these devices: the files that have their names, and the drafts of the others.
-fn remove_made<R: Files>(rt: &R, missing: &Which, named: &Which) {
+fn remove_made<R: Files>(rt: &R, folder: &Folder, missing: &Which, named: &Which) {
     for dev in DEVS {
         if named.has(dev) {
-            let _ = rt.remove_file(path(dev));
+            let _ = rt.remove_file(folder.path(dev));
         } else if missing.has(dev) {
-            let _ = rt.remove_file(draft_path(dev));
+            let _ = rt.remove_file(folder.draft_path(dev));
         }
     }
 }
@@ -323,7 +323,8 @@ fn remove_made<R: Files>(rt: &R, missing: &Which, named: &Which) {
 // made.
 fn make<R: Files + Clock + Eprint>(
     rt: &R,
-    folder: &R::File,
+    folder: &Folder,
+    held: &R::File,
     found: Devices<R::File>,
     zeros: &[u8],
 ) -> Devices<R::File>
@@ -332,10 +333,10 @@ where
 {
     let missing = Which::missing(&found);
     let mut named = Which::none();
-    match make_missing(rt, folder, found, zeros, &mut named) {
+    match make_missing(rt, folder, held, found, zeros, &mut named) {
         Ok(devices) => devices,
         Err(absence) => {
-            remove_made(rt, &missing, &named);
+            remove_made(rt, folder, &missing, &named);
             Devices::closed(absence)
         }
     }
@@ -345,19 +346,24 @@ where
 /// their length and are blank; else a missing file reads as a blank one, and nothing is made. No device is there
 /// where a file can't be read, or another program makes files in the folder, or one of them can't be made, or the
 /// folder's names can't be made stable. What takes long says on standard error how far it has come.
-pub fn fresh<R: Files + Clock + Eprint>(rt: &R, lengths: &Lengths, zeros: &[u8]) -> Devices<R::File>
+pub fn fresh<R: Files + Clock + Eprint>(
+    rt: &R,
+    folder: &Folder,
+    lengths: &Lengths,
+    zeros: &[u8],
+) -> Devices<R::File>
 where
     R::File: FileExt + LockFile,
 {
-    let folder = hold_folder(rt);
-    let found = look_for_all(rt, lengths);
+    let held = hold_folder(rt, folder);
+    let found = look_for_all(rt, folder, lengths);
     match are_fit(&found, lengths) {
         Ok(true) => {}
         Ok(false) => return found,
         Err(absence) => return Devices::closed(absence),
     }
-    match folder {
-        Ok(folder) => make(rt, &folder, found, zeros),
+    match held {
+        Ok(held) => make(rt, folder, &held, found, zeros),
         Err(absence) => Devices::closed(absence),
     }
 }

@@ -1,21 +1,13 @@
 // Opening the files of a site.
 
 use crate::device::{Device, Devices};
+use crate::folder::{Folder, file_name};
 use crate::lock::{LockFile, hold};
 use crate::trouble::Absence;
 use site::Dev;
 use std::fs::{OpenFile, OpenOptions};
 use std::io::{self, ErrorKind};
 use std::rt::Files;
-
-/// The name of a device's file in the current folder.
-pub fn path(dev: Dev) -> &'static str {
-    match dev {
-        Dev::Log => "face.log",
-        Dev::Flash => "face.flash",
-        Dev::Disk => "face.disk",
-    }
-}
 
 /// Whether this is the file of a device on which another program is at work: the log's, and locked.
 pub fn is_busy<F: LockFile>(dev: Dev, file: &F) -> bool {
@@ -30,54 +22,54 @@ fn settle<F: OpenFile>(file: &F) -> io::Result<u64> {
 }
 
 // Why a file that couldn't be opened doesn't stand for its device.
-fn unopened(path: &'static str, error: io::Error) -> Absence {
+fn unopened(dev: Dev, error: io::Error) -> Absence {
     match error.kind() {
         ErrorKind::NotFound => Absence::Missing,
-        _ => Absence::Unopened(path, error),
+        _ => Absence::Unopened(file_name(dev), error),
     }
 }
 
 /// The device's file with its length, to be read and written, and the log's locked before it is read. What an earlier
 /// program wrote and didn't sync is synced first. An error is that of the first of these calls that fails.
-pub fn open<R: Files>(rt: &R, dev: Dev) -> Result<Device<R::File>, Absence>
+pub fn open<R: Files>(rt: &R, folder: &Folder, dev: Dev) -> Result<Device<R::File>, Absence>
 where
     R::File: LockFile,
 {
-    let path = path(dev);
+    let path = folder.path(dev);
     let opened = OpenOptions::new().read(true).write(true).open(rt, path);
     let file = match opened {
         Ok(file) => file,
-        Err(error) => return Err(unopened(path, error)),
+        Err(error) => return Err(unopened(dev, error)),
     };
     if is_busy(dev, &file) {
-        return Err(Absence::Busy(path));
+        return Err(Absence::Busy(file_name(dev)));
     }
     match settle(&file) {
         Ok(len) => Ok(Device::File(file, len)),
-        Err(error) => Err(Absence::Unopened(path, error)),
+        Err(error) => Err(Absence::Unopened(file_name(dev), error)),
     }
 }
 
 // The file of a device, if it can be opened.
-fn open_or_closed<R: Files>(rt: &R, dev: Dev) -> Device<R::File>
+fn open_or_closed<R: Files>(rt: &R, folder: &Folder, dev: Dev) -> Device<R::File>
 where
     R::File: LockFile,
 {
-    match open(rt, dev) {
+    match open(rt, folder, dev) {
         Ok(device) => device,
         Err(absence) => Device::Closed(absence),
     }
 }
 
 /// The files that are there. One that can't be opened is a device without octets.
-pub fn existing<R: Files>(rt: &R) -> Devices<R::File>
+pub fn existing<R: Files>(rt: &R, folder: &Folder) -> Devices<R::File>
 where
     R::File: LockFile,
 {
     Devices {
-        log: open_or_closed(rt, Dev::Log),
-        flash: open_or_closed(rt, Dev::Flash),
-        disk: open_or_closed(rt, Dev::Disk),
+        log: open_or_closed(rt, folder, Dev::Log),
+        flash: open_or_closed(rt, folder, Dev::Flash),
+        disk: open_or_closed(rt, folder, Dev::Disk),
     }
 }
 

@@ -2,7 +2,7 @@
 use crate::seen::Seen;
 use crate::words::say_words;
 use command_line::sizes;
-use file_site::{Absence, Call, Failure, Watch, path};
+use file_site::{Absence, Call, Failure, Watch, file_name};
 use image_form::Place;
 use site::{Dev, Geometry};
 use std::io::Eprint;
@@ -10,9 +10,9 @@ use std::io::Eprint;
 // Says which call failed, with the system's words.
 fn say_failure<R: Eprint>(rt: &R, failure: Failure) {
     let (name, done) = match failure.call {
-        Call::Read(dev) => (path(dev), "read"),
-        Call::Write(dev) => (path(dev), "written"),
-        Call::Sync(dev) => (path(dev), "synced"),
+        Call::Read(dev) => (file_name(dev), "read"),
+        Call::Write(dev) => (file_name(dev), "written"),
+        Call::Sync(dev) => (file_name(dev), "synced"),
         Call::Take => ("standard input", "read"),
         Call::Tell => ("standard output", "written"),
     };
@@ -29,7 +29,7 @@ fn called(name: &'static str) -> &'static str {
 fn say_absence<R: Eprint>(rt: &R, dev: Dev, absence: Absence) {
     let _ = match absence {
         Absence::Missing => {
-            let name = path(dev);
+            let name = file_name(dev);
             eprintln!(rt;
                 "face: {name} is missing beside the others: bring it back, or all three files of one copy"
             )
@@ -68,7 +68,7 @@ fn say_no_files<R: Eprint>(rt: &R, seen: &Seen) -> bool {
         return true;
     }
     if let Some((dev, len)) = seen.first_odd() {
-        let name = path(dev);
+        let name = file_name(dev);
         let _ = eprintln!(rt;
             "face: {name} has {len} octets, as in no database: bring back all three files of one copy"
         );
@@ -164,7 +164,7 @@ fn say_not_made<R: Eprint>(rt: &R, seen: &Seen, geometry: Geometry) {
     }
     let (log, flash, disk) = geometry.lengths();
     if let Some((dev, len, wanted)) = seen.first_unlike([log, flash, disk]) {
-        let name = path(dev);
+        let name = file_name(dev);
         let _ = eprintln!(rt;
             "face: {name} has {len} octets, and these sizes ask for {wanted}: nothing was made. Give its own sizes, or \
             go to another folder"
