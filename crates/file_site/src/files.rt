@@ -10,7 +10,7 @@ use crate::folder::Folder;
 use crate::intake::Intake;
 use crate::lock::LockFile;
 use crate::making::{Lengths, fresh};
-use crate::opening::{existing, hold_streams};
+use crate::opening::{existing, hold_streams, looked_at};
 use crate::outlet::tells;
 use crate::progress::{Pace, Reading, note_read, say_heard};
 use crate::trouble::{Absence, Call, Failure, Failures};
@@ -27,7 +27,7 @@ const PIECE: usize = 65_536;
 /// The files `face.log`, `face.flash` and `face.disk` of a folder, standard input and standard output. It
 /// isn't honest: nothing is claimed of what stands in a file between two calls.
 ///
-/// While it lasts it holds a lock on `face.log`; a program that finds it locked has no log.
+/// While it lasts it holds a lock on each file; a program that finds one locked doesn't have it.
 #[derive(Drop)]
 pub struct FileSite<R: Files + Input + Print + Clock> {
     rt: R,
@@ -53,6 +53,17 @@ where
     }
 }
 
+// The files that are there, to look at, if files may be opened at all.
+fn open_looked_at<R: Files>(rt: &R, folder: &Folder) -> Devices<R::File>
+where
+    R::File: LockFile,
+{
+    match hold_streams(rt) {
+        Ok(_streams) => looked_at(rt, folder),
+        Err(error) => Devices::closed(Absence::Unopened("/dev/null", error)),
+    }
+}
+
 // The files of a new database, if files may be opened at all.
 fn open_fresh<R: Files + Clock + Eprint>(
     rt: &R,
@@ -73,8 +84,9 @@ impl<R: Files + Input + Print + Clock + Drop> FileSite<R>
 where
     R::File: FileExt + LockFile,
 {
-    /// The files of this folder that are there. A file that can't be opened to be read and written, or a log that
-    /// another program holds, is a device of length 0. The one error is want of memory.
+    /// The files of this folder that are there. A file that can't be opened to be read and written, or that another
+    /// program holds, is a device of length 0, and so is each where the folder's names can't be made stable. The one
+    /// error is want of memory.
     pub fn existing_in(rt: R, alloc: Global, folder: &Folder) -> Result<FileSite<R>, Stop>
         ensures fresh { IfOk result (λ site. IsFresh (state_of site.book)) }
         ensures memory { IfErr result (λ stop. stop ≡ Stop.Memory) }
@@ -124,14 +136,17 @@ where
         Ok(site)
     }
 
-    /// As `existing_in`, for a check of the files: where it takes long to read them, standard error says how far it
-    /// has come.
+    /// The files of this folder that are there, to be read alone, beside others that do the same: a write fails. A
+    /// file that can't be opened to be read, or that another program works on, is a device of length 0. Where it takes
+    /// long to read them, standard error says how far it has come. The one error is want of memory.
     pub fn for_check_in(rt: R, alloc: Global, folder: &Folder) -> Result<FileSite<R>, Stop>
         ensures fresh { IfOk result (λ site. IsFresh (state_of site.book)) }
         ensures memory { IfErr result (λ stop. stop ≡ Stop.Memory) }
     {
-        let mut site = FileSite::existing_in(rt, alloc, folder)?;
-        let all = site.devices.octets();
+        let buffer = vec![in alloc; 0u8; PIECE]?;
+        let devices = open_looked_at(&rt, folder);
+        let all = devices.octets();
+        let mut site = FileSite::over(rt, devices, buffer);
         site.reading = Some(Reading::new(&site.rt, all));
         Ok(site)
     }

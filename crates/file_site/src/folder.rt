@@ -7,6 +7,9 @@ use std::alloc::{AllocError, Global};
 use std::path::PathBuf;
 use thiserror::Error;
 
+// How a folder is called in itself.
+pub const FOLDER: &str = ".";
+
 // The longest path in octets that the system takes.
 const LONGEST_PATH: usize = 4_095;
 
@@ -92,7 +95,7 @@ fn paths(alloc: Global, folder: &str, itself: &str) -> Result<Folder, AllocError
 impl Folder {
     /// The folder that the program is called in. The one error is want of memory.
     pub fn current(alloc: Global) -> Result<Folder, AllocError> {
-        paths(alloc, "", ".")
+        paths(alloc, "", FOLDER)
     }
 
     /// The folder with this path, absolute or from the current folder on; an empty text and `.` name that one.

@@ -3,6 +3,7 @@
 
 mod book;
 mod device;
+mod drafts;
 mod files;
 mod folder;
 mod intake;

@@ -368,8 +368,8 @@ const IN_FOLDER: &[Step] = &[
     Step::Open(How::ExistingIn("named/")),
     Step::Calls(
         HELD,
-        "open named/face.log;lock named/face.log;sync named/face.log;open named/face.flash;sync named/face.flash;open \
-        named/face.disk;sync named/face.disk;",
+        "open named/face.log;lock named/face.log;sync named/face.log;open named/face.flash;lock named/face.flash;sync \
+        named/face.flash;open named/face.disk;lock named/face.disk;sync named/face.disk;open named/;sync all named/;",
     ),
     Step::Len(Dev::Disk, 30),
     Step::Call(Call::Read(Dev::Flash), 0, b"flash\0", Ok(6)),
@@ -421,18 +421,19 @@ const HELD: &str = "open /dev/null;open /dev/null;open /dev/null;";
 
 const OPENING: &str = "open /dev/null;open /dev/null;open /dev/null;open .;lock .;";
 
-// Each file is filled and synced under the name of a draft, and then renamed; the folder is synced last, also where
-// nothing was to be made.
+// Each file is filled and synced under the name of a draft, and then gets its own; the folder is synced last, also
+// where nothing was to be made. Who owns what is made there is seen of a file that doesn't stay.
 const IN_ORDER: &[Step] = &[
     Step::Clear,
     Step::File("face.log.new", b"left by another"),
     Step::Open(How::Fresh(70_000, 20, 30)),
     Step::Calls(
         OPENING,
-        "open face.log;open face.flash;open face.disk;remove face.log.new;make face.log.new;lock face.log.new;fill \
-        face.log.new;fill face.log.new;sync all face.log.new;remove face.flash.new;make face.flash.new;fill \
-        face.flash.new;sync all face.flash.new;remove face.disk.new;make face.disk.new;fill face.disk.new;sync all \
-        face.disk.new;rename face.log.new;rename face.flash.new;rename face.disk.new;sync all .;",
+        "remove face.log.new;make face.log.new;lock face.log.new;fill face.log.new;fill face.log.new;sync all \
+        face.log.new;remove face.flash.new;make face.flash.new;lock face.flash.new;fill face.flash.new;sync all \
+        face.flash.new;remove face.disk.new;make face.disk.new;lock face.disk.new;fill face.disk.new;sync all \
+        face.disk.new;link face.log.new;link face.flash.new;link face.disk.new;remove face.log.new;remove \
+        face.flash.new;remove face.disk.new;sync all .;",
     ),
     Step::Open(How::Bare),
     Step::Files([70_000, 20, 30, NONE, NONE, NONE]),
@@ -440,7 +441,8 @@ const IN_ORDER: &[Step] = &[
     Step::Open(How::Fresh(20, 20, 30)),
     Step::Calls(
         OPENING,
-        "open face.log;lock face.log;sync face.log;open face.flash;sync face.flash;open face.disk;sync face.disk;",
+        "open face.log;lock face.log;sync face.log;open face.flash;lock face.flash;sync face.flash;open face.disk;lock \
+        face.disk;sync face.disk;",
     ),
     Step::Open(How::Bare),
     Step::Files([70_000, 20, 30, NONE, NONE, NONE]),
@@ -448,11 +450,63 @@ const IN_ORDER: &[Step] = &[
     Step::Open(How::Fresh(20, 20, 30)),
     Step::Calls(
         OPENING,
-        "open face.log;lock face.log;sync face.log;open face.flash;sync face.flash;open face.disk;sync \
-        face.disk;read face.log;read face.flash;read face.disk;sync all .;",
+        "open face.log;lock face.log;sync face.log;open face.flash;lock face.flash;sync face.flash;open face.disk;lock \
+        face.disk;sync face.disk;read face.log;read face.flash;read face.disk;remove face.log.new;make \
+        face.log.new;remove face.log.new;remove face.log.new;remove face.flash.new;remove face.disk.new;sync all .;",
     ),
     Step::Open(How::Bare),
     Step::Files([20, 20, 30, NONE, NONE, NONE]),
+    Step::Clear,
+];
+
+// The files and the names of a folder are made stable before they are believed, where the file system has a sync of
+// folders: else none of them is there.
+const SETTLED: &[Step] = &[
+    Step::Clear,
+    Step::Open(How::Fresh(10, 20, 30)),
+    Step::Fail("sync", "face.flash", ErrorKind::Other, 1),
+    Step::Open(How::Existing),
+    Step::Len(Dev::Log, 10),
+    Step::Len(Dev::Flash, 0),
+    Step::Fail("sync all", ".", ErrorKind::Other, 1),
+    Step::Open(How::Existing),
+    Step::Len(Dev::Log, 0),
+    Step::Len(Dev::Disk, 0),
+    Step::Fail("open", ".", ErrorKind::PermissionDenied, 1),
+    Step::Open(How::Existing),
+    Step::Len(Dev::Log, 0),
+    Step::Fail("sync all", ".", ErrorKind::InvalidInput, 1),
+    Step::Open(How::Existing),
+    Step::Len(Dev::Log, 10),
+    Step::Fail("sync all", ".", ErrorKind::Unsupported, 1),
+    Step::Open(How::Existing),
+    Step::Len(Dev::Log, 10),
+    Step::Clear,
+];
+
+// A check asks for no write: it opens to read, beside others, and syncs where that can be.
+const LOOKED_AT: &[Step] = &[
+    Step::Clear,
+    Step::Open(How::Fresh(10, 20, 30)),
+    Step::Open(How::Bare),
+    Step::Forget,
+    Step::Open(How::Check),
+    Step::Calls(
+        HELD,
+        "open face.log;share face.log;sync face.log;open face.flash;share face.flash;sync face.flash;open \
+        face.disk;share face.disk;sync face.disk;",
+    ),
+    Step::Call(Call::Read(Dev::Log), 0, b"\0\0", Ok(2)),
+    Step::Call(Call::Write(Dev::Log), 0, b"a", Err(Failed)),
+    Step::Fail("sync", "face.log", ErrorKind::ReadOnlyFilesystem, 1),
+    Step::Open(How::Check),
+    Step::Len(Dev::Log, 10),
+    Step::Fail("sync", "face.disk", ErrorKind::InvalidInput, 1),
+    Step::Open(How::Check),
+    Step::Len(Dev::Disk, 30),
+    Step::Fail("sync", "face.flash", ErrorKind::Other, 1),
+    Step::Open(How::Check),
+    Step::Len(Dev::Flash, 0),
     Step::Clear,
 ];
 
@@ -462,7 +516,10 @@ const UNMADE: &[Step] = &[
     Step::Make("make", "face.flash.new", ErrorKind::PermissionDenied, 0),
     Step::Make("fill", "face.disk.new", ErrorKind::StorageFull, 0),
     Step::Make("sync all", "face.log.new", ErrorKind::Other, 0),
-    Step::Make("rename", "face.flash.new", ErrorKind::Other, 0),
+    Step::Make("link", "face.flash.new", ErrorKind::Other, 0),
+    Step::Make("link", "face.disk.new", ErrorKind::AlreadyExists, 0),
+    Step::Make("link", "face.flash.new", ErrorKind::PermissionDenied, 10),
+    Step::Make("link", "face.disk.new", ErrorKind::Unsupported, 10),
     Step::Make("sync all", ".", ErrorKind::Other, 0),
     Step::Make("open", ".", ErrorKind::PermissionDenied, 0),
     Step::Make("open", "/dev/null", ErrorKind::NotFound, 10),
@@ -470,6 +527,7 @@ const UNMADE: &[Step] = &[
     Step::Make("sync all", ".", ErrorKind::Unsupported, 10),
     Step::Make("lock", ".", ErrorKind::Unsupported, 10),
     Step::Make("lock", "face.log.new", ErrorKind::Unsupported, 10),
+    Step::Make("remove", "face.disk.new", ErrorKind::PermissionDenied, 10),
     Step::Make("fill", "face.log.new", ErrorKind::Interrupted, 10),
     Step::Clear,
 ];
@@ -754,11 +812,13 @@ fn carriage_returns_and_refusals_are_noticed(rt: HostRuntime) {
 }
 
 // The tests by their names.
-const TESTS: [(&str, &[Step]); 10] = [
+const TESTS: [(&str, &[Step]); 12] = [
     ("all_input_is_taken", BY_SITE),
     ("a_folder_that_is_named_is_opened", IN_FOLDER),
     ("a_file_that_cannot_be_read_is_not_fit", NOT_FIT),
     ("a_new_database_is_made_in_this_order", IN_ORDER),
+    ("names_are_made_stable_at_the_opening", SETTLED),
+    ("a_check_asks_for_no_write", LOOKED_AT),
     ("what_cannot_be_made_is_removed", UNMADE),
     ("each_call_is_made_on_its_own_file", OWN_FILE),
     ("what_is_told_is_counted", COUNTED),
