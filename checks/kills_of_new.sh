@@ -18,8 +18,8 @@ disk=65536
 kills=0
 wrong=0
 
-# The states before `new`: nothing; some of the files, blank; what an earlier `new` left; a log that was used, and no
-# disk.
+# The states before `new`: nothing; some of the files, blank; what an earlier `new` left, drafts or a log with both of
+# its names; a log that was used, and no disk.
 state_empty() { :; }
 state_log_there() { truncate -s "$log" face.log; }
 state_log_missing() { truncate -s "$flash" face.flash && truncate -s "$disk" face.disk; }
@@ -29,6 +29,7 @@ state_drafts_left() {
     head -c 20 /dev/urandom >face.flash.new
     head -c "$disk" /dev/zero >face.disk.new
 }
+state_link_left() { state_log_there && ln face.log face.log.new; }
 state_log_used() {
     state_all_there
     printf 'set 5 0a0b\n' | "$face" run 1 >/dev/null
@@ -116,12 +117,13 @@ kill_at() {
     *) report "$@" "new again $again, a run opens $second" ;;
     esac
     whole || report "$@" 'a file is short after new again'
+    [ "$again" != ready ] || [ -z "$(find . -name '*.new')" ] || report "$@" 'new again has left a draft'
 }
 
 line='%-12s %6s %10s %12s %11s %13s %6s\n'
 # shellcheck disable=SC2059
 printf "$line" state kills 'run opens' 'run refuses' 'new: ready' 'new: refused' wrong
-[ $# -gt 0 ] || set -- empty log_there log_missing all_there drafts_left log_used
+[ $# -gt 0 ] || set -- empty log_there log_missing all_there drafts_left link_left log_used
 for state in "$@"; do
     rm -rf "$folder"/db*
     mkdir "$folder/db" && cd "$folder/db" || exit 1

@@ -2,8 +2,8 @@
  * streams, writes them down, and lets one of them fail.
  *
  * RECORD_TO names the file that the calls are appended to, each as a `struct call` and then the octets that were
- * written. RECORD_FAULT is NUMBER:FAULT, the number of a call from 1 on and what befalls it: EIO, ENOSPC or EINTR, with
- * nothing done; SHORT, where half of the octets are taken or given; TORN, where half of the octets are written and the
+ * written. RECORD_FAULT is NUMBER:FAULT, the number of a call from 1 on and what befalls it: EIO, ENOSPC, EINTR or
+ * EPERM, with nothing done; SHORT, where half of the octets are taken or given; TORN, where half of the octets are written and the
  * answer is EIO; KILL, before anything is done; HALF, a kill when half of the octets are written. */
 #define _GNU_SOURCE
 #include <dlfcn.h>
@@ -17,9 +17,9 @@
 #include <sys/stat.h>
 #include <unistd.h>
 
-enum kind { OPEN = 1, READ, WRITE, PREAD, PWRITE, FDATASYNC, FSYNC, RENAME, UNLINK, FLOCK, STATX };
+enum kind { OPEN = 1, READ, WRITE, PREAD, PWRITE, FDATASYNC, FSYNC, RENAME, LINK, UNLINK, FLOCK, STATX };
 
-/* An open that may create has the offset 1. A rename has the file that it ends as in its offset. */
+/* An open that may create has the offset 1. A rename and a link have the new name's file in their offset. */
 struct call {
     uint32_t kind, file;
     int64_t offset, asked, result;
@@ -80,6 +80,7 @@ static int error_of(const char *what)
     if (strcmp(what, "EIO") == 0) return EIO;
     if (strcmp(what, "ENOSPC") == 0) return ENOSPC;
     if (strcmp(what, "EINTR") == 0) return EINTR;
+    if (strcmp(what, "EPERM") == 0) return EPERM;
     return 0;
 }
 
@@ -205,6 +206,12 @@ int rename(const char *from, const char *to)
 {
     int file = file_at(from);
     PLAIN(RENAME, file, file_at(to), REAL(rename)(from, to))
+}
+
+int link(const char *from, const char *to)
+{
+    int file = file_at(from);
+    PLAIN(LINK, file, file_at(to), REAL(link)(from, to))
 }
 
 int unlink(const char *path)

@@ -13,7 +13,7 @@ import traceback
 
 import storage_model
 from storage_runs import KILLED, Course, Program, Sizes, Wrong, find, find_new, keep, opened
-from storage_trace import DATABASE, Disk
+from storage_trace import DATABASE, FOLDER, Disk
 
 IMAGES_OF_A_LIFE = 24
 LIVES = 5
@@ -56,7 +56,7 @@ def course_of(outcome, sizes, allowed, lines):
 # --- images of crashes
 def moments(random, calls, count):
     """Moments of a run: so many calls are made. Many are chosen behind writes, where something is loose."""
-    writes = [number for number, call in enumerate(calls) if call.kind in ('pwrite', 'write', 'rename')]
+    writes = [number for number, call in enumerate(calls) if call.kind in ('pwrite', 'write', 'rename', 'link', 'unlink')]
 
     def one():
         near = writes and random.random() < 0.7
@@ -65,9 +65,9 @@ def moments(random, calls, count):
     return collections.Counter(one() for _ in range(count))
 
 
-def crash_images(random, files, calls, count):
-    """Images that crashes of this run leave, each with what was told."""
-    disk, chosen = Disk(files), moments(random, calls, count)
+def crash_images(random, disk, calls, count):
+    """Images that crashes of this run over a disk leave, each with what was told."""
+    chosen = moments(random, calls, count)
     for number in range(len(calls) + 1):
         for _ in range(chosen[number]):
             yield disk.left(random), disk.told
@@ -81,7 +81,7 @@ def try_life(random, program, sizes, files, allowed, tally):
     outcome = recorded(program, files, ['run', str(random.choice([1, 1, 2, 4]))], lines)
     course = course_of(outcome, sizes, allowed, lines)
     ends = [(program.files(), course.allowed(outcome.told))]
-    for image, told in crash_images(random, files, outcome.calls, IMAGES_OF_A_LIFE):
+    for image, told in crash_images(random, Disk(files), outcome.calls, IMAGES_OF_A_LIFE):
         left = course.allowed(told)
         program.place(image)
         find(program, sizes, left, random.choice([1, 2, 8]))
@@ -109,14 +109,38 @@ def try_new(random, program, sizes, tally):
     if (outcome.status, outcome.told) != (0, sizes.ready()):
         raise Wrong(f'new has status {outcome.status} and tells {outcome.told}')
     made = program.files()
-    for image, told in crash_images(random, before, outcome.calls, IMAGES_OF_A_LIFE // 4):
+    for image, told in crash_images(random, Disk(before), outcome.calls, IMAGES_OF_A_LIFE // 4):
         find_new(program, sizes, image, told == sizes.ready())
         tally['images'] += 1
     return made
 
 
+def try_run_behind_kill(random, program, sizes, tally):
+    """A run over what a `new` has left that was killed before it made the folder's names stable, and images of its
+    crashes. Once it has written no name may be lost."""
+    before = files_before_new(random, sizes)
+    calls = recorded(program, before, sizes.new(), []).calls
+    named = max((number for number, call in enumerate(calls, 1) if call.kind in ('link', 'rename')), default=0)
+    synced = next(at for at, call in enumerate(calls) if at >= named and (call.kind, call.file) == ('fsync', FOLDER))
+    disk = Disk(before)
+    for call in calls[:random.randint(named, synced)]:
+        disk.make(call)
+    disk.told, disk.written = b'', False
+    lines = some_lines(random, sizes, 5)
+    outcome = recorded(program, disk.now(), ['run', '1'], lines)
+    course = course_of(outcome, sizes, {0: {}}, lines)
+    for image, told in crash_images(random, disk, outcome.calls, IMAGES_OF_A_LIFE // 4):
+        if disk.written:
+            program.place(image)
+            find(program, sizes, course.allowed(told), 1)
+        else:
+            find_new(program, sizes, image, False)
+        tally['images'] += 1
+
+
 def try_images(random, program, tally):
     sizes = Sizes.some(random)
+    try_run_behind_kill(random, program, sizes, tally)
     files, allowed = try_new(random, program, sizes, tally), {0: {}}
     for _ in range(LIVES):
         files, allowed = try_life(random, program, sizes, files, allowed, tally)
@@ -132,12 +156,14 @@ FAULTS = {
     'fdatasync': ['EIO', 'ENOSPC', 'EINTR'],
     'fsync': ['EIO', 'ENOSPC', 'EINTR'],
     'rename': ['EIO', 'ENOSPC'],
+    'link': ['EIO', 'ENOSPC', 'EPERM'],
     'unlink': ['EIO'],
     'flock': ['EIO', 'EINTR'],
     'statx': ['EIO'],
 }
 TRIED_AGAIN = {('EINTR', kind) for kind in ('open', 'read', 'write', 'pread', 'pwrite', 'fdatasync', 'fsync')}
 TRIED_AGAIN |= {('SHORT', kind) for kind in ('read', 'write', 'pread', 'pwrite')}
+TRIED_AGAIN |= {('EPERM', 'link')}
 
 
 def some_fault(random, call):
@@ -183,13 +209,14 @@ def try_break(random, program, sizes, files, words, lines, calls, course, tally)
     call = calls[number]
     fault = some_fault(random, call)
     what = f'{fault} at call {number + 1}, {call.kind} of {call.file}'
-    is_opening = call.kind in ('open', 'statx', 'flock') or (call.kind == 'fdatasync' and number < 12)
+    read = next((at for at, made in enumerate(calls) if made.kind == 'pread'), len(calls))
+    is_opening = call.kind in ('open', 'statx', 'flock') or (call.kind in ('fdatasync', 'fsync') and number < read)
     program.place(files)
     outcome = program.run(words, lines, (number + 1, fault), record=True)
     try:
         told = check_break(outcome, course.told(), wanted_status(fault, call, is_opening, False), call)
         left = course.allowed(told)
-        crash = list(crash_images(random, files, outcome.calls, 1))[0] if outcome.status != KILLED else None
+        crash = list(crash_images(random, Disk(files), outcome.calls, 1))[0] if outcome.status != KILLED else None
         find(program, sizes, left, random.choice([1, 4]))
         if crash is not None:
             program.place(crash[0])

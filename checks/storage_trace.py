@@ -4,7 +4,7 @@ may leave: of what isn't synced each part may be lost, kept, kept in part, or be
 import collections
 import struct
 
-KINDS = ['', 'open', 'read', 'write', 'pread', 'pwrite', 'fdatasync', 'fsync', 'rename', 'unlink', 'flock', 'statx']
+KINDS = ['', 'open', 'read', 'write', 'pread', 'pwrite', 'fdatasync', 'fsync', 'rename', 'link', 'unlink', 'flock', 'statx']
 DATABASE = ['face.log', 'face.flash', 'face.disk']
 NAMES = DATABASE + ['face.log.new', 'face.flash.new', 'face.disk.new', '.', 'input', 'output', '']
 FOLDER = '.'
@@ -92,6 +92,7 @@ class Disk:
         self.names = {name: File(content) for name, content in files.items()}
         self.stable_names = dict(self.names)
         self.loose_names = []
+        self.written = False
         self.told = b''
 
     def make(self, call):
@@ -104,6 +105,7 @@ class Disk:
             self.told += call.octets
         elif call.kind in ('write', 'pwrite') and call.file in self.names:
             self.names[call.file].loose.append((call.offset, call.octets))
+            self.written = True
         elif call.kind in ('fdatasync', 'fsync') and call.file == FOLDER:
             self.stable_names = dict(self.names)
             self.loose_names = []
@@ -113,6 +115,8 @@ class Disk:
             moved = self.names[call.file]
             self.rename_to(call.file, None)
             self.rename_to(NAMES[call.offset], moved)
+        elif call.kind == 'link':
+            self.rename_to(NAMES[call.offset], self.names[call.file])
         elif call.kind == 'unlink':
             self.rename_to(call.file, None)
 
@@ -122,6 +126,10 @@ class Disk:
         else:
             self.names[name] = file
         self.loose_names.append((name, file))
+
+    def now(self):
+        """The files as they read now, by name."""
+        return {name: bytes(file.left(None, 'kept')) for name, file in self.names.items()}
 
     def left(self, random):
         """The files that a crash leaves, by name. Of changes of names that aren't stable some first ones stand, or any."""

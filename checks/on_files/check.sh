@@ -61,12 +61,53 @@ for file in face.log face.flash face.disk; do
     checks "$file is too short" 11 'unsound S1' "face: $file has 1000 octets, as in no database: .*"
     mv kept "$file"
 done
+mv face.log kept
+mkfifo face.log
+out=$(timeout 5 "$face" check 2>"$folder/said" </dev/null)
+[ $? -eq 11 ] && [ "$out" = 'unsound S1' ] && grep -q '^face: face.log is no file, but a folder or something else: ' "$folder/said"
+verdict 'a pipe in the place of a file' $?
+mv kept face.log
 if has flock; then
-    prefix=(flock face.log)
-    checks 'another program is at work' 11 'unsound S1' 'face: another program is at work on face.log: .*'
+    prefix=(flock face.disk)
+    checks 'another program is at work on a file of three' 11 'unsound S1' 'face: another program is at work on face.disk: .*'
+    prefix=(flock -s face.log)
+    checks 'another check reads' 0 'sound records 2 commits 3' ''
+    told 'a run beside it' 9 'fault foreign' '' run 1
     prefix=()
 else
     skip 'locks of others: need flock'
+fi
+
+# --- beside a run: the first line on standard error is promised not to change
+mkfifo input
+"$face" run 1 <input >replies 2>/dev/null &
+run=$!
+exec 3>input
+awaits open replies
+checks 'a check beside a run' 11 'unsound S1' 'face: another program is at work on face\.log: wait until it has ended'
+[ "$(head -n 1 "$folder/said")" = 'face: another program is at work on face.log: wait until it has ended' ]
+verdict 'its first line is the one that is promised' $?
+mv face.flash kept
+"$face" check >/dev/null 2>"$folder/said" </dev/null
+[ "$(head -n 1 "$folder/said")" = 'face: another program is at work on face.log: wait until it has ended' ]
+verdict 'it comes first where files are missing too' $?
+mv kept face.flash
+exec 3>&-
+wait "$run"
+checks 'a check behind it' 0 'sound records 2 commits 3' ''
+
+# --- a medium that takes no writes
+mkdir "$folder/fixed"
+if [ "$(id -u)" -eq 0 ] && mount -t tmpfs none "$folder/fixed" 2>/dev/null; then
+    cp face.* "$folder/fixed"
+    mount -o remount,ro "$folder/fixed"
+    cd "$folder/fixed" || exit 1
+    checks 'a medium that takes no writes' 0 'sound records 2 commits 3' ''
+    told 'a run over it' 9 'fault foreign' '' run 1
+    cd "$folder/db" || exit 1
+    umount "$folder/fixed"
+else
+    skip 'a medium that takes no writes: needs root and a mount'
 fi
 
 # --- words, and a line that can't be told
@@ -80,6 +121,16 @@ verdict 'standard error that is closed' $?
 
 # --- a device that fails, and how far a long check has come
 if has strace && strace -o /dev/null true 2>/dev/null; then
+    for error in EROFS EINVAL EPERM; do
+        prefix=(strace -f -o /dev/null -e "inject=fdatasync:error=$error")
+        checks "files that cannot be synced by $error" 0 'sound records 2 commits 3' ''
+    done
+    prefix=(strace -f -o /dev/null -e inject=fdatasync:error=EIO:when=2)
+    checks 'a file whose sync fails' 11 'unsound S1' "face: face.flash can't be synced: Input/output error (os error 5); .*"
+    prefix=()
+    strace -f -o "$folder/trace" -e trace=openat,write,pwrite64,fsync,unlink,link "$face" check >/dev/null </dev/null
+    [ "$(grep -c '"face\..*O_RDONLY' "$folder/trace")" -eq 3 ] && [ "$(grep -c -e 'O_RDWR' -e 'write' -e 'link(' -e 'fsync(' "$folder/trace")" -eq 1 ]
+    verdict 'it opens to read, and writes one line' $?
     out=$(strace -f -o /dev/null -P face.disk -e inject=pread64:error=EIO:when=1 "$face" check 2>"$folder/said" </dev/null)
     [ $? -eq 3 ] && [ "$out" = 'fault disk' ] && grep -q "^face: face.disk couldn't be read: Input/output error (os error 5)$" "$folder/said"
     verdict 'a disk that cannot be read' $?

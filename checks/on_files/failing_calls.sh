@@ -49,9 +49,9 @@ if has strace && strace -o /dev/null true 2>/dev/null; then
 
     # the folder is synced behind each file, and before new tells that it is ready
     for time in first second; do
-        strace -f -y -o trace -e trace=openat,rename,fsync,write "$face" new 16 8 64 >/dev/null </dev/null
+        strace -f -y -o trace -e trace=openat,link,unlink,fsync,write "$face" new 16 8 64 >/dev/null </dev/null
         synced=$(grep -n "fsync(.*<$PWD>)" trace | tail -n 1 | cut -d: -f 1)
-        named=$(grep -n 'rename(' trace | tail -n 1 | cut -d: -f 1)
+        named=$(grep -n 'link(' trace | tail -n 1 | cut -d: -f 1)
         ready=$(grep -n 'ready 16 8 64' trace | cut -d: -f 1)
         [ -n "$synced" ] && [ "${named:-0}" -lt "$synced" ] && [ "$synced" -lt "$ready" ]
         verdict "the $time new syncs the folder" $?
@@ -68,6 +68,31 @@ if has strace && strace -o /dev/null true 2>/dev/null; then
     prefix=()
     [ -z "$(ls -A)" ]
     verdict 'what was made in it is gone' $?
+
+    # a run syncs the folder before it tells that it is open
+    fresh
+    strace -f -y -o trace -e trace=fsync,write "$face" run 1 >/dev/null </dev/null
+    synced=$(grep -n "fsync(.*<$PWD>)" trace | cut -d: -f 1)
+    opened=$(grep -n 'open 0' trace | cut -d: -f 1)
+    [ -n "$synced" ] && [ "$synced" -lt "$opened" ]
+    verdict 'a run syncs the folder' $?
+    for error in EINVAL EOPNOTSUPP; do
+        prefix=(strace -f -o /dev/null -P "$PWD" -e "inject=fsync:error=$error")
+        told "a run in a folder whose sync is refused by $error" 0 'open 0' '' run 1
+    done
+    prefix=(strace -f -o /dev/null -P "$PWD" -e inject=fsync:error=EIO)
+    told 'a run in a folder whose sync fails' 9 'fault foreign' '' run 1
+    told 'a load in it' 9 'fault foreign' '' load 1 1 1
+    told 'a check in it' 0 'sound records 0 commits 0' '' check
+    prefix=()
+
+    # a file system without links
+    rm -f face.* trace
+    prefix=(strace -f -o /dev/null -e inject=link:error=EPERM)
+    told 'new without links' 0 'ready 16 8 64' '' new 16 8 64
+    prefix=()
+    [ "$(ls -A | tr '\n' ' ')" = 'face.disk face.flash face.log ' ]
+    verdict 'its files have their names' $?
 
     # locks that aren't there, or are held
     prefix=(strace -f -o /dev/null -e inject=flock:error=ENOLCK)

@@ -2,7 +2,7 @@
 # Kills of `new` at each of its system calls, the states before it side by side.
 . "$(dirname "$(readlink -f "$0")")/helpers.bash"
 
-states=(empty log_there log_missing all_there drafts_left log_used)
+states=(empty log_there log_missing all_there drafts_left link_left log_used)
 for state in "${states[@]}"; do
     {
         FACE=$face "$root/checks/kills_of_new.sh" "$state" >"$folder/$state"

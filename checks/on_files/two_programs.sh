@@ -15,6 +15,14 @@ awaits committed first_replies
 told 'a second run' 9 'fault foreign' 'set 5 0b/' run 1
 told 'a second load' 9 'fault foreign' '' load 10 7 1
 told 'new beside a run' 9 'fault foreign' '' new 16 8 64
+mkdir "$folder/linked"
+ln face.flash face.disk "$folder/linked"
+cp face.log "$folder/linked"
+cd "$folder/linked" || exit 1
+told 'a run over a log of its own, and files of the first' 9 'fault foreign' 'set 5 0b/' run 1
+"$face" run 1 2>&1 >/dev/null </dev/null | grep -q -x 'face: another program is at work on face.flash: wait until it has ended'
+verdict 'which file that is of is said' $?
+cd "$folder/two" || exit 1
 printf 'get 5\nset 6 0c\n' >&3
 exec 3>&-
 wait "$first"

@@ -38,8 +38,8 @@ for file in face.log face.flash face.disk; do
     mv "$file" kept
     says "$file is missing" 9 "face: $file is missing beside the others: .*" run 1
     mkdir "$file"
-    says "$file is a folder" 9 "face: $file can't be opened to be read and written: Is a directory (os error 21); .*" run 1
-    says "$file is a folder, and new" 9 "face: $file can't be opened to be read and written: Is a directory (os error 21); .*" new 16 8 64
+    says "$file is a folder" 9 "face: $file is no file, but a folder or something else: .*" run 1
+    says "$file is a folder, and new" 9 "face: $file is no file, but a folder or something else: .*" new 16 8 64
     rmdir "$file"
     head -c 1000 kept >"$file"
     says "$file is too short" 9 "face: $file has 1000 octets, as in no database: .*" run 1
@@ -60,7 +60,7 @@ if has flock; then
     mkdir "$folder/held"
     cd "$folder/held" || exit 1
     prefix=(flock .)
-    says 'another program makes a database' 9 'face: another program is at work on this folder: .*' new 16 8 64
+    says 'another program makes a database' 9 'face: another program makes a database in this folder, or holds the lock on it: .*' new 16 8 64
     prefix=()
     cd "$folder/db" || exit 1
 else
@@ -101,9 +101,9 @@ if has strace && strace -o /dev/null true 2>/dev/null; then
     unmade 'no room for a new log' "face.log.new can't be made" "$full" -e inject=write:error=ENOSPC:when=1
     unmade 'no room for a new disk' "face.disk.new can't be made" "$full" -P "$PWD/face.disk.new" -e inject=write:error=ENOSPC:when=1
     unmade 'a draft that cannot be synced' "face.log.new can't be made" "$broken" -P "$PWD/face.log.new" -e inject=fsync:error=EIO:when=1
-    unmade 'a draft that cannot be renamed' "face.flash can't be made" "$broken" -e inject=rename:error=EIO:when=2
-    unmade 'a folder that cannot be opened' "this folder can't be opened to be read and written" "$full" -P . -e inject=openat:error=ENOSPC:when=1
-    unmade 'a folder that cannot be synced' "this folder can't be made" "$broken" -P "$PWD" -e inject=fsync:error=EIO:when=1
+    unmade 'a draft that gets no name' "face.flash can't be made" "$broken" -e inject=link:error=EIO:when=2
+    unmade 'a folder that cannot be opened' "this folder can't be opened to be read" "$full" -P . -e inject=openat:error=ENOSPC:when=1
+    unmade 'a folder that cannot be synced' "this folder can't be synced" "$broken" -P "$PWD" -e inject=fsync:error=EIO:when=1
     prefix=()
 else
     skip 'words for failing calls: need strace'
@@ -129,7 +129,7 @@ printf 'get 5\nget 5\r\nget 5\r\nget 99999\n' | "$face" run 1 >"$folder/out" 2>"
 verdict 'refused lines are counted and a carriage return is named' $?
 
 # --- who may read and write what is made
-for mask in 022 000 077; do
+for mask in 022 000 077 277 777; do
     rm -f face.*
     (umask "$mask" && "$face" new 16 8 64 >/dev/null </dev/null)
     [ "$(stat -c %a face.log face.flash face.disk | sort -u)" = 600 ]

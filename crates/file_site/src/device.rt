@@ -19,6 +19,14 @@ pub enum Device<F> {
     Closed(Absence),
 }
 
+/// Some of the devices.
+#[derive(Clone, Copy, Debug, PartialEq, Eq, Drop)]
+pub struct Which {
+    log: bool,
+    flash: bool,
+    disk: bool,
+}
+
 /// What stands for each device.
 #[derive(Drop)]
 pub struct Devices<F> {
@@ -49,6 +57,31 @@ impl<F> Device<F> {
     /// Whether there is no file yet.
     pub fn is_missing(&self) -> bool {
         matches!(self, Device::Blank(_))
+    }
+}
+
+impl Which {
+    /// The devices that have no file yet.
+    pub fn missing<F>(found: &Devices<F>) -> Which {
+        Which {
+            log: found.log.is_missing(),
+            flash: found.flash.is_missing(),
+            disk: found.disk.is_missing(),
+        }
+    }
+
+    /// Whether this device is one of them.
+    pub fn has(&self, dev: Dev) -> bool {
+        match dev {
+            Dev::Log => self.log,
+            Dev::Flash => self.flash,
+            Dev::Disk => self.disk,
+        }
+    }
+
+    /// Whether each device is.
+    pub fn are_all(&self) -> bool {
+        self.log && self.flash && self.disk
     }
 }
 
@@ -101,6 +134,11 @@ impl<F> Devices<F> {
             flash: Device::Closed(absence),
             disk: Device::Closed(absence),
         }
+    }
+
+    /// Whether a file stands for each device.
+    pub fn are_files(&self) -> bool {
+        DEVS.iter().all(|dev| self.of(*dev).absence().is_none())
     }
 
     /// How many octets the devices have together.

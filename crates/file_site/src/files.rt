@@ -1,4 +1,4 @@
-// Three files of the current folder, standard input and standard output as a site.
+// Three files of a folder, standard input and standard output as a site.
 ghost use Rattle.std.specs.Prelude.{◌≡◌, ◌≤◌, ◌<◌, ◌+◌, length, false, IsTrue, IfOk, IfErr, OnOk, OnErr};
 ghost use Rattle.site.specs.declared.outside.Stop.{Stop};
 ghost use Rattle.file_site.specs.declared.book.Book.{Book};
@@ -6,10 +6,11 @@ ghost use Rattle.file_site.specs.Counting.{state_of, reads_after, faulted, IsBar
 
 use crate::book::Book;
 use crate::device::Devices;
+use crate::folder::Folder;
 use crate::intake::Intake;
 use crate::lock::LockFile;
 use crate::making::{Lengths, fresh};
-use crate::opening::{existing, hold_streams};
+use crate::opening::{existing, hold_streams, looked_at};
 use crate::outlet::tells;
 use crate::progress::{Pace, Reading, note_read, say_heard};
 use crate::trouble::{Absence, Call, Failure, Failures};
@@ -23,10 +24,10 @@ use std::rt::{Clock, Files};
 // The largest piece of input that is read at once, and of zeros that is written at once.
 const PIECE: usize = 65_536;
 
-/// The files `face.log`, `face.flash` and `face.disk` of the current folder, standard input and standard output. It
+/// The files `face.log`, `face.flash` and `face.disk` of a folder, standard input and standard output. It
 /// isn't honest: nothing is claimed of what stands in a file between two calls.
 ///
-/// While it lasts it holds a lock on `face.log`; a program that finds it locked has no log.
+/// While it lasts it holds a lock on each file; a program that finds one locked doesn't have it.
 #[derive(Drop)]
 pub struct FileSite<R: Files + Input + Print + Clock> {
     rt: R,
@@ -42,12 +43,23 @@ pub struct FileSite<R: Files + Input + Print + Clock> {
 }
 
 // The files that are there, if files may be opened at all.
-fn open_existing<R: Files>(rt: &R) -> Devices<R::File>
+fn open_existing<R: Files>(rt: &R, folder: &Folder) -> Devices<R::File>
 where
     R::File: LockFile,
 {
     match hold_streams(rt) {
-        Ok(_streams) => existing(rt),
+        Ok(_streams) => existing(rt, folder),
+        Err(error) => Devices::closed(Absence::Unopened("/dev/null", error)),
+    }
+}
+
+// The files that are there, to look at, if files may be opened at all.
+fn open_looked_at<R: Files>(rt: &R, folder: &Folder) -> Devices<R::File>
+where
+    R::File: LockFile,
+{
+    match hold_streams(rt) {
+        Ok(_streams) => looked_at(rt, folder),
         Err(error) => Devices::closed(Absence::Unopened("/dev/null", error)),
     }
 }
@@ -55,6 +67,7 @@ where
 // The files of a new database, if files may be opened at all.
 fn open_fresh<R: Files + Clock + Eprint>(
     rt: &R,
+    folder: &Folder,
     lengths: &Lengths,
     zeros: &[u8],
 ) -> Devices<R::File>
@@ -62,7 +75,7 @@ where
     R::File: FileExt + LockFile,
 {
     match hold_streams(rt) {
-        Ok(_streams) => fresh(rt, lengths, zeros),
+        Ok(_streams) => fresh(rt, folder, lengths, zeros),
         Err(error) => Devices::closed(Absence::Unopened("/dev/null", error)),
     }
 }
@@ -71,15 +84,25 @@ impl<R: Files + Input + Print + Clock + Drop> FileSite<R>
 where
     R::File: FileExt + LockFile,
 {
-    /// The files that are there. A file that can't be opened to be read and written, or a log that another program
-    /// holds, is a device of length 0. The one error is want of memory.
-    pub fn existing(rt: R, alloc: Global) -> Result<FileSite<R>, Stop>
+    /// The files of this folder that are there. A file that can't be opened to be read and written, or that another
+    /// program holds, is a device of length 0, and so is each where the folder's names can't be made stable. The one
+    /// error is want of memory.
+    pub fn existing_in(rt: R, alloc: Global, folder: &Folder) -> Result<FileSite<R>, Stop>
         ensures fresh { IfOk result (λ site. IsFresh (state_of site.book)) }
         ensures memory { IfErr result (λ stop. stop ≡ Stop.Memory) }
     {
         let buffer = vec![in alloc; 0u8; PIECE]?;
-        let devices = open_existing(&rt);
+        let devices = open_existing(&rt, folder);
         Ok(FileSite::over(rt, devices, buffer))
+    }
+
+    /// As `existing_in`, of the current folder.
+    pub fn existing(rt: R, alloc: Global) -> Result<FileSite<R>, Stop>
+        ensures fresh { IfOk result (λ site. IsFresh (state_of site.book)) }
+        ensures memory { IfErr result (λ stop. stop ≡ Stop.Memory) }
+    {
+        let folder = Folder::current(alloc)?;
+        FileSite::existing_in(rt, alloc, &folder)
     }
 
     /// Three devices of length 0; no file is opened. The one error is want of memory.
@@ -113,16 +136,28 @@ where
         Ok(site)
     }
 
-    /// As `existing`, for a check of the files: where it takes long to read them, standard error says how far it has
-    /// come.
+    /// The files of this folder that are there, to be read alone, beside others that do the same: a write fails. A
+    /// file that can't be opened to be read, or that another program works on, is a device of length 0. Where it takes
+    /// long to read them, standard error says how far it has come. The one error is want of memory.
+    pub fn for_check_in(rt: R, alloc: Global, folder: &Folder) -> Result<FileSite<R>, Stop>
+        ensures fresh { IfOk result (λ site. IsFresh (state_of site.book)) }
+        ensures memory { IfErr result (λ stop. stop ≡ Stop.Memory) }
+    {
+        let buffer = vec![in alloc; 0u8; PIECE]?;
+        let devices = open_looked_at(&rt, folder);
+        let all = devices.octets();
+        let mut site = FileSite::over(rt, devices, buffer);
+        site.reading = Some(Reading::new(&site.rt, all));
+        Ok(site)
+    }
+
+    /// As `for_check_in`, of the current folder.
     pub fn for_check(rt: R, alloc: Global) -> Result<FileSite<R>, Stop>
         ensures fresh { IfOk result (λ site. IsFresh (state_of site.book)) }
         ensures memory { IfErr result (λ stop. stop ≡ Stop.Memory) }
     {
-        let mut site = FileSite::existing(rt, alloc)?;
-        let all = site.devices.octets();
-        site.reading = Some(Reading::new(&site.rt, all));
-        Ok(site)
+        let folder = Folder::current(alloc)?;
+        FileSite::for_check_in(rt, alloc, &folder)
     }
 
     // The site over these devices, with this buffer for the input.
@@ -184,15 +219,31 @@ where
 {
     /// The files of a new database of these lengths. Each missing file is made of this many zeros, stable, where all
     /// that are there have their length and are blank; else it reads as a blank one, and nothing is made. Where one
-    /// can't be made, none of them is there then. All else is as of `existing`. Want of memory comes before a file is
-    /// made.
-    pub fn fresh(rt: R, alloc: Global, log: u64, flash: u64, disk: u64) -> Result<FileSite<R>, Stop>
+    /// can't be made, none of them is there then. All else is as of `existing_in`. Want of memory comes before a file
+    /// is made.
+    pub fn fresh_in(
+        rt: R,
+        alloc: Global,
+        folder: &Folder,
+        log: u64,
+        flash: u64,
+        disk: u64,
+    ) -> Result<FileSite<R>, Stop>
         ensures fresh { IfOk result (λ site. IsFresh (state_of site.book)) }
         ensures memory { IfErr result (λ stop. stop ≡ Stop.Memory) }
     {
         let buffer = vec![in alloc; 0u8; PIECE]?;
-        let devices = open_fresh(&rt, &Lengths { log, flash, disk }, &buffer);
+        let devices = open_fresh(&rt, folder, &Lengths { log, flash, disk }, &buffer);
         Ok(FileSite::over(rt, devices, buffer))
+    }
+
+    /// As `fresh_in`, of the current folder.
+    pub fn fresh(rt: R, alloc: Global, log: u64, flash: u64, disk: u64) -> Result<FileSite<R>, Stop>
+        ensures fresh { IfOk result (λ site. IsFresh (state_of site.book)) }
+        ensures memory { IfErr result (λ stop. stop ≡ Stop.Memory) }
+    {
+        let folder = Folder::current(alloc)?;
+        FileSite::fresh_in(rt, alloc, &folder, log, flash, disk)
     }
 }
 

@@ -1,9 +1,11 @@
-//! The site over three files of the current folder, standard input and standard output.
+//! The site over three files of a folder, standard input and standard output.
 #![tactic(auto)]
 
 mod book;
 mod device;
+mod drafts;
 mod files;
+mod folder;
 mod intake;
 mod lock;
 mod making;
@@ -14,9 +16,9 @@ mod trouble;
 mod watch;
 
 pub use files::FileSite;
+pub use folder::{Folder, NoFolder, file_name};
 pub use intake::Intake;
 pub use lock::LockFile;
-pub use opening::path;
 pub use outlet::tell_line;
 pub use trouble::{Absence, Call, Failure};
 pub use watch::Watch;

@@ -4,15 +4,27 @@ ghost use Rattle.std.specs.Prelude.{◌≡◌, IsTrue, false, OnOk, OnErr};
 use site::Dev;
 use std::io;
 
-/// Why no file stands for a device. A name is that of a file in the current folder, or `.` for the folder.
+/// Why no file stands for a device. A name is that of a file in its folder, or `.` for the folder itself.
 #[derive(Clone, Copy)]
 pub enum Absence {
     /// No file has the device's name.
     Missing,
     /// Another program holds what has this name.
     Busy(&'static str),
-    /// What has this name can't be opened to be read and written, or not synced.
+    /// What has this name is no file.
+    NoFile(&'static str),
+    /// What has this name can't be opened to be read and written.
     Unopened(&'static str, io::Error),
+    /// What has this name can't be opened to be read.
+    Unread(&'static str, io::Error),
+    /// What has this name can't be synced.
+    Unsynced(&'static str, io::Error),
+    /// The file with this name, blank, belongs to another user than who makes a database.
+    Anothers(&'static str),
+    /// What has this name, which a file has while it is made, can't be removed.
+    InTheWay(&'static str, io::Error),
+    /// A file has got this name while a database was made.
+    Appeared(&'static str),
     /// A new database can't be made: this file of it.
     Unmade(&'static str, io::Error),
 }

@@ -5,7 +5,7 @@ use file_site::LockFile;
 use std::alloc::{AllocError, Allocator, Global};
 use std::cell::{Cell, RefCell};
 use std::fmt::Display;
-use std::fs::{File, Files, Metadata, OpenFile, OpenOptions, TryLockError};
+use std::fs::{File, Files, Metadata, OpenFile, OpenOptions, Permissions, TryLockError};
 use std::io::{self, BufRead, Eprint, ErrorKind, Input, Lines, Print, Read, Seek, SeekFrom, Write};
 use std::os::unix::fs::FileExt;
 use std::rt::Clock;
@@ -195,6 +195,11 @@ impl<'a> Files for Fake<'a> {
         self.rt.rename(from, to)
     }
 
+    fn hard_link(&self, original: &str, link: &str) -> io::Result<()> {
+        self.world.note("link", original)?;
+        self.rt.hard_link(original, link)
+    }
+
     fn remove_file(&self, path: &str) -> io::Result<()> {
         self.world.note("remove", path)?;
         self.rt.remove_file(path)
@@ -229,12 +234,24 @@ impl<'a> OpenFile for FakeFile<'a> {
     fn sync_data(&self) -> io::Result<()> {
         self.world.note("sync", self.name.as_str())
     }
+
+    fn set_permissions(&self, perm: Permissions) -> io::Result<()> {
+        self.world.note("permit", self.name.as_str())?;
+        self.file.set_permissions(perm)
+    }
 }
 
 impl<'a> LockFile for FakeFile<'a> {
     fn try_lock(&self) -> Result<(), TryLockError> {
         match self.world.note("lock", self.name.as_str()) {
             Ok(()) => self.file.try_lock(),
+            Err(error) => Err(TryLockError::Error(error)),
+        }
+    }
+
+    fn try_lock_shared(&self) -> Result<(), TryLockError> {
+        match self.world.note("share", self.name.as_str()) {
+            Ok(()) => self.file.try_lock_shared(),
             Err(error) => Err(TryLockError::Error(error)),
         }
     }

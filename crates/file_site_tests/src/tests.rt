@@ -1,7 +1,7 @@
 // What no clause says: which files are read, written, synced, made and locked, and what the standard streams give and
 // take. A test is a table of rows, which one function plays.
 use crate::fakes::{Fake, FakeReader, World};
-use file_site::{Call, Failure, FileSite, Intake, LockFile, Watch, tell_line};
+use file_site::{Call, Failure, FileSite, Folder, Intake, LockFile, NoFolder, Watch, tell_line};
 use site::{Dev, Failed, Site, Stop};
 use std::alloc::{AllocError, Global};
 use std::fs;
@@ -23,13 +23,16 @@ const NAMES: [&str; 6] = [
 const NONE: u64 = u64::MAX;
 
 // How a site is opened: without files, over those that are there, for a check of them, or over those of a new database
-// of these lengths.
+// of these lengths; and each in a folder.
 #[derive(Clone, Copy)]
 enum How {
     Bare,
     Existing,
     Check,
     Fresh(u64, u64, u64),
+    ExistingIn(&'static str),
+    CheckIn(&'static str),
+    FreshIn(&'static str, u64, u64, u64),
 }
 
 // A row of a test.
@@ -38,6 +41,9 @@ enum Step {
     // None of the files is there from now on; one is there with these octets.
     Clear,
     File(&'static str, &'static [u8]),
+    // A folder is there, without files; and then it isn't.
+    Folder(&'static str),
+    NoFolder(&'static str),
     // The site is closed, and then opened anew.
     Open(How),
     // From now on so many of these calls on this file fail.
@@ -182,6 +188,11 @@ fn prepare(rt: &HostRuntime, world: &World, step: Step) -> io::Result<()> {
     match step {
         Step::Clear => remove_all(rt),
         Step::File(path, octets) => fs::write(rt, path, octets)?,
+        Step::Folder(path) => {
+            let _ = rt.remove_dir_all(rt.alloc(), path);
+            rt.create_dir(path)?;
+        }
+        Step::NoFolder(path) => rt.remove_dir_all(rt.alloc(), path)?,
         Step::Fail(call, path, kind, times) => world.fail(call, path, kind, times),
         Step::AtMost(count) => world.tell_at_most(count),
         Step::Feed(input) => world.feed(input),
@@ -230,6 +241,14 @@ where
     }
 }
 
+// The folder with this path, which is one that a database may lie in.
+fn folder(alloc: Global, path: &str) -> Result<Folder, Stop> {
+    match Folder::new(alloc, path) {
+        Ok(folder) => Ok(folder),
+        Err(_) => Err(Stop::Foreign),
+    }
+}
+
 fn open<R>(over: R, alloc: Global, how: How) -> Result<FileSite<R>, Stop>
 where
     R: Files + Input + Print + Clock + Eprint + Drop,
@@ -240,6 +259,11 @@ where
         How::Existing => FileSite::existing(over, alloc),
         How::Check => FileSite::for_check(over, alloc),
         How::Fresh(log, flash, disk) => FileSite::fresh(over, alloc, log, flash, disk),
+        How::ExistingIn(path) => FileSite::existing_in(over, alloc, &folder(alloc, path)?),
+        How::CheckIn(path) => FileSite::for_check_in(over, alloc, &folder(alloc, path)?),
+        How::FreshIn(path, log, flash, disk) => {
+            FileSite::fresh_in(over, alloc, &folder(alloc, path)?, log, flash, disk)
+        }
     }
 }
 
@@ -329,6 +353,55 @@ fn files_are_made_and_found_again(rt: HostRuntime) -> Result<(), Fail> {
     Ok(())
 }
 
+// A folder that is named has files of its own: those of the current one stay as they are. One that isn't there has
+// none.
+const IN_FOLDER: &[Step] = &[
+    Step::Clear,
+    Step::Folder("named"),
+    Step::Open(How::FreshIn("named", 10, 20, 30)),
+    Step::Len(Dev::Log, 10),
+    Step::Call(Call::Write(Dev::Flash), 0, b"flash", Ok(5)),
+    Step::Open(How::Bare),
+    Step::Files([NONE; 6]),
+    Step::Open(How::Fresh(20, 20, 20)),
+    Step::Forget,
+    Step::Open(How::ExistingIn("named/")),
+    Step::Calls(
+        HELD,
+        "open named/face.log;lock named/face.log;sync named/face.log;open named/face.flash;lock named/face.flash;sync \
+        named/face.flash;open named/face.disk;lock named/face.disk;sync named/face.disk;open named/;sync all named/;",
+    ),
+    Step::Len(Dev::Disk, 30),
+    Step::Call(Call::Read(Dev::Flash), 0, b"flash\0", Ok(6)),
+    Step::Open(How::CheckIn("./named")),
+    Step::Call(Call::Read(Dev::Flash), 0, b"flash\0", Ok(6)),
+    Step::Open(How::CheckIn(".")),
+    Step::Len(Dev::Disk, 20),
+    Step::Call(Call::Read(Dev::Flash), 0, b"\0\0", Ok(2)),
+    Step::Open(How::ExistingIn("")),
+    Step::Len(Dev::Disk, 20),
+    Step::Open(How::ExistingIn("nowhere")),
+    Step::Len(Dev::Log, 0),
+    Step::Open(How::FreshIn("nowhere", 10, 20, 30)),
+    Step::Len(Dev::Log, 0),
+    Step::NoFolder("named"),
+    Step::Clear,
+];
+
+// A text that is too long with the longest name behind it, or has a NUL, names no folder.
+#[test]
+fn a_folder_has_a_path_that_can_be_opened(rt: HostRuntime) -> Result<(), Fail> {
+    let mut path = String::new(rt.alloc());
+    for _octet in 0..4_080 {
+        path.push('a')?;
+    }
+    assert!(rt; Folder::new(rt.alloc(), path.as_str()).is_ok());
+    path.push('a')?;
+    assert!(rt; Folder::new(rt.alloc(), path.as_str()).err() == Some(NoFolder::TooLong));
+    assert!(rt; Folder::new(rt.alloc(), "a\0b").err() == Some(NoFolder::HasNul));
+    Ok(())
+}
+
 // Where a file that is there can't be read, no device is there: else the missing ones would read as blank and not be
 // made.
 const NOT_FIT: &[Step] = &[
@@ -343,21 +416,24 @@ const NOT_FIT: &[Step] = &[
     Step::Clear,
 ];
 
-// The first calls wherever files are opened.
+// The first calls wherever files are opened, and where those of a new database are.
+const HELD: &str = "open /dev/null;open /dev/null;open /dev/null;";
+
 const OPENING: &str = "open /dev/null;open /dev/null;open /dev/null;open .;lock .;";
 
-// Each file is filled and synced under the name of a draft, and then renamed; the folder is synced last, also where
-// nothing was to be made.
+// Each file is filled and synced under the name of a draft, and then gets its own; the folder is synced last, also
+// where nothing was to be made. Who owns what is made there is seen of a file that doesn't stay.
 const IN_ORDER: &[Step] = &[
     Step::Clear,
     Step::File("face.log.new", b"left by another"),
     Step::Open(How::Fresh(70_000, 20, 30)),
     Step::Calls(
         OPENING,
-        "open face.log;open face.flash;open face.disk;remove face.log.new;make face.log.new;lock face.log.new;fill \
-        face.log.new;fill face.log.new;sync all face.log.new;remove face.flash.new;make face.flash.new;fill \
-        face.flash.new;sync all face.flash.new;remove face.disk.new;make face.disk.new;fill face.disk.new;sync all \
-        face.disk.new;rename face.log.new;rename face.flash.new;rename face.disk.new;sync all .;",
+        "remove face.log.new;make face.log.new;lock face.log.new;fill face.log.new;fill face.log.new;sync all \
+        face.log.new;remove face.flash.new;make face.flash.new;lock face.flash.new;fill face.flash.new;sync all \
+        face.flash.new;remove face.disk.new;make face.disk.new;lock face.disk.new;fill face.disk.new;sync all \
+        face.disk.new;link face.log.new;link face.flash.new;link face.disk.new;remove face.log.new;remove \
+        face.flash.new;remove face.disk.new;sync all .;",
     ),
     Step::Open(How::Bare),
     Step::Files([70_000, 20, 30, NONE, NONE, NONE]),
@@ -365,7 +441,8 @@ const IN_ORDER: &[Step] = &[
     Step::Open(How::Fresh(20, 20, 30)),
     Step::Calls(
         OPENING,
-        "open face.log;lock face.log;sync face.log;open face.flash;sync face.flash;open face.disk;sync face.disk;",
+        "open face.log;lock face.log;sync face.log;open face.flash;lock face.flash;sync face.flash;open face.disk;lock \
+        face.disk;sync face.disk;",
     ),
     Step::Open(How::Bare),
     Step::Files([70_000, 20, 30, NONE, NONE, NONE]),
@@ -373,11 +450,63 @@ const IN_ORDER: &[Step] = &[
     Step::Open(How::Fresh(20, 20, 30)),
     Step::Calls(
         OPENING,
-        "open face.log;lock face.log;sync face.log;open face.flash;sync face.flash;open face.disk;sync \
-        face.disk;read face.log;read face.flash;read face.disk;sync all .;",
+        "open face.log;lock face.log;sync face.log;open face.flash;lock face.flash;sync face.flash;open face.disk;lock \
+        face.disk;sync face.disk;read face.log;read face.flash;read face.disk;remove face.log.new;make \
+        face.log.new;remove face.log.new;remove face.log.new;remove face.flash.new;remove face.disk.new;sync all .;",
     ),
     Step::Open(How::Bare),
     Step::Files([20, 20, 30, NONE, NONE, NONE]),
+    Step::Clear,
+];
+
+// The files and the names of a folder are made stable before they are believed, where the file system has a sync of
+// folders: else none of them is there.
+const SETTLED: &[Step] = &[
+    Step::Clear,
+    Step::Open(How::Fresh(10, 20, 30)),
+    Step::Fail("sync", "face.flash", ErrorKind::Other, 1),
+    Step::Open(How::Existing),
+    Step::Len(Dev::Log, 10),
+    Step::Len(Dev::Flash, 0),
+    Step::Fail("sync all", ".", ErrorKind::Other, 1),
+    Step::Open(How::Existing),
+    Step::Len(Dev::Log, 0),
+    Step::Len(Dev::Disk, 0),
+    Step::Fail("open", ".", ErrorKind::PermissionDenied, 1),
+    Step::Open(How::Existing),
+    Step::Len(Dev::Log, 0),
+    Step::Fail("sync all", ".", ErrorKind::InvalidInput, 1),
+    Step::Open(How::Existing),
+    Step::Len(Dev::Log, 10),
+    Step::Fail("sync all", ".", ErrorKind::Unsupported, 1),
+    Step::Open(How::Existing),
+    Step::Len(Dev::Log, 10),
+    Step::Clear,
+];
+
+// A check asks for no write: it opens to read, beside others, and syncs where that can be.
+const LOOKED_AT: &[Step] = &[
+    Step::Clear,
+    Step::Open(How::Fresh(10, 20, 30)),
+    Step::Open(How::Bare),
+    Step::Forget,
+    Step::Open(How::Check),
+    Step::Calls(
+        HELD,
+        "open face.log;share face.log;sync face.log;open face.flash;share face.flash;sync face.flash;open \
+        face.disk;share face.disk;sync face.disk;",
+    ),
+    Step::Call(Call::Read(Dev::Log), 0, b"\0\0", Ok(2)),
+    Step::Call(Call::Write(Dev::Log), 0, b"a", Err(Failed)),
+    Step::Fail("sync", "face.log", ErrorKind::ReadOnlyFilesystem, 1),
+    Step::Open(How::Check),
+    Step::Len(Dev::Log, 10),
+    Step::Fail("sync", "face.disk", ErrorKind::InvalidInput, 1),
+    Step::Open(How::Check),
+    Step::Len(Dev::Disk, 30),
+    Step::Fail("sync", "face.flash", ErrorKind::Other, 1),
+    Step::Open(How::Check),
+    Step::Len(Dev::Flash, 0),
     Step::Clear,
 ];
 
@@ -387,7 +516,10 @@ const UNMADE: &[Step] = &[
     Step::Make("make", "face.flash.new", ErrorKind::PermissionDenied, 0),
     Step::Make("fill", "face.disk.new", ErrorKind::StorageFull, 0),
     Step::Make("sync all", "face.log.new", ErrorKind::Other, 0),
-    Step::Make("rename", "face.flash.new", ErrorKind::Other, 0),
+    Step::Make("link", "face.flash.new", ErrorKind::Other, 0),
+    Step::Make("link", "face.disk.new", ErrorKind::AlreadyExists, 0),
+    Step::Make("link", "face.flash.new", ErrorKind::PermissionDenied, 10),
+    Step::Make("link", "face.disk.new", ErrorKind::Unsupported, 10),
     Step::Make("sync all", ".", ErrorKind::Other, 0),
     Step::Make("open", ".", ErrorKind::PermissionDenied, 0),
     Step::Make("open", "/dev/null", ErrorKind::NotFound, 10),
@@ -395,6 +527,7 @@ const UNMADE: &[Step] = &[
     Step::Make("sync all", ".", ErrorKind::Unsupported, 10),
     Step::Make("lock", ".", ErrorKind::Unsupported, 10),
     Step::Make("lock", "face.log.new", ErrorKind::Unsupported, 10),
+    Step::Make("remove", "face.disk.new", ErrorKind::PermissionDenied, 10),
     Step::Make("fill", "face.log.new", ErrorKind::Interrupted, 10),
     Step::Clear,
 ];
@@ -679,10 +812,13 @@ fn carriage_returns_and_refusals_are_noticed(rt: HostRuntime) {
 }
 
 // The tests by their names.
-const TESTS: [(&str, &[Step]); 9] = [
+const TESTS: [(&str, &[Step]); 12] = [
     ("all_input_is_taken", BY_SITE),
+    ("a_folder_that_is_named_is_opened", IN_FOLDER),
     ("a_file_that_cannot_be_read_is_not_fit", NOT_FIT),
     ("a_new_database_is_made_in_this_order", IN_ORDER),
+    ("names_are_made_stable_at_the_opening", SETTLED),
+    ("a_check_asks_for_no_write", LOOKED_AT),
     ("what_cannot_be_made_is_removed", UNMADE),
     ("each_call_is_made_on_its_own_file", OWN_FILE),
     ("what_is_told_is_counted", COUNTED),

@@ -13,14 +13,14 @@ use std::rt::{Clock, Env};
 use std::test::Fail;
 use std::time::Duration;
 
-// A runtime with these words and this input. It counts the files of a database that are opened and keeps what is told,
-// of which it takes a few octets at once; before each it isn't ready once.
+// A runtime with these words and this input. It counts the calls that look for a file of a database or open one, and
+// keeps what is told, of which it takes a few octets at once; before each it isn't ready once.
 #[derive(Drop)]
 struct Caller<'a> {
     rt: &'a HostRuntime,
     words: &'a [&'a [u8]],
     input: &'static [u8],
-    opened: Cell<u64>,
+    calls: Cell<u64>,
     told: RefCell<Vec<u8>>,
     said: RefCell<String>,
     mute: Cell<bool>,
@@ -32,7 +32,7 @@ fn make_caller<'a>(rt: &'a HostRuntime, words: &'a [&'a [u8]], input: &'static [
         rt,
         words,
         input,
-        opened: Cell::new(0),
+        calls: Cell::new(0),
         told: RefCell::new(Vec::new(rt.alloc())),
         said: RefCell::new(String::new(rt.alloc())),
         mute: Cell::new(false),
@@ -41,6 +41,12 @@ fn make_caller<'a>(rt: &'a HostRuntime, words: &'a [&'a [u8]], input: &'static [
 }
 
 impl<'a> Caller<'a> {
+    fn note(&self, path: &str) {
+        if path.starts_with("face.") {
+            self.calls.set(self.calls.get().saturating_add(1));
+        }
+    }
+
     fn told(&self) -> Vec<u8> {
         match self.told.try_replace(Vec::new(self.rt.alloc())) {
             Ok(told) => told,
@@ -91,9 +97,7 @@ impl<'a> Files for Caller<'a> {
     type Dir = File;
 
     fn open_file(&self, how: &OpenOptions, path: &str) -> io::Result<File> {
-        if path.starts_with("face.") {
-            self.opened.set(self.opened.get().saturating_add(1));
-        }
+        self.note(path);
         self.rt.open_file(how, path)
     }
 
@@ -102,6 +106,7 @@ impl<'a> Files for Caller<'a> {
     }
 
     fn metadata(&self, path: &str) -> io::Result<Metadata> {
+        self.note(path);
         self.rt.metadata(path)
     }
 
@@ -214,7 +219,7 @@ fn remove_all(rt: &HostRuntime) {
     }
 }
 
-// A call of the program: the words and the input, the status and the text, and so many files that are opened.
+// A call of the program: the words and the input, the status and the text, and so many calls on files.
 type Row = (
     &'static [&'static [u8]],
     &'static [u8],
@@ -238,7 +243,7 @@ const CALLS: [Row; 15] = [
         b"",
         0,
         b"ready 16 8 64\n",
-        3,
+        7,
     ),
     (&[b"face"], b"", 2, b"fault words\n", 0),
     (&[], b"", 2, b"fault words\n", 0),
@@ -257,28 +262,28 @@ const CALLS: [Row; 15] = [
         b"set 5 0a\nget 5\n",
         0,
         b"open 0\ncommitted 1\nvalue 0a\n",
-        3,
+        6,
     ),
     (
         &[b"face", b"check"],
         b"",
         0,
         b"sound records 1 commits 1\n",
-        3,
+        6,
     ),
     (
         &[b"face", b"load", b"2", b"7", b"1"],
         b"",
         0,
         b"open 1\nload 2 committed 2 checkpoints 0 found 2\n",
-        3,
+        6,
     ),
     (
         &[b"face", b"new", b"16", b"8", b"65"],
         b"",
         9,
         b"fault foreign\n",
-        3,
+        6,
     ),
     (
         &[b"face", b"trial", b"16", b"8", b"64", b"1"],
@@ -291,17 +296,17 @@ const CALLS: [Row; 15] = [
 
 // Whether a call is as the row says.
 fn is_as(rt: &HostRuntime, row: Row) -> bool {
-    let (words, input, status, told, opened) = row;
+    let (words, input, status, told, calls) = row;
     let caller = make_caller(rt, words, input);
-    caller.mute.set(opened == 3);
+    caller.mute.set(calls == 3);
     if run(&caller) != status || caller.told().as_slice() != told {
         return false;
     }
-    caller.opened.get() == opened && caller.said().is_empty() == (status == 0 || opened == 3)
+    caller.calls.get() == calls && caller.said().is_empty() == (status == 0 || calls == 3)
 }
 
-// Each list of words has its status, its text, and so many files that it opens: the three of a database and, for a new
-// one, the drafts of those that are missing.
+// Each list of words has its status, its text, and so many calls on files: each of the three is looked for and then
+// opened, and for a new database the drafts of those that are missing are, or one that shows whose files are made.
 #[test]
 fn words_open_their_files(rt: HostRuntime) {
     remove_all(&rt);

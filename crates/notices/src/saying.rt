@@ -2,7 +2,7 @@
 use crate::seen::Seen;
 use crate::words::say_words;
 use command_line::sizes;
-use file_site::{Absence, Call, Failure, Watch, path};
+use file_site::{Absence, Call, Failure, Watch, file_name};
 use image_form::Place;
 use site::{Dev, Geometry};
 use std::io::Eprint;
@@ -10,9 +10,9 @@ use std::io::Eprint;
 // Says which call failed, with the system's words.
 fn say_failure<R: Eprint>(rt: &R, failure: Failure) {
     let (name, done) = match failure.call {
-        Call::Read(dev) => (path(dev), "read"),
-        Call::Write(dev) => (path(dev), "written"),
-        Call::Sync(dev) => (path(dev), "synced"),
+        Call::Read(dev) => (file_name(dev), "read"),
+        Call::Write(dev) => (file_name(dev), "written"),
+        Call::Sync(dev) => (file_name(dev), "synced"),
         Call::Take => ("standard input", "read"),
         Call::Tell => ("standard output", "written"),
     };
@@ -25,37 +25,95 @@ fn called(name: &'static str) -> &'static str {
     if name == "." { "this folder" } else { name }
 }
 
-// Says why no file stands for a device, and what to do.
-fn say_absence<R: Eprint>(rt: &R, dev: Dev, absence: Absence) {
-    let _ = match absence {
-        Absence::Missing => {
-            let name = path(dev);
-            eprintln!(rt;
-                "face: {name} is missing beside the others: bring it back, or all three files of one copy"
-            )
-        }
-        Absence::Busy(name) => {
-            let name = called(name);
-            eprintln!(rt; "face: another program is at work on {name}: wait until it has ended")
-        }
-        Absence::Unopened(name, error) => {
-            let name = called(name);
-            eprintln!(rt;
-                "face: {name} can't be opened to be read and written: {error}; see to its owner and its rights"
-            )
-        }
-        Absence::Unmade(name, error) => {
-            let name = called(name);
-            eprintln!(rt;
-                "face: {name} can't be made: {error}; what was made is removed. See to room and rights, then try again"
-            )
-        }
+// Says what is so of a file, and what to do.
+fn say_of<R: Eprint>(rt: &R, name: &'static str, what: &str, advice: &str) {
+    let name = called(name);
+    let _ = eprintln!(rt; "face: {name} {what}: {advice}");
+}
+
+// Says that another program holds a file or the folder, and what to do. Of a file the line is promised not to change.
+fn say_busy<R: Eprint>(rt: &R, name: &'static str) {
+    let _ = if name == "." {
+        rt.eprintln(
+            "face: another program makes a database in this folder, or holds the lock on it: wait until it has ended, \
+            or go to a folder that others can't read",
+        )
+    } else {
+        eprintln!(rt; "face: another program is at work on {name}: wait until it has ended")
     };
 }
 
+// Says what the system refuses, with its words for it, and what to do.
+fn say_refusal<R: Eprint>(rt: &R, absence: Absence) {
+    let rights = "see to its owner and its rights";
+    let (name, what, error, advice) = match absence {
+        Absence::Unopened(name, error) => {
+            (
+                name,
+                "can't be opened to be read and written",
+                error,
+                rights,
+            )
+        }
+        Absence::Unread(name, error) => (name, "can't be opened to be read", error, rights),
+        Absence::Unsynced(name, error) => {
+            let disk = "see to the disk that it is on, then try again";
+            (name, "can't be synced", error, disk)
+        }
+        Absence::InTheWay(name, error) => {
+            let draft =
+                "a file has this name while it is made. Move away what has it, then try again";
+            (name, "is in the way and can't be removed", error, draft)
+        }
+        Absence::Unmade(name, error) => {
+            let made = "what was made is removed. See to room and rights, then try again";
+            (name, "can't be made", error, made)
+        }
+        _ => return,
+    };
+    let name = called(name);
+    let _ = eprintln!(rt; "face: {name} {what}: {error}; {advice}");
+}
+
+// Says why no file stands for a device, and what to do.
+fn say_absence<R: Eprint>(rt: &R, dev: Dev, absence: Absence) {
+    match absence {
+        Absence::Missing => {
+            let copy = "bring it back, or all three files of one copy";
+            say_of(rt, file_name(dev), "is missing beside the others", copy);
+        }
+        Absence::Busy(name) => say_busy(rt, name),
+        Absence::NoFile(name) => {
+            say_of(
+                rt,
+                name,
+                "is no file, but a folder or something else",
+                "move it away",
+            );
+        }
+        Absence::Anothers(name) => {
+            let what = "is another user's, who could read and write what the database holds";
+            let advice =
+                "nothing was made. Remove it, or go to a folder where others make no files";
+            say_of(rt, name, what, advice);
+        }
+        Absence::Appeared(name) => {
+            let what = "has appeared while a database was made";
+            let advice =
+                "it stays as it is, and what was made is removed. See whose it is, then try again";
+            say_of(rt, name, what, advice);
+        }
+        refusal => say_refusal(rt, refusal),
+    }
+}
+
 // Says why there is no database to work on, and what to do, where files are missing, can't be used or have odd lengths.
-// Answers whether it was so.
+// Answers whether it was so. That another program is at work comes first.
 fn say_no_files<R: Eprint>(rt: &R, seen: &Seen) -> bool {
+    if let Some((dev, absence)) = seen.first_busy() {
+        say_absence(rt, dev, absence);
+        return true;
+    }
     if seen.is_bare() {
         let _ = eprintln!(rt;
             "face: this folder has no database: face.log, face.flash and face.disk are missing. To make one: face new \
@@ -68,7 +126,7 @@ fn say_no_files<R: Eprint>(rt: &R, seen: &Seen) -> bool {
         return true;
     }
     if let Some((dev, len)) = seen.first_odd() {
-        let name = path(dev);
+        let name = file_name(dev);
         let _ = eprintln!(rt;
             "face: {name} has {len} octets, as in no database: bring back all three files of one copy"
         );
@@ -164,7 +222,7 @@ fn say_not_made<R: Eprint>(rt: &R, seen: &Seen, geometry: Geometry) {
     }
     let (log, flash, disk) = geometry.lengths();
     if let Some((dev, len, wanted)) = seen.first_unlike([log, flash, disk]) {
-        let name = path(dev);
+        let name = file_name(dev);
         let _ = eprintln!(rt;
             "face: {name} has {len} octets, and these sizes ask for {wanted}: nothing was made. Give its own sizes, or \
             go to another folder"

@@ -66,6 +66,16 @@ impl Seen {
         None
     }
 
+    /// The first device whose file another program works on, and why it has none.
+    pub fn first_busy(&self) -> Option<(Dev, Absence)> {
+        for (dev, absence) in DEVS.iter().zip(self.absences) {
+            if let Some(Absence::Busy(name)) = absence {
+                return Some((*dev, Absence::Busy(name)));
+            }
+        }
+        None
+    }
+
     /// The first device that has no file though one is there or was to be made, and why.
     pub fn first_hindrance(&self) -> Option<(Dev, Absence)> {
         for (dev, absence) in DEVS.iter().zip(self.absences) {
