@@ -89,9 +89,9 @@ static void try_sessions(void) {
     check(vulzhorn_write(database, sessions[0], 9, "", 0) == VULZHORN_OK, "and no octets");
     check(vulzhorn_read(database, sessions[1], 7, &value) == VULZHORN_BUSY, "another one is told that it is busy");
     check(vulzhorn_set(database, 7, "x", 1) == VULZHORN_BUSY, "so is who has none");
-    check(vulzhorn_scan(database, sessions[0], 0, 64, items, &found) == VULZHORN_OK && found == 2 && items[0].record == 7 &&
-              items[0].value.length == 2 && items[1].record == 9 && items[1].value.length == 0,
-          "a scan finds both");
+    check(vulzhorn_scan(database, sessions[0], 0, 64, items, &found) == VULZHORN_OK && found == 2, "a scan finds both");
+    check(items[0].record == 7 && items[0].value.length == 2, "the first of them");
+    check(items[1].record == 9 && items[1].value.length == 0, "and the second");
     check(vulzhorn_scan(database, sessions[1], 0, 64, items, &found) == VULZHORN_BUSY && found == 0, "a busy scan");
     check(vulzhorn_scan(database, sessions[0], 500, 64, items, &found) == VULZHORN_NO_RECORD, "a scan beyond the end");
     check(vulzhorn_commit(database, sessions[0]) == VULZHORN_OK, "it commits");
@@ -103,7 +103,8 @@ static void try_sessions(void) {
     check(vulzhorn_begin(database, &sessions[0]) == VULZHORN_OK, "its number is free again");
     check(vulzhorn_get(database, 7, &value) == VULZHORN_OK && value.there, "what was aborted didn't happen");
     vulzhorn_error error = VULZHORN_OK;
-    for (uint32_t i = 0; i < 400 && error == VULZHORN_OK; i++) error = vulzhorn_write(database, sessions[0], i % 5, "x", 1);
+    for (uint32_t i = 0; i < 400 && error == VULZHORN_OK; i++)
+        error = vulzhorn_write(database, sessions[0], i % 5, "x", 1);
     check(error == VULZHORN_FULL, "a log that is full");
     vulzhorn_close(database);
 }
@@ -115,7 +116,7 @@ static vulzhorn_error answer(const char *folder, vulzhorn_options options, const
     vulzhorn_error error = vulzhorn_open(folder, &options, &database);
     vulzhorn_value value;
     check(sentence == NULL || strstr(vulzhorn_said(database), sentence) != NULL, "what is said at an opening");
-    check(error == VULZHORN_OK || vulzhorn_get(database, 0, &value) != VULZHORN_OK, "nothing is got where it isn't open");
+    check(error == VULZHORN_OK || vulzhorn_get(database, 0, &value) != VULZHORN_OK, "nothing is got where it is closed");
     vulzhorn_close(database);
     return error;
 }
@@ -210,7 +211,8 @@ static void try_bank(void) {
     pthread_t threads[THREADS];
     int sum = 0, busy = 0, wrong = 0;
     uint64_t before = vulzhorn_commits(database);
-    for (uint32_t account = 0; account < ACCOUNTS; account++) must(vulzhorn_set(database, account, "d", 1), "an account");
+    for (uint32_t account = 0; account < ACCOUNTS; account++)
+        must(vulzhorn_set(database, account, "d", 1), "an account");
     for (int i = 0; i < THREADS; i++) {
         tellers[i] = (struct teller){.database = database, .seed = (uint64_t)i};
         pthread_create(&threads[i], NULL, work, &tellers[i]);

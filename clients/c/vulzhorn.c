@@ -1,6 +1,6 @@
-/* See vulzhorn.h. Of the threads that wait one at a time moves octets, for all of them (`step`). It never waits for room to
- * write while replies stand unread, and the client needs no thread of its own. Lines go into the pipe whole or not at all, so
- * the program never takes a part of one for its last line when the caller is killed. */
+/* See vulzhorn.h. Of the threads that wait one at a time moves octets, for all of them (`step`). It never waits for
+ * room to write while replies stand unread, and the client needs no thread of its own. Lines go into the pipe whole or
+ * not at all, so the program never takes a part of one for its last line when the caller is killed. */
 #define _XOPEN_SOURCE 700
 #include "vulzhorn.h"
 
@@ -79,19 +79,11 @@ static bool read_reply(const char *line, vulzhorn_request *request) {
     static const struct {
         const char *word;
         vulzhorn_error error;
-    } replies[] = {{"none", VULZHORN_OK},
-                   {"ok", VULZHORN_OK},
-                   {"committed ", VULZHORN_OK},
-                   {"aborted", VULZHORN_OK},
-                   {"end ", VULZHORN_OK},
-                   {"open ", VULZHORN_OK},
-                   {"ready ", VULZHORN_OK},
-                   {"busy ", VULZHORN_BUSY},
-                   {"full ", VULZHORN_FULL},
-                   {"refused record", VULZHORN_NO_RECORD},
-                   {"refused long", VULZHORN_TOO_LONG},
-                   {"refused session", VULZHORN_NO_SESSION},
-                   {"refused ", VULZHORN_REFUSED}};
+    } replies[] = {{"none", VULZHORN_OK},          {"ok", VULZHORN_OK},       {"committed ", VULZHORN_OK},
+                   {"aborted", VULZHORN_OK},       {"end ", VULZHORN_OK},     {"open ", VULZHORN_OK},
+                   {"ready ", VULZHORN_OK},        {"busy ", VULZHORN_BUSY},  {"full ", VULZHORN_FULL},
+                   {"refused record", VULZHORN_NO_RECORD}, {"refused long", VULZHORN_TOO_LONG},
+                   {"refused session", VULZHORN_NO_SESSION}, {"refused ", VULZHORN_REFUSED}};
     const char *rest = behind(line, "value ");
     if (rest != NULL) return read_value(rest, &request->value);
     for (size_t i = 0; i < sizeof replies / sizeof *replies; i++) {
@@ -118,17 +110,11 @@ static vulzhorn_error of_status(int status, const char *said) {
         int status;
         const char *sentence;
         vulzhorn_error error;
-    } ends[] = {{9, "another program is at work", VULZHORN_IN_USE},
-                {9, "this folder has no database", VULZHORN_NO_DATABASE},
-                {9, "can't be opened", VULZHORN_UNUSABLE},
-                {9, "can't be made", VULZHORN_UNUSABLE},
-                {9, "these sizes ask for", VULZHORN_WRONG_SIZES},
-                {9, "", VULZHORN_DAMAGED},
-                {2, "", VULZHORN_WRONG_SIZES},
-                {3, "", VULZHORN_DEVICE},
-                {8, "", VULZHORN_WORN},
-                {10, "", VULZHORN_NOT_BLANK},
-                {NOT_STARTED, "", VULZHORN_UNUSABLE}};
+    } ends[] = {{9, "another program is at work", VULZHORN_IN_USE}, {9, "has no database", VULZHORN_NO_DATABASE},
+                {9, "can't be opened", VULZHORN_UNUSABLE}, {9, "can't be made", VULZHORN_UNUSABLE},
+                {9, "these sizes ask for", VULZHORN_WRONG_SIZES}, {9, "", VULZHORN_DAMAGED},
+                {2, "", VULZHORN_WRONG_SIZES}, {3, "", VULZHORN_DEVICE}, {8, "", VULZHORN_WORN},
+                {10, "", VULZHORN_NOT_BLANK}, {NOT_STARTED, "", VULZHORN_UNUSABLE}};
     for (size_t i = 0; i < sizeof ends / sizeof *ends; i++)
         if (ends[i].status == status && strstr(said, ends[i].sentence) != NULL) return ends[i].error;
     return VULZHORN_ENDED;
@@ -278,8 +264,8 @@ static void become(const char *folder, char *const words[], int input, int outpu
     _exit(NOT_STARTED);
 }
 
-/* Runs the program between two pipes; answers whether it could. One thread at a time: pipe and fcntl are two calls, and a
- * child that is made between them would keep the ends of another one's pipes. */
+/* Runs the program between two pipes; answers whether it could. One thread at a time: pipe and fcntl are two calls, and
+ * a child that is made between them would keep the ends of another one's pipes. */
 static bool spawn(vulzhorn *database, const char *folder, char *const words[]) {
     static pthread_mutex_t one_at_a_time = PTHREAD_MUTEX_INITIALIZER;
     int input[2] = {-1, -1}, output[2] = {-1, -1};
@@ -394,7 +380,7 @@ void vulzhorn_submit_set(vulzhorn *database, vulzhorn_request *request, uint32_t
     submit_value(database, request, line, sprintf(line, "set %lu ", number_of(record)), octets, length);
 }
 
-/* Sends a line, whose form takes these numbers, and waits for its reply; its value goes to `value`, if that isn't NULL. */
+/* Sends a line, whose form takes these numbers, and waits for the reply; `value` is for its value, or NULL. */
 static vulzhorn_error ask(vulzhorn *database, vulzhorn_value *value, const char *form, unsigned session,
                           uint32_t record) {
     vulzhorn_request request = {.answered = false};
@@ -488,26 +474,7 @@ const char *vulzhorn_said(const vulzhorn *database) {
 }
 
 const char *vulzhorn_sentence(vulzhorn_error error) {
-    static const char *const sentences[] = {
-        [VULZHORN_OK] = "It is done.",
-        [VULZHORN_BUSY] = "Another session holds the record: abort, and try again behind a pause.",
-        [VULZHORN_FULL] = "The log has no room for a further write: commit or abort what is open.",
-        [VULZHORN_NO_RECORD] = "No record has this number: there are 32 for each page.",
-        [VULZHORN_TOO_LONG] = "The value has more octets than the program takes: cut it, or spread it over records.",
-        [VULZHORN_NO_SESSION] = "The session isn't open, or all eight are: commit or abort one, or begin anew.",
-        [VULZHORN_REFUSED] = "The program doesn't take such a request.",
-        [VULZHORN_ENDED] = "The program has ended: open the database again, it holds all that was told as committed.",
-        [VULZHORN_WRONG_SIZES] = "The program takes no such pool or sizes, or the files have others: see what it said.",
-        [VULZHORN_IN_USE] = "Another program is at work in the folder: wait until it has ended.",
-        [VULZHORN_NO_DATABASE] = "The folder has no database: give sizes to make one, or another folder.",
-        [VULZHORN_UNUSABLE] = "A file can't be opened or made, or the program can't be run: see to rights and room.",
-        [VULZHORN_NOT_BLANK] = "There is a database where one was to be made: open it without sizes.",
-        [VULZHORN_DAMAGED] = "The three files aren't sound, or aren't of one database: bring back one copy of all.",
-        [VULZHORN_WORN] = "The log or the flash has used up its numbers: take the records to a new database.",
-        [VULZHORN_DEVICE] = "A file couldn't be read, written or synced: see to the disk, and start the machine again.",
-        [VULZHORN_UNANSWERED] =
-            "The program ended before it answered: it may or may not have been committed; open and look.",
-        [VULZHORN_SYSTEM] = "The system refused memory, a process or a descriptor: errno says why.",
-    };
+#define SENTENCE(name, sentence) [VULZHORN_##name] = sentence,
+    static const char *const sentences[] = {VULZHORN_ERRORS(SENTENCE)};
     return (size_t)error < sizeof sentences / sizeof *sentences ? sentences[error] : "No error has this number.";
 }

@@ -1,7 +1,7 @@
 /* A client of the database Vulzhorn: numbered records that are durable once they are told as committed.
  *
- * A vulzhorn runs a program of its own, `face`, over the files of a folder, and talks to it over pipes. Threads may share it.
- * It takes C11 and POSIX.1-2008; link with -pthread. */
+ * A vulzhorn runs a program of its own, `face`, over the files of a folder, and talks to it over pipes. Threads may
+ * share it. It takes C11 and POSIX.1-2008; link with -pthread. */
 #ifndef VULZHORN_H
 #define VULZHORN_H
 
@@ -10,28 +10,32 @@
 #include <stdint.h>
 #include <sys/types.h>
 
-/* What a call answers. vulzhorn_sentence says each in words. */
+/* What a call answers, with its sentence. Up to REFUSED the request was refused, and changed nothing. From ENDED on
+ * the program has ended, and nothing is sent any more; but what is UNANSWERED was sent, and the end came first. */
+#define VULZHORN_ERRORS(ERROR)                                                                                         \
+    ERROR(OK, "It is done.")                                                                                           \
+    ERROR(BUSY, "Another session holds the record: abort, and try again behind a pause.")                              \
+    ERROR(FULL, "The log has no room for a further write: commit or abort what is open.")                              \
+    ERROR(NO_RECORD, "No record has this number: the first is 0, and there are 32 for each page.")                     \
+    ERROR(TOO_LONG, "The value has more octets than the program takes: cut it, or spread it over records.")            \
+    ERROR(NO_SESSION, "The session isn't open, or all eight are: commit or abort one, or begin anew.")                 \
+    ERROR(REFUSED, "The program doesn't take such a request.")                                                         \
+    ERROR(ENDED, "The program has ended: open the database again, it holds what was told as committed.")               \
+    ERROR(WRONG_SIZES, "The program takes no such pool or sizes, or the files have others: see what it said.")         \
+    ERROR(IN_USE, "Another program is at work in the folder: wait until it has ended.")                                \
+    ERROR(NO_DATABASE, "The folder has no database: give sizes to make one, or another folder.")                       \
+    ERROR(UNUSABLE, "A file can't be opened or made, or the program can't be run: see to rights and room.")            \
+    ERROR(NOT_BLANK, "There is a database where one was to be made: open it without sizes.")                           \
+    ERROR(DAMAGED, "The files aren't sound, or aren't of one database: bring back a copy of all.")                     \
+    ERROR(WORN, "The log or the flash has used up its numbers: take the records to a new database.")                   \
+    ERROR(DEVICE, "A file couldn't be read, written or synced: see to the disk, and start the machine again.")         \
+    ERROR(UNANSWERED, "The program ended before it answered: it may or may not have been committed; open and look.")   \
+    ERROR(SYSTEM, "The system refused memory, a process or a descriptor: errno says why.")
+
 typedef enum {
-    VULZHORN_OK,
-    /* the request was refused, and changed nothing */
-    VULZHORN_BUSY,       /* another session holds the record */
-    VULZHORN_FULL,       /* the log has no room for a further write */
-    VULZHORN_NO_RECORD,  /* no record has this number */
-    VULZHORN_TOO_LONG,   /* the value has more octets than the program takes */
-    VULZHORN_NO_SESSION, /* the session isn't open, or all eight are */
-    VULZHORN_REFUSED,    /* the program doesn't take such a request */
-    /* the program has ended: the request wasn't sent, and no later one is */
-    VULZHORN_ENDED,       /* by a signal, for want of memory, by its streams */
-    VULZHORN_WRONG_SIZES, /* it takes no such pool or sizes, or the files have others */
-    VULZHORN_IN_USE,      /* another program is at work in the folder */
-    VULZHORN_NO_DATABASE, /* the folder has none */
-    VULZHORN_UNUSABLE,    /* a file can't be opened or made, or the program can't be run */
-    VULZHORN_NOT_BLANK,   /* a database is where one was to be made */
-    VULZHORN_DAMAGED,     /* the files aren't sound, or aren't of one database */
-    VULZHORN_WORN,        /* the log or the flash has used up its numbers */
-    VULZHORN_DEVICE,      /* a file couldn't be read, written or synced */
-    VULZHORN_UNANSWERED,  /* it ended before it answered: the request may or may not have been committed */
-    VULZHORN_SYSTEM       /* the system refused memory, a process or a descriptor; errno says why */
+#define VULZHORN_NAME(name, sentence) VULZHORN_##name,
+    VULZHORN_ERRORS(VULZHORN_NAME)
+#undef VULZHORN_NAME
 } vulzhorn_error;
 
 /* Room for any value: a line of the program has at most 500 octets, and two for each octet of a value. */
@@ -59,8 +63,8 @@ typedef struct {
     unsigned groups, blocks;
 } vulzhorn_options;
 
-/* A request that is under way, which stays where it is until vulzhorn_wait has answered. Its `value` is that of a get, its
- * `number` how many commits there are behind a set, or where that is busy the session that holds the record. */
+/* A request that is under way, which stays where it is until vulzhorn_wait has answered. Its `value` is that of a get,
+ * its `number` how many commits there are behind a set, or where that is busy the session that holds the record. */
 typedef struct vulzhorn_request {
     struct vulzhorn_request *next;
     bool answered;
@@ -89,7 +93,7 @@ vulzhorn_error vulzhorn_begin(vulzhorn *database, unsigned *session);
 vulzhorn_error vulzhorn_read(vulzhorn *database, unsigned session, uint32_t record, vulzhorn_value *value);
 vulzhorn_error vulzhorn_write(vulzhorn *database, unsigned session, uint32_t record, const void *octets, size_t length);
 vulzhorn_error vulzhorn_erase(vulzhorn *database, unsigned session, uint32_t record);
-/* Finds those of `count` records from `first` on that have a value, 1 to VULZHORN_SCAN_MAX; `items` has room for all. */
+/* Finds those of 1 to VULZHORN_SCAN_MAX records, from `first` on, that have a value; `items` has room for `count`. */
 vulzhorn_error vulzhorn_scan(vulzhorn *database, unsigned session, uint32_t first, unsigned count, vulzhorn_item *items,
                              size_t *found);
 /* Where it answers VULZHORN_OK all that the session has written is durable. */
@@ -106,7 +110,7 @@ vulzhorn_error vulzhorn_wait(vulzhorn *database, vulzhorn_request *request);
 uint64_t vulzhorn_commits(const vulzhorn *database);
 pid_t vulzhorn_process(const vulzhorn *database);
 
-/* What an error means and what to do; and what the program said when it ended, or "". */
+/* The sentence of an error; and what the program said when it ended, or "". */
 const char *vulzhorn_sentence(vulzhorn_error error);
 const char *vulzhorn_said(const vulzhorn *database);
 

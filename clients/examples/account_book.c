@@ -1,6 +1,6 @@
 /* An account book: account_book FOLDER FROM TO AMOUNT moves an amount between two accounts, FOLDER alone lists them.
- * Account N is record N: its balance in cents. Each move is one transaction, so no crash leaves half of it. Account 0 is the
- * world outside, which may owe. */
+ * Account N is record N: its balance in cents. Each move is one transaction, so no crash leaves half of it. Account 0
+ * is the world outside, which may owe. */
 #include <stdio.h>
 #include <stdlib.h>
 #include <string.h>
@@ -51,7 +51,8 @@ int main(int count, char **words) {
     if (error == VULZHORN_OK && count == 2) error = list(database);
     if (error == VULZHORN_OK && count == 5)
         error = transfer(database, (uint32_t)atol(words[2]), (uint32_t)atol(words[3]), atol(words[4]));
-    if (error != VULZHORN_OK) fprintf(stderr, "%s\n%s", vulzhorn_sentence(error), database ? vulzhorn_said(database) : "");
+    if (error != VULZHORN_OK)
+        fprintf(stderr, "%s\n%s", vulzhorn_sentence(error), database ? vulzhorn_said(database) : "");
     vulzhorn_close(database);
     return error != VULZHORN_OK;
 }

@@ -1,8 +1,8 @@
 #!/usr/bin/env python3
 """An account book: account_book.py FOLDER deposit|withdraw ACCOUNT AMOUNT, move FROM TO AMOUNT, or list.
 
-Account N is record N: its balance in cents, and record 0 counts the bookings. Each booking is one transaction, so no crash
-leaves half of it, and two at once give the sums of one after the other."""
+Account N is record N: its balance in cents, and record 0 counts the bookings. Each booking is one transaction, so no
+crash leaves half of it, and two at once give the sums of one after the other."""
 import sys
 
 from vulzhorn import Database, Refused

@@ -351,7 +351,7 @@ class Shells(Case):
             "not sent: abc is no value, which is text in double quotes, hex digits in pairs, or - for no octets",
             'not sent: "open is no value, which is text in double quotes, hex digits in pairs, or - for no octets',
             'not sent: the form is set RECORD VALUE, for example set 7 "seven", or in hex set 7 736576656e'])
-        self.assertLessEqual(max(map(len, told.stdout.splitlines()[16:])), 80)
+        self.assertLessEqual(max(map(len, told.stdout.splitlines()[16:])), 79)
         self.assertEqual((told.stderr, told.returncode), ("", 0))
 
     def test_export_and_import(self):
@@ -361,7 +361,7 @@ class Shells(Case):
                 reply.result()
         told = self.shell(f".export {self.path('all')}", f".export {self.path('all')}")
         self.assertIn("256 records are exported", told.stdout)
-        self.assertIn("File exists", told.stdout)
+        self.assertIn("all: File exists", told.stdout)
         self.assertIn("256 lines are committed", self.shell(f".import {self.path('all')}", name="new").stdout)
         with self.open("new", ROOMY) as db:
             self.assertEqual((dict(db.scan(0, 512)), db.commits), (records, 3))
@@ -376,7 +376,7 @@ class Shells(Case):
         with self.open(sizes=ROOMY):
             told = self.shell("get 7")
         self.assertIn("another program is at work on face.log", told.stderr)
-        self.assertIn("wait until it has ended", told.stderr)
+        self.assertIn("wait until it has ended", told.stderr.replace("\n", " "))
         self.assertEqual(told.returncode, 1)
 
     def test_terminal(self):

@@ -10,13 +10,14 @@ import os
 import re
 import signal
 import sys
+import textwrap
 from typing import Any, Dict, List, Optional
 
 from . import Database, Ended, Error, Refused, Transaction, Unanswered
 from .program import octets
 
 HISTORY = os.path.expanduser("~/.vulzhorn_history")
-WIDTH = 70  # columns of a value
+COLUMNS, WIDTH = 79, 70  # of a line, and of a value behind a record's number
 EXPORTED, IMPORTED = 4096, 100  # records and lines of one transaction, at most
 WORD = re.compile(r'"(?:[^"\\]|\\.)*"|\S+')
 EXPORT_LINE = re.compile(r"(\d{1,9}) ((?:[0-9a-fA-F]{2})+|-)\n?")
@@ -24,13 +25,13 @@ EXPORT_LINE = re.compile(r"(\d{1,9}) ((?:[0-9a-fA-F]{2})+|-)\n?")
 COMMANDS = {
     "get": ("RECORD", "shows the value of a record", "get 7"),
     "set": ("RECORD VALUE", "gives a record a value, durably", 'set 7 "seven", or in hex set 7 736576656e'),
-    "del": ("RECORD", "takes a record its value, durably", "del 7"),
-    "scan": ("RECORD COUNT", "shows those of so many records that have a value", "scan 0 100"),
+    "del": ("RECORD", "takes the value of a record away, durably", "del 7"),
+    "scan": ("RECORD COUNT", "shows those of COUNT records that have a value", "scan 0 100"),
     "begin": ("", "opens a session, and tells its number", "begin"),
     "read": ("SESSION RECORD", "shows the value of a record as a session sees it", "read 0 7"),
     "write": ("SESSION RECORD VALUE", "gives a record a value once the session commits", 'write 0 7 "seven"'),
-    "erase": ("SESSION RECORD", "takes a record its value once the session commits", "erase 0 7"),
-    "list": ("SESSION RECORD COUNT", "is scan as a session sees it", "list 0 0 100"),
+    "erase": ("SESSION RECORD", "takes a value away once the session commits", "erase 0 7"),
+    "list": ("SESSION RECORD COUNT", "scans as a session sees it", "list 0 0 100"),
     "commit": ("SESSION", "ends a session: all that it wrote is durable", "commit 0"),
     "abort": ("SESSION", "ends a session: nothing of what it wrote is kept", "abort 0"),
     "checkpoint": ("", "writes what is changed to flash, and frees the log", "checkpoint"),
@@ -76,7 +77,8 @@ def read_value(word: str) -> bytes:
 
 def meaning(error: Error) -> str:
     """What an error is, what it means and what to do."""
-    return f"{error}\n{(type(error.__cause__ or error).__doc__ or '').splitlines()[0]}"
+    texts = [str(error), (type(error.__cause__ or error).__doc__ or "").splitlines()[0]]
+    return "\n".join(textwrap.fill(text, COLUMNS) for text in texts)
 
 
 class Bar:
@@ -113,18 +115,18 @@ class Shell(cmd.Cmd):
     def onecmd(self, line: str) -> bool:
         words = WORD.findall("quit" if line == "EOF" else line)
         try:
-            answer = self._called(*words) if words else None
-            print(answer, end="\n" if answer else "")
+            answer = self._called(*words) if words else ""
+            print("ok" if answer is None else answer, end="" if answer == "" else "\n")
         except Wrong as error:
             print(f"not sent: {error}")
         except OSError as error:
-            print(error)
+            print(f"{error.filename}: {error.strerror}")
         except Error as error:
             print(meaning(error))
             self.status = int(isinstance(error, Ended))
         return self.status != 0 or words == ["quit"]
 
-    def _called(self, name: str, *words: str) -> str:
+    def _called(self, name: str, *words: str) -> Optional[str]:
         if name not in COMMANDS:
             raise Wrong(f"{name} is no command; help lists them")
         kinds = COMMANDS[name][0].split()
@@ -163,14 +165,9 @@ class Shell(cmd.Cmd):
     def do_set(self, record: int, value: bytes) -> str:
         return f"committed {self.database.submit('set', record, value).result()}"
 
-    def do_del(self, record: int) -> str:
-        session = self.database.begin(0)
-        try:
+    def do_del(self, record: int) -> None:
+        with self.database.transaction(0) as session:
             session.erase(record)
-            return f"committed {session.commit()}"
-        finally:
-            if session.is_open:
-                session.abort()
 
     def do_scan(self, first: int, count: int) -> str:
         with self.database.transaction(0) as session:
@@ -186,13 +183,11 @@ class Shell(cmd.Cmd):
     def do_read(self, session: Transaction, record: int) -> str:
         return shown(session.read(record))
 
-    def do_write(self, session: Transaction, record: int, value: bytes) -> str:
+    def do_write(self, session: Transaction, record: int, value: bytes) -> None:
         session.write(record, value)
-        return "ok"
 
-    def do_erase(self, session: Transaction, record: int) -> str:
+    def do_erase(self, session: Transaction, record: int) -> None:
         session.erase(record)
-        return "ok"
 
     def do_list(self, session: Transaction, first: int, count: int) -> str:
         return listed(session.scan(first, count))
@@ -201,14 +196,12 @@ class Shell(cmd.Cmd):
         del self.sessions[session.session]
         return f"committed {session.commit()}"
 
-    def do_abort(self, session: Transaction) -> str:
+    def do_abort(self, session: Transaction) -> None:
         del self.sessions[session.session]
         session.abort()
-        return "aborted"
 
-    def do_checkpoint(self) -> str:
+    def do_checkpoint(self) -> None:
         self.database.submit("checkpoint").result()
-        return "ok"
 
     def do_stat(self) -> str:
         told = self.database.submit("stat").result()
@@ -247,9 +240,9 @@ class Shell(cmd.Cmd):
                 except (Error, Wrong) as error:
                     self.status = int(isinstance(error, Ended))
                     state = "may or may not be" if isinstance(error, Unanswered) else "aren't"
-                    return (f"{meaning(error) if isinstance(error, Error) else error}\n"
-                            f"{done - first + 1} lines are committed; lines {done + 1} to {done + len(lines)} {state}, and none "
-                            f"behind them is.\nTo go on: .import {path} {done + 1}")
+                    why = meaning(error) if isinstance(error, Error) else error
+                    return (f"{why}\n{done - first + 1} lines are committed; lines {done + 1} to {done + len(lines)} {state}, "
+                            f"and none behind them is.\nTo go on: .import {path} {done + 1}")
                 done, size = done + len(lines), size + sum(map(len, lines))
                 bar.tell(size)
                 if bar.stopped:
@@ -279,7 +272,7 @@ def main() -> int:
     parser = argparse.ArgumentParser(prog="python3 -m vulzhorn", description="A shell for a database of Vulzhorn.")
     parser.add_argument("folder")
     parser.add_argument("--pool", type=int, default=64, help="pages that memory holds (64)")
-    parser.add_argument("--sizes", type=int, nargs=3, metavar=("PAGES", "GROUPS", "BLOCKS"), help="make it if there is none")
+    parser.add_argument("--sizes", type=int, nargs=3, metavar=("PAGES", "GROUPS", "BLOCKS"), help="to make it by")
     words = parser.parse_args()
     try:
         database = Database(words.folder, words.pool, sizes=words.sizes)

@@ -77,7 +77,7 @@ class Transaction:
 
 
 class Database:
-    """The database in a folder, served by a program of its own until `close`. `db[7]` is the value of record 7, or None.
+    """The database in a folder, served by a program of its own until `close`. `db[7]` is the value of record 7 or None.
 
     With sizes (pages, groups, blocks) it is made where there is none; else it must have them. `pool` is how many pages
     memory holds, `program` the path of another program than that of `find_program`. Threads may share it, and its eight
@@ -116,7 +116,7 @@ class Database:
         return os.path.getsize(os.path.join(self.folder, "face.disk")) // RECORD_OCTETS
 
     def submit(self, word: str, *arguments: Union[int, bytes]) -> Reply:
-        """Sends `get`, `set`, `checkpoint`, `stat` or `cache` with its arguments, and answers the future of the reply."""
+        """Sends `get`, `set`, `checkpoint`, `stat` or `cache` with its arguments; answers the future of the reply."""
         return self._program.ask(" ".join([word, *map(_spelled, arguments)]))
 
     def __getitem__(self, record: int) -> Optional[bytes]:
@@ -167,8 +167,8 @@ class Database:
 
     def transact(self, function: Callable[[Transaction], Answer], tries: int = 200, pause: float = 0.0005,
                  again: Tuple[Type[Error], ...] = (Busy,)) -> Answer:
-        """Calls the function with a transaction, commits, and answers what it answered. Where that raises Busy, or another
-        of `again`, it aborts, and tries again behind a random pause: of `pause` seconds at first, at most of 0.1."""
+        """Calls the function with a transaction, commits, and answers what it answered. Where that raises Busy, or
+        another of `again`, it aborts, and tries again behind a random pause, which grows from `pause` seconds on."""
         for number in range(1, tries + 1):
             try:
                 with self.transaction() as transaction:

@@ -1,5 +1,5 @@
-"""What may go wrong: each class is one thing that a caller may want to tell from the others. Its first line says what is
-so and, behind the colon, what to do."""
+"""What may go wrong: each class is one thing that a caller may want to tell from the others. Its first line says what
+is so and, behind the colon, what to do."""
 from __future__ import annotations
 
 import signal
@@ -38,9 +38,9 @@ class NoSession(Refused):
 
 
 class Ended(Error):
-    """The program has ended, and nothing is sent any more: open the database again, it holds what was told as committed.
+    """The program has ended, and nothing is sent any more: open the database again, it holds what was committed.
 
-    `status` is its status, or minus the signal that ended it, `fault` the line of a fault, `said` its standard error."""
+    `status` is its status, or minus the signal that ended it, `fault` the line of a fault, `said` its last words."""
 
     def __init__(self, status: int, fault: str = "", said: str = "") -> None:
         self.status, self.fault, self.said = status, fault, said
@@ -69,7 +69,7 @@ class NotBlank(Ended):
 
 
 class Damaged(Ended):
-    """The files aren't sound, or aren't of one database: `face check` tells which rule fails; bring back a copy of all."""
+    """The files aren't sound, or aren't of one database: `face check` tells the rule that fails; bring back a copy."""
 
 
 class Worn(Ended):
@@ -88,7 +88,8 @@ class Unanswered(Ended):
     def __init__(self, line: str, cause: Ended) -> None:
         super().__init__(cause.status, cause.fault, cause.said)
         self.line, self.__cause__ = line, cause
-        self.args = (f"the program ended ({cause}) before it answered '{line}', which may or may not have been committed",)
+        text = f"the program ended ({cause}) before it answered '{line}', which may or may not have been committed"
+        self.args = (text,)
 
 
 REFUSALS = {"busy": Busy, "record": NoSuchRecord, "long": ValueTooLong, "session": NoSession, "full": LogFull}

@@ -22,7 +22,7 @@ def find_program() -> str:
         found = told.decode().strip()
     found = found or shutil.which("face")
     if not found:
-        raise FileNotFoundError("there is no program: FACE names it, bin/build makes it, bin/install puts it on the PATH")
+        raise FileNotFoundError("there is no program: FACE names it, bin/build makes it, bin/install puts it on PATH")
     return os.path.abspath(found)
 
 
@@ -31,7 +31,7 @@ def octets(word: str) -> bytes:
 
 
 class Reply:
-    """The future of a request's reply: `result()` waits for it. What was sent is carried out, whether one waits or not."""
+    """The future of a request's reply: `result()` waits for it. What is sent is carried out whether one waits or not."""
 
     def __init__(self, line: str) -> None:
         self.line = line
