@@ -116,7 +116,7 @@ static vulzhorn_error answer(const char *folder, vulzhorn_options options, const
     vulzhorn_error error = vulzhorn_open(folder, &options, &database);
     vulzhorn_value value;
     check(sentence == NULL || strstr(vulzhorn_said(database), sentence) != NULL, "what is said at an opening");
-    check(error == VULZHORN_OK || vulzhorn_get(database, 0, &value) != VULZHORN_OK, "nothing is got where it is closed");
+    check(error == VULZHORN_OK || vulzhorn_get(database, 0, &value) != VULZHORN_OK, "nothing is got from it");
     vulzhorn_close(database);
     return error;
 }

@@ -47,6 +47,7 @@ class Records(Case):
             db[511] = memoryview(b"\x00\xff")
             self.assertEqual([db[7], db[8], db[511]], [b"seven", b"", b"\x00\xff"])
             self.assertEqual(db.scan(0, 512), [(7, b"seven"), (8, b""), (511, b"\x00\xff")])
+            self.assertEqual([db.scan(0, 8), db.scan(440, 72), db.scan(8, 503)], [[(7, b"seven")], [(511, b"\x00\xff")], [(8, b"")]])
             del db[7]
             self.assertEqual((db[7], db.scan(0, 64)), (None, [(8, b"")]))
         with self.open() as db:
@@ -344,14 +345,14 @@ class Shells(Case):
     def test_lines(self):
         told = self.shell('set 7 "seven"', "get 7", "begin", "write 0 8 0a", "get 8", "commit 0", "scan 0 10", "comit 0", "set 9 abc",
                           'set 9 "open', "set 9", "get 512", "read 0 7", "get 9", "", ".stat", ".cache", "help", "help set")
-        self.assertEqual(told.stdout.splitlines()[:14], [
+        self.assertEqual(told.stdout.splitlines()[:17], [
             "committed 1", '736576656e  "seven"', "session 0 is open", "ok", "busy 0", told.stdout.splitlines()[5], "committed 2",
             '      7  736576656e  "seven"', "      8  0a  (no text)", "2 records have a value",
             "not sent: comit is no command; help lists them",
-            "not sent: abc is no value, which is text in double quotes, hex digits in pairs, or - for no octets",
-            'not sent: "open is no value, which is text in double quotes, hex digits in pairs, or - for no octets',
-            'not sent: the form is set RECORD VALUE, for example set 7 "seven", or in hex set 7 736576656e'])
-        self.assertLessEqual(max(map(len, told.stdout.splitlines()[16:])), 79)
+            "not sent: abc is no value, which is text in double quotes, hex digits in pairs,", "or - for no octets",
+            'not sent: "open is no value, which is text in double quotes, hex digits in', "pairs, or - for no octets",
+            'not sent: the form is set RECORD VALUE, for example set 7 "seven", or in hex', "set 7 736576656e"])
+        self.assertLessEqual(max(map(len, told.stdout.splitlines())), 79)
         self.assertEqual((told.stderr, told.returncode), ("", 0))
 
     def test_export_and_import(self):

@@ -114,11 +114,12 @@ class Shell(cmd.Cmd):
 
     def onecmd(self, line: str) -> bool:
         words = WORD.findall("quit" if line == "EOF" else line)
+        print(end="\n" if line == "EOF" and sys.stdin.isatty() else "")
         try:
             answer = self._called(*words) if words else ""
             print("ok" if answer is None else answer, end="" if answer == "" else "\n")
         except Wrong as error:
-            print(f"not sent: {error}")
+            print(textwrap.fill(f"not sent: {error}", COLUMNS))
         except OSError as error:
             print(f"{error.filename}: {error.strerror}")
         except Error as error:
@@ -241,8 +242,8 @@ class Shell(cmd.Cmd):
                     self.status = int(isinstance(error, Ended))
                     state = "may or may not be" if isinstance(error, Unanswered) else "aren't"
                     why = meaning(error) if isinstance(error, Error) else error
-                    return (f"{why}\n{done - first + 1} lines are committed; lines {done + 1} to {done + len(lines)} {state}, "
-                            f"and none behind them is.\nTo go on: .import {path} {done + 1}")
+                    return (f"{why}\n{done - first + 1} lines are committed; lines {done + 1} to {done + len(lines)} "
+                            f"{state}, and none behind them is.\nTo go on: .import {path} {done + 1}")
                 done, size = done + len(lines), size + sum(map(len, lines))
                 bar.tell(size)
                 if bar.stopped:

@@ -31,7 +31,7 @@ def octets(word: str) -> bytes:
 
 
 class Reply:
-    """The future of a request's reply: `result()` waits for it. What is sent is carried out whether one waits or not."""
+    """The future of a request's reply: `result()` waits for it. What is sent is carried out, awaited or not."""
 
     def __init__(self, line: str) -> None:
         self.line = line
