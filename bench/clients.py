@@ -5,9 +5,9 @@ values of 8 octets over 64 pages that fit memory.
     bench/clients.py FOLDER [COUNT [TURNS]]
 
 FOLDER is where the files are made, in a folder of their own that is removed at the end: it says which disk is measured. COUNT is how
-many requests one figure takes (20,000), a tenth of it where a set waits for the disk; TURNS how often each is taken, the clients in turns
-(9): the table has the medians. FACE names another program than the one that bin/face runs. Beside them stands the program fed by a file
-of the same lines, which no client is faster than."""
+many requests one figure takes (20,000), TURNS how often each is taken, the clients in turns (9): the table has the medians. FACE names
+another program than the one that bin/face runs. Beside the clients stands the program fed by a file of such lines, of which a run that
+hears none is taken off."""
 import collections
 import os
 import shutil
@@ -24,7 +24,7 @@ from vulzhorn import Database  # noqa: E402
 
 COUNT = int(sys.argv[2]) if len(sys.argv) > 2 else 20000
 TURNS = int(sys.argv[3]) if len(sys.argv) > 3 else 9
-SIZES, RECORDS = (64, 256, 131072), 2048
+SIZES, RECORDS = (64, 256, 16384), 2048
 KINDS = (("get", 1), ("get", 64), ("set", 1), ("set", 64))
 
 
@@ -47,18 +47,22 @@ def of_c(face, word, ahead):
     return float(told)
 
 
+def seconds_of(face, lines):
+    with open("lines", "w", encoding="ascii") as file:
+        file.writelines(lines)
+    with open("lines", encoding="ascii") as file, open("replies", "w", encoding="ascii") as replies:
+        begun = time.perf_counter()
+        subprocess.run([face, "run", "64"], cwd="db", stdin=file, stdout=replies, check=True)
+        return time.perf_counter() - begun
+
+
 def of_lines(face, word, ahead):
-    """The lines of a file, for 64 under way; line by line is what a client does."""
+    """A file's lines are sent ahead, so it has no figure for one at a time."""
     if ahead == 1:
         return None
-    rest = " 3031323334353637" if word == "set" else ""
-    begun = time.perf_counter()
-    with open("lines", "w", encoding="ascii") as file:
-        file.writelines(f"{word} {number % RECORDS}{rest}\n" for number in range(COUNT))
-    begun = time.perf_counter()
-    with open("lines", encoding="ascii") as lines, open("replies", "w", encoding="ascii") as replies:
-        subprocess.run([face, "run", "64"], cwd="db", stdin=lines, stdout=replies, check=True)
-    return COUNT / (time.perf_counter() - begun)
+    count, rest = (COUNT, " 3031323334353637") if word == "set" else (20 * COUNT, "")
+    lines = [f"{word} {number % RECORDS}{rest}\n" for number in range(count)]
+    return count / (seconds_of(face, lines) - seconds_of(face, []))
 
 
 def main():
