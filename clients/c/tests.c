@@ -282,7 +282,7 @@ static void try_kills(void) {
 
 int main(int count, char **words) {
     if (count != 2 || chdir(words[1]) < 0) return 2;
-    alarm(100); /* what waits for ever fails */
+    alarm(500); /* what waits for ever fails */
     try_values();
     try_sessions();
     try_openings();

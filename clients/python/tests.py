@@ -1,5 +1,6 @@
 """Tries the Python client and its shell over the program: python3 tests.py, where FACE names another program than bin/face runs."""
 import contextlib
+import faulthandler
 import os
 import pty
 import random
@@ -73,7 +74,7 @@ class Records(Case):
         with self.open(sizes=ROOMY) as db:
             with contextlib.suppress(ValueTooLong):
                 for length in range(512):
-                    written[length] = random.randbytes(length)
+                    written[length] = os.urandom(length)
                     db[length] = written[length]
             longest = len(written) - 2
             self.assertGreaterEqual(longest, 120)
@@ -356,7 +357,7 @@ class Shells(Case):
         self.assertEqual((told.stderr, told.returncode), ("", 0))
 
     def test_export_and_import(self):
-        records = {record: random.randbytes(record % 121) for record in range(0, 512, 2)}
+        records = {record: os.urandom(record % 121) for record in range(0, 512, 2)}
         with self.open(sizes=ROOMY) as db:
             for reply in [db.submit("set", record, value) for record, value in records.items()]:
                 reply.result()
@@ -389,7 +390,7 @@ class Shells(Case):
             os.execv(sys.executable, [sys.executable, "-m", "vulzhorn", self.path("db")])
         self.addCleanup(os.kill, process, signal.SIGKILL)
         for keys, text in (("", "vulzhorn> "), ("chec\t\n", "ok\r\nvulzhorn> "), ("beg\t\n", "session 0 is open\r\nvulzhorn 0> "),
-                           ("get\x03", "^C\r\nvulzhorn 0> "), ('set 7 "x"\n', "committed 1\r\nvulzhorn 0> "), ("\x04", "undone: 0")):
+                           ("help sc\t\n", "example: scan 0 100\r\nvulzhorn 0> "), ("get\x03", "^C\r\nvulzhorn 0> "), ('set 7 "x"\n', "committed 1\r\nvulzhorn 0> "), ("\x04", "undone: 0")):
             os.write(terminal, keys.encode())
             seen, deadline = "", time.monotonic() + 20
             while text not in seen and time.monotonic() < deadline:
@@ -414,4 +415,5 @@ class Packages(Case):
 
 
 if __name__ == "__main__":
+    faulthandler.dump_traceback_later(500, exit=True)  # what waits for ever shows where
     unittest.main()

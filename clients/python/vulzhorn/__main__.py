@@ -151,14 +151,9 @@ class Shell(cmd.Cmd):
         return [f"{name} " for name in COMMANDS if name.startswith(text)]
 
     def completedefault(self, text: str, line: str, *_: Any) -> List[str]:
-        if line.startswith("help "):
-            return self.completenames(text)
         is_file = line.startswith((".import ", ".export "))
         names = os.listdir(os.path.dirname(line.split(" ")[1]) or ".") if is_file else map(str, self.sessions)
         return [name for name in names if name.startswith(text)]
-
-    def emptyline(self) -> bool:
-        return False
 
     def do_get(self, record: int) -> str:
         return shown(self.database[record])

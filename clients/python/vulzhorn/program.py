@@ -109,7 +109,7 @@ class Program:
         reply = Reply(line)
         with self._lock:
             if self._ended:
-                raise self._ended
+                raise self._ended.with_traceback(None)
             try:
                 self._waiting.append(reply)
                 os.write(self._process.stdin.fileno(), f"{line}\n".encode())
