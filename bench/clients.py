@@ -1,13 +1,13 @@
 #!/usr/bin/env python3
-"""Measures the clients of clients/: gets and sets a second by one thread that waits for each reply, and with 64 requests under way, of
-values of 8 octets over 64 pages that fit memory.
+"""Measures the clients of clients/: gets and sets a second by one thread that waits for each reply, and with 64 requests under
+way, of values of 8 octets over 64 pages that fit memory.
 
     bench/clients.py FOLDER [COUNT [TURNS]]
 
-FOLDER is where the files are made, in a folder of their own that is removed at the end: it says which disk is measured. COUNT is how
-many requests one figure takes (20,000), TURNS how often each is taken, the clients in turns (9): the table has the medians. FACE names
-another program than the one that bin/face runs. Beside the clients stands the program fed by a file of such lines, of which a run that
-hears none is taken off."""
+FOLDER is where the files are made, in a folder of their own that is removed at the end: it says which disk is measured. COUNT is
+how many requests one figure takes (20,000), TURNS how often each is taken, the clients in turns (9): the table has the medians,
+and the best in brackets. FACE names another program than the one that bin/face runs. Beside the clients stands the program fed by
+a file of such lines, of which a run that hears none is taken off."""
 import collections
 import os
 import shutil
@@ -82,7 +82,8 @@ def main():
                     rates[client, kind].append(client(face, *kind))
         for name, client in (("Python", of_python), ("C", of_c), ("a file of lines", of_lines)):
             figures = [rates[client, kind] for kind in KINDS]
-            print("| " + " | ".join([name, *(f"{statistics.median(figure):.0f}" if figure[0] else "" for figure in figures)]) + " |")
+            shown = [f"{statistics.median(figure):.0f} ({max(figure):.0f})" if figure[0] else "" for figure in figures]
+            print("| " + " | ".join([name, *shown]) + " |")
     finally:
         os.chdir("/")
         shutil.rmtree(folder)

@@ -356,9 +356,7 @@ void vulzhorn_close(vulzhorn *database) {
 /* --- requests */
 
 /* A line takes nine digits. No database has so many records, so the program refuses such a one as well. */
-static unsigned long number_of(uint32_t record) {
-    return record > 999999999 ? 999999999 : record;
-}
+static unsigned long number_of(uint32_t record) { return record > 999999999 ? 999999999 : record; }
 
 /* Sends a line that has its front, with a value behind it. */
 static void submit_value(vulzhorn *database, vulzhorn_request *request, char *line, int front, const void *octets,
@@ -461,17 +459,11 @@ vulzhorn_error vulzhorn_abort(vulzhorn *database, unsigned session) {
     return leave(database, "abort %u\n", session);
 }
 
-uint64_t vulzhorn_commits(const vulzhorn *database) {
-    return database->commits;
-}
+uint64_t vulzhorn_commits(const vulzhorn *database) { return database->commits; }
 
-pid_t vulzhorn_process(const vulzhorn *database) {
-    return database->process;
-}
+pid_t vulzhorn_process(const vulzhorn *database) { return database->process; }
 
-const char *vulzhorn_said(const vulzhorn *database) {
-    return database->said;
-}
+const char *vulzhorn_said(const vulzhorn *database) { return database->said; }
 
 const char *vulzhorn_sentence(vulzhorn_error error) {
 #define SENTENCE(name, sentence) [VULZHORN_##name] = sentence,
