@@ -58,6 +58,7 @@ static void try_values(void) {
     check(longest > 120, "values of 0 to 120 octets are taken");
     for (size_t length = longest; length < sizeof octets; length++)
         check(vulzhorn_set(database, 0, octets, length) == VULZHORN_TOO_LONG, "a longer value is told to be too long");
+    check(vulzhorn_set(database, 0, octets, SIZE_MAX / 2 + 1) == VULZHORN_TOO_LONG, "so is one beyond all memory");
     bool all = true;
     for (size_t length = 0; length < longest; length++)
         all = all && holds(database, (uint32_t)length, octets + length % 7, length);
