@@ -1,4 +1,5 @@
-use Rattle.std.proofs.Common.{◌≡◌, ◌-◌, Err, refl, ap, arith, ◌≤◌, ◌∙◌}
+use Rattle.image_meaning.proofs.Leaving.{under_leaves_for}
+use Rattle.std.proofs.Common.{◌≡◌, ◌-◌, Err, refl, ap, arith, ◌≤◌, ◌∙◌, ℕ, List, ◌∷◌, [], sym}
 use Rattle.site.specs.declared.outside.Dev.TheVariants.{Log}
 use Rattle.page_store.specs.Caching.{rules}
 use Rattle.redo_laws.specs.MachineSteps.{checkpoint_works}
@@ -9,8 +10,8 @@ use Rattle.redo_laws.proofs.AskingFlush.{never_worn_flash, asks_around, flush_th
 use Rattle.redo_undo.proofs.Saved.{may_still}
 use Rattle.redo_undo.proofs.Calling.{log_stops, keeps_answered, keeps_failed, keeps_appended, keeps_saved, keeps_then, keeps_unsaved}
 use Rattle.redo_undo.proofs.StoreCalling.{keeps_of}
-use Rattle.site.proofs.Working.{no_error, calls_then}
-use Rattle.std.specs.Prelude.{Ok, IsTrue}
+use Rattle.site.proofs.Working.{no_error, calls_then, err_again}
+use Rattle.std.specs.Prelude.{Ok, IsTrue, Option}
 use Rattle.site.specs.Laws.{stays_honest}
 use Rattle.page_store.proofs.NextUnits.{next_logged, next_then}
 use Rattle.redo_undo.specs.declared.store.TransactionStore.{TransactionStore}
@@ -22,8 +23,6 @@ use Rattle.site.specs.declared.outside.Stop.TheVariants.{Worn}
 use Rattle.redo_undo.proofs.store.TransactionStore.checkpoint.Goals as goal
 use Rattle.ring_machine.specs.Machine.{cached, force, save}
 use Rattle.ring_machine.specs.Performing.{Performs}
-use Rattle.std.proofs.Common.{ℕ, List, ◌∷◌, [], sym}
-use Rattle.std.specs.Prelude.{Option}
 use Rattle.record_model.specs.State.{Content}
 use Rattle.log_records.specs.Log.{Entry}
 use Rattle.log_store.specs.declared.store.LogStore.{LogStore}
@@ -36,7 +35,6 @@ use Rattle.ring_machine.proofs.Performing.{performs_by, performs_then, performs_
 use Rattle.redo_undo.proofs.Mirroring.{numbers_left}
 use Rattle.redo_undo.proofs.MirroringStores.{store_performs, save_performs}
 use Rattle.redo_laws.proofs.Appended.{current_same}
-use Rattle.site.proofs.Working.{err_again}
 
 pub returns-in-Ok-save_master-clause-checkpoint : goal.returns-in-Ok-save_master-clause-checkpoint
 returns-in-Ok-save_master-clause-checkpoint g c newest records table h may =
@@ -61,7 +59,7 @@ pub returns-in-Err-clause-keeps : goal.returns-in-Err-clause-keeps
 returns-in-Err-clause-keeps g c newest records table h may =
     let old = g.S.Site.state c.args.site.now in
     let pages = c.args.self.now.pages in
-    keeps_of (λ leaves. leaves) (keeps_unsaved (c.under_some_master.ensures.table newest pages.flash.geometry old (g.S.Site.state c.force.new.site) table c.args.commits old.told)
+    keeps_of (λ leaves. leaves) (keeps_unsaved (under_leaves_for newest pages.flash.geometry old (g.S.Site.state c.force.new.site) table c.args.commits old.told)
     (keeps_appended c.requires.going.both c.in-Err.ensures.stops (c.in-Err.ensures.keeps pages newest records table c.args.commits h)))
 
 pub returns-in-Err-flush-clause-keeps : goal.returns-in-Err-flush-clause-keeps
@@ -71,7 +69,7 @@ returns-in-Err-flush-clause-keeps g c newest records table h may =
     let going = c.requires.going.both in
     let begun = c.in-Ok.ensures.keeps pages newest records table c.args.commits h in
     let held = c.in-Ok.ensures.holds pages newest records table c.args.commits going.sizes h in
-    keeps_of (λ leaves. leaves) (keeps_unsaved (c.under_some_master.ensures.table newest pages.flash.geometry old _ table c.args.commits old.told)
+    keeps_of (λ leaves. leaves) (keeps_unsaved (under_leaves_for newest pages.flash.geometry old _ table c.args.commits old.told)
     (keeps_then h.log_holds.ready.blocks.honest refl refl c.in-Ok.ensures.works.calls (keeps_appended going tt begun) (c.in-Err-flush.ensures.keeps newest records table c.args.commits held)))
 
 pub returns-in-Err-save_master-clause-keeps : goal.returns-in-Err-save_master-clause-keeps
@@ -88,7 +86,7 @@ returns-in-Err-save_master-clause-keeps g c newest records table h may =
     let may' = may_still c.args.self.now.masters mid flushed records c.args.active c.requires.going.shape ((c.in-Ok-flush.ensures.keeps newest records table c.args.commits held).masters refl)
     (may_still c.args.self.now.masters old mid records c.args.active c.requires.going.shape begun.masters may) in
     let first = keeps_then honest refl refl c.in-Ok.ensures.works.calls (keeps_appended going tt begun) (c.in-Ok-flush.ensures.keeps newest records table c.args.commits held) in
-    keeps_of (λ leaves. leaves) (keeps_saved honest c.flush.ensures.works.geometry (calls_then c.in-Ok.ensures.works.calls c.in-Ok-flush.ensures.works.calls) (c.under_some_master.ensures.table newest pages.flash.geometry old flushed table c.args.commits old.told) first
+    keeps_of (λ leaves. leaves) (keeps_saved honest c.flush.ensures.works.geometry (calls_then c.in-Ok.ensures.works.calls c.in-Ok-flush.ensures.works.calls) (under_leaves_for newest pages.flash.geometry old flushed table c.args.commits old.told) first
     ((keeps_failed (c.in-Err-save_master.ensures.keeps c.flush.new.pages newest records table c.in-Ok-flush.ensures.works.going.sizes held' c.in-Ok-flush.ensures.sealed c.in-Ok-flush.ensures.clean may'))))
 
 pub returns-in-Ok-save_master-clause-keeps : goal.returns-in-Ok-save_master-clause-keeps
@@ -105,7 +103,7 @@ returns-in-Ok-save_master-clause-keeps g c newest records table h may =
     let may' = may_still c.args.self.now.masters mid flushed records c.args.active c.requires.going.shape ((c.in-Ok-flush.ensures.keeps newest records table c.args.commits held).masters refl)
     (may_still c.args.self.now.masters old mid records c.args.active c.requires.going.shape begun.masters may) in
     let first = keeps_then honest refl refl c.in-Ok.ensures.works.calls (keeps_appended going tt begun) (c.in-Ok-flush.ensures.keeps newest records table c.args.commits held) in
-    keeps_of (λ leaves. leaves) (keeps_saved honest c.flush.ensures.works.geometry (calls_then c.in-Ok.ensures.works.calls c.in-Ok-flush.ensures.works.calls) (c.under_some_master.ensures.table newest pages.flash.geometry old flushed table c.args.commits old.told) first
+    keeps_of (λ leaves. leaves) (keeps_saved honest c.flush.ensures.works.geometry (calls_then c.in-Ok.ensures.works.calls c.in-Ok-flush.ensures.works.calls) (under_leaves_for newest pages.flash.geometry old flushed table c.args.commits old.told) first
     (keeps_answered (c.in-Ok-save_master.ensures.keeps c.flush.new.pages newest records table c.in-Ok-flush.ensures.works.going.sizes held' c.in-Ok-flush.ensures.sealed c.in-Ok-flush.ensures.clean may')))
 
 pub returns-in-Err-clause-asks : goal.returns-in-Err-clause-asks
@@ -218,7 +216,7 @@ module _ (g : Over) (c : After-save_master g) (newest : Option Master) (records 
       (store_performs {old = mid} {new = before_save} refl refl (c.in-Ok-flush.ensures.performs newest records table c.args.commits held))
 
   pub same_pages : (page : ℕ) → current c.flush.new.pages (g.S.Site.state c.save_master.new.site).image page ≡ current c.flush.new.pages (g.S.Site.state c.flush.new.site).image page
-  same_pages = current_same c.beside_laws.ensures c.flush.new.pages (g.S.Site.state c.flush.new.site) (g.S.Site.state c.save_master.new.site) (c.save_master.ensures.changes (honest_then g c honest))
+  same_pages = current_same c.flush.new.pages (g.S.Site.state c.flush.new.site) (g.S.Site.state c.save_master.new.site) (c.save_master.ensures.changes (honest_then g c honest))
 
 pub returns-in-Err-save_master-clause-performs : goal.returns-in-Err-save_master-clause-performs
 returns-in-Err-save_master-clause-performs g c newest records table h =
