@@ -32,7 +32,7 @@ use Rattle.engine.specs.Leaves.{LeavesTable}
 use Rattle.page_store.proofs.StagingLaws.{fits_queue}
 use Rattle.engine.proofs.Asking.{from_ok, from_err, from_stopped, writes_stopped}
 use Rattle.site.specs.Work.{Calls}
-use Rattle.engine.proofs.Recovers.{no_tail_still, kept_of, owed_found, commits_fit, commits_found, may_be_made, restarted_as}
+use Rattle.engine.proofs.Recovers.{no_tail_still, kept_of, owed_found, commits_fit, commits_found, may_be_made, restarted_as, restarts_stopped}
 use Rattle.engine.proofs.RingCounts.{opened_next, restart_failed, restart_done}
 use Rattle.redo_laws.proofs.RingNumbers.{skips_on, then_skips}
 use Rattle.std.specs.Prelude.{Ok, OnOk, Option, Result, IsTrue}
@@ -254,49 +254,16 @@ returns-in-Ok-checkpoint-clause-restarts g c =
 
 pub returns-clause-restarts : goal.returns-clause-restarts
 returns-clause-restarts g c =
-    let first : Calls {T = Redone} (Ok c.in-Ok.redone) (g.S.Site.state c.args.site.now) (g.S.Site.state c.redo.new.site) = c.in-Ok.ensures.works.calls in
-    let second : Calls {T = Unit {0}} (Ok c.in-Ok-undo_all.field-0) (g.S.Site.state c.redo.new.site) (g.S.Site.state c.undo_all.new.site) = c.in-Ok-undo_all.ensures.works.calls in
-    record {
-      calls = calls_failed (calls_then first (calls_then second c.in-Err-checkpoint.ensures.calls));
-      going = tt;
-      blocks = tt;
-      room = tt;
-      commits = tt;
-      made = tt;
-      pool = tt;
-      stops = c.in-Err-checkpoint.ensures.stops;
-    }
+    restarts_stopped (calls_failed (calls_then c.in-Ok.ensures.works.calls (calls_then c.in-Ok-undo_all.ensures.works.calls c.in-Err-checkpoint.ensures.calls))) c.in-Err-checkpoint.ensures.stops
 
 pub returns-in-Err-undo_all-clause-restarts : goal.returns-in-Err-undo_all-clause-restarts
 returns-in-Err-undo_all-clause-restarts g c =
-    let first : Calls {T = Redone} (Ok c.in-Ok.redone) (g.S.Site.state c.args.site.now) (g.S.Site.state c.redo.new.site) = c.in-Ok.ensures.works.calls in
-    let second : Calls {T = Unit {0}} (Err c.in-Err-undo_all.stop) (g.S.Site.state c.redo.new.site) (g.S.Site.state c.undo_all.new.site) = c.in-Err-undo_all.ensures.works.calls in
-    record {
-      calls = calls_failed (calls_then first second);
-      going = tt;
-      blocks = tt;
-      room = tt;
-      commits = tt;
-      made = tt;
-      pool = tt;
-      stops = c.in-Err-undo_all.ensures.works.stops;
-    }
+    restarts_stopped (calls_failed (calls_then c.in-Ok.ensures.works.calls c.in-Err-undo_all.ensures.works.calls)) c.in-Err-undo_all.ensures.works.stops
 
 -- a count of commits that no log has
 pub returns-then-commits-sealed_end-clause-restarts : goal.returns-then-commits-sealed_end-clause-restarts
 returns-then-commits-sealed_end-clause-restarts g c =
-    let first : Calls {T = Redone} (Ok c.in-Ok.redone) (g.S.Site.state c.args.site.now) (g.S.Site.state c.redo.new.site) = c.in-Ok.ensures.works.calls in
-    let second : Calls {T = Unit {0}} (Ok c.in-Ok-undo_all.field-0) (g.S.Site.state c.redo.new.site) (g.S.Site.state c.undo_all.new.site) = c.in-Ok-undo_all.ensures.works.calls in
-    record {
-      calls = calls_refused {stop = Foreign} (λ d same. cc) (calls_then first second);
-      going = tt;
-      blocks = tt;
-      room = tt;
-      commits = tt;
-      made = tt;
-      pool = tt;
-      stops = tt;
-    }
+    restarts_stopped (calls_refused {stop = Foreign} (λ d same. cc) (calls_then c.in-Ok.ensures.works.calls c.in-Ok-undo_all.ensures.works.calls)) tt
 
 -- The next units, whatever stood there.
 

@@ -1,3 +1,4 @@
+use Rattle.engine.proofs.Recovers.{restarts_stopped}
 use Rattle.engine.proofs.restart.restart.Goals.{In-Ok-open}
 use Rattle.engine.proofs.restart.restart.Given.{Over}
 use Rattle.page_store.specs.declared.store.PageStore.{PageStore}
@@ -171,15 +172,6 @@ returns-in-Err-open g c =
       performs = λ honest k newest blocks sound. performs_refused (λ d is. c.in-Err-open.ensures.unworn d (ap Err is));
       next = λ honest k limits lengths. next_not_worn (λ d is. c.in-Err-open.ensures.unworn d (ap Err is));
       restarts =
-          record {
-            calls = calls_failed (calls_stopped c.open.ensures.preserves c.open.ensures.same c.in-Err-open.ensures.device c.in-Err-open.ensures.faults);
-            going = tt;
-            blocks = tt;
-            room = tt;
-            commits = tt;
-            made = tt;
-            pool = tt;
-            stops = c.in-Err-open.ensures.stops;
-          };
+          restarts_stopped (calls_failed (calls_stopped c.open.ensures.preserves c.open.ensures.same c.in-Err-open.ensures.device c.in-Err-open.ensures.faults)) c.in-Err-open.ensures.stops;
       refuses = λ none. absurd (none c.in-Ok.geometry c.in-Ok.ensures.limits c.in-Ok.ensures.lengths);
     }
