@@ -1,4 +1,5 @@
 -- Calls that ask the cache for work, one after the other.
+use Rattle.redo_laws.proofs.Costs.{numbers_rise}
 use Rattle.std.proofs.Common.{map, append_assoc, ◌-◌, ◌/◌, ◌≡◌, ◌+◌, ◌≤◌, ◌<◌, List, [], ◌∷◌, ◌++◌, arith, sym, ap, subst, ◌∙◌, ℕ}
 use Rattle.std.specs.Prelude.{Result, Ok, Err}
 use Rattle.site.specs.declared.outside.Dev.TheVariants.{Flash, Disk}
@@ -12,16 +13,15 @@ use Rattle.image_changes.specs.Rings.{group_shape, units_on}
 use Rattle.frame_group.specs.Groups.{Frame, frames_in}
 use Rattle.second_chance.specs.Queue.{frame_of as known_of}
 use Rattle.page_store.proofs.StagingLaws.{last_after_reads, still_leaves}
-use Rattle.std.proofs.lemmas.List.{length-map}
+use Rattle.std.proofs.lemmas.List.{length-map, map-append}
 use Rattle.site.specs.Calls.{SameReads, IsUnchanged}
 use Rattle.std.specs.List.{range_with_len}
-use Rattle.std.proofs.lemmas.List.{map-append}
 use Rattle.record_model.specs.Touches.{CacheOp, read_touch}
 use Rattle.engine.proofs.Scans.{range_more, range_at}
 use Rattle.second_chance.specs.Machine.{Rules, Cache, after_works, staged_by_works}
 use Rattle.page_store.specs.declared.store.PageStore.{PageStore}
 use Rattle.page_store.specs.Caching.{cache_of, rules, with_change, next_group}
-use Rattle.redo_laws.specs.MachineSteps.{one_touch, StepsMachine, NumbersRise, one_change}
+use Rattle.redo_laws.specs.MachineSteps.{one_touch, StepsMachine, one_change, NumbersRise}
 use Rattle.redo_undo.specs.declared.store.TransactionStore.{TransactionStore}
 use Rattle.engine.specs.declared.engine.Engine.{Engine}
 use Rattle.engine.specs.Invariant.{Invariant}
@@ -30,13 +30,12 @@ use Rattle.page_store.specs.Staging.{HasQueueOn, Stages, WritesOnly}
 use Rattle.redo_undo.specs.Stores.{MayWork}
 use Rattle.redo_laws.proofs.Asking.{asks_then, asks_stopped, asks_same}
 use Rattle.redo_laws.proofs.AskingUndo.{change_made}
-use Rattle.page_store.specs.Laws.{TouchThenChange}
 
 -- A page that is touched, and then changed.
-pub change_ok : {A B : Type 0} (a : A) (b : B) (page : ℕ) (old mid new : PageStore) (before between now : Site) → 1 ≤ (rules old).groups → TouchThenChange → StepsMachine {T = A} (Ok a) (one_touch page) old mid before between →
+pub change_ok : {A B : Type 0} (a : A) (b : B) (page : ℕ) (old mid new : PageStore) (before between now : Site) → 1 ≤ (rules old).groups → StepsMachine {T = A} (Ok a) (one_touch page) old mid before between →
     cache_of new ≡ with_change (cache_of mid) → rules new ≡ rules mid → SameReads between now → Stages {T = B} (Ok b) [] (next_group (cache_of mid)) mid new between now →
     StepsMachine {T = B} (Ok b) (one_change page) old new before now
-change_ok {A} {B} a b page old mid new before between now some law asks changed same read still = change_made a (Ok b) page old mid new before between now some law asks changed same read still
+change_ok {A} {B} a b page old mid new before between now some asks changed same read still = change_made a (Ok b) page old mid new before between now some asks changed same read still
 
 -- What is asked of each call.
 
@@ -111,11 +110,11 @@ from_found result pages r r' works works' start start' scanned old mid new same_
     })))
 
 -- the queue wasn't found
-pub not_found : NumbersRise → {T : Type 0} (stop : Stop) (pages : T → PageStore) (r : Rules) (works : List CacheOp) (start : Cache) (scanned : ℕ) (old new : Site) → 1 ≤ r.groups →
+pub not_found : {T : Type 0} (stop : Stop) (pages : T → PageStore) (r : Rules) (works : List CacheOp) (start : Cache) (scanned : ℕ) (old new : Site) → 1 ≤ r.groups →
     new.flash_reads ≤ old.flash_reads + scanned → new.disk_reads ≡ old.disk_reads → AsksFrom {T = T} (Err stop) pages r works start scanned old new
-not_found rise stop pages r works start scanned old new some flash disk = record {
+not_found stop pages r works start scanned old new some flash disk = record {
   machine = tt;
-  flash = (let up = rise r works start some in omega (arith, flash, up));
+  flash = (let up = numbers_rise r works start some in omega (arith, flash, up));
   disk = omega (arith, disk);
 }
 
@@ -144,9 +143,9 @@ still_writes rise g r works old now some quiet same =
     let up = rise r works (cache_on g old.image) some in
     still_leaves g (staged_by_works r works (cache_on g old.image)) (next_group (after_works r works (cache_on g old.image))) old now (omega (arith, up, opened_next g old.image)) quiet same
 
-pub writes_found : NumbersRise → (g : Geometry) (r : Rules) (works : List CacheOp) (h : Geometry) (r' : Rules) (works' : List CacheOp) (start : Cache) (old mid new : Site) → 1 ≤ r.groups → IsQuiet old → IsUnchanged old mid → h ≡ g → r' ≡ r → works' ≡ works →
+pub writes_found : (g : Geometry) (r : Rules) (works : List CacheOp) (h : Geometry) (r' : Rules) (works' : List CacheOp) (start : Cache) (old mid new : Site) → 1 ≤ r.groups → IsQuiet old → IsUnchanged old mid → h ≡ g → r' ≡ r → works' ≡ works →
     start ≡ cache_on g old.image → WritesFrom h r' works' start mid new → WritesFrom g r works (cache_on g old.image) old new
-writes_found rise g r works h r' works' start old mid new some quiet same sizes same_rules same_works same_start writes =
+writes_found g r works h r' works' start old mid new some quiet same sizes same_rules same_works same_start writes =
     let staged = staged_by_works r works (cache_on g old.image) in
     let next = next_group (after_works r works (cache_on g old.image)) in
     let P = λ (s : Snapshot). WritesOnly g staged next old.image s.image in
@@ -154,7 +153,7 @@ writes_found rise g r works h r' works' start old mid new some quiet same sizes 
     subst (λ (i : Image). LeavesOnly mid new (λ (s : Snapshot). WritesOnly g staged next i s.image)) same.image
     (subst (λ (k : Cache). LeavesOnly mid new (λ (s : Snapshot). WritesOnly g (staged_by_works r works k) (next_group (after_works r works k)) mid.image s.image)) same_start
     (subst (λ (w : List CacheOp). WritesFrom g r w start mid new) same_works (subst (λ (x : Rules). WritesFrom g x works' start mid new) same_rules (subst (λ (x : Geometry). WritesFrom x r' works' start mid new) sizes writes)))) in
-    in_sequence old mid new (Leaves P) (still_writes rise g r works old mid some quiet same) there
+    in_sequence old mid new (Leaves P) (still_writes numbers_rise g r works old mid some quiet same) there
 
 -- what the disk has behind it
 pub last_found : (g : Geometry) (r : Rules) (works : List CacheOp) (h : Geometry) (r' : Rules) (works' : List CacheOp) (start : Cache) (old mid new : Site) → IsUnchanged old mid → h ≡ g → r' ≡ r → works' ≡ works → start ≡ cache_on g old.image →

@@ -1,4 +1,5 @@
 -- Calls one after the other, each known by its record.
+use Rattle.redo_laws.proofs.CallsInSequence.{nothing_happens}
 use Rattle.std.proofs.Common.{◌≡◌, inl, inr, ◌+◌, ◌≤◌, List, [], ◌∷◌, ◌++◌, Bool, true, None, refl, sym, subst, ap, ◌∙◌, arith, ⊎_elim, ℕ}
 use Rattle.std.specs.Prelude.{Result, Ok, Err, OnOk, IfOk, IsErrOf, IsTrue, if◌then◌else◌}
 use Rattle.site.specs.declared.outside.Dev.{Dev}
@@ -18,7 +19,6 @@ use Rattle.record_model.specs.declared.words.Reply.{Reply}
 use Rattle.image_meaning.specs.Moments as moments
 use Rattle.page_store.specs.declared.store.PageStore.{PageStore}
 use Rattle.page_store.specs.Stopping.{MayStop}
-use Rattle.redo_laws.specs.HoldingLaws.{HoldsMoment}
 use Rattle.image_meaning.proofs.Leaving.{under_leaves_for}
 use Rattle.redo_laws.specs.MachineSteps.{StepsMachine, checkpoint_works}
 use Rattle.log_store.specs.Representation.{end_of}
@@ -197,16 +197,16 @@ pub does_nothing : {T : Type 0} {x : T} {engine : Engine} {site : Site} {s : Sta
 does_nothing {T = T} {x = x} {engine = engine} {site = site} {s = s} fits going still = does_ok fits still (λ quiet. count_nothing x engine site s s fits going quiet (omega arith))
 
 -- what stands already stands
-pub still : HoldsMoment → {engine : Engine} {site : Site} {s : State} → (fits : Matches engine site s) → Invariant engine site → IsQuiet site → LeavesOnly site site (LeavesTable (sizes_of engine.store) s.table s.commits site.told)
-still law {engine = engine} {site = site} {s = s} fits going quiet =
-    under_leaves_for fits.newest _ _ _ s.table s.commits _ (law engine.store.log engine.store.pages site fits.newest fits.records s.table s.commits going.store.both.sizes fits.holds.both quiet)
+pub still : {engine : Engine} {site : Site} {s : State} → (fits : Matches engine site s) → Invariant engine site → IsQuiet site → LeavesOnly site site (LeavesTable (sizes_of engine.store) s.table s.commits site.told)
+still {engine = engine} {site = site} {s = s} fits going quiet =
+    under_leaves_for fits.newest _ _ _ s.table s.commits _ (nothing_happens engine.store.log engine.store.pages site fits.newest fits.records s.table s.commits going.store.both.sizes fits.holds.both quiet)
 
 -- a command that is refused
-pub refused_as : (P : Outcome → Snapshot → Type 0) → {engine : Engine} {site : Site} {s : State} (command : Command) {r : Reply} → IsRefusedWith s command r → HoldsMoment → Matches engine site s → Invariant engine site →
+pub refused_as : (P : Outcome → Snapshot → Type 0) → {engine : Engine} {site : Site} {s : State} (command : Command) {r : Reply} → IsRefusedWith s command r → Matches engine site s → Invariant engine site →
     ((x : Snapshot) → LeavesTable (sizes_of engine.store) s.table s.commits site.told x → P (record { after = s; reply = r }) x) → CommandContract (Ok r) engine engine site site s (run s command) (command_touches s command) (P (run s command)) (checkpoints_by s command)
-refused_as P {engine = engine} {site = site} {s = s} command {r = r} is law fits going more =
+refused_as P {engine = engine} {site = site} {s = s} command {r = r} is fits going more =
     subst (λ (b : Bool). CommandContract (Ok r) engine engine site site s (run s command) (command_touches s command) (P (run s command)) (if b then 1 else 0)) (sym (none_made command is))
-    (answered_as P is (does_weaker more (does_nothing fits going (still law fits going))) refl asks_rest)
+    (answered_as P is (does_weaker more (does_nothing fits going (still fits going))) refl asks_rest)
 
 -- A command that no test refuses, behind the checkpoint that is made where it asks for one.
 module _ {s : State} (command : Command) {asks : Bool} (known : asks ≡ asks_for_checkpoint s command) (passes : refusal s command ≡ None) (R : Outcome → Snapshot → Type 0) where

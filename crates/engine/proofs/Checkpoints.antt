@@ -1,4 +1,5 @@
 -- A checkpoint of the active sessions' transactions.
+use Rattle.redo_laws.proofs.Outliving.{active_outlives}
 use Rattle.std.proofs.Common.{◌≡◌, ℕ, zero, suc, ◌+◌, ◌/◌, ◌<◌, ◌≤◌, ◌==◌, ◌||◌, not, Bool, true, false, List, [], ◌∷◌, length, drop, get_or, inl, Option, Some, None, option_map, IsTrue, refl, sym, ap, subst, ◌∙◌, arith}
 use Rattle.std.specs.List.{AllByRecursion, list_any}
 use Rattle.std.proofs.lemmas.Bool.{and_from, eq-eqb, not_from_false, or_left}
@@ -14,7 +15,6 @@ use Rattle.checkpoint.specs.declared.master.Master.{Master as Saved}
 use Rattle.checkpoint.specs.declared.pairs.Pair.{Pair}
 use Rattle.image_meaning.specs.Meaning.{master_of}
 use Rattle.redo_laws.specs.Checkpointing.{AreUnfinished, MayBeMade, KeepUnfinished}
-use Rattle.redo_laws.specs.SessionLaws.{ActiveOutlives}
 use Rattle.log_store.specs.Representation.{end_of}
 use Rattle.txn_table.specs.declared.active.Active.{Active}
 use Rattle.txn_table.specs.Entries.{IsTable, entry_of, counted_from}
@@ -131,10 +131,10 @@ goes_on old new site site' first going go works ended cap sizes table counted ow
     cap_is = ap (λ (k : ℕ). k + 1) cap ∙ going.cap ∙ sym (ap (λ (k : Geometry). k.blocks) sizes)
 
 -- the sessions have the transactions that they had
-sessions_outlive : ActiveOutlives → (newest : Option Saved) (master : Saved) (records : List Entry) (active new : List Active) (s : State) (first : ℕ) → SessionsAre newest records active s → IsTable active → master.active ≡ pairs_of active →
+sessions_outlive : (newest : Option Saved) (master : Saved) (records : List Entry) (active new : List Active) (s : State) (first : ℕ) → SessionsAre newest records active s → IsTable active → master.active ≡ pairs_of active →
     KeepUnfinished records (from_block master.kept records) → ((n : ℕ) (entry : Active) → entry_of active n ≡ Some entry → first ≤ entry.born) → kept_by_checkpoint s ≡ s.kept + first → AreCounted first active new → entries.owed new ≡ entries.owed active →
     SessionsAre (Some master) (from_block master.kept records) new (checkpointed_if true s)
-sessions_outlive outlives newest master records active new s first are table named keeps early kept counted owed = record {
+sessions_outlive newest master records active new s first are table named keeps early kept counted owed = record {
   count = are.count;
   each = λ n. subst (λ (a : Option Active). SessionIs (Some master) (kept_by_checkpoint s) (from_block master.kept records) a (session_at s n)) (sym (counted n)) (goes_on_one n (entry_of active n) (session_at s n) refl (are.each n));
   all = λ t loser.
@@ -153,17 +153,17 @@ sessions_outlive outlives newest master records active new s first are table nam
     goes_on_one n None (Some session) at is = absurd is
     goes_on_one n (Some entry) None at is = absurd is
     goes_on_one n (Some entry) (Some session) at is = record {
-      is_active = outlives newest master records (from_block master.kept records) entry.begin entry.last session.writes keeps (subst (AreUnfinished records) (sym named) (are_unfinished newest records active s are table))
+      is_active = active_outlives newest master records (from_block master.kept records) entry.begin entry.last session.writes keeps (subst (AreUnfinished records) (sym named) (are_unfinished newest records active s are table))
           (active_is_loser (master_of newest) records entry.begin entry.last session.writes is.is_active) is.is_active;
       born = let born = is.born in let less = early n entry at in omega (arith, born, less, kept);
       count = is.count;
       runs_on = subst RunOn (sym (ap (open_updates []) (keeps.entries entry.begin (active_is_loser (master_of newest) records entry.begin entry.last session.writes is.is_active)))) is.runs_on;
     }
 
-pub fits_after : ActiveOutlives → (old new : Engine) (site site' : Site) (s : State) (first : ℕ) (fits : Matches old site s) → IsTable old.active → LetsGo old first → IsTrue site'.honest →
+pub fits_after : (old new : Engine) (site site' : Site) (s : State) (first : ℕ) (fits : Matches old site s) → IsTable old.active → LetsGo old first → IsTrue site'.honest →
     HasCheckpoint new.store site' fits.records s.table s.commits (pairs_of old.active) → AreCounted first old.active new.active → entries.owed new.active ≡ entries.owed old.active → new.store.made + first ≡ old.store.made → new.commits ≡ old.commits → new.cap ≡ old.cap →
     new.locks ≡ old.locks → Matches new site' (checkpointed_if true s)
-fits_after outlives old new site site' s first fits table go honest has counted owed made commits cap locks =
+fits_after old new site site' s first fits table go honest has counted owed made commits cap locks =
     let kept = kept_is old first fits.newest fits.records s fits.sessions fits.counts.made go in
     let held = subst (λ ls. LocksAre ls s) (sym locks) fits.locks_are in
     record {
@@ -172,6 +172,6 @@ fits_after outlives old new site site' s first fits table go honest has counted 
       records = from_block has.master.kept fits.records;
       holds = has.holds;
       counts = record { commits = commits ∙ fits.counts.commits; made = omega (arith, made, fits.counts.made, kept); cap = cap ∙ fits.counts.cap };
-      sessions = sessions_outlive outlives fits.newest has.master fits.records old.active new.active s first fits.sessions table has.named has.keeps go.of_each kept counted owed;
+      sessions = sessions_outlive fits.newest has.master fits.records old.active new.active s first fits.sessions table has.named has.keeps go.of_each kept counted owed;
       locks_are = record { written = held.written; reads = held.reads };
     }

@@ -1,4 +1,5 @@
 -- What a restart finds on devices.
+use Rattle.page_store.proofs.Beside.{fits_beside, goes_on_beside}
 use Rattle.image_meaning.proofs.Reading.{spelled_again, each_has}
 use Rattle.sealed_ring.proofs.Alters.{length-units}
 use Rattle.std.proofs.Common.{Option, ◌≡◌, zero, suc, ◌+◌, ◌-◌, min, List, [], ◌∷◌, length, map, take, None, Some, refl, sym, ap, subst, ◌∙◌, arith, ℕ}
@@ -31,7 +32,6 @@ use Rattle.log_store.specs.Representation as log_store
 use Rattle.log_store.specs.Representation.{has_tail}
 use Rattle.page_store.specs.declared.store.PageStore.{PageStore}
 use Rattle.page_store.specs.Representation as page_store
-use Rattle.page_store.specs.Laws.{FitsBeside, GoesOnBeside}
 use Rattle.image_meaning.specs.Meaning.{IsUnused, AreGroups, HasNewest, saved_by, kept_by, logical_image_under}
 use Rattle.redo_laws.specs.Holding as both
 use Rattle.engine.specs.Image.{IsSound, Stands}
@@ -83,10 +83,10 @@ kept_is (Some m) = refl
 -- Calls that only read.
 
 -- where nothing of the log is unsealed and no more blocks than can be live are there, log and pages may go on
-pub both_go_on : GoesOnBeside → (log : LogStore) (pages : PageStore) (a b c : State) → Preserves a b → Preserves b c → log_store.Invariant log a → page_store.Invariant pages b → log.geometry ≡ pages.flash.geometry → log.used ≡ 2 → both.Invariant log pages c
-both_go_on law log pages a b c first second log_may pages_may sizes empty = record {
+pub both_go_on : (log : LogStore) (pages : PageStore) (a b c : State) → Preserves a b → Preserves b c → log_store.Invariant log a → page_store.Invariant pages b → log.geometry ≡ pages.flash.geometry → log.used ≡ 2 → both.Invariant log pages c
+both_go_on log pages a b c first second log_may pages_may sizes empty = record {
   log_going = log_still log b c second (log_still log a b first log_may);
-  pages_going = law pages b c second pages_may;
+  pages_going = goes_on_beside pages b c second pages_may;
   sizes = sizes;
   room =
       let none : (if has_tail log then 1 else 0) ≡ 0 = ap {B = ℕ} (λ b. if b then 1 else 0) (none_now log empty) in
@@ -94,7 +94,7 @@ both_go_on law log pages a b c first second log_may pages_may sizes empty = reco
 }
 
 -- what was found there fits
-module _ (law : FitsBeside) (g : Geometry) (log : LogStore) (pages : PageStore) (a b c d : State) (first : Preserves a b) (same_first : IsUnchanged a b) (second : Preserves b c) (same_second : IsUnchanged b c) (third : Preserves c d) (same_third : IsUnchanged c d) where
+module _ (g : Geometry) (log : LogStore) (pages : PageStore) (a b c d : State) (first : Preserves a b) (same_first : IsUnchanged a b) (second : Preserves b c) (same_second : IsUnchanged b c) (third : Preserves c d) (same_third : IsUnchanged c d) where
   log_found : log_store.Finds log b → log_store.Finds log d
   log_found finds =
       let same : d.image ≡ b.image = same_third.image ∙ same_second.image in
@@ -117,7 +117,7 @@ module _ (law : FitsBeside) (g : Geometry) (log : LogStore) (pages : PageStore) 
         opened_is = record {
           kept = kept;
           ready = record {
-            pages = law pages c d (only_read c d same_third) third fits;
+            pages = fits_beside pages c d (only_read c d same_third) third fits;
             blocks = log_found finds;
             records = record {
               kept = omega (arith, kept);

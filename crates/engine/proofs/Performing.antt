@@ -1,7 +1,7 @@
 -- What commands make of the machine that mirrors the database.
-use Rattle.std.proofs.Common.{◌≡◌, ℕ, ◌+◌, Bool, false, List, [], ◌∷◌, ◌++◌, flat_map, append_assoc, Some, None, sym, ap, ◌∙◌}
+use Rattle.std.proofs.Common.{◌≡◌, ℕ, ◌+◌, Bool, false, List, [], ◌∷◌, ◌++◌, flat_map, append_assoc, Some, None, sym, ap, ◌∙◌, arith, ◌*◌, ◌<◌, ◌≤◌, ◌-◌, ◌==◌, true≢false, IsTrue}
 use Rattle.std.specs.Prelude.{Result, Ok, Err, if◌then◌else◌}
-use Rattle.std.specs.List.{range_with_len}
+use Rattle.std.specs.List.{range_with_len, list_any}
 use Rattle.std.proofs.lemmas.Grind.{flat_map-append}
 use Rattle.site.specs.declared.outside.Dev.{Dev}
 use Rattle.site.specs.declared.outside.Stop.{Stop}
@@ -9,7 +9,7 @@ use Rattle.site.specs.declared.outside.Stop.TheVariants.{Worn, Memory}
 use Rattle.site.specs.State.{Image, State as Site}
 use Rattle.site.proofs.Working.{no_error}
 use Rattle.record_model.specs.declared.words.Command.{Command}
-use Rattle.record_model.specs.State.{State}
+use Rattle.record_model.specs.State.{State, Content, Write, content_at, seen}
 use Rattle.record_model.specs.Step.{asks_for_checkpoint, lacks_room, refusal}
 use Rattle.ring_machine.specs.Machine.{RingOp}
 use Rattle.ring_machine.specs.Commands.{reads, saves, command_work}
@@ -18,14 +18,11 @@ use Rattle.ring_machine.proofs.Performing.{performs_as, performs_by, performs_th
 use Rattle.page_store.specs.Caching.{rules}
 use Rattle.redo_undo.specs.declared.store.TransactionStore.{TransactionStore}
 use Rattle.redo_undo.specs.Mirroring.{MirrorsStore}
-use Rattle.engine.specs.Representation.{checkpointed_if}
+use Rattle.engine.specs.Representation.{checkpointed_if, Matches}
 use Rattle.engine.proofs.Replies.{work_behind, worked}
 use Rattle.engine.proofs.Scans.{range_more, range_at}
-use Rattle.std.proofs.Common.{arith, ◌*◌, ◌<◌, ◌≤◌, ◌-◌, ◌==◌, true≢false, IsTrue}
-use Rattle.std.specs.List.{list_any}
 use Rattle.std.proofs.lemmas.Bool.{false_from_ne_true}
-use Rattle.record_model.specs.State.{Content, Write, content_at, seen}
-use Rattle.log_records.specs.Log.{Entry}
+use Rattle.log_records.specs.Log.{Entry, Version}
 use Rattle.log_laws.specs.Follow.{IsFree, IsActive}
 use Rattle.log_laws.specs.Follow as follow
 use Rattle.log_laws.proofs.Tables.{content_of_table}
@@ -39,9 +36,7 @@ use Rattle.log_store.specs.Representation.{end_of}
 use Rattle.image_meaning.specs.Meaning.{versions_on, master_of}
 use Rattle.redo_undo.specs.Stores.{Represents, shown_in, sizes_of}
 use Rattle.engine.specs.declared.engine.Engine.{Engine}
-use Rattle.engine.specs.Representation.{Matches}
 use Rattle.engine.proofs.Meanings.{begins_late, busy_write_is, free, fresh_behind, seen_is, table_is}
-use Rattle.log_records.specs.Log.{Version}
 use Rattle.site.specs.declared.geometry.Geometry.{Geometry}
 use Rattle.engine.proofs.Settings.{begin_at, free_begun, unwritten}
 use Rattle.engine.proofs.Writes.{may_read_too, touched_fits}

@@ -1,11 +1,11 @@
 -- The queue on flash, as the cache machine has it.
+use Rattle.frame_group.proofs.Contents.{frames_are_in}
 use Rattle.std.proofs.Common.{◌≡◌, ◌-◌, List, [], ◌∷◌, length, map, refl, sym, ◌∙◌, ap, arith}
 use Rattle.std.specs.List.{AllByRecursion}
 use Rattle.site.specs.declared.geometry.Geometry.{Geometry}
 use Rattle.image_changes.specs.Rings.{group_shape, units_on}
 use Rattle.sealed_ring.specs.Ring.{hi_of}
 use Rattle.frame_group.specs.Groups.{Frame, frames_in, group}
-use Rattle.frame_group.specs.Laws.{FramesAreIn}
 use Rattle.second_chance.specs.declared.frame.Frame.{Frame as Known}
 use Rattle.second_chance.specs.Machine.{unread}
 use Rattle.second_chance.specs.Queue.{frame_of as known_of}
@@ -13,9 +13,9 @@ use Rattle.flash_cache.specs.Representation.{AllTogether, HasFrames, Shows}
 use Rattle.engine.specs.Invariant.{sizes_of}
 use Rattle.engine.specs.Listings.{QueueIsOnFlash}
 
-frames_are : FramesAreIn → (g : Geometry) (groups : List (List Frame)) → AllByRecursion (λ frames. HasFrames g frames (group frames)) groups → map frames_in (map group groups) ≡ groups
-frames_are law g [] all = refl
-frames_are law g (frames ∷ groups) all = λ i. law (group frames) frames all.0.is_group i ∷ frames_are law g groups all.1 i
+frames_are : (g : Geometry) (groups : List (List Frame)) → AllByRecursion (λ frames. HasFrames g frames (group frames)) groups → map frames_in (map group groups) ≡ groups
+frames_are g [] all = refl
+frames_are g (frames ∷ groups) all = λ i. frames_are_in (group frames) frames all.0.is_group i ∷ frames_are g groups all.1 i
 
 abbrev unread_of : Frame → Known
 unread_of frame = known_of frame.page frame.dirty
@@ -32,13 +32,13 @@ groups_shown [] (frames ∷ groups) all = absurd all
 groups_shown (k ∷ known) [] all = absurd all
 groups_shown (k ∷ known) (frames ∷ groups) all = λ i. group_shown k frames all.0 i ∷ groups_shown known groups all.1 i
 
-pub on_flash : FramesAreIn → QueueIsOnFlash
-on_flash law engine site s fits =
+pub on_flash : QueueIsOnFlash
+on_flash engine site s fits =
     let pages = fits.holds.both.log_holds.ready.pages in
     let g = sizes_of engine.store in
     let has = pages.holds.has in
     let directory = engine.store.pages.flash.directory in
-    let frames : map frames_in (units_on (group_shape g) site.image).live ≡ pages.groups = ap (map frames_in) has.live ∙ frames_are law g pages.groups has.are_groups in
+    let frames : map frames_in (units_on (group_shape g) site.image).live ≡ pages.groups = ap (map frames_in) has.live ∙ frames_are g pages.groups has.are_groups in
     let long = ap length frames in
     let first : hi_of (group_shape g) site.image.flash - length (map frames_in (units_on (group_shape g) site.image).live) ≡ directory.first = omega (arith, has.next, long) in
     let groups : map (map unread_of) (map frames_in (units_on (group_shape g) site.image).live) ≡ map (map unread) directory.groups = ap (map (map unread_of)) frames ∙ groups_shown directory.groups pages.groups pages.holds.shown in

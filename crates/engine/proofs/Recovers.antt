@@ -1,4 +1,8 @@
 -- What redo, undo and a checkpoint make of an opened log.
+use Rattle.page_store.specs.Stopping.{MayStop}
+use Rattle.site.specs.Work.{Calls}
+use Rattle.site.specs.declared.outside.Stop.{Stop}
+use Rattle.std.specs.Prelude.{Err}
 use Rattle.redo_laws.proofs.Touched.{tail_blocks}
 use Rattle.checkpoint.specs.declared.master.Master.{Master}
 use Rattle.checkpoint.specs.declared.pairs.Pair.{Pair}
@@ -30,7 +34,7 @@ use Rattle.redo_laws.specs.Checkpointing.{MayBeMade}
 use Rattle.engine.specs.declared.restart.Opened.{Opened}
 use Rattle.engine.specs.declared.restart.Restarted.{Restarted}
 use Rattle.redo_undo.specs.Stores.{HasCheckpoint}
-use Rattle.engine.specs.Restarting.{IsReady, RestartedAs}
+use Rattle.engine.specs.Restarting.{IsReady, RestartedAs, Restarts}
 
 -- a log that has as many blocks, and had no tail, has none still
 pub no_tail_still : (log log' : LogStore) → log.used ≡ 2 → blocks_to log' ≡ blocks_to log → log.ring.hi ≤ log'.ring.hi → has_tail log' ≡ false
@@ -107,3 +111,7 @@ restarted_as restarted new records table commits made none checkpoint least are 
   made = omega (arith, least);
   commits_are = are;
 }
+
+-- a restart that stops
+pub restarts_stopped : {stop : Stop} {size : ℕ} {before now : State} → Calls {T = Restarted} (Err stop) before now → MayStop stop → Restarts (Err stop) size before now
+restarts_stopped calls stops = record { calls = calls; going = tt; blocks = tt; room = tt; commits = tt; made = tt; pool = tt; stops = stops }

@@ -1,4 +1,5 @@
 -- A run begins: what a restart leaves, and nobody at work.
+use Rattle.log_laws.proofs.Owing.{owed_none}
 use Rattle.checkpoint.specs.declared.master.Master.{Master}
 use Rattle.std.proofs.Common.{arith, ◌≡◌, ℕ, zero, suc, ◌-◌, ◌==◌, false, List, [], length, replicate, Option, None, refl, sym, ap, subst, ◌∙◌, IsTrue, true≢false}
 use Rattle.std.specs.Prelude.{slice_index_or}
@@ -9,7 +10,6 @@ use Rattle.site.specs.State.{State as Site, Image}
 use Rattle.record_model.specs.State.{Session, State, writes_of, reads_of}
 use Rattle.log_records.specs.Log.{Entry, is_loser}
 use Rattle.log_records.specs.Unfinished.{owed}
-use Rattle.log_laws.specs.RoomLaws.{OwedNone}
 use Rattle.lock_table.specs.declared.lock.Lock.{Lock}
 use Rattle.txn_table.specs.declared.active.Active.{Active}
 use Rattle.redo_undo.specs.declared.store.TransactionStore.{TransactionStore}
@@ -49,11 +49,11 @@ unlocked s is = record {
 }
 
 -- the database stands for the state that the run opens with
-pub started : OwedNone → (g : Geometry) (image : Image) (site : Site) (s : State) (restarted : Restarted) (engine : Engine) → IsTrue site.honest → (opening : Opens g image s) → RestartedAs restarted site s.table s.commits → restarted.blocks ≡ g.blocks →
+pub started : (g : Geometry) (image : Image) (site : Site) (s : State) (restarted : Restarted) (engine : Engine) → IsTrue site.honest → (opening : Opens g image s) → RestartedAs restarted site s.table s.commits → restarted.blocks ≡ g.blocks →
     engine.store ≡ restarted.store → engine.commits ≡ restarted.commits → engine.cap ≡ restarted.blocks - 1 → engine.active ≡ [] → engine.locks ≡ [] → Matches engine site s
-started law g image site s restarted engine honest opening done blocks store_is commits_is cap_is active_is locks_is =
+started g image site s restarted engine honest opening done blocks store_is commits_is cap_is active_is locks_is =
     let sessions_are : s.sessions ≡ replicate 8 None = ap (λ (x : State). x.sessions) opening.state in
-    let sessions = subst (λ (a : List Active). SessionsAre done.newest done.records a s) (sym active_is) (idle done.newest done.records s done.finished (law done.records done.finished) sessions_are) in
+    let sessions = subst (λ (a : List Active). SessionsAre done.newest done.records a s) (sym active_is) (idle done.newest done.records s done.finished (owed_none done.records done.finished) sessions_are) in
     record {
       honest = honest;
       newest = done.newest;

@@ -16,8 +16,7 @@ use Rattle.log_records.specs.declared.log_record.LogRecord.{LogRecord}
 use Rattle.log_records.specs.declared.log_record.LogRecord.TheVariants.{Begin, Update, Clr, Commit, End}
 use Rattle.log_records.specs.Log.{Entry, Version, entries_of, is_closed, is_on, is_number, number_of, is_update, updates_in, first_update, before_of, after_of, table_of}
 use Rattle.log_records.specs.Unfinished.{is_clr, clrs_in, left_open, open_by, open_updates}
-use Rattle.log_records.specs.Sound.{IsInTable, Pairwise, HoldsOff}
-use Rattle.log_records.specs.Sound.{Master as Saved}
+use Rattle.log_records.specs.Sound.{IsInTable, Pairwise, HoldsOff, Master as Saved}
 use Rattle.log_laws.specs.Follow.{IsActive, write_of}
 use Rattle.log_laws.proofs.Losers.{left_keep}
 use Rattle.log_laws.proofs.Tables.{content_of_table}

@@ -9,10 +9,10 @@ use Rattle.std.specs.List.{list_any, range_with_len}
 use Rattle.std.proofs.lemmas.Bool.{cases_eq, eq-eqb, ne_eqb}
 use Rattle.std.proofs.lemmas.Option.{none-some}
 use Rattle.site.specs.State.{State as Site}
-use Rattle.record_model.specs.State.{Content, Session, State, Write, session_at, writes_of, reads_of}
+use Rattle.record_model.specs.State.{Content, Session, State, Write, session_at, writes_of, reads_of, content_at, last_write, seen}
 use Rattle.record_model.specs.State as model
 use Rattle.record_model.specs.Step.{having_written, having_read}
-use Rattle.log_records.specs.Log.{Entry}
+use Rattle.log_records.specs.Log.{Entry, is_on}
 use Rattle.log_laws.specs.Follow.{IsFreeFor, shown}
 use Rattle.log_laws.proofs.Losers.{active_may_write}
 use Rattle.log_laws.proofs.Owing.{owed_update}
@@ -33,9 +33,7 @@ use Rattle.engine.specs.Representation.{Matches, LocksAre, SessionIs, SessionsAr
 use Rattle.engine.proofs.Actives.{some_active}
 use Rattle.engine.proofs.Changes.{wrote_more}
 use Rattle.engine.proofs.Undoing.{last_seen}
-use Rattle.log_records.specs.Log.{is_on}
 use Rattle.log_records.specs.Unfinished.{left_open}
-use Rattle.record_model.specs.State.{content_at, last_write, seen}
 use Rattle.engine.proofs.Locks.{at_set}
 use Rattle.engine.proofs.Meanings.{busy_write_is, free_for}
 use Rattle.txn_table.proofs.Owing.{entry_is}

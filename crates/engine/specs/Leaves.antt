@@ -3,9 +3,8 @@ use Rattle.std.specs.Prelude.{◌≡◌, ◌⊎◌, ℕ, List, Result, Ok, Err}
 use Rattle.site.specs.declared.outside.Stop.{Stop}
 use Rattle.site.specs.declared.outside.Stop.TheVariants.{Foreign}
 use Rattle.site.specs.declared.geometry.Geometry.{Geometry}
-use Rattle.site.specs.State.{Snapshot}
+use Rattle.site.specs.State.{Snapshot, State as Site}
 use Rattle.site.specs.Geometry.{HasLimits, HasLengths}
-use Rattle.site.specs.State.{State as Site}
 use Rattle.record_model.specs.State.{Content, State}
 use Rattle.image_meaning.specs.Moments as moments
 use Rattle.engine.specs.Image.{Stands}

@@ -32,8 +32,6 @@ use Rattle.engine.specs.Calls.{Ends}
 use Rattle.engine.specs.Numbers.{RestartsWithin}
 use Rattle.engine.specs.Paging.{AsksFrom, HasLastFrom, WritesFrom, restart_works}
 use Rattle.site.specs.Work.{Calls}
-use Rattle.analysis.specs.Laws.{OneTable, TableOfUnfinished, OwedOfUnfinished}
-use Rattle.analysis.specs.Taken.{TakenCommits}
 
 -- of every site: what was opened may be recovered
 pub record MayRecover (opened : Opened) (site : State) : Type 0 where
@@ -101,10 +99,3 @@ pub record LeavesNext {T : Type 0} (result : Result T Stop) (store_of : T → Tr
     (now : State) : Type 0 where
   pub next : IfOk result (λ x. AreNext (store_of x) now × (sizes_of (store_of x) ≡ g))
   pub worn : (dev : Dev) → IsErrOf result (Worn dev) → IsSpent dev g now.image
-
--- the laws of the layers below on what a restart takes of a log
-pub record RecoveryLaws : Type 0 where
-  pub one : OneTable
-  pub unfinished : TableOfUnfinished
-  pub owed : OwedOfUnfinished
-  pub commits : TakenCommits

@@ -19,7 +19,6 @@ ghost use Rattle.engine.specs.Numbers.{checkpoints_by};
 use crate::engine::Engine;
 use crate::sessions;
 use record_model::Reply;
-use redo_undo::{hold_together, sessions_outlive};
 use site::{Site, Stop};
 
 impl Engine {
@@ -42,7 +41,6 @@ impl Engine {
         ensures asks { StepsMachine result checkpoint_works self.old.store.pages self.new.store.pages
             (S.state site.old) (S.state site.new) }
     {
-        sessions_outlive();
         let first = self.active.oldest_born().unwrap_or(self.store.made);
         let named = sessions::named(&self.active);
         match self.store.checkpoint(site, named, self.commits, first) {
@@ -75,7 +73,6 @@ impl Engine {
         ensures asks { StepsMachine result (if wanted then checkpoint_works else []) self.old.store.pages
             self.new.store.pages (S.state site.old) (S.state site.new) }
     {
-        hold_together();
         if !wanted {
             return Ok(());
         }

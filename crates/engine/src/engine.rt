@@ -1,5 +1,5 @@
 // The database.
-ghost use Rattle.std.specs.Prelude.{Option, ◌≡◌, ◌+◌, ◌*◌, ◌/◌, ◌^◌, ◌<◌, ◌≤◌, List, false, Some, None};
+ghost use Rattle.std.specs.Prelude.{Option, ◌≡◌, ◌+◌, ◌/◌, ◌^◌, ◌<◌, ◌≤◌, List, false, Some, None};
 ghost use Rattle.std.specs.Prelude.{option_map, IsTrue, IfSome, IfNone, IfOk, IfErr, OnOk, ℕ};
 ghost use Rattle.site.specs.declared.outside.Stop.{Stop};
 ghost use Rattle.site.specs.declared.geometry.Geometry.{Geometry};
@@ -35,7 +35,6 @@ ghost use Rattle.engine.specs.Paging.{HasLastFrom, WritesFrom};
 
 use crate::restart::restart;
 use lock_table::LockTable;
-use log_laws::owed_none;
 use record_model::{Reply, Stat, Why};
 use redo_undo::TransactionStore;
 use site::{Site, Stop};
@@ -121,7 +120,6 @@ impl Engine {
         ensures refuses { HasNoSizes (S.state site.old) → IsRefused result site.old site.new }
         ensures stops { IfErr result (λ stop. MayStop stop) }
     {
-        owed_none();
         let restarted = match restart(alloc, site, pool) {
             Ok(restarted) => restarted,
             Err(stop) => return Err(stop),

@@ -26,7 +26,6 @@ use crate::engine::Engine;
 use crate::scan::{add_item, first_busy};
 use crate::values::found;
 use record_model::{Items, Octets, Reply, Why};
-use redo_undo::hold_together;
 use site::{Site, Stop};
 
 impl Engine {
@@ -67,7 +66,6 @@ impl Engine {
         ensures serves { KeepsUnread result self.old self.new (S.state site.old) (S.state site.new) }
         ensures ended { OnErr result (self.new.ended ≡ true) }
     {
-        hold_together();
         if let Some(refused) = self.read_refusal(session, number) {
             return Ok(refused);
         }
@@ -164,7 +162,6 @@ impl Engine {
         ensures serves { KeepsUnread result self.old self.new (S.state site.old) (S.state site.new) }
         ensures ended { OnErr result (self.new.ended ≡ true) }
     {
-        hold_together();
         if let Some(refused) = self.scan_refusal(session, number, count) {
             return Ok(refused);
         }
@@ -205,7 +202,6 @@ impl Engine {
             self.new.store.pages
             (S.state site.old) (S.state site.new) }
     {
-        hold_together();
         let mut items = Items::new(self.alloc);
         for offset in 0..count {
             let content = match self.carry_out_read(site, session, number + offset) {
@@ -255,7 +251,6 @@ impl Engine {
         ensures serves { KeepsUnread result self.old self.new (S.state site.old) (S.state site.new) }
         ensures ended { OnErr result (self.new.ended ≡ true) }
     {
-        hold_together();
         if let Some(refused) = self.get_refusal(number) {
             return Ok(refused);
         }

@@ -1,5 +1,5 @@
 // Restart: the pages get what they lack of the log, what it leaves unfinished is undone, and a checkpoint is made.
-ghost use Rattle.std.specs.Prelude.{Option, ◌*◌, ◌≡◌, ◌+◌, ◌^◌, ◌<◌, ◌≤◌, ℕ, List, IsTrue, IfOk, IfErr, OnOk, IsErrOf};
+ghost use Rattle.std.specs.Prelude.{Option, ◌≡◌, ◌+◌, ◌^◌, ◌<◌, ◌≤◌, ℕ, List, IsTrue, IfOk, IfErr, OnOk, IsErrOf};
 ghost use Rattle.site.specs.declared.outside.Dev.{Dev};
 ghost use Rattle.site.specs.declared.outside.Stop.{Stop};
 ghost use Rattle.site.specs.declared.geometry.Geometry.{Geometry};
@@ -20,7 +20,7 @@ ghost use Rattle.image_meaning.specs.Meaning.{logical_image_under};
 ghost use Rattle.engine.specs.Invariant.{sizes_of};
 ghost use Rattle.engine.specs.Image.{log_under, IsSound, Stands};
 ghost use Rattle.engine.specs.Leaves.{HasNoSizes, IsRefused, LeavesTable};
-ghost use Rattle.engine.specs.Restarting.{RecoveryLaws, MayRecover, IsReady, RestartedAs, Restarts, Recovers};
+ghost use Rattle.engine.specs.Restarting.{MayRecover, IsReady, RestartedAs, Restarts, Recovers};
 ghost use Rattle.engine.specs.Restarting.{LeavesNext, found_store};
 ghost use Rattle.redo_undo.specs.StoreCalls.{AreNext};
 ghost use Rattle.engine.specs.Calls.{Ends};
@@ -37,8 +37,8 @@ ghost use Rattle.engine.specs.Paging.{HasLastFrom, WritesFrom};
 use analysis::{Analysis, losers_are_taken, table_of_records};
 use checkpoint::{Master, Pairs, newest, one_master};
 use log_store::LogStore;
-use page_store::{PageStore, stays_beside};
-use redo_undo::{TransactionStore, ops_compose, redo, undo_all};
+use page_store::PageStore;
+use redo_undo::{TransactionStore, redo, undo_all};
 use sealed_ring::Ring;
 use site::{Dev, Geometry, Site, Stop};
 use std::alloc::Global;
@@ -143,7 +143,6 @@ fn open<S: Site>(
     ensures unworn { (d : Dev) → IsErrOf result (Stop.Worn d) → ⊥ }
     ensures stops { IfErr result (λ stop. MayStop stop) }
 {
-    stays_beside();
     one_master();
     let mut log = match LogStore::start(site, geometry) {
         Ok(log) => log,
@@ -180,14 +179,6 @@ fn owed(found: &Analysis) -> u64
     sum
 }
 
-// On what a restart takes of a log.
-fn recovery_laws()
-    ensures { RecoveryLaws }
-{
-    table_of_records();
-    losers_are_taken();
-}
-
 // Redoes what the pages lack, undoes all that is unfinished, and makes a checkpoint.
 fn recover<S: Site>(alloc: Global, site: &mut S, opened: Opened) -> Result<Restarted, Stop>
     requires may { MayRecover opened (S.state site.old) }
@@ -211,7 +202,8 @@ fn recover<S: Site>(alloc: Global, site: &mut S, opened: Opened) -> Result<Resta
     ensures restarts { Restarts result opened.pages.pool.size (S.state site.old) (S.state site.new) }
     ensures sizes { IfOk result (λ restarted. sizes_of restarted.store ≡ opened.pages.flash.geometry) }
 {
-    recovery_laws();
+    table_of_records();
+    losers_are_taken();
     let Opened {
         mut log,
         mut pages,
@@ -314,7 +306,6 @@ pub fn restart<S: Site>(alloc: Global, site: &mut S, pool: u32) -> Result<Restar
     ensures restarts { Restarts result pool (S.state site.old) (S.state site.new) }
     ensures refuses { HasNoSizes (S.state site.old) → IsRefused result site.old site.new }
 {
-    ops_compose();
     let geometry = match geometry_of(site) {
         Ok(geometry) => geometry,
         Err(stop) => return Err(stop),

@@ -27,9 +27,7 @@ ghost use Rattle.redo_undo.specs.StoreCalls.{KeepsInvariant, Keeps};
 
 use crate::engine::Engine;
 use crate::values::{is_long, value_of};
-use page_store::touch_then_change;
 use record_model::{Octets, Reply, Why};
-use redo_undo::hold_together;
 use site::{Site, Stop};
 
 impl Engine {
@@ -63,7 +61,6 @@ impl Engine {
         ensures asks { StepsMachine result (one_change (number / 32)) self.old.store.pages self.new.store.pages
             (S.state site.old) (S.state site.new) }
     {
-        touch_then_change();
         let txn = match self.store.begin(site) {
             Ok(txn) => txn,
             Err(stop) => return Err(stop),
@@ -157,7 +154,6 @@ impl Engine {
         ensures serves { KeepsUnread result self.old self.new (S.state site.old) (S.state site.new) }
         ensures ended { OnErr result (self.new.ended ≡ true) }
     {
-        hold_together();
         if let Some(refused) = self.set_refusal(number, value) {
             return Ok(refused);
         }

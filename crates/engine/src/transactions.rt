@@ -1,5 +1,5 @@
 // Sessions' transactions begin, are committed and are undone.
-ghost use Rattle.std.specs.Prelude.{Option, map, reverse, ◌≡◌, ◌≢◌, ◌⊎◌, ◌+◌, ◌<◌, ◌≤◌, ℕ, List, [], ◌∷◌, ◌++◌, true};
+ghost use Rattle.std.specs.Prelude.{Option, map, reverse, ◌≡◌, ◌⊎◌, ◌+◌, ◌<◌, ◌≤◌, ℕ, List, [], ◌∷◌, ◌++◌, true};
 ghost use Rattle.std.specs.Prelude.{Some, None, IfSome, IfNone, IfOk, IfErr, OnOk, OnErr};
 ghost use Rattle.site.specs.declared.outside.Dev.{Dev};
 ghost use Rattle.site.specs.declared.outside.Stop.{Stop};
@@ -36,7 +36,6 @@ ghost use Rattle.redo_undo.specs.StoreCalls.{KeepsInvariant, Keeps};
 use crate::engine::{Engine, SESSIONS};
 use crate::sessions;
 use record_model::{Reply, Why};
-use redo_undo::hold_together;
 use site::{Site, Stop};
 use txn_table::Active;
 
@@ -77,7 +76,6 @@ impl Engine {
         ensures serves { KeepsUnread result self.old self.new (S.state site.old) (S.state site.new) }
         ensures ended { OnErr result (self.new.ended ≡ true) }
     {
-        hold_together();
         if let Some(refused) = self.begin_refusal(session) {
             return Ok(refused);
         }
@@ -231,7 +229,6 @@ impl Engine {
         ensures ended { OnErr result (self.new.ended ≡ true) }
         ensures stops { IfErr result (λ stop. (stop ≡ Stop.Device Dev.Log) ⊎ (stop ≡ Stop.Worn Dev.Log)) }
     {
-        hold_together();
         let Some(entry) = self.active.find(session) else {
             return Ok(Reply::Refused(Why::BadSession));
         };
@@ -300,7 +297,6 @@ impl Engine {
         ensures serves { KeepsEngine result self.old self.new (S.state site.old) (S.state site.new) }
         ensures ended { OnErr result (self.new.ended ≡ true) }
     {
-        hold_together();
         let Some(entry) = self.active.find(session) else {
             return Ok(Reply::Refused(Why::BadSession));
         };

@@ -24,9 +24,7 @@ ghost use Rattle.engine.specs.Numbers.{checkpoints_by};
 use crate::engine::Engine;
 use crate::sessions;
 use crate::values::{is_long, value_of};
-use page_store::touch_then_change;
 use record_model::{Octets, Reply, Why};
-use redo_undo::hold_together;
 use site::{Site, Stop};
 use txn_table::Active;
 
@@ -59,7 +57,6 @@ impl Engine {
         ensures asks { StepsMachine result (one_change (number / 32)) self.old.store.pages self.new.store.pages
             (S.state site.old) (S.state site.new) }
     {
-        touch_then_change();
         match self.store.touch(site, number) {
             Ok(()) => {}
             Err(stop) => return Err(stop),
@@ -143,7 +140,6 @@ impl Engine {
         ensures serves { KeepsUnread result self.old self.new (S.state site.old) (S.state site.new) }
         ensures ended { OnErr result (self.new.ended ≡ true) }
     {
-        hold_together();
         if let Some(refused) = self.write_refusal(session, number, value) {
             return Ok(refused);
         }
@@ -199,7 +195,6 @@ impl Engine {
         ensures serves { KeepsUnread result self.old self.new (S.state site.old) (S.state site.new) }
         ensures ended { OnErr result (self.new.ended ≡ true) }
     {
-        hold_together();
         if let Some(refused) = self.erase_refusal(session, number) {
             return Ok(refused);
         }

@@ -1,4 +1,7 @@
 -- A record is appended beside the pages.
+use Rattle.image_changes.proofs.Sequence.{ring_kept}
+use Rattle.image_meaning.proofs.Beside.{rings_kept}
+use Rattle.page_store.proofs.Beside.{fits_beside, leaves_beside, sealed_beside, versions_beside}
 use Rattle.std.proofs.Common.{◌≡◌, ℕ, ◌+◌, ◌*◌, ◌≤◌, ◌<◌, Bool, true, false, List, [], ◌∷◌, ◌++◌, map, refl, sym, ap, subst, ◌∙◌, arith}
 use Rattle.log_laws.specs.Tail.{next_lsn}
 use Rattle.std.specs.Prelude.{if◌then◌else◌, Result, Ok, Err, OnOk, IfOk, Option}
@@ -36,7 +39,6 @@ use Rattle.redo_laws.specs.Running.{RunsOn}
 use Rattle.slotted_page.specs.Layout.{lsn_of}
 use Rattle.redo_laws.specs.Holding.{RepresentsLog, Represents, MayGrow, KeepsPages, blocks_to}
 use Rattle.redo_laws.specs.Committing.{EndsWith}
-use Rattle.redo_laws.specs.Laws.{LogLaws, PageLaws, BesideLaws}
 use Rattle.redo_laws.proofs.Runs.{one_more}
 use Rattle.redo_laws.proofs.Standing.{last_of_all, next_more}
 use Rattle.redo_laws.proofs.Changed.{shows_same}
@@ -87,12 +89,12 @@ logged_more end end' more [] all = tt
 logged_more end end' more (frame ∷ frames) all = (record { below = λ some. let below = all.0.below some in omega (arith, below, more) }, logged_more end end' more frames all.1)
 
 -- the pages stay
-module _ (beside : BesideLaws) (pages : PageStore) (site new : State) (changes : ChangesOnly Log site new) where
+module _ (pages : PageStore) (site new : State) (changes : ChangesOnly Log site new) where
   pub versions_same : versions_on pages.flash.geometry new.image ≡ versions_on pages.flash.geometry site.image
-  versions_same = λ i. map (λ number. version_in (beside.versions pages.flash.geometry site new number changes i)) (range_with_len 0 pages.flash.geometry.pages)
+  versions_same = λ i. map (λ number. version_in (versions_beside pages.flash.geometry site new number changes i)) (range_with_len 0 pages.flash.geometry.pages)
 
   pub current_same : (number : ℕ) → current pages new.image number ≡ current pages site.image number
-  current_same number = ap (content_by (frame_of pages.pool.frames number)) (beside.versions pages.flash.geometry site new number changes)
+  current_same number = ap (content_by (frame_of pages.pool.frames number)) (versions_beside pages.flash.geometry site new number changes)
 
   -- the LSN of each version is sealed still, where the log grew
   pub more_sealed : (log log' : LogStore) → log.geometry ≡ pages.flash.geometry → log'.geometry ≡ log.geometry → log_store.Finds log site → log_store.Finds log' new → log.ring.hi ≤ log'.ring.hi →
@@ -104,12 +106,12 @@ module _ (beside : BesideLaws) (pages : PageStore) (site new : State) (changes :
       record {
         each = λ page exists. record {
           below = λ some.
-              let was = (sealed.each page exists).below (subst (λ (c : List ℕ). 0 < lsn_of c) (beside.versions g site new page changes) some) in
-              omega (arith, was, before, after, more, ap lsn_of (beside.versions g site new page changes));
+              let was = (sealed.each page exists).below (subst (λ (c : List ℕ). 0 < lsn_of c) (versions_beside g site new page changes) some) in
+              omega (arith, was, before, after, more, ap lsn_of (versions_beside g site new page changes));
         };
       }
 
-module _ (logs : LogLaws) (laws : PageLaws) (beside : BesideLaws) (log : LogStore) (pages : PageStore) (site : State) (newest : Option Master) (records : List Entry) (table : List Content) (commits : ℕ) (h : Represents log pages site newest records table commits) (sizes : log.geometry ≡ pages.flash.geometry) where
+module _ (log : LogStore) (pages : PageStore) (site : State) (newest : Option Master) (records : List Entry) (table : List Content) (commits : ℕ) (h : Represents log pages site newest records table commits) (sizes : log.geometry ≡ pages.flash.geometry) where
   abbrev g : Geometry
   g = pages.flash.geometry
 
@@ -130,33 +132,33 @@ module _ (logs : LogLaws) (laws : PageLaws) (beside : BesideLaws) (log : LogStor
     pub rings_stay : LeavesOnly site new (LeavesRings newest g)
     rings_stay =
         leaves_weaker site new (IsReached g (IsFrontOf (changes_if sealing list)) site) (LeavesRings newest g)
-        (λ s is. beside.rings newest g is.changes site.image s.image h.log_holds.rings (all_front g site.image is.changes is.made.0 (subst (KeepsRingsAll g site.image) is.made.1 (sealing_keeps g site.image sealing list))) is.reaches)
+        (λ s is. rings_kept newest g is.changes site.image s.image h.log_holds.rings (all_front g site.image is.changes is.made.0 (subst (KeepsRingsAll g site.image) is.made.1 (sealing_keeps g site.image sealing list))) is.reaches)
         at_front
 
     pub sealed_stay : LeavesOnly site new (LeavesSealed g)
     sealed_stay =
-        beside.are_sealed g sealing list site new quiet (subst (λ (k : Geometry). HasBlocks k (kept_by newest) h.log_holds.blocks site.image) sizes h.log_holds.ready.records.blocks) h.log_holds.ahead.versions changes at_log
+        sealed_beside g sealing list site new quiet (subst (λ (k : Geometry). HasBlocks k (kept_by newest) h.log_holds.blocks site.image) sizes h.log_holds.ready.records.blocks) h.log_holds.ahead.versions changes at_log
 
     pub append_leaves : IsStore pages → (sealing ≡ true → has_tail log ≡ true) → LeavesOnly site new (LeavesTableUnder newest g table commits site.told)
     append_leaves own some =
-        leaves_table logs laws log pages site newest records table commits h own sealing some new
-        (beside.leaves g sealing list (current pages site.image) site new quiet queue_is h.log_holds.ready.pages.clean changes at_log at_front) sealed_stay rings_stay
+        leaves_table log pages site newest records table commits h own sealing some new
+        ((leaves_beside ring_kept) g sealing list (current pages site.image) site new quiet queue_is h.log_holds.ready.pages.clean changes at_log at_front) sealed_stay rings_stay
 
   -- At its end.
   module _ (new : State) (sealing : Bool) where
     pub rings_now : Reaches log.geometry (changes_if sealing list) site.image new.image → AreRingsSoundUnder newest g new.image
     rings_now reaches =
-        beside.rings newest g (changes_if sealing list) site.image new.image h.log_holds.rings (sealing_keeps g site.image sealing list)
+        rings_kept newest g (changes_if sealing list) site.image new.image h.log_holds.rings (sealing_keeps g site.image sealing list)
         (subst (λ (k : Geometry). Reaches k (changes_if sealing list) site.image new.image) sizes reaches)
 
     pub sealed_now : (log' : LogStore) → ChangesOnly Log site new → log'.geometry ≡ log.geometry → log_store.Finds log' new → log.ring.hi ≤ log'.ring.hi → AreSealed g new.image
-    sealed_now log' changes same finds more = more_sealed beside pages site new changes log log' sizes same h.log_holds.ready.blocks finds more h.log_holds.ahead.versions
+    sealed_now log' changes same finds more = more_sealed pages site new changes log log' sizes same h.log_holds.ready.blocks finds more h.log_holds.ahead.versions
 
   -- Behind it.
   module _ (new : State) (changes : ChangesOnly Log site new) where
     pub moved : (blocks : List (List LogRecord)) (tail : List LogRecord) (records' : List Entry) → RunsOn (logical_image_under newest g site.image blocks) tail records' table commits → RunsOn (logical_image_under newest g new.image blocks) tail records' table commits
     moved blocks tail records' runs =
-        subst (λ (versions : List Version). RunsOn (record { master = (master_of newest); log = log_from (kept_by newest) blocks; hi = next_block_under newest blocks; blocks = g.blocks; pages = versions }) tail records' table commits) (sym (versions_same beside pages site new changes)) runs
+        subst (λ (versions : List Version). RunsOn (record { master = (master_of newest); log = log_from (kept_by newest) blocks; hi = next_block_under newest blocks; blocks = g.blocks; pages = versions }) tail records' table commits) (sym (versions_same pages site new changes)) runs
 
   module _ (log' : LogStore) (new : State) (rec : LogRecord) (lsn : ℕ) (rings : AreRingsSoundUnder newest g new.image) (are_sealed : AreSealed g new.image) where
     -- what stands in the log before the record: the tail, or nothing where it was sealed
@@ -169,7 +171,7 @@ module _ (logs : LogLaws) (laws : PageLaws) (beside : BesideLaws) (log : LogStor
 
     stands_before : (sealing : Bool) → (sealing ≡ true → has_tail log ≡ true) → IsAppended g log log' list site new rec lsn sealing → StandsBefore
     stands_before false full is =
-        let hi = hi_is logs laws log pages site newest records table commits h in
+        let hi = hi_is log pages site newest records table commits h in
         record {
           blocks = h.log_holds.blocks;
           front = h.log_holds.tail;
@@ -178,13 +180,13 @@ module _ (logs : LogLaws) (laws : PageLaws) (beside : BesideLaws) (log : LogStor
           next = omega (arith, hi, h.log_holds.ready.records.tail.end, is.numbers.lsn_is);
         }
     stands_before true full is =
-        let hi = hi_is logs laws log pages site newest records table commits h in
+        let hi = hi_is log pages site newest records table commits h in
         record {
           blocks = h.log_holds.blocks ++ h.log_holds.tail ∷ [];
           front = [];
           holds = is.holds;
-          runs_on = runs_sealed logs laws log pages site newest records table commits h (full refl) (last_of_all AreBlock h.log_holds.blocks h.log_holds.tail is.holds.blocks.are_blocks);
-          next = omega (arith, hi, is.numbers.lsn_is, next_more logs laws newest h.log_holds.blocks h.log_holds.tail);
+          runs_on = runs_sealed log pages site newest records table commits h (full refl) (last_of_all AreBlock h.log_holds.blocks h.log_holds.tail is.holds.blocks.are_blocks);
+          next = omega (arith, hi, is.numbers.lsn_is, next_more newest h.log_holds.blocks h.log_holds.tail);
         }
 
     module _ (sealing : Bool) (full : sealing ≡ true → has_tail log ≡ true) (is : IsAppended g log log' list site new rec lsn sealing) where
@@ -192,7 +194,7 @@ module _ (logs : LogLaws) (laws : PageLaws) (beside : BesideLaws) (log : LogStor
       before = stands_before sealing full is
 
       ready_now : AreReady pages log' (record { first = kept_by newest; blocks = before.blocks; tail = before.front ++ rec ∷ [] }) new
-      ready_now = record { pages = beside.fits pages site new is.changes is.preserves h.log_holds.ready.pages; blocks = is.finds; records = before.holds }
+      ready_now = record { pages = fits_beside pages site new is.changes is.preserves h.log_holds.ready.pages; blocks = is.finds; records = before.holds }
 
       ahead_still : IsAhead log' pages new.image
       ahead_still =
@@ -212,7 +214,7 @@ module _ (logs : LogLaws) (laws : PageLaws) (beside : BesideLaws) (log : LogStor
             runs_on = moved new is.changes before.blocks before.front records before.runs_on;
             next = before.next;
             ahead = ahead_still;
-            shows = record { each = shows_same logs g log log' pages site new newest records table commits h keeps };
+            shows = record { each = shows_same g log log' pages site new newest records table commits h keeps };
             below = λ number exists.
                 subst (λ (c : List ℕ). lsn_of c < end_of log') (sym (keeps.current number)) (omega (arith, h.below number exists, behind, is.numbers.below));
             room = omega (arith, most_blocks log log' lsn sealing full is.numbers, h.log_holds.room, h.log_holds.rings.limits.blocks, is.kept);
@@ -229,7 +231,7 @@ module _ (logs : LogLaws) (laws : PageLaws) (beside : BesideLaws) (log : LogStor
             ready = ready_now;
             rings = rings;
             runs_on = moved new is.changes before.blocks (before.front ++ rec ∷ []) (records ++ record { lsn = lsn; rec = rec } ∷ [])
-                (one_more logs (logical_image_under newest g site.image before.blocks) before.front rec lsn records table commits before.runs_on before.next
+                (one_more (logical_image_under newest g site.image before.blocks) before.front rec lsn records table commits before.runs_on before.next
                 may.follows may.no_commit);
             ahead = ahead_still;
             room = omega (arith, most_blocks log log' lsn sealing full is.numbers, may.room, is.kept);

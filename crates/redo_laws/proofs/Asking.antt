@@ -1,7 +1,7 @@
 -- Calls that ask the cache for work, one after the other.
 use Rattle.std.proofs.Common.{◌≡◌, ◌+◌, ◌*◌, ◌≤◌, Bool, true, false, List, [], ◌++◌, arith, refl, sym, ap, subst, ◌∙◌, ℕ}
-use Rattle.std.specs.Prelude.{Result, Ok, Err, IsErrOf, if◌then◌else◌}
-use Rattle.site.specs.declared.outside.Dev.TheVariants.{Flash, Disk}
+use Rattle.std.specs.Prelude.{Result, Ok, Err, IsErrOf, if◌then◌else◌, IsTrue, OnOk}
+use Rattle.site.specs.declared.outside.Dev.TheVariants.{Flash, Disk, Log}
 use Rattle.site.specs.declared.outside.Stop.{Stop}
 use Rattle.site.specs.State.{State, IsQuiet}
 use Rattle.site.specs.Calls.{SameReads, IsUnchanged, Preserves}
@@ -20,8 +20,6 @@ use Rattle.page_store.specs.Caching.{cache_of, rules, pushes}
 use Rattle.redo_laws.specs.MachineSteps.{next_group, one_touch, one_change, ReadsFor, StepsMachine, StagesFor}
 use Rattle.redo_laws.proofs.Costs.{ops_compose, staged_add_up, reads_add_up, reads_for_more, touched_next, more_next}
 use Rattle.site.proofs.Working.{ok_as, ok_always}
-use Rattle.std.specs.Prelude.{IsTrue, OnOk}
-use Rattle.site.specs.declared.outside.Dev.TheVariants.{Log}
 
 pub stop_is : {U : Type 0} (stop is : Stop) → IsErrOf {T = U} (Err stop) is → stop ≡ is
 stop_is stop is same = cc

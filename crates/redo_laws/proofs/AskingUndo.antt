@@ -1,5 +1,5 @@
 -- What undo asks of the cache: calls on the log alone, and one Update after the other.
-use Rattle.std.proofs.Common.{◌≡◌, ◌≢◌, ◌⊎◌, inl, inr, ◌+◌, ◌*◌, ◌<◌, ◌≤◌, true, List, [], ◌∷◌, ◌++◌, append_assoc, append-nil, Option, Some, arith, refl, sym, ap, subst, ◌∙◌, ℕ}
+use Rattle.std.proofs.Common.{◌≡◌, ◌≢◌, ◌⊎◌, inl, inr, ◌+◌, ◌*◌, ◌<◌, ◌≤◌, true, List, [], ◌∷◌, ◌++◌, append_assoc, append-nil, Option, Some, arith, refl, sym, ap, ◌∙◌, ℕ}
 use Rattle.std.specs.Prelude.{Result, Ok, Err, OnOk, option_map, ⊤}
 use Rattle.std.specs.List.{cons_option}
 use Rattle.std.proofs.lemmas.List.Elements.{filter_map-append}
@@ -15,14 +15,13 @@ use Rattle.log_records.specs.Restart.{undo_touch}
 use Rattle.second_chance.specs.Machine.{Rules, Cache, touched, staged_by_works}
 use Rattle.page_store.specs.declared.store.PageStore.{PageStore}
 use Rattle.page_store.specs.Caching.{cache_of, rules, with_change}
-use Rattle.page_store.specs.Laws.{TouchThenChange}
 use Rattle.page_store.specs.Staging.{Stages}
 use Rattle.page_store.proofs.StagingLaws.{stages_err, stages_as, stages_then}
 use Rattle.redo_laws.specs.MachineSteps.{next_group, one_touch, one_change, ReadsFor, StepsMachine}
 use Rattle.redo_laws.specs.UndoWorks.{works_of}
-use Rattle.redo_laws.proofs.Costs.{reads_add_up, more_next}
-use Rattle.redo_laws.proofs.Asking.{change_reads, change_stages, asks_ok, asks_then, asks_stopped}
-use Rattle.site.proofs.Working.{ok_as, ok_always}
+use Rattle.redo_laws.proofs.Costs.{reads_add_up, more_next, touch_then_change}
+use Rattle.redo_laws.proofs.Asking.{change_reads, change_stages, asks_stopped}
+use Rattle.site.proofs.Working.{ok_as}
 
 -- Calls on the log alone.
 
@@ -67,19 +66,6 @@ asks_later result works old new before between now same still asks = record {
   stages = stages_then (λ has. more_next (rules old) [] works (cache_of old) has.room) still asks.stages;
 }
 
--- a call that goes on with the log once all that it asked for is done
-pub asks_before : {A B : Type 0} (a : A) (result : Result B Stop) (works : List CacheOp) (old new : PageStore) (before between now : State) → 1 ≤ (rules old).groups → SameElse between now →
-    Stages result [] (next_group (cache_of new)) new new between now → StepsMachine {T = A} (Ok a) works old new before between → StepsMachine result works old new before now
-asks_before a result works old new before between now some same still asks = record {
-  machine = ok_always result _ asks.machine;
-  reads = record {
-    flash = (let read = asks.reads.flash in omega (arith, read, same.flash));
-    disk = (let read = asks.reads.disk in omega (arith, read, same.disk));
-  };
-  rules_are = asks.rules_are;
-  stages = stages_as (append-nil (staged_by_works (rules old) works (cache_of old))) (ap next_group asks.machine) (stages_then (λ has. omega (arith, ap next_group asks.machine)) asks.stages still);
-}
-
 -- One Update.
 
 -- its page is touched, which stops
@@ -93,11 +79,11 @@ change_stopped stop page old new before now some asks = record {
 }
 
 -- and changed then
-pub change_made : {A B : Type 0} (a : A) (result : Result B Stop) (page : ℕ) (old mid new : PageStore) (before between now : State) → 1 ≤ (rules old).groups → TouchThenChange →
+pub change_made : {A B : Type 0} (a : A) (result : Result B Stop) (page : ℕ) (old mid new : PageStore) (before between now : State) → 1 ≤ (rules old).groups →
     StepsMachine {T = A} (Ok a) (one_touch page) old mid before between → OnOk result (cache_of new ≡ with_change (cache_of mid)) → rules new ≡ rules mid → SameReads between now →
     Stages result [] (next_group (cache_of mid)) mid new between now → StepsMachine result (one_change page) old new before now
-change_made a result page old mid new before between now some law asks changed same read still =
-    let there : with_change (cache_of mid) ≡ touched (rules old) page true (cache_of old) = ap with_change asks.machine ∙ sym (law (rules old) page (cache_of old)) in
+change_made a result page old mid new before between now some asks changed same read still =
+    let there : with_change (cache_of mid) ≡ touched (rules old) page true (cache_of old) = ap with_change asks.machine ∙ sym (touch_then_change (rules old) page (cache_of old)) in
     let none = none_read between now read in
     record {
       machine = ok_as result _ _ (λ is. is ∙ there) changed;
@@ -121,36 +107,7 @@ work_is u page slot less is =
 -- More Updates.
 
 -- all that are left: those that were undone, the next one, and the others
-works_are : (done rest : List Entry) (u : Entry) → works_of (done ++ u ∷ rest) ≡ (works_of done ++ works_of (u ∷ [])) ++ works_of rest
+pub works_are : (done rest : List Entry) (u : Entry) → works_of (done ++ u ∷ rest) ≡ (works_of done ++ works_of (u ∷ [])) ++ works_of rest
 works_are done rest u =
     let all : (done ++ u ∷ []) ++ rest ≡ done ++ u ∷ rest = simp append_assoc in
     sym (ap works_of all) ∙ filter_map-append undo_touch (done ++ u ∷ []) rest ∙ ap (λ (w : List CacheOp). w ++ works_of rest) (filter_map-append undo_touch done (u ∷ []))
-
--- one more is undone
-pub one_more_work : {A B : Type 0} (a : A) (b : B) (done : List Entry) (u : Entry) (old mid new : PageStore) (before between now : State) →
-    StepsMachine {T = A} (Ok a) (works_of done) old mid before between → StepsMachine {T = B} (Ok b) (works_of (u ∷ [])) mid new between now → StepsMachine {T = ⊤} (Ok tt) (works_of (done ++ u ∷ [])) old new before now
-one_more_work a b done u old mid new before between now first second =
-    let both = asks_then a (Ok b) (works_of done) (works_of (u ∷ [])) old mid new before between now first second in
-    subst (λ (w : List CacheOp). StepsMachine {T = ⊤} (Ok tt) w old new before now) (sym (filter_map-append undo_touch done (u ∷ [])))
-    (asks_ok b tt (works_of done ++ works_of (u ∷ [])) old new before now both)
-
--- or it stops there
-pub more_work_stopped : {A B C : Type 0} (a : A) (stop : Stop) (all done rest : List Entry) (u : Entry) (old mid new : PageStore) (before between now : State) → 1 ≤ (rules old).groups → all ≡ done ++ u ∷ rest →
-    StepsMachine {T = A} (Ok a) (works_of done) old mid before between → StepsMachine {T = B} (Err stop) (works_of (u ∷ [])) mid new between now → StepsMachine {T = C} (Err stop) (works_of all) old new before now
-more_work_stopped {A} {B} {C} a stop all done rest u old mid new before between now some is first second =
-    subst (λ (w : List CacheOp). StepsMachine {T = C} (Err stop) w old new before now) (sym (ap works_of is ∙ works_are done rest u))
-    (asks_stopped stop (works_of done ++ works_of (u ∷ [])) (works_of rest) old new before now some
-    (asks_then a (Err stop) (works_of done) (works_of (u ∷ [])) old mid new before between now first second))
-
--- until all are
-pub all_work : {A B : Type 0} (a : A) (b : B) (all done : List Entry) (old new : PageStore) (before now : State) → all ≡ done → StepsMachine {T = A} (Ok a) (works_of done) old new before now →
-    StepsMachine {T = B} (Ok b) (works_of all) old new before now
-all_work {A} {B} a b all done old new before now is asks =
-    subst (λ (l : List Entry). StepsMachine {T = B} (Ok b) (works_of l) old new before now) (sym is)
-    (asks_ok a b (works_of done) old new before now asks)
-
--- an Update is undone behind a read of the log
-pub asks_of_update : {T : Type 0} (result : Result T Stop) (u : Entry) (page slot : ℕ) (old new : PageStore) (before between now : State) → slot < 32 → number_of u.rec ≡ Some (32 * page + slot) → SameElse before between →
-    Stages {T = ⊤} (Ok tt) [] (next_group (cache_of old)) old old before between → StepsMachine result (one_change page) old new between now → StepsMachine result (works_of (u ∷ [])) old new before now
-asks_of_update result u page slot old new before between now less is same still asks =
-    asks_later result (works_of (u ∷ [])) old new before between now same still (subst (λ (w : List CacheOp). StepsMachine result w old new between now) (work_is u page slot less is) asks)

@@ -1,4 +1,7 @@
 -- Calls one behind the other, and a site of which only was read.
+use Rattle.page_store.proofs.Beside.{fits_beside}
+use Rattle.image_meaning.proofs.UnchangedImages.{next_block_is}
+use Rattle.log_laws.proofs.Tails.{carries_nothing}
 use Rattle.std.proofs.Common.{◌≡◌, ℕ, ◌<◌, ◌≤◌, Bool, false, nat_lt, arith, append-nil, [], List, refl, sym, ap, subst, ◌∙◌}
 use Rattle.std.specs.Prelude.{if◌then◌else◌, Option}
 use Rattle.site.specs.declared.outside.Dev.TheVariants.{Log, Flash, Disk}
@@ -20,13 +23,11 @@ use Rattle.page_store.proofs.Versions.{flash_later}
 use Rattle.page_store.specs.declared.store.PageStore.{PageStore}
 use Rattle.page_store.specs.Representation.{current}
 use Rattle.page_store.specs.Ahead.{IsAhead}
-use Rattle.page_store.specs.Laws.{FitsBeside}
 use Rattle.checkpoint.specs.declared.master.Master.{Master}
 use Rattle.image_meaning.specs.Meaning.{logical_image_under, StandsUnder, kept_by, IsSoundUnder}
 use Rattle.image_meaning.specs.Moments.{LeavesTableUnder}
 use Rattle.image_meaning.specs.Beside.{AreRingsSoundUnder}
 use Rattle.redo_laws.specs.HoldingLaws.{OpenedHolds}
-use Rattle.redo_laws.specs.Laws.{LogLaws, PageLaws}
 use Rattle.redo_laws.specs.Running.{RunsOn}
 use Rattle.redo_laws.specs.Holding.{Invariant, Represents, RepresentsIn, ShowRecords}
 
@@ -55,8 +56,8 @@ only_read old new same = record {
 }
 
 -- log and pages hold together still
-pub holds_still : FitsBeside → (log : LogStore) (pages : PageStore) (old new : State) (newest : Option Master) (records : List Entry) (table : List Content) (commits : ℕ) → Preserves old new → IsUnchanged old new → Represents log pages old newest records table commits → Represents log pages new newest records table commits
-holds_still fits log pages old new newest records table commits goes same h =
+pub holds_still : (log : LogStore) (pages : PageStore) (old new : State) (newest : Option Master) (records : List Entry) (table : List Content) (commits : ℕ) → Preserves old new → IsUnchanged old new → Represents log pages old newest records table commits → Represents log pages new newest records table commits
+holds_still log pages old new newest records table commits goes same h =
     let ready = h.log_holds.ready in
     record {
       log_holds = record {
@@ -64,7 +65,7 @@ holds_still fits log pages old new newest records table commits goes same h =
         blocks = h.log_holds.blocks;
         tail = h.log_holds.tail;
         ready = record {
-          pages = fits pages old new (only_read old new same) goes ready.pages;
+          pages = fits_beside pages old new (only_read old new same) goes ready.pages;
           blocks = record {
             honest = stays_honest old new goes ready.blocks.honest;
             form = subst (λ (i : Image). IsRing (log_shape log.geometry) i.log) (sym same.image) ready.blocks.form;
@@ -139,8 +140,8 @@ leaves_still log pages old new newest records table commits sizes same h quiet =
     unchanged_calm old old new (Leaves (LeavesTableUnder newest pages.flash.geometry table commits old.told)) (nothing_happens log pages old newest records table commits sizes h quiet) same
 
 -- where the tail is empty all records are sealed ones
-pub opened_holds : LogLaws → PageLaws → OpenedHolds
-opened_holds laws page_laws log pages site newest blocks table commits sizes kept ready sound means shows are_ahead below =
+pub opened_holds : OpenedHolds
+opened_holds log pages site newest blocks table commits sizes kept ready sound means shows are_ahead below =
     let p = logical_image_under newest pages.flash.geometry site.image blocks in
     let empty : log.used ≡ 2 = ready.records.tail.end in
     let none : has_tail log ≡ false = ap (nat_lt 2) empty in
@@ -152,9 +153,9 @@ opened_holds laws page_laws log pages site newest blocks table commits sizes kep
         tail = [];
         ready = ready;
         rings = record { limits = sound.octets.limits; lengths = sound.octets.lengths; masters = sound.octets.masters; segments = sound.octets.segments; groups = sound.octets.groups };
-        runs_on = record { carries = laws.carries_nothing p sound.records; means = means; no_commit = refl; records_are = append-nil (log_from (kept_by newest) blocks) };
+        runs_on = record { carries = carries_nothing p sound.records; means = means; no_commit = refl; records_are = append-nil (log_from (kept_by newest) blocks) };
         ahead = are_ahead;
-        room = (let at = page_laws.next newest blocks in omega (arith, ready.blocks.hi, ready.records.blocks.next, sound.records.room_for_undo, no_tail, kept, at));
+        room = (let at = next_block_is newest blocks in omega (arith, ready.blocks.hi, ready.records.blocks.next, sound.records.room_for_undo, no_tail, kept, at));
       };
       shows = shows;
       below = below;

@@ -1,4 +1,7 @@
 -- What a page shows behind one more record.
+use Rattle.page_store.proofs.Fitting.{front_exists}
+use Rattle.redo_laws.specs.HoldingLaws.{FrontShows}
+use Rattle.log_laws.proofs.Shown.{shown_push}
 use Rattle.std.proofs.Common.{◌≡◌, ◌≢◌, ◌⊎◌, inl, inr, ℕ, ◌+◌, ◌*◌, ◌/◌, ◌≤◌, ◌<◌, ◌==◌, cond, false, List, [], ◌∷◌, ◌++◌, length, Option, None, Some, refl, sym, ap, subst, ◌∙◌, arith}
 use Rattle.std.proofs.lemmas.Bool.{cases_eq, ne_eqb, eq-eqb}
 use Rattle.std.proofs.lemmas.Option.{none-some, same_Some}
@@ -6,7 +9,7 @@ use Rattle.site.specs.declared.geometry.Geometry.{Geometry}
 use Rattle.site.specs.State.{State, Image}
 use Rattle.record_model.specs.State.{Content, content_at}
 use Rattle.log_records.specs.declared.log_record.LogRecord.{LogRecord}
-use Rattle.slotted_page.specs.Layout.{lsn_of}
+use Rattle.slotted_page.specs.Layout.{lsn_of, slots_of}
 use Rattle.log_store.specs.declared.store.LogStore.{LogStore}
 use Rattle.log_store.specs.Representation.{end_of}
 use Rattle.page_store.specs.declared.store.PageStore.{PageStore}
@@ -21,14 +24,13 @@ use Rattle.redo_laws.specs.Holding.{RepresentsLog, RepresentsIn, KeepsPages}
 use Rattle.log_records.specs.Log.{Entry, Version, number_of, after_of, is_on, is_number}
 use Rattle.log_laws.specs.Follow.{shown}
 use Rattle.image_meaning.specs.Redone.{Redoes, AreKnown, ShowsAll}
-use Rattle.redo_laws.specs.Laws.{LogLaws}
 use Rattle.flash_cache.proofs.Given.{all_append}
 
 pub known_more : (log : List Entry) (page from to : ℕ) → from ≤ to → AreKnown log page from → AreKnown log page to
 known_more [] page from to more known = tt
 known_more (e ∷ log) page from to more known = ((λ number is at. let known_e = known.0 number is at in omega (arith, known_e, more)), known_more log page from to more known.1)
 
-module _ (laws : LogLaws) (records : List Entry) (e : Entry) (versions : List Version) (page : ℕ) where
+module _ (records : List Entry) (e : Entry) (versions : List Version) (page : ℕ) where
   off_number : ((number : ℕ) → number_of e.rec ≡ Some number → number / 32 ≡ page → ⊥) → (slot : ℕ) → slot < 32 → is_on (32 * page + slot) e ≡ false
   off_number off slot less = by (number_of e.rec) refl
     where
@@ -42,7 +44,7 @@ module _ (laws : LogLaws) (records : List Entry) (e : Entry) (versions : List Ve
     known = all_append (λ (x : Entry). (number : ℕ) → number_of x.rec ≡ Some number → number / 32 ≡ page → x.lsn ≤ v.lsn) records (e ∷ []) shows.known ((λ number is at. absurd (off number is at)), tt);
     slots = λ slot less.
         shows.slots slot less
-        ∙ sym (laws.shown_push records e versions (32 * page + slot) ∙ ap (λ b. cond b (after_of e.rec) (shown records versions (32 * page + slot))) (off_number off slot less));
+        ∙ sym (shown_push records e versions (32 * page + slot) ∙ ap (λ b. cond b (after_of e.rec) (shown records versions (32 * page + slot))) (off_number off slot less));
   }
 
   -- and one that is, once it is redone
@@ -53,7 +55,7 @@ module _ (laws : LogLaws) (records : List Entry) (e : Entry) (versions : List Ve
         ((λ n own at. omega (arith, lsn)), tt);
     slots = λ slot less.
         redoes.slots slot less ∙ by slot (shows.slots slot less) (cases_eq number (32 * page + slot))
-        ∙ sym (laws.shown_push records e versions (32 * page + slot) ∙ ap (λ o. cond (is_number (32 * page + slot) o) (after_of e.rec) (shown records versions (32 * page + slot))) is);
+        ∙ sym (shown_push records e versions (32 * page + slot) ∙ ap (λ o. cond (is_number (32 * page + slot) o) (after_of e.rec) (shown records versions (32 * page + slot))) is);
   }
     where
       by : (slot : ℕ) → content_at v.slots slot ≡ shown records versions (32 * page + slot) → (number ≡ 32 * page + slot) ⊎ (number ≢ 32 * page + slot) →
@@ -65,7 +67,7 @@ module _ (laws : LogLaws) (records : List Entry) (e : Entry) (versions : List Ve
           ∙ sym (ap (λ b. cond b (after_of e.rec) (shown records versions (32 * page + slot))) (ne_eqb number (32 * page + slot) other))
 
 -- The same pages, over images in which each page has the version and the content that it had.
-module _ (logs : LogLaws) (g : Geometry) (log log' : LogStore) (pages : PageStore) (site new : State) (newest : Option Master) (records : List Entry) (table : List Content) (commits : ℕ) (h : RepresentsIn g log pages site newest records table commits) (keeps : KeepsPages g pages site.image new.image) where
+module _ (g : Geometry) (log log' : LogStore) (pages : PageStore) (site new : State) (newest : Option Master) (records : List Entry) (table : List Content) (commits : ℕ) (h : RepresentsIn g log pages site newest records table commits) (keeps : KeepsPages g pages site.image new.image) where
   pub shows_same : (number : ℕ) → number < g.pages → ShowsAll records (versions_on g new.image) number (version_in (current pages new.image number))
   shows_same number exists =
       subst (λ (versions : List Version). ShowsAll records versions number (version_in (current pages new.image number))) (sym keeps.versions)
@@ -77,7 +79,7 @@ module _ (logs : LogLaws) (g : Geometry) (log log' : LogStore) (pages : PageStor
   holds_off rec lsn none behind below holds = record {
     log_holds = holds;
     shows = record {
-      each = λ number exists. off_page logs records (record { lsn = lsn; rec = rec }) (versions_on g new.image) number (version_in (current pages new.image number))
+      each = λ number exists. off_page records (record { lsn = lsn; rec = rec }) (versions_on g new.image) number (version_in (current pages new.image number))
           (λ own is at. none-some own (sym none ∙ is)) (shows_same number exists);
     };
     below = λ number exists.
@@ -101,11 +103,11 @@ module _ (logs : LogLaws) (g : Geometry) (log log' : LogStore) (pages : PageStor
       shows_by : (page : ℕ) → page < g.pages → (page ≡ front) ⊎ (page ≢ front) → ShowsAll (records ++ record { lsn = lsn; rec = rec } ∷ []) (versions_on g new.image) page (version_in (current pages' new.image page))
       shows_by page exists (inl same) =
           subst (λ n. ShowsAll (records ++ record { lsn = lsn; rec = rec } ∷ []) (versions_on g new.image) n (version_in (current pages' new.image n))) (sym same)
-          (on_page logs records (record { lsn = lsn; rec = rec }) (versions_on g new.image) front number (version_in (current pages new.image front)) (version_in (current pages' new.image front)) is later redoes
+          (on_page records (record { lsn = lsn; rec = rec }) (versions_on g new.image) front number (version_in (current pages new.image front)) (version_in (current pages' new.image front)) is later redoes
           (shows_same front (subst (λ n. n < g.pages) same exists)))
       shows_by page exists (inr other) =
           subst (λ (c : List ℕ). ShowsAll (records ++ record { lsn = lsn; rec = rec } ∷ []) (versions_on g new.image) page (version_in c)) (sym (others page other))
-          (off_page logs records (record { lsn = lsn; rec = rec }) (versions_on g new.image) page (version_in (current pages new.image page))
+          (off_page records (record { lsn = lsn; rec = rec }) (versions_on g new.image) page (version_in (current pages new.image page))
           (λ own found here. let same : own ≡ number = same_Some own number (sym found ∙ is) in other (sym here ∙ ap (λ n. n / 32) same ∙ at)) (shows_same page exists))
 
       below_by : (page : ℕ) → page < g.pages → (page ≡ front) ⊎ (page ≢ front) → lsn_of (current pages' new.image page) < end_of log'
@@ -134,3 +136,10 @@ front_is_current pages image some = ap (λ o. content_by o (version_on pages.fla
     found : (frames : List Frame) → 0 < length frames → frame_of frames (front_of frames).page ≡ Some (front_of frames)
     found [] some = absurd (omega (arith, some))
     found (frame ∷ frames) some = ap (λ b. cond b (Some frame) (frame_of frames frame.page)) (eq-eqb frame.page frame.page refl)
+
+-- a slot of the page in front has what the last record there has written
+pub front_shows : FrontShows
+front_shows log pages site newest records table commits slot own some less h =
+    let front = (front_of pages.pool.frames).page in
+    ap (λ (o : List ℕ). content_at (slots_of o) slot) (sym (front_is_current pages site.image some))
+    ∙ (h.shows.each front (front_exists pages.flash.geometry.pages pages.pool.frames some own.pages)).slots slot less

@@ -1,4 +1,12 @@
 -- A Commit is appended and sealed.
+use Rattle.image_changes.proofs.Sequence.{ring_kept}
+use Rattle.image_meaning.proofs.Beside.{rings_kept}
+use Rattle.image_meaning.proofs.UnchangedImages.{next_block_is}
+use Rattle.log_laws.proofs.Appends.{commit_follows}
+use Rattle.log_laws.proofs.Owing.{owed_closing}
+use Rattle.log_laws.proofs.Seals.{sealed_count}
+use Rattle.log_laws.proofs.Tails.{carries_more, carries_nothing, commits_more, sealed_tail, tail_with_commit, whole_more, whole_sealed}
+use Rattle.page_store.proofs.Beside.{fits_beside, leaves_beside, sealed_beside}
 use Rattle.std.proofs.Common.{◌≡◌, ℕ, ◌+◌, ◌≤◌, ◌<◌, true, false, List, [], ◌∷◌, ◌++◌, length, inl, inr, refl, sym, ap, subst, ◌∙◌, arith, Option}
 use Rattle.std.proofs.lemmas.Option.{none-some}
 use Rattle.site.specs.declared.outside.Dev.TheVariants.{Log}
@@ -37,15 +45,14 @@ use Rattle.image_meaning.specs.Beside.{AreRingsSoundUnder, KeepsRingsAll}
 use Rattle.page_store.proofs.Rings.{all_front, sealing_keeps}
 use Rattle.redo_laws.specs.Running.{RunsOn}
 use Rattle.redo_laws.specs.Holding.{Represents}
-use Rattle.redo_laws.specs.Committing.{MayCommit, EndsWith, CommitLaws}
-use Rattle.redo_laws.specs.Laws.{LogLaws, PageLaws, BesideLaws}
+use Rattle.redo_laws.specs.Committing.{MayCommit, EndsWith}
 use Rattle.redo_laws.proofs.Standing.{more_blocks, stands_now, current_sound, last_of_all}
 use Rattle.redo_laws.proofs.Touched.{tail_blocks}
 use Rattle.redo_laws.proofs.Appended.{logged_more, versions_same, current_same, more_sealed}
 use Rattle.redo_laws.proofs.Changed.{off_page}
 
 -- A tail whose last record is a Commit is sealed.
-module _ (logs : LogLaws) (own : CommitLaws) (p : LogicalImage) (front : List LogRecord) (txn number lsn : ℕ) (records : List Entry) (table : List Content) (commits : ℕ) (runs : RunsOn p front records table commits) (next : lsn ≡ next_lsn p front)
+module _ (p : LogicalImage) (front : List LogRecord) (txn number lsn : ℕ) (records : List Entry) (table : List Content) (commits : ℕ) (runs : RunsOn p front records table commits) (next : lsn ≡ next_lsn p front)
     (follows : Follows p.master p.pages records (record { lsn = lsn; rec = Commit txn number })) (is : number ≡ commits + 1) where
   abbrev last : Entry
   last = record { lsn = lsn; rec = Commit txn number }
@@ -55,15 +62,15 @@ module _ (logs : LogLaws) (own : CommitLaws) (p : LogicalImage) (front : List Lo
 
   carries_commit : Carries p (front ++ Commit txn number ∷ [])
   carries_commit =
-      logs.carries_more p front (Commit txn number) runs.carries
+      carries_more p front (Commit txn number) runs.carries
       (subst (λ (l : List Entry). Follows p.master p.pages l last') (sym runs.records_are) (subst (λ (n : ℕ). Follows p.master p.pages records (record { lsn = n; rec = Commit txn number })) next follows))
 
   pub whole_commit : whole p (front ++ Commit txn number ∷ []) ≡ records ++ last ∷ []
-  whole_commit = logs.whole_more p front (Commit txn number) ∙ ap (λ (l : List Entry). l ++ last' ∷ []) runs.records_are ∙ ap (λ (n : ℕ). records ++ record { lsn = n; rec = Commit txn number } ∷ []) (sym next)
+  whole_commit = whole_more p front (Commit txn number) ∙ ap (λ (l : List Entry). l ++ last' ∷ []) runs.records_are ∙ ap (λ (n : ℕ). records ++ record { lsn = n; rec = Commit txn number } ∷ []) (sym next)
 
   numbers_are : commit_numbers (next_entries p (front ++ Commit txn number ∷ [])) ≡ number ∷ []
   numbers_are =
-      ap commit_numbers (logs.whole_more (record p { log = [] }) front (Commit txn number)) ∙ own.number (next_entries p front) last' number refl
+      ap commit_numbers (whole_more (record p { log = [] }) front (Commit txn number)) ∙ commits_more (next_entries p front) last' number refl
       ∙ ap (λ (l : List ℕ). l ++ number ∷ []) runs.no_commit
 
   pub commit_runs : AreBlock (front ++ Commit txn number ∷ []) → HasRoom (sealed p (front ++ Commit txn number ∷ [])) →
@@ -72,19 +79,19 @@ module _ (logs : LogLaws) (own : CommitLaws) (p : LogicalImage) (front : List Lo
       let tail : List LogRecord = front ++ Commit txn number ∷ [] in
       let count_is = runs.means.count_is in
       let expected : number ≡ commit_count p + 1 = omega (arith, is, count_is) in
-      let sound = logs.sealed_tail p tail carries_commit block room (inr (numbers_are ∙ ap (λ (n : ℕ). n ∷ []) expected)) in
+      let sound = sealed_tail p tail carries_commit block room (inr (numbers_are ∙ ap (λ (n : ℕ). n ∷ []) expected)) in
       record {
-        carries = logs.carries_nothing (sealed p tail) sound;
+        carries = carries_nothing (sealed p tail) sound;
         means = record {
-          table_is = (λ i. table_with (runs.means.table_is i) (writes_in txn (sym runs.records_are i))) ∙ sym (own.counts p front txn number carries_commit runs.no_commit);
-          count_is = let count = logs.sealed_count p tail carries_commit.sound block in let one : length (commit_numbers (next_entries p tail)) ≡ 1 = ap length numbers_are in omega (arith, count_is, count, one);
+          table_is = (λ i. table_with (runs.means.table_is i) (writes_in txn (sym runs.records_are i))) ∙ sym (tail_with_commit p front txn number carries_commit runs.no_commit);
+          count_is = let count = sealed_count p tail carries_commit.sound block in let one : length (commit_numbers (next_entries p tail)) ≡ 1 = ap length numbers_are in omega (arith, count_is, count, one);
         };
         no_commit = refl;
-        records_are = logs.whole_sealed p tail ∙ whole_commit;
+        records_are = whole_sealed p tail ∙ whole_commit;
       }
 
 -- Log and pages, with a Commit that may stand there last in the tail.
-module _ (logs : LogLaws) (laws : PageLaws) (beside : BesideLaws) (own : CommitLaws) (log : LogStore) (pages : PageStore) (site : State) (newest : Option Master) (records : List Entry) (table : List Content) (commits txn number lsn : ℕ)
+module _ (log : LogStore) (pages : PageStore) (site : State) (newest : Option Master) (records : List Entry) (table : List Content) (commits txn number lsn : ℕ)
     (m : EndsWith pages.flash.geometry log pages site newest records table commits (record { lsn = lsn; rec = Commit txn number })) (sizes : log.geometry ≡ pages.flash.geometry) (some : has_tail log ≡ true) (may : MayCommit newest records txn number commits) where
   abbrev g : Geometry
   g = pages.flash.geometry
@@ -105,28 +112,28 @@ module _ (logs : LogLaws) (laws : PageLaws) (beside : BesideLaws) (own : CommitL
   table' = table_with table (writes_in txn records)
 
   owed_less : owed records ≡ owed (records ++ record { lsn = lsn; rec = Commit txn number } ∷ []) + owed_by records txn
-  owed_less = own.owed records e refl may.begun.not_closed may.chain
+  owed_less = owed_closing records e refl may.begun.not_closed may.chain
 
   follows : Follows (master_of newest) (versions_on g site.image) records (record { lsn = lsn; rec = Commit txn number })
-  follows = own.follows (master_of newest) (versions_on g site.image) records lsn txn number may.begun
+  follows = commit_follows (master_of newest) (versions_on g site.image) records lsn txn number may.begun
 
   hi_here : log.ring.hi ≡ next_block_under newest m.blocks
-  hi_here = let hi = m.ready.blocks.hi in let next = m.ready.records.blocks.next in let at = laws.next newest m.blocks in omega (arith, hi, next, at)
+  hi_here = let hi = m.ready.blocks.hi in let next = m.ready.records.blocks.next in let at = next_block_is newest m.blocks in omega (arith, hi, next, at)
 
   room_here : HasRoom (sealed (logical_image_under newest g site.image m.blocks) (m.front ++ Commit txn number ∷ []))
   room_here =
       let all : owed (whole (logical_image_under newest g site.image m.blocks) (m.front ++ Commit txn number ∷ [])) ≡ owed (records ++ record { lsn = lsn; rec = Commit txn number } ∷ []) =
-      ap owed (whole_commit logs own (logical_image_under newest g site.image m.blocks) m.front txn number lsn records table commits m.runs_on m.next follows may.number_is) in
-      omega (arith, m.room, ap tail_blocks some, hi_here, all, owed_less, m.kept, laws.next newest m.blocks)
+      ap owed (whole_commit (logical_image_under newest g site.image m.blocks) m.front txn number lsn records table commits m.runs_on m.next follows may.number_is) in
+      omega (arith, m.room, ap tail_blocks some, hi_here, all, owed_less, m.kept, next_block_is newest m.blocks)
 
   runs_after : AreBlock (m.front ++ Commit txn number ∷ []) → RunsOn (logical_image_under newest g site.image (m.blocks ++ (m.front ++ Commit txn number ∷ []) ∷ [])) [] (records ++ record { lsn = lsn; rec = Commit txn number } ∷ []) (table_with table (writes_in txn records)) (commits + 1)
   runs_after block =
-      subst (λ (q : LogicalImage). RunsOn q [] (records ++ e ∷ []) table' (commits + 1)) (more_blocks logs laws newest g site.image m.blocks tail)
-      (commit_runs logs own (logical_image_under newest g site.image m.blocks) m.front txn number lsn records table commits m.runs_on m.next follows may.number_is block room_here)
+      subst (λ (q : LogicalImage). RunsOn q [] (records ++ e ∷ []) table' (commits + 1)) (more_blocks newest g site.image m.blocks tail)
+      (commit_runs (logical_image_under newest g site.image m.blocks) m.front txn number lsn records table commits m.runs_on m.next follows may.number_is block room_here)
 
   shows_after : (number' : ℕ) → number' < g.pages → ShowsAll (records ++ record { lsn = lsn; rec = Commit txn number } ∷ []) (versions_on g site.image) number' (version_in (current pages site.image number'))
   shows_after number' exists =
-      off_page logs records e (versions_on g site.image) number' (version_in (current pages site.image number')) (λ n none here. none-some n none) (m.shows.each number' exists)
+      off_page records e (versions_on g site.image) number' (version_in (current pages site.image number')) (λ n none here. none-some n none) (m.shows.each number' exists)
 
   -- What a crash leaves while it is sealed.
   module _ (new : State) (quiet : IsQuiet site) (changes : ChangesOnly Log site new) (leaves : LeavesOnly site new (LeavesLog log.geometry (has_tail log) list site.told)) (front : LeavesFront log.geometry (changes_if (has_tail log) list) site new) where
@@ -142,12 +149,12 @@ module _ (logs : LogLaws) (laws : PageLaws) (beside : BesideLaws) (own : CommitL
     pub rings_forced : LeavesOnly site new (LeavesRings newest g)
     rings_forced =
         leaves_weaker site new (IsReached g (IsFrontOf (changes_if (has_tail log) list)) site) (LeavesRings newest g)
-        (λ s is. beside.rings newest g is.changes site.image s.image m.rings (all_front g site.image is.changes is.made.0 (subst (KeepsRingsAll g site.image) is.made.1 (sealing_keeps g site.image (has_tail log) list))) is.reaches)
+        (λ s is. rings_kept newest g is.changes site.image s.image m.rings (all_front g site.image is.changes is.made.0 (subst (KeepsRingsAll g site.image) is.made.1 (sealing_keeps g site.image (has_tail log) list))) is.reaches)
         at_front
 
     pub sealed_forced : LeavesOnly site new (LeavesSealed g)
     sealed_forced =
-        beside.are_sealed g (has_tail log) list site new quiet (subst (λ (k : Geometry). HasBlocks k (kept_by newest) m.blocks site.image) sizes m.ready.records.blocks) m.ahead.versions changes at_log
+        sealed_beside g (has_tail log) list site new quiet (subst (λ (k : Geometry). HasBlocks k (kept_by newest) m.blocks site.image) sizes m.ready.records.blocks) m.ahead.versions changes at_log
 
     sound_given : IsStore pages → (number' : ℕ) → number' < g.pages → page.IsSound (current pages site.image number')
     sound_given store number' exists = current_sound pages site.image number' store (m.ready.pages.sound number' exists)
@@ -157,9 +164,9 @@ module _ (logs : LogLaws) (laws : PageLaws) (beside : BesideLaws) (own : CommitL
     at_snapshot store s leaves are_sealed rings = record {
       told = leaves.log.told;
       stands = elim leaves.log.blocks [
-        | inl has ↦ inl (stands_now logs laws g site.image s.image (current pages site.image) m.blocks m.front newest records table commits m.runs_on m.shows.each has are_sealed leaves.versions
+        | inl has ↦ inl (stands_now g site.image s.image (current pages site.image) m.blocks m.front newest records table commits m.runs_on m.shows.each has are_sealed leaves.versions
             rings leaves.clean m.ready.pages.sound (sound_given store))
-        | inr has ↦ inr (stands_now logs laws g site.image s.image (current pages site.image) more [] newest (records ++ e ∷ []) table' (commits + 1) (runs_after (last_of_all AreBlock m.blocks tail has.1.are_blocks)) shows_after has.1
+        | inr has ↦ inr (stands_now g site.image s.image (current pages site.image) more [] newest (records ++ e ∷ []) table' (commits + 1) (runs_after (last_of_all AreBlock m.blocks tail has.1.are_blocks)) shows_after has.1
             are_sealed leaves.versions rings leaves.clean m.ready.pages.sound (sound_given store))
       ];
     }
@@ -168,23 +175,23 @@ module _ (logs : LogLaws) (laws : PageLaws) (beside : BesideLaws) (own : CommitL
     leaves_either store =
         each_weaker site new (λ q. Leaves (LeavesPages g (current pages site.image) (has_tail log) list site) q × (Leaves (LeavesSealed g) q × Leaves (LeavesRings newest g) q)) (Leaves (LeavesEitherUnder newest g table table' commits site.told))
         (λ q all s left. at_snapshot store s (all.0 s left) (all.1.0 s left) (all.1.1 s left))
-        (each_both site new _ _ (beside.leaves g (has_tail log) list (current pages site.image) site new quiet queue_is m.ready.pages.clean changes at_log at_front) (each_both site new _ _ sealed_forced rings_forced))
+        (each_both site new _ _ ((leaves_beside ring_kept) g (has_tail log) list (current pages site.image) site new quiet queue_is m.ready.pages.clean changes at_log at_front) (each_both site new _ _ sealed_forced rings_forced))
 
   -- What stands once it is sealed.
   pub rings_then : (new : State) → Reaches log.geometry (changes_if (has_tail log) list) site.image new.image → AreRingsSoundUnder newest g new.image
   rings_then new reaches =
-      beside.rings newest g (changes_if (has_tail log) list) site.image new.image m.rings (sealing_keeps g site.image (has_tail log) list)
+      rings_kept newest g (changes_if (has_tail log) list) site.image new.image m.rings (sealing_keeps g site.image (has_tail log) list)
       (subst (λ (k : Geometry). Reaches k (changes_if (has_tail log) list) site.image new.image) sizes reaches)
 
   pub sealed_then : (log' : LogStore) (new : State) → ChangesOnly Log site new → log'.geometry ≡ log.geometry → log_store.Finds log' new → log.ring.hi ≤ log'.ring.hi → AreSealed g new.image
-  sealed_then log' new changes same finds more = more_sealed beside pages site new changes log log' sizes same m.ready.blocks finds more m.ahead.versions
+  sealed_then log' new changes same finds more = more_sealed pages site new changes log log' sizes same m.ready.blocks finds more m.ahead.versions
 
   pub commit_holds : (log' : LogStore) (new : State) → ChangesOnly Log site new → Preserves site new → AreRingsSoundUnder newest g new.image → AreSealed g new.image → log_store.Finds log' new →
       log_store.Represents log' new.image (sealed_if true list) → log'.ring.hi ≡ log.ring.hi + 1 → log'.kept ≡ log.kept → log'.used ≡ 2 → log.used ≤ block_len → has_tail log' ≡ false →
       Represents log' pages new newest (records ++ record { lsn = lsn; rec = Commit txn number } ∷ []) (table_with table (writes_in txn records)) (commits + 1)
   commit_holds log' new changes goes rings are_sealed finds holds next same_kept empty high none =
-      let same = versions_same beside pages site new changes in
-      let stays = current_same beside pages site new changes in
+      let same = versions_same pages site new changes in
+      let stays = current_same pages site new changes in
       let one = ap tail_blocks some in
       let no_tail = ap tail_blocks none in
       let forced : end_forced log ≤ end_forced log' = omega (arith, one, no_tail, next) in
@@ -193,7 +200,7 @@ module _ (logs : LogLaws) (laws : PageLaws) (beside : BesideLaws) (own : CommitL
           kept = same_kept ∙ m.kept;
           blocks = more;
           tail = [];
-          ready = record { pages = beside.fits pages site new changes goes m.ready.pages; blocks = finds; records = holds };
+          ready = record { pages = fits_beside pages site new changes goes m.ready.pages; blocks = finds; records = holds };
           rings = rings;
           runs_on = subst (λ (versions : List Version). RunsOn (record { master = (master_of newest); log = log_from (kept_by newest) more; hi = next_block_under newest more; blocks = g.blocks; pages = versions }) [] (records ++ e ∷ []) table' (commits + 1)) (sym same)
               (runs_after (last_of_all AreBlock m.blocks tail holds.blocks.are_blocks));

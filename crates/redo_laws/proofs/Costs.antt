@@ -1,9 +1,11 @@
 -- What work costs the cache: the groups that it appends, and the pages that it reads.
-use Rattle.std.proofs.Common.{◌≡◌, ℕ, ◌+◌, ◌≤◌, Bool, true, false, ◌&&◌, List, [], ◌∷◌, ◌++◌, reverse, arith, refl, sym, append_assoc, ap, ◌∙◌}
+use Rattle.std.proofs.Common.{◌≡◌, ◌==◌, ℕ, ◌+◌, ◌≤◌, Bool, true, false, ◌&&◌, List, [], ◌∷◌, ◌++◌, reverse, arith, refl, sym, append_assoc, ap, ◌∙◌}
 use Rattle.std.specs.Prelude.{if◌then◌else◌}
 use Rattle.second_chance.proofs.GroupCounts.{front_next}
 use Rattle.record_model.specs.Touches.{CacheOp, touch, flush}
-use Rattle.second_chance.specs.Machine.{Rules, Cache, evict_coldest, lacks_room, with_room, touched, apply_op, after_works, Staged, staged_by, staged_by_works}
+use Rattle.std_lemmas.proofs.Bools.{or_true}
+use Rattle.page_store.specs.Laws.{TouchThenChange}
+use Rattle.second_chance.specs.Machine.{Rules, Cache, is_changed, without, evict_coldest, lacks_room, with_room, touched, apply_op, after_works, Staged, staged_by, staged_by_works}
 use Rattle.page_store.specs.Caching.{is_pushed, pushes}
 use Rattle.redo_laws.specs.MachineSteps.{next_group, finds_in, misses_in, OpsCompose, ReadsAddUp, ReadsForMore, NumbersRise}
 use Rattle.page_store.proofs.Numbers.{first_next, flushed_next}
@@ -35,6 +37,12 @@ reads_add_up rules first later cache old mid new one two =
       flash = omega (arith, one.flash, two.flash, all, finds_add_up rules first later cache);
       disk = omega (arith, one.disk, two.disk, misses_add_up rules first later cache);
     }
+
+-- a touch that is to change the page is one without, and then the change
+pub touch_then_change : TouchThenChange
+touch_then_change rules page cache =
+    let c = with_room rules page cache in
+    ap (λ (b : Bool). record { pool = record { page = page; changed = b } ∷ without (λ other. other == page) c.pool; queue = (touched rules page true cache).queue }) (or_true (is_changed c.pool page))
 
 -- The numbers of groups.
 

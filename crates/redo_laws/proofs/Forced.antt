@@ -1,4 +1,5 @@
 -- The tail is sealed beside the pages.
+use Rattle.page_store.proofs.Beside.{fits_beside}
 use Rattle.std.proofs.Common.{◌≡◌, ℕ, ◌+◌, ◌≤◌, ◌<◌, Bool, true, false, List, [], ◌∷◌, ◌++◌, true≢false, sym, ap, subst, ◌∙◌, arith, nat_lt, inl, inr}
 use Rattle.std.specs.Prelude.{Some, if◌then◌else◌, Result, Ok, Err, OnOk, IfErr, IsErrOf, ◌≢◌, ◌⊎◌, Option}
 use Rattle.std.specs.List.{AllByRecursion}
@@ -28,7 +29,6 @@ use Rattle.checkpoint.specs.declared.master.Master.{Master}
 use Rattle.image_meaning.specs.Meaning.{versions_on, version_in, kept_by}
 use Rattle.image_meaning.specs.Redone.{ShowsAll}
 use Rattle.redo_laws.specs.Holding.{Represents, blocks_to}
-use Rattle.redo_laws.specs.Laws.{LogLaws, PageLaws, BesideLaws}
 use Rattle.redo_laws.proofs.Standing.{last_of_all}
 use Rattle.redo_laws.proofs.Touched.{tail_blocks, runs_sealed}
 use Rattle.redo_laws.proofs.Appended.{logged_more, versions_same, current_same, moved, rings_now, sealed_now}
@@ -59,7 +59,7 @@ same_blocks log log' some next empty =
     let none : (if has_tail log' then 1 else 0) ≡ 0 = ap tail_blocks (none_now log' empty) in
     omega (arith, hi_after (has_tail log) log.ring.hi log'.ring.hi some next, one, none)
 
-module _ (logs : LogLaws) (laws : PageLaws) (beside : BesideLaws) (log : LogStore) (pages : PageStore) (site : State) (newest : Option Master) (records : List Entry) (table : List Content) (commits : ℕ) (h : Represents log pages site newest records table commits)
+module _ (log : LogStore) (pages : PageStore) (site : State) (newest : Option Master) (records : List Entry) (table : List Content) (commits : ℕ) (h : Represents log pages site newest records table commits)
     (sizes : log.geometry ≡ pages.flash.geometry) (log' : LogStore) (new : State) (some : has_tail log ≡ true) (high : log.used ≤ block_len)
     (is : IsForced log log' (record { first = kept_by newest; blocks = h.log_holds.blocks; tail = h.log_holds.tail }) site new) where
   abbrev more : List (List LogRecord)
@@ -76,20 +76,20 @@ module _ (logs : LogLaws) (laws : PageLaws) (beside : BesideLaws) (log : LogStor
 
   pub forced_holds : Represents log' pages new newest records table commits
   forced_holds =
-      let same = versions_same beside pages site new is.changes in
-      let stays = current_same beside pages site new is.changes in
+      let same = versions_same pages site new is.changes in
+      let stays = current_same pages site new is.changes in
       record {
         log_holds = record {
           kept = is.kept ∙ h.log_holds.kept;
           blocks = more;
           tail = [];
-          ready = record { pages = beside.fits pages site new is.changes is.preserves h.log_holds.ready.pages; blocks = is.finds; records = held };
-          rings = rings_now logs laws beside log pages site newest records table commits h sizes new (has_tail log) is.reaches;
-          runs_on = moved logs laws beside log pages site newest records table commits h sizes new is.changes more [] records
-              (runs_sealed logs laws log pages site newest records table commits h some (last_of_all AreBlock h.log_holds.blocks h.log_holds.tail held.blocks.are_blocks));
+          ready = record { pages = fits_beside pages site new is.changes is.preserves h.log_holds.ready.pages; blocks = is.finds; records = held };
+          rings = rings_now log pages site newest records table commits h sizes new (has_tail log) is.reaches;
+          runs_on = moved log pages site newest records table commits h sizes new is.changes more [] records
+              (runs_sealed log pages site newest records table commits h some (last_of_all AreBlock h.log_holds.blocks h.log_holds.tail held.blocks.are_blocks));
           ahead = record {
             pool = logged_more (end_forced log) (end_forced log') (let all = blocks_are in omega (arith, all)) pages.pool.frames h.log_holds.ahead.pool;
-            versions = sealed_now logs laws beside log pages site newest records table commits h sizes new (has_tail log) log' is.changes is.geometry is.finds (let next = hi_is in omega (arith, next));
+            versions = sealed_now log pages site newest records table commits h sizes new (has_tail log) log' is.changes is.geometry is.finds (let next = hi_is in omega (arith, next));
           };
           room = let room = h.log_holds.room in let all = blocks_are in let kept = is.kept in omega (arith, room, all, kept);
         };

@@ -1,4 +1,5 @@
 -- The numbers of the rings in what a call has left.
+use Rattle.image_changes.proofs.Sequence.{ring_kept}
 use Rattle.std.proofs.Common.{◌≡◌, inl, inr, ◌+◌, ◌*◌, ◌≤◌, Bool, true, false, List, [], ◌∷◌, ◌++◌, length, refl, ap, subst, arith, ℕ}
 use Rattle.std.specs.Prelude.{Result, Ok, Err, OnOk, Some, ◌≢◌, if◌then◌else◌}
 use Rattle.std.specs.List.{AllByRecursion}
@@ -14,7 +15,6 @@ use Rattle.sealed_ring.specs.Ring.{hi_of, Units}
 use Rattle.image_changes.specs.Rings.{Masters, Blocks, log_shape, master_shape, KeepsUnits}
 use Rattle.image_changes.specs.Changes.{Change, AppendsMaster, Reaches, ring_of}
 use Rattle.image_changes.specs.Reached.{IsReached, IsFrontOf, LeavesFront}
-use Rattle.image_changes.specs.Laws.{RingKept}
 use Rattle.image_changes.specs.Costs.{CallsForUnits}
 use Rattle.image_changes.proofs.Counting.{calls_quiet, paid, cost_reached}
 use Rattle.log_store.specs.declared.store.LogStore.{LogStore}
@@ -87,9 +87,9 @@ pages_skip r g given log log' list sealing site new hi some leaves end calls = r
 }
 
 -- a call on the log
-pub log_skips : RingKept → {T : Type 0} (r : Result T Stop) (g : Geometry) (log log' : LogStore) (list : LogList) (sealing : Bool) (site new : State) (n : ℕ) → log.ring.hi ≡ list.first + length list.blocks → (sealing ≡ true → has_tail log ≡ true)
+pub log_skips : {T : Type 0} (r : Result T Stop) (g : Geometry) (log log' : LogStore) (list : LogList) (sealing : Bool) (site new : State) (n : ℕ) → log.ring.hi ≡ list.first + length list.blocks → (sealing ≡ true → has_tail log ≡ true)
     → LeavesOnly site new (LeavesLog g sealing list site.told) → LeavesFront g (changes_if sealing list) site new → OnOk r (blocks_to log' ≤ blocks_to log + n) → OnOk r (CallsForUnits g site new) → SkipsNone r g log log' site new n 0
-log_skips kept r g log log' list sealing site new n hi some leaves front count calls = record {
+log_skips r g log log' list sealing site new n hi some leaves front count calls = record {
   log = count;
   any_moment = each_weaker site new (λ m. Leaves (LeavesLog g sealing list site.told) m × Leaves (IsReached g (IsFrontOf (changes_if sealing list)) site) m)
       (Leaves (λ s. HasNumbers g (blocks_to log + n) (hi_of master_shape site.image.log + 0) s.image))
@@ -102,7 +102,7 @@ log_skips kept r g log log' list sealing site new n hi some leaves front count c
     masters_kept s is =
         let others : AllByRecursion (λ change. ring_of change ≢ Some Masters) is.changes =
         all_left (λ change. ring_of change ≢ Some Masters) is.changes is.made.0 (subst (AllByRecursion (λ change. ring_of change ≢ Some Masters)) is.made.1 (seals_only sealing list)) in
-        kept g Masters is.changes site.image s.image others is.reaches
+        ring_kept g Masters is.changes site.image s.image others is.reaches
 
 -- a tail that is sealed was counted before
 pub same_at_most : (log log' : LogStore) → has_tail log ≡ true → log'.ring.hi ≡ (if has_tail log then log.ring.hi + 1 else log.ring.hi) → log'.used ≡ 2 → blocks_to log' ≤ blocks_to log + 0

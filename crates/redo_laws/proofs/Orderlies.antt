@@ -1,4 +1,4 @@
--- A log that goes on stays orderly.
+-- A log that goes on whole_stays_orderly orderly.
 use Rattle.std.proofs.Common.{◌≡◌, ℕ, List, [], ◌∷◌, ◌++◌, Option, sym, ap, subst, ◌∙◌}
 use Rattle.site.specs.declared.geometry.Geometry.{Geometry}
 use Rattle.site.specs.State.{State}
@@ -6,33 +6,31 @@ use Rattle.record_model.specs.State.{Content}
 use Rattle.log_records.specs.declared.log_record.LogRecord.{LogRecord}
 use Rattle.log_records.specs.Log.{Entry, Version}
 use Rattle.log_records.specs.Sound.{LogicalImage, IsOrderly, AreOrderly}
-use Rattle.log_laws.proofs.Tails.{InTurn-left}
+use Rattle.log_laws.proofs.Tails.{InTurn-left, carries_more, whole_more, whole_stays_orderly}
 use Rattle.log_laws.specs.Follow.{Follows, next_entries}
 use Rattle.log_laws.specs.Tail.{Carries, whole, next_lsn}
-use Rattle.log_laws.specs.TailLaws.{WholeStaysOrderly}
 use Rattle.log_store.specs.declared.store.LogStore.{LogStore}
 use Rattle.page_store.specs.declared.store.PageStore.{PageStore}
 use Rattle.checkpoint.specs.declared.master.Master.{Master}
 use Rattle.image_meaning.specs.Meaning.{logical_image_under, master_of, versions_on}
 use Rattle.redo_laws.specs.Running.{RunsOn}
 use Rattle.redo_laws.specs.Committing.{EndsWith}
-use Rattle.redo_laws.specs.Laws.{LogLaws}
 
 -- the sealed records of an orderly log are orderly
 pub sealed_orderly : (p : LogicalImage) (tail : List LogRecord) (records : List Entry) (table : List Content) (commits : ℕ) → RunsOn p tail records table commits → AreOrderly records → AreOrderly p.log
 sealed_orderly p tail records table commits runs orderly = InTurn-left IsOrderly [] p.log (next_entries p tail) (subst AreOrderly (sym runs.records_are) orderly)
 
 -- a record that follows an orderly log, and comes last in it, keeps it orderly
-pub ends_orderly : LogLaws → WholeStaysOrderly → (g : Geometry) (log : LogStore) (pages : PageStore) (site : State) (newest : Option Master) (records : List Entry) (table : List Content) (commits : ℕ) (rec : LogRecord) (lsn : ℕ) (versions : List Version) →
+pub ends_orderly : (g : Geometry) (log : LogStore) (pages : PageStore) (site : State) (newest : Option Master) (records : List Entry) (table : List Content) (commits : ℕ) (rec : LogRecord) (lsn : ℕ) (versions : List Version) →
     EndsWith g log pages site newest records table commits (record { lsn = lsn; rec = rec }) → versions_on g site.image ≡ versions → Follows (master_of newest) versions records (record { lsn = lsn; rec = rec }) →
     AreOrderly records → AreOrderly (records ++ record { lsn = lsn; rec = rec } ∷ [])
-ends_orderly logs stays g log pages site newest records table commits rec lsn versions m same follows orderly =
+ends_orderly g log pages site newest records table commits rec lsn versions m same follows orderly =
     let p = logical_image_under newest g site.image m.blocks in
     let e : Entry = record { lsn = next_lsn p m.front; rec = rec } in
     let at : Follows (master_of newest) (versions_on g site.image) records e =
     subst (λ (v : List Version). Follows (master_of newest) v records e) (sym same) (subst (λ (n : ℕ). Follows (master_of newest) versions records (record { lsn = n; rec = rec })) m.next follows) in
     let carries : Carries p (m.front ++ rec ∷ []) =
-    logs.carries_more p m.front rec m.runs_on.carries (subst (λ (l : List Entry). Follows p.master p.pages l e) (sym m.runs_on.records_are) at) in
+    carries_more p m.front rec m.runs_on.carries (subst (λ (l : List Entry). Follows p.master p.pages l e) (sym m.runs_on.records_are) at) in
     let are : whole p (m.front ++ rec ∷ []) ≡ records ++ record { lsn = lsn; rec = rec } ∷ [] =
-    logs.whole_more p m.front rec ∙ ap (λ (l : List Entry). l ++ e ∷ []) m.runs_on.records_are ∙ ap (λ (n : ℕ). records ++ record { lsn = n; rec = rec } ∷ []) (sym m.next) in
-    subst AreOrderly are (stays p (m.front ++ rec ∷ []) carries (sealed_orderly p m.front records table commits m.runs_on orderly))
+    whole_more p m.front rec ∙ ap (λ (l : List Entry). l ++ e ∷ []) m.runs_on.records_are ∙ ap (λ (n : ℕ). records ++ record { lsn = n; rec = rec } ∷ []) (sym m.next) in
+    subst AreOrderly are (whole_stays_orderly p (m.front ++ rec ∷ []) carries (sealed_orderly p m.front records table commits m.runs_on orderly))

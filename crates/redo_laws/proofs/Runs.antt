@@ -1,4 +1,9 @@
 -- The log as a list goes on, and the pages have other versions.
+use Rattle.image_meaning.proofs.Behind.{carries_still, shown_stays}
+use Rattle.image_meaning.proofs.OtherVersions.{versions_mean}
+use Rattle.image_meaning.proofs.Versions.{length-versions}
+use Rattle.log_laws.proofs.Seals.{sealed_count}
+use Rattle.log_laws.proofs.Tails.{carries_more, carries_nothing, commits_stay, sealed_tail, tail_without_commit, whole_more, whole_sealed}
 use Rattle.std.proofs.Common.{◌≡◌, ℕ, ◌+◌, ◌*◌, ◌<◌, List, [], ◌∷◌, ◌++◌, length, None, inl, refl, sym, ap, subst, ◌∙◌, arith, Option}
 use Rattle.site.specs.declared.geometry.Geometry.{Geometry}
 use Rattle.site.specs.State.{Image}
@@ -14,61 +19,58 @@ use Rattle.image_meaning.specs.Meaning.{logical_image_under, versions_on}
 use Rattle.image_meaning.specs.Redone.{ShowsAll}
 use Rattle.image_meaning.specs.LogicalImages.{ReplaceAll}
 use Rattle.redo_laws.specs.Running.{RunsOn}
-use Rattle.redo_laws.specs.Laws.{LogLaws, PageLaws}
 
-module _ (laws : LogLaws) where
-  -- the tail is sealed, and a new one begins
-  pub resealed : (p : LogicalImage) (tail : List LogRecord) (records : List Entry) (table : List Content) (commits : ℕ) → RunsOn p tail records table commits → AreBlock tail → HasRoom (sealed p tail) → RunsOn (sealed p tail) [] records table commits
-  resealed p tail records table commits runs block room =
-      record {
-        carries = laws.carries_nothing (sealed p tail) (laws.sealed_tail p tail runs.carries block room (inl runs.no_commit));
-        means = record {
-          table_is = runs.means.table_is ∙ sym (laws.tail_without_commit p tail runs.carries runs.no_commit);
-          count_is = let is = runs.means.count_is in let count = laws.sealed_count p tail runs.carries.sound block in let no : length (commit_numbers (next_entries p tail)) ≡ 0 = ap length runs.no_commit in omega (arith, is, count, no);
-        };
-        no_commit = refl;
-        records_are = laws.whole_sealed p tail ∙ runs.records_are;
-      }
+-- the tail is sealed, and a new one begins
+pub resealed : (p : LogicalImage) (tail : List LogRecord) (records : List Entry) (table : List Content) (commits : ℕ) → RunsOn p tail records table commits → AreBlock tail → HasRoom (sealed p tail) → RunsOn (sealed p tail) [] records table commits
+resealed p tail records table commits runs block room =
+    record {
+      carries = carries_nothing (sealed p tail) (sealed_tail p tail runs.carries block room (inl runs.no_commit));
+      means = record {
+        table_is = runs.means.table_is ∙ sym (tail_without_commit p tail runs.carries runs.no_commit);
+        count_is = let is = runs.means.count_is in let count = sealed_count p tail runs.carries.sound block in let no : length (commit_numbers (next_entries p tail)) ≡ 0 = ap length runs.no_commit in omega (arith, is, count, no);
+      };
+      no_commit = refl;
+      records_are = whole_sealed p tail ∙ runs.records_are;
+    }
 
-  -- one more record follows
-  pub one_more : (p : LogicalImage) (tail : List LogRecord) (rec : LogRecord) (lsn : ℕ) (records : List Entry) (table : List Content) (commits : ℕ) → RunsOn p tail records table commits → lsn ≡ next_lsn p tail →
-      Follows p.master p.pages records (record { lsn = lsn; rec = rec }) → commit_number (record { lsn = lsn; rec = rec }) ≡ None →
-      RunsOn p (tail ++ rec ∷ []) (records ++ record { lsn = lsn; rec = rec } ∷ []) table commits
-  one_more p tail rec lsn records table commits runs is follows none =
-      let e : Entry = record { lsn = next_lsn p tail; rec = rec } in
-      let at : Follows p.master p.pages (whole p tail) e =
-      subst (λ (l : List Entry). Follows p.master p.pages l e) (sym runs.records_are) (subst (λ (n : ℕ). Follows p.master p.pages records (record { lsn = n; rec = rec })) is follows) in
-      let more : whole p (tail ++ rec ∷ []) ≡ whole p tail ++ e ∷ [] = laws.whole_more p tail rec in
-      record {
-        carries = laws.carries_more p tail rec runs.carries at;
-        means = runs.means;
-        no_commit = ap commit_numbers (laws.whole_more (record p { log = [] }) tail rec) ∙ laws.commits_stay (next_entries p tail) e none ∙ runs.no_commit;
-        records_are = more ∙ ap (λ (l : List Entry). l ++ e ∷ []) runs.records_are ∙ ap (λ (n : ℕ). records ++ record { lsn = n; rec = rec } ∷ []) (sym is);
-      }
+-- one more record follows
+pub one_more : (p : LogicalImage) (tail : List LogRecord) (rec : LogRecord) (lsn : ℕ) (records : List Entry) (table : List Content) (commits : ℕ) → RunsOn p tail records table commits → lsn ≡ next_lsn p tail →
+    Follows p.master p.pages records (record { lsn = lsn; rec = rec }) → commit_number (record { lsn = lsn; rec = rec }) ≡ None →
+    RunsOn p (tail ++ rec ∷ []) (records ++ record { lsn = lsn; rec = rec } ∷ []) table commits
+one_more p tail rec lsn records table commits runs is follows none =
+    let e : Entry = record { lsn = next_lsn p tail; rec = rec } in
+    let at : Follows p.master p.pages (whole p tail) e =
+    subst (λ (l : List Entry). Follows p.master p.pages l e) (sym runs.records_are) (subst (λ (n : ℕ). Follows p.master p.pages records (record { lsn = n; rec = rec })) is follows) in
+    let more : whole p (tail ++ rec ∷ []) ≡ whole p tail ++ e ∷ [] = whole_more p tail rec in
+    record {
+      carries = carries_more p tail rec runs.carries at;
+      means = runs.means;
+      no_commit = ap commit_numbers (whole_more (record p { log = [] }) tail rec) ∙ commits_stay (next_entries p tail) e none ∙ runs.no_commit;
+      records_are = more ∙ ap (λ (l : List Entry). l ++ e ∷ []) runs.records_are ∙ ap (λ (n : ℕ). records ++ record { lsn = n; rec = rec } ∷ []) (sym is);
+    }
 
-module _ (laws : PageLaws) where
-  -- other versions
-  pub reversioned : (g : Geometry) (old new : Image) (blocks : List (List LogRecord)) (tail : List LogRecord) (newest : Option Master) (records : List Entry) (table : List Content) (commits : ℕ) →
-      ReplaceAll (logical_image_under newest g old blocks) (versions_on g new) → RunsOn (logical_image_under newest g old blocks) tail records table commits → RunsOn (logical_image_under newest g new blocks) tail records table commits
-  reversioned g old new blocks tail newest records table commits replace runs =
-      let p = logical_image_under newest g old blocks in
-      record {
-        carries = laws.carries_still p (versions_on g new) tail replace runs.carries;
-        means = laws.versions_mean p (versions_on g new) runs.carries.sound replace table commits runs.means;
-        no_commit = runs.no_commit;
-        records_are = runs.records_are;
-      }
+-- other versions
+pub reversioned : (g : Geometry) (old new : Image) (blocks : List (List LogRecord)) (tail : List LogRecord) (newest : Option Master) (records : List Entry) (table : List Content) (commits : ℕ) →
+    ReplaceAll (logical_image_under newest g old blocks) (versions_on g new) → RunsOn (logical_image_under newest g old blocks) tail records table commits → RunsOn (logical_image_under newest g new blocks) tail records table commits
+reversioned g old new blocks tail newest records table commits replace runs =
+    let p = logical_image_under newest g old blocks in
+    record {
+      carries = carries_still p (versions_on g new) tail replace runs.carries;
+      means = versions_mean p (versions_on g new) runs.carries.sound replace table commits runs.means;
+      no_commit = runs.no_commit;
+      records_are = runs.records_are;
+    }
 
-  -- and pages that show all records show them still
-  pub shows_still : (g : Geometry) (old new : Image) (blocks : List (List LogRecord)) (tail : List LogRecord) (newest : Option Master) (records : List Entry) (table : List Content) (commits : ℕ) (page : ℕ) (v : Version) →
-      ReplaceAll (logical_image_under newest g old blocks) (versions_on g new) → RunsOn (logical_image_under newest g old blocks) tail records table commits → page < g.pages →
-      ShowsAll records (versions_on g old) page v → ShowsAll records (versions_on g new) page v
-  shows_still g old new blocks tail newest records table commits page v replace runs exists shows =
-      let p = logical_image_under newest g old blocks in
-      record {
-        known = shows.known;
-        slots = λ slot less.
-            shows.slots slot less
-            ∙ sym (subst (λ (l : List Entry). shown l (versions_on g new) (32 * page + slot) ≡ shown l (versions_on g old) (32 * page + slot)) runs.records_are
-            (laws.shown_stays p (versions_on g new) (next_entries p tail) (32 * page + slot) replace (omega (arith, exists, less, laws.count g old))));
-      }
+-- and pages that show all records show them still
+pub shows_still : (g : Geometry) (old new : Image) (blocks : List (List LogRecord)) (tail : List LogRecord) (newest : Option Master) (records : List Entry) (table : List Content) (commits : ℕ) (page : ℕ) (v : Version) →
+    ReplaceAll (logical_image_under newest g old blocks) (versions_on g new) → RunsOn (logical_image_under newest g old blocks) tail records table commits → page < g.pages →
+    ShowsAll records (versions_on g old) page v → ShowsAll records (versions_on g new) page v
+shows_still g old new blocks tail newest records table commits page v replace runs exists shows =
+    let p = logical_image_under newest g old blocks in
+    record {
+      known = shows.known;
+      slots = λ slot less.
+          shows.slots slot less
+          ∙ sym (subst (λ (l : List Entry). shown l (versions_on g new) (32 * page + slot) ≡ shown l (versions_on g old) (32 * page + slot)) runs.records_are
+          (shown_stays p (versions_on g new) (next_entries p tail) (32 * page + slot) replace (omega (arith, exists, less, length-versions g old))));
+    }

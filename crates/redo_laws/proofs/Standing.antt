@@ -1,4 +1,10 @@
 -- What a crash leaves of log and pages that hold together.
+use Rattle.image_meaning.proofs.Behind.{sealed_page_replaces}
+use Rattle.image_meaning.proofs.OtherVersions.{version_replaces_itself}
+use Rattle.image_meaning.proofs.Replacing.{replace_all}
+use Rattle.image_meaning.proofs.Seals.{blocks_sealed}
+use Rattle.image_meaning.proofs.UnchangedImages.{next_block_is}
+use Rattle.image_meaning.proofs.Versions.{length-versions, version_is}
 use Rattle.std.proofs.Common.{◌≡◌, ◌⊎◌, inl, inr, ℕ, zero, suc, ◌+◌, ◌*◌, ◌<◌, ◌==◌, ◌||◌, cond, Bool, true, false, List, [], ◌∷◌, ◌++◌, Option, None, Some, IsTrue, refl, sym, ap, subst, ◌∙◌, arith}
 use Rattle.std.specs.Prelude.{nat_lt}
 use Rattle.std.specs.List.{AllByRecursion}
@@ -30,7 +36,6 @@ use Rattle.image_meaning.specs.Redone.{ShowsAll}
 use Rattle.image_meaning.specs.LogicalImages.{ReplaceAll}
 use Rattle.image_meaning.specs.Beside.{AreRingsSoundUnder}
 use Rattle.redo_laws.specs.Running.{RunsOn}
-use Rattle.redo_laws.specs.Laws.{LogLaws, PageLaws}
 use Rattle.redo_laws.proofs.Runs.{reversioned, shows_still}
 
 -- A version's LSN is one of a sealed block.
@@ -61,61 +66,60 @@ pub last_of_all : {X : Type 0} (P : X → Type 0) (xs : List X) (x : X) → AllB
 last_of_all P [] x all = all.0
 last_of_all P (y ∷ xs) x all = last_of_all P xs x all.1
 
-module _ (logs : LogLaws) (laws : PageLaws) where
-  -- the logical image of an image with one more block
-  pub more_blocks : (newest : Option Master) (g : Geometry) (image : Image) (blocks : List (List LogRecord)) (tail : List LogRecord) → sealed (logical_image_under newest g image blocks) tail ≡ logical_image_under newest g image (blocks ++ tail ∷ [])
-  more_blocks newest g image blocks tail = sym (laws.more newest g image blocks tail)
+-- the logical image of an image with one more block
+pub more_blocks : (newest : Option Master) (g : Geometry) (image : Image) (blocks : List (List LogRecord)) (tail : List LogRecord) → sealed (logical_image_under newest g image blocks) tail ≡ logical_image_under newest g image (blocks ++ tail ∷ [])
+more_blocks newest g image blocks tail = sym (blocks_sealed newest g image blocks tail)
 
-  -- the block behind these ones and one more
-  pub next_more : (newest : Option Master) (blocks : List (List LogRecord)) (tail : List LogRecord) → next_block_under newest (blocks ++ tail ∷ []) ≡ next_block_under newest blocks + 1
-  next_more newest blocks tail = let a = laws.next newest (blocks ++ tail ∷ []) in let b = laws.next newest blocks in omega (arith, a, b, length-append blocks (tail ∷ []))
+-- the block behind these ones and one more
+pub next_more : (newest : Option Master) (blocks : List (List LogRecord)) (tail : List LogRecord) → next_block_under newest (blocks ++ tail ∷ []) ≡ next_block_under newest blocks + 1
+next_more newest blocks tail = let a = next_block_is newest (blocks ++ tail ∷ []) in let b = next_block_is newest blocks in omega (arith, a, b, length-append blocks (tail ∷ []))
 
-  -- An image with these blocks, whose versions are the old ones or the current contents of pages that show all records.
-  module _ (g : Geometry) (old now : Image) (given : ℕ → List ℕ) (blocks : List (List LogRecord)) (tail : List LogRecord) (newest : Option Master) (records : List Entry) (table : List Content) (commits : ℕ)
-      (runs : RunsOn (logical_image_under newest g old blocks) tail records table commits) (shows : (number : ℕ) → number < g.pages → ShowsAll records (versions_on g old) number (version_in (given number)))
-      (held : HasBlocks g (kept_by newest) blocks now) (are_sealed : AreSealed g now)
-      (versions : (number : ℕ) → number < g.pages → (version_on g now number ≡ version_on g old number) ⊎ (version_on g now number ≡ given number)) where
-    end_is : sealed_end g now ≡ 512 * next_block_under newest blocks
-    end_is = let next = held.next in let at = laws.next newest blocks in omega (arith, next, at)
+-- An image with these blocks, whose versions are the old ones or the current contents of pages that show all records.
+module _ (g : Geometry) (old now : Image) (given : ℕ → List ℕ) (blocks : List (List LogRecord)) (tail : List LogRecord) (newest : Option Master) (records : List Entry) (table : List Content) (commits : ℕ)
+    (runs : RunsOn (logical_image_under newest g old blocks) tail records table commits) (shows : (number : ℕ) → number < g.pages → ShowsAll records (versions_on g old) number (version_in (given number)))
+    (held : HasBlocks g (kept_by newest) blocks now) (are_sealed : AreSealed g now)
+    (versions : (number : ℕ) → number < g.pages → (version_on g now number ≡ version_on g old number) ⊎ (version_on g now number ≡ given number)) where
+  end_is : sealed_end g now ≡ 512 * next_block_under newest blocks
+  end_is = let next = held.next in let at = next_block_is newest blocks in omega (arith, next, at)
 
-    by_version : (number : ℕ) → number < g.pages → (version_on g now number ≡ version_on g old number) ⊎ (version_on g now number ≡ given number) → Replaces (logical_image_under newest g old blocks) number (version_in (version_on g now number))
-    by_version number exists (inl same) =
-        subst (Replaces (logical_image_under newest g old blocks) number) (laws.at g old number exists ∙ ap version_in (sym same))
-        (laws.itself (logical_image_under newest g old blocks) number runs.carries.sound (omega (arith, exists, laws.count g old)))
-    by_version number exists (inr same) =
-        subst (λ (c : List ℕ). Replaces (logical_image_under newest g old blocks) number (version_in c)) (sym same)
-        (laws.sealed_page (logical_image_under newest g old blocks) tail number (version_in (given number))
-        (subst (λ (c : List ℕ). redone.IsLogged (logical_image_under newest g old blocks) (version_in c)) same (logged_version (logical_image_under newest g old blocks) (sealed_end g now) (version_on g now number) end_is (are_sealed.each number exists)))
-        (subst (λ (l : List Entry). ShowsAll l (versions_on g old) number (version_in (given number))) (sym runs.records_are) (shows number exists)))
+  by_version : (number : ℕ) → number < g.pages → (version_on g now number ≡ version_on g old number) ⊎ (version_on g now number ≡ given number) → Replaces (logical_image_under newest g old blocks) number (version_in (version_on g now number))
+  by_version number exists (inl same) =
+      subst (Replaces (logical_image_under newest g old blocks) number) (version_is g old number exists ∙ ap version_in (sym same))
+      (version_replaces_itself (logical_image_under newest g old blocks) number runs.carries.sound (omega (arith, exists, length-versions g old)))
+  by_version number exists (inr same) =
+      subst (λ (c : List ℕ). Replaces (logical_image_under newest g old blocks) number (version_in c)) (sym same)
+      (sealed_page_replaces (logical_image_under newest g old blocks) tail number (version_in (given number))
+      (subst (λ (c : List ℕ). redone.IsLogged (logical_image_under newest g old blocks) (version_in c)) same (logged_version (logical_image_under newest g old blocks) (sealed_end g now) (version_on g now number) end_is (are_sealed.each number exists)))
+      (subst (λ (l : List Entry). ShowsAll l (versions_on g old) number (version_in (given number))) (sym runs.records_are) (shows number exists)))
 
-    pub replaced : ReplaceAll (logical_image_under newest g old blocks) (versions_on g now)
-    replaced = laws.each_replaces newest g old now blocks (λ number exists. by_version number exists (versions number exists))
+  pub replaced : ReplaceAll (logical_image_under newest g old blocks) (versions_on g now)
+  replaced = replace_all newest g old now blocks (λ number exists. by_version number exists (versions number exists))
 
-    pub runs_now : RunsOn (logical_image_under newest g now blocks) tail records table commits
-    runs_now = reversioned laws g old now blocks tail newest records table commits replaced runs
+  pub runs_now : RunsOn (logical_image_under newest g now blocks) tail records table commits
+  runs_now = reversioned g old now blocks tail newest records table commits replaced runs
 
-    pub shows_now : (number : ℕ) → number < g.pages → ShowsAll records (versions_on g now) number (version_in (given number))
-    shows_now number exists = shows_still laws g old now blocks tail newest records table commits number (version_in (given number)) replaced runs exists (shows number exists)
+  pub shows_now : (number : ℕ) → number < g.pages → ShowsAll records (versions_on g now) number (version_in (given number))
+  shows_now number exists = shows_still g old now blocks tail newest records table commits number (version_in (given number)) replaced runs exists (shows number exists)
 
-    pub stands_now : AreRingsSoundUnder newest g now → IsCleanOn g now → ((number : ℕ) → number < g.pages → page.IsSound (version_on g old number)) → ((number : ℕ) → number < g.pages → page.IsSound (given number)) → StandsUnder newest g now table commits
-    stands_now rings clean sound_old sound_given = record {
-      blocks = blocks;
-      sound = record {
-        octets = record {
-          limits = rings.limits;
-          lengths = rings.lengths;
-          masters = rings.masters;
-          segments = rings.segments;
-          groups = rings.groups;
-          versions = λ number exists. sound_by number exists (versions number exists);
-          clean = clean;
-        };
-        held = held;
-        records = runs_now.carries.sound;
+  pub stands_now : AreRingsSoundUnder newest g now → IsCleanOn g now → ((number : ℕ) → number < g.pages → page.IsSound (version_on g old number)) → ((number : ℕ) → number < g.pages → page.IsSound (given number)) → StandsUnder newest g now table commits
+  stands_now rings clean sound_old sound_given = record {
+    blocks = blocks;
+    sound = record {
+      octets = record {
+        limits = rings.limits;
+        lengths = rings.lengths;
+        masters = rings.masters;
+        segments = rings.segments;
+        groups = rings.groups;
+        versions = λ number exists. sound_by number exists (versions number exists);
+        clean = clean;
       };
-      means = runs_now.means;
-    }
-      where
-        sound_by : (number : ℕ) → number < g.pages → (version_on g now number ≡ version_on g old number) ⊎ (version_on g now number ≡ given number) → page.IsSound (version_on g now number)
-        sound_by number exists (inl same) = subst page.IsSound (sym same) (sound_old number exists)
-        sound_by number exists (inr same) = subst page.IsSound (sym same) (sound_given number exists)
+      held = held;
+      records = runs_now.carries.sound;
+    };
+    means = runs_now.means;
+  }
+    where
+      sound_by : (number : ℕ) → number < g.pages → (version_on g now number ≡ version_on g old number) ⊎ (version_on g now number ≡ given number) → page.IsSound (version_on g now number)
+      sound_by number exists (inl same) = subst page.IsSound (sym same) (sound_old number exists)
+      sound_by number exists (inr same) = subst page.IsSound (sym same) (sound_given number exists)

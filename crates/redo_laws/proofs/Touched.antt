@@ -1,4 +1,5 @@
 -- Log and pages that hold together, while pages come and go.
+use Rattle.image_meaning.proofs.UnchangedImages.{next_block_is}
 use Rattle.std.proofs.Common.{◌≡◌, ◌⊎◌, inl, inr, ℕ, ◌≤◌, ◌<◌, Bool, true, false, List, [], ◌∷◌, ◌++◌, refl, sym, ap, subst, ◌∙◌, arith}
 use Rattle.std.proofs.lemmas.Bool.{and_parts}
 use Rattle.std.specs.Prelude.{if◌then◌else◌, Option}
@@ -9,7 +10,7 @@ use Rattle.site.specs.Moments.{Leaves, LeavesOnly}
 use Rattle.site.specs.Laws.{each_both, each_weaker}
 use Rattle.record_model.specs.State.{Content}
 use Rattle.log_records.specs.declared.log_record.LogRecord.{LogRecord}
-use Rattle.log_records.specs.Spelling.{AreBlock}
+use Rattle.log_records.specs.Spelling.{AreBlock, block_len}
 use Rattle.log_records.specs.Log.{Entry}
 use Rattle.log_records.specs.Unfinished.{owed}
 use Rattle.log_records.specs.Sound.{LogicalImage, HasRoom}
@@ -20,7 +21,6 @@ use Rattle.log_store.specs.declared.store.LogStore.{LogStore}
 use Rattle.log_store.specs.LogList.{LogList, sealed_if}
 use Rattle.log_store.specs.Representation.{HasBlocks, has_tail, end_of}
 use Rattle.slotted_page.specs.Layout.{lsn_of}
-use Rattle.log_records.specs.Spelling.{block_len}
 use Rattle.flash_cache.specs.Representation.{version_on}
 use Rattle.write_ahead.specs.Forcing.{end_forced, forces}
 use Rattle.page_store.specs.declared.store.PageStore.{PageStore}
@@ -34,7 +34,6 @@ use Rattle.image_meaning.specs.Moments.{LeavesTableUnder}
 use Rattle.image_meaning.specs.Beside.{AreRingsSoundUnder}
 use Rattle.redo_laws.specs.Running.{RunsOn}
 use Rattle.redo_laws.specs.Holding.{ShowRecords, RepresentsIn, Represents}
-use Rattle.redo_laws.specs.Laws.{LogLaws, PageLaws}
 use Rattle.redo_laws.proofs.Runs.{resealed}
 use Rattle.redo_laws.proofs.Standing.{more_blocks, runs_now, shows_now, stands_now, current_sound, last_of_all}
 
@@ -45,7 +44,7 @@ tail_blocks b = if b then 1 else 0
 pub forced_tail : (log : LogStore) (contents : List (List ℕ)) → forces log contents ≡ true → has_tail log ≡ true
 forced_tail log contents is = (and_parts (has_tail log) _ is).0
 
-module _ (logs : LogLaws) (laws : PageLaws) (log : LogStore) (pages : PageStore) (site : State) (newest : Option Master) (records : List Entry) (table : List Content) (commits : ℕ) (h : Represents log pages site newest records table commits) where
+module _ (log : LogStore) (pages : PageStore) (site : State) (newest : Option Master) (records : List Entry) (table : List Content) (commits : ℕ) (h : Represents log pages site newest records table commits) where
   abbrev g : Geometry
   g = pages.flash.geometry
 
@@ -60,18 +59,18 @@ module _ (logs : LogLaws) (laws : PageLaws) (log : LogStore) (pages : PageStore)
 
   -- the ring's next block is the one behind the sealed ones
   pub hi_is : log.ring.hi ≡ next_block_under newest blocks
-  hi_is = let hi = h.log_holds.ready.blocks.hi in let next = h.log_holds.ready.records.blocks.next in let at = laws.next newest blocks in omega (arith, hi, next, at)
+  hi_is = let hi = h.log_holds.ready.blocks.hi in let next = h.log_holds.ready.records.blocks.next in let at = next_block_is newest blocks in omega (arith, hi, next, at)
 
   -- a tail that has records may be sealed
   tail_room : has_tail log ≡ true → HasRoom (sealed (logical_image_under newest g site.image blocks) tail)
   tail_room some =
       let all : owed (whole (logical_image_under newest g site.image blocks) tail) ≡ owed records = ap owed h.log_holds.runs_on.records_are in
-      omega (arith, h.log_holds.room, ap tail_blocks some, hi_is, all, h.log_holds.kept, laws.next newest blocks)
+      omega (arith, h.log_holds.room, ap tail_blocks some, hi_is, all, h.log_holds.kept, next_block_is newest blocks)
 
   pub runs_sealed : has_tail log ≡ true → AreBlock tail → RunsOn (logical_image_under newest g site.image (blocks ++ tail ∷ [])) [] records table commits
   runs_sealed some block =
-      subst (λ (p : LogicalImage). RunsOn p [] records table commits) (more_blocks logs laws newest g site.image blocks tail)
-      (resealed logs (logical_image_under newest g site.image blocks) tail records table commits h.log_holds.runs_on block (tail_room some))
+      subst (λ (p : LogicalImage). RunsOn p [] records table commits) (more_blocks newest g site.image blocks tail)
+      (resealed (logical_image_under newest g site.image blocks) tail records table commits h.log_holds.runs_on block (tail_room some))
 
   abbrev given : ℕ → List ℕ
   given = current pages site.image
@@ -85,9 +84,9 @@ module _ (logs : LogLaws) (laws : PageLaws) (log : LogStore) (pages : PageStore)
     at_snapshot s leaves are_sealed rings = record {
       told = leaves.log.told;
       stands = elim leaves.log.blocks [
-        | inl has ↦ stands_now logs laws g site.image s.image given blocks tail newest records table commits h.log_holds.runs_on h.shows.each has are_sealed leaves.versions
+        | inl has ↦ stands_now g site.image s.image given blocks tail newest records table commits h.log_holds.runs_on h.shows.each has are_sealed leaves.versions
             rings leaves.clean h.log_holds.ready.pages.sound sound_given
-        | inr more ↦ stands_now logs laws g site.image s.image given (blocks ++ tail ∷ []) [] newest records table commits (runs_sealed (some more.0) (last_of_all AreBlock blocks tail more.1.are_blocks)) h.shows.each more.1 are_sealed
+        | inr more ↦ stands_now g site.image s.image given (blocks ++ tail ∷ []) [] newest records table commits (runs_sealed (some more.0) (last_of_all AreBlock blocks tail more.1.are_blocks)) h.shows.each more.1 are_sealed
             leaves.versions rings leaves.clean h.log_holds.ready.pages.sound sound_given
       ];
     }
@@ -111,7 +110,7 @@ module _ (logs : LogLaws) (laws : PageLaws) (log : LogStore) (pages : PageStore)
     shows_by blocks' tail' runs has versions = record {
       each = λ number exists.
           subst (λ (c : List ℕ). ShowsAll records (versions_on g new.image) number (version_in c)) (sym (kept.each number exists))
-          (shows_now logs laws g site.image new.image given blocks' tail' newest records table commits runs h.shows.each has are_sealed versions number exists);
+          (shows_now g site.image new.image given blocks' tail' newest records table commits runs h.shows.each has are_sealed versions number exists);
     }
 
     pub touched_holds : (sealing : Bool) → (sealing ≡ true → has_tail log ≡ true) → AreReady pages' log' (sealed_if sealing list) new → LeavesPages g (current pages site.image) sealing list site (snapshot_of new) →
@@ -125,14 +124,14 @@ module _ (logs : LogLaws) (laws : PageLaws) (log : LogStore) (pages : PageStore)
             tail = tail;
             ready = ready;
             rings = rings;
-            runs_on = runs_now logs laws g site.image new.image given blocks tail newest records table commits h.log_holds.runs_on h.shows.each has are_sealed leaves.versions;
+            runs_on = runs_now g site.image new.image given blocks tail newest records table commits h.log_holds.runs_on h.shows.each has are_sealed leaves.versions;
             ahead = are_ahead;
             room = omega (arith, h.log_holds.room, end, same_kept);
           };
           shows = shows_by blocks tail h.log_holds.runs_on has leaves.versions;
           below = below_by (
               let hi = ready.blocks.hi in let next = ready.records.blocks.next in let used = ready.records.tail.end in let was = h.log_holds.ready.records.tail.end in
-              omega (arith, hi, next, used, was, hi_is, laws.next newest blocks)
+              omega (arith, hi, next, used, was, hi_is, next_block_is newest blocks)
               );
         }
     touched_holds true some ready leaves =
@@ -145,14 +144,14 @@ module _ (logs : LogLaws) (laws : PageLaws) (log : LogStore) (pages : PageStore)
             tail = [];
             ready = ready;
             rings = rings;
-            runs_on = runs_now logs laws g site.image new.image given (blocks ++ tail ∷ []) [] newest records table commits runs h.shows.each has are_sealed leaves.versions;
+            runs_on = runs_now g site.image new.image given (blocks ++ tail ∷ []) [] newest records table commits runs h.shows.each has are_sealed leaves.versions;
             ahead = are_ahead;
             room = omega (arith, h.log_holds.room, end, same_kept);
           };
           shows = shows_by (blocks ++ tail ∷ []) [] runs has leaves.versions;
           below = below_by (
               let hi = ready.blocks.hi in let next = ready.records.blocks.next in let used = ready.records.tail.end in
-              omega (arith, hi, next, used, hi_is, high, length-append blocks (tail ∷ []), laws.next newest blocks)
+              omega (arith, hi, next, used, hi_is, high, length-append blocks (tail ∷ []), next_block_is newest blocks)
               );
         }
 

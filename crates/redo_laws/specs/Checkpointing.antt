@@ -14,14 +14,8 @@ use Rattle.page_store.specs.declared.store.PageStore.{PageStore}
 use Rattle.redo_laws.specs.Holding.{Represents}
 use Rattle.checkpoint.specs.declared.pairs.Pair.{Pair}
 use Rattle.checkpoint.specs.Laws.{UnitIsRead}
-use Rattle.image_changes.specs.Laws.{RingKept}
-use Rattle.log_laws.specs.LoserLaws.{ListedIsLoser, LoserIsListed}
-use Rattle.log_laws.specs.TailLaws.{WholeIsUndoable, CarriesNothing}
-use Rattle.log_store.specs.Laws.{HoldsBeside}
 use Rattle.image_meaning.specs.Beside.{RingsSaved}
-use Rattle.image_meaning.specs.Redone.{VersionIsRedone, RedoneIsCurrent}
-use Rattle.image_meaning.specs.Moments.{UnderLeavesFor}
-use Rattle.image_meaning.specs.Flushed.{OldestIsThere, MasterIsSaved}
+use Rattle.image_meaning.specs.Flushed.{MasterIsSaved}
 use Rattle.image_meaning.specs.Checkpoints.{CheckpointMaySave, SavedLogicalImage, SavedIsSound, SavedMeans}
 use Rattle.image_meaning.specs.Checkpoints.{SavedIsOrderly}
 use Rattle.image_meaning.specs.Checkpoints.{SaveStands}
@@ -61,7 +55,6 @@ begins_of active = map (λ pair. pair.begin) active
 -- on masters that are saved
 pub record SaveLaws : Type 0 where
   pub saved : MasterIsSaved
-  pub oldest : OldestIsThere
   pub may : CheckpointMaySave
   pub rings : RingsSaved
   pub logical_image : SavedLogicalImage
@@ -69,13 +62,4 @@ pub record SaveLaws : Type 0 where
   pub means : SavedMeans
   pub orderly : SavedIsOrderly
   pub read : UnitIsRead
-  pub first : VersionIsRedone
-  pub last : RedoneIsCurrent
   pub stands : SaveStands
-  pub for_any : UnderLeavesFor
-  pub kept : RingKept
-  pub log_beside : HoldsBeside
-  pub loser : ListedIsLoser
-  pub listed : LoserIsListed
-  pub undoable : WholeIsUndoable
-  pub nothing : CarriesNothing

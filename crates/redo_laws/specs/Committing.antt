@@ -8,9 +8,6 @@ use Rattle.log_records.specs.Log.{Entry, entries_of}
 use Rattle.log_records.specs.Unfinished.{owed}
 use Rattle.log_records.specs.Sound.{IsOpen, IsLoserChain}
 use Rattle.log_laws.specs.Tail.{next_lsn}
-use Rattle.log_laws.specs.FollowLaws.{CommitFollows}
-use Rattle.log_laws.specs.RoomLaws.{OwedClosing}
-use Rattle.log_laws.specs.TailLaws.{CommitsMore, TailWithCommit}
 use Rattle.log_store.specs.declared.store.LogStore.{LogStore}
 use Rattle.log_store.specs.Representation.{end_of}
 use Rattle.slotted_page.specs.Layout.{lsn_of}
@@ -49,10 +46,3 @@ pub record EndsWith (g : Geometry) (log : LogStore) (pages : PageStore) (site : 
   pub shows : ShowRecords g pages site.image records
   pub below : (page : ℕ) → page < g.pages → lsn_of (current pages site.image page) < end_of log
   pub room : blocks_to log + owed records ≤ log.kept + g.blocks
-
--- the laws of the layers below on a Commit
-pub record CommitLaws : Type 0 where
-  pub follows : CommitFollows
-  pub number : CommitsMore
-  pub counts : TailWithCommit
-  pub owed : OwedClosing

@@ -1,13 +1,11 @@
 pub mod Calls
 pub mod Running
 pub mod Holding
-pub mod Laws
 pub mod Numbers
 pub mod UndoingAll
 pub mod HoldingLaws
 pub mod Committing
 pub mod SessionLaws
-pub mod RedoLaws
 pub mod MachineSteps
 pub mod UndoWorks
 pub mod Checkpointing

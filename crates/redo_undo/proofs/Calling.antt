@@ -22,21 +22,17 @@ use Rattle.log_store.proofs.NextBlocks as blocks
 use Rattle.page_store.specs.declared.store.PageStore.{PageStore}
 use Rattle.page_store.proofs.NextUnits.{next_nothing, next_then, next_failed, next_answered, next_refused, next_read, next_logged}
 use Rattle.page_store.specs.Stopping.{MayStop}
-use Rattle.page_store.specs.Laws.{FitsBeside}
 use Rattle.checkpoint.specs.declared.master.Master.{Master}
 use Rattle.image_meaning.specs.Moments.{LeavesTableUnder, LeavesFor}
 use Rattle.redo_undo.proofs.Saved.{then_for}
 use Rattle.redo_laws.specs.Holding.{Invariant, Represents, IsLogWorn}
 use Rattle.redo_laws.specs.Calls.{KeepsInvariant, LogsNothing, KeepsInvariantBeside, ReadsOne, Keeps, KeepsBeside}
-use Rattle.redo_laws.specs.Laws.{PageLaws}
-use Rattle.redo_laws.specs.RedoLaws.{RedoLaws}
 use Rattle.redo_undo.specs.Redoing.{Opening, IsRedoing, LeavesOpened}
 use Rattle.redo_undo.proofs.Redoings.{nothing_happens, then_read}
-use Rattle.redo_laws.proofs.RingNumbers.{skips_still, hi_on, unchanged}
+use Rattle.redo_laws.proofs.RingNumbers.{skips_still, hi_on, unchanged, then_skips, skips_again, skips_answered, skips_weaker, skips_on}
 use Rattle.site.specs.Work.{Calls}
 use Rattle.redo_laws.proofs.Endings.{ends_answered, ends_behind, ends_failed, ends_leaving}
 use Rattle.redo_laws.proofs.CallsInSequence.{and_then, going_still, holds_still, leaves_still, units_then}
-use Rattle.redo_laws.proofs.RingNumbers.{then_skips, skips_again, skips_answered, skips_weaker, skips_on}
 use Rattle.redo_laws.proofs.LeftNumbers.{skips_not_saved}
 use Rattle.site.proofs.Working.{ok_as, ok_always, no_error, of_error, err_as, err_always, calls_nothing, calls_then, calls_failed, calls_answered, calls_refused}
 
@@ -253,23 +249,23 @@ keeps_unchanged {log = log} {pages = pages} {before = before} {now = now} {newes
     keeps_still (leaves_still log pages before now newest records table commits sizes same h) (hi_on log.geometry pages.flash.geometry log before.image sizes h.log_holds.ready.blocks.hi) same
 
 -- while records of an opened log are redone
-pub keeps_opened : PageLaws → RedoLaws → {T : Type 0} {r : Result T Stop} {o : Opening} {log : LogStore} {pages : PageStore} {before now : State} {front : List Entry} → log.geometry ≡ pages.flash.geometry → IsRedoing o log pages before front → IsUnchanged before now →
+pub keeps_opened : {T : Type 0} {r : Result T Stop} {o : Opening} {log : LogStore} {pages : PageStore} {before now : State} {front : List Entry} → log.geometry ≡ pages.flash.geometry → IsRedoing o log pages before front → IsUnchanged before now →
     ((d : Dev) → IsErrOf r (Worn d) → ⊥) → (IsErrOf r Foreign → ⊥) → Keeps r pages.flash.geometry log log before now (LeavesOpened o before.told) 0 0
-keeps_opened laws redo {o = o} {log = log} {pages = pages} {before = before} {now = now} {front = front} sizes h same =
-    keeps_still (λ quiet. then_read o before before now (nothing_happens laws redo o log pages before front h sizes quiet) same) (hi_on log.geometry pages.flash.geometry log before.image sizes h.ready.blocks.hi) same
+keeps_opened {o = o} {log = log} {pages = pages} {before = before} {now = now} {front = front} sizes h same =
+    keeps_still (λ quiet. then_read o before before now (nothing_happens o log pages before front h sizes quiet) same) (hi_on log.geometry pages.flash.geometry log before.image sizes h.ready.blocks.hi) same
 
-pub keeps_redoing : PageLaws → RedoLaws → {T : Type 0} {x : T} {o : Opening} {log : LogStore} {pages : PageStore} {site : State} {front : List Entry} → log.geometry ≡ pages.flash.geometry → IsRedoing o log pages site front →
+pub keeps_redoing : {T : Type 0} {x : T} {o : Opening} {log : LogStore} {pages : PageStore} {site : State} {front : List Entry} → log.geometry ≡ pages.flash.geometry → IsRedoing o log pages site front →
     Keeps {T = T} (Ok x) pages.flash.geometry log log site site (LeavesOpened o site.told) 0 0
-keeps_redoing laws redo {T = T} {x = x} sizes h = keeps_opened laws redo sizes h unchanged (λ d is. no_error {T = T} {x = x} {e = Worn d} is) (no_error {T = T} {x = x} {e = Foreign})
+keeps_redoing {T = T} {x = x} sizes h = keeps_opened sizes h unchanged (λ d is. no_error {T = T} {x = x} {e = Worn d} is) (no_error {T = T} {x = x} {e = Foreign})
 
 pub not_worn : (stop : Stop) → (stop ≡ Memory) ⊎ (stop ≡ Foreign) → (d : Dev) → stop ≢ Worn d
 not_worn stop (inl is) = λ d same. cc
 not_worn stop (inr is) = λ d same. cc
 
-pub keeps_refused_by : PageLaws → RedoLaws → {T : Type 0} {stop : Stop} {o : Opening} {log : LogStore} {pages : PageStore} {site : State} {front : List Entry} → (stop ≡ Memory) ⊎ (stop ≡ Foreign) → log.geometry ≡ pages.flash.geometry → IsRedoing o log pages site front → stop ≢ Foreign →
+pub keeps_refused_by : {T : Type 0} {stop : Stop} {o : Opening} {log : LogStore} {pages : PageStore} {site : State} {front : List Entry} → (stop ≡ Memory) ⊎ (stop ≡ Foreign) → log.geometry ≡ pages.flash.geometry → IsRedoing o log pages site front → stop ≢ Foreign →
     Keeps {T = T} (Err stop) pages.flash.geometry log log site site (LeavesOpened o site.told) 0 0
-keeps_refused_by laws redo {stop = stop} stops sizes h readable =
-    keeps_opened laws redo sizes h unchanged (λ d is. not_worn stop stops d (let same : stop ≡ Worn d = cc in same)) (λ is. readable (let same : stop ≡ Foreign = cc in same))
+keeps_refused_by {stop = stop} stops sizes h readable =
+    keeps_opened sizes h unchanged (λ d is. not_worn stop stops d (let same : stop ≡ Worn d = cc in same)) (λ is. readable (let same : stop ≡ Foreign = cc in same))
 
 -- where only a record is read
 pub keeps_read : {T : Type 0} {r : Result T Stop} {log : LogStore} {pages : PageStore} {before now : State} {newest : Option Master} {records : List Entry} {table : List Content} {commits : ℕ} →
@@ -284,10 +280,10 @@ keeps_nothing {T = T} {x = x} sizes h =
     keeps_unchanged sizes h unchanged (λ d is. no_error {T = T} {x = x} {e = Worn d} is) (no_error {T = T} {x = x} {e = Foreign})
 
 -- log and pages hold together behind it
-pub held_read : FitsBeside → {T : Type 0} {r : Result T Stop} {log : LogStore} {pages : PageStore} {before now : State} {newest : Option Master} {records : List Entry} {table : List Content} {commits : ℕ} →
+pub held_read : {T : Type 0} {r : Result T Stop} {log : LogStore} {pages : PageStore} {before now : State} {newest : Option Master} {records : List Entry} {table : List Content} {commits : ℕ} →
     Represents log pages before newest records table commits → ReadsOne r before now → Represents log pages now newest records table commits
-held_read fits {log = log} {pages = pages} {before = before} {now = now} {newest = newest} {records = records} {table = table} {commits = commits} h read =
-    holds_still fits log pages before now newest records table commits read.preserves (read.same h.log_holds.ready.blocks.honest) h
+held_read {log = log} {pages = pages} {before = before} {now = now} {newest = newest} {records = records} {table = table} {commits = commits} h read =
+    holds_still log pages before now newest records table commits read.preserves (read.same h.log_holds.ready.blocks.honest) h
 
 -- an append says of the log that it is Foreign, never
 foreign_not : (stop : Stop) → (stop ≡ Device Log) ⊎ (stop ≡ Worn Log) → stop ≢ Foreign

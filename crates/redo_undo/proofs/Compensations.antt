@@ -1,4 +1,10 @@
 -- Undoing an Update.
+use Rattle.image_meaning.proofs.UnchangedImages.{next_block_is}
+use Rattle.image_meaning.proofs.Versions.{length-versions}
+use Rattle.log_laws.proofs.Losers.{loser_is_not_closed}
+use Rattle.log_laws.proofs.Owing.{owed_clr}
+use Rattle.log_laws.proofs.Tails.{whole_is_undoable}
+use Rattle.log_laws.proofs.UndoingSteps.{undo_step, unfinished_step}
 use Rattle.std.proofs.Common.{◌≡◌, ℕ, ◌+◌, ◌-◌, ◌*◌, ◌≤◌, ◌<◌, ◌==◌, Bool, true, false, List, [], ◌∷◌, ◌++◌, length, Option, None, Some, true≢false, refl, sym, ap, subst, ◌∙◌, arith}
 use Rattle.std.specs.Prelude.{if◌then◌else◌, find}
 use Rattle.site.specs.declared.geometry.Geometry.{Geometry}
@@ -22,7 +28,6 @@ use Rattle.redo_laws.specs.Holding.{Represents, MayGrow, blocks_to}
 use Rattle.redo_undo.specs.declared.undo.UndoCursor.{UndoCursor}
 use Rattle.redo_undo.specs.declared.undo.Wanted.{Wanted}
 use Rattle.redo_undo.specs.Undoing.{IsAt, IsWanted, Undone}
-use Rattle.redo_laws.specs.Laws.{PageLaws, UndoLaws}
 
 -- a record that is found by its LSN
 found_by : (b : Bool) (e u : Entry) (rest : Option Entry) (last : Option LogRecord) → (rest ≡ Some u → last ≡ Some u.rec) →
@@ -35,8 +40,8 @@ found_at lsn [] u found = cc
 found_at lsn (e ∷ log) u found = found_by (e.lsn == lsn) e u (find (λ e. e.lsn == lsn) log) (at_lsn lsn log) (found_at lsn log u) found
 
 -- the store's list is the whole log
-pub entries_are : PageLaws → (newest : Option Master) (g : Geometry) (image : Image) (blocks : List (List LogRecord)) (tail : List LogRecord) → entries (record { first = kept_by newest; blocks = blocks; tail = tail }) ≡ whole (logical_image_under newest g image blocks) tail
-entries_are laws newest g image blocks tail = ap (λ (n : ℕ). log_from (kept_by newest) blocks ++ entries_from (512 * n + 2) tail) (sym (laws.next newest blocks))
+pub entries_are : (newest : Option Master) (g : Geometry) (image : Image) (blocks : List (List LogRecord)) (tail : List LogRecord) → entries (record { first = kept_by newest; blocks = blocks; tail = tail }) ≡ whole (logical_image_under newest g image blocks) tail
+entries_are newest g image blocks tail = ap (λ (n : ℕ). log_from (kept_by newest) blocks ++ entries_from (512 * n + 2) tail) (sym (next_block_is newest blocks))
 
 -- undoing goes on at or before the transaction's last record
 pub next_below : (p : LogicalImage) (records : List Entry) (x : Unfinished) (rec : LogRecord) → IsToUndo p records x rec → x.next ≤ x.last
@@ -62,7 +67,7 @@ is_one p records x (Clr txn prev undo_next page slot after) is none = is
 is_one p records x (Commit txn number) is none = is
 is_one p records x (End txn) is none = is
 
-module _ (pages_laws : PageLaws) (laws : UndoLaws) (log : LogStore) (pages : PageStore) (site : State) (newest : Option Master) (records : List Entry) (table : List Content) (commits : ℕ) (h : Represents log pages site newest records table commits) (x : Unfinished) (unfinished : IsUnfinished records x) where
+module _ (log : LogStore) (pages : PageStore) (site : State) (newest : Option Master) (records : List Entry) (table : List Content) (commits : ℕ) (h : Represents log pages site newest records table commits) (x : Unfinished) (unfinished : IsUnfinished records x) where
   abbrev g : Geometry
   g = pages.flash.geometry
 
@@ -73,8 +78,8 @@ module _ (pages_laws : PageLaws) (laws : UndoLaws) (log : LogStore) (pages : Pag
   pub to_undo : 0 < x.remaining → (u : Entry) × (at_lsn x.next (entries (record { first = kept_by newest; blocks = h.log_holds.blocks; tail = h.log_holds.tail })) ≡ Some u.rec) × IsToUndo p records x u.rec
   to_undo some =
       let are = h.log_holds.runs_on.records_are in
-      let step = laws.step p h.log_holds.tail x h.log_holds.runs_on.carries (subst (λ (l : List Entry). IsUnfinished l x) (sym are) unfinished) some in
-      (step.0, ap (at_lsn x.next) (entries_are pages_laws newest g site.image h.log_holds.blocks h.log_holds.tail) ∙ found_at x.next (whole p h.log_holds.tail) step.0 step.1, subst (λ (l : List Entry). IsToUndo p l x step.0.rec) are step.2)
+      let step = undo_step p h.log_holds.tail x h.log_holds.runs_on.carries (subst (λ (l : List Entry). IsUnfinished l x) (sym are) unfinished) some in
+      (step.0, ap (at_lsn x.next) (entries_are newest g site.image h.log_holds.blocks h.log_holds.tail) ∙ found_at x.next (whole p h.log_holds.tail) step.0 step.1, subst (λ (l : List Entry). IsToUndo p l x step.0.rec) are step.2)
 
   -- whichever record it is that was read there
   pub read_is : (lsn : ℕ) (rec : LogRecord) → 0 < x.remaining → lsn ≡ x.next → at_lsn lsn (entries (record { first = kept_by newest; blocks = h.log_holds.blocks; tail = h.log_holds.tail })) ≡ Some rec → IsToUndo p records x rec
@@ -90,7 +95,7 @@ module _ (pages_laws : PageLaws) (laws : UndoLaws) (log : LogStore) (pages : Pag
       IsWanted g site.image newest records x (record { prev = prev; page = page; slot = slot; before = before })
   wanted_is lsn txn prev page slot before after some at read =
       let is = read_is lsn (Update txn prev page slot before after) some at read in
-      record { late = is.1; early = is.2; exists = omega (arith, is.4, pages_laws.count g site.image); follows = is.5 }
+      record { late = is.1; early = is.2; exists = omega (arith, is.4, length-versions g site.image); follows = is.5 }
 
   -- it is read there
   pub is_there : (lsn : ℕ) → 0 < x.remaining → lsn ≡ x.next → at_lsn lsn (entries (record { first = kept_by newest; blocks = h.log_holds.blocks; tail = h.log_holds.tail })) ≡ None → ⊥
@@ -101,7 +106,7 @@ module _ (pages_laws : PageLaws) (laws : UndoLaws) (log : LogStore) (pages : Pag
 
   -- its transaction can be undone
   pub chain : IsLoserChain x.txn (entries_of x.txn records)
-  chain = (subst IsUndoable h.log_holds.runs_on.records_are (laws.undoable p h.log_holds.tail h.log_holds.runs_on.carries)).undone x.txn unfinished.loser
+  chain = (subst IsUndoable h.log_holds.runs_on.records_are (whole_is_undoable p h.log_holds.tail h.log_holds.runs_on.carries)).undone x.txn unfinished.loser
 
 -- A record that is no Update may follow whatever the pages show.
 pub follows_moved : (newest : Option Master) (versions versions' : List Version) (records : List Entry) (e : Entry) → is_update e.rec ≡ false → length versions' ≡ length versions → Follows (master_of newest) versions records e → Follows (master_of newest) versions' records e
@@ -114,22 +119,22 @@ follows_moved newest versions versions' records e other same f = record {
   ends_undone = f.ends_undone;
 }
 
-pub may_moved : PageLaws → (log log' : LogStore) (pages pages' : PageStore) (old new : Image) (newest : Option Master) (records : List Entry) (e : Entry) → is_update e.rec ≡ false → pages'.flash.geometry ≡ pages.flash.geometry → blocks_to log' ≡ blocks_to log → log'.kept ≡ log.kept →
+pub may_moved : (log log' : LogStore) (pages pages' : PageStore) (old new : Image) (newest : Option Master) (records : List Entry) (e : Entry) → is_update e.rec ≡ false → pages'.flash.geometry ≡ pages.flash.geometry → blocks_to log' ≡ blocks_to log → log'.kept ≡ log.kept →
     MayGrow log pages old newest records e → MayGrow log' pages' new newest records e
-may_moved laws log log' pages pages' old new newest records e other geometry blocks kept may =
+may_moved log log' pages pages' old new newest records e other geometry blocks kept may =
     let all = ap (λ (g : Geometry). g.pages) geometry in
     record {
-      follows = follows_moved newest (versions_on pages.flash.geometry old) (versions_on pages'.flash.geometry new) records e other (laws.count pages'.flash.geometry new ∙ all ∙ sym (laws.count pages.flash.geometry old)) may.follows;
+      follows = follows_moved newest (versions_on pages.flash.geometry old) (versions_on pages'.flash.geometry new) records e other (length-versions pages'.flash.geometry new ∙ all ∙ sym (length-versions pages.flash.geometry old)) may.follows;
       no_commit = may.no_commit;
       room = omega (arith, may.room, ap (λ (g : Geometry). g.blocks) geometry, blocks, kept);
     }
 
 -- A CLR of an unfinished transaction may be logged: with it there is less to undo.
-module _ (pages_laws : PageLaws) (laws : UndoLaws) (log : LogStore) (pages : PageStore) (site : State) (newest : Option Master) (records : List Entry) (table : List Content) (commits : ℕ) (h : Represents log pages site newest records table commits) (x : Unfinished) (unfinished : IsUnfinished records x) where
+module _ (log : LogStore) (pages : PageStore) (site : State) (newest : Option Master) (records : List Entry) (table : List Content) (commits : ℕ) (h : Represents log pages site newest records table commits) (x : Unfinished) (unfinished : IsUnfinished records x) where
   pub owes_less : (e : Entry) → is_clr e.rec ≡ true → txn_of e ≡ x.txn → 0 < x.remaining → owed records ≡ owed (records ++ e ∷ []) + 1
   owes_less e clr own some =
-      laws.owed_clr records e clr (subst (λ t. is_closed records t ≡ false) (sym own) (laws.lives records x.txn unfinished.loser))
-      (subst (λ t. IsLoserChain t (entries_of t records)) (sym own) (chain pages_laws laws log pages site newest records table commits h x unfinished))
+      owed_clr records e clr (subst (λ t. is_closed records t ≡ false) (sym own) (loser_is_not_closed records x.txn unfinished.loser))
+      (subst (λ t. IsLoserChain t (entries_of t records)) (sym own) (chain log pages site newest records table commits h x unfinished))
       (subst (λ t. 0 < length (left_open records t)) (sym own) (omega (arith, some, unfinished.remaining_is)))
 
   pub may_compensate : (at : UndoCursor) (w : Wanted) (lsn : ℕ) → IsAt at x → 0 < x.remaining → IsWanted pages.flash.geometry site.image newest records x w →
@@ -150,11 +155,11 @@ module _ (pages_laws : PageLaws) (laws : UndoLaws) (log : LogStore) (pages : Pag
       omega (arith, owes_less e refl refl some, h.log_holds.room)
 
 -- it was logged
-pub undone : UndoLaws → (log : LogStore) (pages : PageStore) (site : State) (newest : Option Master) (records : List Entry) (table : List Content) (commits : ℕ) (x : Unfinished) (at : UndoCursor) (w : Wanted) (lsn : ℕ) →
+pub undone : (log : LogStore) (pages : PageStore) (site : State) (newest : Option Master) (records : List Entry) (table : List Content) (commits : ℕ) (x : Unfinished) (at : UndoCursor) (w : Wanted) (lsn : ℕ) →
     IsUnfinished records x → IsAt at x → 0 < x.remaining → Represents log pages site newest (records ++ record { lsn = lsn; rec = Clr at.txn at.last w.prev w.page w.slot w.before } ∷ []) table commits →
     owed records ≡ owed (records ++ record { lsn = lsn; rec = Clr at.txn at.last w.prev w.page w.slot w.before } ∷ []) + 1 →
     (AreOrderly records → AreOrderly (records ++ record { lsn = lsn; rec = Clr at.txn at.last w.prev w.page w.slot w.before } ∷ [])) → Undone log pages site newest records table commits x (record { txn = at.txn; last = lsn; next = w.prev })
-undone laws log pages site newest records table commits x at w lsn unfinished is some holds owes orderly =
+undone log pages site newest records table commits x at w lsn unfinished is some holds owes orderly =
     let e : Entry = record { lsn = lsn; rec = Clr at.txn at.last w.prev w.page w.slot w.before } in
     record {
       e = e;
@@ -165,7 +170,7 @@ undone laws log pages site newest records table commits x at w lsn unfinished is
       clr = refl;
       own = is.txn;
       holds = holds;
-      left = laws.unfinished records e x unfinished (sym is.txn) refl;
+      left = unfinished_step records e x unfinished (sym is.txn) refl;
       at = record { txn = is.txn; last = refl; next = refl };
       fewer = omega (arith, some);
       owes = owes;

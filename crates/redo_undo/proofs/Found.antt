@@ -1,4 +1,11 @@
 -- Undoing what analysis has found, record by record.
+use Rattle.image_meaning.proofs.UnchangedImages.{next_block_is}
+use Rattle.log_laws.proofs.Listing.{listed_is_loser, loser_is_listed}
+use Rattle.log_laws.proofs.Losers.{loser_is_not_closed}
+use Rattle.log_laws.proofs.Owing.{owed_closing, owed_none}
+use Rattle.log_laws.proofs.Tails.{whole_in_order, whole_is_undoable}
+use Rattle.log_laws.proofs.Undoing.{next_to_undo}
+use Rattle.log_laws.proofs.UndoingSteps.{undo_end}
 use Rattle.analysis.proofs.Nexts.{some_left}
 use Rattle.analysis.proofs.Pending.{all_found}
 use Rattle.redo_undo.proofs.NextRecords.{order_ends}
@@ -31,7 +38,7 @@ use Rattle.analysis.specs.Table.{listed}
 use Rattle.analysis.specs.Read.{IsTable, is_active, open_at}
 use Rattle.redo_laws.specs.Holding.{Represents, MayGrow, blocks_to}
 use Rattle.redo_laws.specs.UndoingAll.{IsOf, Remain, AreUpTo, IsUndoing, IsNextUndo, UndoesSome, UndoesAll}
-use Rattle.redo_laws.specs.Laws.{PageLaws, UndoLaws, FoundLaws}
+use Rattle.analysis.specs.Laws.{ActiveIsUnfinished}
 use Rattle.redo_undo.proofs.Compensations.{chain}
 
 -- LSNs.
@@ -76,20 +83,20 @@ none_any test (x ∷ xs) none = by (test x) none (none_any test xs)
     by true is rest = absurd (true≢false is)
     by false is rest = rest is
 
-module _ (found_laws : FoundLaws) (laws : UndoLaws) (log : LogStore) (pages : PageStore) (site : State) (newest : Option Master) (records : List Entry) (table : List Content) (commits : ℕ) (found : Analysis) (h : Represents log pages site newest records table commits) (is : IsTable [] records (listed found.table)) where
+module _ (active : ActiveIsUnfinished) (log : LogStore) (pages : PageStore) (site : State) (newest : Option Master) (records : List Entry) (table : List Content) (commits : ℕ) (found : Analysis) (h : Represents log pages site newest records table commits) (is : IsTable [] records (listed found.table)) where
   pub undoable : IsUndoable records
-  undoable = subst IsUndoable h.log_holds.runs_on.records_are (laws.undoable (logical_image_under newest pages.flash.geometry site.image h.log_holds.blocks) h.log_holds.tail h.log_holds.runs_on.carries)
+  undoable = subst IsUndoable h.log_holds.runs_on.records_are (whole_is_undoable (logical_image_under newest pages.flash.geometry site.image h.log_holds.blocks) h.log_holds.tail h.log_holds.runs_on.carries)
 
   pub order : IsInOrder (512 * kept_by newest) records (next_lsn (logical_image_under newest pages.flash.geometry site.image h.log_holds.blocks) h.log_holds.tail)
   order =
       let p = logical_image_under newest pages.flash.geometry site.image h.log_holds.blocks in
-      subst (λ (l : List Entry). IsInOrder (512 * kept_by newest) l (next_lsn p h.log_holds.tail)) h.log_holds.runs_on.records_are (laws.in_order p h.log_holds.tail h.log_holds.runs_on.carries)
+      subst (λ (l : List Entry). IsInOrder (512 * kept_by newest) l (next_lsn p h.log_holds.tail)) h.log_holds.runs_on.records_are (whole_in_order p h.log_holds.tail h.log_holds.runs_on.carries)
 
   pub open_is : (t : ℕ) (x : Open) → found_in (listed found.table) t ≡ Some x → (is_active [] records t ≡ true) × (x ≡ open_at [] records t)
   open_is t x there = said (is_active [] records t) x (open_at [] records t) (is_active [] records t) refl (sym there ∙ is.says t)
 
   pub lives : (t : ℕ) (x : Open) → found_in (listed found.table) t ≡ Some x → is_loser records t ≡ true
-  lives t x there = found_laws.loser records t (sym (found_laws.active [] records t tt) ∙ (open_is t x there).0)
+  lives t x there = listed_is_loser records t (sym (active [] records t tt) ∙ (open_is t x there).0)
 
   -- an active transaction is unfinished
   pub unfinished_of : (t : ℕ) (x : Open) → found_in (listed found.table) t ≡ Some x → IsUnfinished records (record { txn = t; last = x.last; next = next_of records t; remaining = length x.updates })
@@ -106,7 +113,7 @@ module _ (found_laws : FoundLaws) (laws : UndoLaws) (log : LogStore) (pages : Pa
   next_at : (t lsn : ℕ) (x : Open) → found_in (listed found.table) t ≡ Some x → IsTop lsn x.updates → next_of records t ≡ lsn
   next_at t lsn x there top =
       let head = head_of (left_open records t) lsn (subst (λ (y : Open). IsTop lsn y.updates) (open_is t x there).1 top) in
-      (found_laws.next (512 * kept_by newest) (next_lsn (logical_image_under newest pages.flash.geometry site.image h.log_holds.blocks) h.log_holds.tail) records t head.0 head.1 order (undoable.undone t (lives t x there)) head.2).next ∙ head.3
+      (next_to_undo (512 * kept_by newest) (next_lsn (logical_image_under newest pages.flash.geometry site.image h.log_holds.blocks) h.log_holds.tail) records t head.0 head.1 order (undoable.undone t (lives t x there)) head.2).next ∙ head.3
 
   abbrev standing : Loser → ℕ → Unfinished
   standing loser lsn = record { txn = loser.txn; last = loser.last; next = lsn; remaining = loser.remaining }
@@ -135,7 +142,7 @@ module _ (found_laws : FoundLaws) (laws : UndoLaws) (log : LogStore) (pages : Pa
 
   found_some : (t : ℕ) → is_loser records t ≡ true → found_in (listed found.table) t ≡ Some (open_at [] records t)
   found_some t loser =
-      is.says t ∙ ap (λ (b : Bool). if b then Some (open_at [] records t) else None) (found_laws.active [] records t tt ∙ found_laws.listed records t undoable loser)
+      is.says t ∙ ap (λ (b : Bool). if b then Some (open_at [] records t) else None) (active [] records t tt ∙ loser_is_listed records t undoable loser)
 
   -- where of each active transaction an Update remains, one remains of each unfinished one
   pub each_remains : Remain (listed found.table) → (t : ℕ) → is_loser records t ≡ true → 0 < length (left_open records t)
@@ -160,15 +167,15 @@ module _ (found_laws : FoundLaws) (laws : UndoLaws) (log : LogStore) (pages : Pa
       by true some =
           let parts = or_parts (is_known [] records t) (is_closed records t) none in
           let loser : is_loser records t ≡ true = ap (λ b. b && not (is_closed records t)) some ∙ ap not parts.1 in
-          let active : is_active [] records t ≡ true = found_laws.active [] records t tt ∙ found_laws.listed records t undoable loser in
-          absurd (true≢false (sym active ∙ ap (λ b. b && not (is_closed records t)) parts.0))
+          let marked : is_active [] records t ≡ true = active [] records t tt ∙ loser_is_listed records t undoable loser in
+          absurd (true≢false (sym marked ∙ ap (λ b. b && not (is_closed records t)) parts.0))
 
 -- The End of a transaction of which nothing remains.
-module _ (page_laws : PageLaws) (laws : UndoLaws) (log : LogStore) (pages : PageStore) (site : State) (newest : Option Master) (records : List Entry) (table : List Content) (commits : ℕ) (h : Represents log pages site newest records table commits) (x : Unfinished) (unfinished : IsUnfinished records x) (none : x.remaining ≡ 0) where
+module _ (log : LogStore) (pages : PageStore) (site : State) (newest : Option Master) (records : List Entry) (table : List Content) (commits : ℕ) (h : Represents log pages site newest records table commits) (x : Unfinished) (unfinished : IsUnfinished records x) (none : x.remaining ≡ 0) where
   pub owes_end : (lsn : ℕ) → owed records ≡ owed (records ++ record { lsn = lsn; rec = End x.txn } ∷ []) + 1
   owes_end lsn =
       let owes : owed records ≡ owed (records ++ record { lsn = lsn; rec = End x.txn } ∷ []) + owed_by records x.txn =
-      laws.owed_closing records (record { lsn = lsn; rec = End x.txn }) refl (laws.lives records x.txn unfinished.loser) (chain page_laws laws log pages site newest records table commits h x unfinished) in
+      owed_closing records (record { lsn = lsn; rec = End x.txn }) refl (loser_is_not_closed records x.txn unfinished.loser) (chain log pages site newest records table commits h x unfinished) in
       omega (arith, owes, unfinished.remaining_is, none)
 
   pub room_to_end : blocks_to log + 1 ≤ log.kept + (pages.flash.geometry.blocks - 1)
@@ -180,13 +187,13 @@ module _ (page_laws : PageLaws) (laws : UndoLaws) (log : LogStore) (pages : Page
       let are = h.log_holds.runs_on.records_are in
       record {
         follows = subst (λ (l : List Entry). Follows (master_of newest) (versions_on pages.flash.geometry site.image) l (record { lsn = lsn; rec = End x.txn })) are
-            (laws.end p h.log_holds.tail x h.log_holds.runs_on.carries (subst (λ (l : List Entry). IsUnfinished l x) (sym are) unfinished) none lsn);
+            (undo_end p h.log_holds.tail x h.log_holds.runs_on.carries (subst (λ (l : List Entry). IsUnfinished l x) (sym are) unfinished) none lsn);
         no_commit = refl;
         room = omega (arith, owes_end lsn, h.log_holds.room);
       }
 
 -- One record more.
-module _ (laws : UndoLaws) (log : LogStore) (pages : PageStore) (site : State) (newest : Option Master) (records : List Entry) (table : List Content) (commits : ℕ) (found : Analysis) where
+module _ (log : LogStore) (pages : PageStore) (site : State) (newest : Option Master) (records : List Entry) (table : List Content) (commits : ℕ) (found : Analysis) where
   unfoldable pub one_more : (e : Entry) → Represents log pages site newest (records ++ e ∷ []) table commits → IsTable [] (records ++ e ∷ []) (listed found.table) → IsNextUndo records e → owed records ≡ owed (records ++ e ∷ []) + 1 →
       (AreOrderly records → AreOrderly (records ++ e ∷ [])) → UndoesSome log pages site newest records table commits found e.lsn
   one_more e h is next owes orderly =
@@ -197,7 +204,7 @@ module _ (laws : UndoLaws) (log : LogStore) (pages : PageStore) (site : State) (
           holds = h;
           analysis = is;
           up_to = up_to_last (512 * kept_by newest) records e (next_lsn p h.log_holds.tail)
-              (subst (λ (l : List Entry). IsInOrder (512 * kept_by newest) l (next_lsn p h.log_holds.tail)) h.log_holds.runs_on.records_are (laws.in_order p h.log_holds.tail h.log_holds.runs_on.carries));
+              (subst (λ (l : List Entry). IsInOrder (512 * kept_by newest) l (next_lsn p h.log_holds.tail)) h.log_holds.runs_on.records_are (whole_in_order p h.log_holds.tail h.log_holds.runs_on.carries));
         };
         in_turn = (next, tt);
         count = omega (arith, owes);
@@ -237,24 +244,24 @@ more_undone log log' pages pages' site site' newest records table commits found 
     }
 
 -- until all is
-pub all_undone : FoundLaws → UndoLaws → (log : LogStore) (pages : PageStore) (site : State) (newest : Option Master) (records : List Entry) (table : List Content) (commits : ℕ) (found : Analysis) (known : ℕ) →
+pub all_undone : ActiveIsUnfinished → (log : LogStore) (pages : PageStore) (site : State) (newest : Option Master) (records : List Entry) (table : List Content) (commits : ℕ) (found : Analysis) (known : ℕ) →
     UndoesSome log pages site newest records table commits found known → listed found.table ≡ [] → UndoesAll log pages site newest records table commits
-all_undone found_laws laws log pages site newest records table commits found known a none =
-    let done = none_unfinished found_laws laws log pages site newest (records ++ a.more) table commits found a.now.holds a.now.analysis none in
+all_undone active log pages site newest records table commits found known a none =
+    let done = none_unfinished active log pages site newest (records ++ a.more) table commits found a.now.holds a.now.analysis none in
     record {
       more = a.more;
       holds = a.now.holds;
       none = done;
-      count = omega (arith, a.count, found_laws.nothing (records ++ a.more) done);
+      count = omega (arith, a.count, owed_none (records ++ a.more) done);
       in_turn = a.in_turn;
       orderly = a.orderly;
     }
 
 -- Where each record is sealed all of them stand before the log's next block.
-pub sealed_up_to : PageLaws → UndoLaws → (log : LogStore) (pages : PageStore) (site : State) (newest : Option Master) (records : List Entry) (table : List Content) (commits known : ℕ) → Represents log pages site newest records table commits → has_tail log ≡ false → known ≡ 512 * log.ring.hi + 1 →
+pub sealed_up_to : (log : LogStore) (pages : PageStore) (site : State) (newest : Option Master) (records : List Entry) (table : List Content) (commits known : ℕ) → Represents log pages site newest records table commits → has_tail log ≡ false → known ≡ 512 * log.ring.hi + 1 →
     AreUpTo known records
-sealed_up_to page_laws laws log pages site newest records table commits known h none at =
+sealed_up_to log pages site newest records table commits known h none at =
     let p = logical_image_under newest pages.flash.geometry site.image h.log_holds.blocks in
-    let order = subst (λ (l : List Entry). IsInOrder (512 * kept_by newest) l (next_lsn p h.log_holds.tail)) h.log_holds.runs_on.records_are (laws.in_order p h.log_holds.tail h.log_holds.runs_on.carries) in
+    let order = subst (λ (l : List Entry). IsInOrder (512 * kept_by newest) l (next_lsn p h.log_holds.tail)) h.log_holds.runs_on.records_are (whole_in_order p h.log_holds.tail h.log_holds.runs_on.carries) in
     let few = ltb-false 2 log.used none in
-    below_end (512 * kept_by newest) records (next_lsn p h.log_holds.tail) known (let behind = page_laws.next newest h.log_holds.blocks in omega (arith, h.log_holds.ready.blocks.hi, h.log_holds.ready.records.blocks.next, h.log_holds.ready.records.tail.end, few, at, behind)) order
+    below_end (512 * kept_by newest) records (next_lsn p h.log_holds.tail) known (let behind = next_block_is newest h.log_holds.blocks in omega (arith, h.log_holds.ready.blocks.hi, h.log_holds.ready.records.blocks.next, h.log_holds.ready.records.tail.end, few, at, behind)) order

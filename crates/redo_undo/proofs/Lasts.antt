@@ -1,4 +1,6 @@
 -- The last record of an unfinished transaction.
+use Rattle.log_laws.proofs.Tails.{whole_in_order}
+use Rattle.log_laws.proofs.Undoing.{found_by_lsn, next_of_undone, next_to_undo}
 use Rattle.log_laws.proofs.Losers.{last_number_of}
 use Rattle.log_laws.proofs.Parts.{in_order_filter}
 use Rattle.std.proofs.Common.{◌≡◌, ℕ, ◌≤◌, ◌==◌, Bool, true, false, List, [], ◌∷◌, ◌++◌, length, None, Some, refl, sym, ap, subst, ◌∙◌, arith, ◌*◌, ◌+◌}
@@ -19,7 +21,7 @@ use Rattle.page_store.specs.declared.store.PageStore.{PageStore}
 use Rattle.checkpoint.specs.declared.master.Master.{Master}
 use Rattle.image_meaning.specs.Meaning.{logical_image_under, kept_by}
 use Rattle.redo_laws.specs.Holding.{Represents}
-use Rattle.redo_laws.specs.Laws.{PageLaws, UndoLaws, FoundLaws}
+use Rattle.analysis.specs.Laws.{ActiveIsUnfinished}
 use Rattle.redo_undo.proofs.Compensations.{chain, found_at, entries_are}
 use Rattle.std.proofs.lemmas.Bool.{eqb-true}
 use Rattle.redo_undo.proofs.Found.{last_after}
@@ -102,23 +104,23 @@ after_first : (from to : ℕ) (front : List Entry) (e : Entry) → IsInOrder fro
 after_first from to [] e order = omega arith
 after_first from to (x ∷ front) e order = let a = last_after (x.lsn + 1) front e to order.1 in omega (arith, a)
 
-module _ (page_laws : PageLaws) (found_laws : FoundLaws) (laws : UndoLaws) (log : LogStore) (pages : PageStore) (site : State) (newest : Option Master) (records : List Entry) (table : List Content) (commits : ℕ) (h : Represents log pages site newest records table commits) (x : Unfinished) (unfinished : IsUnfinished records x) where
+module _ (active : ActiveIsUnfinished) (log : LogStore) (pages : PageStore) (site : State) (newest : Option Master) (records : List Entry) (table : List Content) (commits : ℕ) (h : Represents log pages site newest records table commits) (x : Unfinished) (unfinished : IsUnfinished records x) where
   its_chain : IsLoserChain x.txn (entries_of x.txn records)
-  its_chain = chain page_laws laws log pages site newest records table commits h x unfinished
+  its_chain = chain log pages site newest records table commits h x unfinished
 
   abbrev end : ℕ
   end = next_lsn (logical_image_under newest pages.flash.geometry site.image h.log_holds.blocks) h.log_holds.tail
 
   order : IsInOrder (512 * kept_by newest) records end
-  order = subst (λ (l : List Entry). IsInOrder (512 * kept_by newest) l end) h.log_holds.runs_on.records_are (laws.in_order (logical_image_under newest pages.flash.geometry site.image h.log_holds.blocks) h.log_holds.tail h.log_holds.runs_on.carries)
+  order = subst (λ (l : List Entry). IsInOrder (512 * kept_by newest) l end) h.log_holds.runs_on.records_are (whole_in_order (logical_image_under newest pages.flash.geometry site.image h.log_holds.blocks) h.log_holds.tail h.log_holds.runs_on.carries)
 
   falls : (last : ℕ) → x.txn ≤ last → x.last ≡ last → x.next ≤ last
   falls last late same = by (left_open records x.txn) refl
     where
       by : (left : List Entry) → left_open records x.txn ≡ left → x.next ≤ last
-      by [] is = let next = unfinished.next_is ∙ laws.next_undone (512 * kept_by newest) end records x.txn order its_chain is in omega (arith, next, late)
+      by [] is = let next = unfinished.next_is ∙ next_of_undone (512 * kept_by newest) end records x.txn order its_chain is in omega (arith, next, late)
       by (u ∷ rest) is =
-          let to = found_laws.next (512 * kept_by newest) end records x.txn u rest order its_chain is in
+          let to = next_to_undo (512 * kept_by newest) end records x.txn u rest order its_chain is in
           omega (arith, unfinished.next_is ∙ to.next, to.early, unfinished.last_is, same)
 
   its_last : (e : Entry) × (at_lsn x.last (entries (record { first = kept_by newest; blocks = h.log_holds.blocks; tail = h.log_holds.tail })) ≡ Some e.rec) × Says x x.last e.rec
@@ -132,9 +134,9 @@ module _ (page_laws : PageLaws) (found_laws : FoundLaws) (laws : UndoLaws) (log 
       let ordered = subst (λ (l : List Entry). IsInOrder (512 * kept_by newest) l end) split.2 order in
       let head : first_lsn (is.front ++ e ∷ []) ≡ x.txn = ap first_lsn (sym is.are) ∙ ap first_lsn its_chain.begins in
       let begun = after_first (512 * kept_by newest) end is.front e (subst (λ (l : List Entry). IsInOrder (512 * kept_by newest) l end) is.are (in_order_filter (is_of x.txn) (512 * kept_by newest) records end order)) in
-      let found = ap (find (λ v. v.lsn == x.last)) split.2 ∙ ap (λ (n : ℕ). find (λ v. v.lsn == n) (split.0 ++ e ∷ split.1)) at ∙ found_laws.by_lsn (512 * kept_by newest) end split.0 e split.1 ordered in (
+      let found = ap (find (λ v. v.lsn == x.last)) split.2 ∙ ap (λ (n : ℕ). find (λ v. v.lsn == n) (split.0 ++ e ∷ split.1)) at ∙ found_by_lsn (512 * kept_by newest) end split.0 e split.1 ordered in (
         e,
-        ap (at_lsn x.last) (entries_are page_laws newest pages.flash.geometry site.image h.log_holds.blocks h.log_holds.tail ∙ h.log_holds.runs_on.records_are) ∙ found_at x.last records e found,
+        ap (at_lsn x.last) (entries_are newest pages.flash.geometry site.image h.log_holds.blocks h.log_holds.tail ∙ h.log_holds.runs_on.records_are) ∙ found_at x.last records e found,
         record {
           own = ap (λ (n : ℕ). txn_by n e.rec) at ∙ own;
           next = ap (λ (n : ℕ). next_by x.txn n e.rec) at ∙ sym is.next ∙ sym unfinished.next_is;

@@ -19,5 +19,6 @@ pub mod UndoneUpdates
 pub mod RedoWorks
 pub mod UndoneNumbers
 pub mod Calling
+pub mod UndoCalls
 pub mod StoreCalling
 pub mod StoreRollbacks

@@ -1,4 +1,7 @@
 -- The next record of an opened log is redone.
+use Rattle.image_meaning.proofs.Redos.{next_is_redone}
+use Rattle.image_meaning.proofs.UnchangedImages.{next_block_is}
+use Rattle.image_meaning.proofs.Versions.{length-versions}
 use Rattle.log_records.proofs.Entries.{in_order_least}
 use Rattle.std_lemmas.proofs.AllOf.{all_between}
 use Rattle.log_laws.proofs.Losers.{last_number_of}
@@ -20,11 +23,9 @@ use Rattle.page_store.specs.Representation.{current, Matches}
 use Rattle.page_store.specs.Ahead.{IsAhead}
 use Rattle.image_meaning.specs.Meaning.{versions_on, version_in, kept_by, next_block_under}
 use Rattle.image_meaning.specs.Redone.{IsRedone, AreKnown, Redoes}
-use Rattle.analysis.specs.Taken.{Steps, is_taken}
+use Rattle.analysis.specs.Taken.{Steps, StepsOn, is_taken}
 use Rattle.redo_laws.specs.Holding.{IsOnPage}
-use Rattle.redo_laws.specs.Laws.{PageLaws}
 use Rattle.redo_laws.proofs.Changed.{front_is_current, known_more}
-use Rattle.redo_laws.specs.RedoLaws.{RedoLaws}
 use Rattle.std.specs.Prelude.{filter, nat_lt}
 use Rattle.redo_undo.specs.Redoing.{Opening, opened, IsFrom, IsRedoing, heard_of}
 use Rattle.flash_cache.proofs.Given.{all_append}
@@ -58,16 +59,16 @@ front_knows pages image rec lsn page some is on least other number own at =
     let same : (front_of pages.pool.frames).page ≡ other = is ∙ sym on.2 ∙ ap (λ n. n / 32) (sym same_number) ∙ at in
     subst (λ n. lsn ≤ lsn_of (current pages image n)) same (subst (λ (c : List ℕ). lsn ≤ lsn_of c) (sym (front_is_current pages image some)) least)
 
-module _ (laws : PageLaws) (redo : RedoLaws) (o : Opening) (log : LogStore) (pages : PageStore) (site : State) (front : List Entry) (h : IsRedoing o log pages site front)
+module _ (o : Opening) (log : LogStore) (pages : PageStore) (site : State) (front : List Entry) (h : IsRedoing o log pages site front)
     (e : Entry) (rest : List Entry) (is : log_from (kept_by o.newest) o.blocks ≡ front ++ e ∷ rest) where
   -- its page exists
   pub page_exists : (page number : ℕ) → number_of e.rec ≡ Some number → number / 32 ≡ page → page < o.sizes.pages
   page_exists page number own at =
       let within = all_between (IsInTable (versions_on o.sizes o.image)) front e rest (subst (AllByRecursion (IsInTable (versions_on o.sizes o.image))) is h.sound.in_table) in
-      omega (arith, within number own, laws.count o.sizes o.image, at)
+      omega (arith, within number own, length-versions o.sizes o.image, at)
 
   hi_is : log.ring.hi ≡ next_block_under o.newest o.blocks
-  hi_is = let hi = h.ready.blocks.hi in let next = h.ready.records.blocks.next in let at = laws.next o.newest o.blocks in omega (arith, hi, next, at)
+  hi_is = let hi = h.ready.blocks.hi in let next = h.ready.records.blocks.next in let at = next_block_is o.newest o.blocks in omega (arith, hi, next, at)
 
   -- its LSN is sealed
   pub lsn_sealed : e.lsn < end_forced log
@@ -85,15 +86,15 @@ module _ (laws : PageLaws) (redo : RedoLaws) (o : Opening) (log : LogStore) (pag
   from_still page exists = from_more (opened o) front e page (lsn_of (current pages site.image page)) last_below (h.from page exists)
 
   -- analysis may take it, where it hears of it
-  pub may_step : is_taken (opened o).master e ≡ true → Steps (opened o).master.active (heard_of (opened o).master front) e
-  may_step here =
-      redo.steps (opened o) (heard_of (opened o).master front) e (heard_of (opened o).master rest) h.sound
+  pub may_step : StepsOn → is_taken (opened o).master e ≡ true → Steps (opened o).master.active (heard_of (opened o).master front) e
+  may_step steps here =
+      steps (opened o) (heard_of (opened o).master front) e (heard_of (opened o).master rest) h.sound
       (ap (heard_of (opened o).master) is ∙ filter_split (is_taken (opened o).master) front e rest here)
 
-  -- before the redo block its page knows of it
+  -- before the block its page knows of it
   pub known_before : e.lsn < 512 * (opened o).master.redo → (page number : ℕ) → page < o.sizes.pages → number_of e.rec ≡ Some number → number / 32 ≡ page → e.lsn ≤ lsn_of (current pages site.image page)
   known_before early page number exists own at =
-      let fits = h.sound.versions_fit page (omega (arith, exists, laws.count o.sizes o.image)) in
+      let fits = h.sound.versions_fit page (omega (arith, exists, length-versions o.sizes o.image)) in
       let before : before_block (opened o).master.redo (opened o).log ≡ before_block (opened o).master.redo front ++ e ∷ before_block (opened o).master.redo rest =
       ap (before_block (opened o).master.redo) is ∙ filter_split (λ (x : Entry). nat_lt x.lsn (512 * (opened o).master.redo)) front e rest (lt-ltb e.lsn (512 * (opened o).master.redo) early) in
       let knows = all_between (λ (x : Entry). (n : ℕ) → number_of x.rec ≡ Some n → n / 32 ≡ page → x.lsn ≤ (version_at (opened o).pages page).lsn) (before_block (opened o).master.redo front) e (before_block (opened o).master.redo rest)
@@ -140,7 +141,7 @@ module _ (laws : PageLaws) (redo : RedoLaws) (o : Opening) (log : LogStore) (pag
         let set = redoes.lsn in
         let last : last_lsn (front ++ e ∷ []) ≡ e.lsn = last_number_of 0 front e in
         subst (λ n. IsRedone (opened o) n (version_in (current pages' site.image n)) × AreKnown (front ++ e ∷ []) n (lsn_of (current pages' site.image n)) × IsFrom (opened o) (front ++ e ∷ []) n (lsn_of (current pages' site.image n))) (sym same) (
-          redo.next (opened o) on (version_in (current pages site.image on)) (version_in (current pages' site.image on)) front rest e number h.sound is own at later (h.known on there) (h.redone on there) redoes,
+          next_is_redone (opened o) on (version_in (current pages site.image on)) (version_in (current pages' site.image on)) front rest e number h.sound is own at later (h.known on there) (h.redone on there) redoes,
           all_append (λ (x : Entry). (n : ℕ) → number_of x.rec ≡ Some n → n / 32 ≡ on → x.lsn ≤ lsn_of (current pages' site.image on)) front (e ∷ [])
               (known_more front on (lsn_of (current pages site.image on)) (lsn_of (current pages' site.image on)) (omega (arith, later, set)) (h.known on there)) ((λ n of_n here. omega (arith, set)), tt),
           inr (omega (arith, set, last)),

@@ -1,4 +1,5 @@
 -- What redo asks of the cache.
+use Rattle.redo_laws.proofs.Costs.{touch_then_change}
 use Rattle.site.proofs.Working.{no_error, ok_always}
 use Rattle.std.proofs.Common.{◌≡◌, ◌≢◌, inl, inr, ℕ, ◌-◌, ◌/◌, ◌≤◌, ◌<◌, nat_lt, Bool, true, false, List, [], ◌∷◌, ◌++◌, Option, Some, None, append-nil, append_assoc, refl, sym, ap, subst, ◌∙◌, arith, ◌*◌}
 use Rattle.std.specs.Prelude.{if◌then◌else◌, ⊤, Result, Ok, Err, filter_map, option_map, nat_le}
@@ -18,9 +19,6 @@ use Rattle.log_store.specs.declared.store.LogStore.{LogStore}
 use Rattle.page_store.specs.declared.store.PageStore.{PageStore}
 use Rattle.page_store.specs.Representation.{current}
 use Rattle.page_store.specs.Caching.{cache_of, rules, with_change}
-use Rattle.page_store.specs.Laws.{TouchThenChange}
-use Rattle.redo_laws.specs.Laws.{PageLaws}
-use Rattle.redo_laws.specs.RedoLaws.{RedoLaws}
 use Rattle.redo_undo.specs.Redoing.{AsksAtRest, Opening, opened, touches_of, IsFrom, IsRedoing, asked_of}
 use Rattle.page_store.specs.Staging.{Stages}
 use Rattle.page_store.proofs.StagingLaws.{stages_none, stages_between}
@@ -132,16 +130,16 @@ change_stops : {A : Type 0} (stop : Stop) (page : ℕ) (old new : PageStore) (be
 change_stops stop page old new before now some asks = record { asks = change_stopped stop page old new before now some asks.asks; performs = change_rests_stopped some asks.performs }
 
 -- a touch, and then a change of the page in front
-change_asks : TouchThenChange → {A : Type 0} (x : A) (page : ℕ) (old mid new : PageStore) (before now : State) → 1 ≤ (rules old).groups → AsksAtRest {T = A} (Ok x) (one_touch page) old mid before now →
+change_asks : {A : Type 0} (x : A) (page : ℕ) (old mid new : PageStore) (before now : State) → 1 ≤ (rules old).groups → AsksAtRest {T = A} (Ok x) (one_touch page) old mid before now →
     cache_of new ≡ with_change (cache_of mid) → rules new ≡ rules mid → new.flash ≡ mid.flash → AsksAtRest {T = A} (Ok x) (one_change page) old new before now
-change_asks law x page old mid new before now some asks changed same flash = record {
+change_asks x page old mid new before now some asks changed same flash = record {
   asks = record {
-    machine = changed ∙ ap with_change asks.asks.machine ∙ sym (law (rules old) page (cache_of old));
+    machine = changed ∙ ap with_change asks.asks.machine ∙ sym (touch_then_change (rules old) page (cache_of old));
     reads = change_reads (rules old) page (cache_of old) before now some asks.asks.reads;
     rules_are = same ∙ asks.asks.rules_are;
     stages = change_stages (Ok x) page old new before now some (stages_between refl flash asks.asks.stages);
   };
-  performs = change_rests law some asks.asks.machine changed asks.performs;
+  performs = change_rests some asks.asks.machine changed asks.performs;
 }
 
 -- What the next record asks for.
@@ -172,15 +170,15 @@ older_version : (o : Opening) (front : List Entry) (page lsn next : ℕ) → las
 older_version o front page lsn next low (inl same) least = omega (arith, same, least)
 older_version o front page lsn next low (inr less) least = omega (arith, low, less, least)
 
-module _ (laws : PageLaws) (redo : RedoLaws) (o : Opening) (log : LogStore) (mid : PageStore) (between : State) (front : List Entry) (h : IsRedoing o log mid between front)
+module _ (o : Opening) (log : LogStore) (mid : PageStore) (between : State) (front : List Entry) (h : IsRedoing o log mid between front)
     (e : Entry) (rest : List Entry) (split : log_from (kept_by o.newest) o.blocks ≡ front ++ e ∷ rest) (page number : ℕ) (own : number_of e.rec ≡ Some number) (at : number / 32 ≡ page)
     (old : PageStore) (before : State) {A : Type 0} (x : A) (asks : AsksAtRest {T = A} (Ok x) (one_touch page) old mid before between) where
   exists : page < o.sizes.pages
-  exists = page_exists laws redo o log mid between front h e rest split page number own at
+  exists = page_exists o log mid between front h e rest split page number own at
 
   pub asks_known : e.lsn ≤ lsn_of (current mid between.image page) → AsksAtRest {T = A} (Ok x) (touches_of o (e ∷ [])) old mid before between
   asks_known least =
-      let below = last_below laws redo o log mid between front h e rest split in
+      let below = last_below o log mid between front h e rest split in
       let known = older_version o front page (lsn_of (current mid between.image page)) e.lsn below (h.from page exists) least in
       subst (λ (works : List CacheOp). AsksAtRest {T = A} (Ok x) works old mid before between) (sym (touch_of o e page number false own at (le-ltb (version_at (opened o).pages page).lsn e.lsn known))) asks
 
@@ -189,4 +187,4 @@ module _ (laws : PageLaws) (redo : RedoLaws) (o : Opening) (log : LogStore) (mid
   asks_redone less new some changed same flash =
       let older : (version_at (opened o).pages page).lsn < e.lsn = omega (arith, (h.redone page exists).later, less) in
       subst (λ (works : List CacheOp). AsksAtRest {T = A} (Ok x) works old new before between) (sym (touch_of o e page number true own at (lt-ltb (version_at (opened o).pages page).lsn e.lsn older)))
-      (change_asks redo.change x page old mid new before between some asks changed same flash)
+      (change_asks x page old mid new before between some asks changed same flash)

@@ -1,4 +1,11 @@
 -- Log and pages while the records of an opened log are redone.
+use Rattle.image_meaning.proofs.Behind.{shows_still}
+use Rattle.image_meaning.proofs.OtherVersions.{version_replaces_itself, versions_are_sound, versions_mean}
+use Rattle.image_meaning.proofs.Redos.{redone_is_current, redone_replaces, version_is_redone}
+use Rattle.image_meaning.proofs.Replacing.{replace_all}
+use Rattle.image_meaning.proofs.UnchangedImages.{next_block_is}
+use Rattle.image_meaning.proofs.Versions.{length-versions, version_is}
+use Rattle.page_store.proofs.Beside.{fits_beside}
 use Rattle.std.proofs.Common.{◌≡◌, ◌⊎◌, inl, inr, ◌+◌, ◌*◌, ◌<◌, ◌==◌, ◌||◌, ◌&&◌, nat_lt, Bool, false, IsTrue, List, [], append-nil, length, refl, sym, ap, subst, ◌∙◌, arith, ℕ, true≢false}
 use Rattle.std.specs.Prelude.{Option}
 use Rattle.std.specs.List.{AllByRecursion}
@@ -35,12 +42,9 @@ use Rattle.image_meaning.specs.Redone.{IsRedone, AreKnown, ShowsAll}
 use Rattle.image_meaning.specs.LogicalImages.{ReplaceAll}
 use Rattle.image_meaning.specs.Beside.{AreRingsSoundUnder}
 use Rattle.redo_laws.specs.Holding.{Represents, ShowRecords}
-use Rattle.redo_laws.specs.HoldingLaws.{OpenedHolds}
-use Rattle.redo_laws.specs.Laws.{PageLaws}
-use Rattle.redo_laws.specs.RedoLaws.{RedoLaws}
 use Rattle.redo_undo.specs.Redoing.{IsOpened, Opening, opened, IsFrom, LeavesOpened, IsRedoing}
 use Rattle.checkpoint.specs.declared.master.Master.{Master}
-use Rattle.redo_laws.proofs.CallsInSequence.{units_then, only_read}
+use Rattle.redo_laws.proofs.CallsInSequence.{units_then, only_read, opened_holds}
 use Rattle.redo_laws.proofs.Standing.{current_sound}
 use Rattle.redo_laws.proofs.Empties.{logged_below}
 
@@ -51,18 +55,18 @@ never_forced log contents empty = by _ (ap (nat_lt 2) empty)
     by : (c : Bool) → has_tail log ≡ false → (has_tail log && c) ≡ false
     by c none = ap (λ b. b && c) none
 
-module _ (laws : PageLaws) (redo : RedoLaws) (o : Opening) (sound : lists.IsSound (opened o)) where
+module _ (o : Opening) (sound : lists.IsSound (opened o)) where
   exists_in : (number : ℕ) → number < o.sizes.pages → number < length (opened o).pages
-  exists_in number exists = let long = laws.count o.sizes o.image in omega (arith, exists, long)
+  exists_in number exists = let long = length-versions o.sizes o.image in omega (arith, exists, long)
 
   -- the versions of an image, each of which replaces that of the opened one
   module _ (now : Image) (given : (number : ℕ) → number < o.sizes.pages → Replaces (opened o) number (version_in (version_on o.sizes now number))) where
     pub all_replace : ReplaceAll (opened o) (versions_on o.sizes now)
-    all_replace = laws.each_replaces o.newest o.sizes o.image now o.blocks given
+    all_replace = replace_all o.newest o.sizes o.image now o.blocks given
 
   pub version_replaces : (image : Image) → ReplaceAll (opened o) (versions_on o.sizes image) → (number : ℕ) → number < o.sizes.pages → Replaces (opened o) number (version_in (version_on o.sizes image number))
   version_replaces image replace number exists =
-      subst (Replaces (opened o) number) (laws.at o.sizes image number exists) (replace.each number (exists_in number exists))
+      subst (Replaces (opened o) number) (version_is o.sizes image number exists) (replace.each number (exists_in number exists))
 
   -- such an image is sound, and stands for the same
   pub sound_by : (now : Image) → ReplaceAll (opened o) (versions_on o.sizes now) → HasBlocks o.sizes (kept_by o.newest) o.blocks now → AreRingsSoundUnder o.newest o.sizes now → IsCleanOn o.sizes now →
@@ -78,11 +82,11 @@ module _ (laws : PageLaws) (redo : RedoLaws) (o : Opening) (sound : lists.IsSoun
       clean = clean;
     };
     held = held;
-    records = redo.versions_sound (opened o) (versions_on o.sizes now) sound replace;
+    records = versions_are_sound (opened o) (versions_on o.sizes now) sound replace;
   }
 
   pub means_by : (now : Image) → ReplaceAll (opened o) (versions_on o.sizes now) → Means (opened o) o.table o.commits → Means (logical_image_under o.newest o.sizes now o.blocks) o.table o.commits
-  means_by now replace means = laws.versions_mean (opened o) (versions_on o.sizes now) sound replace o.table o.commits means
+  means_by now replace means = versions_mean (opened o) (versions_on o.sizes now) sound replace o.table o.commits means
 
 module _ (o : Opening) (log : LogStore) (pages : PageStore) (site : State) (front : List Entry) (h : IsRedoing o log pages site front) where
   pub rings_given : AreRingsSoundUnder o.newest pages.flash.geometry site.image
@@ -91,7 +95,7 @@ module _ (o : Opening) (log : LogStore) (pages : PageStore) (site : State) (fron
   pub rings_of : (new : State) → LeavesOnly site new (LeavesRings o.newest pages.flash.geometry) → LeavesOnly site new (LeavesRings o.newest o.sizes)
   rings_of new rings = subst (λ (k : Geometry). LeavesOnly site new (LeavesRings o.newest k)) h.geometry rings
 
-module _ (laws : PageLaws) (redo : RedoLaws) (o : Opening) (log : LogStore) (pages : PageStore) (site : State) (front : List Entry) (h : IsRedoing o log pages site front) where
+module _ (o : Opening) (log : LogStore) (pages : PageStore) (site : State) (front : List Entry) (h : IsRedoing o log pages site front) where
   abbrev list : LogList
   list = record { first = kept_by o.newest; blocks = o.blocks; tail = [] }
 
@@ -110,10 +114,10 @@ module _ (laws : PageLaws) (redo : RedoLaws) (o : Opening) (log : LogStore) (pag
 
   -- The site itself.
   pub sound_now : log.geometry ≡ pages.flash.geometry → IsSoundUnder o.newest o.sizes site.image o.blocks
-  sound_now same = sound_by laws redo o h.sound site.image h.replace (held_now same) h.rings clean_now version_sound
+  sound_now same = sound_by o h.sound site.image h.replace (held_now same) h.rings clean_now version_sound
 
   pub stands_now : log.geometry ≡ pages.flash.geometry → StandsUnder o.newest o.sizes site.image o.table o.commits
-  stands_now same = record { blocks = o.blocks; sound = sound_now same; means = means_by laws redo o h.sound site.image h.replace h.means }
+  stands_now same = record { blocks = o.blocks; sound = sound_now same; means = means_by o h.sound site.image h.replace h.means }
 
   pub nothing_happens : log.geometry ≡ pages.flash.geometry → IsQuiet site → LeavesOnly site site (LeavesOpened o site.told)
   nothing_happens same quiet =
@@ -123,12 +127,12 @@ module _ (laws : PageLaws) (redo : RedoLaws) (o : Opening) (log : LogStore) (pag
   -- Within a touch.
   by_version : (now : Image) (number : ℕ) → number < o.sizes.pages → (version_on o.sizes now number ≡ version_on o.sizes site.image number) ⊎ (version_on o.sizes now number ≡ current pages site.image number) →
       Replaces (opened o) number (version_in (version_on o.sizes now number))
-  by_version now number exists (inl same) = subst (λ (c : List ℕ). Replaces (opened o) number (version_in c)) (sym same) (version_replaces laws redo o h.sound site.image h.replace number exists)
+  by_version now number exists (inl same) = subst (λ (c : List ℕ). Replaces (opened o) number (version_in c)) (sym same) (version_replaces o h.sound site.image h.replace number exists)
   by_version now number exists (inr same) = subst (λ (c : List ℕ). Replaces (opened o) number (version_in c)) (sym same)
-      (redo.replaces (opened o) number (version_in (current pages site.image number)) h.sound (exists_in laws redo o h.sound number exists) (h.redone number exists))
+      (redone_replaces (opened o) number (version_in (current pages site.image number)) h.sound (exists_in o h.sound number exists) (h.redone number exists))
 
   pub replaced : (s : Snapshot) → LeavesPages o.sizes (current pages site.image) false list site s → ReplaceAll (opened o) (versions_on o.sizes s.image)
-  replaced s leaves = all_replace laws redo o h.sound s.image (λ number exists. by_version s.image number exists (leaves.versions number exists))
+  replaced s leaves = all_replace o h.sound s.image (λ number exists. by_version s.image number exists (leaves.versions number exists))
 
   pub blocks_left : (s : Snapshot) → LeavesPages o.sizes (current pages site.image) false list site s → HasBlocks o.sizes (kept_by o.newest) o.blocks s.image
   blocks_left s leaves = elim leaves.log.blocks [
@@ -141,8 +145,8 @@ module _ (laws : PageLaws) (redo : RedoLaws) (o : Opening) (log : LogStore) (pag
     told = leaves.log.told;
     stands = record {
       blocks = o.blocks;
-      sound = sound_by laws redo o h.sound s.image (replaced s leaves) (blocks_left s leaves) rings leaves.clean (λ number exists. by_page number exists (leaves.versions number exists));
-      means = means_by laws redo o h.sound s.image (replaced s leaves) h.means;
+      sound = sound_by o h.sound s.image (replaced s leaves) (blocks_left s leaves) rings leaves.clean (λ number exists. by_page number exists (leaves.versions number exists));
+      means = means_by o h.sound s.image (replaced s leaves) h.means;
     };
   }
     where
@@ -191,7 +195,7 @@ module _ (laws : PageLaws) (redo : RedoLaws) (o : Opening) (log : LogStore) (pag
 before_two : (n end : ℕ) → IsTrue ((n == 0) || nat_lt n end) → n < end + 2
 before_two n end logged = grind (arith, nat_tests)
 
-module _ (laws : PageLaws) (redo : RedoLaws) (log : LogStore) (pages : PageStore) (site : State) (newest : Option Master) (blocks : List (List LogRecord)) (table : List Content) (commits : ℕ)
+module _ (log : LogStore) (pages : PageStore) (site : State) (newest : Option Master) (blocks : List (List LogRecord)) (table : List Content) (commits : ℕ)
     (h : IsOpened pages.flash.geometry log pages site newest blocks table commits) where
   abbrev pub begun : Opening
   begun = record { sizes = pages.flash.geometry; image = site.image; newest = newest; blocks = blocks; table = table; commits = commits }
@@ -200,13 +204,13 @@ module _ (laws : PageLaws) (redo : RedoLaws) (log : LogStore) (pages : PageStore
   unpooled number = ap (λ (frames : List Frame). content_by (frame_of frames number) (version_on pages.flash.geometry site.image number)) h.empty
 
   listed_there : (number : ℕ) → number < pages.flash.geometry.pages → number < length (versions_on pages.flash.geometry site.image)
-  listed_there number exists = let long = laws.count pages.flash.geometry site.image in omega (arith, exists, long)
+  listed_there number exists = let long = length-versions pages.flash.geometry site.image in omega (arith, exists, long)
 
   version_logged : (number : ℕ) → number < pages.flash.geometry.pages → IsLogged (sealed_end pages.flash.geometry site.image) (version_on pages.flash.geometry site.image number)
   version_logged number exists =
-      let end : 512 * next_block_under newest blocks ≡ sealed_end pages.flash.geometry site.image = omega (arith, h.sound.held.next, laws.next newest blocks) in
+      let end : 512 * next_block_under newest blocks ≡ sealed_end pages.flash.geometry site.image = omega (arith, h.sound.held.next, next_block_is newest blocks) in
       let logged = (h.sound.records.versions_fit number (listed_there number exists)).logged in
-      let of_it = subst (λ (v : Version). IsTrue ((v.lsn == 0) || nat_lt v.lsn (512 * next_block_under newest blocks))) (laws.at pages.flash.geometry site.image number exists) logged in
+      let of_it = subst (λ (v : Version). IsTrue ((v.lsn == 0) || nat_lt v.lsn (512 * next_block_under newest blocks))) (version_is pages.flash.geometry site.image number exists) logged in
       record { below = λ some. subst (λ n. lsn_of (version_on pages.flash.geometry site.image number) < n) end (logged_below (lsn_of (version_on pages.flash.geometry site.image number)) (512 * next_block_under newest blocks) of_it some) }
 
   pub begins : IsRedoing begun log pages site []
@@ -222,44 +226,44 @@ module _ (laws : PageLaws) (redo : RedoLaws) (log : LogStore) (pages : PageStore
       pool = subst (AllByRecursion (λ (frame : Frame). IsLogged (end_forced log) frame.content)) (sym h.empty) tt;
       versions = record { each = version_logged };
     };
-    replace = record { count = refl; each = λ number less. laws.itself (opened begun) number h.sound.records less };
+    replace = record { count = refl; each = λ number less. version_replaces_itself (opened begun) number h.sound.records less };
     redone = λ number exists.
         subst (λ (c : List ℕ). IsRedone (opened begun) number (version_in c)) (sym (unpooled number))
-        (subst (IsRedone (opened begun) number) (laws.at pages.flash.geometry site.image number exists) (redo.first (opened begun) number h.sound.records (listed_there number exists)));
+        (subst (IsRedone (opened begun) number) (version_is pages.flash.geometry site.image number exists) (version_is_redone (opened begun) number h.sound.records (listed_there number exists)));
     known = λ number exists. tt;
-    from = λ number exists. inl (ap lsn_of (unpooled number) ∙ sym (ap (λ (v : Version). v.lsn) (laws.at pages.flash.geometry site.image number exists)));
+    from = λ number exists. inl (ap lsn_of (unpooled number) ∙ sym (ap (λ (v : Version). v.lsn) (version_is pages.flash.geometry site.image number exists)));
   }
 
 -- All is redone.
 
-module _ (opens : OpenedHolds) (laws : PageLaws) (redo : RedoLaws) (o : Opening) (log : LogStore) (pages : PageStore) (site : State) (h : IsRedoing o log pages site (log_from (kept_by o.newest) o.blocks)) (sizes : log.geometry ≡ pages.flash.geometry) where
+module _ (o : Opening) (log : LogStore) (pages : PageStore) (site : State) (h : IsRedoing o log pages site (log_from (kept_by o.newest) o.blocks)) (sizes : log.geometry ≡ pages.flash.geometry) where
   shows_all : (number : ℕ) → number < o.sizes.pages → ShowsAll (log_from (kept_by o.newest) o.blocks) (versions_on o.sizes site.image) number (version_in (current pages site.image number))
   shows_all number exists =
       let v = version_in (current pages site.image number) in
-      let is = redo.last (opened o) number v (h.redone number exists) (h.known number exists) in
+      let is = redone_is_current (opened o) number v (h.redone number exists) (h.known number exists) in
       subst (λ (l : List Entry). ShowsAll l (versions_on o.sizes site.image) number v) (append-nil (log_from (kept_by o.newest) o.blocks))
-      (redo.shows (opened o) (versions_on o.sizes site.image) [] number v h.replace (omega (arith, exists, laws.count o.sizes o.image))
+      (shows_still (opened o) (versions_on o.sizes site.image) [] number v h.replace (omega (arith, exists, length-versions o.sizes o.image))
       (subst (λ (l : List Entry). ShowsAll l (versions_on o.sizes o.image) number v) (sym (append-nil (log_from (kept_by o.newest) o.blocks))) is.all))
 
   below_end : (number : ℕ) → number < o.sizes.pages → lsn_of (current pages site.image number) < end_of log
   below_end number exists =
       let less = before_two (lsn_of (current pages site.image number)) (512 * next_block_under o.newest o.blocks) (h.redone number exists).logged in
-      omega (arith, h.ready.blocks.hi, h.ready.records.blocks.next, h.ready.records.tail.end, less, laws.next o.newest o.blocks)
+      omega (arith, h.ready.blocks.hi, h.ready.records.blocks.next, h.ready.records.tail.end, less, next_block_is o.newest o.blocks)
 
   pub holds_all : Represents log pages site o.newest (log_from (kept_by o.newest) o.blocks) o.table o.commits
   holds_all =
       let back = sym h.geometry in
-      opens log pages site o.newest o.blocks o.table o.commits sizes h.kept h.ready
-      (subst (λ (k : Geometry). IsSoundUnder o.newest k site.image o.blocks) back (sound_now laws redo o log pages site (log_from (kept_by o.newest) o.blocks) h sizes))
-      (subst (λ (k : Geometry). Means (logical_image_under o.newest k site.image o.blocks) o.table o.commits) back (means_by laws redo o h.sound site.image h.replace h.means))
+      opened_holds log pages site o.newest o.blocks o.table o.commits sizes h.kept h.ready
+      (subst (λ (k : Geometry). IsSoundUnder o.newest k site.image o.blocks) back (sound_now o log pages site (log_from (kept_by o.newest) o.blocks) h sizes))
+      (subst (λ (k : Geometry). Means (logical_image_under o.newest k site.image o.blocks) o.table o.commits) back (means_by o h.sound site.image h.replace h.means))
       (subst (λ (k : Geometry). ShowRecords k pages site.image (log_from (kept_by o.newest) o.blocks)) back (record { each = shows_all }))
       h.ahead
       (subst (λ (k : Geometry). (number : ℕ) → number < k.pages → lsn_of (current pages site.image number) < end_of log) back below_end)
 
 -- A site of which only was read.
 
-pub redoing_still : RedoLaws → (o : Opening) (log : LogStore) (pages : PageStore) (old new : State) (front : List Entry) → Preserves old new → IsUnchanged old new → IsRedoing o log pages old front → IsRedoing o log pages new front
-redoing_still redo o log pages old new front goes same h =
+pub redoing_still : (o : Opening) (log : LogStore) (pages : PageStore) (old new : State) (front : List Entry) → Preserves old new → IsUnchanged old new → IsRedoing o log pages old front → IsRedoing o log pages new front
+redoing_still o log pages old new front goes same h =
     let list : LogList = record { first = kept_by o.newest; blocks = o.blocks; tail = [] } in
     record {
       geometry = h.geometry;
@@ -267,7 +271,7 @@ redoing_still redo o log pages old new front goes same h =
       sound = h.sound;
       means = h.means;
       ready = record {
-        pages = redo.fits pages old new (only_read old new same) goes h.ready.pages;
+        pages = fits_beside pages old new (only_read old new same) goes h.ready.pages;
         blocks = record {
           honest = stays_honest old new goes h.ready.blocks.honest;
           form = subst (λ (i : Image). IsRing (log_shape log.geometry) i.log) (sym same.image) h.ready.blocks.form;

@@ -18,11 +18,10 @@ use Rattle.ring_machine.proofs.Ends.{never_past, flash_past}
 use Rattle.ring_machine.proofs.Performing.{performs_answered, performs_as, performs_by, performs_nothing, performs_refused, performs_stopped, performs_then}
 use Rattle.page_store.specs.declared.store.PageStore.{PageStore}
 use Rattle.page_store.specs.Caching.{cache_of, rules, next_group, pushes, with_change}
-use Rattle.page_store.specs.Laws.{TouchThenChange}
 use Rattle.page_store.specs.Stopping.{MayStop}
 use Rattle.redo_laws.specs.MachineSteps.{one_touch, one_change}
 use Rattle.redo_undo.specs.Mirroring.{resting, PerformsAtRest}
-use Rattle.redo_laws.proofs.Costs.{touched_next}
+use Rattle.redo_laws.proofs.Costs.{touched_next, touch_then_change}
 
 -- The machine rests.
 
@@ -88,13 +87,13 @@ change_rests_stopped {stop = stop} {page = page} {old = old} some one = record {
 }
 
 -- or the page is changed behind it
-pub change_rests : TouchThenChange → {A B : Type 0} {a : A} {b : B} {page : ℕ} {old mid new : PageStore} → 1 ≤ (rules old).groups → cache_of mid ≡ touched (rules old) page false (cache_of old) → cache_of new ≡ with_change (cache_of mid) →
+pub change_rests : {A B : Type 0} {a : A} {b : B} {page : ℕ} {old mid new : PageStore} → 1 ≤ (rules old).groups → cache_of mid ≡ touched (rules old) page false (cache_of old) → cache_of new ≡ with_change (cache_of mid) →
     PerformsAtRest {T = A} (Ok a) (one_touch page) old mid → PerformsAtRest {T = B} (Ok b) (one_change page) old new
-change_rests law {page = page} {old = old} {new = new} some machine changed one = record {
+change_rests {page = page} {old = old} {new = new} some machine changed one = record {
   from = λ next masters most_blocks most_masters. record {
     done = λ m is. (
       change_on (rules old) next masters page (cache_of old) m some is ∙ ((one.from next masters most_blocks most_masters).done m is).0,
-      worked_on (rules old) next masters (touch page true) (cache_of old) m is ∙ ap (resting next masters) (law (rules old) page (cache_of old) ∙ ap with_change (sym machine) ∙ sym changed),
+      worked_on (rules old) next masters (touch page true) (cache_of old) m is ∙ ap (resting next masters) (touch_then_change (rules old) page (cache_of old) ∙ ap with_change (sym machine) ∙ sym changed),
     );
     worn = λ m is dev says. absurd (no_error says);
   };

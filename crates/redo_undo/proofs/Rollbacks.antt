@@ -1,4 +1,9 @@
 -- Undoing a transaction, CLR by CLR, and its End.
+use Rattle.log_laws.proofs.Losers.{loser_is_closed, loser_is_not_closed, loser_stays}
+use Rattle.log_laws.proofs.Owing.{owed_closing}
+use Rattle.log_laws.proofs.Tails.{whole_in_order}
+use Rattle.log_laws.proofs.Undoing.{next_of_undone}
+use Rattle.log_laws.proofs.UndoingSteps.{undo_end}
 use Rattle.std.proofs.Common.{◌≡◌, ◌≢◌, ℕ, zero, suc, ◌+◌, ◌-◌, ◌*◌, ◌<◌, ◌≤◌, true, List, [], ◌∷◌, ◌++◌, length, refl, sym, ap, subst, ◌∙◌, arith, append_assoc, append-nil, Option}
 use Rattle.std.proofs.lemmas.Bool.{ne_eqb}
 use Rattle.std.proofs.lemmas.List.{length-append}
@@ -21,14 +26,13 @@ use Rattle.redo_undo.specs.declared.undo.UndoCursor.{UndoCursor}
 use Rattle.redo_laws.specs.Holding.{Represents, MayGrow, blocks_to}
 use Rattle.redo_undo.specs.Undoing.{IsAt, Undone}
 use Rattle.redo_undo.specs.Rollback.{AreClrsOf, left_of, Compensates, RollsBack}
-use Rattle.redo_laws.specs.Laws.{PageLaws, UndoLaws}
 use Rattle.redo_undo.proofs.Compensations.{to_undo, chain}
 use Rattle.redo_undo.proofs.LeftUpdates.{none_of}
 use Rattle.flash_cache.proofs.Given.{all_append}
 
 -- nothing is compensated yet
 unfoldable pub starts : (log : LogStore) (pages : PageStore) (site : State) (newest : Option Master) (records : List Entry) (table : List Content) (commits : ℕ) (x : Unfinished) (first : UndoCursor) → Represents log pages site newest records table commits → IsUnfinished records x → IsAt first x →
-    Compensates log pages site newest records table commits x.txn (blocks_to log) site.log_reads first
+    Compensates log pages site newest records table commits x.txn (blocks_to log) first
 starts log pages site newest records table commits x first holds unfinished at =
     let same : x ≡ left_of first x.remaining = λ i. record { txn = sym at.txn i; last = sym at.last i; next = sym at.next i; remaining = x.remaining } in
     record {
@@ -41,11 +45,10 @@ starts log pages site newest records table commits x first holds unfinished at =
       count = let remains = unfinished.remaining_is in omega (arith, remains);
       owes = let none = ap owed (append-nil records) in omega (arith, none);
       few = omega arith;
-      read = omega arith;
       orderly = λ were. subst AreOrderly (sym (append-nil records)) were;
     }
 
-module _ (pages_laws : PageLaws) (laws : UndoLaws) (log : LogStore) (pages : PageStore) (site : State) (newest : Option Master) (records : List Entry) (table : List Content) (commits txn blocks reads : ℕ) (now : UndoCursor) (c : Compensates log pages site newest records table commits txn blocks reads now) where
+module _ (log : LogStore) (pages : PageStore) (site : State) (newest : Option Master) (records : List Entry) (table : List Content) (commits txn blocks : ℕ) (now : UndoCursor) (c : Compensates log pages site newest records table commits txn blocks now) where
   -- as long as undoing hasn't come to the Begin an Update remains
   pub remains : now.next ≢ now.txn → 0 < c.remaining
   remains differ = by c.remaining refl
@@ -54,9 +57,9 @@ module _ (pages_laws : PageLaws) (laws : UndoLaws) (log : LogStore) (pages : Pag
       by (suc n) is = omega arith
       by zero is =
           let p = logical_image_under newest pages.flash.geometry site.image c.holds.log_holds.blocks in
-          let order = subst (λ (l : List Entry). IsInOrder (512 * p.master.kept) l (next_lsn p c.holds.log_holds.tail)) c.holds.log_holds.runs_on.records_are (laws.in_order p c.holds.log_holds.tail c.holds.log_holds.runs_on.carries) in
-          absurd (differ (c.left.next_is ∙ laws.next_undone (512 * p.master.kept) (next_lsn p c.holds.log_holds.tail) (records ++ c.clrs) now.txn order
-          (chain pages_laws laws log pages site newest (records ++ c.clrs) table commits c.holds (left_of now c.remaining) c.left) (none_of (left_open (records ++ c.clrs) now.txn) (sym is ∙ c.left.remaining_is))))
+          let order = subst (λ (l : List Entry). IsInOrder (512 * p.master.kept) l (next_lsn p c.holds.log_holds.tail)) c.holds.log_holds.runs_on.records_are (whole_in_order p c.holds.log_holds.tail c.holds.log_holds.runs_on.carries) in
+          absurd (differ (c.left.next_is ∙ next_of_undone (512 * p.master.kept) (next_lsn p c.holds.log_holds.tail) (records ++ c.clrs) now.txn order
+          (chain log pages site newest (records ++ c.clrs) table commits c.holds (left_of now c.remaining) c.left) (none_of (left_open (records ++ c.clrs) now.txn) (sym is ∙ c.left.remaining_is))))
 
   later : (rec : LogRecord) → IsToUndo (logical_image_under newest pages.flash.geometry site.image c.holds.log_holds.blocks) (records ++ c.clrs) (left_of now c.remaining) rec → now.txn < now.next
   later (Update txn prev page slot before after) is = let late = is.1 in let early = is.2 in omega (arith, late, early)
@@ -72,13 +75,13 @@ module _ (pages_laws : PageLaws) (laws : UndoLaws) (log : LogStore) (pages : Pag
       by : (n : ℕ) → c.remaining ≡ n → n ≡ 0
       by zero is = refl
       by (suc n) is =
-          let there = to_undo pages_laws laws log pages site newest (records ++ c.clrs) table commits c.holds (left_of now c.remaining) c.left (omega (arith, is)) in
+          let there = to_undo log pages site newest (records ++ c.clrs) table commits c.holds (left_of now c.remaining) c.left (omega (arith, is)) in
           absurd (omega (arith, later there.0.rec there.2, same))
 
   -- one more CLR
-  unfoldable pub goes_on : (log' : LogStore) (pages' : PageStore) (new : State) (next : UndoCursor) → Undone log' pages' new newest (records ++ c.clrs) table commits (left_of now c.remaining) next → blocks_to log' ≤ blocks_to log + 1 → new.log_reads ≤ site.log_reads + 1 →
-      Compensates log' pages' new newest records table commits txn blocks reads next
-  goes_on log' pages' new next u one one_read =
+  unfoldable pub goes_on : (log' : LogStore) (pages' : PageStore) (new : State) (next : UndoCursor) → Undone log' pages' new newest (records ++ c.clrs) table commits (left_of now c.remaining) next → blocks_to log' ≤ blocks_to log + 1 →
+      Compensates log' pages' new newest records table commits txn blocks next
+  goes_on log' pages' new next u one =
       let y = after_record (left_of now c.remaining) u.e in
       let is : y ≡ left_of next y.remaining = λ i. record { txn = sym u.at.txn i; last = sym u.at.last i; next = sym u.at.next i; remaining = y.remaining } in
       let all = append_assoc records c.clrs (u.e ∷ []) in
@@ -92,7 +95,6 @@ module _ (pages_laws : PageLaws) (laws : UndoLaws) (log : LogStore) (pages : Pag
         count = let count = c.count in let fewer = u.fewer in omega (arith, count, fewer, length-append c.clrs (u.e ∷ []));
         owes = let owes = c.owes in let less = u.owes in let same = ap owed all in omega (arith, owes, less, same, length-append c.clrs (u.e ∷ []));
         few = let few = c.few in omega (arith, few, one, length-append c.clrs (u.e ∷ []));
-        read = let read = c.read in omega (arith, read, one_read, length-append c.clrs (u.e ∷ []));
         orderly = λ were. subst AreOrderly all (u.orderly (c.orderly were));
       }
 
@@ -100,8 +102,8 @@ module _ (pages_laws : PageLaws) (laws : UndoLaws) (log : LogStore) (pages : Pag
   module _ (none : c.remaining ≡ 0) where
     owes_less : (lsn : ℕ) → owed (records ++ c.clrs) ≡ owed ((records ++ c.clrs) ++ record { lsn = lsn; rec = End now.txn } ∷ []) + owed_by (records ++ c.clrs) now.txn
     owes_less lsn =
-        laws.owed_closing (records ++ c.clrs) (record { lsn = lsn; rec = End now.txn }) refl (laws.lives (records ++ c.clrs) now.txn c.left.loser)
-        (chain pages_laws laws log pages site newest (records ++ c.clrs) table commits c.holds (left_of now c.remaining) c.left)
+        owed_closing (records ++ c.clrs) (record { lsn = lsn; rec = End now.txn }) refl (loser_is_not_closed (records ++ c.clrs) now.txn c.left.loser)
+        (chain log pages site newest (records ++ c.clrs) table commits c.holds (left_of now c.remaining) c.left)
 
     -- then nothing of it is owed
     pub owes_all : (lsn : ℕ) → owed ((records ++ c.clrs) ++ record { lsn = lsn; rec = End txn } ∷ []) + (length c.clrs + 1) ≡ owed records
@@ -118,24 +120,24 @@ module _ (pages_laws : PageLaws) (laws : UndoLaws) (log : LogStore) (pages : Pag
         let are = c.holds.log_holds.runs_on.records_are in
         subst (λ (t : ℕ). MayGrow log pages site.image newest (records ++ c.clrs) (record { lsn = lsn; rec = End t })) c.same (record {
           follows = subst (λ (l : List Entry). Follows (master_of newest) (versions_on pages.flash.geometry site.image) l (record { lsn = lsn; rec = End now.txn })) are
-              (laws.end p c.holds.log_holds.tail (left_of now c.remaining) c.holds.log_holds.runs_on.carries (subst (λ (l : List Entry). IsUnfinished l (left_of now c.remaining)) (sym are) c.left) none lsn);
+              (undo_end p c.holds.log_holds.tail (left_of now c.remaining) c.holds.log_holds.runs_on.carries (subst (λ (l : List Entry). IsUnfinished l (left_of now c.remaining)) (sym are) c.left) none lsn);
           no_commit = refl;
           room = omega (arith, owes_less lsn, c.holds.log_holds.room);
         })
 
 -- all other transactions are as they were
-others_stay : UndoLaws → (records clrs : List Entry) (txn t : ℕ) → t ≢ txn → AreClrsOf txn clrs → is_loser (records ++ clrs) t ≡ is_loser records t
-others_stay laws records [] txn t differ own = ap (λ (l : List Entry). is_loser l t) (append-nil records)
-others_stay laws records (e ∷ clrs) txn t differ own =
-    ap (λ (l : List Entry). is_loser l t) (sym (append_assoc records (e ∷ []) clrs)) ∙ others_stay laws (records ++ e ∷ []) clrs txn t differ own.1
-    ∙ laws.stays records e t (ne_eqb (txn_of e) t (λ same. differ (sym same ∙ own.0.1)))
+others_stay : (records clrs : List Entry) (txn t : ℕ) → t ≢ txn → AreClrsOf txn clrs → is_loser (records ++ clrs) t ≡ is_loser records t
+others_stay records [] txn t differ own = ap (λ (l : List Entry). is_loser l t) (append-nil records)
+others_stay records (e ∷ clrs) txn t differ own =
+    ap (λ (l : List Entry). is_loser l t) (sym (append_assoc records (e ∷ []) clrs)) ∙ others_stay (records ++ e ∷ []) clrs txn t differ own.1
+    ∙ loser_stays records e t (ne_eqb (txn_of e) t (λ same. differ (sym same ∙ own.0.1)))
 
 -- it is logged
-pub rolls_back : UndoLaws → (log : LogStore) (pages : PageStore) (site : State) (newest : Option Master) (records : List Entry) (table : List Content) (commits txn : ℕ) (clrs : List Entry) (lsn : ℕ) → AreClrsOf txn clrs → length clrs ≡ length (left_open records txn) →
+pub rolls_back : (log : LogStore) (pages : PageStore) (site : State) (newest : Option Master) (records : List Entry) (table : List Content) (commits txn : ℕ) (clrs : List Entry) (lsn : ℕ) → AreClrsOf txn clrs → length clrs ≡ length (left_open records txn) →
     owed ((records ++ clrs) ++ record { lsn = lsn; rec = End txn } ∷ []) + (length clrs + 1) ≡ owed records →
     Represents log pages site newest ((records ++ clrs) ++ record { lsn = lsn; rec = End txn } ∷ []) table commits →
     (AreOrderly records → AreOrderly ((records ++ clrs) ++ record { lsn = lsn; rec = End txn } ∷ [])) → RollsBack log pages site newest records table commits txn
-rolls_back laws log pages site newest records table commits txn clrs lsn own count owes holds orderly =
+rolls_back log pages site newest records table commits txn clrs lsn own count owes holds orderly =
     let e : Entry = record { lsn = lsn; rec = End txn } in
     record {
       clrs = clrs;
@@ -145,6 +147,6 @@ rolls_back laws log pages site newest records table commits txn clrs lsn own cou
       owes = owes;
       holds = holds;
       orderly = orderly;
-      closed = laws.closed (records ++ clrs) e refl;
-      others = λ t differ. laws.stays (records ++ clrs) e t (ne_eqb txn t (λ same. differ (sym same))) ∙ others_stay laws records clrs txn t differ own;
+      closed = loser_is_closed (records ++ clrs) e refl;
+      others = λ t differ. loser_stays (records ++ clrs) e t (ne_eqb txn t (λ same. differ (sym same))) ∙ others_stay records clrs txn t differ own;
     }

@@ -1,4 +1,12 @@
 -- A master is saved over flushed pages and an empty tail.
+use Rattle.image_meaning.proofs.Flushes.{oldest_is_there}
+use Rattle.image_meaning.proofs.Leaving.{under_leaves_for}
+use Rattle.image_meaning.proofs.Redos.{redone_is_current, version_is_redone}
+use Rattle.image_meaning.proofs.Versions.{length-versions, version_is}
+use Rattle.log_laws.proofs.Listing.{listed_is_loser, loser_is_listed}
+use Rattle.log_laws.proofs.Tails.{carries_nothing, whole_is_undoable}
+use Rattle.log_store.proofs.Standing.{holds_beside}
+use Rattle.page_store.proofs.Beside.{fits_beside, versions_beside}
 use Rattle.std_lemmas.proofs.Bools.{same_bools}
 use Rattle.std_lemmas.proofs.AllOf.{all_member, each_member}
 use Rattle.log_laws.proofs.Parts.{in_order_filter}
@@ -53,7 +61,6 @@ use Rattle.image_meaning.specs.Flushed.{IsFlushed, IsMasterOf, first_block, olde
 use Rattle.image_meaning.specs.Redone.{AreKnown, ShowsAll}
 use Rattle.redo_laws.specs.Holding.{Represents, blocks_to}
 use Rattle.redo_laws.specs.Checkpointing.{AreUnfinished, MayBeMade, begins_of, SaveLaws, KeepUnfinished, IsSaved}
-use Rattle.redo_laws.specs.Laws.{LogLaws, PageLaws, BesideLaws}
 use Rattle.redo_laws.proofs.CallsInSequence.{sound_there, nothing_happens}
 use Rattle.redo_laws.proofs.Touched.{hi_is}
 use Rattle.redo_laws.proofs.Appended.{current_same, more_sealed}
@@ -159,7 +166,7 @@ chain_kept n t from to log order chain late =
     let begun : IsInOrder t (entries_of t log) to = subst (λ (l : List Entry). IsInOrder t l to) (sym chain.begins) (omega arith, ordered.1) in
     filter_swap (is_of t) (λ e. nat_le (512 * n) e.lsn) log ∙ all_from n t to (entries_of t log) late begun
 
-module _ (laws : SaveLaws) (logs : LogLaws) (page_laws : PageLaws) (beside : BesideLaws) (log : LogStore) (pages : PageStore) (site : State) (newest : Option Master) (records : List Entry) (table : List Content) (commits : ℕ) (h : Represents log pages site newest records table commits)
+module _ (laws : SaveLaws) (log : LogStore) (pages : PageStore) (site : State) (newest : Option Master) (records : List Entry) (table : List Content) (commits : ℕ) (h : Represents log pages site newest records table commits)
     (sizes : log.geometry ≡ pages.flash.geometry) (empty : log.used ≡ 2) (clean : wants_flush (cache_of pages) ≡ false) (m : Master) (redo : m.redo ≡ log.ring.hi) (count : m.commits ≡ commits) (ascend : Ascend m.active) (unfinished : AreUnfinished records m.active) where
   abbrev g : Geometry
   g = pages.flash.geometry
@@ -178,14 +185,14 @@ module _ (laws : SaveLaws) (logs : LogLaws) (page_laws : PageLaws) (beside : Bes
 
   flushed : IsFlushed p
   flushed page less =
-      let exists : page < g.pages = omega (arith, less, page_laws.count g site.image) in
+      let exists : page < g.pages = omega (arith, less, length-versions g site.image) in
       let version : lsn_of (current pages site.image page) ≡ (version_at p.pages page).lsn =
-      ap lsn_of (clean_current log pages site newest records table commits h clean page) ∙ sym (ap (λ (v : Version). v.lsn) (page_laws.at g site.image page exists)) in
+      ap lsn_of (clean_current log pages site newest records table commits h clean page) ∙ sym (ap (λ (v : Version). v.lsn) (version_is g site.image page exists)) in
       subst (λ (n : ℕ). AreKnown p.log page n) version (subst (λ (l : List Entry). AreKnown l page (lsn_of (current pages site.image page))) (sym log_is) (h.shows.each page exists).known)
 
   pub is_master : IsMasterOf p m
   is_master = record {
-    redo = redo ∙ hi_is logs page_laws log pages site newest records table commits h;
+    redo = redo ∙ hi_is log pages site newest records table commits h;
     commits = count ∙ h.log_holds.runs_on.means.count_is;
     ascend = ascend;
     unfinished = subst (λ (l : List Entry). AllByRecursion (λ pair. (is_loser l pair.begin ≡ true) × (pair.last ≡ last_lsn (entries_of pair.begin l))) m.active) (sym log_is) unfinished.each;
@@ -202,7 +209,7 @@ module _ (laws : SaveLaws) (logs : LogLaws) (page_laws : PageLaws) (beside : Bes
   -- it is one of the kept ones, or the next
   pub needed_there : (log.kept ≤ first_block m.redo (begins_of m.active)) × (first_block m.redo (begins_of m.active) ≤ m.redo)
   needed_there =
-      let there = laws.oldest p sound.records in
+      let there = oldest_is_there p sound.records in
       (omega (arith, there.0, h.log_holds.kept, needed_is), omega (arith, there.1, needed_is, is_master.redo))
 
   module _ (kept : m.kept ≡ first_block m.redo (begins_of m.active)) (unit_is : IsUnit (unit m) m) (orderly : AreOrderly records ⊎ (m.active ≡ [])) where
@@ -221,7 +228,7 @@ module _ (laws : SaveLaws) (logs : LogLaws) (page_laws : PageLaws) (beside : Bes
     pub save_leaves : (new : State) → IsQuiet site → LeavesFront pages.flash.geometry (AppendsMaster (unit m) ∷ []) site new →
         LeavesOnly site new (LeavesFor pages.flash.geometry table commits site.told)
     save_leaves new quiet front = laws.stands newest g site site new h.log_holds.blocks _ table commits
-        (laws.for_any newest g site site table commits site.told (nothing_happens log pages site newest records table commits sizes h quiet)) refl sound
+        (under_leaves_for newest g site site table commits site.told (nothing_happens log pages site newest records table commits sizes h quiet)) refl sound
         h.log_holds.runs_on.means may_save front
 
     module _ (new : State) (reaches : Reaches pages.flash.geometry (AppendsMaster (unit m) ∷ []) site.image new.image) (changes : ChangesOnly Log site new) (goes : Preserves site new) where
@@ -240,7 +247,7 @@ module _ (laws : SaveLaws) (logs : LogLaws) (page_laws : PageLaws) (beside : Bes
       }
 
       pub held_log : log_store.Represents log new.image (record { first = kept_by newest; blocks = h.log_holds.blocks; tail = h.log_holds.tail })
-      held_log = laws.log_beside log site.image new.image _ kept_log h.log_holds.ready.records
+      held_log = holds_beside log site.image new.image _ kept_log h.log_holds.ready.records
 
       pub held_after : (log' : LogStore) → log_store.Represents log' new.image (record { first = max (kept_by newest) m.kept; blocks = drop (m.kept - kept_by newest) h.log_holds.blocks; tail = h.log_holds.tail }) →
           log_store.Represents log' new.image (record { first = m.kept; blocks = drop (m.kept - kept_by newest) h.log_holds.blocks; tail = h.log_holds.tail })
@@ -271,7 +278,7 @@ module _ (laws : SaveLaws) (logs : LogLaws) (page_laws : PageLaws) (beside : Bes
           (subst AreOrderly records_now (laws.orderly newest g site.image new.image h.log_holds.blocks (unit m) sound may_save made))
 
       undoable_of : (r : LogicalImage) → IsSound r → IsUndoable r.log
-      undoable_of r is = subst IsUndoable (append-nil r.log) (laws.undoable r [] (laws.nothing r is))
+      undoable_of r is = subst IsUndoable (append-nil r.log) (whole_is_undoable r [] (carries_nothing r is))
 
       -- the unfinished transactions are the same
       losers_now : losers q.log ≡ losers p.log
@@ -285,13 +292,13 @@ module _ (laws : SaveLaws) (logs : LogLaws) (page_laws : PageLaws) (beside : Bes
 
       loser_now : (t : ℕ) → is_loser q.log t ≡ is_loser p.log t
       loser_now t = same_bools (is_loser q.log t) (is_loser p.log t)
-          (λ is. laws.loser p.log t (subst (λ (l : List ℕ). list_any (λ s. s == t) l ≡ true) losers_now (laws.listed q.log t (undoable_of q sound_now.records) is)))
-          (λ is. laws.loser q.log t (subst (λ (l : List ℕ). list_any (λ s. s == t) l ≡ true) (sym losers_now) (laws.listed p.log t (undoable_of p sound.records) is)))
+          (λ is. listed_is_loser p.log t (subst (λ (l : List ℕ). list_any (λ s. s == t) l ≡ true) losers_now (loser_is_listed q.log t (undoable_of q sound_now.records) is)))
+          (λ is. listed_is_loser q.log t (subst (λ (l : List ℕ). list_any (λ s. s == t) l ≡ true) (sym losers_now) (loser_is_listed p.log t (undoable_of p sound.records) is)))
 
       entries_now : (t : ℕ) → is_loser p.log t ≡ true → entries_of t (from_block n.kept p.log) ≡ entries_of t p.log
       entries_now t is =
           chain_kept n.kept t (512 * p.master.kept) (512 * p.hi) p.log sound.records.in_order (sound.records.losers_can_be_undone t is)
-          (all_member (λ s. 512 * n.kept ≤ s) (losers p.log) t may_save.may.losers_kept (laws.listed p.log t (undoable_of p sound.records) is))
+          (all_member (λ s. 512 * n.kept ≤ s) (losers p.log) t may_save.may.losers_kept (loser_is_listed p.log t (undoable_of p sound.records) is))
 
       logical_image_log : q.log ≡ from_block n.kept p.log
       logical_image_log = ap (λ (x : LogicalImage). x.log) (laws.logical_image newest g site.image new.image h.log_holds.blocks (unit m) sound may_save made)
@@ -301,7 +308,7 @@ module _ (laws : SaveLaws) (logs : LogLaws) (page_laws : PageLaws) (beside : Bes
           ap (sum_by (owed_by q.log)) losers_now
           ∙ sum_same (owed_by q.log) (owed_by p.log) (losers p.log)
           (each_member (λ t. owed_by q.log t ≡ owed_by p.log t) (losers p.log)
-          (λ t any. ap (λ (l : List Entry). length (open_updates [] l) + 1) (ap (entries_of t) logical_image_log ∙ entries_now t (laws.loser p.log t any))))
+          (λ t any. ap (λ (l : List Entry). length (open_updates [] l) + 1) (ap (entries_of t) logical_image_log ∙ entries_now t (listed_is_loser p.log t any))))
 
       pub unfinished_now : KeepUnfinished records (from_block m.kept records)
       unfinished_now = subst (λ (k : Master). KeepUnfinished records (from_block k.kept records)) read (subst (λ (l : List Entry). KeepUnfinished l (from_block n.kept l)) log_is (record {
@@ -314,16 +321,16 @@ module _ (laws : SaveLaws) (logs : LogLaws) (page_laws : PageLaws) (beside : Bes
       shows_now page exists =
           let v = version_at q.pages page in
           let here : v ≡ version_in (current pages new.image page) =
-          page_laws.at g new.image page exists ∙ ap version_in (beside.versions g site new page changes)
-          ∙ ap version_in (sym (clean_current log pages site newest records table commits h clean page)) ∙ ap version_in (sym (current_same beside pages site new changes page)) in
+          version_is g new.image page exists ∙ ap version_in (versions_beside g site new page changes)
+          ∙ ap version_in (sym (clean_current log pages site newest records table commits h clean page)) ∙ ap version_in (sym (current_same pages site new changes page)) in
           let known : AreKnown q.log page v.lsn =
           subst (λ (l : List Entry). AreKnown l page v.lsn) (sym records_now)
           (subst (λ (w : Version). AreKnown (from_block n.kept records) page w.lsn) (sym here)
-          (subst (λ (c : List ℕ). AreKnown (from_block n.kept records) page (lsn_of c)) (sym (current_same beside pages site new changes page))
+          (subst (λ (c : List ℕ). AreKnown (from_block n.kept records) page (lsn_of c)) (sym (current_same pages site new changes page))
           (known_filter (λ e. nat_le (512 * n.kept) e.lsn) records page (lsn_of (current pages site.image page)) (h.shows.each page exists).known))) in
           subst (λ (w : Version). ShowsAll (from_block n.kept records) (versions_on g new.image) page w) here
           (subst (λ (l : List Entry). ShowsAll l (versions_on g new.image) page v) records_now
-          (laws.last q page v (laws.first q page sound_now.records (omega (arith, exists, page_laws.count g new.image))) known).all)
+          (redone_is_current q page v (version_is_redone q page sound_now.records (omega (arith, exists, length-versions g new.image))) known).all)
 
       -- the log lets go of the blocks before
       module _ (log' : LogStore) (is : log' ≡ record log { kept = m.kept }) (finds : log_store.Finds log new → log_store.Finds log' new)
@@ -337,21 +344,21 @@ module _ (laws : SaveLaws) (logs : LogLaws) (page_laws : PageLaws) (beside : Bes
             blocks = blocks;
             tail = [];
             ready = record {
-              pages = beside.fits pages site new changes goes h.log_holds.ready.pages;
+              pages = fits_beside pages site new changes goes h.log_holds.ready.pages;
               blocks = finds finds_log;
               records = subst (λ (tail : List LogRecord). log_store.Represents log' new.image (record { first = n.kept; blocks = drop (n.kept - kept_by newest) h.log_holds.blocks; tail = tail })) tail_is
                   (subst (λ (k : Master). log_store.Represents log' new.image (record { first = k.kept; blocks = drop (k.kept - kept_by newest) h.log_holds.blocks; tail = h.log_holds.tail })) (sym read) (held_after log' (held finds_log held_log)));
             };
             rings = laws.rings newest g (unit m) site.image new.image h.log_holds.rings may_save.unit made;
             runs_on = record {
-              carries = logs.carries_nothing q sound_now.records;
+              carries = carries_nothing q sound_now.records;
               means = laws.means newest g site.image new.image h.log_holds.blocks (unit m) sound may_save made table commits h.log_holds.runs_on.means;
               no_commit = refl;
               records_are = append-nil q.log ∙ records_now;
             };
             ahead = record {
               pool = subst (λ (l : LogStore). AreLogged (end_forced l) pages.pool.frames) (sym is) h.log_holds.ahead.pool;
-              versions = more_sealed beside pages site new changes log log' sizes (ap (λ (l : LogStore). l.geometry) is) h.log_holds.ready.blocks
+              versions = more_sealed pages site new changes log log' sizes (ap (λ (l : LogStore). l.geometry) is) h.log_holds.ready.blocks
                   (finds finds_log)
                   (let same = ap (λ (l : LogStore). l.ring.hi) is in omega (arith, same)) h.log_holds.ahead.versions;
             };
@@ -360,7 +367,7 @@ module _ (laws : SaveLaws) (logs : LogLaws) (page_laws : PageLaws) (beside : Bes
           shows = record { each = shows_now };
           below = λ page exists.
               subst (λ (l : LogStore). lsn_of (current pages new.image page) < end_of l) (sym is)
-              (subst (λ (c : List ℕ). lsn_of c < end_of log) (sym (current_same beside pages site new changes page)) (h.below page exists));
+              (subst (λ (c : List ℕ). lsn_of c < end_of log) (sym (current_same pages site new changes page)) (h.below page exists));
         })
           where
             none : ◌≡◌ {A = ℕ} (if has_tail log then 1 else 0) 0
@@ -370,7 +377,7 @@ module _ (laws : SaveLaws) (logs : LogLaws) (page_laws : PageLaws) (beside : Bes
             room_now =
                 let owed_is : owed q.log ≡ owed (from_block n.kept records) = ap owed records_now in
                 let hi_is_q : q.hi ≡ p.hi = ap (λ (x : LogicalImage). x.hi) (laws.logical_image newest g site.image new.image h.log_holds.blocks (unit m) sound may_save made) in
-                let hi = hi_is logs page_laws log pages site newest records table commits h in
+                let hi = hi_is log pages site newest records table commits h in
                 let same : blocks_to log' ≡ blocks_to log = ap blocks_to is in
                 let kept_is : log'.kept ≡ n.kept = ap (λ (l : LogStore). l.kept) is ∙ ap (λ (k : Master). k.kept) (sym read) in
                 omega (arith, sound_now.records.room_for_undo, owed_is, hi_is_q, hi, same, kept_is, none, may_save.may.kept_in_log)

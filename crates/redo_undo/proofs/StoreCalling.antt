@@ -10,13 +10,13 @@ use Rattle.site.specs.Laws.{holds_now, leaves_weaker, stays_honest}
 use Rattle.record_model.specs.State.{Content}
 use Rattle.image_meaning.specs.Moments.{LeavesFor}
 use Rattle.image_meaning.specs.Meaning.{StandsFor}
-use Rattle.redo_undo.specs.Stores.{sizes_of}
+use Rattle.redo_undo.specs.Stores.{sizes_of, MayWork}
 use Rattle.redo_laws.specs.Numbers.{SkipsNone}
 use Rattle.redo_laws.proofs.RingNumbers.{skips_on, then_skips, skips_again, skips_answered, skips_refused, skips_weaker}
 use Rattle.redo_undo.specs.declared.store.TransactionStore.{TransactionStore}
 use Rattle.redo_laws.proofs.Endings.{ends_answered, ends_behind, ends_failed, ends_leaving, ends_no_memory, ends_ok, leaves_late}
-use Rattle.site.proofs.Working.{ok_as, calls_then, calls_answered}
-use Rattle.redo_undo.proofs.NextUnits.{next_then, next_answered}
+use Rattle.site.proofs.Working.{ok_as, calls_then, calls_answered, calls_failed}
+use Rattle.redo_undo.proofs.NextUnits.{next_then, next_answered, next_failed, store_next}
 use Rattle.redo_laws.specs.Calls as calls
 use Rattle.redo_undo.specs.StoreCalls.{KeepsInvariant, Keeps}
 
@@ -45,6 +45,20 @@ works_then {r = r} {old = old} {new = new} {before = before} {between = between}
 
 pub works_answered : {A B : Type 0} {a : A} {b : B} {old new : TransactionStore} {before now : Site} {n : ℕ} → KeepsInvariant {T = A} (Ok a) old new before now n → KeepsInvariant {T = B} (Ok b) old new before now n
 works_answered first = record { calls = calls_answered first.calls; going = first.going; next = λ honest. next_answered (first.next honest); made = first.made; blocks = first.blocks; rises = first.rises; kept = first.kept; sizes = first.sizes; stops = tt }
+
+-- a call of log and pages that fails
+pub works_at_error : {A B : Type 0} {stop : Stop} {old new : TransactionStore} {before now : Site} {n : ℕ} → MayWork old before → new.masters ≡ old.masters → calls.KeepsInvariant {T = A} (Err stop) old.log new.log old.pages new.pages before now → KeepsInvariant {T = B} (Err stop) old new before now n
+works_at_error going masters works = record {
+  calls = calls_failed works.calls;
+  going = tt;
+  made = tt;
+  blocks = tt;
+  rises = tt;
+  kept = works.kept;
+  sizes = works.geometry;
+  stops = works.stops;
+  next = λ honest. next_failed (store_next going.both.sizes masters works.stops (works.next honest));
+}
 
 -- On an honest site.
 

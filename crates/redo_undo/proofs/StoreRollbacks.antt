@@ -21,8 +21,7 @@ use Rattle.redo_laws.specs.Holding.{blocks_to}
 use Rattle.redo_undo.specs.Rollback as undone
 use Rattle.redo_undo.specs.Rollback.{AreClrsOf}
 use Rattle.redo_undo.specs.declared.store.TransactionStore.{TransactionStore}
-use Rattle.redo_undo.specs.Stores.{sizes_of}
-use Rattle.redo_undo.specs.Stores.{Represents}
+use Rattle.redo_undo.specs.Stores.{sizes_of, Represents}
 use Rattle.redo_undo.specs.StoreRollback.{ConcernsOnly, RollsBack}
 
 -- one more record of the transaction

@@ -1,4 +1,5 @@
 -- The records of a block are taken, one after the other.
+use Rattle.analysis.specs.Laws.{OneTable, TableOfUnfinished}
 use Rattle.std.proofs.Common.{◌≡◌, ℕ, suc, ◌+◌, ◌-◌, ◌*◌, ◌≤◌, ◌<◌, List, [], ◌∷◌, ◌++◌, length, take, drop, append-nil, refl, sym, ap, subst, ◌∙◌, arith, true, map}
 use Rattle.std.specs.Prelude.{⊤, Result, Ok, Err, Option}
 use Rattle.site.specs.Calls.{Preserves, IsUnchanged}
@@ -15,15 +16,13 @@ use Rattle.analysis.specs.Read.{IsAnalysis, IsTable, open_at}
 use Rattle.analysis.specs.declared.analysis.Analysis.{Analysis}
 use Rattle.page_store.specs.declared.store.PageStore.{PageStore}
 use Rattle.redo_undo.specs.declared.redo_pass.Redone.{Redone}
-use Rattle.redo_laws.specs.Laws.{PageLaws}
-use Rattle.redo_laws.specs.RedoLaws.{RedoLaws}
 use Rattle.redo_undo.specs.Redoing.{AsksAtRest, IsOpened, Opening, HasTaken, asked_of, opened, heard_of}
 use Rattle.log_laws.proofs.BlockRecords.{IsPast, past_none}
 use Rattle.log_laws.proofs.LogBlocks.{block_of, log_split, log_take, take_whole}
 use Rattle.redo_undo.proofs.Redoings.{redoing_still, begins}
 use Rattle.checkpoint.specs.declared.master.Master.{Master}
 use Rattle.checkpoint.specs.Newest.{seen}
-use Rattle.analysis.specs.Taken.{is_taken, Steps, taken}
+use Rattle.analysis.specs.Taken.{is_taken, Steps, taken, TakenTable}
 use Rattle.log_records.specs.Sound.{LogicalImage, IsSound}
 use Rattle.log_records.specs.Unfinished.{losers}
 use Rattle.analysis.specs.Table.{listed}
@@ -36,9 +35,9 @@ pub record IsPartWay (o : Opening) (log : LogStore) (entry pages : PageStore) (o
   pub taken : HasTaken o log pages site so_far (front ++ done)
   pub asked : AsksAtRest {T = ⊤} (Ok tt) (asked_of o done) entry pages old site
 
-pub part_begins : PageLaws → RedoLaws → (o : Opening) (log : LogStore) (pages : PageStore) (site : State) (so_far : Redone) (front : List Entry) (block : ℕ) (octets : List ℕ) (used : ℕ) (records : List LogRecord) →
+pub part_begins : (o : Opening) (log : LogStore) (pages : PageStore) (site : State) (so_far : Redone) (front : List Entry) (block : ℕ) (octets : List ℕ) (used : ℕ) (records : List LogRecord) →
     log.geometry ≡ pages.flash.geometry → HasTaken o log pages site so_far front → IsBlock octets records → used ≡ used_by records → IsPartWay o log pages pages site site so_far front block octets used 2 records
-part_begins laws redo o log pages site so_far front block octets used records sizes h is end = record {
+part_begins o log pages site so_far front block octets used records sizes h is end = record {
   done = [];
   past = past_none block octets used records is end;
   taken = subst (HasTaken o log pages site so_far) (sym (append-nil front)) h;
@@ -64,12 +63,12 @@ asks_first o pages site block is =
     subst (λ (done : List Entry). AsksAtRest {T = ⊤} (Ok tt) (asked_of o done) pages pages site site) (sym (none_read o block is)) (nothing_asked pages site)
 
 -- before the first block
-pub up_to_none : PageLaws → RedoLaws → (log : LogStore) (pages : PageStore) (site : State) (newest : Option Master) (blocks : List (List LogRecord)) (table : List Content) (commits : ℕ) (found : Analysis) (block : ℕ) →
+pub up_to_none : (log : LogStore) (pages : PageStore) (site : State) (newest : Option Master) (blocks : List (List LogRecord)) (table : List Content) (commits : ℕ) (found : Analysis) (block : ℕ) →
     log.geometry ≡ pages.flash.geometry → IsOpened pages.flash.geometry log pages site newest blocks table commits → IsAnalysis (master_of newest) [] found → block ≡ kept_by newest →
     IsUpTo (record { sizes = pages.flash.geometry; image = site.image; newest = newest; blocks = blocks; table = table; commits = commits }) log pages site site (record { found = found; records = 0 }) block
-up_to_none laws redo log pages site newest blocks table commits found block sizes h analysis is =
+up_to_none log pages site newest blocks table commits found block sizes h analysis is =
     let o : Opening = record { sizes = pages.flash.geometry; image = site.image; newest = newest; blocks = blocks; table = table; commits = commits } in
-    let first = begins laws redo log pages site newest blocks table commits h in
+    let first = begins log pages site newest blocks table commits h in
     record {
       from = omega (arith, is);
       taken = subst (HasTaken o log pages site (record { found = found; records = 0 })) (sym (none_read o block is)) (record { pages_are = first; analysis = analysis; count = refl });
@@ -86,7 +85,7 @@ pub record IsNextBlock (o : Opening) (log : LogStore) (pages : PageStore) (old s
   pub split : log_from (kept_by o.newest) o.blocks ≡ log_from (kept_by o.newest) (take (block - kept_by o.newest) o.blocks)
       ++ (entries_from (512 * block + 2) (block_of o.blocks (block - kept_by o.newest)) ++ log_from (block + 1) (drop (suc (block - kept_by o.newest)) o.blocks))
 
-module _ (redo : RedoLaws) (o : Opening) (log : LogStore) (pages : PageStore) (old site : State) (so_far : Redone) (block : ℕ) (up : IsUpTo o log pages old site so_far block) where
+module _ (o : Opening) (log : LogStore) (pages : PageStore) (old site : State) (so_far : Redone) (block : ℕ) (up : IsUpTo o log pages old site so_far block) where
   abbrev pub list : LogList
   list = record { first = kept_by o.newest; blocks = o.blocks; tail = [] }
 
@@ -97,7 +96,7 @@ module _ (redo : RedoLaws) (o : Opening) (log : LogStore) (pages : PageStore) (o
       IsNextBlock o log pages old new so_far block content used
   next_block new content used goes same inside read =
       record {
-        taken = record { pages_are = redoing_still redo o log pages site new (log_from (kept_by o.newest) (take (block - kept_by o.newest) o.blocks)) goes same up.taken.pages_are; analysis = up.taken.analysis; count = up.taken.count };
+        taken = record { pages_are = redoing_still o log pages site new (log_from (kept_by o.newest) (take (block - kept_by o.newest) o.blocks)) goes same up.taken.pages_are; analysis = up.taken.analysis; count = up.taken.count };
         content_is = read.0;
         used_is = read.1;
         split = log_split (kept_by o.newest) (block - kept_by o.newest) block o.blocks (omega (arith, up.from)) inside;
@@ -124,10 +123,10 @@ module _ (o : Opening) (m : Master) (is : m ≡ saved_by o.newest) (front : List
   step_to e h = subst (λ (k : Master). is_taken (seen k) e ≡ true → Steps (seen k).active (heard_of (seen k) front) e) (sym is) h
 
 -- what analysis has taken of a sound log says of each transaction what all records say
-pub unfinished_by : RedoLaws → (p : LogicalImage) → IsSound p → (found : Analysis) → IsTable p.master.active (taken p) (listed found.table) → IsTable [] p.log (listed found.table)
-unfinished_by redo p sound found is =
-    subst (IsTable [] p.log) (redo.one_table p.master.active (taken p) (map (open_at [] p.log) (losers p.log)) (listed found.table) (redo.taken p sound) is)
-    (redo.unfinished [] p.log (512 * p.master.kept) (512 * p.hi) tt sound.in_order)
+pub unfinished_by : OneTable → TakenTable → TableOfUnfinished → (p : LogicalImage) → IsSound p → (found : Analysis) → IsTable p.master.active (taken p) (listed found.table) → IsTable [] p.log (listed found.table)
+unfinished_by one taken_table unfinished p sound found is =
+    subst (IsTable [] p.log) (one p.master.active (taken p) (map (open_at [] p.log) (losers p.log)) (listed found.table) (taken_table p sound) is)
+    (unfinished [] p.log (512 * p.master.kept) (512 * p.hi) tt sound.in_order)
 
 -- the error of a result
 abbrev stop_of : {A E : Type 0} → E → Result A E → E

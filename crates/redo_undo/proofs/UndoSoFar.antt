@@ -1,81 +1,63 @@
--- What the cache has done for some CLRs of a transaction.
-use Rattle.std.proofs.Common.{◌≡◌, ℕ, ◌+◌, true, ◌≤◌, List, [], ◌∷◌, ◌++◌, drop, append_assoc, append-nil, refl, sym, ap, ◌∙◌, arith, length}
+-- What undoing has done for some CLRs of a transaction.
+use Rattle.std.proofs.Common.{◌≡◌, ℕ, ◌+◌, ◌≤◌, List, [], ◌∷◌, ◌++◌, drop, append_assoc, append-nil, sym, ap, ◌∙◌, arith, length}
 use Rattle.std.specs.Prelude.{Ok, ⊤, Option}
-use Rattle.site.specs.declared.outside.Stop.TheVariants.{Worn}
+use Rattle.std.proofs.lemmas.List.{length-append}
+use Rattle.std.proofs.lemmas.List.Elements.{filter_map-append}
 use Rattle.site.specs.State.{State}
 use Rattle.record_model.specs.State.{Content}
-use Rattle.log_records.specs.Log.{Entry, txn_of}
-use Rattle.log_records.specs.Unfinished.{is_clr, left_open}
-use Rattle.log_laws.specs.RoomLaws.{LeftPush}
+use Rattle.log_records.specs.Log.{Entry}
+use Rattle.log_records.specs.Restart.{undo_touch}
+use Rattle.log_records.specs.Unfinished.{left_open}
 use Rattle.log_laws.specs.Analysis.{Unfinished, IsUnfinished}
+use Rattle.log_laws.proofs.OpenUpdates.{left_after_clr}
+use Rattle.log_laws.proofs.Owing.{left_push}
 use Rattle.log_store.specs.declared.store.LogStore.{LogStore}
 use Rattle.page_store.specs.declared.store.PageStore.{PageStore}
 use Rattle.checkpoint.specs.declared.master.Master.{Master}
-use Rattle.redo_undo.specs.declared.undo.UndoCursor.{UndoCursor}
+use Rattle.ring_machine.specs.Restart.{clr_work}
+use Rattle.redo_laws.specs.Calls.{KeepsInvariant}
 use Rattle.redo_laws.specs.Holding.{Represents, blocks_to}
+use Rattle.redo_laws.specs.UndoWorks.{works_of}
+use Rattle.redo_undo.specs.declared.undo.UndoCursor.{UndoCursor}
+use Rattle.redo_undo.specs.Mirroring.{clrs_for}
 use Rattle.redo_undo.specs.Undoing.{IsAt, Undone}
 use Rattle.redo_undo.specs.Rollback.{left_of, Compensates}
-use Rattle.redo_laws.specs.Laws.{PageLaws, UndoLaws}
-use Rattle.redo_laws.specs.MachineSteps.{StepsMachine}
-use Rattle.redo_laws.specs.UndoWorks.{works_of}
-use Rattle.redo_undo.specs.Mirroring.{PerformsOn}
-use Rattle.ring_machine.specs.Restart.{clr_work}
-use Rattle.ring_machine.proofs.Performing.{performs_as, performs_by, performs_then, performs_nothing, performs_answered}
-use Rattle.redo_undo.proofs.UndoneWork.{clrs_more}
-use Rattle.site.proofs.Working.{no_error}
+use Rattle.redo_undo.specs.UndoCalls.{UndoesWork}
 use Rattle.redo_undo.proofs.Rollbacks.{starts, goes_on}
-use Rattle.page_store.proofs.StagingLaws.{stages_none}
-use Rattle.redo_laws.proofs.Asking.{asks_nothing}
-use Rattle.redo_laws.proofs.AskingUndo.{one_more_work}
-use Rattle.log_laws.proofs.OpenUpdates.{left_after_clr}
-use Rattle.redo_undo.proofs.LeftUpdates.{AsksSoFar}
-use Rattle.std.proofs.lemmas.List.{length-append}
+use Rattle.redo_undo.proofs.UndoCalls.{undoes_answered, undoes_as, undoes_few, undoes_nothing, undoes_then}
+use Rattle.redo_undo.proofs.UndoneWork.{clrs_more}
 
-pub asks_none : (records : List Entry) (txn : ℕ) (log : LogStore) (pages : PageStore) (site : State) → AsksSoFar records [] txn log log pages pages site site
-asks_none records txn log pages site = record {
-  performs = performs_nothing (λ m is. is) (λ dev says. absurd (no_error {T = ⊤} {x = tt} {e = Worn dev} says));
+-- Of a transaction some Updates are undone, and the others are left.
+pub record UndoesSoFar (log : LogStore) (pages : PageStore) (site : State) (newest : Option Master) (records : List Entry) (table : List Content) (commits txn : ℕ) (now : UndoCursor) (first : LogStore) (old : PageStore) (before : State) : Type 0 where
+  pub made : Compensates log pages site newest records table commits txn (blocks_to first) now
+  pub done : List Entry
+  pub are : left_open records txn ≡ done ++ left_open (records ++ made.clrs) txn
+  pub does : UndoesWork {T = ⊤} (Ok tt) (clrs_for done) (works_of done) first log old pages before site newest table commits (length made.clrs) (length made.clrs)
+
+pub starts_undoing : {log : LogStore} {pages : PageStore} {site : State} {newest : Option Master} {records : List Entry} {table : List Content} {commits : ℕ} {x : Unfinished} {first : UndoCursor} → log.geometry ≡ pages.flash.geometry → Represents log pages site newest records table commits → IsUnfinished records x → IsAt first x →
+    UndoesSoFar log pages site newest records table commits x.txn first log pages site
+unfolding starts
+starts_undoing {log = log} {pages = pages} {site = site} {newest = newest} {records = records} {table = table} {commits = commits} {x = x} {first = first} sizes h unfinished at = record {
+  made = starts log pages site newest records table commits x first h unfinished at;
   done = [];
-  are = sym (ap (λ (l : List Entry). left_open l txn) (append-nil records));
-  asks = asks_nothing {T = ⊤} (Ok tt) pages site site (λ d. refl) (stages_none refl (omega arith) refl);
+  are = sym (ap (λ (l : List Entry). left_open l x.txn) (append-nil records));
+  does = undoes_nothing sizes h;
 }
 
 -- one CLR more
-pub asks_one_more : LeftPush → {B : Type 0} (b : B) (records clrs : List Entry) (txn : ℕ) (log log' log'' : LogStore) (old mid new : PageStore) (before between now : State) → AsksSoFar records clrs txn log log' old mid before between →
-    (u : Entry) (rest : List Entry) (e : Entry) → is_clr e.rec ≡ true → txn_of e ≡ txn → left_open (records ++ clrs) txn ≡ u ∷ rest → StepsMachine {T = B} (Ok b) (works_of (u ∷ [])) mid new between now →
-    PerformsOn {T = B} (Ok b) (clr_work u) log' log'' mid new between now → AsksSoFar records (clrs ++ e ∷ []) txn log log'' old new before now
-asks_one_more push b records clrs txn log log' log'' old mid new before between now so_far u rest e clr own left asks performs =
-    let more : left_open (records ++ (clrs ++ e ∷ [])) txn ≡ rest =
-    sym (ap (λ (l : List Entry). left_open l txn) (append_assoc records clrs (e ∷ []))) ∙ left_after_clr push (records ++ clrs) e txn clr own ∙ ap (drop 1) left in
-    record {
-      done = so_far.done ++ u ∷ [];
-      are = so_far.are ∙ ap (λ (l : List Entry). so_far.done ++ l) (left ∙ sym (ap (λ (l : List Entry). u ∷ l) more)) ∙ sym (append_assoc so_far.done (u ∷ []) (left_open (records ++ (clrs ++ e ∷ [])) txn));
-      asks = one_more_work tt b so_far.done u old mid new before between now so_far.asks asks;
-      performs = performs_as (clrs_more so_far.done u) (performs_then so_far.performs (performs_by (sym so_far.asks.rules_are) (performs_answered performs)));
-    }
-
--- With the CLRs themselves.
-
-abbrev pub AsksFor : LogStore → PageStore → State → Option Master → List Entry → List Content → ℕ → ℕ → ℕ → UndoCursor → LogStore → PageStore → State → Type 0
-AsksFor log pages site newest records table commits txn blocks now first old before =
-    (made : Compensates log pages site newest records table commits txn blocks before.log_reads now) × AsksSoFar records made.clrs txn first log old pages before site
-
-pub starts_asking : (log : LogStore) (pages : PageStore) (site : State) (newest : Option Master) (records : List Entry) (table : List Content) (commits : ℕ) (x : Unfinished) (first : UndoCursor) → Represents log pages site newest records table commits → IsUnfinished records x → IsAt first x →
-    AsksFor log pages site newest records table commits x.txn (blocks_to log) first log pages site
-unfolding starts
-starts_asking log pages site newest records table commits x first holds unfinished at = (starts log pages site newest records table commits x first holds unfinished at, asks_none records x.txn log pages site)
-
-pub goes_on_asking : PageLaws → (laws : UndoLaws) (log : LogStore) (pages : PageStore) (site : State) (newest : Option Master) (records : List Entry) (table : List Content) (commits txn blocks : ℕ) (now : UndoCursor) (start : LogStore) (old : PageStore) (before : State) →
-    (c : AsksFor log pages site newest records table commits txn blocks now start old before) (log' : LogStore) (pages' : PageStore) (new : State) (next : UndoCursor) (u : Entry) (rest : List Entry) →
-    left_open (records ++ c.0.clrs) now.txn ≡ u ∷ rest → Undone log' pages' new newest (records ++ c.0.clrs) table commits (left_of now c.0.remaining) next → blocks_to log' ≤ blocks_to log + 1 → new.log_reads ≤ site.log_reads + 1 →
-    StepsMachine {T = UndoCursor} (Ok next) (works_of (u ∷ [])) pages pages' site new → PerformsOn {T = UndoCursor} (Ok next) (clr_work u) log log' pages pages' site new →
-    (more : AsksFor log' pages' new newest records table commits txn blocks next start old before) × (length c.0.clrs + 1 ≤ length more.0.clrs)
+pub goes_on_undoing : {log log' : LogStore} {pages pages' : PageStore} {site new : State} {newest : Option Master} {records : List Entry} {table : List Content} {commits txn : ℕ} {now next : UndoCursor} {first : LogStore} {old : PageStore} {before : State} (c : UndoesSoFar log pages site newest records table commits txn now first old before) →
+    Represents first old before newest records table commits → KeepsInvariant {T = ⊤} (Ok tt) first log old pages before site → (u : Entry) (rest : List Entry) → left_open (records ++ c.made.clrs) txn ≡ u ∷ rest →
+    Undone log' pages' new newest (records ++ c.made.clrs) table commits (left_of now c.made.remaining) next → blocks_to log' ≤ blocks_to log + 1 → UndoesWork {T = UndoCursor} (Ok next) (clr_work u) (works_of (u ∷ [])) log log' pages pages' site new newest table commits 1 1 →
+    UndoesSoFar log' pages' new newest records table commits txn next first old before
 unfolding goes_on
-goes_on_asking page_laws laws log pages site newest records table commits txn blocks now start old before c log' pages' new next u rest left done one one_read asks performs =
-    let made = c.0 in
-    let longer : length made.clrs + 1 ≤ length (made.clrs ++ done.e ∷ []) = omega (arith, length-append made.clrs (done.e ∷ [])) in (
-      (
-        goes_on page_laws laws log pages site newest records table commits txn blocks before.log_reads now made log' pages' new next done one one_read,
-        asks_one_more laws.left_push next records made.clrs txn start log log' old pages pages' before site new c.1 u rest done.e done.clr (done.own ∙ made.same) (sym (ap (left_open (records ++ made.clrs)) made.same) ∙ left) asks performs,
-      ),
-      longer,
-    )
+goes_on_undoing {log = log} {log' = log'} {pages = pages} {pages' = pages'} {site = site} {new = new} {newest = newest} {records = records} {table = table} {commits = commits} {txn = txn} {now = now} {next = next} {first = first} c h works u rest left undone few one =
+    let clrs = c.made.clrs in
+    let longer : length clrs + 1 ≤ length (clrs ++ undone.e ∷ []) = omega (arith, length-append clrs (undone.e ∷ [])) in
+    let more : left_open (records ++ (clrs ++ undone.e ∷ [])) txn ≡ rest =
+    sym (ap (λ (l : List Entry). left_open l txn) (append_assoc records clrs (undone.e ∷ []))) ∙ left_after_clr left_push (records ++ clrs) undone.e txn undone.clr (undone.own ∙ c.made.same) ∙ ap (drop 1) left in
+    record {
+      made = goes_on log pages site newest records table commits txn (blocks_to first) now c.made log' pages' new next undone few;
+      done = c.done ++ u ∷ [];
+      are = c.are ∙ ap (λ (l : List Entry). c.done ++ l) (left ∙ sym (ap (λ (l : List Entry). u ∷ l) more)) ∙ sym (append_assoc c.done (u ∷ []) (left_open (records ++ (clrs ++ undone.e ∷ [])) txn));
+      does = undoes_few longer longer (undoes_as (clrs_more c.done u) (filter_map-append undo_touch c.done (u ∷ [])) (undoes_answered (undoes_then h works c.does one)));
+    }

@@ -1,16 +1,15 @@
 -- The work of undoing: CLRs one after the other, and the Ends of transactions of which nothing remains.
-use Rattle.std.proofs.Common.{◌≡◌, ◌≢◌, ◌⊎◌, inl, inr, ◌==◌, ℕ, zero, suc, ◌+◌, ◌*◌, ◌≤◌, ◌<◌, Bool, true, false, cond, not, ◌&&◌, ◌||◌, nat_eq, List, [], ◌∷◌, ◌++◌, map, filter, find, drop, replicate, reverse, length, Option, Some, refl, sym, ap, subst, ◌∙◌, arith, append-nil, append_assoc, eq-eqb, ne_eqb, eqb-true, true≢false, length-append}
-use Rattle.std.specs.Prelude.{Result, Ok, if◌then◌else◌}
+use Rattle.redo_laws.specs.Holding.{Represents}
+use Rattle.redo_undo.specs.UndoCalls.{UndoesWork}
+use Rattle.log_laws.proofs.Undoing.{next_to_undo}
+use Rattle.std.proofs.Common.{◌≡◌, ◌≢◌, ◌==◌, ℕ, zero, suc, ◌+◌, ◌*◌, ◌≤◌, ◌<◌, Bool, true, false, cond, not, ◌&&◌, ◌||◌, nat_eq, List, [], ◌∷◌, ◌++◌, map, filter, find, drop, replicate, reverse, length, Option, Some, refl, sym, ap, subst, ◌∙◌, arith, append-nil, append_assoc, eq-eqb, ne_eqb, eqb-true, true≢false, length-append}
+use Rattle.std.specs.Prelude.{Ok, if◌then◌else◌}
 use Rattle.std.specs.List.{list_any, AllByRecursion}
 use Rattle.std.proofs.lemmas.Bool.{and_from, and_parts, or_left}
 use Rattle.std.proofs.lemmas.List.Elements.{filter-append}
 use Rattle.std.proofs.lemmas.Grind.{flat_map-append}
 use Rattle.std_lemmas.proofs.Lists.{any_reverse}
 use Rattle.site.specs.State.{State}
-use Rattle.site.specs.declared.outside.Dev.{Dev}
-use Rattle.site.specs.declared.outside.Dev.TheVariants.{Log}
-use Rattle.site.specs.declared.outside.Stop.{Stop}
-use Rattle.site.specs.declared.outside.Stop.TheVariants.{Device, Worn, Foreign}
 use Rattle.record_model.specs.State.{Content}
 use Rattle.log_records.specs.Log.{Entry, txn_of, is_of, is_update, is_closed, number_of, before_of}
 use Rattle.log_records.specs.Unfinished.{left_open, pending, losers}
@@ -19,39 +18,26 @@ use Rattle.log_laws.specs.UndoLaws.{IsNext}
 use Rattle.log_laws.proofs.Pendings.{waits}
 use Rattle.analysis.specs.Open.{Open, found_in, AscendFrom, TakesOut}
 use Rattle.analysis.specs.Read.{IsTable, open_at}
-use Rattle.analysis.specs.Laws.{OneTable, TableOfUnfinished}
+use Rattle.analysis.specs.Laws.{OneTable, TableOfUnfinished, ActiveIsUnfinished}
 use Rattle.record_model.specs.Touches.{touch}
 use Rattle.ring_machine.specs.Machine.{RingOp, cached, logged, changed}
 use Rattle.ring_machine.specs.Octets.{clr_octets}
 use Rattle.redo_laws.proofs.AskingUndo.{page_is}
 use Rattle.ring_machine.specs.Commands.{takes_back, ends}
-use Rattle.ring_machine.specs.Restart.{clr_on, clr_work, undoing_one, is_empty, only_ends}
-use Rattle.ring_machine.specs.Performing.{Performs}
-use Rattle.ring_machine.proofs.Performing.{performs_from}
-use Rattle.site.specs.State.{Image}
+use Rattle.ring_machine.specs.Restart.{clr_on, clr_work, undoing_one, is_empty, only_ends, undo_work, undoing_work}
 use Rattle.log_store.specs.declared.store.LogStore.{LogStore}
 use Rattle.page_store.specs.declared.store.PageStore.{PageStore}
-use Rattle.page_store.specs.Caching.{rules}
 use Rattle.redo_laws.specs.UndoingAll.{HasNone}
 use Rattle.analysis.specs.declared.analysis.Analysis.{Analysis}
 use Rattle.analysis.specs.Table.{listed}
 use Rattle.checkpoint.specs.declared.master.Master.{Master}
 use Rattle.image_meaning.specs.Meaning.{logical_image_under, kept_by}
 use Rattle.log_laws.specs.Tail.{next_lsn}
-use Rattle.redo_laws.specs.Laws.{FoundLaws, UndoLaws}
 use Rattle.redo_laws.specs.UndoWorks.{UndoesUpdates}
 use Rattle.redo_undo.proofs.Found.{lives, order, undoable, open_is}
-use Rattle.redo_undo.specs.Mirroring.{Mirrors, PerformsOn, clrs_for, none_remains, ends_for}
+use Rattle.redo_undo.specs.Mirroring.{clrs_for, none_remains, ends_for}
 use Rattle.redo_undo.proofs.Opens.{found_here}
 use Rattle.std.proofs.lemmas.Option.{same_Some}
-
--- a read of the log before it
-pub performs_read : {T : Type 0} {result : Result T Stop} {works : List RingOp} {old new : LogStore} {pages pages' : PageStore} {image mid image' : Image} → mid ≡ image → Performs result (rules pages) works (Mirrors old pages mid) (Mirrors new pages' image') → Performs result (rules pages) works (Mirrors old pages image) (Mirrors new pages' image')
-performs_read {old = old} {pages = pages} same performs = performs_from (λ m is. subst (λ (i : Image). Mirrors old pages i m) (sym same) is) performs
-
-pub read_refuses : (stop : Stop) → (stop ≡ Device Log) ⊎ (stop ≡ Foreign) → (dev : Dev) → stop ≢ Worn dev
-read_refuses stop (inl device) dev = λ worn. cc
-read_refuses stop (inr foreign) dev = λ worn. cc
 
 -- CLRs.
 
@@ -84,10 +70,10 @@ one_end zero = refl
 one_end (suc a) = ap (λ (w : List RingOp). logged 9 ∷ w) (one_end a)
 
 -- so many of them were made, and the others are left
-pub record EndsMade (log log' : LogStore) (pages : PageStore) (before now : State) (all left : List Open) : Type 0 where
+pub record EndsMade (log log' : LogStore) (pages : PageStore) (before now : State) (newest : Option Master) (table : List Content) (commits records : ℕ) (all left : List Open) : Type 0 where
   pub count : ℕ
   pub of_all : length (filter none_remains all) ≡ count + length (filter none_remains left)
-  pub made : PerformsOn {T = Unit {0}} (Ok tt) (replicate count (logged 9)) log log' pages pages before now
+  pub made : UndoesWork {T = Unit {0}} (Ok tt) (replicate count (logged 9)) [] log log' pages pages before now newest table commits records 0
 
 -- a transaction of which nothing remains is taken out
 pub takes_one : (old new : List Open) (t : ℕ) → AscendFrom 0 old → HasNone old t → TakesOut old new t → length (filter none_remains old) ≡ suc (length (filter none_remains new))
@@ -155,6 +141,12 @@ ends_are one unfinished records table from to is order =
     ap (λ (l : List Open). replicate (length (filter none_remains l)) (logged 9)) (one [] records table (map (open_at [] records) (losers records)) is (unfinished [] records from to tt order))
     ∙ ap (λ (n : ℕ). replicate n (logged 9)) (counted records (losers records))
 
+-- all that is undone begins with them
+pub ended_first : ActiveIsUnfinished → OneTable → TableOfUnfinished → {log : LogStore} {pages : PageStore} {site : State} {newest : Option Master} {records : List Entry} {table : List Content} {commits : ℕ} (found : Analysis) → Represents log pages site newest records table commits → IsTable [] records (listed found.table) →
+    undo_work records ≡ ends_for (listed found.table) ++ undoing_work (reverse (pending records))
+ended_first active one unfinished {log = log} {pages = pages} {site = site} {newest = newest} {records = records} {table = table} {commits = commits} found h is =
+    ap (λ (w : List RingOp). w ++ undoing_work (reverse (pending records))) (sym (ends_are one unfinished records (listed found.table) (512 * kept_by newest) _ is (order active log pages site newest records table commits found h is)))
+
 -- Whether an Update of a transaction waits to be undone.
 
 not_among : (f w : Entry → Bool) (xs : List Entry) → ((e : Entry) → f e ≡ true → w e ≡ false) → list_any f (filter w xs) ≡ false
@@ -207,19 +199,19 @@ still_pending log t next lives = by (left_open log t) refl
         (ap (λ (l : List Entry). list_any (λ v. v.lsn == u.lsn) l) (ap (left_open log) n.own ∙ is) ∙ or_left (u.lsn == u.lsn) (list_any (λ v. v.lsn == u.lsn) rest) (eq-eqb u.lsn u.lsn refl)))
 
 -- behind the CLR of the last Update of all: whether its transaction has one of the earlier ones is whether analysis has one of it
-pub waits_where : (found_laws : FoundLaws) (laws : UndoLaws) (log : LogStore) (pages : PageStore) (site : State) (newest : Option Master) (records : List Entry) (table : List Content) (commits : ℕ) (found : Analysis) (known : ℕ) (u : Entry) (earlier : List Entry) → reverse (pending records) ≡ u ∷ earlier →
+pub waits_where : (active : ActiveIsUnfinished) (log : LogStore) (pages : PageStore) (site : State) (newest : Option Master) (records : List Entry) (table : List Content) (commits : ℕ) (found : Analysis) (known : ℕ) (u : Entry) (earlier : List Entry) → reverse (pending records) ≡ u ∷ earlier →
     UndoesUpdates log pages site newest records table commits found known (u ∷ []) → (x : Open) → found_in (listed found.table) (txn_of u) ≡ Some x → list_any (is_of (txn_of u)) earlier ≡ not (none_remains x)
-waits_where found_laws laws log pages site newest records table commits found known u earlier all first x there =
+waits_where active log pages site newest records table commits found known u earlier all first x there =
     let now = first.some.now in
     let log_now = records ++ first.some.more in
     let p = logical_image_under newest pages.flash.geometry site.image now.holds.log_holds.blocks in
-    let lives = lives found_laws laws log pages site newest log_now table commits found now.holds now.analysis (txn_of u) x there in
+    let lives = lives active log pages site newest log_now table commits found now.holds now.analysis (txn_of u) x there in
     let next : (v : Entry) (rest : List Entry) → left_open log_now (txn_of u) ≡ v ∷ rest → IsNext log_now (txn_of u) v rest = λ v rest is.
-    found_laws.next (512 * kept_by newest) (next_lsn p now.holds.log_holds.tail) log_now (txn_of u) v rest (order found_laws laws log pages site newest log_now table commits found now.holds now.analysis)
-    ((undoable found_laws laws log pages site newest log_now table commits found now.holds now.analysis).undone (txn_of u) lives) is in
+    next_to_undo (512 * kept_by newest) (next_lsn p now.holds.log_holds.tail) log_now (txn_of u) v rest (order active log pages site newest log_now table commits found now.holds now.analysis)
+    ((undoable active log pages site newest log_now table commits found now.holds now.analysis).undone (txn_of u) lives) is in
     let still : is_closed log_now (txn_of u) ≡ false = not_closed (is_closed log_now (txn_of u)) (and_parts (list_any (is_of (txn_of u)) log_now) (not (is_closed log_now (txn_of u))) lives).1 in
     ap (list_any (is_of (txn_of u))) (ap (drop 1) (sym all ∙ first.left)) ∙ any_reverse (is_of (txn_of u)) (pending log_now) ∙ still_pending log_now (txn_of u) next still
-    ∙ sym (ap not (ap none_remains (open_is found_laws laws log pages site newest log_now table commits found now.holds now.analysis (txn_of u) x there).1 ∙ empty_is (left_open log_now (txn_of u))))
+    ∙ sym (ap not (ap none_remains (open_is active log pages site newest log_now table commits found now.holds now.analysis (txn_of u) x there).1 ∙ empty_is (left_open log_now (txn_of u))))
   where
     not_closed : (b : Bool) → not b ≡ true → b ≡ false
     not_closed true is = absurd (true≢false (sym is))

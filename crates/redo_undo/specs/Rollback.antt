@@ -23,9 +23,9 @@ abbrev pub left_of : UndoCursor → ℕ → Unfinished
 left_of at remaining = record { txn = at.txn; last = at.last; next = at.next; remaining = remaining }
 
 -- Of an unfinished transaction some Updates are compensated, the last ones first: the log has their CLRs, and the pages
--- show them. From so many blocks and log reads on it took at most one of each for each CLR.
+-- show them. From so many blocks on it took at most one for each CLR.
 pub record Compensates (log : LogStore) (pages : PageStore) (site : State) (newest : Option Master)
-    (records : List Entry) (table : List Content) (commits : ℕ) (txn blocks reads : ℕ) (now : UndoCursor) : Type 0 where
+    (records : List Entry) (table : List Content) (commits : ℕ) (txn blocks : ℕ) (now : UndoCursor) : Type 0 where
   pub clrs : List Entry
   pub own : AreClrsOf txn clrs
   pub holds : Represents log pages site newest (records ++ clrs) table commits
@@ -35,7 +35,6 @@ pub record Compensates (log : LogStore) (pages : PageStore) (site : State) (newe
   pub count : length clrs + remaining ≡ length (left_open records txn)
   pub owes : owed (records ++ clrs) + length clrs ≡ owed records
   pub few : blocks_to log ≤ blocks + length clrs
-  pub read : site.log_reads ≤ reads + length clrs
   pub orderly : AreOrderly records → AreOrderly (records ++ clrs)
 
 -- A transaction is undone as a whole: behind its CLRs the log has its End, and the pages show that. It is unfinished no

@@ -1,5 +1,5 @@
 // A checkpoint: what is unsealed is sealed, the changed pages are flushed, and a new master is saved.
-ghost use Rattle.std.specs.Prelude.{◌≡◌, ◌≢◌, ◌⊎◌, ◌+◌, ◌<◌, ◌≤◌, List, false, Option, min, IfOk, OnOk, IfErr, ℕ};
+ghost use Rattle.std.specs.Prelude.{◌≡◌, ◌⊎◌, ◌+◌, ◌<◌, ◌≤◌, List, false, Option, min, IfOk, OnOk, IfErr, ℕ};
 ghost use Rattle.std.specs.Prelude.{◌^◌, IsErrOf};
 ghost use Rattle.site.specs.declared.outside.Dev.{Dev};
 ghost use Rattle.site.specs.declared.outside.Stop.{Stop};
@@ -32,15 +32,9 @@ ghost use Rattle.std.specs.Prelude.{IsTrue};
 ghost use Rattle.site.specs.Moments.{ChangesOnly};
 
 use crate::forcing::force;
-use crate::laws::{beside_laws, log_laws, page_laws};
 use crate::store::TransactionStore;
 use checkpoint::{Master, Pairs, one_master, save};
-use image_changes::ring_kept;
-use image_meaning::{
-    checkpoint_needs, checkpoint_stands, master_is_saved, master_may_save, master_saved, redoing,
-    under_some_master,
-};
-use log_laws::{carries_nothing, losers_listed, whole_is_undoable};
+use image_meaning::{checkpoint_stands, master_is_saved, master_may_save, master_saved};
 use log_store::LogStore;
 use page_store::PageStore;
 use sealed_ring::Ring;
@@ -51,18 +45,10 @@ fn save_laws()
     ensures { SaveLaws }
 {
     master_is_saved();
-    checkpoint_needs();
     master_may_save();
     master_saved();
     one_master();
-    redoing();
     checkpoint_stands();
-    under_some_master();
-    ring_kept();
-    log_store::stays_beside();
-    losers_listed();
-    whole_is_undoable();
-    carries_nothing();
 }
 
 // Pushes all changed pages. What log and pages hold together stays, and at each moment the devices stand for the same
@@ -91,8 +77,6 @@ fn flush<S: Site>(site: &mut S, log: &mut LogStore, pages: &mut PageStore) -> Re
     ensures hi { OnOk result (log.new.ring.hi ≡ log.old.ring.hi) }
     ensures log_reads { (S.state site.new).log_reads ≡ (S.state site.old).log_reads }
 {
-    log_laws();
-    page_laws();
     pages.flush_all(site, log)
 }
 
@@ -175,9 +159,6 @@ fn save_master<S: Site>(
     ensures stops { IfErr result (λ stop. (stop ≡ Stop.Device Dev.Log) ⊎ (stop ≡ Stop.Worn Dev.Log)) }
 {
     save_laws();
-    log_laws();
-    page_laws();
-    beside_laws();
     let redo = log.sealed_end() / 512;
     let kept = oldest_block(&active, log.kept(), redo);
     let master = Master {
@@ -242,8 +223,6 @@ impl TransactionStore {
         ensures sizes { sizes_of self.new ≡ sizes_of self.old }
         ensures stops { IfErr result (λ stop. MayStop stop) }
     {
-        under_some_master();
-        beside_laws();
         match force(site, &mut self.log) {
             Ok(()) => {}
             Err(stop) => return Err(stop),

@@ -10,30 +10,17 @@ ghost use Rattle.log_laws.specs.Follow.{writes_in};
 ghost use Rattle.log_store.specs.Representation.{end_of};
 ghost use Rattle.checkpoint.specs.declared.master.Master.{Master};
 ghost use Rattle.image_meaning.specs.Moments.{LeavesEitherFor};
-ghost use Rattle.redo_laws.specs.Committing.{MayCommit, CommitLaws};
+ghost use Rattle.redo_laws.specs.Committing.{MayCommit};
 ghost use Rattle.redo_undo.specs.Stores.{MayLog, Represents, sizes_of};
 ghost use Rattle.redo_undo.specs.StoreCalls.{KeepsInvariant, Keeps};
 ghost use Rattle.redo_undo.specs.Mirroring.{PerformsStore};
 ghost use Rattle.ring_machine.specs.Commands.{commits as commits_work};
 ghost use Rattle.redo_laws.specs.MachineSteps.{StepsMachine};
 
-use crate::laws::{beside_laws, log_laws, page_laws};
 use crate::logging::log_record;
 use crate::store::TransactionStore;
-use image_changes::ring_kept;
-use log_laws::{commit_follows, commits_more, orderly_goes_on, owed_closing, tail_with_commit};
 use log_records::LogRecord;
 use site::{Site, Stop};
-
-// The laws on a Commit.
-fn commit_laws()
-    ensures { CommitLaws }
-{
-    commit_follows();
-    commits_more();
-    tail_with_commit();
-    owed_closing();
-}
 
 impl TransactionStore {
     /// Logs the Commit of a transaction, and seals it: then the transaction is committed. Answers the Commit's LSN.
@@ -65,12 +52,6 @@ impl TransactionStore {
             (S.state site.old) (S.state site.new) }
         ensures stops { IfErr result (λ stop. (stop ≡ Stop.Device Dev.Log) ⊎ (stop ≡ Stop.Worn Dev.Log)) }
     {
-        commit_laws();
-        ring_kept();
-        orderly_goes_on();
-        log_laws();
-        page_laws();
-        beside_laws();
         let lsn = match log_record(site, &mut self.log, &LogRecord::Commit { txn, number }) {
             Ok(lsn) => lsn,
             Err(stop) => return Err(stop),

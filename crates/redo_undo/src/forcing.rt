@@ -12,8 +12,6 @@ ghost use Rattle.redo_laws.specs.Holding.{Invariant, Represents, blocks_to};
 ghost use Rattle.redo_undo.specs.Mirroring.{PerformsOn, force_work};
 ghost use Rattle.redo_laws.specs.Calls.{KeepsInvariantBeside, KeepsBeside};
 
-use crate::laws::{beside_laws, log_laws, page_laws};
-use image_changes::ring_kept;
 use log_store::LogStore;
 use site::{Site, Stop};
 
@@ -48,10 +46,6 @@ pub(crate) fn force<S: Site>(site: &mut S, log: &mut LogStore) -> Result<(), Sto
     // When each answer comes.
     ensures stops { IfErr result (λ stop. (stop ≡ Stop.Device Dev.Log) ⊎ (stop ≡ Stop.Worn Dev.Log)) }
 {
-    log_laws();
-    page_laws();
-    beside_laws();
-    ring_kept();
     if log.tail_empty() {
         return Ok(());
     }

@@ -29,10 +29,6 @@ ghost use Rattle.page_store.specs.Caching.{next_group};
 ghost use Rattle.page_store.specs.Staging.{Stages};
 
 use crate::changing::change_front;
-use crate::laws::{beside_laws, log_laws, page_laws};
-use crate::redo_pass::redo_laws;
-use image_changes::ring_kept;
-use log_laws::orderly_goes_on;
 use log_records::LogRecord;
 use log_store::LogStore;
 use page_store::PageStore;
@@ -80,9 +76,6 @@ pub fn touch<S: Site>(
     ensures logs_nothing { LogsNothing result log.old log.new pages.old pages.new (S.state site.old)
         (S.state site.new) }
 {
-    log_laws();
-    page_laws();
-    redo_laws();
     pages.touch(site, log, page)
 }
 
@@ -150,11 +143,6 @@ pub fn log_record<S: Site>(site: &mut S, log: &mut LogStore, rec: &LogRecord) ->
     // When each answer comes.
     ensures stops { IfErr result (λ stop. (stop ≡ Stop.Device Dev.Log) ⊎ (stop ≡ Stop.Worn Dev.Log)) }
 {
-    log_laws();
-    page_laws();
-    beside_laws();
-    orderly_goes_on();
-    ring_kept();
     log.append(site, rec)
 }
 
@@ -207,7 +195,6 @@ pub fn log_change<S: Site>(
     ensures stops { IfErr result (λ stop. (stop ≡ Stop.Device Dev.Log)
         ⊎ ((stop ≡ Stop.Worn Dev.Log) ⊎ (stop ≡ Stop.Foreign))) }
 {
-    log_laws();
     let lsn = match log_record(site, log, rec) {
         Ok(lsn) => lsn,
         Err(stop) => return Err(stop),

@@ -18,20 +18,17 @@ ghost use Rattle.analysis.specs.Taken.{is_named, is_taken, Steps, taken};
 ghost use Rattle.redo_laws.specs.Holding.{Invariant, Represents, IsOnPage, blocks_to};
 ghost use Rattle.redo_undo.specs.Redoing.{IsOpened, Opening, Takes, LeavesOpened, IsRedoing, HasTaken, touches_of};
 ghost use Rattle.redo_undo.specs.Redoing.{AsksAtRest, heard_of};
-ghost use Rattle.redo_laws.specs.RedoLaws.{RedoLaws};
 ghost use Rattle.checkpoint.specs.declared.master.Master.{Master};
 ghost use Rattle.redo_laws.specs.MachineSteps.{redo_works};
 ghost use Rattle.redo_laws.specs.Calls.{KeepsInvariant, LogsNothing, Keeps};
 
 use crate::changing::change_front;
-use crate::laws::{log_laws, page_laws};
 use crate::logging::touch;
 use analysis::{Analysis, losers_are_taken, sound_log_steps, table_of_records};
 use checkpoint::Master;
-use image_meaning::{new_versions, redoing, redone_versions, versions_beside_the_tail};
-use log_records::{BLOCK_LEN, LogRecord, read_again, read_record};
+use log_records::{BLOCK_LEN, LogRecord, read_record};
 use log_store::LogStore;
-use page_store::{PageStore, stays_beside, touch_then_change};
+use page_store::PageStore;
 use site::{Site, Stop};
 use std::alloc::Global;
 
@@ -40,21 +37,6 @@ use std::alloc::Global;
 pub struct Redone {
     pub found: Analysis,
     pub records: u64,
-}
-
-// On redoing the records of a log.
-pub(crate) fn redo_laws()
-    ensures { RedoLaws }
-{
-    new_versions();
-    versions_beside_the_tail();
-    redone_versions();
-    redoing();
-    sound_log_steps();
-    losers_are_taken();
-    table_of_records();
-    stays_beside();
-    touch_then_change();
 }
 
 // The page that an Update or a CLR is on, and none of any other record.
@@ -164,8 +146,6 @@ fn redo_record<S: Site>(
     ensures logs_nothing { LogsNothing result log.old log.new pages.old pages.new (S.state site.old)
         (S.state site.new) }
 {
-    page_laws();
-    redo_laws();
     let Some(page) = page_of(rec) else {
         return Ok(());
     };
@@ -213,8 +193,7 @@ fn take_record<S: Site>(
     ensures owed { OnOk result (owed_for (listed so_far.new.found.table)
         ≤ owed_for (listed so_far.old.found.table) + 1) }
 {
-    page_laws();
-    redo_laws();
+    sound_log_steps();
     if let Err(stop) = analyse(master, &mut so_far.found, lsn, rec) {
         return Err(stop);
     }
@@ -261,9 +240,6 @@ fn take_block<S: Site>(
     ensures owed { OnOk result (owed_for (listed so_far.new.found.table) + so_far.old.records
         ≤ owed_for (listed so_far.old.found.table) + so_far.new.records) }
 {
-    page_laws();
-    redo_laws();
-    read_again();
     let mut at = 2;
     while at < used {
         let Ok((rec, end)) = read_record(content, at, used) else {
@@ -344,9 +320,8 @@ pub fn redo<S: Site>(
     ensures log_reads { (S.state site.new).log_reads
         ≤ (S.state site.old).log_reads + (log.old.ring.hi - log.old.kept) }
 {
-    log_laws();
-    page_laws();
-    redo_laws();
+    table_of_records();
+    losers_are_taken();
     let found = match Analysis::start(alloc, master) {
         Ok(found) => found,
         Err(stop) => return Err(stop),

@@ -30,9 +30,7 @@ ghost use Rattle.site.specs.Calls.{SameReads};
 ghost use Rattle.page_store.specs.Caching.{next_group};
 ghost use Rattle.page_store.specs.Staging.{Stages};
 
-use crate::laws::hold_together;
 use crate::logging::{log_change, log_record, touch};
-use crate::session_laws::sessions_are_undone;
 use crate::undo::undo_one;
 use log_records::LogRecord;
 use log_store::LogStore;
@@ -163,7 +161,6 @@ impl TransactionStore {
             → Represents self.now site newest records table commits → result ≡ shown_in self.now site records number }
         ensures short { IsShort result }
     {
-        hold_together();
         match self.pages.get((number % SLOTS) as u8) {
             None => None,
             Some(value) => match Octets::from_slice(value) {
@@ -282,7 +279,6 @@ impl TransactionStore {
             (entry.writes + 1) }
         ensures room { OnOk result (blocks_to self.new.log + owed < self.new.log.kept + (sizes_of self.new).blocks) }
     {
-        sessions_are_undone();
         let before = self.blocks();
         match undo_one(
             site,

@@ -14,22 +14,22 @@ ghost use Rattle.log_store.specs.Representation as log_store;
 ghost use Rattle.log_store.specs.Representation.{end_of};
 ghost use Rattle.page_store.specs.declared.store.PageStore.{PageStore};
 ghost use Rattle.checkpoint.specs.declared.master.Master.{Master};
-ghost use Rattle.image_meaning.specs.Moments.{LeavesTableUnder};
 ghost use Rattle.redo_laws.specs.Holding.{Invariant, Represents, MayGrow, blocks_to};
 ghost use Rattle.redo_undo.specs.Undoing.{IsAt, IsWanted, Undone};
 ghost use Rattle.redo_undo.specs.Rollback.{Compensates, RollsBack};
-ghost use Rattle.redo_laws.specs.MachineSteps.{StepsMachine, one_change, undo_one_works};
+ghost use Rattle.redo_laws.specs.MachineSteps.{one_change, undo_one_works};
 ghost use Rattle.redo_laws.specs.UndoWorks.{works_of};
-ghost use Rattle.redo_laws.specs.Calls.{KeepsInvariant, ReadsOne, Keeps};
-ghost use Rattle.redo_undo.specs.Mirroring.{PerformsOn, clrs_for, undo_one_work};
+ghost use Rattle.redo_laws.specs.Calls.{KeepsInvariant, ReadsOne};
+ghost use Rattle.redo_undo.specs.Mirroring.{clrs_for, undo_one_work};
+ghost use Rattle.redo_undo.specs.UndoCalls.{UndoesWork};
 ghost use Rattle.ring_machine.specs.Commands.{takes_back};
 ghost use Rattle.ring_machine.specs.Restart.{clr_work};
 
-use crate::laws::{beside_laws, found_laws, page_laws, undo_laws};
 use crate::logging::{log_change, log_record, touch};
+use analysis::table_of_records;
 use log_records::LogRecord;
 use log_store::LogStore;
-use page_store::{PageStore, touch_then_change};
+use page_store::PageStore;
 use record_model::Octets;
 use site::{Site, Stop};
 
@@ -100,9 +100,7 @@ fn read_update<S: Site>(log: &LogStore, site: &mut S, at: &UndoCursor) -> Result
     ensures falls { IfOk result (λ wanted. wanted.prev < at.now.next) }
     ensures reads { ReadsOne result (S.state site.old) (S.state site.new) }
 {
-    page_laws();
-    undo_laws();
-    found_laws();
+    table_of_records();
     if at.next > at.last {
         return Err(Stop::Foreign);
     }
@@ -185,25 +183,17 @@ fn compensate<S: Site>(
           rec = LogRecord.Clr at.now.txn at.now.last wanted.prev wanted.page wanted.slot
               wanted.before;
         } ∷ [])) }
-    ensures keeps { (newest : Option Master) (records : List Entry) (table : List Content) (commits : ℕ)
+    ensures does { (newest : Option Master) (records : List Entry) (table : List Content) (commits : ℕ)
         → Represents log.old pages.old (S.state site.old) newest records table commits
-        → Keeps result pages.old.flash.geometry log.old log.new (S.state site.old) (S.state site.new)
-        (LeavesTableUnder newest pages.old.flash.geometry table commits (S.state site.old).told) 1 0 }
-    ensures performs { (newest : Option Master) (records : List Entry) (table : List Content) (commits : ℕ)
-        → Represents log.old pages.old (S.state site.old) newest records table commits
-        → PerformsOn result (takes_back (32 * wanted.page + wanted.slot, wanted.before)) log.old log.new pages.old
-        pages.new (S.state site.old) (S.state site.new) }
+        → UndoesWork result (takes_back (32 * wanted.page + wanted.slot, wanted.before)) (one_change wanted.page)
+        log.old log.new pages.old pages.new (S.state site.old) (S.state site.new) newest table commits 1 0 }
 
     // Of every site.
-    ensures asks { StepsMachine result (one_change wanted.page) pages.old pages.new (S.state site.old)
-        (S.state site.new) }
     ensures before { IfOk result (λ lsn. lsn < end_of log.new) }
     ensures works { KeepsInvariant result log.old log.new pages.old pages.new (S.state site.old) (S.state site.new) }
     ensures blocks { OnOk result (blocks_to log.new ≤ blocks_to log.old + 1) }
     ensures log_reads { (S.state site.new).log_reads ≡ (S.state site.old).log_reads }
 {
-    page_laws();
-    touch_then_change();
     let page = wanted.page;
     let clr = LogRecord::Clr {
         txn: at.txn,
@@ -236,23 +226,12 @@ pub(crate) fn undo_update<S: Site>(
         → Represents log.old pages.old (S.state site.old) newest records table commits
         → IsUnfinished records x → IsAt at x → 0 < x.remaining
         → IfOk result (Undone log.new pages.new (S.state site.new) newest records table commits x) }
-    ensures keeps { (newest : Option Master) (records : List Entry) (table : List Content) (commits : ℕ)
-        (x : Unfinished)
-        → Represents log.old pages.old (S.state site.old) newest records table commits
-        → IsUnfinished records x → IsAt at x → 0 < x.remaining
-        → Keeps result pages.old.flash.geometry log.old log.new (S.state site.old) (S.state site.new)
-        (LeavesTableUnder newest pages.old.flash.geometry table commits (S.state site.old).told) 1 0 }
-
-    ensures asks { (newest : Option Master) (records : List Entry) (table : List Content) (commits : ℕ) (x : Unfinished)
+    ensures does { (newest : Option Master) (records : List Entry) (table : List Content) (commits : ℕ) (x : Unfinished)
         (u : Entry) (rest : List Entry)
         → Represents log.old pages.old (S.state site.old) newest records table commits
         → IsUnfinished records x → IsAt at x → left_open records x.txn ≡ u ∷ rest
-        → StepsMachine result (works_of (u ∷ [])) pages.old pages.new (S.state site.old) (S.state site.new) }
-    ensures performs { (newest : Option Master) (records : List Entry) (table : List Content) (commits : ℕ)
-        (x : Unfinished) (u : Entry) (rest : List Entry)
-        → Represents log.old pages.old (S.state site.old) newest records table commits
-        → IsUnfinished records x → IsAt at x → left_open records x.txn ≡ u ∷ rest
-        → PerformsOn result (clr_work u) log.old log.new pages.old pages.new (S.state site.old) (S.state site.new) }
+        → UndoesWork result (clr_work u) (works_of (u ∷ [])) log.old log.new pages.old pages.new (S.state site.old)
+        (S.state site.new) newest table commits 1 1 }
 
     // Of every site.
     ensures last { IfOk result (λ now. now.last < end_of log.new) }
@@ -262,9 +241,6 @@ pub(crate) fn undo_update<S: Site>(
     ensures blocks { OnOk result (blocks_to log.new ≤ blocks_to log.old + 1) }
     ensures log_reads { (S.state site.new).log_reads ≤ (S.state site.old).log_reads + 1 }
 {
-    page_laws();
-    undo_laws();
-    beside_laws();
     let wanted = match read_update(log, site, &at) {
         Ok(wanted) => wanted,
         Err(stop) => return Err(stop),
@@ -300,36 +276,18 @@ fn undo_updates<S: Site>(
         → Represents log.old pages.old (S.state site.old) newest records table commits
         → IsUnfinished records x → IsAt first x
         → IfOk result (Compensates log.new pages.new (S.state site.new) newest records table commits x.txn
-        (blocks_to log.old) (S.state site.old).log_reads) }
-    ensures keeps { (newest : Option Master) (records : List Entry) (table : List Content) (commits : ℕ)
-        (x : Unfinished)
+        (blocks_to log.old)) }
+    ensures does { (newest : Option Master) (records : List Entry) (table : List Content) (commits : ℕ) (x : Unfinished)
         → Represents log.old pages.old (S.state site.old) newest records table commits
         → IsUnfinished records x → IsAt first x
-        → Keeps result pages.old.flash.geometry log.old log.new (S.state site.old) (S.state site.new)
-        (LeavesTableUnder newest pages.old.flash.geometry table commits (S.state site.old).told) x.remaining 0 }
-    ensures log_reads { (newest : Option Master) (records : List Entry) (table : List Content) (commits : ℕ)
-        (x : Unfinished)
-        → Represents log.old pages.old (S.state site.old) newest records table commits
-        → IsUnfinished records x → IsAt first x
-        → (S.state site.new).log_reads ≤ (S.state site.old).log_reads + x.remaining }
-    ensures asks { (newest : Option Master) (records : List Entry) (table : List Content) (commits : ℕ) (x : Unfinished)
-        → Represents log.old pages.old (S.state site.old) newest records table commits
-        → IsUnfinished records x → IsAt first x
-        → StepsMachine result (undo_one_works records x.txn) pages.old pages.new (S.state site.old) (S.state site.new) }
-    ensures performs { (newest : Option Master) (records : List Entry) (table : List Content) (commits : ℕ)
-        (x : Unfinished)
-        → Represents log.old pages.old (S.state site.old) newest records table commits
-        → IsUnfinished records x → IsAt first x
-        → PerformsOn result (clrs_for (left_open records x.txn)) log.old log.new pages.old pages.new (S.state site.old)
-        (S.state site.new) }
+        → UndoesWork result (clrs_for (left_open records x.txn)) (undo_one_works records x.txn) log.old log.new
+        pages.old pages.new (S.state site.old) (S.state site.new) newest table commits x.remaining x.remaining }
 
     // Of every site.
     ensures none { IfOk result (λ now. now.next ≡ now.txn) }
     ensures same { IfOk result (λ now. now.txn ≡ first.txn) }
     ensures works { KeepsInvariant result log.old log.new pages.old pages.new (S.state site.old) (S.state site.new) }
 {
-    page_laws();
-    undo_laws();
     let mut at = first;
     while at.next != at.txn {
         at = match undo_update(site, log, pages, at) {
@@ -380,9 +338,7 @@ fn read_last<S: Site>(log: &LogStore, site: &mut S, txn: u64, last: u64) -> Resu
     ensures falls { IfOk result (λ at. at.next ≤ last) }
     ensures reads { ReadsOne result (S.state site.old) (S.state site.new) }
 {
-    page_laws();
-    undo_laws();
-    found_laws();
+    table_of_records();
     if last < 512 * log.kept() {
         return Err(Stop::Foreign);
     }
@@ -422,40 +378,20 @@ pub fn undo_one<S: Site>(
         → Represents log.old pages.old (S.state site.old) newest records table commits
         → IsUnfinished records x → x.txn ≡ txn → x.last ≡ last
         → OnOk result (RollsBack log.new pages.new (S.state site.new) newest records table commits txn) }
-    ensures keeps { (newest : Option Master) (records : List Entry) (table : List Content) (commits : ℕ)
-        (x : Unfinished)
+    ensures does { (newest : Option Master) (records : List Entry) (table : List Content) (commits : ℕ) (x : Unfinished)
         → Represents log.old pages.old (S.state site.old) newest records table commits
         → IsUnfinished records x → x.txn ≡ txn → x.last ≡ last
-        → Keeps result pages.old.flash.geometry log.old log.new (S.state site.old) (S.state site.new)
-        (LeavesTableUnder newest pages.old.flash.geometry table commits (S.state site.old).told) (x.remaining + 1) 0 }
-
+        → UndoesWork result (undo_one_work records txn) (undo_one_works records txn) log.old log.new pages.old pages.new
+        (S.state site.old) (S.state site.new) newest table commits (x.remaining + 1) (x.remaining + 1) }
     ensures blocks { (newest : Option Master) (records : List Entry) (table : List Content) (commits : ℕ)
         (x : Unfinished)
         → Represents log.old pages.old (S.state site.old) newest records table commits
         → IsUnfinished records x → x.txn ≡ txn → x.last ≡ last
         → OnOk result (blocks_to log.new ≤ blocks_to log.old + (x.remaining + 1)) }
-    ensures log_reads { (newest : Option Master) (records : List Entry) (table : List Content) (commits : ℕ)
-        (x : Unfinished)
-        → Represents log.old pages.old (S.state site.old) newest records table commits
-        → IsUnfinished records x → x.txn ≡ txn → x.last ≡ last
-        → (S.state site.new).log_reads ≤ (S.state site.old).log_reads + (x.remaining + 1) }
-    ensures asks { (newest : Option Master) (records : List Entry) (table : List Content) (commits : ℕ) (x : Unfinished)
-        → Represents log.old pages.old (S.state site.old) newest records table commits
-        → IsUnfinished records x → x.txn ≡ txn → x.last ≡ last
-        → StepsMachine result (undo_one_works records txn) pages.old pages.new (S.state site.old) (S.state site.new) }
-    ensures performs { (newest : Option Master) (records : List Entry) (table : List Content) (commits : ℕ)
-        (x : Unfinished)
-        → Represents log.old pages.old (S.state site.old) newest records table commits
-        → IsUnfinished records x → x.txn ≡ txn → x.last ≡ last
-        → PerformsOn result (undo_one_work records txn) log.old log.new pages.old pages.new (S.state site.old)
-        (S.state site.new) }
 
     // Of every site.
     ensures works { KeepsInvariant result log.old log.new pages.old pages.new (S.state site.old) (S.state site.new) }
 {
-    page_laws();
-    undo_laws();
-    beside_laws();
     let first = match read_last(log, site, txn, last) {
         Ok(first) => first,
         Err(stop) => return Err(stop),

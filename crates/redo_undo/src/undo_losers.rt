@@ -10,24 +10,23 @@ ghost use Rattle.log_store.specs.Representation as log_store;
 ghost use Rattle.log_store.specs.Representation.{end_of, has_tail};
 ghost use Rattle.page_store.specs.declared.store.PageStore.{PageStore};
 ghost use Rattle.checkpoint.specs.declared.master.Master.{Master};
-ghost use Rattle.image_meaning.specs.Moments.{LeavesTableUnder};
 ghost use Rattle.analysis.specs.Open.{found_in, Replaces, Remains, TakesOut, owed_for};
 ghost use Rattle.analysis.specs.Table.{listed};
 ghost use Rattle.analysis.specs.Read as analysis;
 ghost use Rattle.analysis.specs.Read.{IsTable};
 ghost use Rattle.redo_laws.specs.Holding.{Invariant, Represents, blocks_to};
-ghost use Rattle.redo_laws.specs.MachineSteps.{StepsMachine, undo_works};
+ghost use Rattle.redo_laws.specs.MachineSteps.{undo_works};
 ghost use Rattle.redo_laws.specs.UndoWorks.{works_of, IsLastAt, UndoesUpdates};
 ghost use Rattle.redo_laws.specs.UndoingAll.{IsHeard, IsOf, Remain, HasNone, IsUndoing, UndoesAll};
-ghost use Rattle.redo_laws.specs.Calls.{KeepsInvariant, KeepsInvariantBeside, Keeps};
-ghost use Rattle.redo_undo.specs.Mirroring.{PerformsOn, ends_for};
+ghost use Rattle.redo_laws.specs.Calls.{KeepsInvariant, KeepsInvariantBeside};
+ghost use Rattle.redo_undo.specs.Mirroring.{ends_for};
+ghost use Rattle.redo_undo.specs.UndoCalls.{UndoesWork, taken_by};
 ghost use Rattle.ring_machine.specs.Commands.{ends};
 ghost use Rattle.ring_machine.specs.Restart.{clr_work, undoing_one, undo_work};
 
-use crate::laws::{found_laws, page_laws, undo_laws};
 use crate::logging::log_record;
 use crate::undo::{UndoCursor, has_room, undo_update};
-use analysis::{Analysis, Loser};
+use analysis::{Analysis, Loser, table_of_records};
 use log_records::LogRecord;
 use log_store::LogStore;
 use page_store::PageStore;
@@ -80,23 +79,18 @@ fn end_one<S: Site>(
     requires none { HasNone (listed found.old.table) txn }
 
     // Of an honest site on which log and pages hold together.
-    ensures keeps { (pages : PageStore) (newest : Option Master) (records : List Entry) (table : List Content)
+    ensures does { (pages : PageStore) (newest : Option Master) (records : List Entry) (table : List Content)
         (commits known : ℕ)
         → Invariant log.old pages (S.state site.old)
         → IsUndoing log.old pages (S.state site.old) newest records table commits found.old known
-        → Keeps result pages.flash.geometry log.old log.new (S.state site.old) (S.state site.new)
-        (LeavesTableUnder newest pages.flash.geometry table commits (S.state site.old).told) 1 0 }
+        → UndoesWork result ends [] log.old log.new pages pages (S.state site.old) (S.state site.new) newest table
+        commits 1 0 }
     ensures updates { (pages : PageStore) (newest : Option Master) (records : List Entry) (table : List Content)
         (commits known : ℕ)
         → log.old.geometry ≡ pages.flash.geometry
         → IsUndoing log.old pages (S.state site.old) newest records table commits found.old known
         → IfOk result (λ lsn. UndoesUpdates log.new pages (S.state site.new) newest records table commits
         found.new lsn []) }
-    ensures performs { (pages : PageStore) (newest : Option Master) (records : List Entry) (table : List Content)
-        (commits known : ℕ)
-        → Invariant log.old pages (S.state site.old)
-        → IsUndoing log.old pages (S.state site.old) newest records table commits found.old known
-        → PerformsOn result ends log.old log.new pages pages (S.state site.old) (S.state site.new) }
 
     // Of every site.
     ensures before { IfOk result (λ lsn. lsn < end_of log.new) }
@@ -111,9 +105,7 @@ fn end_one<S: Site>(
     ensures stops { IfErr result (λ stop. (stop ≡ Stop.Device Dev.Log)
         ⊎ ((stop ≡ Stop.Worn Dev.Log) ⊎ (stop ≡ Stop.Foreign))) }
 {
-    page_laws();
-    undo_laws();
-    found_laws();
+    table_of_records();
     if !has_room(log) {
         return Err(Stop::Foreign);
     }
@@ -138,33 +130,19 @@ fn end_undone<S: Site>(
     requires known { known < end_of log.old }
 
     // Of an honest site on which log and pages hold together.
-    ensures keeps { (pages : PageStore) (newest : Option Master) (records : List Entry) (table : List Content)
+    ensures does { (pages : PageStore) (newest : Option Master) (records : List Entry) (table : List Content)
         (commits : ℕ)
         → Invariant log.old pages (S.state site.old)
         → IsUndoing log.old pages (S.state site.old) newest records table commits found.old known
-        → Keeps result pages.flash.geometry log.old log.new (S.state site.old) (S.state site.new)
-        (LeavesTableUnder newest pages.flash.geometry table commits (S.state site.old).told)
-        (owed_for (listed found.old.table)) 0 }
-    // At Ok it logs no more records than it takes from what is owed.
-    ensures counted { (pages : PageStore) (newest : Option Master) (records : List Entry) (table : List Content)
-        (commits : ℕ)
-        → Invariant log.old pages (S.state site.old)
-        → IsUndoing log.old pages (S.state site.old) newest records table commits found.old known
-        → OnOk result (Keeps result pages.flash.geometry log.old log.new (S.state site.old) (S.state site.new)
-        (LeavesTableUnder newest pages.flash.geometry table commits (S.state site.old).told)
-        (owed_for (listed found.old.table) - owed_for (listed found.new.table)) 0) }
+        → UndoesWork result (ends_for (listed found.old.table)) [] log.old log.new pages pages (S.state site.old)
+        (S.state site.new) newest table commits
+        (taken_by result (owed_for (listed found.old.table)) (owed_for (listed found.new.table))) 0 }
     ensures updates { (pages : PageStore) (newest : Option Master) (records : List Entry) (table : List Content)
         (commits : ℕ)
         → Invariant log.old pages (S.state site.old)
         → IsUndoing log.old pages (S.state site.old) newest records table commits found.old known
         → IfOk result (λ lsn. UndoesUpdates log.new pages (S.state site.new) newest records table commits
         found.new lsn []) }
-    ensures performs { (pages : PageStore) (newest : Option Master) (records : List Entry) (table : List Content)
-        (commits : ℕ)
-        → Invariant log.old pages (S.state site.old)
-        → IsUndoing log.old pages (S.state site.old) newest records table commits found.old known
-        → PerformsOn result (ends_for (listed found.old.table)) log.old log.new pages pages (S.state site.old)
-        (S.state site.new) }
 
     // Of every site.
     ensures before { IfOk result (λ lsn. lsn < end_of log.new) }
@@ -207,26 +185,18 @@ fn undo_greatest<S: Site>(
     requires remain { Remain (listed found.old.table) }
 
     // Of an honest site on which log and pages hold together.
-    ensures keeps { (newest : Option Master) (records : List Entry) (table : List Content) (commits known : ℕ)
-        → IsUndoing log.old pages.old (S.state site.old) newest records table commits found.old known
-        → Keeps result pages.old.flash.geometry log.old log.new (S.state site.old) (S.state site.new)
-        (LeavesTableUnder newest pages.old.flash.geometry table commits (S.state site.old).told) 1 0 }
     ensures updates { (newest : Option Master) (records : List Entry) (table : List Content) (commits known : ℕ)
         (u : Entry)
         → IsUndoing log.old pages.old (S.state site.old) newest records table commits found.old known
         → IsLastAt records loser.txn lsn u
         → IfOk result (λ last. UndoesUpdates log.new pages.new (S.state site.new) newest records table commits found.new
         last (u ∷ [])) }
-    ensures asks { (newest : Option Master) (records : List Entry) (table : List Content) (commits known : ℕ)
+    ensures does { (newest : Option Master) (records : List Entry) (table : List Content) (commits known : ℕ)
         (u : Entry)
         → IsUndoing log.old pages.old (S.state site.old) newest records table commits found.old known
         → IsLastAt records loser.txn lsn u
-        → StepsMachine result (works_of (u ∷ [])) pages.old pages.new (S.state site.old) (S.state site.new) }
-    ensures performs { (newest : Option Master) (records : List Entry) (table : List Content) (commits known : ℕ)
-        (u : Entry)
-        → IsUndoing log.old pages.old (S.state site.old) newest records table commits found.old known
-        → IsLastAt records loser.txn lsn u
-        → PerformsOn result (clr_work u) log.old log.new pages.old pages.new (S.state site.old) (S.state site.new) }
+        → UndoesWork result (clr_work u) (works_of (u ∷ [])) log.old log.new pages.old pages.new (S.state site.old)
+        (S.state site.new) newest table commits 1 1 }
 
     // Of every site.
     ensures before { IfOk result (λ last. last < end_of log.new) }
@@ -238,9 +208,7 @@ fn undo_greatest<S: Site>(
     ensures blocks { OnOk result (blocks_to log.new ≤ blocks_to log.old + 1) }
     ensures log_reads { (S.state site.new).log_reads ≤ (S.state site.old).log_reads + 1 }
 {
-    page_laws();
-    undo_laws();
-    found_laws();
+    table_of_records();
     let at = UndoCursor {
         txn: loser.txn,
         last: loser.last,
@@ -272,34 +240,18 @@ fn undo_next<S: Site>(
     requires remain { Remain (listed found.old.table) }
 
     // Of an honest site on which log and pages hold together.
-    ensures keeps { (newest : Option Master) (records : List Entry) (table : List Content) (commits : ℕ) (u : Entry)
-        → IsUndoing log.old pages.old (S.state site.old) newest records table commits found.old known
-        → IsLastAt records next.0 next.1 u
-        → Keeps result pages.old.flash.geometry log.old log.new (S.state site.old) (S.state site.new)
-        (LeavesTableUnder newest pages.old.flash.geometry table commits (S.state site.old).told)
-        (owed_for (listed found.old.table)) 0 }
-    // At Ok it logs no more records than it takes from what is owed.
-    ensures counted { (newest : Option Master) (records : List Entry) (table : List Content) (commits : ℕ) (u : Entry)
-        → IsUndoing log.old pages.old (S.state site.old) newest records table commits found.old known
-        → IsLastAt records next.0 next.1 u
-        → OnOk result (Keeps result pages.old.flash.geometry log.old log.new (S.state site.old) (S.state site.new)
-        (LeavesTableUnder newest pages.old.flash.geometry table commits (S.state site.old).told)
-        (owed_for (listed found.old.table) - owed_for (listed found.new.table)) 0) }
     ensures updates { (newest : Option Master) (records : List Entry) (table : List Content) (commits : ℕ) (u : Entry)
         → IsUndoing log.old pages.old (S.state site.old) newest records table commits found.old known
         → IsLastAt records next.0 next.1 u
         → IfOk result (λ last. UndoesUpdates log.new pages.new (S.state site.new) newest records table commits found.new
         last (u ∷ [])) }
-    ensures asks { (newest : Option Master) (records : List Entry) (table : List Content) (commits : ℕ) (u : Entry)
-        → IsUndoing log.old pages.old (S.state site.old) newest records table commits found.old known
-        → IsLastAt records next.0 next.1 u
-        → StepsMachine result (works_of (u ∷ [])) pages.old pages.new (S.state site.old) (S.state site.new) }
-    ensures performs { (newest : Option Master) (records : List Entry) (table : List Content) (commits : ℕ) (u : Entry)
+    ensures does { (newest : Option Master) (records : List Entry) (table : List Content) (commits : ℕ) (u : Entry)
         (earlier : List Entry)
         → IsUndoing log.old pages.old (S.state site.old) newest records table commits found.old known
         → IsLastAt records next.0 next.1 u → reverse (pending records) ≡ u ∷ earlier
-        → PerformsOn result (undoing_one u earlier) log.old log.new pages.old pages.new (S.state site.old)
-        (S.state site.new) }
+        → UndoesWork result (undoing_one u earlier) (works_of (u ∷ [])) log.old log.new pages.old pages.new
+        (S.state site.old) (S.state site.new) newest table commits
+        (taken_by result (owed_for (listed found.old.table)) (owed_for (listed found.new.table))) 1 }
 
     // Of every site.
     ensures before { IfOk result (λ last. last < end_of log.new) }
@@ -311,8 +263,7 @@ fn undo_next<S: Site>(
         ≤ blocks_to log.old + owed_for (listed found.old.table)) }
     ensures log_reads { (S.state site.new).log_reads ≤ (S.state site.old).log_reads + 1 }
 {
-    undo_laws();
-    found_laws();
+    table_of_records();
     let Some(loser) = loser_named(found, next.0) else {
         return Err(Stop::Foreign);
     };
@@ -349,29 +300,13 @@ pub fn undo_all<S: Site>(
         → Represents log.old pages.old (S.state site.old) newest records table commits
         → IsTable [] records (listed found.old.table)
         → OnOk result (UndoesAll log.new pages.new (S.state site.new) newest records table commits) }
-    ensures keeps { (newest : Option Master) (records : List Entry) (table : List Content) (commits : ℕ)
+    ensures does { (newest : Option Master) (records : List Entry) (table : List Content) (commits : ℕ)
         → has_tail log.old ≡ false
         → Represents log.old pages.old (S.state site.old) newest records table commits
         → IsTable [] records (listed found.old.table)
-        → Keeps result pages.old.flash.geometry log.old log.new (S.state site.old) (S.state site.new)
-        (LeavesTableUnder newest pages.old.flash.geometry table commits (S.state site.old).told)
-        (owed_for (listed found.old.table)) 0 }
-    ensures asks { (newest : Option Master) (records : List Entry) (table : List Content) (commits : ℕ)
-        → has_tail log.old ≡ false
-        → Represents log.old pages.old (S.state site.old) newest records table commits
-        → IsTable [] records (listed found.old.table)
-        → StepsMachine result (undo_works records) pages.old pages.new (S.state site.old) (S.state site.new) }
-    ensures performs { (newest : Option Master) (records : List Entry) (table : List Content) (commits : ℕ)
-        → has_tail log.old ≡ false
-        → Represents log.old pages.old (S.state site.old) newest records table commits
-        → IsTable [] records (listed found.old.table)
-        → PerformsOn result (undo_work records) log.old log.new pages.old pages.new (S.state site.old)
-        (S.state site.new) }
-    ensures reads { (newest : Option Master) (records : List Entry) (table : List Content) (commits : ℕ)
-        → has_tail log.old ≡ false
-        → Represents log.old pages.old (S.state site.old) newest records table commits
-        → IsTable [] records (listed found.old.table)
-        → (S.state site.new).log_reads ≤ (S.state site.old).log_reads + length (pending records) }
+        → UndoesWork result (undo_work records) (undo_works records) log.old log.new pages.old pages.new
+        (S.state site.old) (S.state site.new) newest table commits (owed_for (listed found.old.table))
+        (length (pending records)) }
 
     // Of every site.
     ensures works { KeepsInvariant result log.old log.new pages.old pages.new (S.state site.old) (S.state site.new) }
@@ -381,9 +316,7 @@ pub fn undo_all<S: Site>(
     ensures log_reads { (S.state site.new).log_reads
         ≤ (S.state site.old).log_reads + owed_for (listed found.old.table) }
 {
-    page_laws();
-    undo_laws();
-    found_laws();
+    table_of_records();
     let sealed = log.sealed_end() + 1;
     let mut known = match end_undone(site, log, found, sealed) {
         Ok(lsn) => lsn,

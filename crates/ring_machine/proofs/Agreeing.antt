@@ -1,8 +1,7 @@
 -- The machine's cache is the cache machine.
 use Rattle.std.proofs.Common.{◌≡◌, ◌==◌, ℕ, zero, suc, Bool, true, false, List, [], ◌∷◌, ◌++◌, map, filter_map, flat_map, reverse, replicate, length, Option, Some, None, option_map, refl, sym, ap, subst, ◌∙◌}
 use Rattle.std.specs.Prelude.{if◌then◌else◌}
-use Rattle.std.specs.List.{cons_option}
-use Rattle.std.specs.List.{list_any, range_with_len}
+use Rattle.std.specs.List.{cons_option, list_any, range_with_len}
 use Rattle.std_lemmas.proofs.Bools.{or_true}
 use Rattle.std_lemmas.proofs.Lists.{map_reverse_aux}
 use Rattle.record_model.specs.declared.words.Command.{Command}

@@ -9,8 +9,7 @@ use Rattle.log_records.specs.Unfinished.{owed}
 use Rattle.log_records.specs.Sound.{LogicalImage, IsSound}
 use Rattle.second_chance.specs.Machine.{Rules, next_group}
 use Rattle.ring_machine.specs.Tail.{empty_at}
-use Rattle.ring_machine.specs.Machine.{Machine, RingOp, logged, changed, save}
-use Rattle.ring_machine.specs.Machine.{after_all, first_worn}
+use Rattle.ring_machine.specs.Machine.{Machine, RingOp, logged, changed, save, after_all, first_worn}
 use Rattle.ring_machine.specs.Commands.{line_work}
 use Rattle.ring_machine.specs.Restart.{restart_work}
 

@@ -119,11 +119,7 @@ IsTable-without (entry ∷ later) session table = by (entry.session == session) 
     by false rest = (table.0, table.1, all-without (λ other. (entry.session ≢ other.session) × (entry.begin ≤ other.begin)) later session table.2, rest)
 
 entry_of-without : (entries : List Active) (session n : ℕ) → IsTable entries → entry_of (without entries session) n ≡ cond (session == n) None (entry_of entries n)
-entry_of-without [] session n table = by (session == n)
-  where
-    by : (b : Bool) → ◌≡◌ {A = Option Active} None (cond b None None)
-    by true = refl
-    by false = refl
+entry_of-without [] session n table = grind (arith, nat_tests)
 entry_of-without (entry ∷ later) session n table = by (entry.session == session) refl (entry_of-without later session n table.3)
   where
     others : entry_of later entry.session ≡ None

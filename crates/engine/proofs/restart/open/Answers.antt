@@ -74,7 +74,7 @@ returns-in-Ok-keep_from-clause-ready g c honest newest blocks table commits soun
     let keeps = c.in-Ok-keep_from.ensures.keeps in
     let finds = subst (λ (log : LogStore). log_store.Finds log mid) (sym keeps) (record { honest = (c.in-Ok.ensures.found honest sound.held.form).honest; form = (c.in-Ok.ensures.found honest sound.held.form).form; hi = (c.in-Ok.ensures.found honest sound.held.form).hi }) in
     let held = c.in-Ok.ensures.holds honest (kept_by newest) blocks sound.held in
-    ready_now c.stays_beside.ensures.fits k c.keep_from.new.log c.in-Ok-start.pages old mid found new c.start.ensures.reads.preserves same_first c.start-2.ensures.preserves
+    ready_now k c.keep_from.new.log c.in-Ok-start.pages old mid found new c.start.ensures.reads.preserves same_first c.start-2.ensures.preserves
     (c.start-2.ensures.same honest_mid) c.newest.ensures.reads.preserves (c.newest.ensures.reads.same honest_found)
     c.in-Ok-newest.masters master newest blocks table commits c.in-Ok-start.ensures.geometry c.in-Ok-start.ensures.empty (ap (λ (log : LogStore). log.kept) keeps) is
     (c.in-Ok-start.ensures.fits honest_mid (first_on k mid.image) (groups_on k mid.image)
@@ -89,7 +89,7 @@ returns-in-Ok-keep_from-clause-preserves g c =
 
 pub returns-in-Ok-keep_from-clause-going : goal.returns-in-Ok-keep_from-clause-going
 returns-in-Ok-keep_from-clause-going g c = record {
-  going = both_go_on c.stays_beside.ensures.going c.keep_from.new.log c.in-Ok-start.pages (g.S.Site.state c.start.new.site) (g.S.Site.state c.start-2.new.site) (g.S.Site.state c.newest.new.site) c.start-2.ensures.preserves c.newest.ensures.reads.preserves
+  going = both_go_on c.keep_from.new.log c.in-Ok-start.pages (g.S.Site.state c.start.new.site) (g.S.Site.state c.start-2.new.site) (g.S.Site.state c.newest.new.site) c.start-2.ensures.preserves c.newest.ensures.reads.preserves
       (c.in-Ok-keep_from.ensures.going (g.S.Site.state c.start.new.site) c.in-Ok.ensures.going) c.in-Ok-start.ensures.going
       (ap (λ (log : LogStore). log.geometry) c.in-Ok-keep_from.ensures.keeps ∙ c.in-Ok.ensures.geometry ∙ sym c.in-Ok-start.ensures.geometry) (ap (λ (log : LogStore). log.used) c.in-Ok-keep_from.ensures.keeps ∙ c.in-Ok.ensures.empty);
   ascend = c.in-Ok-newest.ensures.ascend;

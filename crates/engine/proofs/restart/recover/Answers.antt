@@ -32,7 +32,7 @@ use Rattle.engine.specs.Leaves.{LeavesTable}
 use Rattle.page_store.proofs.StagingLaws.{fits_queue}
 use Rattle.engine.proofs.Asking.{from_ok, from_err, from_stopped, writes_stopped}
 use Rattle.site.specs.Work.{Calls}
-use Rattle.engine.proofs.Recovers.{no_tail_still, kept_of, owed_found, commits_fit, commits_found, may_be_made, restarted_as}
+use Rattle.engine.proofs.Recovers.{no_tail_still, kept_of, owed_found, commits_fit, commits_found, may_be_made, restarted_as, restarts_stopped}
 use Rattle.engine.proofs.RingCounts.{opened_next, restart_failed, restart_done}
 use Rattle.redo_laws.proofs.RingNumbers.{skips_on, then_skips}
 use Rattle.std.specs.Prelude.{Ok, OnOk, Option, Result, IsTrue}
@@ -81,7 +81,7 @@ returns-then-sealed_end-owed-clause-recovers g c newest blocks table commits h =
     let site = g.S.Site.state c.args.site.now in
     let holds = c.in-Ok.ensures.holds newest blocks table commits h.master h.opened_is in
     let read = c.in-Ok.ensures.unfinished newest blocks table commits h.master h.opened_is in
-    let owes = owed_found c.recovery_laws.ensures.one c.recovery_laws.ensures.unfinished c.recovery_laws.ensures.owed newest c.args.opened.pages.flash.geometry site.image blocks c.in-Ok.redone.found h.opened_is.sound read in
+    let owes = owed_found c.table_of_records.ensures.one c.table_of_records.ensures.unfinished c.table_of_records.ensures.owed newest c.args.opened.pages.flash.geometry site.image blocks c.in-Ok.redone.found h.opened_is.sound read in
     let sizes = ap (λ (k : Geometry). k.blocks) c.in-Ok.ensures.works.going.sizes in
     let asked = ap (λ (k : Geometry). k.blocks) c.geometry-blocks.ensures in
     absurd (omega (arith, owes, holds.log_holds.room, holds.log_holds.rings.limits.blocks, sizes, asked, c.sealed_end.ensures, c.owed-owed.ensures, c.if-sealed_end-owed.true, c.kept.ensures, c.redo.ensures.works.kept))
@@ -97,12 +97,12 @@ returns-in-Err-undo_all-clause-recovers g c newest blocks table commits h =
     let holds = c.in-Ok.ensures.holds newest blocks table commits h.master h.opened_is in
     let read = c.in-Ok.ensures.unfinished newest blocks table commits h.master h.opened_is in
     let none : has_tail c.redo.new.log ≡ false = no_tail_still c.args.opened.log c.redo.new.log c.requires.empty c.in-Ok.ensures.blocks c.in-Ok.ensures.rises in
-    let owes = owed_found c.recovery_laws.ensures.one c.recovery_laws.ensures.unfinished c.recovery_laws.ensures.owed newest _ old.image blocks c.in-Ok.redone.found h.opened_is.sound read in
+    let owes = owed_found c.table_of_records.ensures.one c.table_of_records.ensures.unfinished c.table_of_records.ensures.owed newest _ old.image blocks c.in-Ok.redone.found h.opened_is.sound read in
     let n = owed_for (listed c.in-Ok.redone.found.table) in
     let calm = c.in-Ok.ensures.works.calls.stays_quiet h.opened_is.ready.blocks.honest in
     let first = c.in-Ok.ensures.keeps newest blocks table commits h.master h.opened_is in
-    let second = c.in-Err-undo_all.ensures.keeps newest records table commits none holds read in
-    let asks = asks_then c.in-Ok.redone _ (redo_works p) (undo_works p.log) _ _ _ _ _ _ (c.in-Ok.ensures.asks newest blocks table commits h.master h.opened_is).asks (c.in-Err-undo_all.ensures.asks newest records table commits none holds read) in
+    let second = (c.in-Err-undo_all.ensures.does newest records table commits none holds read).keeps in
+    let asks = asks_then c.in-Ok.redone _ (redo_works p) (undo_works p.log) _ _ _ _ _ _ (c.in-Ok.ensures.asks newest blocks table commits h.master h.opened_is).asks (c.in-Err-undo_all.ensures.does newest records table commits none holds read).asks in
     record {
       restarted = tt;
       ends = ends_failed (ends_then calm c.redo.ensures.works.geometry (ends_leaving (under_leaves_for newest _ _ _ table commits _) first.ends) (ends_leaving (under_leaves_for newest _ _ _ table commits _) second.ends));
@@ -112,7 +112,7 @@ returns-in-Err-undo_all-clause-recovers g c newest blocks table commits h =
           restart_failed c.in-Err-undo_all.stop _ _ records c.args.opened.log c.undo_all.new.log old _ n 0 next (omega (arith, owes)) (omega arith) two;
       asks = from_stopped c.in-Err-undo_all.stop _ (redo_works p ++ undo_works p.log) checkpoint_works _ _ _ _ some asks;
       writes = writes_stopped c.in-Err-undo_all.stop (redo_works p ++ undo_works p.log) checkpoint_works _ _ _ _ some asks (fits_queue c.args.opened.pages old c.requires.may.going.pages_going h.opened_is.ready.pages);
-      log_reads = omega (arith, c.redo.ensures.log_reads, kept_of c.args.opened old newest blocks table commits h, c.undo_all.ensures.reads newest records table commits none holds read);
+      log_reads = omega (arith, c.redo.ensures.log_reads, kept_of c.args.opened old newest blocks table commits h, (c.undo_all.ensures.does newest records table commits none holds read).log_reads);
       last = λ quiet. tt;
     }
 
@@ -124,7 +124,7 @@ returns-then-commits-sealed_end-clause-recovers g c newest blocks table commits 
     let read = c.in-Ok.ensures.unfinished newest blocks table commits h.master h.opened_is in
     let none : has_tail c.redo.new.log ≡ false = no_tail_still c.args.opened.log c.redo.new.log c.requires.empty c.in-Ok.ensures.blocks c.in-Ok.ensures.rises in
     let undone = c.in-Ok-undo_all.ensures.undone newest records table commits none holds read in
-    let found = commits_found c.recovery_laws.ensures.commits c.args.opened _ newest blocks table commits c.in-Ok.redone.found h (c.in-Ok.ensures.read newest blocks table commits h.master h.opened_is) c.requires.may.going.log_going.usable.bounded in
+    let found = commits_found c.losers_are_taken.ensures.commits c.args.opened _ newest blocks table commits c.in-Ok.redone.found h (c.in-Ok.ensures.read newest blocks table commits h.master h.opened_is) c.requires.may.going.log_going.usable.bounded in
     let few = commits_fit c.undo_all.new.log c.undo_all.new.pages _ newest (records ++ undone.more) table commits undone.holds in
     absurd (omega (arith, found, few, c.sealed_end-2.ensures, c.undo_all.ensures.commits, c.commits-commits.ensures.commits, c.if-commits-sealed_end.true))
 
@@ -156,14 +156,14 @@ module _ (g : Over) (c : After-checkpoint g) (newest : Option Master) (blocks : 
       let holds = c.in-Ok.ensures.holds newest blocks table commits h.master h.opened_is in
       let read = c.in-Ok.ensures.unfinished newest blocks table commits h.master h.opened_is in
       let none : has_tail c.redo.new.log ≡ false = no_tail_still c.args.opened.log c.redo.new.log c.requires.empty c.in-Ok.ensures.blocks c.in-Ok.ensures.rises in
-      let owes = owed_found c.recovery_laws.ensures.one c.recovery_laws.ensures.unfinished c.recovery_laws.ensures.owed newest k old.image blocks c.in-Ok.redone.found h.opened_is.sound read in
+      let owes = owed_found c.table_of_records.ensures.one c.table_of_records.ensures.unfinished c.table_of_records.ensures.owed newest k old.image blocks c.in-Ok.redone.found h.opened_is.sound read in
       let n = owed_for (listed c.in-Ok.redone.found.table) in
       let und = g.S.Site.state c.undo_all.new.site in
       let calm = c.in-Ok.ensures.works.calls.stays_quiet h.opened_is.ready.blocks.honest in
       let first = c.in-Ok.ensures.keeps newest blocks table commits h.master h.opened_is in
-      let second = c.in-Ok-undo_all.ensures.keeps newest records table commits none holds read in
+      let second = (c.in-Ok-undo_all.ensures.does newest records table commits none holds read).keeps in
       let undone = c.in-Ok-undo_all.ensures.undone newest records table commits none holds read in
-      let found = commits_found c.recovery_laws.ensures.commits c.args.opened old newest blocks table commits c.in-Ok.redone.found h (c.in-Ok.ensures.read newest blocks table commits h.master h.opened_is) c.requires.may.going.log_going.usable.bounded in
+      let found = commits_found c.losers_are_taken.ensures.commits c.args.opened old newest blocks table commits c.in-Ok.redone.found h (c.in-Ok.ensures.read newest blocks table commits h.master h.opened_is) c.requires.may.going.log_going.usable.bounded in
       let all = records ++ undone.more in
       let counted : c.commits-commits.result ≡ commits = c.commits-commits.ensures.commits ∙ c.undo_all.ensures.commits ∙ found in
       let held = subst (both.Represents c.undo_all.new.log c.undo_all.new.pages und newest all table) (sym counted) undone.holds in
@@ -181,7 +181,7 @@ module _ (g : Over) (c : After-checkpoint g) (newest : Option Master) (blocks : 
       let last = skips_on c.checkpoint.result k' k c.undo_all.new.log c.checkpoint.new.self.log und new 0 1 same (keeps.numbers (calm_und quiet)) in
       then_skips c.checkpoint.result c.in-Ok-undo_all.field-0 k c.args.opened.log c.undo_all.new.log c.checkpoint.new.self.log old und new n 0 0 1
       (owed records) 1 two last (omega (arith, owes)) (omega arith) in
-      let two = asks_then c.in-Ok.redone _ (redo_works p) (undo_works p.log) _ _ _ old mid und (c.in-Ok.ensures.asks newest blocks table commits h.master h.opened_is).asks (c.in-Ok-undo_all.ensures.asks newest records table commits none holds read) in
+      let two = asks_then c.in-Ok.redone _ (redo_works p) (undo_works p.log) _ _ _ old mid und (c.in-Ok.ensures.asks newest blocks table commits h.master h.opened_is).asks (c.in-Ok-undo_all.ensures.does newest records table commits none holds read).asks in
       let asks = asks_then c.in-Ok-undo_all.field-0 c.checkpoint.result
       (redo_works p ++ undo_works p.log) checkpoint_works _ _ _ old und new two c.checkpoint.ensures.asks in
       let named = subst (λ (n : ℕ). OnOk c.checkpoint.result (HasCheckpoint c.checkpoint.new.self new all table n c.new.result)) counted
@@ -201,7 +201,7 @@ module _ (g : Over) (c : After-checkpoint g) (newest : Option Master) (blocks : 
       let holds = c.in-Ok.ensures.holds newest blocks table commits h.master h.opened_is in
       let read = c.in-Ok.ensures.unfinished newest blocks table commits h.master h.opened_is in
       let none : has_tail c.redo.new.log ≡ false = no_tail_still c.args.opened.log c.redo.new.log c.requires.empty c.in-Ok.ensures.blocks c.in-Ok.ensures.rises in
-      omega (arith, c.redo.ensures.log_reads, kept_of c.args.opened old newest blocks table commits h, c.undo_all.ensures.reads newest records table commits none holds read, c.checkpoint.ensures.log_reads)
+      omega (arith, c.redo.ensures.log_reads, kept_of c.args.opened old newest blocks table commits h, (c.undo_all.ensures.does newest records table commits none holds read).log_reads, c.checkpoint.ensures.log_reads)
 
 pub returns-in-Ok-checkpoint-clause-recovers : goal.returns-in-Ok-checkpoint-clause-recovers
 returns-in-Ok-checkpoint-clause-recovers g c newest blocks table commits h =
@@ -254,49 +254,16 @@ returns-in-Ok-checkpoint-clause-restarts g c =
 
 pub returns-clause-restarts : goal.returns-clause-restarts
 returns-clause-restarts g c =
-    let first : Calls {T = Redone} (Ok c.in-Ok.redone) (g.S.Site.state c.args.site.now) (g.S.Site.state c.redo.new.site) = c.in-Ok.ensures.works.calls in
-    let second : Calls {T = Unit {0}} (Ok c.in-Ok-undo_all.field-0) (g.S.Site.state c.redo.new.site) (g.S.Site.state c.undo_all.new.site) = c.in-Ok-undo_all.ensures.works.calls in
-    record {
-      calls = calls_failed (calls_then first (calls_then second c.in-Err-checkpoint.ensures.calls));
-      going = tt;
-      blocks = tt;
-      room = tt;
-      commits = tt;
-      made = tt;
-      pool = tt;
-      stops = c.in-Err-checkpoint.ensures.stops;
-    }
+    restarts_stopped (calls_failed (calls_then c.in-Ok.ensures.works.calls (calls_then c.in-Ok-undo_all.ensures.works.calls c.in-Err-checkpoint.ensures.calls))) c.in-Err-checkpoint.ensures.stops
 
 pub returns-in-Err-undo_all-clause-restarts : goal.returns-in-Err-undo_all-clause-restarts
 returns-in-Err-undo_all-clause-restarts g c =
-    let first : Calls {T = Redone} (Ok c.in-Ok.redone) (g.S.Site.state c.args.site.now) (g.S.Site.state c.redo.new.site) = c.in-Ok.ensures.works.calls in
-    let second : Calls {T = Unit {0}} (Err c.in-Err-undo_all.stop) (g.S.Site.state c.redo.new.site) (g.S.Site.state c.undo_all.new.site) = c.in-Err-undo_all.ensures.works.calls in
-    record {
-      calls = calls_failed (calls_then first second);
-      going = tt;
-      blocks = tt;
-      room = tt;
-      commits = tt;
-      made = tt;
-      pool = tt;
-      stops = c.in-Err-undo_all.ensures.works.stops;
-    }
+    restarts_stopped (calls_failed (calls_then c.in-Ok.ensures.works.calls c.in-Err-undo_all.ensures.works.calls)) c.in-Err-undo_all.ensures.works.stops
 
 -- a count of commits that no log has
 pub returns-then-commits-sealed_end-clause-restarts : goal.returns-then-commits-sealed_end-clause-restarts
 returns-then-commits-sealed_end-clause-restarts g c =
-    let first : Calls {T = Redone} (Ok c.in-Ok.redone) (g.S.Site.state c.args.site.now) (g.S.Site.state c.redo.new.site) = c.in-Ok.ensures.works.calls in
-    let second : Calls {T = Unit {0}} (Ok c.in-Ok-undo_all.field-0) (g.S.Site.state c.redo.new.site) (g.S.Site.state c.undo_all.new.site) = c.in-Ok-undo_all.ensures.works.calls in
-    record {
-      calls = calls_refused {stop = Foreign} (λ d same. cc) (calls_then first second);
-      going = tt;
-      blocks = tt;
-      room = tt;
-      commits = tt;
-      made = tt;
-      pool = tt;
-      stops = tt;
-    }
+    restarts_stopped (calls_refused {stop = Foreign} (λ d same. cc) (calls_then c.in-Ok.ensures.works.calls c.in-Ok-undo_all.ensures.works.calls)) tt
 
 -- The next units, whatever stood there.
 
@@ -381,14 +348,14 @@ module _ (g : Over) (c : After-undo_all g) (newest : Option Master) (blocks : Li
   pub rules_after : rules c.undo_all.new.pages ≡ rules c.redo.new.pages
   rules_after =
       let none : has_tail c.redo.new.log ≡ false = no_tail_still c.args.opened.log c.redo.new.log c.requires.empty c.in-Ok.ensures.blocks c.in-Ok.ensures.rises in
-      (c.undo_all.ensures.asks newest records table commits none (c.in-Ok.ensures.holds newest blocks table commits h.master h.opened_is) (c.in-Ok.ensures.unfinished newest blocks table commits h.master h.opened_is)).rules_are
+      (c.undo_all.ensures.does newest records table commits none (c.in-Ok.ensures.holds newest blocks table commits h.master h.opened_is) (c.in-Ok.ensures.unfinished newest blocks table commits h.master h.opened_is)).asks.rules_are
 
   pub both_done : Performs c.undo_all.result (rules c.args.opened.pages) (redo_work (logical_image_under newest c.args.opened.pages.flash.geometry start.image blocks) ++ undo_work records) (λ m. m ≡ found_machine c.args.opened)
       (Mirrors c.undo_all.new.log c.undo_all.new.pages (g.S.Site.state c.undo_all.new.site).image)
   both_done =
       let none : has_tail c.redo.new.log ≡ false = no_tail_still c.args.opened.log c.redo.new.log c.requires.empty c.in-Ok.ensures.blocks c.in-Ok.ensures.rises in
       performs_then redone (performs_by (sym (c.in-Ok.ensures.asks newest blocks table commits h.master h.opened_is).asks.rules_are)
-      (c.undo_all.ensures.performs newest records table commits none (c.in-Ok.ensures.holds newest blocks table commits h.master h.opened_is) (c.in-Ok.ensures.unfinished newest blocks table commits h.master h.opened_is)))
+      (c.undo_all.ensures.does newest records table commits none (c.in-Ok.ensures.holds newest blocks table commits h.master h.opened_is) (c.in-Ok.ensures.unfinished newest blocks table commits h.master h.opened_is)).performs)
 
 pub returns-in-Err-undo_all-clause-performs : goal.returns-in-Err-undo_all-clause-performs
 returns-in-Err-undo_all-clause-performs g c newest blocks table commits h =
@@ -405,7 +372,7 @@ module _ (g : Over) (c : After-checkpoint g) (newest : Option Master) (blocks : 
   at_checkpoint =
       let none : has_tail c.redo.new.log ≡ false = no_tail_still c.args.opened.log c.redo.new.log c.requires.empty c.in-Ok.ensures.blocks c.in-Ok.ensures.rises in
       let undone = c.in-Ok-undo_all.ensures.undone newest (log_under newest blocks) table commits none (c.in-Ok.ensures.holds newest blocks table commits h.master h.opened_is) (c.in-Ok.ensures.unfinished newest blocks table commits h.master h.opened_is) in
-      let found = commits_found c.recovery_laws.ensures.commits c.args.opened (g.S.Site.state c.args.site.now) newest blocks table commits c.in-Ok.redone.found h (c.in-Ok.ensures.read newest blocks table commits h.master h.opened_is) c.requires.may.going.log_going.usable.bounded in
+      let found = commits_found c.losers_are_taken.ensures.commits c.args.opened (g.S.Site.state c.args.site.now) newest blocks table commits c.in-Ok.redone.found h (c.in-Ok.ensures.read newest blocks table commits h.master h.opened_is) c.requires.may.going.log_going.usable.bounded in
       let counted : c.commits-commits.result ≡ commits = c.commits-commits.ensures.commits ∙ c.undo_all.ensures.commits ∙ found in
       (undone.more, subst (both.Represents c.undo_all.new.log c.undo_all.new.pages (g.S.Site.state c.undo_all.new.site) newest (log_under newest blocks ++ undone.more) table) (sym counted) undone.holds)
 

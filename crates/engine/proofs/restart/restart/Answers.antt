@@ -1,3 +1,10 @@
+use Rattle.engine.proofs.Recovers.{restarts_stopped}
+use Rattle.engine.proofs.restart.restart.Goals.{In-Ok-open}
+use Rattle.engine.proofs.restart.restart.Given.{Over}
+use Rattle.page_store.specs.declared.store.PageStore.{PageStore}
+use Rattle.log_records.specs.declared.log_record.LogRecord.{LogRecord}
+use Rattle.checkpoint.specs.declared.master.Master.{Master}
+use Rattle.redo_laws.proofs.Costs.{numbers_rise}
 use Rattle.flash_cache.specs.Representation.{start_reads}
 use Rattle.engine.specs.Paging.{cache_on, restart_works}
 use Rattle.second_chance.specs.Machine.{rules_of}
@@ -5,13 +12,13 @@ use Rattle.site.specs.declared.outside.Dev.TheVariants.{Log, Flash}
 use Rattle.site.specs.declared.outside.Stop.TheVariants.{Worn, Foreign}
 use Rattle.log_records.specs.Log.{table_of}
 use Rattle.page_store.specs.Caching.{cache_of, rules}
-use Rattle.site.proofs.Working.{ok_as}
+use Rattle.site.proofs.Working.{ok_as, calls_failed, err_again}
 use Rattle.engine.proofs.Asking.{from_found, last_found, not_found, still_writes, writes_found}
-use Rattle.std.specs.Prelude.{Ok, Err, IfOk}
-use Rattle.std.proofs.Common.{◌≡◌, ◌∙◌, sym, subst, ap, refl, arith, ℕ}
-use Rattle.site.specs.State.{IsQuiet}
+use Rattle.std.specs.Prelude.{Ok, Err, IfOk, IsTrue, Option}
+use Rattle.std.proofs.Common.{◌≡◌, ◌∙◌, sym, subst, ap, refl, arith, ℕ, List}
+use Rattle.site.specs.State.{State}
 use Rattle.site.specs.declared.geometry.Geometry.{Geometry}
-use Rattle.log_records.specs.Sound.{Means, commit_count}
+use Rattle.log_records.specs.Sound.{Means, commit_count, LogicalImage}
 use Rattle.image_meaning.specs.Meaning.{logical_image_under}
 use Rattle.engine.specs.Invariant.{sizes_of}
 use Rattle.engine.specs.Image.{IsSound}
@@ -22,7 +29,6 @@ use Rattle.engine.specs.Leaves.{LeavesTable}
 use Rattle.engine.specs.Calls.{Ends}
 use Rattle.engine.proofs.Calling.{calls_stopped, calls_behind, ends_then}
 use Rattle.redo_laws.proofs.Endings.{ends_ok}
-use Rattle.site.proofs.Working.{calls_failed, err_again}
 use Rattle.engine.proofs.Openings.{stands_still}
 use Rattle.engine.proofs.RestartedUnits.{next_not_worn}
 use Rattle.engine.proofs.RingCounts.{restart_unmoved, restart_behind}
@@ -34,11 +40,51 @@ use Rattle.ring_machine.proofs.Performing.{performs_refused}
 use Rattle.engine.proofs.RestartedRings.{found_on, performs_found}
 use Rattle.engine.proofs.restart.restart.Goals as goal
 
+-- What was opened of a sound image is ready.
+module _ (g : Over) (c : In-Ok-open g) (honest : IsTrue (g.S.Site.state c.args.site.now).honest) (k : Geometry) (newest : Option Master) (blocks : List (List LogRecord)) (sound : IsSound newest k (g.S.Site.state c.args.site.now).image blocks) where
+  abbrev old : State
+  old = g.S.Site.state c.args.site.now
+
+  abbrev mid : State
+  mid = g.S.Site.state c.open.new.site
+
+  abbrev image : LogicalImage
+  image = logical_image_under newest k old.image blocks
+
+  abbrev pages : PageStore
+  pages = c.in-Ok-open.opened.pages
+
+  same : c.in-Ok.geometry ≡ k
+  same = (c.in-Ok.ensures.found k sound.octets.limits sound.octets.lengths).1
+
+  there : IsSound newest c.in-Ok.geometry old.image blocks
+  there = subst (λ (x : Geometry). IsSound newest x old.image blocks) (sym same) sound
+
+  ready : IsReady c.in-Ok-open.opened mid newest blocks (table_of image.log image.pages) (commit_count image)
+  ready = c.in-Ok-open.ensures.ready honest newest blocks (table_of image.log image.pages) (commit_count image) there
+      (subst (λ (x : Geometry). Means (logical_image_under newest x old.image blocks) (table_of image.log image.pages) (commit_count image)) (sym same) (record { table_is = refl; count_is = refl }))
+
+  sizes : pages.flash.geometry ≡ k
+  sizes = c.in-Ok-open.ensures.sizes ∙ same
+
+  same_rules : rules pages ≡ rules_of c.args.pool k.groups
+  same_rules = λ i. rules_of (c.in-Ok-open.ensures.pool i) (sizes i).groups
+
+  same_works : restart_works (logical_image_under newest pages.flash.geometry mid.image blocks) ≡ restart_works image
+  same_works = λ i. restart_works (logical_image_under newest (sizes i) ((c.open.ensures.same honest).image i) blocks)
+
+  same_cache : cache_of pages ≡ cache_on k old.image
+  same_cache = c.in-Ok-open.ensures.cache honest newest blocks there ∙ ap (λ (x : Geometry). cache_on x old.image) same
+
 pub returns : goal.returns
 returns g c =
     let old = g.S.Site.state c.args.site.now in
     let mid = g.S.Site.state c.open.new.site in
     let behind = c.recover.ensures.restarts in
+    let opened = c.in-Ok-open.opened in
+    let s = (goal.at.returns g c).In-Ok-open in
+    let recovered = λ (honest : IsTrue old.honest) (k : Geometry) (newest : Option Master) (blocks : List (List LogRecord)) (sound : IsSound newest k old.image blocks).
+    let p = image g s honest k newest blocks sound in c.recover.ensures.recovers newest blocks (table_of p.log p.pages) (commit_count p) (ready g s honest k newest blocks sound) in
     record {
       opens = λ honest k newest blocks table commits sound means.
           let same : c.in-Ok.geometry ≡ k = (c.in-Ok.ensures.found k sound.octets.limits sound.octets.lengths).1 in
@@ -54,70 +100,30 @@ returns g c =
           let first : Ends {T = Opened} (Ok c.in-Ok-open.opened) k old mid (LeavesTable k table commits old.told) = ends_ok (λ quiet. stands_still k old mid table commits quiet unchanged stands) in
           ends_then (λ quiet. unchanged.loose ∙ quiet) (c.in-Ok-open.ensures.sizes ∙ same) first (c.recover.ensures.recovers stands.newest stands.stands.blocks table commits ready).ends;
       numbers = λ honest quiet k newest blocks sound.
-          let same : c.in-Ok.geometry ≡ k = (c.in-Ok.ensures.found k sound.octets.limits sound.octets.lengths).1 in
-          let there = subst (λ (x : Geometry). IsSound newest x old.image blocks) (sym same) sound in
-          let p = logical_image_under newest k old.image blocks in
-          let means : Means (logical_image_under newest k old.image blocks) (table_of p.log p.pages) (commit_count p) = record { table_is = refl; count_is = refl } in
-          let ready : IsReady c.in-Ok-open.opened mid newest blocks (table_of p.log p.pages) (commit_count p) = c.in-Ok-open.ensures.ready honest newest blocks (table_of p.log p.pages) (commit_count p) there (subst (λ (x : Geometry). Means (logical_image_under newest x old.image blocks) (table_of p.log p.pages) (commit_count p)) (sym same) means) in
           let unchanged = c.open.ensures.same honest in
-          let quiet_mid : IsQuiet mid = unchanged.loose ∙ quiet in
-          restart_behind c.recover.result _ c.in-Ok-open.opened.pages.flash.geometry k _ old mid _ (c.in-Ok-open.ensures.sizes ∙ same) quiet unchanged ((c.recover.ensures.recovers newest blocks (table_of p.log p.pages) (commit_count p) ready).numbers quiet_mid);
+          restart_behind c.recover.result _ c.in-Ok-open.opened.pages.flash.geometry k _ old mid _ (sizes g s honest k newest blocks sound) quiet unchanged ((recovered honest k newest blocks sound).numbers (unchanged.loose ∙ quiet));
       asks = λ honest k newest blocks sound.
-          let same : c.in-Ok.geometry ≡ k = (c.in-Ok.ensures.found k sound.octets.limits sound.octets.lengths).1 in
-          let groups = ap (λ (x : Geometry). x.groups) same in
-          let there = subst (λ (x : Geometry). IsSound newest x old.image blocks) (sym same) sound in
-          let p = logical_image_under newest k old.image blocks in
-          let means : Means (logical_image_under newest k old.image blocks) (table_of p.log p.pages) (commit_count p) = record { table_is = refl; count_is = refl } in
-          let ready : IsReady c.in-Ok-open.opened mid newest blocks (table_of p.log p.pages) (commit_count p) = c.in-Ok-open.ensures.ready honest newest blocks (table_of p.log p.pages) (commit_count p) there (subst (λ (x : Geometry). Means (logical_image_under newest x old.image blocks) (table_of p.log p.pages) (commit_count p)) (sym same) means) in
-          let sizes = c.in-Ok-open.ensures.sizes ∙ same in
-          let unchanged = c.open.ensures.same honest in
-          from_found _ _ _ (rules_of c.args.pool k.groups) _ (restart_works p) _ (cache_on k old.image) (start_reads k) old mid
-          (g.S.Site.state c.recover.new.site)
-          (λ i. rules_of (c.in-Ok-open.ensures.pool i) (sizes i).groups) (λ i. restart_works (logical_image_under newest (sizes i) (unchanged.image i) blocks)) (c.in-Ok-open.ensures.cache honest newest blocks there ∙ ap (λ (x : Geometry). cache_on x old.image) same)
-          (omega (arith, c.open.ensures.flash_reads, groups)) c.open.ensures.disk_reads (c.recover.ensures.recovers newest blocks (table_of p.log p.pages) (commit_count p)
-          ready).asks;
-      log_reads = λ honest k newest blocks sound.
-          let same : c.in-Ok.geometry ≡ k = (c.in-Ok.ensures.found k sound.octets.limits sound.octets.lengths).1 in
-          let there = subst (λ (x : Geometry). IsSound newest x old.image blocks) (sym same) sound in
-          let p = logical_image_under newest k old.image blocks in
-          let means : Means (logical_image_under newest k old.image blocks) (table_of p.log p.pages) (commit_count p) = record { table_is = refl; count_is = refl } in
-          let ready : IsReady c.in-Ok-open.opened mid newest blocks (table_of p.log p.pages) (commit_count p) = c.in-Ok-open.ensures.ready honest newest blocks (table_of p.log p.pages) (commit_count p) there (subst (λ (x : Geometry). Means (logical_image_under newest x old.image blocks) (table_of p.log p.pages) (commit_count p)) (sym same) means) in
-          omega (arith, c.open.ensures.log_reads, ap (λ (x : Geometry). x.blocks) same, (c.recover.ensures.recovers newest blocks (table_of p.log p.pages) (commit_count p) ready).log_reads);
+          from_found _ _ _ (rules_of c.args.pool k.groups) _ (restart_works (image g s honest k newest blocks sound)) _ (cache_on k old.image) (start_reads k) old mid (g.S.Site.state c.recover.new.site)
+          (same_rules g s honest k newest blocks sound) (same_works g s honest k newest blocks sound) (same_cache g s honest k newest blocks sound)
+          (omega (arith, c.open.ensures.flash_reads, ap (λ (x : Geometry). x.groups) (same g s honest k newest blocks sound))) c.open.ensures.disk_reads (recovered honest k newest blocks sound).asks;
+      log_reads = λ honest k newest blocks sound. omega (arith, c.open.ensures.log_reads, ap (λ (x : Geometry). x.blocks) (same g s honest k newest blocks sound), (recovered honest k newest blocks sound).log_reads);
       writes = λ honest quiet k newest blocks sound.
-          let same : c.in-Ok.geometry ≡ k = (c.in-Ok.ensures.found k sound.octets.limits sound.octets.lengths).1 in
-          let there = subst (λ (x : Geometry). IsSound newest x old.image blocks) (sym same) sound in
-          let p = logical_image_under newest k old.image blocks in
-          let means : Means (logical_image_under newest k old.image blocks) (table_of p.log p.pages) (commit_count p) = record { table_is = refl; count_is = refl } in
-          let ready : IsReady c.in-Ok-open.opened mid newest blocks (table_of p.log p.pages) (commit_count p) = c.in-Ok-open.ensures.ready honest newest blocks (table_of p.log p.pages) (commit_count p) there (subst (λ (x : Geometry). Means (logical_image_under newest x old.image blocks) (table_of p.log p.pages) (commit_count p)) (sym same) means) in
-          let sizes = c.in-Ok-open.ensures.sizes ∙ same in
           let unchanged = c.open.ensures.same honest in
-          writes_found c.ops_compose.ensures.rise k (rules_of c.args.pool k.groups) (restart_works p) c.in-Ok-open.opened.pages.flash.geometry (rules c.in-Ok-open.opened.pages) (restart_works (logical_image_under newest c.in-Ok-open.opened.pages.flash.geometry mid.image blocks)) (cache_of c.in-Ok-open.opened.pages) old mid _ (omega (arith, sound.octets.limits.groups)) quiet unchanged sizes
-          (λ i. rules_of (c.in-Ok-open.ensures.pool i) (sizes i).groups) (λ i. restart_works (logical_image_under newest (sizes i) (unchanged.image i) blocks)) (c.in-Ok-open.ensures.cache honest newest blocks there ∙ ap (λ (x : Geometry). cache_on x old.image) same)
-          ((c.recover.ensures.recovers newest blocks (table_of p.log p.pages) (commit_count p) ready).writes (unchanged.loose ∙ quiet));
+          writes_found k (rules_of c.args.pool k.groups) (restart_works (image g s honest k newest blocks sound)) opened.pages.flash.geometry (rules opened.pages) (restart_works (logical_image_under newest opened.pages.flash.geometry mid.image blocks)) (cache_of opened.pages) old mid _ (omega (arith, sound.octets.limits.groups)) quiet unchanged
+          (sizes g s honest k newest blocks sound) (same_rules g s honest k newest blocks sound) (same_works g s honest k newest blocks sound) (same_cache g s honest k newest blocks sound) ((recovered honest k newest blocks sound).writes (unchanged.loose ∙ quiet));
       last = λ honest quiet k newest blocks sound.
-          let same : c.in-Ok.geometry ≡ k = (c.in-Ok.ensures.found k sound.octets.limits sound.octets.lengths).1 in
-          let there = subst (λ (x : Geometry). IsSound newest x old.image blocks) (sym same) sound in
-          let p = logical_image_under newest k old.image blocks in
-          let means : Means (logical_image_under newest k old.image blocks) (table_of p.log p.pages) (commit_count p) = record { table_is = refl; count_is = refl } in
-          let ready : IsReady c.in-Ok-open.opened mid newest blocks (table_of p.log p.pages) (commit_count p) = c.in-Ok-open.ensures.ready honest newest blocks (table_of p.log p.pages) (commit_count p) there (subst (λ (x : Geometry). Means (logical_image_under newest x old.image blocks) (table_of p.log p.pages) (commit_count p)) (sym same) means) in
-          let sizes = c.in-Ok-open.ensures.sizes ∙ same in
           let unchanged = c.open.ensures.same honest in
-          ok_as c.recover.result _ _ (last_found k (rules_of c.args.pool k.groups) (restart_works p) c.in-Ok-open.opened.pages.flash.geometry (rules c.in-Ok-open.opened.pages) (restart_works (logical_image_under newest c.in-Ok-open.opened.pages.flash.geometry mid.image blocks)) (cache_of c.in-Ok-open.opened.pages) old mid _ unchanged sizes
-          (λ i. rules_of (c.in-Ok-open.ensures.pool i) (sizes i).groups) (λ i. restart_works (logical_image_under newest (sizes i) (unchanged.image i) blocks)) (c.in-Ok-open.ensures.cache honest newest blocks there ∙ ap (λ (x : Geometry). cache_on x old.image) same))
-          ((c.recover.ensures.recovers newest blocks (table_of p.log p.pages) (commit_count p) ready).last (unchanged.loose ∙ quiet));
+          ok_as c.recover.result _ _ (last_found k (rules_of c.args.pool k.groups) (restart_works (image g s honest k newest blocks sound)) opened.pages.flash.geometry (rules opened.pages) (restart_works (logical_image_under newest opened.pages.flash.geometry mid.image blocks)) (cache_of opened.pages) old mid _ unchanged
+          (sizes g s honest k newest blocks sound) (same_rules g s honest k newest blocks sound) (same_works g s honest k newest blocks sound) (same_cache g s honest k newest blocks sound)) ((recovered honest k newest blocks sound).last (unchanged.loose ∙ quiet));
       performs = λ honest k newest blocks sound.
-          let same : c.in-Ok.geometry ≡ k = (c.in-Ok.ensures.found k sound.octets.limits sound.octets.lengths).1 in
-          let there = subst (λ (x : Geometry). IsSound newest x old.image blocks) (sym same) sound in
-          let p = logical_image_under newest k old.image blocks in
-          let means : Means (logical_image_under newest k old.image blocks) (table_of p.log p.pages) (commit_count p) = record { table_is = refl; count_is = refl } in
-          let ready : IsReady c.in-Ok-open.opened mid newest blocks (table_of p.log p.pages) (commit_count p) = c.in-Ok-open.ensures.ready honest newest blocks (table_of p.log p.pages) (commit_count p) there (subst (λ (x : Geometry). Means (logical_image_under newest x old.image blocks) (table_of p.log p.pages) (commit_count p)) (sym same) means) in
-          let sizes = c.in-Ok-open.ensures.sizes ∙ same in
           let unchanged = c.open.ensures.same honest in
+          let sizes = sizes g s honest k newest blocks sound in
           let next = c.in-Ok-open.ensures.next honest in
-          performs_found (λ i. rules_of (c.in-Ok-open.ensures.pool i) (sizes i).groups) (λ i. restart_work (logical_image_under newest (sizes i) (unchanged.image i) blocks))
-          (found_on c.in-Ok-open.opened k old.image (c.in-Ok-open.ensures.cache honest newest blocks there ∙ ap (λ (x : Geometry). cache_on x old.image) same)
+          let p = image g s honest k newest blocks sound in
+          performs_found (same_rules g s honest k newest blocks sound) (λ i. restart_work (logical_image_under newest (sizes i) (unchanged.image i) blocks))
+          (found_on opened k old.image (same_cache g s honest k newest blocks sound)
           (next.block ∙ (λ i. hi_of (log_shape ((c.in-Ok-open.ensures.going.going.sizes ∙ sizes) i)) (unchanged.image i).log)) (next.master ∙ (λ i. hi_of master_shape (unchanged.image i).log)))
-          (c.recover.ensures.performs newest blocks (table_of p.log p.pages) (commit_count p) ready);
+          (c.recover.ensures.performs newest blocks (table_of p.log p.pages) (commit_count p) (ready g s honest k newest blocks sound));
       next = λ honest k limits lengths.
           let same : c.in-Ok.geometry ≡ k = (c.in-Ok.ensures.found k limits lengths).1 in
           subst (λ (x : Geometry). LeavesNext c.recover.result (λ restarted. restarted.store) x (g.S.Site.state c.recover.new.site)) (c.in-Ok-open.ensures.sizes ∙ same)
@@ -156,25 +162,16 @@ returns-in-Err-open g c =
       asks = λ honest k newest blocks sound.
           let same : c.in-Ok.geometry ≡ k = (c.in-Ok.ensures.found k sound.octets.limits sound.octets.lengths).1 in
           let groups = ap (λ (x : Geometry). x.groups) same in
-          not_found c.ops_compose.ensures.rise c.in-Err-open.stop _ (rules_of c.args.pool k.groups) _ _ (start_reads k) _ _ (omega (arith, sound.octets.limits.groups)) (omega (arith, c.open.ensures.flash_reads, groups)) c.open.ensures.disk_reads;
+          not_found c.in-Err-open.stop _ (rules_of c.args.pool k.groups) _ _ (start_reads k) _ _ (omega (arith, sound.octets.limits.groups)) (omega (arith, c.open.ensures.flash_reads, groups)) c.open.ensures.disk_reads;
       log_reads = λ honest k newest blocks sound.
           let same : c.in-Ok.geometry ≡ k = (c.in-Ok.ensures.found k sound.octets.limits sound.octets.lengths).1 in
           omega (arith, c.open.ensures.log_reads, ap (λ (x : Geometry). x.blocks) same);
       writes = λ honest quiet k newest blocks sound.
-          still_writes c.ops_compose.ensures.rise k (rules_of c.args.pool k.groups) (restart_works (logical_image_under newest k (g.S.Site.state c.args.site.now).image blocks)) (g.S.Site.state c.args.site.now) (g.S.Site.state c.open.new.site) (omega (arith, sound.octets.limits.groups)) quiet (c.open.ensures.same honest);
+          still_writes numbers_rise k (rules_of c.args.pool k.groups) (restart_works (logical_image_under newest k (g.S.Site.state c.args.site.now).image blocks)) (g.S.Site.state c.args.site.now) (g.S.Site.state c.open.new.site) (omega (arith, sound.octets.limits.groups)) quiet (c.open.ensures.same honest);
       last = λ honest quiet k newest blocks sound. tt;
       performs = λ honest k newest blocks sound. performs_refused (λ d is. c.in-Err-open.ensures.unworn d (ap Err is));
       next = λ honest k limits lengths. next_not_worn (λ d is. c.in-Err-open.ensures.unworn d (ap Err is));
       restarts =
-          record {
-            calls = calls_failed (calls_stopped c.open.ensures.preserves c.open.ensures.same c.in-Err-open.ensures.device c.in-Err-open.ensures.faults);
-            going = tt;
-            blocks = tt;
-            room = tt;
-            commits = tt;
-            made = tt;
-            pool = tt;
-            stops = c.in-Err-open.ensures.stops;
-          };
+          restarts_stopped (calls_failed (calls_stopped c.open.ensures.preserves c.open.ensures.same c.in-Err-open.ensures.device c.in-Err-open.ensures.faults)) c.in-Err-open.ensures.stops;
       refuses = λ none. absurd (none c.in-Ok.geometry c.in-Ok.ensures.limits c.in-Ok.ensures.lengths);
     }

@@ -1,4 +1,4 @@
-use Rattle.std.proofs.Common.{append-nil, Bool, sym, subst, ◌∙◌, arith, refl}
+use Rattle.std.proofs.Common.{append-nil, Bool, sym, subst, ◌∙◌, arith, refl, ◌≡◌, ap, true≢false, false, ◌+◌}
 use Rattle.record_model.specs.Touches.{flush}
 use Rattle.write_ahead.specs.Forcing.{forces}
 use Rattle.page_store.specs.Caching.{cache_of, rules}
@@ -15,7 +15,6 @@ use Rattle.redo_laws.proofs.Endings.{ends_by_pages}
 use Rattle.redo_undo.proofs.Mirroring.{numbers_left, logged_now, flush_performs, used_where}
 use Rattle.redo_undo.proofs.Redoings.{never_forced}
 use Rattle.log_records.specs.Spelling.{used_by}
-use Rattle.std.proofs.Common.{◌≡◌, ap, true≢false, false, ◌+◌}
 use Rattle.std.specs.Prelude.{if◌then◌else◌}
 use Rattle.redo_laws.proofs.Touched.{forced_tail, leaves_table, touched_holds}
 use Rattle.site.proofs.Working.{ok_as}
@@ -38,14 +37,14 @@ returns g c =
           let list : LogList = record { first = kept_by newest; blocks = h.log_holds.blocks; tail = h.log_holds.tail } in
           ok_both c.flush_all.result _ _ (Represents c.flush_all.new.log c.flush_all.new.self new newest records table commits)
           (λ stands end. subst (λ (x : Geometry). RepresentsIn x c.flush_all.new.log c.flush_all.new.self new newest records table commits) (sym c.flush_all.ensures.works.geometry)
-          (touched_holds c.log_laws.ensures c.page_laws.ensures log pages site newest records table commits h c.flush_all.new.log c.flush_all.new.self new (c.flush_all.ensures.works.forces.geometry ∙ c.requires.going.sizes)
+          (touched_holds log pages site newest records table commits h c.flush_all.new.log c.flush_all.new.self new (c.flush_all.ensures.works.forces.geometry ∙ c.requires.going.sizes)
           c.flush_all.ensures.works.forces.kept stands.current (stands.ahead h.log_holds.ahead) end (stands.sealed h.log_holds.ahead) (stands.rings newest h.log_holds.rings) c.requires.going.log_going.high sealing (forced_tail log (flushed_contents pages)) stands.ready stands.leaves))
           (c.flush_all.ensures.stands list h.log_holds.ready) c.flush_all.ensures.works.forces.end;
       keeps = λ newest records table commits h.
           let ready = h.log_holds.ready in
           let list : LogList = record { first = kept_by newest; blocks = h.log_holds.blocks; tail = h.log_holds.tail } in
           record {
-            ends = ends_by_pages (c.flush_all.ensures.keeps list ready) (λ quiet. leaves_table c.log_laws.ensures c.page_laws.ensures log pages site newest records table commits h c.requires.going.pages_going.own sealing tail new
+            ends = ends_by_pages (c.flush_all.ensures.keeps list ready) (λ quiet. leaves_table log pages site newest records table commits h c.requires.going.pages_going.own sealing tail new
                 ((c.flush_all.ensures.keeps list ready).any_moment quiet) ((c.flush_all.ensures.keeps list ready).ahead_moment quiet h.log_holds.ahead) ((c.flush_all.ensures.keeps list ready).rings_moment newest quiet h.log_holds.rings));
             numbers = λ quiet. pages_skip c.flush_all.result pages.flash.geometry (current pages site.image) log c.flush_all.new.log list sealing site new (ready_next pages log list site ready) tail ((c.flush_all.ensures.keeps list ready).any_moment quiet) c.flush_all.ensures.works.forces.end (ok_as c.flush_all.result _ _ (λ stands. stands.device_calls) (c.flush_all.ensures.stands list ready));
             masters = λ none. ok_as c.flush_all.result _ (KeepsUnits master_shape site.image new.image) (λ stands. stands.leaves.masters) (c.flush_all.ensures.stands list ready);

@@ -14,7 +14,7 @@ use Rattle.redo_undo.proofs.Saved.{needed_there, save_leaves, is_saved, log_stil
 use Rattle.site.specs.declared.outside.Stop.TheVariants.{Worn}
 use Rattle.redo_laws.proofs.WornLogs.{masters_at_end}
 use Rattle.sealed_ring.specs.Ring.{hi_of}
-use Rattle.site.proofs.Working.{no_error}
+use Rattle.site.proofs.Working.{no_error, err_again}
 use Rattle.log_store.proofs.NextBlocks.{blocks_beside}
 use Rattle.redo_laws.specs.Holding.{blocks_to, Represents}
 use Rattle.redo_laws.proofs.RingNumbers.{hi_on}
@@ -35,7 +35,6 @@ use Rattle.image_changes.specs.Reached.{LeavesFront}
 use Rattle.image_changes.specs.Changes.{AppendsMaster}
 use Rattle.image_meaning.specs.Moments.{LeavesFor}
 use Rattle.redo_undo.proofs.checkpointing.save_master.Goals as goal
-use Rattle.site.proofs.Working.{err_again}
 
 -- the ring that was found, where nothing of its device is loose
 ring_ready : (masters : Ring) (site : State) → masters.shape ≡ master_shape → IsQuiet site → Finds masters site → IsReady masters site
@@ -65,7 +64,7 @@ module _ (g : Over) (c : After-save g) (pages : PageStore) (newest : Option Mast
 
   kept : m.kept ≡ first_block m.redo (begins_of m.active)
   kept =
-      let there = needed_there c.save_laws.ensures c.log_laws.ensures c.page_laws.ensures c.beside_laws.ensures c.args.log.now pages
+      let there = needed_there c.save_laws.ensures c.args.log.now pages
       (g.S.Site.state c.args.site.now) newest records table c.args.commits h sizes
       empty clean m redo refl c.requires.ascend may.unfinished in
       within c.args.log.now.kept c.kept.result m.redo m.kept (first_block m.redo (begins_of m.active)) c.kept.ensures there c.oldest_block-kept.ensures.is
@@ -77,7 +76,7 @@ module _ (g : Over) (c : After-save g) (pages : PageStore) (newest : Option Mast
 
   leaves : IsQuiet (g.S.Site.state c.args.site.now) → LeavesOnly (g.S.Site.state c.args.site.now) (g.S.Site.state c.save.new.site)
       (LeavesFor pages.flash.geometry table c.args.commits (g.S.Site.state c.args.site.now).told)
-  leaves quiet = save_leaves c.save_laws.ensures c.log_laws.ensures c.page_laws.ensures c.beside_laws.ensures c.args.log.now pages
+  leaves quiet = save_leaves c.save_laws.ensures c.args.log.now pages
       (g.S.Site.state c.args.site.now) newest records table c.args.commits h sizes
       empty clean m redo refl c.requires.ascend may.unfinished kept c.save.ensures.unit may.orderly (g.S.Site.state c.save.new.site) quiet (front quiet)
 
@@ -85,7 +84,7 @@ pub returns-clause-saved : goal.returns-clause-saved
 returns-clause-saved g c pages newest records table sizes h empty clean may =
     let s = (goal.at.returns-clause-saved g c).After-save in
     let ready = c.in-Ok.ensures.ready h.log_holds.ready.blocks.honest may.ring in
-    is_saved c.save_laws.ensures c.log_laws.ensures c.page_laws.ensures c.beside_laws.ensures c.args.log.now pages (g.S.Site.state c.args.site.now) newest
+    is_saved c.save_laws.ensures c.args.log.now pages (g.S.Site.state c.args.site.now) newest
     records table c.args.commits h sizes empty clean
     (m g s pages newest records table sizes h empty clean may) (redo g s pages newest records table sizes h empty clean may) refl c.requires.ascend
     may.unfinished (kept g s pages newest records table sizes h empty clean may)

@@ -1,6 +1,7 @@
+use Rattle.image_changes.proofs.Sequence.{ring_kept}
 use Rattle.std_lemmas.proofs.Results.{ok_both}
 use Rattle.page_store.proofs.PushLaws.{log_fits}
-use Rattle.std.proofs.Common.{◌≡◌, ◌∙◌, true, sym, ap, inr, refl, true≢false}
+use Rattle.std.proofs.Common.{◌≡◌, ◌∙◌, true, sym, ap, inr, refl, true≢false, ◌+◌, Bool, false, nat_lt}
 use Rattle.log_store.specs.LogList.{LogList, changes_if}
 use Rattle.log_store.specs.Representation.{has_tail}
 use Rattle.image_meaning.specs.Meaning.{kept_by}
@@ -8,17 +9,14 @@ use Rattle.image_changes.specs.Rings.{Masters, KeepsUnits, master_shape}
 use Rattle.redo_laws.specs.Holding.{Represents}
 use Rattle.site.proofs.Working.{no_error, ok_as}
 use Rattle.redo_laws.proofs.CallsInSequence.{nothing_happens}
-use Rattle.redo_laws.proofs.Appended.{append_leaves}
+use Rattle.redo_laws.proofs.Appended.{append_leaves, current_same}
 use Rattle.redo_laws.proofs.Forced.{forced_holds, some_now, ok_five, quiet_stops, seals_only}
 use Rattle.redo_laws.proofs.WornLogs.{log_at_end}
 use Rattle.redo_laws.proofs.RingNumbers.{skips_nothing}
 use Rattle.redo_laws.proofs.LeftNumbers.{log_skips, log_calls, ready_next, same_at_most}
 use Rattle.redo_undo.proofs.forcing.force.Goals as goal
 use Rattle.redo_undo.proofs.Mirroring.{force_performs, numbers_left}
-use Rattle.redo_laws.proofs.Appended.{current_same}
-use Rattle.std.specs.Prelude.{Ok}
-use Rattle.std.proofs.Common.{◌+◌, Bool, false, nat_lt}
-use Rattle.std.specs.Prelude.{if◌then◌else◌}
+use Rattle.std.specs.Prelude.{Ok, if◌then◌else◌}
 
 pub returns-clause-holds : goal.returns-clause-holds
 returns-clause-holds g c pages newest records table commits sizes h =
@@ -32,7 +30,7 @@ returns-clause-holds g c pages newest records table commits sizes h =
     let some : has_tail log ≡ true = some_now log c.requires.going.low (λ two. true≢false (sym (c.tail_empty.ensures.1 two) ∙ c.if-tail_empty.false)) in
     ok_five c.force.result _ _ _ _ _ (Represents c.force.new.self pages new newest records table commits)
     (λ holds finds' reaches next empty.
-    forced_holds c.log_laws.ensures c.page_laws.ensures c.beside_laws.ensures log pages site newest records table commits h sizes c.force.new.self new some c.requires.going.high
+    forced_holds log pages site newest records table commits h sizes c.force.new.self new some c.requires.going.high
     (record { next = next; empty = empty; kept = c.force.ensures.seals.kept; geometry = c.force.ensures.seals.geometry; holds = holds; finds = finds'; reaches = reaches; changes = changes; preserves = c.force.ensures.seals.preserves }))
     (c.force.ensures.holds list finds ready.records) (c.force.ensures.seals.finds finds) (c.force.ensures.seals.reaches list finds ready.records) c.force.ensures.seals.next c.force.ensures.empty
 
@@ -54,17 +52,17 @@ returns-clause-keeps g c pages newest records table commits h =
     let list : LogList = record { first = kept_by newest; blocks = h.log_holds.blocks; tail = h.log_holds.tail } in
     let some : has_tail log ≡ true = some_now log c.requires.going.low (λ two. true≢false (sym (c.tail_empty.ensures.1 two) ∙ c.if-tail_empty.false)) in
     record {
-      any_moment = λ going quiet. append_leaves c.log_laws.ensures c.page_laws.ensures c.beside_laws.ensures log pages site newest records table commits h going.sizes new (has_tail log) quiet
+      any_moment = λ going quiet. append_leaves log pages site newest records table commits h going.sizes new (has_tail log) quiet
           (c.force.ensures.seals.changes ready.blocks.honest) (c.force.ensures.seals.any_moment list (log_fits log site quiet ready.blocks) ready.records)
           (c.force.ensures.seals.front list (log_fits log site quiet ready.blocks) ready.records quiet) going.pages_going.own (λ tail. tail);
-      numbers = λ going quiet. log_skips c.ring_kept.ensures c.force.result log.geometry log c.force.new.self list (has_tail log) site new 0 (ready_next pages log list site ready) (λ tail. tail)
+      numbers = λ going quiet. log_skips c.force.result log.geometry log c.force.new.self list (has_tail log) site new 0 (ready_next pages log list site ready) (λ tail. tail)
           (c.force.ensures.seals.any_moment list (log_fits log site quiet ready.blocks) ready.records) (c.force.ensures.seals.front list (log_fits log site quiet ready.blocks) ready.records quiet)
           (ok_both c.force.result _ _ _ (λ next empty. same_at_most log c.force.new.self some next empty) c.force.ensures.seals.next c.force.ensures.empty)
           (log_calls c.force.result log.geometry log.ring.hi c.force.new.self.ring.hi list (has_tail log) site new (c.force.ensures.seals.changes ready.blocks.honest) (c.force.ensures.seals.reaches list ready.blocks ready.records) c.force.ensures.seals.next (c.force.ensures.seals.device_calls ready.blocks.honest));
       quiet = λ quiet. quiet_stops c.force.result new site quiet (λ is. ap g.S.Site.state (c.force.ensures.unchanged (inr (c.force.ensures.seals.worn.0 is).1))) c.force.ensures.seals.stops;
       worn_log = λ is. (let worn = (c.force.ensures.seals.worn.0 is).1 in log_at_end log site new ready.blocks (ap g.S.Site.state (c.force.ensures.unchanged (inr worn))) worn);
       masters = ok_as c.force.result _ (KeepsUnits master_shape site.image new.image)
-          (λ reaches. c.ring_kept.ensures log.geometry Masters (changes_if (has_tail log) list) site.image new.image (seals_only (has_tail log) list) reaches) (c.force.ensures.seals.reaches list ready.blocks ready.records);
+          (λ reaches. ring_kept log.geometry Masters (changes_if (has_tail log) list) site.image new.image (seals_only (has_tail log) list) reaches) (c.force.ensures.seals.reaches list ready.blocks ready.records);
     }
 
 -- What it makes of the machine.
@@ -84,4 +82,4 @@ returns-clause-performs g c pages newest records table commits going h =
     let site = g.S.Site.state c.args.site.now in
     let new = g.S.Site.state c.force.new.site in
     force_performs log c.force.new.self pages site new (record { high = c.requires.going.high; each = h.below }) c.force.result (record { worn_log = c.force.ensures.seals.worn.0; stops = c.force.ensures.seals.stops }) c.force.ensures.seals.next c.force.ensures.empty c.requires.going.low
-    (current_same c.beside_laws.ensures pages site new (c.force.ensures.seals.changes h.log_holds.ready.blocks.honest)) (numbers_left c.force.ensures.seals.going going.pages_going)
+    (current_same pages site new (c.force.ensures.seals.changes h.log_holds.ready.blocks.honest)) (numbers_left c.force.ensures.seals.going going.pages_going)

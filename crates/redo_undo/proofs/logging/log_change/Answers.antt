@@ -29,7 +29,7 @@ returns-clause-holds g c newest records table commits h may =
     let holds = c.in-Ok.ensures.log_holds pages newest records table commits c.requires.going.sizes h may in
     let is : lsn_of (current pages new.image front) ≡ lsn_of (front_of pages.pool.frames).content = ap lsn_of (front_is_current pages new.image c.requires.there) in
     subst (λ (x : Geometry). RepresentsIn x log' pages' new newest (records ++ record { lsn = lsn; rec = rec } ∷ []) table commits) (sym (ap (λ (f : FlashCache). f.geometry) c.change_front.ensures.flash))
-    (holds_on c.log_laws.ensures k c.args.log.now log' pages site new newest records table commits h (c.log_record.ensures.pages pages newest records table commits h) pages' rec lsn c.requires.on_page.0 front
+    (holds_on k c.args.log.now log' pages site new newest records table commits h (c.log_record.ensures.pages pages newest records table commits h) pages' rec lsn c.requires.on_page.0 front
     c.requires.on_page.1 c.requires.on_page.2 (omega (arith, is, c.front_lsn.ensures, c.if-front_lsn-lsn.false)) (c.change_front.ensures.redoes new.image c.requires.on_page.0 c.requires.on_page.1)
     (c.change_front.ensures.others new.image) c.in-Ok.ensures.rises.0 c.in-Ok.ensures.rises.1
     (other_pages k log' pages pages' new newest (records ++ record { lsn = lsn; rec = rec } ∷ []) table commits (c.change_front.ensures.fit new holds.ready.pages) (c.change_front.ensures.ahead log' new.image holds.ahead c.in-Ok.ensures.forced) holds))

@@ -1,15 +1,15 @@
+use Rattle.image_changes.proofs.Sequence.{ring_kept}
 use Rattle.log_store.proofs.TailLaws.{full_tail, spelling_short}
 use Rattle.page_store.proofs.PushLaws.{log_fits}
-use Rattle.std.proofs.Common.{List, ◌≡◌, ◌≤◌, ◌<◌, Bool, true, ◌∷◌, [], ◌++◌, ap, inr, ℕ}
+use Rattle.std.proofs.Common.{List, ◌≡◌, ◌≤◌, ◌<◌, Bool, true, ◌∷◌, [], ◌++◌, ap, inr, ℕ, lt-ltb, length, subst}
 use Rattle.std.specs.Prelude.{IfOk, Option}
 use Rattle.log_records.specs.Sound.{AreOrderly}
-use Rattle.image_meaning.specs.Meaning.{versions_on}
+use Rattle.image_meaning.specs.Meaning.{versions_on, kept_by}
 use Rattle.redo_laws.proofs.Forced.{quiet_stops, seals_only}
 use Rattle.redo_laws.proofs.Orderlies.{ends_orderly}
 use Rattle.log_store.specs.Representation.{overflows, next_lsn, end_of, has_tail}
 use Rattle.log_store.specs.LogList.{LogList, changes_if}
 use Rattle.page_store.specs.Ahead.{AreSealed}
-use Rattle.image_meaning.specs.Meaning.{kept_by}
 use Rattle.redo_laws.specs.Holding.{MayGrow, RepresentsLog, Represents}
 use Rattle.redo_laws.proofs.Appended.{appended, ends_with, append_leaves, rings_now, sealed_now, versions_same, current_same, IsNumbered, IsAppended, if_ok_four, if_ok_one, if_ok_two, if_ok_three, ok_by, most_blocks}
 use Rattle.redo_laws.specs.Committing.{EndsWith}
@@ -34,14 +34,13 @@ use Rattle.log_records.specs.Spelling.{spelling}
 use Rattle.page_store.specs.Caching.{rules as rules_of_pages}
 use Rattle.redo_undo.specs.Mirroring.{Mirrors}
 use Rattle.redo_undo.proofs.Mirroring.{logged_performs, logged_used, numbers_left}
-use Rattle.std.proofs.Common.{length, subst}
 
 pub returns-clause-pages : goal.returns-clause-pages
 returns-clause-pages g c pages newest records table commits h =
     let changes = c.append.ensures.seals.changes h.log_holds.ready.blocks.honest in
     record {
-      versions = versions_same c.beside_laws.ensures pages _ _ changes;
-      current = current_same c.beside_laws.ensures pages _ _ changes;
+      versions = versions_same pages _ _ changes;
+      current = current_same pages _ _ changes;
     }
 
 module _ (g : Over) (c : After-append g) where
@@ -66,7 +65,7 @@ module _ (g : Over) (c : After-append g) (pages : PageStore) (newest : Option Ma
   sealing = overflows c.args.log.now c.args.rec.now
 
   full : sealing ≡ true → has_tail c.args.log.now ≡ true
-  full = c.beside_laws.ensures.full c.args.log.now c.args.rec.now c.requires.form
+  full over = lt-ltb 2 c.args.log.now.used (full_tail c.args.log.now.used (length (spelling c.args.rec.now)) (spelling_short c.args.rec.now c.requires.form) over)
 
   -- all that stands behind it
   record Stands (lsn : ℕ) : Type 0 where
@@ -79,9 +78,9 @@ module _ (g : Over) (c : After-append g) (pages : PageStore) (newest : Option Ma
       let ready = h.log_holds.ready in
       let changes = c.append.ensures.seals.changes ready.blocks.honest in
       if_ok_four c.append.result _ _ _ (λ lsn. IsNumbered c.args.log.now c.append.new.self lsn sealing) Stands (λ lsn holds finds reaches numbers. record {
-        rings = rings_now c.log_laws.ensures c.page_laws.ensures c.beside_laws.ensures c.args.log.now pages site newest records table commits h sizes new
+        rings = rings_now c.args.log.now pages site newest records table commits h sizes new
             sealing reaches;
-        are_sealed = sealed_now c.log_laws.ensures c.page_laws.ensures c.beside_laws.ensures c.args.log.now pages site newest records table commits h sizes new
+        are_sealed = sealed_now c.args.log.now pages site newest records table commits h sizes new
             sealing c.append.new.self changes
             c.append.ensures.seals.geometry finds c.append.ensures.seals.at_most_one.0;
         appended_is = record { numbers = numbers; kept = c.append.ensures.seals.kept; holds = holds; finds = finds; changes = changes; preserves = c.append.ensures.seals.preserves };
@@ -96,7 +95,7 @@ returns-clause-log_holds g c pages newest records table commits sizes h =
     let log = c.args.log.now in
     if_ok_one c.append.result (Stands g c pages newest records table commits h)
     (λ lsn. MayGrow log pages site.image newest records (record { lsn = lsn; rec = c.args.rec.now }) → RepresentsLog pages.flash.geometry c.append.new.self pages new newest (records ++ record { lsn = lsn; rec = c.args.rec.now } ∷ []) table commits)
-    (λ lsn stands. appended c.log_laws.ensures c.page_laws.ensures c.beside_laws.ensures log pages site newest records table commits h sizes c.append.new.self
+    (λ lsn stands. appended log pages site newest records table commits h sizes c.append.new.self
     new c.args.rec.now lsn stands.rings stands.are_sealed
     (overflows log c.args.rec.now) (full g c pages newest records table commits h) stands.appended_is)
     (stands g c pages newest records table commits h sizes)
@@ -112,7 +111,7 @@ returns-clause-holds g c pages newest records table commits sizes h none =
     (λ lsn. MayGrow log pages site.image newest records (record { lsn = lsn; rec = rec }) → RepresentsLog k c.append.new.self pages new newest (records ++ record { lsn = lsn; rec = rec } ∷ []) table commits)
     (λ lsn. (end_of log ≤ lsn) × (lsn < end_of c.append.new.self))
     (λ lsn. MayGrow log pages site.image newest records (record { lsn = lsn; rec = rec }) → Represents c.append.new.self pages new newest (records ++ record { lsn = lsn; rec = rec } ∷ []) table commits)
-    (λ lsn holds rises may. holds_off c.log_laws.ensures k log c.append.new.self pages site new newest records table commits h (returns-clause-pages g c pages newest records table commits h) rec lsn none rises.0 rises.1 (holds may))
+    (λ lsn holds rises may. holds_off k log c.append.new.self pages site new newest records table commits h (returns-clause-pages g c pages newest records table commits h) rec lsn none rises.0 rises.1 (holds may))
     (returns-clause-log_holds g c pages newest records table commits sizes h) c.append.ensures.rises
 
 pub returns-clause-last : goal.returns-clause-last
@@ -123,7 +122,7 @@ returns-clause-last g c pages newest records table commits sizes h =
     let rec = c.args.rec.now in
     if_ok_two c.append.result (Stands g c pages newest records table commits h) (λ lsn. (end_of log ≤ lsn) × (lsn < end_of c.append.new.self))
     (λ lsn. EndsWith pages.flash.geometry c.append.new.self pages new newest records table commits (record { lsn = lsn; rec = rec }))
-    (λ lsn stands rises. ends_with c.log_laws.ensures c.page_laws.ensures c.beside_laws.ensures log pages site newest records table commits h sizes
+    (λ lsn stands rises. ends_with log pages site newest records table commits h sizes
     c.append.new.self new rec lsn stands.rings stands.are_sealed
     (overflows log rec) (full g c pages newest records table commits h) stands.appended_is (returns-clause-pages g c pages newest records table commits h)
     rises.0)
@@ -136,7 +135,7 @@ returns-clause-orderly g c pages newest records table commits sizes h =
     let k = pages.flash.geometry in
     if_ok_one c.append.result (λ lsn. EndsWith k c.append.new.self pages _ newest records table commits (record { lsn = lsn; rec = rec }))
     (λ lsn. MayGrow _ pages site.image newest records (record { lsn = lsn; rec = rec }) → AreOrderly records → AreOrderly (records ++ record { lsn = lsn; rec = rec } ∷ []))
-    (λ lsn ends may. ends_orderly c.log_laws.ensures c.orderly_goes_on.ensures.orderly k c.append.new.self pages _ newest records table commits rec lsn (versions_on k site.image) ends
+    (λ lsn ends may. ends_orderly k c.append.new.self pages _ newest records table commits rec lsn (versions_on k site.image) ends
     (returns-clause-pages g c pages newest records table commits h).versions may.follows)
     (returns-clause-last g c pages newest records table commits sizes h)
 
@@ -150,19 +149,19 @@ returns-clause-keeps g c pages newest records table commits h =
     let ready = h.log_holds.ready in
     let list : LogList = record { first = kept_by newest; blocks = h.log_holds.blocks; tail = h.log_holds.tail } in
     let sealing : Bool = overflows log c.args.rec.now in
-    let full = c.beside_laws.ensures.full log c.args.rec.now c.requires.form in
+    let full : overflows log c.args.rec.now ≡ true → has_tail log ≡ true = λ over. lt-ltb 2 log.used (full_tail log.used (length (spelling c.args.rec.now)) (spelling_short c.args.rec.now c.requires.form) over) in
     record {
-      any_moment = λ going quiet. append_leaves c.log_laws.ensures c.page_laws.ensures c.beside_laws.ensures log pages site newest records table commits h going.sizes new sealing quiet
+      any_moment = λ going quiet. append_leaves log pages site newest records table commits h going.sizes new sealing quiet
           (c.append.ensures.seals.changes ready.blocks.honest) (c.append.ensures.seals.any_moment list (log_fits log site quiet ready.blocks) ready.records)
           (c.append.ensures.seals.front list (log_fits log site quiet ready.blocks) ready.records quiet) going.pages_going.own full;
-      numbers = λ going quiet. log_skips c.ring_kept.ensures c.append.result log.geometry log c.append.new.self list sealing site new 1 (ready_next pages log list site ready) full
+      numbers = λ going quiet. log_skips c.append.result log.geometry log c.append.new.self list sealing site new 1 (ready_next pages log list site ready) full
           (c.append.ensures.seals.any_moment list (log_fits log site quiet ready.blocks) ready.records) (c.append.ensures.seals.front list (log_fits log site quiet ready.blocks) ready.records quiet)
           (ok_by c.append.result _ _ (λ lsn is. most_blocks log c.append.new.self lsn sealing full is) (numbered g c))
           (log_calls c.append.result log.geometry log.ring.hi c.append.new.self.ring.hi list sealing site new (c.append.ensures.seals.changes ready.blocks.honest) (c.append.ensures.seals.reaches list ready.blocks ready.records) c.append.ensures.seals.next (c.append.ensures.seals.device_calls ready.blocks.honest));
       quiet = λ quiet. quiet_stops c.append.result new site quiet (λ is. ap g.S.Site.state (c.append.ensures.unchanged (inr (c.append.ensures.seals.worn.0 is).1))) c.append.ensures.seals.stops;
       worn_log = λ is. (let worn = (c.append.ensures.seals.worn.0 is).1 in log_at_end log site new ready.blocks (ap g.S.Site.state (c.append.ensures.unchanged (inr worn))) worn);
       masters = ok_as c.append.result _ (KeepsUnits master_shape site.image new.image)
-          (λ reaches. c.ring_kept.ensures log.geometry Masters (changes_if sealing list) site.image new.image (seals_only sealing list) reaches) (c.append.ensures.seals.reaches list ready.blocks ready.records);
+          (λ reaches. ring_kept log.geometry Masters (changes_if sealing list) site.image new.image (seals_only sealing list) reaches) (c.append.ensures.seals.reaches list ready.blocks ready.records);
     }
 
 pub returns-clause-performs : goal.returns-clause-performs

@@ -1,4 +1,4 @@
-use Rattle.std.proofs.Common.{Bool, false, [], arith, ◌∙◌, List, ap, ℕ}
+use Rattle.std.proofs.Common.{Bool, false, [], arith, ◌∙◌, List, ap, ℕ, sym, subst, append-nil, true≢false}
 use Rattle.std.specs.Prelude.{◌≡◌, OnOk, if◌then◌else◌}
 use Rattle.write_ahead.specs.Forcing.{forces}
 use Rattle.page_store.specs.Ahead.{pushed_by_touch}
@@ -19,7 +19,6 @@ use Rattle.image_meaning.specs.Meaning.{kept_by}
 use Rattle.redo_undo.proofs.UndoneNumbers.{skips_touch}
 use Rattle.image_changes.specs.Rings.{KeepsUnits, master_shape}
 use Rattle.site.proofs.Working.{ok_as}
-use Rattle.std.proofs.Common.{sym, subst, append-nil, true≢false}
 use Rattle.site.specs.declared.geometry.Geometry.{Geometry}
 use Rattle.redo_laws.specs.Holding.{RepresentsIn, Represents}
 use Rattle.redo_laws.proofs.Touched.{forced_tail, leaves_table, touched_holds}
@@ -42,7 +41,7 @@ redoing_now g c o front h =
     let new = g.S.Site.state c.touch.new.site in
     let never = never_forced log (pushed_by_touch pages c.args.page) h.ready.records.tail.end in
     ok_as c.touch.result _ (IsRedoing o c.touch.new.log c.touch.new.self new front)
-    (λ stands. touched c.page_laws.ensures c.redo_laws.ensures o log pages site front h (forces log (pushed_by_touch pages c.args.page)) never new
+    (λ stands. touched o log pages site front h (forces log (pushed_by_touch pages c.args.page)) never new
     c.touch.new.log c.touch.new.self c.touch.ensures.works.geometry c.touch.ensures.works.forces.kept stands.ready stands.current (stands.ahead h.ahead) stands.leaves (stands.rings o.newest (rings_given o log pages site front h)))
     (c.touch.ensures.stands (record { first = kept_by o.newest; blocks = o.blocks; tail = [] }) h.ready)
 
@@ -61,14 +60,14 @@ returns g c =
           ok_both c.touch.result _ _ (Represents c.touch.new.log c.touch.new.self new newest records table commits)
           (λ stands end. subst (λ (x : Geometry). RepresentsIn x c.touch.new.log c.touch.new.self new newest records table commits)
           (sym c.touch.ensures.works.geometry)
-          (touched_holds c.log_laws.ensures c.page_laws.ensures log pages site newest records table commits h c.touch.new.log c.touch.new.self new (c.touch.ensures.works.forces.geometry ∙ c.requires.going.sizes) c.touch.ensures.works.forces.kept stands.current (stands.ahead h.log_holds.ahead) end
+          (touched_holds log pages site newest records table commits h c.touch.new.log c.touch.new.self new (c.touch.ensures.works.forces.geometry ∙ c.requires.going.sizes) c.touch.ensures.works.forces.kept stands.current (stands.ahead h.log_holds.ahead) end
           (stands.sealed h.log_holds.ahead) (stands.rings newest h.log_holds.rings) c.requires.going.log_going.high sealing (forced_tail log (pushed_by_touch pages c.args.page)) stands.ready stands.leaves))
           (c.touch.ensures.stands list h.log_holds.ready) c.touch.ensures.works.forces.end;
       keeps = λ newest records table commits h.
           let ready = h.log_holds.ready in
           let list : LogList = record { first = kept_by newest; blocks = h.log_holds.blocks; tail = h.log_holds.tail } in
           record {
-            ends = ends_by_pages (c.touch.ensures.keeps list ready) (λ quiet. leaves_table c.log_laws.ensures c.page_laws.ensures log pages site newest records table commits h c.requires.going.pages_going.own sealing tail new
+            ends = ends_by_pages (c.touch.ensures.keeps list ready) (λ quiet. leaves_table log pages site newest records table commits h c.requires.going.pages_going.own sealing tail new
                 ((c.touch.ensures.keeps list ready).any_moment quiet) ((c.touch.ensures.keeps list ready).ahead_moment quiet h.log_holds.ahead) ((c.touch.ensures.keeps list ready).rings_moment newest quiet h.log_holds.rings));
             numbers = λ quiet. pages_skip c.touch.result pages.flash.geometry (current pages site.image) log c.touch.new.log list sealing site new (ready_next pages log list site ready) tail ((c.touch.ensures.keeps list ready).any_moment quiet) c.touch.ensures.works.forces.end (ok_as c.touch.result _ _ (λ stands. stands.device_calls) (c.touch.ensures.stands list ready));
             masters = λ none. ok_as c.touch.result _ (KeepsUnits master_shape site.image new.image) (λ stands. stands.leaves.masters) (c.touch.ensures.stands list ready);
@@ -78,9 +77,9 @@ returns g c =
           let list : LogList = record { first = kept_by o.newest; blocks = o.blocks; tail = [] } in
           let never : sealing ≡ false = never_forced log (pushed_by_touch pages c.args.page) h.ready.records.tail.end in
           record {
-            ends = ends_by_pages (c.touch.ensures.keeps list h.ready) (λ quiet. touch_leaves c.page_laws.ensures c.redo_laws.ensures o log pages site front h sealing never new ((c.touch.ensures.keeps list h.ready).any_moment quiet)
+            ends = ends_by_pages (c.touch.ensures.keeps list h.ready) (λ quiet. touch_leaves o log pages site front h sealing never new ((c.touch.ensures.keeps list h.ready).any_moment quiet)
                 (rings_of o log pages site front h new ((c.touch.ensures.keeps list h.ready).rings_moment o.newest quiet (rings_given o log pages site front h))) c.requires.going.pages_going.own);
-            numbers = λ quiet. skips_touch c.page_laws.ensures c.redo_laws.ensures o log pages site front h sealing never new c.touch.result c.touch.new.log c.touch.new.self ((c.touch.ensures.keeps list h.ready).any_moment quiet) (redoing_now g c o front h) (ok_as c.touch.result _ _ (λ stands. stands.device_calls) (c.touch.ensures.stands list h.ready));
+            numbers = λ quiet. skips_touch o log pages site front h sealing never new c.touch.result c.touch.new.log c.touch.new.self ((c.touch.ensures.keeps list h.ready).any_moment quiet) (redoing_now g c o front h) (ok_as c.touch.result _ _ (λ stands. stands.device_calls) (c.touch.ensures.stands list h.ready));
             masters = λ none. ok_as c.touch.result _ (KeepsUnits master_shape site.image new.image) (λ stands. stands.leaves.masters) (c.touch.ensures.stands list h.ready);
           };
       at_rest = λ o front h.

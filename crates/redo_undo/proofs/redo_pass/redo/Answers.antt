@@ -7,7 +7,7 @@ use Rattle.image_meaning.specs.Meaning.{kept_by, saved_by, logical_image_under}
 use Rattle.analysis.specs.Read.{IsAnalysis}
 use Rattle.redo_undo.specs.Redoing.{AsksAtRest, Opening, IsOpened, asked_of, HasTaken}
 use Rattle.log_laws.proofs.LogBlocks.{block_of, log_split}
-use Rattle.redo_laws.proofs.CallsInSequence.{going_still, opened_holds, some_group}
+use Rattle.redo_laws.proofs.CallsInSequence.{going_still, some_group}
 use Rattle.redo_undo.proofs.Redoings.{begins, holds_all}
 use Rattle.redo_undo.proofs.TakenRecords.{IsUpTo, IsNextBlock, asks_first, up_to_none, opened_count, finds, next_block, one_more_block, all_blocks, same_stop, unfinished_by}
 use Rattle.site.specs.declared.outside.Stop.TheVariants.{Worn, Device, Foreign}
@@ -24,7 +24,7 @@ use Rattle.redo_undo.proofs.Calling.{calls_read, keeps_answered, keeps_failed, k
 use Rattle.site.proofs.Working.{calls_then, no_error, of_error}
 use Rattle.redo_undo.proofs.redo_pass.redo.Given.{Over}
 use Rattle.redo_undo.proofs.redo_pass.redo.Goals.{In-Ok-read_block, After-loop-block}
-use Rattle.redo_undo.proofs.UndoneWork.{read_refuses}
+use Rattle.redo_undo.proofs.UndoCalls.{read_refuses}
 use Rattle.redo_undo.proofs.redo_pass.redo.Goals as goal
 
 abbrev opening : PageStore → State → Option Master → List (List LogRecord) → List Content → ℕ → Opening
@@ -39,8 +39,8 @@ opening pages site newest blocks table commits = record {
 
 pub returns-in-Err-clause-keeps : goal.returns-in-Err-clause-keeps
 returns-in-Err-clause-keeps g c newest blocks table commits own h =
-    keeps_refused_by c.page_laws.ensures c.redo_laws.ensures (inl c.in-Err.ensures.stops) c.requires.going.sizes
-    (begins c.page_laws.ensures c.redo_laws.ensures c.args.log.now c.args.pages.now (g.S.Site.state c.args.site.now) newest blocks table commits h) (λ same. let memory = c.in-Err.ensures.stops in cc)
+    keeps_refused_by (inl c.in-Err.ensures.stops) c.requires.going.sizes
+    (begins c.args.log.now c.args.pages.now (g.S.Site.state c.args.site.now) newest blocks table commits h) (λ same. let memory = c.in-Err.ensures.stops in cc)
 
 pub loop-block-init : goal.loop-block-init
 loop-block-init g c =
@@ -56,13 +56,13 @@ loop-block-init g c =
       rises = omega arith;
       log_reads = omega arith;
       up_to = λ newest blocks table commits own h.
-          up_to_none c.page_laws.ensures c.redo_laws.ensures c.args.log.now c.args.pages.now (g.S.Site.state c.args.site.now) newest blocks table commits c.in-Ok.found c.kept-block.result c.requires.going.sizes h
+          up_to_none c.args.log.now c.args.pages.now (g.S.Site.state c.args.site.now) newest blocks table commits c.in-Ok.found c.kept-block.result c.requires.going.sizes h
           (subst (λ (m : Master). IsAnalysis (seen m) [] c.in-Ok.found) own c.in-Ok.ensures.read) (omega (arith, kept, h.kept));
       asked = λ newest blocks table commits own h.
           asks_first (opening c.args.pages.now (g.S.Site.state c.args.site.now) newest blocks table commits) c.args.pages.now (g.S.Site.state c.args.site.now)
           c.kept-block.result (omega (arith, kept, h.kept));
-      keeps = λ newest blocks table commits own h. keeps_redoing c.page_laws.ensures c.redo_laws.ensures c.requires.going.sizes
-          (begins c.page_laws.ensures c.redo_laws.ensures c.args.log.now c.args.pages.now (g.S.Site.state c.args.site.now) newest blocks table commits h);
+      keeps = λ newest blocks table commits own h. keeps_redoing c.requires.going.sizes
+          (begins c.args.log.now c.args.pages.now (g.S.Site.state c.args.site.now) newest blocks table commits h);
     }
 
 pub take_block-requires-clause-going : goal.take_block-requires-clause-going
@@ -107,8 +107,8 @@ module _ (g : Over) (c : In-Ok-read_block g) (newest : Option Master) (blocks : 
 
   next : IsNextBlock o c.loop-block.log c.loop-block.pages old read c.loop-block.so_far c.loop-block.block c.read_block.new.into c.in-Ok-read_block.used
   next =
-      let found = finds c.redo_laws.ensures o c.loop-block.log c.loop-block.pages old mid c.loop-block.so_far c.loop-block.block up in
-      next_block c.redo_laws.ensures o c.loop-block.log c.loop-block.pages old mid c.loop-block.so_far c.loop-block.block up read c.read_block.new.into c.in-Ok-read_block.used
+      let found = finds o c.loop-block.log c.loop-block.pages old mid c.loop-block.so_far c.loop-block.block up in
+      next_block o c.loop-block.log c.loop-block.pages old mid c.loop-block.so_far c.loop-block.block up read c.read_block.new.into c.in-Ok-read_block.used
       c.read_block.ensures.reads.preserves (c.read_block.ensures.reads.same up.taken.pages_are.ready.blocks.honest) inside
       (c.in-Ok-read_block.ensures.holds (record { first = kept_by newest; blocks = blocks; tail = [] }) found up.taken.pages_are.ready.records
       (let from = up.from in omega (arith, from)))
@@ -123,7 +123,7 @@ module _ (g : Over) (c : In-Ok-read_block g) (newest : Option Master) (blocks : 
   kept_now =
       let i = c.loop-block.invariant in
       keeps_then h.ready.blocks.honest i.works.geometry refl i.works.calls (i.keeps newest blocks table commits own h)
-      (keeps_opened c.page_laws.ensures c.redo_laws.ensures {r = Ok c.in-Ok-read_block.used} i.works.going.sizes up.taken.pages_are (c.read_block.ensures.reads.same up.taken.pages_are.ready.blocks.honest)
+      (keeps_opened {r = Ok c.in-Ok-read_block.used} i.works.going.sizes up.taken.pages_are (c.read_block.ensures.reads.same up.taken.pages_are.ready.blocks.honest)
       (λ d is. no_error {x = c.in-Ok-read_block.used} {e = Worn d} is) (no_error {x = c.in-Ok-read_block.used} {e = Foreign}))
 
 pub loop-block-preserved : goal.loop-block-preserved
@@ -192,7 +192,7 @@ module _ (g : Over) (c : After-loop-block g) (newest : Option Master) (blocks : 
 
 pub returns-clause-holds : goal.returns-clause-holds
 returns-clause-holds g c newest blocks table commits own h =
-    holds_all (opened_holds c.log_laws.ensures c.page_laws.ensures) c.page_laws.ensures c.redo_laws.ensures
+    holds_all
     (opening c.args.pages.now (g.S.Site.state c.args.site.now) newest blocks table commits)
     c.loop-block.log c.loop-block.pages (g.S.Site.state c.loop-block.site) (all_taken g c newest blocks table commits own h).pages_are
     c.loop-block.invariant.works.going.sizes
@@ -206,7 +206,7 @@ returns-clause-count g c newest blocks table commits own h = (all_taken g c newe
 pub returns-clause-unfinished : goal.returns-clause-unfinished
 returns-clause-unfinished g c newest blocks table commits own h =
     let table_is = (all_taken g c newest blocks table commits own h).analysis.table in
-    unfinished_by c.redo_laws.ensures (logical_image_under newest c.args.pages.now.flash.geometry (g.S.Site.state c.args.site.now).image blocks) h.sound.records c.loop-block.so_far.found table_is
+    unfinished_by c.table_of_records.ensures.one c.losers_are_taken.ensures.table c.table_of_records.ensures.unfinished (logical_image_under newest c.args.pages.now.flash.geometry (g.S.Site.state c.args.site.now).image blocks) h.sound.records c.loop-block.so_far.found table_is
 
 pub returns-clause-asks : goal.returns-clause-asks
 returns-clause-asks g c newest blocks table commits own h =
@@ -251,11 +251,11 @@ pub returns-in-Err-read_block-clause-keeps : goal.returns-in-Err-read_block-clau
 returns-in-Err-read_block-clause-keeps g c newest blocks table commits own h =
     let i = c.loop-block.invariant in
     let up = i.up_to newest blocks table commits own h in
-    let found = finds c.redo_laws.ensures (opening c.args.pages.now (g.S.Site.state c.args.site.now) newest blocks table commits) c.loop-block.log
+    let found = finds (opening c.args.pages.now (g.S.Site.state c.args.site.now) newest blocks table commits) c.loop-block.log
     c.loop-block.pages (g.S.Site.state c.args.site.now)
     (g.S.Site.state c.loop-block.site) c.loop-block.so_far c.loop-block.block up in
     keeps_failed (keeps_then h.ready.blocks.honest i.works.geometry refl i.works.calls (i.keeps newest blocks table commits own h)
-    (keeps_opened c.page_laws.ensures c.redo_laws.ensures {T = ℕ} {r = Err c.in-Err-read_block.stop} i.works.going.sizes up.taken.pages_are (c.read_block.ensures.reads.same up.taken.pages_are.ready.blocks.honest)
+    (keeps_opened {T = ℕ} {r = Err c.in-Err-read_block.stop} i.works.going.sizes up.taken.pages_are (c.read_block.ensures.reads.same up.taken.pages_are.ready.blocks.honest)
     (λ d is. reads_worn d (of_error {T = ℕ} (Err c.in-Err-read_block.stop) (λ stop. (stop ≡ Device Log) ⊎ (stop ≡ Foreign)) (Worn d)
     c.in-Err-read_block.ensures.stops is))
     (λ is. c.in-Err-read_block.ensures.readable (record { first = kept_by newest; blocks = blocks; tail = [] }) found up.taken.pages_are.ready.records

@@ -24,9 +24,9 @@ pub returns-in_default : goal.returns-in_default
 returns-in_default g c =
     record {
       redoing = λ o front rest h is.
-          no_change c.page_laws.ensures c.redo_laws.ensures o c.args.log.now c.args.pages.now (g.S.Site.state c.args.site.now) front h (record { lsn = c.args.lsn; rec = c.args.rec.now }) rest is
+          no_change o c.args.log.now c.args.pages.now (g.S.Site.state c.args.site.now) front h (record { lsn = c.args.lsn; rec = c.args.rec.now }) rest is
           (λ page number exists own at. absurd (none-some number (sym c.in_default.ensures.none ∙ own)));
-      keeps = λ o front rest h is. keeps_redoing c.page_laws.ensures c.redo_laws.ensures c.requires.going.sizes h;
+      keeps = λ o front rest h is. keeps_redoing c.requires.going.sizes h;
       asks = λ o front rest h is.
           asks_no_page _ o (record { lsn = c.args.lsn; rec = c.args.rec.now }) c.args.pages.now (g.S.Site.state c.args.site.now) c.in_default.ensures.none;
       logs_nothing = logs_nothing c.requires.going;
@@ -39,12 +39,12 @@ returns-then-front_lsn-lsn g c =
     let on = c.in-Some.ensures.on in
     record {
       redoing = λ o front rest h is.
-          no_change c.page_laws.ensures c.redo_laws.ensures o c.touch.new.log pages site front (c.in-Ok.ensures.redoing o front h) (record { lsn = c.args.lsn; rec = c.args.rec.now }) rest is
+          no_change o c.touch.new.log pages site front (c.in-Ok.ensures.redoing o front h) (record { lsn = c.args.lsn; rec = c.args.rec.now }) rest is
           (λ page number exists own at. front_knows pages site.image c.args.rec.now c.args.lsn c.in-Some.page c.in-Ok.ensures.there c.in-Ok.ensures.front on
           (omega (arith, c.front_lsn.ensures, c.if-front_lsn-lsn.true)) page number own at);
       keeps = λ o front rest h is. c.in-Ok.ensures.keeps_opened o front h;
       asks = λ o front rest h is.
-          asks_known c.page_laws.ensures c.redo_laws.ensures o c.touch.new.log pages site front (c.in-Ok.ensures.redoing o front h) (record { lsn = c.args.lsn; rec = c.args.rec.now }) rest is
+          asks_known o c.touch.new.log pages site front (c.in-Ok.ensures.redoing o front h) (record { lsn = c.args.lsn; rec = c.args.rec.now }) rest is
           c.in-Some.page on.0 on.1 on.2 c.args.pages.now (g.S.Site.state c.args.site.now) _ (record { asks = c.in-Ok.ensures.asks; performs = c.in-Ok.ensures.at_rest o front h })
           (front_knows pages site.image c.args.rec.now c.args.lsn c.in-Some.page c.in-Ok.ensures.there c.in-Ok.ensures.front on
           (omega (arith, c.front_lsn.ensures, c.if-front_lsn-lsn.true)) c.in-Some.page on.0 on.1 on.2);
@@ -64,16 +64,16 @@ returns g c =
     record {
       redoing = λ o front rest h is.
           let now = c.in-Ok.ensures.redoing o front h in
-          changed c.page_laws.ensures c.redo_laws.ensures o _ pages site front now e rest is c.change_front.new.pages first on.0 on.1 (on.2 ∙ sym c.in-Ok.ensures.front)
+          changed o _ pages site front now e rest is c.change_front.new.pages first on.0 on.1 (on.2 ∙ sym c.in-Ok.ensures.front)
           (omega (arith, content, c.front_lsn.ensures, c.if-front_lsn-lsn.false)) (c.change_front.ensures.redoes site.image on.0 on.1) (c.change_front.ensures.others site.image)
           (ap (λ (f : FlashCache). f.geometry) c.change_front.ensures.flash) (c.change_front.ensures.fit site now.ready.pages)
-          (c.change_front.ensures.ahead _ site.image now.ahead (lsn_sealed c.page_laws.ensures c.redo_laws.ensures o _ pages site front now e rest is));
+          (c.change_front.ensures.ahead _ site.image now.ahead (lsn_sealed o _ pages site front now e rest is));
       keeps = λ o front rest h is. c.in-Ok.ensures.keeps_opened o front h;
       asks = λ o front rest h is.
           let content : lsn_of (current pages site.image c.in-Some.page) ≡ lsn_of (front_of pages.pool.frames).content =
           ap (λ page. lsn_of (current pages site.image page)) (sym c.in-Ok.ensures.front) ∙ ap lsn_of
           (front_is_current pages site.image c.in-Ok.ensures.there) in
-          asks_redone c.page_laws.ensures c.redo_laws.ensures o c.touch.new.log pages site front (c.in-Ok.ensures.redoing o front h) (record { lsn = c.args.lsn; rec = c.args.rec.now }) rest is
+          asks_redone o c.touch.new.log pages site front (c.in-Ok.ensures.redoing o front h) (record { lsn = c.args.lsn; rec = c.args.rec.now }) rest is
           c.in-Some.page on.0 on.1 on.2 c.args.pages.now (g.S.Site.state c.args.site.now) _ (record { asks = c.in-Ok.ensures.asks; performs = c.in-Ok.ensures.at_rest o front h })
           (omega (arith, content, c.front_lsn.ensures, c.if-front_lsn-lsn.false)) c.change_front.new.pages
           (some_group c.requires.going) c.change_front.ensures.machine
@@ -95,7 +95,7 @@ returns-in-Err-clause-asks g c o front rest h is =
 pub returns-then-page-geometry-clause-keeps : goal.returns-then-page-geometry-clause-keeps
 returns-then-page-geometry-clause-keeps g c o front rest h is =
     let on = c.in-Some.ensures.on in
-    let exists = page_exists c.page_laws.ensures c.redo_laws.ensures o c.args.log.now c.args.pages.now (g.S.Site.state c.args.site.now) front h (record { lsn = c.args.lsn; rec = c.args.rec.now }) rest is
+    let exists = page_exists o c.args.log.now c.args.pages.now (g.S.Site.state c.args.site.now) front h (record { lsn = c.args.lsn; rec = c.args.rec.now }) rest is
     c.in-Some.page on.0 on.1 on.2 in
     absurd (omega (arith, exists, ap (λ (k : Geometry). k.pages) (c.geometry.ensures ∙ c.requires.going.sizes ∙ h.geometry), c.if-page-geometry.true))
 

@@ -1,4 +1,4 @@
-use Rattle.log_records.proofs.Blocks.{some_octet}
+use Rattle.log_records.proofs.Blocks.{some_octet, one_spelled}
 use Rattle.std.proofs.Common.{◌+◌, ◌*◌, ◌++◌, ◌∷◌, [], List, append-nil, refl, sym, subst, append_assoc, arith}
 use Rattle.log_records.specs.Log.{Entry, entries_from}
 use Rattle.redo_undo.specs.Redoing.{HasTaken}
@@ -20,9 +20,9 @@ loop-at-init g c =
       more = omega arith;
       some = λ less. absurd (omega (arith, less));
       owed = omega arith;
-      part = λ o front rest records own h block used is. part_begins c.page_laws.ensures c.redo_laws.ensures o c.args.log.now c.args.pages.now (g.S.Site.state c.args.site.now) c.args.so_far.now front
+      part = λ o front rest records own h block used is. part_begins o c.args.log.now c.args.pages.now (g.S.Site.state c.args.site.now) c.args.so_far.now front
           c.args.block c.args.content.now c.args.used records c.requires.going.sizes h block used;
-      keeps = λ o front rest records own h block used is. keeps_redoing c.page_laws.ensures c.redo_laws.ensures c.requires.going.sizes h.pages_are;
+      keeps = λ o front rest records own h block used is. keeps_redoing c.requires.going.sizes h.pages_are;
     }
 
 pub loop-at-smaller : goal.loop-at-smaller
@@ -52,24 +52,24 @@ loop-at-preserved g c =
       part = λ o front rest records own h block used is.
           let a = i.part o front rest records own h block used is in
           let e : Entry = record { lsn = 512 * c.args.block + c.loop-at.at; rec = c.in-Ok.rec } in
-          let next = next_of_log c.read_again.ensures.only c.args.block c.args.content.now c.args.used c.loop-at.at records a.done a.past front c.in-Ok.rec c.in-Ok.end _ rest before found is in
+          let next = next_of_log one_spelled c.args.block c.args.content.now c.args.used c.loop-at.at records a.done a.past front c.in-Ok.rec c.in-Ok.end _ rest before found is in
           record {
             done = a.done ++ e ∷ [];
-            past = past_one c.read_again.ensures.only c.args.block c.args.content.now c.args.used c.loop-at.at records a.done a.past c.in-Ok.rec c.in-Ok.end before found;
+            past = past_one one_spelled c.args.block c.args.content.now c.args.used c.loop-at.at records a.done a.past c.in-Ok.rec c.in-Ok.end before found;
             taken = subst (HasTaken o c.take_record.new.log c.take_record.new.pages new c.take_record.new.so_far) (append_assoc front a.done (e ∷ []))
                 (t.takes o (front ++ a.done) next.0 own a.taken next.1).taken;
             asked = asks_more o c.args.pages.now c.loop-at.pages c.take_record.new.pages old mid new a.done a.asked _ (e ∷ []) (a.done ++ e ∷ []) refl (t.takes o (front ++ a.done) next.0 own a.taken next.1).asks;
           };
       keeps = λ o front rest records own h block used is.
           let a = i.part o front rest records own h block used is in
-          let next = next_of_log c.read_again.ensures.only c.args.block c.args.content.now c.args.used c.loop-at.at records a.done a.past front c.in-Ok.rec c.in-Ok.end _ rest before found is in
+          let next = next_of_log one_spelled c.args.block c.args.content.now c.args.used c.loop-at.at records a.done a.past front c.in-Ok.rec c.in-Ok.end _ rest before found is in
           keeps_answered (keeps_then h.pages_are.ready.blocks.honest i.logs.works.geometry refl i.logs.works.calls (i.keeps o front rest records own h block used is) (t.takes o (front ++ a.done) next.0 own a.taken next.1).keeps);
     }
 
 pub returns-in_default-clause-takes : goal.returns-in_default-clause-takes
 returns-in_default-clause-takes g c o front rest records own h block used is =
     let a = c.loop-at.invariant.part o front rest records own h block used is in
-    absurd (none_there c.read_again.ensures.only c.args.block c.args.content.now c.args.used c.loop-at.at records a.done a.past c.loop-at-test.true c.in_default.ensures.bad)
+    absurd (none_there one_spelled c.args.block c.args.content.now c.args.used c.loop-at.at records a.done a.past c.loop-at-test.true c.in_default.ensures.bad)
 
 pub returns-in-Err-clause-takes : goal.returns-in-Err-clause-takes
 returns-in-Err-clause-takes g c o front rest records own h block used is =
@@ -77,8 +77,8 @@ returns-in-Err-clause-takes g c o front rest records own h block used is =
     let a = i.part o front rest records own h block used is in
     let e : Entry = record { lsn = 512 * c.args.block + c.loop-at.at; rec = c.in-Ok.rec } in
     let entries = entries_from (512 * c.args.block + 2) records in
-    let next = next_of_log c.read_again.ensures.only c.args.block c.args.content.now c.args.used c.loop-at.at records a.done a.past front c.in-Ok.rec c.in-Ok.end _ rest c.loop-at-test.true c.in-Ok.ensures.found is in
-    let later = next_of_log c.read_again.ensures.only c.args.block c.args.content.now c.args.used c.loop-at.at records a.done a.past [] c.in-Ok.rec c.in-Ok.end entries [] c.loop-at-test.true c.in-Ok.ensures.found (sym (append-nil entries)) in
+    let next = next_of_log one_spelled c.args.block c.args.content.now c.args.used c.loop-at.at records a.done a.past front c.in-Ok.rec c.in-Ok.end _ rest c.loop-at-test.true c.in-Ok.ensures.found is in
+    let later = next_of_log one_spelled c.args.block c.args.content.now c.args.used c.loop-at.at records a.done a.past [] c.in-Ok.rec c.in-Ok.end entries [] c.loop-at-test.true c.in-Ok.ensures.found (sym (append-nil entries)) in
     let takes = c.in-Err.ensures.takes o (front ++ a.done) next.0 own a.taken next.1 in
     record {
       taken = tt;
@@ -91,7 +91,7 @@ pub returns-clause-takes : goal.returns-clause-takes
 returns-clause-takes g c o front rest records own h block used is =
     let i = c.loop-at.invariant in
     let a = i.part o front rest records own h block used is in
-    let all = past_all c.read_again.ensures.only c.args.block c.args.content.now c.args.used c.loop-at.at records a.done a.past c.loop-at-test.false in
+    let all = past_all one_spelled c.args.block c.args.content.now c.args.used c.loop-at.at records a.done a.past c.loop-at-test.false in
     record {
       taken = subst (λ (l : List Entry). HasTaken o c.loop-at.log c.loop-at.pages (g.S.Site.state c.loop-at.site) c.loop-at.so_far (front ++ l)) all a.taken;
       keeps = i.keeps o front rest records own h block used is;

@@ -16,10 +16,10 @@ pub returns-in-Err-clause-takes : goal.returns-in-Err-clause-takes
 returns-in-Err-clause-takes g c o front rest own h is =
     let e : Entry = record { lsn = c.args.lsn; rec = c.args.rec.now } in
     let to = analysis_to o c.args.master.now own front c.args.so_far.now.found h.analysis in
-    let step = step_to o c.args.master.now own front e (may_step c.page_laws.ensures c.redo_laws.ensures o c.args.log.now c.args.pages.now _ front h.pages_are e rest is) in
+    let step = step_to o c.args.master.now own front e (may_step o c.args.log.now c.args.pages.now _ front h.pages_are e rest is c.sound_log_steps.ensures.steps) in
     record {
       taken = tt;
-      keeps = keeps_refused_by c.page_laws.ensures c.redo_laws.ensures c.in-Err.ensures.stops c.requires.going.sizes h.pages_are (λ same. c.in-Err.ensures.readable front to step (ap Err same));
+      keeps = keeps_refused_by c.in-Err.ensures.stops c.requires.going.sizes h.pages_are (λ same. c.in-Err.ensures.readable front to step (ap Err same));
       asks = stops_first c.in-Err.stop (asked_of o (e ∷ [])) c.args.pages.now _ (some_group c.requires.going)
           (not_worn c.in-Err.stop c.in-Err.ensures.stops);
     }
@@ -27,24 +27,24 @@ returns-in-Err-clause-takes g c o front rest own h is =
 pub returns-then-lsn-master-clause-takes : goal.returns-then-lsn-master-clause-takes
 returns-then-lsn-master-clause-takes g c o front rest own h is =
     let e : Entry = record { lsn = c.args.lsn; rec = c.args.rec.now } in
-    let step = step_to o c.args.master.now own front e (may_step c.page_laws.ensures c.redo_laws.ensures o c.args.log.now c.args.pages.now _ front h.pages_are e rest is) in
+    let step = step_to o c.args.master.now own front e (may_step o c.args.log.now c.args.pages.now _ front h.pages_are e rest is c.sound_log_steps.ensures.steps) in
     let heard = c.in_default.ensures.heard front (analysis_to o c.args.master.now own front c.args.so_far.now.found h.analysis) step in
     let redo = ap (λ (m : Master). m.redo) own in
     record {
       taken = record {
-        pages_are = no_change c.page_laws.ensures c.redo_laws.ensures o c.args.log.now c.args.pages.now _ front h.pages_are e rest is
-            (known_before c.page_laws.ensures c.redo_laws.ensures o c.args.log.now c.args.pages.now _ front h.pages_are e rest is (omega (arith, redo, c.if-lsn-master.true)));
+        pages_are = no_change o c.args.log.now c.args.pages.now _ front h.pages_are e rest is
+            (known_before o c.args.log.now c.args.pages.now _ front h.pages_are e rest is (omega (arith, redo, c.if-lsn-master.true)));
         analysis = analysis_back o c.args.master.now own (front ++ e ∷ []) _ heard;
         count = omega (arith, h.count, length-append front (e ∷ []));
       };
-      keeps = keeps_redoing c.page_laws.ensures c.redo_laws.ensures c.requires.going.sizes h.pages_are;
+      keeps = keeps_redoing c.requires.going.sizes h.pages_are;
       asks = asks_early _ o e c.args.pages.now _ (omega (arith, redo, c.if-lsn-master.true));
     }
 
 pub returns-clause-takes : goal.returns-clause-takes
 returns-clause-takes g c o front rest own h is =
     let e : Entry = record { lsn = c.args.lsn; rec = c.args.rec.now } in
-    let step = step_to o c.args.master.now own front e (may_step c.page_laws.ensures c.redo_laws.ensures o c.args.log.now c.args.pages.now _ front h.pages_are e rest is) in
+    let step = step_to o c.args.master.now own front e (may_step o c.args.log.now c.args.pages.now _ front h.pages_are e rest is c.sound_log_steps.ensures.steps) in
     let heard = c.in_default.ensures.heard front (analysis_to o c.args.master.now own front c.args.so_far.now.found h.analysis) step in
     let redo = ap (λ (m : Master). m.redo) own in
     record {

@@ -1,4 +1,4 @@
-use Rattle.std.proofs.Common.{◌∙◌, ◌+◌, ◌*◌, ◌++◌, ◌∷◌, [], ℕ, refl, arith}
+use Rattle.std.proofs.Common.{◌∙◌, ◌+◌, ◌*◌, ◌++◌, ◌∷◌, [], ℕ, refl, arith, sym}
 use Rattle.site.specs.declared.outside.Dev.TheVariants.{Log}
 use Rattle.log_records.specs.declared.log_record.LogRecord.TheVariants.{Clr}
 use Rattle.log_records.specs.Log.{Entry}
@@ -12,7 +12,6 @@ use Rattle.redo_laws.proofs.AskingUndo.{change_made, change_stopped}
 use Rattle.redo_undo.proofs.Calling.{keeps_failed, keeps_few, keeps_then, works_then}
 use Rattle.std.proofs.lemmas.Grind.{common_steps}
 use Rattle.redo_undo.proofs.undo.compensate.Goals as goal
-use Rattle.std.proofs.Common.{sym}
 use Rattle.buffer_pool.specs.Frames.{front_of}
 use Rattle.ring_machine.specs.Machine.{changed}
 use Rattle.ring_machine.specs.Octets.{clr_octets}
@@ -35,38 +34,36 @@ returns-in-Ok g c =
           if_ok_one c.log_change.result
           (λ lsn. MayGrow c.touch.new.log c.touch.new.pages mid.image newest records (entry lsn) → Represents c.log_change.new.log c.log_change.new.pages new newest (records ++ entry lsn ∷ []) table commits)
           (λ lsn. MayGrow _ _ site.image newest records (entry lsn) → Represents c.log_change.new.log c.log_change.new.pages new newest (records ++ entry lsn ∷ []) table commits)
-          (λ lsn grown may. grown (may_moved c.page_laws.ensures _ c.touch.new.log _ c.touch.new.pages site.image mid.image newest records (entry lsn) refl c.touch.ensures.logs_nothing.works.geometry c.in-Ok.ensures.logs_nothing.blocks c.touch.ensures.logs_nothing.works.kept may))
+          (λ lsn grown may. grown (may_moved _ c.touch.new.log _ c.touch.new.pages site.image mid.image newest records (entry lsn) refl c.touch.ensures.logs_nothing.works.geometry c.in-Ok.ensures.logs_nothing.blocks c.touch.ensures.logs_nothing.works.kept may))
           (c.log_change.ensures.holds newest records table commits (c.in-Ok.ensures.holds newest records table commits h));
       orderly = λ newest records table commits h.
           if_ok_one c.log_change.result
           (λ lsn. MayGrow c.touch.new.log c.touch.new.pages mid.image newest records (entry lsn) → AreOrderly records → AreOrderly (records ++ entry lsn ∷ []))
           (λ lsn. MayGrow _ _ site.image newest records (entry lsn) → AreOrderly records → AreOrderly (records ++ entry lsn ∷ []))
-          (λ lsn grown may. grown (may_moved c.page_laws.ensures _ c.touch.new.log _ c.touch.new.pages site.image mid.image newest records (entry lsn) refl c.touch.ensures.logs_nothing.works.geometry c.in-Ok.ensures.logs_nothing.blocks c.touch.ensures.logs_nothing.works.kept may))
+          (λ lsn grown may. grown (may_moved _ c.touch.new.log _ c.touch.new.pages site.image mid.image newest records (entry lsn) refl c.touch.ensures.logs_nothing.works.geometry c.in-Ok.ensures.logs_nothing.blocks c.touch.ensures.logs_nothing.works.kept may))
           (c.log_change.ensures.orderly newest records table commits (c.in-Ok.ensures.holds newest records table commits h));
-      keeps = λ newest records table commits h.
-          keeps_then h.log_holds.ready.blocks.honest first.geometry first.geometry first.calls (c.in-Ok.ensures.keeps newest records table commits h)
-          (c.log_change.ensures.keeps newest records table commits (c.in-Ok.ensures.holds newest records table commits h));
-      asks =
-          change_made tt c.log_change.result c.args.wanted.page _ _ _ (g.S.Site.state c.args.site.now) (g.S.Site.state c.touch.new.site) (g.S.Site.state c.log_change.new.site) (some_group c.requires.going) c.touch_then_change.ensures
-          c.in-Ok.ensures.asks c.log_change.ensures.machine (λ i. rules_of (c.log_change.ensures.works.size i) (c.log_change.ensures.works.geometry i).groups) c.log_change.ensures.reads
-          c.log_change.ensures.stages;
-      performs = λ newest records table commits h.
-          performs_as (sym (back_is w.page w.slot (front_of c.touch.new.pages.pool.frames).page w.before c.requires.form.0 c.in-Ok.ensures.front))
-          (performs_then (c.in-Ok.ensures.performs newest records table commits h) (performs_by (sym c.in-Ok.ensures.asks.rules_are) (c.log_change.ensures.performs newest records table commits (c.in-Ok.ensures.holds newest records table commits h))));
+      does = λ newest records table commits h.
+          let held = c.in-Ok.ensures.holds newest records table commits h in
+          record {
+            keeps = keeps_then h.log_holds.ready.blocks.honest first.geometry first.geometry first.calls (c.in-Ok.ensures.keeps newest records table commits h) (c.log_change.ensures.keeps newest records table commits held);
+            asks = change_made tt c.log_change.result w.page _ _ _ site mid new (some_group c.requires.going) c.in-Ok.ensures.asks c.log_change.ensures.machine (λ i. rules_of (c.log_change.ensures.works.size i) (c.log_change.ensures.works.geometry i).groups) c.log_change.ensures.reads
+                c.log_change.ensures.stages;
+            performs = performs_as (sym (back_is w.page w.slot (front_of c.touch.new.pages.pool.frames).page w.before c.requires.form.0 c.in-Ok.ensures.front))
+                (performs_then (c.in-Ok.ensures.performs newest records table commits h) (performs_by (sym c.in-Ok.ensures.asks.rules_are) (c.log_change.ensures.performs newest records table commits held)));
+            log_reads = let same = c.log_change.ensures.reads Log ∙ c.touch.ensures.logs_nothing.log_reads in omega (arith, same);
+          };
       before = grind (arith, common_steps);
       works = works_then c.in-Ok.ensures.logs_nothing.works c.log_change.ensures.works;
       blocks = grind (arith, common_steps);
       log_reads = c.log_change.ensures.reads Log ∙ c.touch.ensures.logs_nothing.log_reads;
     }
 
-pub returns-in-Err-clause-asks : goal.returns-in-Err-clause-asks
-returns-in-Err-clause-asks g c =
-    change_stopped c.in-Err.stop c.args.wanted.page _ c.touch.new.pages (g.S.Site.state c.args.site.now) (g.S.Site.state c.touch.new.site) (some_group c.requires.going) c.in-Err.ensures.asks
-
-pub returns-in-Err-clause-keeps : goal.returns-in-Err-clause-keeps
-returns-in-Err-clause-keeps g c newest records table commits h = keeps_few (omega arith) (keeps_failed (c.in-Err.ensures.keeps newest records table commits h))
-
-pub returns-in-Err-clause-performs : goal.returns-in-Err-clause-performs
-returns-in-Err-clause-performs g c newest records table commits h =
+pub returns-in-Err-clause-does : goal.returns-in-Err-clause-does
+returns-in-Err-clause-does g c newest records table commits h =
     let w = c.args.wanted in
-    performs_as (sym (back_is w.page w.slot w.page w.before c.requires.form.0 refl)) (performs_stopped (changed (clr_octets w.before) w.page ∷ []) (c.in-Err.ensures.performs newest records table commits h))
+    record {
+      keeps = keeps_few (omega arith) (keeps_failed (c.in-Err.ensures.keeps newest records table commits h));
+      asks = change_stopped c.in-Err.stop w.page _ c.touch.new.pages (g.S.Site.state c.args.site.now) (g.S.Site.state c.touch.new.site) (some_group c.requires.going) c.in-Err.ensures.asks;
+      performs = performs_as (sym (back_is w.page w.slot w.page w.before c.requires.form.0 refl)) (performs_stopped (changed (clr_octets w.before) w.page ∷ []) (c.in-Err.ensures.performs newest records table commits h));
+      log_reads = let same = c.in-Err.ensures.logs_nothing.log_reads in omega (arith, same);
+    }

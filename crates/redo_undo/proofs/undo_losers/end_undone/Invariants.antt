@@ -4,7 +4,6 @@ use Rattle.log_records.specs.Log.{Entry}
 use Rattle.log_store.specs.Representation.{end_of}
 use Rattle.page_store.specs.declared.store.PageStore.{PageStore}
 use Rattle.checkpoint.specs.declared.master.Master.{Master}
-use Rattle.image_meaning.specs.Moments.{LeavesTableUnder}
 use Rattle.analysis.specs.Open.{owed_for}
 use Rattle.analysis.specs.Table.{listed}
 use Rattle.analysis.specs.Read as analysis
@@ -12,7 +11,7 @@ use Rattle.redo_laws.specs.Holding.{Invariant, blocks_to}
 use Rattle.redo_laws.specs.UndoingAll.{IsUndoing}
 use Rattle.redo_laws.specs.UndoWorks.{UndoesUpdates}
 use Rattle.redo_undo.proofs.UndoneWork.{EndsMade}
-use Rattle.redo_laws.specs.Calls.{Keeps, KeepsInvariantBeside}
+use Rattle.redo_laws.specs.Calls.{KeepsInvariantBeside}
 use Rattle.std.specs.Prelude.{Ok}
 use Rattle.redo_undo.proofs.undo_losers.end_undone.Given as goal
 
@@ -30,10 +29,8 @@ invariant-loop-txn g l =
       fewer : owed_for (listed l.found.table) ≤ owed_for (listed l.fn.found.table);
       updates : (pages : PageStore) (newest : Option Master) (records : List Entry) (table : List Content) (commits : ℕ) → Invariant l.fn.log pages old → IsUndoing l.fn.log pages old newest records table commits l.fn.found l.fn.known →
           UndoesUpdates l.log pages now newest records table commits l.found l.last [];
-      performs : (pages : PageStore) (newest : Option Master) (records : List Entry) (table : List Content) (commits : ℕ) → Invariant l.fn.log pages old → IsUndoing l.fn.log pages old newest records table commits l.fn.found l.fn.known →
-          EndsMade l.fn.log l.log pages old now (listed l.fn.found.table) (listed l.found.table);
-      keeps : (pages : PageStore) (newest : Option Master) (records : List Entry) (table : List Content) (commits : ℕ) → Invariant l.fn.log pages old → IsUndoing l.fn.log pages old newest records table commits l.fn.found l.fn.known →
-          Keeps {T = Unit {0}} (Ok tt) pages.flash.geometry l.fn.log l.log old now (LeavesTableUnder newest pages.flash.geometry table commits old.told) (owed_for (listed l.fn.found.table) - owed_for (listed l.found.table)) 0;
+      ends : (pages : PageStore) (newest : Option Master) (records : List Entry) (table : List Content) (commits : ℕ) → Invariant l.fn.log pages old → IsUndoing l.fn.log pages old newest records table commits l.fn.found l.fn.known →
+          EndsMade l.fn.log l.log pages old now newest table commits (owed_for (listed l.fn.found.table) - owed_for (listed l.found.table)) (listed l.fn.found.table) (listed l.found.table);
     }
 
 abbrev pub decreases-loop-txn : goal.decreases-loop-txn

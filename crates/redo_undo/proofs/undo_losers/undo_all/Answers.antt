@@ -1,17 +1,15 @@
-use Rattle.std.proofs.Common.{true, false, ℕ, List, ◌≡◌, ◌++◌, ◌+◌, [], ◌∙◌, arith, Ok, ◌*◌}
-use Rattle.std.specs.Prelude.{⊤, Option, option_map}
+use Rattle.analysis.specs.Open.{owed_for}
+use Rattle.redo_undo.proofs.UndoCalls.{undoes_few, undoes_as, undoes_stopped, undoes_answered}
+use Rattle.std.proofs.Common.{true, false, ℕ, List, ◌≡◌, ◌++◌, ◌+◌, [], ◌∙◌, arith, ◌*◌, ◌-◌, refl, reverse, ap}
+use Rattle.std.specs.Prelude.{Option, option_map}
 use Rattle.site.proofs.Working.{no_error}
 use Rattle.std.specs.List.{AllByRecursion}
 use Rattle.analysis.specs.Table.{listed}
-use Rattle.redo_laws.proofs.CallsInSequence.{some_group}
 use Rattle.redo_undo.proofs.Opens.{none_listed, if_none, some_owed}
 use Rattle.image_meaning.specs.Meaning.{kept_by}
 use Rattle.redo_undo.proofs.Found.{order, all_undone, sealed_up_to, own_known}
 use Rattle.site.specs.declared.outside.Dev.TheVariants.{Log}
 use Rattle.redo_laws.specs.MachineSteps.{undo_works}
-use Rattle.page_store.proofs.StagingLaws.{stages_ok, stages_err}
-use Rattle.redo_laws.proofs.Asking.{asks_nothing, stages_log}
-use Rattle.redo_laws.proofs.AskingUndo.{none_read, asks_refused}
 use Rattle.checkpoint.specs.declared.master.Master.{Master}
 use Rattle.record_model.specs.State.{Content}
 use Rattle.log_records.specs.Log.{Entry, txn_of, last_where}
@@ -19,20 +17,15 @@ use Rattle.log_records.specs.Unfinished.{pending}
 use Rattle.analysis.specs.Read.{IsTable}
 use Rattle.log_store.specs.Representation.{has_tail}
 use Rattle.redo_laws.specs.Holding.{Represents}
-use Rattle.redo_undo.proofs.UndoneUpdates.{AsksUpdates, next_is_last, none_is_next, updates_asked_more, updates_asked_stopped, updates_asked, reads_stopped, reads_asked}
+use Rattle.redo_undo.proofs.UndoneUpdates.{UndoesSoFar, next_is_last, none_is_next, updates_undone, updates_undone_more, updates_undone_stopped}
 use Rattle.redo_laws.specs.UndoingAll.{IsUndoing}
-use Rattle.redo_undo.proofs.Calling.{keeps_answered, keeps_failed, keeps_few, keeps_then, works_answered, works_beside, works_stopped, works_then}
+use Rattle.redo_undo.proofs.Calling.{works_answered, works_beside, works_stopped, works_then}
 use Rattle.redo_undo.proofs.undo_losers.undo_all.Given.{Over}
 use Rattle.redo_undo.proofs.undo_losers.undo_all.Goals.{After-end_undone, After-next_undo}
 use Rattle.redo_undo.proofs.undo_losers.undo_all.Goals as goal
-use Rattle.std.proofs.Common.{reverse, sym, ap}
-use Rattle.log_records.specs.Log.{Entry}
-use Rattle.ring_machine.specs.Machine.{RingOp}
 use Rattle.ring_machine.specs.Restart.{undoing_work}
-use Rattle.ring_machine.proofs.Performing.{performs_answered, performs_stopped, performs_as}
 use Rattle.redo_undo.specs.Mirroring.{ends_for}
-use Rattle.redo_undo.proofs.UndoneWork.{ends_are}
-use Rattle.redo_undo.proofs.UndoneUpdates.{updates_performed, updates_performed_stopped}
+use Rattle.redo_undo.proofs.UndoneWork.{ended_first}
 
 module _ (g : Over) (c : After-end_undone g) (newest : Option Master) (records : List Entry) (table : List Content) (commits : ℕ)
     (none : has_tail c.args.log.now ≡ false)
@@ -43,7 +36,7 @@ module _ (g : Over) (c : After-end_undone g) (newest : Option Master) (records :
   undoing = record {
     holds = h;
     analysis = is;
-    up_to = sealed_up_to c.page_laws.ensures c.undo_laws.ensures c.args.log.now c.args.pages.now (g.S.Site.state c.args.site.now) newest records table commits
+    up_to = sealed_up_to c.args.log.now c.args.pages.now (g.S.Site.state c.args.site.now) newest records table commits
         (c.sealed_end-sealed.result + 1) h none
         (omega (arith, c.sealed_end-sealed.ensures));
   }
@@ -53,8 +46,9 @@ module _ (g : Over) (c : After-next_undo g) (newest : Option Master) (records : 
     (none : has_tail c.args.log.now ≡ false)
     (h : Represents c.args.log.now c.args.pages.now (g.S.Site.state c.args.site.now) newest records table commits)
     (is : IsTable [] records (listed c.args.found.now.table)) where
-  before : AsksUpdates c.loop-next.log c.loop-next.pages (g.S.Site.state c.loop-next.site) newest records table commits c.loop-next.found c.loop-next.known c.args.log.now c.args.pages.now (g.S.Site.state c.args.site.now)
-  before = c.loop-next.invariant.asked newest records table commits none h is
+  before : UndoesSoFar c.loop-next.log c.loop-next.pages (g.S.Site.state c.loop-next.site) newest records table commits c.loop-next.found c.loop-next.known c.args.log.now c.args.pages.now (g.S.Site.state c.args.site.now)
+      (owed_for (listed c.args.found.now.table) - owed_for (listed c.loop-next.found.table))
+  before = c.loop-next.invariant.so_far newest records table commits none h is
 
   next_is : c.next_undo.result ≡ option_map (λ (u : Entry). record { 0 = txn_of u; 1 = u.lsn })
       (last_where (λ v. true) (pending (records ++ before.updates.some.more)))
@@ -62,8 +56,8 @@ module _ (g : Over) (c : After-next_undo g) (newest : Option Master) (records : 
       let now = before.updates.some.now in
       let all = records ++ before.updates.some.more in
       c.next_undo.ensures.of_table [] all (512 * kept_by newest) _ now.analysis
-      (own_known c.found_laws.ensures c.undo_laws.ensures c.loop-next.log c.loop-next.pages _ newest all table commits c.loop-next.found now.holds now.analysis)
-      (order c.found_laws.ensures c.undo_laws.ensures c.loop-next.log c.loop-next.pages _ newest all table commits c.loop-next.found now.holds now.analysis)
+      (own_known c.table_of_records.ensures.active c.loop-next.log c.loop-next.pages _ newest all table commits c.loop-next.found now.holds now.analysis)
+      (order c.table_of_records.ensures.active c.loop-next.log c.loop-next.pages _ newest all table commits c.loop-next.found now.holds now.analysis)
 
 pub loop-next-init : goal.loop-next-init
 loop-next-init g c =
@@ -78,24 +72,16 @@ loop-next-init g c =
       blocks = few;
       fewer = fewer;
       log_reads = omega (arith, fewer, c.end_undone.ensures.works.reads Log);
-      asked = λ newest records table commits none h is. record {
-        done = [];
-        updates = c.in-Ok.ensures.updates c.args.pages.now newest records table commits c.requires.going
-            (undoing g (goal.at.loop-next-init g c).After-end_undone newest records table commits none h is);
-        asks = asks_nothing {T = ⊤} (Ok tt) c.args.pages.now _ (g.S.Site.state c.end_undone.new.site) c.end_undone.ensures.works.reads (stages_ok (stages_log c.in-Ok.ensures.works));
-        read = omega (arith, c.end_undone.ensures.works.reads Log);
-        worked = ends_for (listed c.args.found.now.table);
-        left_is =
-            let s = (goal.at.loop-next-init g c).After-end_undone in
-            let ordered = order c.found_laws.ensures c.undo_laws.ensures c.args.log.now c.args.pages.now (g.S.Site.state c.args.site.now) newest records table commits c.args.found.now h is in
-            let updates = c.in-Ok.ensures.updates c.args.pages.now newest records table commits c.requires.going (undoing g s newest records table commits none h is) in
-            ap (λ (w : List RingOp). w ++ undoing_work (reverse (pending records))) (sym (ends_are c.found_laws.ensures.one c.found_laws.ensures.unfinished records (listed c.args.found.now.table) (512 * kept_by newest) _ is ordered))
-            ∙ ap (λ (l : List Entry). ends_for (listed c.args.found.now.table) ++ undoing_work l) updates.left;
-        performs = performs_answered (c.in-Ok.ensures.performs c.args.pages.now newest records table commits c.requires.going (undoing g (goal.at.loop-next-init g c).After-end_undone newest records table commits none h is));
-      };
-      keeps = λ newest records table commits none h is.
-          keeps_answered (c.in-Ok.ensures.counted c.args.pages.now newest records table commits c.requires.going
-          (undoing g (goal.at.loop-next-init g c).After-end_undone newest records table commits none h is));
+      so_far = λ newest records table commits none h is.
+          let undoing = undoing g (goal.at.loop-next-init g c).After-end_undone newest records table commits none h is in
+          let updates = c.in-Ok.ensures.updates c.args.pages.now newest records table commits c.requires.going undoing in
+          record {
+            done = [];
+            updates = updates;
+            worked = ends_for (listed c.args.found.now.table);
+            left_is = ended_first c.table_of_records.ensures.active c.table_of_records.ensures.one c.table_of_records.ensures.unfinished c.args.found.now h is ∙ ap (λ (l : List Entry). ends_for (listed c.args.found.now.table) ++ undoing_work l) updates.left;
+            does = undoes_answered (c.in-Ok.ensures.does c.args.pages.now newest records table commits c.requires.going undoing);
+          };
     }
 
 pub loop-next-preserved : goal.loop-next-preserved
@@ -116,20 +102,13 @@ loop-next-preserved g c =
       blocks = omega (arith, few, less);
       fewer = omega (arith, falls, fewer);
       log_reads = let reads = inv.log_reads in let one = c.undo_next.ensures.log_reads in omega (arith, falls, reads, one);
-      asked = λ newest records table commits none h is.
+      so_far = λ newest records table commits none h is.
           let before = before g s newest records table commits none h is in
           let undone = before.updates.some in
           let all = records ++ undone.more in
           let last = next_is_last all c.next_undo.result c.in-Some.next c.in-Some.is (next_is g s newest records table commits none h is) in
-          updates_asked_more c.in-Ok-undo_next.lsn c.loop-next.log c.undo_next.new.log c.loop-next.pages c.undo_next.new.pages _ _ newest records table commits c.loop-next.found c.undo_next.new.found c.loop-next.known c.in-Ok-undo_next.lsn c.args.log.now c.args.pages.now _
-          before last.0 (c.in-Ok-undo_next.ensures.updates newest all table commits last.0 undone.now last.1) (c.in-Ok-undo_next.ensures.asks newest all table commits last.0 undone.now last.1) c.undo_next.ensures.log_reads
-          (λ earlier all_are. c.in-Ok-undo_next.ensures.performs newest all table commits last.0 earlier undone.now last.1 all_are);
-      keeps = λ newest records table commits none h is.
-          let undone = (before g s newest records table commits none h is).updates.some in
-          let all = records ++ undone.more in
-          let last = next_is_last all c.next_undo.result c.in-Some.next c.in-Some.is (next_is g s newest records table commits none h is) in
-          keeps_few (omega (arith, falls, fewer)) (keeps_answered (keeps_then h.log_holds.ready.blocks.honest inv.works.geometry inv.works.geometry inv.works.calls (inv.keeps newest records table commits none h is)
-          (c.in-Ok-undo_next.ensures.counted newest all table commits last.0 undone.now last.1)));
+          updates_undone_more before (omega (arith, falls, fewer)) h inv.works (c.in-Ok-undo_next.ensures.updates newest all table commits last.0 undone.now last.1)
+          (λ earlier all_are. c.in-Ok-undo_next.ensures.does newest all table commits last.0 earlier undone.now last.1 all_are);
     }
 
 pub returns-clause-none : goal.returns-clause-none
@@ -137,7 +116,7 @@ returns-clause-none g c = none_listed (listed c.loop-next.found.table) c.loop-ne
 
 pub returns-clause-undone : goal.returns-clause-undone
 returns-clause-undone g c newest records table commits none h is =
-    all_undone c.found_laws.ensures c.undo_laws.ensures c.loop-next.log c.loop-next.pages (g.S.Site.state c.loop-next.site) newest records table commits c.loop-next.found c.loop-next.known (c.loop-next.invariant.asked newest records table commits none h is).updates.some
+    all_undone c.table_of_records.ensures.active c.loop-next.log c.loop-next.pages (g.S.Site.state c.loop-next.site) newest records table commits c.loop-next.found c.loop-next.known (c.loop-next.invariant.so_far newest records table commits none h is).updates.some
     (returns-clause-none g c)
 
 pub returns-in-Err-undo_next-clause-log_reads : goal.returns-in-Err-undo_next-clause-log_reads
@@ -145,88 +124,31 @@ returns-in-Err-undo_next-clause-log_reads g c =
     let remains = c.in-Some.ensures.remains in
     omega (arith, some_owed (listed c.loop-next.found.table) c.in-Some.next.0 remains.x remains.there, c.loop-next.invariant.log_reads, c.undo_next.ensures.log_reads)
 
-pub returns-in-Err-clause-asks : goal.returns-in-Err-clause-asks
-returns-in-Err-clause-asks g c newest records table commits none h is =
-    asks_refused c.in-Err.stop (undo_works records) _ _ _ (some_group c.requires.going) (none_read _ _ c.end_undone.ensures.works.reads) (stages_err (stages_log c.in-Err.ensures.works))
+pub returns-in-Err-clause-does : goal.returns-in-Err-clause-does
+returns-in-Err-clause-does g c newest records table commits none h is =
+    undoes_few (omega arith) (omega arith) (undoes_as (ended_first c.table_of_records.ensures.active c.table_of_records.ensures.one c.table_of_records.ensures.unfinished c.args.found.now h is) refl
+    (undoes_stopped (undoing_work (reverse (pending records))) (undo_works records) c.requires.going
+    (c.in-Err.ensures.does c.args.pages.now newest records table commits c.requires.going (undoing g (goal.at.returns-in-Err-clause-does g c).After-end_undone newest records table commits none h is))))
 
-pub returns-in-Err-undo_next-clause-asks : goal.returns-in-Err-undo_next-clause-asks
-returns-in-Err-undo_next-clause-asks g c newest records table commits none h is =
-    let s = (goal.at.returns-in-Err-undo_next-clause-asks g c).After-next_undo in
+pub returns-in-Err-undo_next-clause-does : goal.returns-in-Err-undo_next-clause-does
+returns-in-Err-undo_next-clause-does g c newest records table commits none h is =
+    let s = (goal.at.returns-in-Err-undo_next-clause-does g c).After-next_undo in
+    let inv = c.loop-next.invariant in
     let before = before g s newest records table commits none h is in
     let undone = before.updates.some in
     let all = records ++ undone.more in
     let last = next_is_last all c.next_undo.result c.in-Some.next c.in-Some.is (next_is g s newest records table commits none h is) in
-    updates_asked_stopped c.in-Err-undo_next.stop c.loop-next.log c.loop-next.pages c.undo_next.new.pages _ _ newest records table commits c.loop-next.found c.loop-next.known _ _ _ (some_group c.requires.going) before last.0 c.in-Some.next.0 c.in-Some.next.1 last.1
-    (c.in-Err-undo_next.ensures.asks newest all table commits last.0 undone.now last.1)
+    updates_undone_stopped before last.0 c.in-Some.next.0 c.in-Some.next.1 last.1 (omega (arith, inv.fewer)) c.requires.going h inv.works
+    (λ earlier all_are. c.in-Err-undo_next.ensures.does newest all table commits last.0 earlier undone.now last.1 all_are)
 
-pub returns-clause-asks : goal.returns-clause-asks
-returns-clause-asks g c newest records table commits none h is =
-    let s = (goal.at.returns-clause-asks g c).After-next_undo in
+pub returns-clause-does : goal.returns-clause-does
+returns-clause-does g c newest records table commits none h is =
+    let s = (goal.at.returns-clause-does g c).After-next_undo in
     let before = before g s newest records table commits none h is in
-    updates_asked tt c.loop-next.log c.loop-next.pages (g.S.Site.state c.loop-next.site) newest records table commits c.loop-next.found c.loop-next.known c.args.log.now c.args.pages.now (g.S.Site.state c.args.site.now) before
-    (none_is_next (records ++ before.updates.some.more) c.next_undo.result (λ at is_some. c.in_default.not-Some at is_some)
-    (next_is g s newest records table commits none h is))
-
-pub returns-in-Err-clause-keeps : goal.returns-in-Err-clause-keeps
-returns-in-Err-clause-keeps g c newest records table commits none h is = keeps_failed
-    (c.in-Err.ensures.keeps c.args.pages.now newest records table commits c.requires.going
-    (undoing g (goal.at.returns-in-Err-clause-keeps g c).After-end_undone newest records table commits none h is))
-
-pub returns-in-Err-undo_next-clause-keeps : goal.returns-in-Err-undo_next-clause-keeps
-returns-in-Err-undo_next-clause-keeps g c newest records table commits none h is =
-    let s = (goal.at.returns-in-Err-undo_next-clause-keeps g c).After-next_undo in
-    let inv = c.loop-next.invariant in
-    let undone = (before g s newest records table commits none h is).updates.some in
-    let all = records ++ undone.more in
-    let last = next_is_last all c.next_undo.result c.in-Some.next c.in-Some.is (next_is g s newest records table commits none h is) in
-    keeps_few (omega (arith, inv.fewer)) (keeps_failed (keeps_then h.log_holds.ready.blocks.honest inv.works.geometry inv.works.geometry inv.works.calls (inv.keeps newest records table commits none h is)
-    (c.in-Err-undo_next.ensures.keeps newest all table commits last.0 undone.now last.1)))
-
-pub returns-clause-keeps : goal.returns-clause-keeps
-returns-clause-keeps g c newest records table commits none h is = keeps_few (omega arith) (keeps_answered (c.loop-next.invariant.keeps newest records table commits none h is))
+    updates_undone before (omega arith) (none_is_next (records ++ before.updates.some.more) c.next_undo.result (λ at is_some. c.in_default.not-Some at is_some) (next_is g s newest records table commits none h is))
 
 pub returns-in-Err-clause-log_reads : goal.returns-in-Err-clause-log_reads
 returns-in-Err-clause-log_reads g c = omega (arith, c.end_undone.ensures.works.reads Log)
 
-pub returns-in-Err-clause-reads : goal.returns-in-Err-clause-reads
-returns-in-Err-clause-reads g c newest records table commits none h is = omega (arith, c.end_undone.ensures.works.reads Log)
-
-pub returns-in-Err-undo_next-clause-reads : goal.returns-in-Err-undo_next-clause-reads
-returns-in-Err-undo_next-clause-reads g c newest records table commits none h is =
-    let s = (goal.at.returns-in-Err-undo_next-clause-reads g c).After-next_undo in
-    let before = before g s newest records table commits none h is in
-    let last = next_is_last (records ++ before.updates.some.more) c.next_undo.result c.in-Some.next c.in-Some.is (next_is g s newest records table commits none h is) in
-    reads_stopped c.loop-next.log c.loop-next.pages (g.S.Site.state c.loop-next.site) (g.S.Site.state c.undo_next.new.site) newest records table commits c.loop-next.found c.loop-next.known c.args.log.now c.args.pages.now (g.S.Site.state c.args.site.now) before last.0 c.in-Some.next.0 c.in-Some.next.1 last.1 c.undo_next.ensures.log_reads
-
-pub returns-clause-reads : goal.returns-clause-reads
-returns-clause-reads g c newest records table commits none h is =
-    reads_asked c.loop-next.log c.loop-next.pages (g.S.Site.state c.loop-next.site) newest records table commits c.loop-next.found c.loop-next.known c.args.log.now c.args.pages.now (g.S.Site.state c.args.site.now) (before g (goal.at.returns-clause-reads g c).After-next_undo newest records table commits none h is)
-
 pub returns-in-Err-undo_next-clause-works : goal.returns-in-Err-undo_next-clause-works
 returns-in-Err-undo_next-clause-works g c = works_stopped c.loop-next.invariant.works c.in-Err-undo_next.ensures.works
-
--- What it makes of the machine.
-
-pub returns-in-Err-clause-performs : goal.returns-in-Err-clause-performs
-returns-in-Err-clause-performs g c newest records table commits none h is =
-    let s = (goal.at.returns-in-Err-clause-performs g c).After-end_undone in
-    let ordered = order c.found_laws.ensures c.undo_laws.ensures c.args.log.now c.args.pages.now (g.S.Site.state c.args.site.now) newest records table commits c.args.found.now h is in
-    performs_as (ap (λ (w : List RingOp). w ++ undoing_work (reverse (pending records))) (sym (ends_are c.found_laws.ensures.one c.found_laws.ensures.unfinished records (listed c.args.found.now.table) (512 * kept_by newest) _ is ordered)))
-    (performs_stopped (undoing_work (reverse (pending records))) (c.in-Err.ensures.performs c.args.pages.now newest records table commits c.requires.going (undoing g s newest records table commits none h is)))
-
-pub returns-in-Err-undo_next-clause-performs : goal.returns-in-Err-undo_next-clause-performs
-returns-in-Err-undo_next-clause-performs g c newest records table commits none h is =
-    let s = (goal.at.returns-in-Err-undo_next-clause-performs g c).After-next_undo in
-    let before = before g s newest records table commits none h is in
-    let undone = before.updates.some in
-    let all = records ++ undone.more in
-    let last = next_is_last all c.next_undo.result c.in-Some.next c.in-Some.is (next_is g s newest records table commits none h is) in
-    updates_performed_stopped c.in-Err-undo_next.stop c.loop-next.log c.undo_next.new.log c.loop-next.pages c.undo_next.new.pages (g.S.Site.state c.loop-next.site) (g.S.Site.state c.undo_next.new.site) newest records table commits c.loop-next.found c.loop-next.known c.args.log.now c.args.pages.now (g.S.Site.state c.args.site.now)
-    before last.0 c.in-Some.next.0 c.in-Some.next.1 last.1 (λ earlier all_are. c.in-Err-undo_next.ensures.performs newest all table commits last.0 earlier undone.now last.1 all_are)
-
-pub returns-clause-performs : goal.returns-clause-performs
-returns-clause-performs g c newest records table commits none h is =
-    let s = (goal.at.returns-clause-performs g c).After-next_undo in
-    let before = before g s newest records table commits none h is in
-    updates_performed tt c.loop-next.log c.loop-next.pages (g.S.Site.state c.loop-next.site) newest records table commits c.loop-next.found c.loop-next.known c.args.log.now c.args.pages.now (g.S.Site.state c.args.site.now) before
-    (none_is_next (records ++ before.updates.some.more) c.next_undo.result (λ at is_some. c.in_default.not-Some at is_some) (next_is g s newest records table commits none h is))

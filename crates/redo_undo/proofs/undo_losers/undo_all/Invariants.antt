@@ -3,15 +3,14 @@ use Rattle.record_model.specs.State.{Content}
 use Rattle.log_records.specs.Log.{Entry}
 use Rattle.log_store.specs.Representation.{end_of, has_tail}
 use Rattle.checkpoint.specs.declared.master.Master.{Master}
-use Rattle.image_meaning.specs.Moments.{LeavesTableUnder}
 use Rattle.analysis.specs.Open.{owed_for}
 use Rattle.analysis.specs.Table.{listed}
 use Rattle.analysis.specs.Read as analysis
 use Rattle.redo_laws.specs.Holding.{Represents, blocks_to}
 use Rattle.redo_laws.specs.UndoingAll.{Remain}
-use Rattle.redo_undo.proofs.UndoneUpdates.{AsksUpdates}
+use Rattle.redo_undo.proofs.UndoneUpdates.{UndoesSoFar}
 use Rattle.analysis.specs.Read.{IsTable}
-use Rattle.redo_laws.specs.Calls.{Keeps, KeepsInvariant}
+use Rattle.redo_laws.specs.Calls.{KeepsInvariant}
 use Rattle.std.specs.Prelude.{Ok}
 use Rattle.redo_undo.proofs.undo_losers.undo_all.Given as goal
 
@@ -28,10 +27,8 @@ invariant-loop-next g l =
       blocks : blocks_to l.log + owed_for (listed l.found.table) ≤ blocks_to l.fn.log + owed_for (listed l.fn.found.table);
       fewer : owed_for (listed l.found.table) ≤ owed_for (listed l.fn.found.table);
       log_reads : now.log_reads + owed_for (listed l.found.table) ≤ old.log_reads + owed_for (listed l.fn.found.table);
-      asked : (newest : Option Master) (records : List Entry) (table : List Content) (commits : ℕ) → has_tail l.fn.log ≡ false → Represents l.fn.log l.fn.pages old newest records table commits → IsTable [] records (listed l.fn.found.table) →
-          AsksUpdates l.log l.pages now newest records table commits l.found l.known l.fn.log l.fn.pages old;
-      keeps : (newest : Option Master) (records : List Entry) (table : List Content) (commits : ℕ) → has_tail l.fn.log ≡ false → Represents l.fn.log l.fn.pages old newest records table commits → IsTable [] records (listed l.fn.found.table) →
-          Keeps {T = Unit {0}} (Ok tt) l.fn.pages.flash.geometry l.fn.log l.log old now (LeavesTableUnder newest l.fn.pages.flash.geometry table commits old.told) (owed_for (listed l.fn.found.table) - owed_for (listed l.found.table)) 0;
+      so_far : (newest : Option Master) (records : List Entry) (table : List Content) (commits : ℕ) → has_tail l.fn.log ≡ false → Represents l.fn.log l.fn.pages old newest records table commits → IsTable [] records (listed l.fn.found.table) →
+          UndoesSoFar l.log l.pages now newest records table commits l.found l.known l.fn.log l.fn.pages old (owed_for (listed l.fn.found.table) - owed_for (listed l.found.table));
     }
 
 abbrev pub decreases-loop-next : goal.decreases-loop-next

@@ -1,38 +1,28 @@
-use Rattle.std.proofs.Common.{◌≢◌, ◌++◌, [], ◌∷◌, refl, drop, sym, subst, arith, ℕ}
-use Rattle.analysis.specs.Open.{Open, Replaces, TakesOut}
+use Rattle.std.proofs.lemmas.Option.{none-some}
+use Rattle.redo_undo.proofs.UndoCalls.{undoes_few, undoes_as, undoes_then, undoes_stopped, few_taken}
+use Rattle.std.proofs.Common.{◌≢◌, ◌++◌, [], ◌∷◌, refl, drop, sym, subst, arith, ℕ, append-nil, None, ◌+◌, List, ◌≡◌, ◌∙◌, ap, not, reverse, length, nat_eq, Option, Some}
+use Rattle.analysis.specs.Open.{Open, Replaces, TakesOut, owed_for, found_in}
 use Rattle.analysis.specs.Table.{listed}
-use Rattle.redo_laws.specs.UndoingAll.{Remain, HasNone}
-use Rattle.redo_laws.proofs.CallsInSequence.{some_group}
+use Rattle.redo_laws.specs.UndoingAll.{Remain, HasNone, IsUndoing}
 use Rattle.redo_laws.proofs.Appended.{if_ok_one}
-use Rattle.redo_undo.proofs.Opens.{still_remain, none_remains_of, others_remain}
+use Rattle.redo_undo.proofs.Opens.{still_remain, none_remains_of, others_remain, if_none, some_owed, left_then}
 use Rattle.redo_undo.proofs.Found.{last_known}
-use Rattle.site.specs.declared.outside.Dev.TheVariants.{Flash}
-use Rattle.site.specs.declared.outside.Stop.TheVariants.{Foreign, Worn}
+use Rattle.site.specs.declared.outside.Dev.TheVariants.{Flash, Log}
+use Rattle.site.specs.declared.outside.Stop.TheVariants.{Worn}
 use Rattle.redo_laws.specs.UndoWorks.{works_of, IsLastAt, UndoesUpdates}
-use Rattle.page_store.proofs.StagingLaws.{stages_none}
-use Rattle.redo_laws.proofs.Asking.{stages_log}
-use Rattle.redo_laws.proofs.AskingUndo.{none_read, not_worn_either, asks_refused, asks_before}
+use Rattle.redo_laws.proofs.AskingUndo.{not_worn_either}
 use Rattle.redo_undo.proofs.UndoneUpdates.{more_updates}
-use Rattle.redo_undo.proofs.Opens.{some_owed}
-use Rattle.redo_undo.proofs.Calling.{keeps_few, keeps_then, ends_stop, works_beside, works_then}
-use Rattle.site.specs.declared.outside.Dev.TheVariants.{Log}
-use Rattle.std.specs.Prelude.{IsErrOf}
+use Rattle.redo_undo.proofs.Calling.{ends_stop, works_beside, works_then}
+use Rattle.std.specs.Prelude.{IsErrOf, if◌then◌else◌}
 use Rattle.site.proofs.Working.{err_as, of_error, ok_as}
 use Rattle.redo_undo.proofs.undo_losers.undo_next.Goals as goal
-use Rattle.std.proofs.Common.{List, ◌≡◌, ◌∙◌, ap, not, reverse, length, nat_eq, Option, Some}
-use Rattle.std.specs.Prelude.{if◌then◌else◌}
 use Rattle.std.specs.List.{list_any}
-use Rattle.analysis.specs.Open.{found_in}
-use Rattle.redo_laws.specs.UndoingAll.{IsUndoing}
 use Rattle.redo_undo.specs.Mirroring.{none_remains}
-use Rattle.redo_undo.proofs.Opens.{left_then}
 use Rattle.record_model.specs.State.{Content}
 use Rattle.log_records.specs.Log.{Entry, txn_of, is_of}
 use Rattle.log_records.specs.Unfinished.{pending}
 use Rattle.checkpoint.specs.declared.master.Master.{Master}
-use Rattle.second_chance.specs.Machine.{rules_of}
 use Rattle.ring_machine.specs.Commands.{ends}
-use Rattle.ring_machine.proofs.Performing.{performs_as, performs_by, performs_then, performs_stopped, performs_refused}
 use Rattle.redo_undo.proofs.UndoneWork.{without_end, with_end, waits_where}
 use Rattle.redo_undo.proofs.undo_losers.undo_next.Given.{Over}
 use Rattle.redo_undo.proofs.undo_losers.undo_next.Goals.{In-Ok}
@@ -70,59 +60,6 @@ returns-clause-updates g c newest records table commits u h last =
     (λ lsn second. more_updates c.undo_greatest.new.log c.end_one.new.log _ _ _ _ newest records table commits c.undo_greatest.new.found c.end_one.new.found c.in-Ok.last lsn (u ∷ []) [] first second)
     (c.end_one.ensures.updates _ newest (records ++ first.some.more) table commits c.in-Ok.last c.in-Ok.ensures.works.going.sizes first.some.now)
 
-pub returns-then-loser-known-clause-asks : goal.returns-then-loser-known-clause-asks
-returns-then-loser-known-clause-asks g c newest records table commits u h last =
-    asks_refused Foreign (works_of (u ∷ [])) _ (g.S.Site.state c.args.site.now) (g.S.Site.state c.args.site.now) (some_group c.requires.going) (record { flash = refl; disk = refl }) (stages_none tt (omega arith) refl)
-
-pub returns-in-Err-clause-asks : goal.returns-in-Err-clause-asks
-returns-in-Err-clause-asks g c newest records table commits u h last =
-    c.in-Err.ensures.asks newest records table commits c.args.known u h (subst (λ (t : ℕ). IsLastAt records t c.args.next.1 u) (sym c.in-Some.ensures.named) last)
-
-pub returns-then-loser-gt1-clause-asks : goal.returns-then-loser-gt1-clause-asks
-returns-then-loser-gt1-clause-asks g c newest records table commits u h last =
-    c.in-Ok.ensures.asks newest records table commits c.args.known u h (subst (λ (t : ℕ). IsLastAt records t c.args.next.1 u) (sym c.in-Some.ensures.named) last)
-
-pub returns-clause-asks : goal.returns-clause-asks
-returns-clause-asks g c newest records table commits u h last =
-    asks_before c.in-Ok.last c.end_one.result (works_of (u ∷ [])) _ c.undo_greatest.new.pages (g.S.Site.state c.args.site.now) _ _ (some_group c.requires.going) (none_read _ _ c.end_one.ensures.works.reads)
-    (stages_log c.end_one.ensures.works)
-    (c.in-Ok.ensures.asks newest records table commits c.args.known u h (subst (λ (t : ℕ). IsLastAt records t c.args.next.1 u) (sym c.in-Some.ensures.named) last))
-
-pub returns-then-loser-known-clause-keeps : goal.returns-then-loser-known-clause-keeps
-returns-then-loser-known-clause-keeps g c newest records table commits u h last =
-    let less = last_known c.found_laws.ensures c.undo_laws.ensures c.args.log.now c.args.pages.now (g.S.Site.state c.args.site.now) newest records table commits c.args.found.now h.holds h.analysis c.args.known c.in-Some.loser h.up_to c.in-Some.ensures.there in
-    absurd (omega (arith, less, c.if-loser-known.true))
-
-pub returns-in-Err-clause-keeps : goal.returns-in-Err-clause-keeps
-returns-in-Err-clause-keeps g c newest records table commits u h last =
-    let remains = c.requires.greatest in
-    keeps_few (some_owed (listed c.args.found.now.table) c.args.next.0 remains.x remains.there) (c.in-Err.ensures.keeps newest records table commits c.args.known h)
-
-pub returns-then-loser-gt1-clause-keeps : goal.returns-then-loser-gt1-clause-keeps
-returns-then-loser-gt1-clause-keeps g c newest records table commits u h last =
-    let remains = c.requires.greatest in
-    keeps_few (some_owed (listed c.args.found.now.table) c.args.next.0 remains.x remains.there) (c.in-Ok.ensures.keeps newest records table commits c.args.known h)
-
-pub returns-then-loser-gt1-clause-counted : goal.returns-then-loser-gt1-clause-counted
-returns-then-loser-gt1-clause-counted g c newest records table commits u h last =
-    keeps_few (omega (arith, c.in-Ok.ensures.owed)) (c.in-Ok.ensures.keeps newest records table commits c.args.known h)
-
-pub returns-clause-counted : goal.returns-clause-counted
-returns-clause-counted g c newest records table commits u h last =
-    let first = c.in-Ok.ensures.updates newest records table commits c.args.known u h (subst (λ (t : ℕ). IsLastAt records t c.args.next.1 u) (sym c.in-Some.ensures.named) last) in
-    let works = c.in-Ok.ensures.works in
-    ok_as c.end_one.result _ _ (λ falls. keeps_few (omega (arith, falls, c.in-Ok.ensures.owed)) (keeps_then h.holds.log_holds.ready.blocks.honest works.geometry works.geometry works.calls (c.in-Ok.ensures.keeps newest records table commits c.args.known h)
-    (c.end_one.ensures.keeps c.undo_greatest.new.pages newest (records ++ first.some.more) table commits c.in-Ok.last works.going first.some.now))) c.end_one.ensures.falls
-
-pub returns-clause-keeps : goal.returns-clause-keeps
-returns-clause-keeps g c newest records table commits u h last =
-    let first = c.in-Ok.ensures.updates newest records table commits c.args.known u h (subst (λ (t : ℕ). IsLastAt records t c.args.next.1 u) (sym c.in-Some.ensures.named) last) in
-    let works = c.in-Ok.ensures.works in
-    let none = none_remains_of (listed c.args.found.now.table) (listed c.undo_greatest.new.found.table) c.in-Some.loser c.in-Ok.last c.requires.found c.undo_greatest.ensures.found.going c.in-Some.ensures.there (omega (arith, c.if-loser-gt1.false)) c.in-Ok.ensures.replaces in
-    let some = some_owed (listed c.undo_greatest.new.found.table) c.in-Some.loser.txn none.x none.there in
-    keeps_few (omega (arith, some, c.in-Ok.ensures.owed)) (keeps_then h.holds.log_holds.ready.blocks.honest works.geometry works.geometry works.calls (c.in-Ok.ensures.keeps newest records table commits c.args.known h)
-    (c.end_one.ensures.keeps c.undo_greatest.new.pages newest (records ++ first.some.more) table commits c.in-Ok.last works.going first.some.now))
-
 pub returns-clause-log_reads : goal.returns-clause-log_reads
 returns-clause-log_reads g c = let one = c.in-Ok.ensures.log_reads in omega (arith, one, c.end_one.ensures.works.reads Log)
 
@@ -145,36 +82,42 @@ module _ (g : Over) (c : In-Ok g) (newest : Option Master) (records : List Entry
 
   -- whether its transaction has one of the earlier Updates is whether analysis has one of it
   pub waits : (x : Open) → found_in (listed c.undo_greatest.new.found.table) (txn_of u) ≡ Some x → list_any (is_of (txn_of u)) earlier ≡ not (none_remains x)
-  waits x there = waits_where c.found_laws.ensures c.undo_laws.ensures c.undo_greatest.new.log c.undo_greatest.new.pages (g.S.Site.state c.undo_greatest.new.site) newest records table commits c.undo_greatest.new.found c.in-Ok.last u earlier all first x there
+  waits x there = waits_where c.table_of_records.ensures.active c.undo_greatest.new.log c.undo_greatest.new.pages (g.S.Site.state c.undo_greatest.new.site) newest records table commits c.undo_greatest.new.found c.in-Ok.last u earlier all first x there
 
   pub own : txn_of u ≡ c.args.next.0
   own = last.own
 
-pub returns-in_default-clause-performs : goal.returns-in_default-clause-performs
-returns-in_default-clause-performs g c newest records table commits u earlier h last all = performs_refused (λ dev same. cc)
+pub returns-in_default-clause-does : goal.returns-in_default-clause-does
+returns-in_default-clause-does g c newest records table commits u earlier h last all =
+    absurd (none-some c.requires.greatest.x (sym (if_none c.loser_named.result (found_in (listed c.args.found.now.table) c.args.next.0 ≡ None) (λ loser some. c.in_default.not-Some loser some) c.loser_named.ensures.absent) ∙ c.requires.greatest.there))
 
-pub returns-then-loser-known-clause-performs : goal.returns-then-loser-known-clause-performs
-returns-then-loser-known-clause-performs g c newest records table commits u earlier h last all = performs_refused (λ dev same. cc)
+pub returns-then-loser-known-clause-does : goal.returns-then-loser-known-clause-does
+returns-then-loser-known-clause-does g c newest records table commits u earlier h last all =
+    let less = last_known c.table_of_records.ensures.active c.args.log.now c.args.pages.now (g.S.Site.state c.args.site.now) newest records table commits c.args.found.now h.holds h.analysis c.args.known c.in-Some.loser h.up_to c.in-Some.ensures.there in
+    absurd (omega (arith, less, c.if-loser-known.true))
 
-pub returns-in-Err-clause-performs : goal.returns-in-Err-clause-performs
-returns-in-Err-clause-performs g c newest records table commits u earlier h last all =
-    performs_stopped (if list_any (is_of (txn_of u)) earlier then [] else ends) (c.in-Err.ensures.performs newest records table commits c.args.known u h (subst (λ (t : ℕ). IsLastAt records t c.args.next.1 u) (sym c.in-Some.ensures.named) last))
+pub returns-in-Err-clause-does : goal.returns-in-Err-clause-does
+returns-in-Err-clause-does g c newest records table commits u earlier h last all =
+    undoes_few (some_owed (listed c.args.found.now.table) c.args.next.0 c.requires.greatest.x c.requires.greatest.there) (omega arith) (undoes_as refl (sym (append-nil (works_of (u ∷ []))))
+    (undoes_stopped (if list_any (is_of (txn_of u)) earlier then [] else ends) [] c.requires.going (c.in-Err.ensures.does newest records table commits c.args.known u h (subst (λ (t : ℕ). IsLastAt records t c.args.next.1 u) (sym c.in-Some.ensures.named) last))))
 
-pub returns-then-loser-gt1-clause-performs : goal.returns-then-loser-gt1-clause-performs
-returns-then-loser-gt1-clause-performs g c newest records table commits u earlier h last all =
-    let s = (goal.at.returns-then-loser-gt1-clause-performs g c).In-Ok in
+pub returns-then-loser-gt1-clause-does : goal.returns-then-loser-gt1-clause-does
+returns-then-loser-gt1-clause-does g c newest records table commits u earlier h last all =
+    let s = (goal.at.returns-then-loser-gt1-clause-does g c).In-Ok in
     let left = left_then (listed c.args.found.now.table) (listed c.undo_greatest.new.found.table) c.in-Some.loser c.in-Ok.last c.requires.found c.in-Some.ensures.there (omega (arith, c.if-loser-gt1.true)) c.in-Ok.ensures.replaces c.undo_greatest.ensures.found.going in
     let there : found_in (listed c.undo_greatest.new.found.table) (txn_of u) ≡ Some left.0 = ap (found_in (listed c.undo_greatest.new.found.table)) (last.own ∙ sym c.in-Some.ensures.named) ∙ left.1 in
-    performs_as (without_end u earlier (waits g s newest records table commits u earlier h last all left.0 there ∙ ap not left.2))
-    (c.in-Ok.ensures.performs newest records table commits c.args.known u h (last' g s newest records table commits u earlier h last all))
+    undoes_few (omega (arith, c.in-Ok.ensures.owed)) (omega arith) (undoes_as (without_end u earlier (waits g s newest records table commits u earlier h last all left.0 there ∙ ap not left.2)) refl
+    (c.in-Ok.ensures.does newest records table commits c.args.known u h (last' g s newest records table commits u earlier h last all)))
 
-pub returns-clause-performs : goal.returns-clause-performs
-returns-clause-performs g c newest records table commits u earlier h last all =
-    let s = (goal.at.returns-clause-performs g c).In-Ok in
+pub returns-clause-does : goal.returns-clause-does
+returns-clause-does g c newest records table commits u earlier h last all =
+    let s = (goal.at.returns-clause-does g c).In-Ok in
     let none = none_remains_of (listed c.args.found.now.table) (listed c.undo_greatest.new.found.table) c.in-Some.loser c.in-Ok.last c.requires.found c.undo_greatest.ensures.found.going c.in-Some.ensures.there (omega (arith, c.if-loser-gt1.false)) c.in-Ok.ensures.replaces in
     let there : found_in (listed c.undo_greatest.new.found.table) (txn_of u) ≡ Some none.x = ap (found_in (listed c.undo_greatest.new.found.table)) (last.own ∙ sym c.in-Some.ensures.named) ∙ none.there in
+    let owes = some_owed (listed c.undo_greatest.new.found.table) c.in-Some.loser.txn none.x none.there in
     let first = first g s newest records table commits u earlier h last all in
     let works = c.in-Ok.ensures.works in
-    performs_as (with_end u earlier (waits g s newest records table commits u earlier h last all none.x there ∙ ap (λ (l : List ℕ). not (nat_eq (length l) 0)) none.none))
-    (performs_then (c.in-Ok.ensures.performs newest records table commits c.args.known u h (last' g s newest records table commits u earlier h last all))
-    (performs_by (λ i. rules_of (sym works.size i) (sym works.geometry i).groups) (c.end_one.ensures.performs c.undo_greatest.new.pages newest (records ++ first.some.more) table commits c.in-Ok.last works.going first.some.now)))
+    undoes_few (few_taken c.end_one.result 2 (owed_for (listed c.args.found.now.table)) (owed_for (listed c.end_one.new.found.table)) (omega (arith, owes, c.in-Ok.ensures.owed)) (ok_as c.end_one.result _ _ (λ falls. omega (arith, falls, c.in-Ok.ensures.owed)) c.end_one.ensures.falls)) (omega arith)
+    (undoes_as (with_end u earlier (waits g s newest records table commits u earlier h last all none.x there ∙ ap (λ (l : List ℕ). not (nat_eq (length l) 0)) none.none)) (sym (append-nil (works_of (u ∷ []))))
+    (undoes_then h.holds works (c.in-Ok.ensures.does newest records table commits c.args.known u h (last' g s newest records table commits u earlier h last all))
+    (c.end_one.ensures.does c.undo_greatest.new.pages newest (records ++ first.some.more) table commits c.in-Ok.last works.going first.some.now)))

@@ -38,7 +38,7 @@ carry_out_abort-requires-clause-active g c =
 pub returns-in_default-clause-answers : goal.returns-in_default-clause-answers
 returns-in_default-clause-answers g c s fits =
     answered (refused_session c.args.self.now _ s (Abort c.args.session) c.args.session fits (sym c.find.ensures.entry ∙ c.in_default.is) refl)
-    (does_nothing fits c.requires.going (still c.hold_together.ensures.moment fits c.requires.going)) refl asks_rest
+    (does_nothing fits c.requires.going (still fits c.requires.going)) refl asks_rest
 
 pub returns-in-Ok-clause-answers : goal.returns-in-Ok-clause-answers
 returns-in-Ok-clause-answers g c s fits =

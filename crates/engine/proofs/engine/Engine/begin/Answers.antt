@@ -19,7 +19,7 @@ pub returns-in-Some : goal.returns-in-Some
 returns-in-Some g c =
     let old = g.S.Site.state c.args.site.now in
     record {
-      answers = λ s fits. refused_as (λ o. LeavesTable (sizes_of c.args.self.now.store) s.table s.commits old.told) (Begin c.args.session) (c.in-Some.ensures.refused s old fits) c.hold_together.ensures.moment fits c.requires.going (λ x p. p);
+      answers = λ s fits. refused_as (λ o. LeavesTable (sizes_of c.args.self.now.store) s.table s.commits old.told) (Begin c.args.session) (c.in-Some.ensures.refused s old fits) fits c.requires.going (λ x p. p);
       performs = λ s fits. performs_rest (c.in-Some.ensures.refused s old fits).1.1;
       serves = serves_nothing c.requires.going;
       ended = search rules;
@@ -47,7 +47,7 @@ returns-in-Some-full g c =
           let behind = (c.in-Ok.ensures.does s fits).after_fits in
           first_then (Begin c.args.session) (c.is_due-due.ensures s old fits) (c.in_default.ensures.passes s old fits) (λ o. LeavesTable (sizes_of c.args.self.now.store) s.table s.commits old.told) true (full_is 2 _ (c.in-Ok.ensures.does s fits).after_fits c.in-Ok.ensures.serves.going.table c.in-Some-full.ensures.full).1 fits.honest
           (λ x p. p) (late_table c.in-Ok.ensures.serves.sizes) c.in-Ok.ensures.serves (c.in-Ok.ensures.does s fits) c.in-Ok.ensures.asks
-          (does_nothing behind going (still c.hold_together.ensures.moment behind going)) (full_is 2 _ (c.in-Ok.ensures.does s fits).after_fits c.in-Ok.ensures.serves.going.table c.in-Some-full.ensures.full).0 asks_rest;
+          (does_nothing behind going (still behind going)) (full_is 2 _ (c.in-Ok.ensures.does s fits).after_fits c.in-Ok.ensures.serves.going.table c.in-Some-full.ensures.full).0 asks_rest;
       performs = λ s fits.
           performs_first s (Begin c.args.session) (c.is_due-due.ensures s old fits) (c.in_default.ensures.passes s old fits) true (full_is 2 _ (c.in-Ok.ensures.does s fits).after_fits c.in-Ok.ensures.serves.going.table c.in-Some-full.ensures.full).1 c.in-Ok.ensures.asks.rules_are (c.in-Ok.ensures.performs s fits)
           (performs_rest refl);

@@ -1,4 +1,4 @@
-use Rattle.std.proofs.Common.{map, List, ◌*◌, ◌≡◌, ℕ, ◌+◌, refl, sym, ap, subst, ◌∙◌, arith, rules}
+use Rattle.std.proofs.Common.{map, List, ◌*◌, ◌≡◌, ℕ, ◌+◌, refl, sym, ap, subst, ◌∙◌, arith, rules, flat_map}
 use Rattle.std.specs.Prelude.{Ok, IsSome, ◌<◌}
 use Rattle.site.specs.declared.geometry.Geometry.{Geometry}
 use Rattle.txn_table.specs.declared.active.Active.{Active}
@@ -16,7 +16,6 @@ use Rattle.engine.proofs.Scans.{free_at, still_busy, reads_none, reads_more, ran
 use Rattle.engine.proofs.Calling.{does_nothing, does_answered, does_failed, does_then, does_no_memory, late_table, serves_nothing, serves_answered, serves_then, serves_failed, serves_no_memory, still}
 use Rattle.redo_laws.proofs.Asking.{asks_same, asks_ok, asks_fails, no_asks}
 use Rattle.engine.proofs.engine.Engine.carry_out_scan.Goals as goal
-use Rattle.std.proofs.Common.{ap, sym, flat_map}
 use Rattle.ring_machine.specs.Commands.{reads}
 use Rattle.ring_machine.proofs.Performing.{performs_as, performs_answered, performs_refused, performs_stopped}
 use Rattle.engine.proofs.Performing.{performs_rest, store_then, memory_refuses, reads_one_more, reads_split}
@@ -29,7 +28,7 @@ loop-offset-init g c =
       active = refl;
       busy = λ r. refl;
       kept = refl;
-      does = λ s fits. subst (λ (u : State). CommandEffect {T = Unit {0}} (Ok tt) c.args.self.now c.args.self.now old old s u (LeavesTable (sizes_of c.args.self.now.store) s.table s.commits old.told) 0) (sym (reads_none s c.args.session)) (does_nothing fits c.requires.going (still c.hold_together.ensures.moment fits c.requires.going));
+      does = λ s fits. subst (λ (u : State). CommandEffect {T = Unit {0}} (Ok tt) c.args.self.now c.args.self.now old old s u (LeavesTable (sizes_of c.args.self.now.store) s.table s.commits old.told) 0) (sym (reads_none s c.args.session)) (does_nothing fits c.requires.going (still fits c.requires.going));
       items = λ s fits. c.new-items.ensures;
       asks = no_asks c.args.self.now.store.pages old;
       performs = λ s fits. performs_rest refl;

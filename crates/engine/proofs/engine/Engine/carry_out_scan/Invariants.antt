@@ -1,4 +1,4 @@
-use Rattle.std.specs.Prelude.{Ok}
+use Rattle.std.specs.Prelude.{Ok, flat_map}
 use Rattle.std.proofs.Common.{map, ◌≡◌, ℕ, Some}
 use Rattle.std.specs.List.{range_with_len}
 use Rattle.record_model.specs.State.{State}
@@ -11,7 +11,6 @@ use Rattle.record_model.specs.Touches.{read_touch}
 use Rattle.redo_laws.specs.MachineSteps.{StepsMachine}
 use Rattle.engine.specs.Calls.{KeepsUnread, CommandEffect}
 use Rattle.engine.proofs.engine.Engine.carry_out_scan.Given as goal
-use Rattle.std.specs.Prelude.{flat_map}
 use Rattle.ring_machine.specs.Commands.{reads}
 use Rattle.redo_undo.specs.Mirroring.{PerformsStore}
 

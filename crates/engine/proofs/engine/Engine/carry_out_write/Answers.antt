@@ -22,7 +22,6 @@ use Rattle.std.specs.Prelude.{Err}
 use Rattle.redo_laws.proofs.AskingUndo.{change_made}
 use Rattle.page_store.proofs.StagingLaws.{stages_err, stages_ok}
 use Rattle.engine.proofs.engine.Engine.carry_out_write.Goals as goal
-use Rattle.std.proofs.Common.{ap}
 use Rattle.record_model.specs.State.{Content, seen}
 use Rattle.ring_machine.proofs.Performing.{performs_as, performs_answered, performs_failed, performs_refused, performs_stopped}
 use Rattle.redo_undo.specs.Mirroring.{updates}
@@ -114,12 +113,12 @@ returns-in-Ok-update g c =
           (performs_answered (performs_as (ap (λ (x : Content). updates number x after) (seen_there c.args.self.now c.touch.new.self old new s entry number fits (stays_honest old new c.touch.ensures.works.calls.preserves fits.honest) going.table c.requires.active less c.requires.may.free (c.in-Ok.ensures.holds fits.newest fits.records s.table s.commits fits.holds) c.touch.ensures.made))
           (c.in-Ok-update.ensures.performs fits.newest fits.records s.table s.commits (c.in-Ok.ensures.holds fits.newest fits.records s.table s.commits fits.holds))));
       asks =
-          change_ok c.in-Ok.field-0 _ (c.args.number / 32) _ _ _ _ _ _ (has_group c.requires.going) c.touch_then_change.ensures c.in-Ok.ensures.asks c.in-Ok-update.ensures.machine c.update.ensures.rules_stay c.update.ensures.reads (stages_ok c.in-Ok-update.ensures.stages);
+          change_ok c.in-Ok.field-0 _ (c.args.number / 32) _ _ _ _ _ _ (has_group c.requires.going) c.in-Ok.ensures.asks c.in-Ok-update.ensures.machine c.update.ensures.rules_stay c.update.ensures.reads (stages_ok c.in-Ok-update.ensures.stages);
     }
 
 pub returns-in-Err-update-clause-asks : goal.returns-in-Err-update-clause-asks
 returns-in-Err-update-clause-asks g c =
-    change_made c.in-Ok.field-0 (Err c.in-Err-update.stop) (c.args.number / 32) _ _ _ _ _ _ (has_group c.requires.going) c.touch_then_change.ensures c.in-Ok.ensures.asks tt c.update.ensures.rules_stay c.update.ensures.reads (stages_err c.in-Err-update.ensures.stages)
+    change_made c.in-Ok.field-0 (Err c.in-Err-update.stop) (c.args.number / 32) _ _ _ _ _ _ (has_group c.requires.going) c.in-Ok.ensures.asks tt c.update.ensures.rules_stay c.update.ensures.reads (stages_err c.in-Err-update.ensures.stages)
 
 pub returns-in-Err-update-clause-serves : goal.returns-in-Err-update-clause-serves
 returns-in-Err-update-clause-serves g c = serves_stopped (works_then c.in-Ok.ensures.works c.in-Err-update.ensures.works) (c.update.ensures.reads Log ∙ c.touch.ensures.log_reads)

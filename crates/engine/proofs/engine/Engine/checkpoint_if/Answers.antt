@@ -1,4 +1,4 @@
-use Rattle.std.proofs.Common.{◌≡◌, Bool, true, false, refl, sym, subst, rules, arith}
+use Rattle.std.proofs.Common.{◌≡◌, Bool, true, false, refl, sym, subst, rules, arith, ap}
 use Rattle.std.specs.Prelude.{Ok, Err, [], if◌then◌else◌}
 use Rattle.engine.specs.Invariant.{sizes_of}
 use Rattle.engine.specs.Representation.{checkpointed_if}
@@ -7,7 +7,6 @@ use Rattle.engine.specs.Calls.{CommandEffect}
 use Rattle.redo_laws.specs.MachineSteps.{StepsMachine, checkpoint_works}
 use Rattle.engine.proofs.Calling.{does_nothing, does_answered, does_failed, serves_nothing, still, asks_rest}
 use Rattle.engine.proofs.engine.Engine.checkpoint_if.Goals as goal
-use Rattle.std.proofs.Common.{ap}
 use Rattle.ring_machine.specs.Commands.{saves}
 use Rattle.ring_machine.proofs.Performing.{performs_as, performs_answered, performs_failed}
 use Rattle.engine.proofs.Performing.{performs_rest}
@@ -20,7 +19,7 @@ returns-then-not-wanted g c =
     record {
       does = λ s fits.
           subst (λ (b : Bool). CommandEffect {T = Unit {0}} (Ok tt) c.args.self.now c.args.self.now old old s (checkpointed_if b s) (LeavesTable (sizes_of c.args.self.now.store) s.table s.commits old.told) (if b then 1 else 0)) (sym is)
-          (does_nothing fits c.requires.going (still c.hold_together.ensures.moment fits c.requires.going));
+          (does_nothing fits c.requires.going (still fits c.requires.going));
       serves = serves_nothing c.requires.going;
       locks = refl;
       absent = λ n none. none;

@@ -39,7 +39,7 @@ pub returns-in_default-clause-answers : goal.returns-in_default-clause-answers
 returns-in_default-clause-answers g c s fits =
     let old = g.S.Site.state c.args.site.now in
     answered_as (λ o. LeavesEither (sizes_of c.args.self.now.store) s o.after old.told) (refused_session c.args.self.now old s (Commit c.args.session) c.args.session fits (sym c.find.ensures.entry ∙ c.in_default.is) refl)
-    (does_weaker (early (sizes_of c.args.self.now.store) s s old.told) (does_nothing fits c.requires.going (still c.hold_together.ensures.moment fits c.requires.going))) refl asks_rest
+    (does_weaker (early (sizes_of c.args.self.now.store) s s old.told) (does_nothing fits c.requires.going (still fits c.requires.going))) refl asks_rest
 
 pub returns-in-Ok-clause-answers : goal.returns-in-Ok-clause-answers
 returns-in-Ok-clause-answers g c s fits =

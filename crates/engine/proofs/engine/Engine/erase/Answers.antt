@@ -1,4 +1,4 @@
-use Rattle.std.proofs.Common.{subst, sym, Some, ap, ◌∙◌, refl, arith, ℕ}
+use Rattle.std.proofs.Common.{subst, sym, Some, ap, ◌∙◌, refl, arith, ℕ, None}
 use Rattle.engine.specs.Permits.{MayWrite}
 use Rattle.txn_table.specs.Entries.{entry_of}
 use Rattle.txn_table.proofs.Owing.{entry_is}
@@ -6,7 +6,6 @@ use Rattle.engine.proofs.Calling.{answered, written, does_nothing, does_failed, 
 use Rattle.engine.proofs.engine.Engine.erase.Goals as goal
 use Rattle.record_model.specs.State.{seen}
 use Rattle.ring_machine.specs.Commands.{writes}
-use Rattle.std.proofs.Common.{None}
 use Rattle.ring_machine.proofs.Performing.{performs_as}
 use Rattle.engine.proofs.Performing.{performs_rest}
 
@@ -22,7 +21,7 @@ carry_out_write-requires-clause-may g c =
 
 pub returns-in-Some-clause-answers : goal.returns-in-Some-clause-answers
 returns-in-Some-clause-answers g c s fits =
-    answered (c.in-Some.ensures.refused s (g.S.Site.state c.args.site.now) fits) (does_nothing fits c.requires.going (still c.hold_together.ensures.moment fits c.requires.going)) refl asks_rest
+    answered (c.in-Some.ensures.refused s (g.S.Site.state c.args.site.now) fits) (does_nothing fits c.requires.going (still fits c.requires.going)) refl asks_rest
 
 pub returns-in-Ok-clause-answers : goal.returns-in-Ok-clause-answers
 returns-in-Ok-clause-answers g c s fits =

@@ -1,7 +1,7 @@
 use Rattle.site.specs.declared.outside.Dev.TheVariants.{Log}
 use Rattle.redo_laws.specs.MachineSteps.{one_change}
 use Rattle.engine.proofs.Asking.{has_group, store_has_group, change_ok}
-use Rattle.std.proofs.Common.{◌++◌, ◌∷◌, [], ◌∙◌, arith, ◌/◌, rules}
+use Rattle.std.proofs.Common.{◌++◌, ◌∷◌, [], ◌∙◌, arith, ◌/◌, rules, ap}
 use Rattle.record_model.specs.State.{content_at, Content}
 use Rattle.redo_undo.specs.Stores.{shown_in}
 use Rattle.redo_undo.proofs.StoreCalling.{works_then, works_answered, keeps_both, keeps_before, keeps_answered}
@@ -11,7 +11,6 @@ use Rattle.std.specs.Prelude.{Err}
 use Rattle.redo_laws.proofs.AskingUndo.{change_stopped, change_made}
 use Rattle.page_store.proofs.StagingLaws.{stages_err, stages_ok}
 use Rattle.engine.proofs.engine.Engine.log_set.Goals as goal
-use Rattle.std.proofs.Common.{ap}
 use Rattle.ring_machine.specs.Commands.{writes}
 use Rattle.ring_machine.proofs.Performing.{performs_as, performs_answered, performs_stopped}
 use Rattle.redo_undo.specs.Mirroring.{updates}
@@ -57,7 +56,7 @@ returns-in-Ok-update g c =
       log_reads = c.update.ensures.reads Log ∙ c.touch.ensures.log_reads ∙ c.begin.ensures.reads Log;
       asks =
           asks_then c.in-Ok.txn _ [] (one_change (c.args.number / 32)) _ _ _ _ _ _ c.in-Ok.ensures.asks
-          (change_ok c.in-Ok-touch.field-0 _ (c.args.number / 32) _ _ _ _ _ _ (store_has_group c.in-Ok.ensures.works.going) c.touch_then_change.ensures c.in-Ok-touch.ensures.asks c.in-Ok-update.ensures.machine c.update.ensures.rules_stay c.update.ensures.reads (stages_ok c.in-Ok-update.ensures.stages));
+          (change_ok c.in-Ok-touch.field-0 _ (c.args.number / 32) _ _ _ _ _ _ (store_has_group c.in-Ok.ensures.works.going) c.in-Ok-touch.ensures.asks c.in-Ok-update.ensures.machine c.update.ensures.rules_stay c.update.ensures.reads (stages_ok c.in-Ok-update.ensures.stages));
     }
 
 pub returns-in-Err-clause-keeps : goal.returns-in-Err-clause-keeps
@@ -93,7 +92,7 @@ returns-in-Err-touch-clause-asks g c =
 pub returns-in-Err-update-clause-asks : goal.returns-in-Err-update-clause-asks
 returns-in-Err-update-clause-asks g c =
     asks_then c.in-Ok.txn _ [] (one_change (c.args.number / 32)) _ _ _ _ _ _ c.in-Ok.ensures.asks
-    (change_made c.in-Ok-touch.field-0 (Err c.in-Err-update.stop) (c.args.number / 32) _ _ _ _ _ _ (store_has_group c.in-Ok.ensures.works.going) c.touch_then_change.ensures c.in-Ok-touch.ensures.asks tt c.update.ensures.rules_stay c.update.ensures.reads (stages_err c.in-Err-update.ensures.stages))
+    (change_made c.in-Ok-touch.field-0 (Err c.in-Err-update.stop) (c.args.number / 32) _ _ _ _ _ _ (store_has_group c.in-Ok.ensures.works.going) c.in-Ok-touch.ensures.asks tt c.update.ensures.rules_stay c.update.ensures.reads (stages_err c.in-Err-update.ensures.stages))
 
 pub returns-in-Err-clause-log_reads : goal.returns-in-Err-clause-log_reads
 returns-in-Err-clause-log_reads g c = c.begin.ensures.reads Log

@@ -41,7 +41,7 @@ returns-in-Some g c =
     let old = g.S.Site.state c.args.site.now in
     record {
       answers = λ s fits.
-          refused_as (λ o. LeavesEither (sizes_of c.args.self.now.store) s o.after old.told) (Set c.args.number c.args.value.now) (c.in-Some.ensures.refused s old fits) c.hold_together.ensures.moment fits c.requires.going (early (sizes_of c.args.self.now.store) s s old.told);
+          refused_as (λ o. LeavesEither (sizes_of c.args.self.now.store) s o.after old.told) (Set c.args.number c.args.value.now) (c.in-Some.ensures.refused s old fits) fits c.requires.going (early (sizes_of c.args.self.now.store) s s old.told);
       performs = λ s fits. performs_rest (c.in-Some.ensures.refused s old fits).1.1;
       serves = serves_nothing c.requires.going;
       ended = search rules;
@@ -70,7 +70,7 @@ returns-in-Some-full g c =
           let behind = (c.in-Ok.ensures.does s fits).after_fits in
           first_then (Set c.args.number c.args.value.now) (c.is_due-due.ensures s old fits) (c.in_default.ensures.passes s old fits) (λ o. LeavesEither (sizes_of c.args.self.now.store) s o.after old.told) true (full_is 4 _ (c.in-Ok.ensures.does s fits).after_fits c.in-Ok.ensures.serves.going.table c.in-Some-full.ensures.full).1 fits.honest
           (early (sizes_of c.args.self.now.store) s _ old.told) (late_either refl refl c.in-Ok.ensures.serves.sizes) c.in-Ok.ensures.serves (c.in-Ok.ensures.does s fits) c.in-Ok.ensures.asks
-          (does_weaker (early (sizes_of c.checkpoint_if.new.self.store) (checkpointed_if c.is_due-due.result s) _ mid.told) (does_nothing behind going (still c.hold_together.ensures.moment behind going))) (full_is 4 _ (c.in-Ok.ensures.does s fits).after_fits c.in-Ok.ensures.serves.going.table c.in-Some-full.ensures.full).0 asks_rest;
+          (does_weaker (early (sizes_of c.checkpoint_if.new.self.store) (checkpointed_if c.is_due-due.result s) _ mid.told) (does_nothing behind going (still behind going))) (full_is 4 _ (c.in-Ok.ensures.does s fits).after_fits c.in-Ok.ensures.serves.going.table c.in-Some-full.ensures.full).0 asks_rest;
       performs = λ s fits.
           performs_first s (Set c.args.number c.args.value.now) (c.is_due-due.ensures s old fits) (c.in_default.ensures.passes s old fits) true (full_is 4 _ (c.in-Ok.ensures.does s fits).after_fits c.in-Ok.ensures.serves.going.table c.in-Some-full.ensures.full).1 c.in-Ok.ensures.asks.rules_are (c.in-Ok.ensures.performs s fits)
           (performs_rest refl);

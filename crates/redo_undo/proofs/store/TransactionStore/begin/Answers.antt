@@ -2,15 +2,14 @@ use Rattle.std.proofs.Common.{refl, ℕ, ◌+◌, rules}
 use Rattle.image_meaning.proofs.Leaving.{under_leaves_for}
 use Rattle.page_store.proofs.StagingLaws.{stages_ok, stages_err}
 use Rattle.redo_laws.proofs.Asking.{asks_nothing, stages_log}
-use Rattle.redo_laws.proofs.AskingFlush.{never_worn_flash}
-use Rattle.redo_undo.proofs.Calling.{keeps_appended, log_stops}
+use Rattle.redo_undo.proofs.Calling.{keeps_appended, works_appended}
 use Rattle.site.proofs.Working.{no_error}
 use Rattle.page_store.proofs.NextUnits.{next_logged}
 use Rattle.redo_undo.specs.StoreCalls.{KeepsNext}
 use Rattle.redo_undo.proofs.NextUnits.{store_next}
-use Rattle.redo_undo.proofs.StoreCalling.{keeps_of}
+use Rattle.redo_undo.proofs.StoreCalling.{keeps_of, works_at_error}
 use Rattle.redo_undo.proofs.Saved.{finds_kept}
-use Rattle.std.specs.Prelude.{Ok, Err, IsTrue}
+use Rattle.std.specs.Prelude.{Ok, IsTrue}
 use Rattle.redo_undo.proofs.store.TransactionStore.begin.Goals as goal
 use Rattle.redo_undo.proofs.MirroringStores.{store_performs}
 
@@ -46,12 +45,7 @@ returns-in-Ok-clause-works g c =
     search rules
 
 pub returns-in-Err-clause-works : goal.returns-in-Err-clause-works
-returns-in-Err-clause-works g c =
-    let works = c.in-Err.ensures.works in
-    let next : IsTrue (g.S.Site.state c.args.site.now).honest → KeepsNext {T = ℕ} (Err c.in-Err.stop) c.args.self.now (record c.args.self.now { log = c.log_record.new.log })
-    (g.S.Site.state c.args.site.now) (g.S.Site.state c.log_record.new.site) =
-    λ honest. store_next c.requires.may.going.both.sizes refl (log_stops c.in-Err.stop c.in-Err.ensures.stops) (next_logged (works.next honest) (works.changes honest) (never_worn_flash (Err c.in-Err.stop) c.in-Err.ensures.stops)) in
-    search rules
+returns-in-Err-clause-works g c = works_at_error c.requires.may.going refl (works_appended c.requires.may.going.both tt c.in-Err.ensures.stops c.in-Err.ensures.works)
 
 pub returns-in-Ok-clause-performs : goal.returns-in-Ok-clause-performs
 returns-in-Ok-clause-performs g c newest records table commits h = store_performs refl refl (c.in-Ok.ensures.performs c.args.self.now.pages newest records table commits c.requires.may.going.both h.both)

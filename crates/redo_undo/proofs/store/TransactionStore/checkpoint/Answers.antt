@@ -1,4 +1,10 @@
-use Rattle.std.proofs.Common.{◌≡◌, ◌-◌, Err, refl, ap, arith, ◌≤◌, ◌∙◌}
+use Rattle.site.specs.State.{State}
+use Rattle.redo_laws.specs.Calls as calls
+use Rattle.site.specs.declared.outside.Stop.{Stop}
+use Rattle.image_meaning.specs.Moments.{LeavesFor, LeavesTableUnder}
+use Rattle.redo_laws.specs.Checkpointing.{MayBeMade}
+use Rattle.image_meaning.proofs.Leaving.{under_leaves_for}
+use Rattle.std.proofs.Common.{◌≡◌, ◌-◌, Err, refl, ap, arith, ◌≤◌, ◌∙◌, ℕ, List, ◌∷◌, [], sym}
 use Rattle.site.specs.declared.outside.Dev.TheVariants.{Log}
 use Rattle.page_store.specs.Caching.{rules}
 use Rattle.redo_laws.specs.MachineSteps.{checkpoint_works}
@@ -9,8 +15,8 @@ use Rattle.redo_laws.proofs.AskingFlush.{never_worn_flash, asks_around, flush_th
 use Rattle.redo_undo.proofs.Saved.{may_still}
 use Rattle.redo_undo.proofs.Calling.{log_stops, keeps_answered, keeps_failed, keeps_appended, keeps_saved, keeps_then, keeps_unsaved}
 use Rattle.redo_undo.proofs.StoreCalling.{keeps_of}
-use Rattle.site.proofs.Working.{no_error, calls_then}
-use Rattle.std.specs.Prelude.{Ok, IsTrue}
+use Rattle.site.proofs.Working.{no_error, calls_then, err_again}
+use Rattle.std.specs.Prelude.{Ok, IsTrue, Option, ⊤, Result}
 use Rattle.site.specs.Laws.{stays_honest}
 use Rattle.page_store.proofs.NextUnits.{next_logged, next_then}
 use Rattle.redo_undo.specs.declared.store.TransactionStore.{TransactionStore}
@@ -22,8 +28,6 @@ use Rattle.site.specs.declared.outside.Stop.TheVariants.{Worn}
 use Rattle.redo_undo.proofs.store.TransactionStore.checkpoint.Goals as goal
 use Rattle.ring_machine.specs.Machine.{cached, force, save}
 use Rattle.ring_machine.specs.Performing.{Performs}
-use Rattle.std.proofs.Common.{ℕ, List, ◌∷◌, [], sym}
-use Rattle.std.specs.Prelude.{Option}
 use Rattle.record_model.specs.State.{Content}
 use Rattle.log_records.specs.Log.{Entry}
 use Rattle.log_store.specs.declared.store.LogStore.{LogStore}
@@ -36,20 +40,68 @@ use Rattle.ring_machine.proofs.Performing.{performs_by, performs_then, performs_
 use Rattle.redo_undo.proofs.Mirroring.{numbers_left}
 use Rattle.redo_undo.proofs.MirroringStores.{store_performs, save_performs}
 use Rattle.redo_laws.proofs.Appended.{current_same}
-use Rattle.site.proofs.Working.{err_again}
+
+module _ (g : Over) (c : After-save_master g) (honest : IsTrue (g.S.Site.state c.args.site.now).honest) where
+  abbrev flushed : TransactionStore
+  flushed = record { log = c.flush.new.log; pages = c.flush.new.pages; masters = c.args.self.now.masters; made = c.args.self.now.made }
+
+  honest_mid : IsTrue (g.S.Site.state c.force.new.site).honest
+  honest_mid = stays_honest (g.S.Site.state c.args.site.now) (g.S.Site.state c.force.new.site) c.in-Ok.ensures.works.calls.preserves honest
+
+  pub honest_then : IsTrue (g.S.Site.state c.flush.new.site).honest
+  honest_then = stays_honest (g.S.Site.state c.force.new.site) (g.S.Site.state c.flush.new.site) c.in-Ok-flush.ensures.works.calls.preserves honest_mid
+
+  pub next_flushed : KeepsNext {T = Unit {0}} (Ok tt) c.args.self.now flushed (g.S.Site.state c.args.site.now) (g.S.Site.state c.flush.new.site)
+  next_flushed =
+      let works = c.in-Ok.ensures.works in
+      store_next c.requires.going.both.sizes refl tt
+      (next_then works.geometry refl (next_logged (works.next honest) (works.changes honest) (λ says. no_error says)) (c.in-Ok-flush.ensures.works.next honest_mid))
+
+module _ (g : Over) (c : After-save_master g) (newest : Option Master) (records : List Entry) (table : List Content) (h : both.Represents c.args.self.now.log c.args.self.now.pages (g.S.Site.state c.args.site.now) newest records table c.args.commits) where
+  abbrev mid : TransactionStore
+  mid = record c.args.self.now { log = c.force.new.log }
+
+  abbrev before_save : TransactionStore
+  before_save = record c.args.self.now { log = c.flush.new.log; pages = c.flush.new.pages }
+
+  held : both.Represents c.force.new.log c.args.self.now.pages (g.S.Site.state c.force.new.site) newest records table c.args.commits
+  held = c.in-Ok.ensures.holds c.args.self.now.pages newest records table c.args.commits c.requires.going.both.sizes h
+
+  honest : IsTrue (g.S.Site.state c.args.site.now).honest
+  honest = h.log_holds.ready.blocks.honest
+
+  pub two_first : Performs {T = Unit {0}} (Ok tt) (rules c.args.self.now.pages) (force ∷ cached flush ∷ []) (MirrorsStore c.args.self.now (g.S.Site.state c.args.site.now).image) (MirrorsStore before_save (g.S.Site.state c.flush.new.site).image)
+  two_first = performs_then (store_performs {old = c.args.self.now} {new = mid} refl refl (c.in-Ok.ensures.performs c.args.self.now.pages newest records table c.args.commits c.requires.going.both h))
+      (store_performs {old = mid} {new = before_save} refl refl (c.in-Ok-flush.ensures.performs newest records table c.args.commits held))
+
+  pub same_pages : (page : ℕ) → current c.flush.new.pages (g.S.Site.state c.save_master.new.site).image page ≡ current c.flush.new.pages (g.S.Site.state c.flush.new.site).image page
+  same_pages = current_same c.flush.new.pages (g.S.Site.state c.flush.new.site) (g.S.Site.state c.save_master.new.site) (c.save_master.ensures.changes (honest_then g c honest))
+
+  abbrev still : State
+  still = g.S.Site.state c.flush.new.site
+
+  flushed_still : both.Represents c.flush.new.log c.flush.new.pages still newest records table c.args.commits
+  flushed_still = c.in-Ok-flush.ensures.holds newest records table c.args.commits held
+
+  first_kept : calls.Keeps {T = Unit {0}} (Ok tt) c.args.self.now.pages.flash.geometry c.args.self.now.log c.flush.new.log (g.S.Site.state c.args.site.now) still (LeavesTableUnder newest c.args.self.now.pages.flash.geometry table c.args.commits (g.S.Site.state c.args.site.now).told) 0 0
+  first_kept =
+      keeps_then honest refl refl c.in-Ok.ensures.works.calls (keeps_appended c.requires.going.both tt (c.in-Ok.ensures.keeps c.args.self.now.pages newest records table c.args.commits h))
+      (c.in-Ok-flush.ensures.keeps newest records table c.args.commits held)
+
+  pub may_save : MayBeMade c.args.self.now.masters (g.S.Site.state c.args.site.now) records c.args.active → MayBeMade c.args.self.now.masters still records c.args.active
+  may_save may = may_still c.args.self.now.masters (g.S.Site.state c.args.site.now) still records c.args.active c.requires.going.shape (first_kept.masters refl) may
+
+  -- a master is saved behind it
+  pub saved_behind : {r : Result ⊤ Stop} {log : LogStore} {new : State} → calls.Keeps r c.flush.new.pages.flash.geometry c.flush.new.log log still new (LeavesFor c.flush.new.pages.flash.geometry table c.args.commits still.told) 0 1 →
+      calls.Keeps r c.args.self.now.pages.flash.geometry c.args.self.now.log log (g.S.Site.state c.args.site.now) new (LeavesFor c.args.self.now.pages.flash.geometry table c.args.commits (g.S.Site.state c.args.site.now).told) 0 1
+  saved_behind second =
+      keeps_saved honest c.flush.ensures.works.geometry (calls_then c.in-Ok.ensures.works.calls c.in-Ok-flush.ensures.works.calls)
+      (under_leaves_for newest c.args.self.now.pages.flash.geometry (g.S.Site.state c.args.site.now) still table c.args.commits (g.S.Site.state c.args.site.now).told) first_kept second
 
 pub returns-in-Ok-save_master-clause-checkpoint : goal.returns-in-Ok-save_master-clause-checkpoint
 returns-in-Ok-save_master-clause-checkpoint g c newest records table h may =
-    let mid = g.S.Site.state c.force.new.site in
-    let pages = c.args.self.now.pages in
-    let honest = h.log_holds.ready.blocks.honest in
-    let begun = c.in-Ok.ensures.keeps pages newest records table c.args.commits h in
-    let held = c.in-Ok.ensures.holds pages newest records table c.args.commits c.requires.going.both.sizes h in
-    let flushed = g.S.Site.state c.flush.new.site in
-    let held' = c.in-Ok-flush.ensures.holds newest records table c.args.commits held in
-    let may' = may_still c.args.self.now.masters mid flushed records c.args.active c.requires.going.shape ((c.in-Ok-flush.ensures.keeps newest records table c.args.commits held).masters refl)
-    (may_still c.args.self.now.masters (g.S.Site.state c.args.site.now) mid records c.args.active c.requires.going.shape begun.masters may) in
-    let saved = c.in-Ok-save_master.ensures.saved c.flush.new.pages newest records table c.in-Ok-flush.ensures.works.going.sizes held' c.in-Ok-flush.ensures.sealed c.in-Ok-flush.ensures.clean may' in
+    let s = (goal.at.returns-in-Ok-save_master-clause-checkpoint g c).After-save_master in
+    let saved = c.in-Ok-save_master.ensures.saved c.flush.new.pages newest records table c.in-Ok-flush.ensures.works.going.sizes (flushed_still g s newest records table h) c.in-Ok-flush.ensures.sealed c.in-Ok-flush.ensures.clean (may_save g s newest records table h may) in
     record {
       master = c.in-Ok-save_master.field-0;
       named = c.in-Ok-save_master.ensures.master.2;
@@ -61,7 +113,7 @@ pub returns-in-Err-clause-keeps : goal.returns-in-Err-clause-keeps
 returns-in-Err-clause-keeps g c newest records table h may =
     let old = g.S.Site.state c.args.site.now in
     let pages = c.args.self.now.pages in
-    keeps_of (λ leaves. leaves) (keeps_unsaved (c.under_some_master.ensures.table newest pages.flash.geometry old (g.S.Site.state c.force.new.site) table c.args.commits old.told)
+    keeps_of (λ leaves. leaves) (keeps_unsaved (under_leaves_for newest pages.flash.geometry old (g.S.Site.state c.force.new.site) table c.args.commits old.told)
     (keeps_appended c.requires.going.both c.in-Err.ensures.stops (c.in-Err.ensures.keeps pages newest records table c.args.commits h)))
 
 pub returns-in-Err-flush-clause-keeps : goal.returns-in-Err-flush-clause-keeps
@@ -71,42 +123,20 @@ returns-in-Err-flush-clause-keeps g c newest records table h may =
     let going = c.requires.going.both in
     let begun = c.in-Ok.ensures.keeps pages newest records table c.args.commits h in
     let held = c.in-Ok.ensures.holds pages newest records table c.args.commits going.sizes h in
-    keeps_of (λ leaves. leaves) (keeps_unsaved (c.under_some_master.ensures.table newest pages.flash.geometry old _ table c.args.commits old.told)
+    keeps_of (λ leaves. leaves) (keeps_unsaved (under_leaves_for newest pages.flash.geometry old _ table c.args.commits old.told)
     (keeps_then h.log_holds.ready.blocks.honest refl refl c.in-Ok.ensures.works.calls (keeps_appended going tt begun) (c.in-Err-flush.ensures.keeps newest records table c.args.commits held)))
 
 pub returns-in-Err-save_master-clause-keeps : goal.returns-in-Err-save_master-clause-keeps
 returns-in-Err-save_master-clause-keeps g c newest records table h may =
-    let old = g.S.Site.state c.args.site.now in
-    let mid = g.S.Site.state c.force.new.site in
-    let pages = c.args.self.now.pages in
-    let going = c.requires.going.both in
-    let honest = h.log_holds.ready.blocks.honest in
-    let begun = c.in-Ok.ensures.keeps pages newest records table c.args.commits h in
-    let held = c.in-Ok.ensures.holds pages newest records table c.args.commits going.sizes h in
-    let flushed = g.S.Site.state c.flush.new.site in
-    let held' = c.in-Ok-flush.ensures.holds newest records table c.args.commits held in
-    let may' = may_still c.args.self.now.masters mid flushed records c.args.active c.requires.going.shape ((c.in-Ok-flush.ensures.keeps newest records table c.args.commits held).masters refl)
-    (may_still c.args.self.now.masters old mid records c.args.active c.requires.going.shape begun.masters may) in
-    let first = keeps_then honest refl refl c.in-Ok.ensures.works.calls (keeps_appended going tt begun) (c.in-Ok-flush.ensures.keeps newest records table c.args.commits held) in
-    keeps_of (λ leaves. leaves) (keeps_saved honest c.flush.ensures.works.geometry (calls_then c.in-Ok.ensures.works.calls c.in-Ok-flush.ensures.works.calls) (c.under_some_master.ensures.table newest pages.flash.geometry old flushed table c.args.commits old.told) first
-    ((keeps_failed (c.in-Err-save_master.ensures.keeps c.flush.new.pages newest records table c.in-Ok-flush.ensures.works.going.sizes held' c.in-Ok-flush.ensures.sealed c.in-Ok-flush.ensures.clean may'))))
+    let s = (goal.at.returns-in-Err-save_master-clause-keeps g c).After-save_master in
+    keeps_of (λ leaves. leaves) (saved_behind g s newest records table h
+    (keeps_failed (c.in-Err-save_master.ensures.keeps c.flush.new.pages newest records table c.in-Ok-flush.ensures.works.going.sizes (flushed_still g s newest records table h) c.in-Ok-flush.ensures.sealed c.in-Ok-flush.ensures.clean (may_save g s newest records table h may))))
 
 pub returns-in-Ok-save_master-clause-keeps : goal.returns-in-Ok-save_master-clause-keeps
 returns-in-Ok-save_master-clause-keeps g c newest records table h may =
-    let old = g.S.Site.state c.args.site.now in
-    let mid = g.S.Site.state c.force.new.site in
-    let pages = c.args.self.now.pages in
-    let going = c.requires.going.both in
-    let honest = h.log_holds.ready.blocks.honest in
-    let begun = c.in-Ok.ensures.keeps pages newest records table c.args.commits h in
-    let held = c.in-Ok.ensures.holds pages newest records table c.args.commits going.sizes h in
-    let flushed = g.S.Site.state c.flush.new.site in
-    let held' = c.in-Ok-flush.ensures.holds newest records table c.args.commits held in
-    let may' = may_still c.args.self.now.masters mid flushed records c.args.active c.requires.going.shape ((c.in-Ok-flush.ensures.keeps newest records table c.args.commits held).masters refl)
-    (may_still c.args.self.now.masters old mid records c.args.active c.requires.going.shape begun.masters may) in
-    let first = keeps_then honest refl refl c.in-Ok.ensures.works.calls (keeps_appended going tt begun) (c.in-Ok-flush.ensures.keeps newest records table c.args.commits held) in
-    keeps_of (λ leaves. leaves) (keeps_saved honest c.flush.ensures.works.geometry (calls_then c.in-Ok.ensures.works.calls c.in-Ok-flush.ensures.works.calls) (c.under_some_master.ensures.table newest pages.flash.geometry old flushed table c.args.commits old.told) first
-    (keeps_answered (c.in-Ok-save_master.ensures.keeps c.flush.new.pages newest records table c.in-Ok-flush.ensures.works.going.sizes held' c.in-Ok-flush.ensures.sealed c.in-Ok-flush.ensures.clean may')))
+    let s = (goal.at.returns-in-Ok-save_master-clause-keeps g c).After-save_master in
+    keeps_of (λ leaves. leaves) (saved_behind g s newest records table h
+    (keeps_answered (c.in-Ok-save_master.ensures.keeps c.flush.new.pages newest records table c.in-Ok-flush.ensures.works.going.sizes (flushed_still g s newest records table h) c.in-Ok-flush.ensures.sealed c.in-Ok-flush.ensures.clean (may_save g s newest records table h may))))
 
 pub returns-in-Err-clause-asks : goal.returns-in-Err-clause-asks
 returns-in-Err-clause-asks g c =
@@ -156,22 +186,6 @@ returns-in-Err-flush-clause-next g c honest =
     (next_then works.geometry refl (next_logged (works.next honest) (works.changes honest) (λ says. no_error says))
     (c.in-Err-flush.ensures.works.next (stays_honest (g.S.Site.state c.args.site.now) (g.S.Site.state c.force.new.site) works.calls.preserves honest)))
 
-module _ (g : Over) (c : After-save_master g) (honest : IsTrue (g.S.Site.state c.args.site.now).honest) where
-  abbrev flushed : TransactionStore
-  flushed = record { log = c.flush.new.log; pages = c.flush.new.pages; masters = c.args.self.now.masters; made = c.args.self.now.made }
-
-  honest_mid : IsTrue (g.S.Site.state c.force.new.site).honest
-  honest_mid = stays_honest (g.S.Site.state c.args.site.now) (g.S.Site.state c.force.new.site) c.in-Ok.ensures.works.calls.preserves honest
-
-  pub honest_then : IsTrue (g.S.Site.state c.flush.new.site).honest
-  honest_then = stays_honest (g.S.Site.state c.force.new.site) (g.S.Site.state c.flush.new.site) c.in-Ok-flush.ensures.works.calls.preserves honest_mid
-
-  pub next_flushed : KeepsNext {T = Unit {0}} (Ok tt) c.args.self.now flushed (g.S.Site.state c.args.site.now) (g.S.Site.state c.flush.new.site)
-  next_flushed =
-      let works = c.in-Ok.ensures.works in
-      store_next c.requires.going.both.sizes refl tt
-      (next_then works.geometry refl (next_logged (works.next honest) (works.changes honest) (λ says. no_error says)) (c.in-Ok-flush.ensures.works.next honest_mid))
-
 pub returns-in-Err-save_master-clause-next : goal.returns-in-Err-save_master-clause-next
 returns-in-Err-save_master-clause-next g c honest =
     let s = (goal.at.returns-in-Err-save_master-clause-next g c).After-save_master in
@@ -199,26 +213,6 @@ returns-in-Err-flush-clause-performs g c newest records table h =
     let held = c.in-Ok.ensures.holds pages newest records table c.args.commits c.requires.going.both.sizes h in
     performs_stopped (save ∷ []) (performs_then (store_performs {new = record c.args.self.now { log = c.force.new.log }} refl refl (c.in-Ok.ensures.performs pages newest records table c.args.commits c.requires.going.both h))
     (store_performs {old = record c.args.self.now { log = c.force.new.log }} {new = record c.args.self.now { log = c.flush.new.log; pages = c.flush.new.pages }} refl refl (c.in-Err-flush.ensures.performs newest records table c.args.commits held)))
-
-module _ (g : Over) (c : After-save_master g) (newest : Option Master) (records : List Entry) (table : List Content) (h : both.Represents c.args.self.now.log c.args.self.now.pages (g.S.Site.state c.args.site.now) newest records table c.args.commits) where
-  abbrev mid : TransactionStore
-  mid = record c.args.self.now { log = c.force.new.log }
-
-  abbrev before_save : TransactionStore
-  before_save = record c.args.self.now { log = c.flush.new.log; pages = c.flush.new.pages }
-
-  held : both.Represents c.force.new.log c.args.self.now.pages (g.S.Site.state c.force.new.site) newest records table c.args.commits
-  held = c.in-Ok.ensures.holds c.args.self.now.pages newest records table c.args.commits c.requires.going.both.sizes h
-
-  honest : IsTrue (g.S.Site.state c.args.site.now).honest
-  honest = h.log_holds.ready.blocks.honest
-
-  pub two_first : Performs {T = Unit {0}} (Ok tt) (rules c.args.self.now.pages) (force ∷ cached flush ∷ []) (MirrorsStore c.args.self.now (g.S.Site.state c.args.site.now).image) (MirrorsStore before_save (g.S.Site.state c.flush.new.site).image)
-  two_first = performs_then (store_performs {old = c.args.self.now} {new = mid} refl refl (c.in-Ok.ensures.performs c.args.self.now.pages newest records table c.args.commits c.requires.going.both h))
-      (store_performs {old = mid} {new = before_save} refl refl (c.in-Ok-flush.ensures.performs newest records table c.args.commits held))
-
-  pub same_pages : (page : ℕ) → current c.flush.new.pages (g.S.Site.state c.save_master.new.site).image page ≡ current c.flush.new.pages (g.S.Site.state c.flush.new.site).image page
-  same_pages = current_same c.beside_laws.ensures c.flush.new.pages (g.S.Site.state c.flush.new.site) (g.S.Site.state c.save_master.new.site) (c.save_master.ensures.changes (honest_then g c honest))
 
 pub returns-in-Err-save_master-clause-performs : goal.returns-in-Err-save_master-clause-performs
 returns-in-Err-save_master-clause-performs g c newest records table h =

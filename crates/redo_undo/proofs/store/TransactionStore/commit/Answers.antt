@@ -1,3 +1,5 @@
+use Rattle.image_changes.proofs.Sequence.{ring_kept}
+use Rattle.log_laws.proofs.Appends.{commit_follows}
 use Rattle.page_store.proofs.PushLaws.{log_fits}
 use Rattle.std.proofs.Common.{rules, ◌≡◌, ◌∙◌, ◌∷◌, [], ◌++◌, ◌+◌, Bool, true, nat_lt, inl, inr, Err, sym, ap, subst, arith, refl, ◌≤◌, ℕ, List}
 use Rattle.std.specs.Prelude.{if◌then◌else◌, IsTrue, Ok, OnOk, Option, Result}
@@ -91,7 +93,7 @@ module _ (g : Over) (c : After-force g) (newest : Option Master) (records : List
   moments : IsQuiet old → LeavesOnly old new (LeavesEitherFor pages.flash.geometry table (table_with table (writes_in c.args.txn records)) commits old.told)
   moments quiet = under_leaves_either_for newest _ _ _ table _ commits _ (either_after newest pages.flash.geometry old mid new table _ commits
       ((c.log_record.ensures.keeps pages newest records table commits held.both).any_moment c.requires.may.going.both quiet)
-      (leaves_either c.log_laws.ensures c.page_laws.ensures c.beside_laws.ensures c.commit_laws.ensures log pages mid newest records table commits c.args.txn c.args.number c.in-Ok.lsn last sizes
+      (leaves_either log pages mid newest records table commits c.args.txn c.args.number c.in-Ok.lsn last sizes
       c.in-Ok.ensures.some may new (calm quiet) (c.force.ensures.seals.changes last.ready.blocks.honest)
       (c.force.ensures.seals.any_moment list (fits quiet) last.ready.records)
       (c.force.ensures.seals.front list (fits quiet) last.ready.records (calm quiet)) c.requires.may.going.both.pages_going.own))
@@ -102,7 +104,7 @@ module _ (g : Over) (c : After-force g) (newest : Option Master) (records : List
       (skips_on _ c.args.self.now.log.geometry pages.flash.geometry c.args.self.now.log log old mid 1 0 c.requires.may.going.both.sizes
       ((c.in-Ok.ensures.keeps pages newest records table commits held.both).numbers c.requires.may.going.both quiet))
       (skips_on r log.geometry pages.flash.geometry log c.force.new.self mid new 0 0 sizes
-      (log_skips c.ring_kept.ensures r log.geometry log c.force.new.self list (has_tail log) mid new 0 (ready_next pages log list mid last.ready) (λ tail. tail)
+      (log_skips r log.geometry log c.force.new.self list (has_tail log) mid new 0 (ready_next pages log list mid last.ready) (λ tail. tail)
       (c.force.ensures.seals.any_moment list (fits quiet) last.ready.records) (c.force.ensures.seals.front list (fits quiet) last.ready.records (calm quiet)) few calls)) (omega arith) refl
 
 pub returns-in-Ok-force-clause-holds : goal.returns-in-Ok-force-clause-holds
@@ -127,17 +129,17 @@ returns-in-Ok-force-clause-holds g c newest records table commits held may =
     let next : log'.ring.hi ≡ log.ring.hi + 1 = c.in-Ok-force.ensures.seals.next ∙ ap (λ (b : Bool). if b then log.ring.hi + 1 else log.ring.hi) some in
     let first = (c.in-Ok.ensures.keeps pages newest records table commits held.both).masters in
     let second : KeepsUnits master_shape mid.image new.image =
-    c.ring_kept.ensures log.geometry Masters (changes_if (has_tail log) list) mid.image new.image (seals_only (has_tail log) list) reaches in
+    ring_kept log.geometry Masters (changes_if (has_tail log) list) mid.image new.image (seals_only (has_tail log) list) reaches in
     record {
-      both = commit_holds c.log_laws.ensures c.page_laws.ensures c.beside_laws.ensures c.commit_laws.ensures log pages mid newest records table commits c.args.txn c.args.number _ m sizes some may log' new changes c.force.ensures.seals.preserves
-          (rings_then c.log_laws.ensures c.page_laws.ensures c.beside_laws.ensures c.commit_laws.ensures log pages mid newest records table commits c.args.txn c.args.number _ m sizes some may new reaches)
-          (sealed_then c.log_laws.ensures c.page_laws.ensures c.beside_laws.ensures c.commit_laws.ensures log pages mid newest records table commits c.args.txn c.args.number _ m sizes some may log' new
+      both = commit_holds log pages mid newest records table commits c.args.txn c.args.number _ m sizes some may log' new changes c.force.ensures.seals.preserves
+          (rings_then log pages mid newest records table commits c.args.txn c.args.number _ m sizes some may new reaches)
+          (sealed_then log pages mid newest records table commits c.args.txn c.args.number _ m sizes some may log' new
           changes c.force.ensures.seals.geometry finds' c.force.ensures.seals.at_most_one.0)
           finds' holds next c.force.ensures.seals.kept c.in-Ok-force.ensures.empty c.log_record.ensures.works.log_going.high
           (ap (nat_lt 2) c.in-Ok-force.ensures.empty);
-      orderly = ends_orderly c.log_laws.ensures c.orderly_goes_on.ensures.orderly k log pages mid newest records table commits (Commit c.args.txn c.args.number) _ (versions_on k old.image)
+      orderly = ends_orderly k log pages mid newest records table commits (Commit c.args.txn c.args.number) _ (versions_on k old.image)
           m (c.log_record.ensures.pages pages newest records table commits held.both).versions
-          (c.commit_laws.ensures.follows (master_of newest) (versions_on k old.image) records _ c.args.txn c.args.number may.begun) held.orderly;
+          (commit_follows (master_of newest) (versions_on k old.image) records _ c.args.txn c.args.number may.begun) held.orderly;
       masters = finds_kept c.args.self.now.masters old new c.requires.may.going.shape (record { units = second.units ∙ first.units; form = λ form. second.form (first.form form) }) held.masters;
     }
 
@@ -250,7 +252,7 @@ returns-in-Err-force-clause-performs g c newest records table commits held =
     let going = c.in-Ok.ensures.works.log_going in
     performs_then (store_performs {new = record c.args.self.now { log = c.log_record.new.log }} refl refl (c.in-Ok.ensures.performs pages newest records table commits c.requires.may.going.both held.both))
     (store_performs {old = record c.args.self.now { log = c.log_record.new.log }} {new = record c.args.self.now { log = c.force.new.self }} refl refl (performs_failed {A = Unit {0}} (force_performs c.log_record.new.log c.force.new.self pages mid new (record { high = going.high; each = last.below }) (Err c.in-Err-force.stop) (record { worn_log = c.in-Err-force.ensures.seals.worn.0; stops = c.in-Err-force.ensures.seals.stops }) tt tt going.low
-    (current_same c.beside_laws.ensures pages mid new (c.force.ensures.seals.changes last.ready.blocks.honest)) (numbers_left c.force.ensures.seals.going c.requires.may.going.both.pages_going))))
+    (current_same pages mid new (c.force.ensures.seals.changes last.ready.blocks.honest)) (numbers_left c.force.ensures.seals.going c.requires.may.going.both.pages_going))))
 
 pub returns-in-Ok-force-clause-performs : goal.returns-in-Ok-force-clause-performs
 returns-in-Ok-force-clause-performs g c newest records table commits held =
@@ -261,4 +263,4 @@ returns-in-Ok-force-clause-performs g c newest records table commits held =
     let going = c.in-Ok.ensures.works.log_going in
     performs_then (store_performs {new = record c.args.self.now { log = c.log_record.new.log }} refl refl (c.in-Ok.ensures.performs pages newest records table commits c.requires.may.going.both held.both))
     (store_performs {old = record c.args.self.now { log = c.log_record.new.log }} refl refl (force_performs c.log_record.new.log c.force.new.self pages mid new (record { high = going.high; each = last.below }) {T = ℕ} (Ok c.in-Ok.lsn) (record { worn_log = λ says. absurd (no_error says); stops = tt }) c.in-Ok-force.ensures.seals.next c.in-Ok-force.ensures.empty going.low
-    (current_same c.beside_laws.ensures pages mid new (c.force.ensures.seals.changes last.ready.blocks.honest)) (numbers_left c.force.ensures.seals.going c.requires.may.going.both.pages_going)))
+    (current_same pages mid new (c.force.ensures.seals.changes last.ready.blocks.honest)) (numbers_left c.force.ensures.seals.going c.requires.may.going.both.pages_going)))

@@ -1,3 +1,4 @@
+use Rattle.redo_laws.proofs.Changed.{front_shows}
 use Rattle.std.proofs.Common.{◌≡◌, ℕ, ◌*◌, ◌+◌, ◌%◌, List, Some, rules, ap, ◌∙◌, arith}
 use Rattle.std.proofs.Math.Nat.{div-add-mod}
 use Rattle.log_laws.specs.Follow.{shown}
@@ -12,7 +13,7 @@ returns-in-None-clause-shown c site newest records table commits h =
     let number = c.args.number in
     let place : 32 * (front_of store.pages.pool.frames).page + number % 32 ≡ number = omega (arith, c.requires.front.page, div-add-mod number 32) in
     c.in-None.ensures.content
-    ∙ c.hold_together.ensures.front store.log store.pages site newest records table commits (number % 32) c.requires.pages c.requires.front.there (search rules) h.both
+    ∙ front_shows store.log store.pages site newest records table commits (number % 32) c.requires.pages c.requires.front.there (search rules) h.both
     ∙ ap (shown records (versions_on (sizes_of store) site.image)) place
 
 pub returns-in-Some-from_slice-clause-shown : goal.returns-in-Some-from_slice-clause-shown
@@ -22,5 +23,5 @@ returns-in-Some-from_slice-clause-shown c site newest records table commits h =
     let place : 32 * (front_of store.pages.pool.frames).page + number % 32 ≡ number = omega (arith, c.requires.front.page, div-add-mod number 32) in
     ap (λ (value : List ℕ). Some value) c.in-Some-from_slice.ensures.value
     ∙ c.in-Some.ensures.content
-    ∙ c.hold_together.ensures.front store.log store.pages site newest records table commits (number % 32) c.requires.pages c.requires.front.there (search rules) h.both
+    ∙ front_shows store.log store.pages site newest records table commits (number % 32) c.requires.pages c.requires.front.there (search rules) h.both
     ∙ ap (shown records (versions_on (sizes_of store) site.image)) place

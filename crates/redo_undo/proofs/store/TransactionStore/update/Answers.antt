@@ -2,8 +2,8 @@ use Rattle.image_meaning.proofs.Leaving.{under_leaves_for}
 use Rattle.std.proofs.Common.{refl, ℕ, List, rules, ◌≡◌, ◌+◌, ◌++◌, ◌∷◌, [], sym, subst}
 use Rattle.log_records.specs.declared.log_record.LogRecord.{LogRecord}
 use Rattle.redo_undo.proofs.Saved.{finds_kept}
-use Rattle.std.specs.Prelude.{Ok, Err, IsTrue}
-use Rattle.redo_undo.proofs.StoreCalling.{keeps_of}
+use Rattle.std.specs.Prelude.{Ok, IsTrue}
+use Rattle.redo_undo.proofs.StoreCalling.{keeps_of, works_at_error}
 use Rattle.redo_undo.specs.StoreCalls.{KeepsNext}
 use Rattle.redo_undo.proofs.NextUnits.{store_next}
 use Rattle.redo_undo.specs.Stores.{Represents, MayGrow, shown_in, update_by}
@@ -46,12 +46,7 @@ returns-in-Ok-clause-works g c =
     search rules
 
 pub returns-in-Err-clause-works : goal.returns-in-Err-clause-works
-returns-in-Err-clause-works g c =
-    let works = c.in-Err.ensures.works in
-    let next : IsTrue (g.S.Site.state c.args.site.now).honest → KeepsNext {T = ℕ} (Err c.in-Err.stop) c.args.self.now
-    (record c.args.self.now { log = c.log_change.new.log; pages = c.log_change.new.pages }) (g.S.Site.state c.args.site.now) (g.S.Site.state c.log_change.new.site) =
-    λ honest. store_next c.requires.may.going.both.sizes refl works.stops (works.next honest) in
-    search rules
+returns-in-Err-clause-works g c = works_at_error c.requires.may.going refl c.in-Err.ensures.works
 
 pub returns-in-Ok-clause-performs : goal.returns-in-Ok-clause-performs
 returns-in-Ok-clause-performs g c newest records table commits h =
