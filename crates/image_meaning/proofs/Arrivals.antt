@@ -15,10 +15,14 @@ use Rattle.log_store.proofs.BlockLaws.{blocks_stay}
 use Rattle.flash_cache.specs.Representation.{version_on}
 use Rattle.image_meaning.specs.Meaning.{logical_image_under, AreOctetsSoundUnder, IsSoundUnder, version_in}
 use Rattle.image_meaning.specs.Moments.{LeavesTableUnder}
-use Rattle.image_meaning.specs.Reached.{ChangesPages, IsKeptOrReplaced, IsPushed, LeavesPushed, ReachedIsSound, ReachedMeans, PushedStands}
+use Rattle.image_meaning.specs.Reached.{ChangesPages, IsKeptOrReplaced, IsPushed, LeavesPushed}
 use Rattle.image_meaning.proofs.UnchangedImages.{lengths_stay, newest_stays}
 use Rattle.image_meaning.proofs.Reading.{groups_are_read}
 use Rattle.image_meaning.proofs.Replacing.{version_replaces, replaced_is_sound, replaced_means}
+use Rattle.record_model.specs.State.{Content}
+use Rattle.log_records.specs.Sound.{Means}
+use Rattle.site.specs.State.{State}
+use Rattle.site.specs.Moments.{LeavesOnly}
 
 -- no change changes a length
 sizes_made : (g : Geometry) (change : Change) (a b : Image) → Makes g change a b → SameSizes a b
@@ -76,13 +80,14 @@ module _ (newest : Option Master) (g : Geometry) (old new : Image) (blocks : Lis
   pub sound_there : IsSoundUnder newest g new blocks
   sound_there = replaced_is_sound newest g old new blocks sound all_octets (blocks_stay g _ blocks old new sound.held (kept Blocks (λ h. cc) (λ h. cc))) replaces
 
-pub reached_is_sound : ReachedIsSound
+-- Then the other one is sound too, and stands for the same.
+pub reached_is_sound : (newest : Option Master) (g : Geometry) (old new : Image) (blocks : List (List LogRecord)) → IsSoundUnder newest g old blocks → IsPushed newest g old new blocks → IsSoundUnder newest g new blocks
 reached_is_sound newest g old new blocks sound p = sound_there newest g old new blocks sound p
 
-pub reached_means : ReachedMeans
+pub reached_means : (newest : Option Master) (g : Geometry) (old new : Image) (blocks : List (List LogRecord)) → IsSoundUnder newest g old blocks → IsPushed newest g old new blocks → (table : List Content) (count : ℕ) → Means (logical_image_under newest g old blocks) table count → Means (logical_image_under newest g new blocks) table count
 reached_means newest g old new blocks sound p table count means = replaced_means newest g old new blocks sound (replaces newest g old new blocks sound p) table count means
 
-pub pushed_stands : PushedStands
+pub pushed_stands : (newest : Option Master) (g : Geometry) (old new : State) (blocks : List (List LogRecord)) (table : List Content) (count : ℕ) → IsSoundUnder newest g old.image blocks → Means (logical_image_under newest g old.image blocks) table count → LeavesOnly old new (LeavesPushed newest g blocks old) → LeavesOnly old new (LeavesTableUnder newest g table count old.told)
 pushed_stands newest g old new blocks table count sound means leaves =
     leaves_weaker old new (LeavesPushed newest g blocks old) (LeavesTableUnder newest g table count old.told) (λ snapshot is. record {
       told = is.told;

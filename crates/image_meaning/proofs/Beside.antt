@@ -15,7 +15,6 @@ use Rattle.image_changes.specs.Changes.{Change, SealsBlock, RewritesPages, Appen
 use Rattle.flash_cache.specs.Representation.{frames_on}
 use Rattle.image_meaning.specs.Meaning.{IsFrameOf, AreGroups}
 use Rattle.image_meaning.specs.Beside.{AreRingsSoundUnder, KeepsRings, RingsKeptUnder, RingsSaved}
-use Rattle.image_meaning.specs.LowerLaws.{MasterLaws}
 use Rattle.image_meaning.specs.Changes.{leaving, front_on, rest_on}
 use Rattle.image_meaning.proofs.UnchangedImages.{lengths_stay, newest_stays, groups_stay, segments_stay}
 use Rattle.image_meaning.proofs.SegmentLaws.{segments_pushed, segments_saved}
@@ -88,11 +87,11 @@ rings_kept newest g (change ∷ changes) old new sound all reached =
     rings_kept newest g changes reached.0 new (one_kept newest g change old reached.0 sound all.0 reached.1) (all.1 reached.0 reached.1) reached.2
 
 -- a master unit more
-pub rings_saved : MasterLaws → RingsSaved
-rings_saved below newest g content old new sound unit made = record {
+pub rings_saved : RingsSaved
+rings_saved newest g content old new sound unit made = record {
   limits = sound.limits;
   lengths = lengths_stay g old new made.sizes sound.lengths;
-  masters = newest_appended below g old new content unit made;
+  masters = newest_appended g old new content unit made;
   segments = segments_stay g old new (made.others Segments (λ h. cc)) (made.others Groups (λ h. cc)) sound.segments;
   groups = groups_stay g old new (made.others Groups (λ h. cc)) sound.groups;
 }

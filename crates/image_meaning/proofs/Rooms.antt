@@ -5,7 +5,6 @@ use Rattle.std_lemmas.proofs.Lists.{some_length}
 use Rattle.log_records.specs.Spelling.{AreBlock}
 use Rattle.log_records.specs.Log.{entries_from, log_from}
 use Rattle.log_laws.proofs.Owing.{blocks_have_records}
-use Rattle.frame_group.specs.Laws.{StagingKeepsVersions, StagingKeepsClean}
 use Rattle.checkpoint.specs.declared.master.Master.{Master}
 use Rattle.image_meaning.specs.Meaning.{kept_by, next_block_under}
 use Rattle.image_meaning.specs.LogicalImageLaws.{LogicalImageSealed, LogicalImageStays, StagedVersions, RoomForBlock, RoomForTailUnder}
@@ -21,8 +20,8 @@ logical_image_sealed newest g old new blocks records made = sealed_logical_image
 pub logical_image_stays : LogicalImageStays
 logical_image_stays newest g old new blocks same = same_logical_image newest g old new blocks (versions_same g old new same)
 
-pub staged_versions : StagingKeepsVersions → StagingKeepsClean → StagedVersions
-staged_versions versions_kept clean_kept newest g old new blocks pages sound may made = version_kept versions_kept clean_kept newest g old new blocks pages sound may made
+pub staged_versions : StagedVersions
+staged_versions newest g old new blocks pages sound may made = version_kept newest g old new blocks pages sound may made
 
 pub room_for_block : RoomForBlock
 room_for_block newest g image blocks tail fits = omega (arith, fits, next_block_is newest blocks)

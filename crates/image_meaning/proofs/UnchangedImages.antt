@@ -22,8 +22,10 @@ use Rattle.tail_rebuild.proofs.Following.{saved_again}
 use Rattle.flash_cache.specs.Representation.{frames_on, groups_on, disk_on}
 use Rattle.image_meaning.specs.Meaning.{kept_by, next_block_under, logical_image_under, IsUnused, HasNewest, IsFrameOf, AreGroups, AreSegments, AreOctetsSoundUnder, versions_on}
 use Rattle.image_meaning.specs.LogicalImages.{with_versions}
-use Rattle.image_meaning.specs.Laws.{SameIsSound, SameMeans}
 use Rattle.image_meaning.proofs.Versions.{versions_same, version_stays, frames_stay, disk_stays}
+use Rattle.image_changes.specs.Changes.{ReadsAs}
+use Rattle.image_meaning.specs.Meaning.{IsSoundUnder}
+use Rattle.record_model.specs.State.{Content}
 
 pub next_block_is : (newest : Option Master) (blocks : List (List LogRecord)) → next_block_under newest blocks ≡ kept_by newest + length blocks
 next_block_is None blocks = omega arith
@@ -83,7 +85,8 @@ octets_stay newest g old new sizes masters segments groups disk sound =
 pub same_logical_image : (newest : Option Master) (g : Geometry) (old new : Image) (blocks : List (List LogRecord)) → versions_on g new ≡ versions_on g old → logical_image_under newest g new blocks ≡ logical_image_under newest g old blocks
 same_logical_image newest g old new blocks same = ap (with_versions (logical_image_under newest g old blocks)) same
 
-pub same_is_sound : SameIsSound
+-- what reads the same is sound too, and stands for the same
+pub same_is_sound : (newest : Option Master) (g : Geometry) (old new : Image) (blocks : List (List LogRecord)) → IsSoundUnder newest g old blocks → ReadsAs g old new → IsSoundUnder newest g new blocks
 same_is_sound newest g old new blocks sound reads =
     let versions = versions_same g old new (version_stays g old new (reads.rings Groups) reads.disk) in
     record {
@@ -92,7 +95,7 @@ same_is_sound newest g old new blocks sound reads =
       records = subst lists.IsSound (sym (same_logical_image newest g old new blocks versions)) sound.records;
     }
 
-pub same_means : SameMeans
+pub same_means : (newest : Option Master) (g : Geometry) (old new : Image) (blocks : List (List LogRecord)) → ReadsAs g old new → (table : List Content) (count : ℕ) → Means (logical_image_under newest g old blocks) table count → Means (logical_image_under newest g new blocks) table count
 same_means newest g old new blocks reads table count means =
     let versions = versions_same g old new (version_stays g old new (reads.rings Groups) reads.disk) in
     subst (λ (p : LogicalImage). Means p table count) (sym (same_logical_image newest g old new blocks versions)) means
