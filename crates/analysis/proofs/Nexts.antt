@@ -39,22 +39,14 @@ next_none table y None none is = all_push (λ x. x.updates ≡ []) table y is (n
 next_none table y (Some next) none is = (has_more table y next.0 next.1 is.0, all_push (λ x. IsAtMost next.1 x.updates) table y is.1 (subst (IsAtMost next.1) (sym (none_first y.updates none)) tt))
 
 pub next_first : (table : List Open) (y : Open) (lsn : ℕ) → slice_get y.updates 0 ≡ Some lsn → IsNext table None → IsNext (table ++ y ∷ []) (Some (y.txn, lsn))
-next_first table y lsn some is =
-    let top = top_is y.updates lsn some in (
-      has_last table y lsn top,
-      all_push (λ x. IsAtMost lsn x.updates) table y (all_weaker (λ x. x.updates ≡ []) (λ x. IsAtMost lsn x.updates) (λ x empty. subst (IsAtMost lsn) (sym empty) tt) table is) (top_at_most y.updates lsn lsn top (omega arith)),
-    )
+next_first table y lsn some is = grind (arith, top_is, has_last, all_push, all_weaker, top_at_most)
 
 pub next_keeps : (table : List Open) (y : Open) (lsn : ℕ) (next : ℕ × ℕ) → slice_get y.updates 0 ≡ Some lsn → lsn ≤ next.1 → IsNext table (Some next) → IsNext (table ++ y ∷ []) (Some next)
 next_keeps table y lsn next some less is =
     (has_more table y next.0 next.1 is.0, all_push (λ x. IsAtMost next.1 x.updates) table y is.1 (top_at_most y.updates lsn next.1 (top_is y.updates lsn some) less))
 
 pub next_changes : (table : List Open) (y : Open) (lsn : ℕ) (next : ℕ × ℕ) → slice_get y.updates 0 ≡ Some lsn → next.1 < lsn → IsNext table (Some next) → IsNext (table ++ y ∷ []) (Some (y.txn, lsn))
-next_changes table y lsn next some less is =
-    let top = top_is y.updates lsn some in (
-      has_last table y lsn top,
-      all_push (λ x. IsAtMost lsn x.updates) table y (all_weaker (λ x. IsAtMost next.1 x.updates) (λ x. IsAtMost lsn x.updates) (λ x h. at_most_more next.1 lsn (omega (arith, less)) x.updates h) table is.1) (top_at_most y.updates lsn lsn top (omega arith)),
-    )
+next_changes table y lsn next some less is = grind (arith, top_is, has_last, all_push, all_weaker, at_most_more, top_at_most)
 
 -- The next one is found.
 
