@@ -5,7 +5,7 @@ use Rattle.std.proofs.Common.{◌≡◌, ℕ, ◌+◌, ◌≤◌, ◌<◌, true,
 use Rattle.std.specs.Prelude.{drop, ⊤}
 use Rattle.std.specs.List.{AllByRecursion}
 use Rattle.log_records.specs.declared.log_record.LogRecord.{LogRecord}
-use Rattle.log_records.specs.declared.log_record.LogRecord.TheVariants.{Begin, Update, Clr, Commit, End}
+use Rattle.log_records.specs.declared.log_record.LogRecord.TheVariants.{Clr}
 use Rattle.log_records.specs.Log.{Entry, txn_of, is_of, entries_of}
 use Rattle.log_records.specs.Unfinished.{is_clr, open_by, open_updates, left_open}
 use Rattle.log_records.specs.Sound.{IsInOrder}
@@ -35,11 +35,8 @@ dropped high [] are = are
 dropped high (u ∷ updates) are = record { below = are.below.1; fall = are.fall.1 }
 
 opens_below : (updates : List Entry) (e : Entry) (rec : LogRecord) (from : ℕ) → from ≤ e.lsn → AreBelow from updates → AreBelow (e.lsn + 1) (open_by updates e rec)
-opens_below updates e (Update txn prev page slot before after) from less are = grind (arith, below_more)
 opens_below updates e (Clr txn prev undo_next page slot after) from less are = grind (arith, dropped, below_more)
-opens_below updates e Begin from less are = grind (arith, below_more)
-opens_below updates e (Commit txn number) from less are = grind (arith, below_more)
-opens_below updates e (End txn) from less are = grind (arith, below_more)
+opens_below updates e _ from less are = grind (arith, below_more)
 
 updates_fall : (from to : ℕ) (entries updates : List Entry) → IsInOrder from entries to → AreBelow from updates → Fall (open_updates updates entries)
 updates_fall from to [] updates order are = are.fall

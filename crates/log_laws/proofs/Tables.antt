@@ -1,6 +1,6 @@
 -- The table that writes leave.
 use Rattle.std.proofs.Common.{◌≡◌, ℕ, ◌<◌, ⊎_elim, List, [], ◌∷◌, length, None, refl, ◌∙◌, arith}
-use Rattle.std.specs.Prelude.{Option, option_map, unwrap_or, filter_map, slice_set}
+use Rattle.std.specs.Prelude.{option_map, unwrap_or, filter_map, slice_set}
 use Rattle.std.proofs.lemmas.Grind.{common_steps}
 use Rattle.std.proofs.lemmas.List.{ext_get_or}
 use Rattle.std_lemmas.proofs.Options.{option_or_none}
@@ -8,7 +8,7 @@ use Rattle.record_model.specs.State.{Content, Write, content_at, table_with, las
 use Rattle.log_records.specs.Log.{Entry, Version, is_on, last_where, after_of, table_of, value_of}
 use Rattle.log_laws.specs.Follow.{write_of}
 use Rattle.log_records.proofs.Values.{content_of_table, length_table_of}
-use Rattle.std.proofs.Common.{◌*◌, sym, ap}
+use Rattle.std.proofs.Common.{◌*◌, sym}
 pub use Rattle.log_records.proofs.Values.{content_of_table}
 
 pub length_table_with : (table : List Content) (writes : List Write) → length (table_with table writes) ≡ length table
@@ -35,8 +35,4 @@ table_written log log' pages entries h =
     (λ number within. each number (omega (arith, length_table_of log' pages, within)))
   where
     each : (number : ℕ) → number < 32 * length pages → content_at (table_of log' pages) number ≡ content_at (table_with (table_of log pages) (filter_map (λ e. write_of e.rec) entries)) number
-    each number within =
-        content_of_table log' pages number within ∙ h number
-        ∙ ap (λ (o : Option Content). unwrap_or o (value_of log pages number)) (sym (last_write_of entries number))
-        ∙ ap (unwrap_or (last_write (filter_map (λ e. write_of e.rec) entries) number)) (sym (content_of_table log pages number within))
-        ∙ sym (content_with (table_of log pages) (filter_map (λ e. write_of e.rec) entries) number (omega (arith, length_table_of log pages, within)))
+    each number within = grind (arith, content_of_table, last_write_of, content_with, length_table_of)

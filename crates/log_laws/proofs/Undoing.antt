@@ -55,7 +55,7 @@ step : (t next : ℕ) (stack : List Entry) → AreLinked t stack → (lsn : ℕ)
     (next_by next lsn rec ≡ top_lsn t (open_by stack (record { lsn = lsn; rec = rec }) rec)) × AreLinked t (open_by stack (record { lsn = lsn; rec = rec }) rec)
     × ((is_clr rec ≡ true → ⊥) → lsn ≡ top_lsn t (open_by stack (record { lsn = lsn; rec = rec }) rec))
 step t next stack k lsn (Update txn prev page slot before after) u p = let q = p refl in (refl, (q.0, q.1, q.2, k), λ no. refl)
-step t next (v ∷ stack) k lsn (Clr txn prev undo_next page slot after) u p = (undone_prev (Clr txn prev undo_next page slot after) v.rec next lsn u ∙ k.0, k.3, λ no. absurd (no refl))
+step t next (v ∷ stack) k lsn (Clr txn prev undo_next page slot after) u p = grind (arith, undone_prev)
 step t next _ k lsn _ u p = absurd u
 
 ready_more : (t : ℕ) (earlier : List Entry) (e : Entry) → Continues earlier e → last_lsn earlier < e.lsn → IsReady t earlier → IsReady t (earlier ++ e ∷ [])
