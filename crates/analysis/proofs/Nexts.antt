@@ -1,5 +1,5 @@
 -- Which Update is undone next.
-use Rattle.std.proofs.Common.{◌≡◌, inl, inr, ℕ, ◌+◌, ◌<◌, ◌≤◌, List, [], ◌∷◌, ◌++◌, length, Option, Some, None, refl, sym, subst, ◌∙◌, arith}
+use Rattle.std.proofs.Common.{◌≡◌, inl, inr, ℕ, ◌+◌, ◌<◌, ◌≤◌, List, [], ◌∷◌, ◌++◌, length, Option, Some, None, refl, sym, subst, arith}
 use Rattle.std.specs.Prelude.{slice_get, IfSome}
 use Rattle.std.proofs.lemmas.Option.{none-some, same_Some}
 use Rattle.std_lemmas.proofs.AllOf.{all_push, all_weaker}
@@ -53,10 +53,7 @@ next_changes table y lsn next some less is = grind (arith, top_is, has_last, all
 has_found : (n : ℕ) (table : List Open) (t lsn : ℕ) → AscendFrom n table → OneHas table t lsn → (x : Open) × (found_in table t ≡ Some x) × IsTop lsn x.updates × (n ≤ t)
 has_found n [] t lsn ascend h = absurd h
 has_found n (x ∷ table) t lsn ascend (inl here) = (x, found_here x table t here.0, here.1, (let low = ascend.0 in let same = here.0 in omega (arith, low, same)))
-has_found n (x ∷ table) t lsn ascend (inr later) =
-    let found = has_found (x.txn + 1) table t lsn ascend.1 later in
-    let above = found.3 in
-    (found.0, found_later x table t (λ same. omega (arith, above, same)) ∙ found.1, found.2, (let low = ascend.0 in omega (arith, low, above)))
+has_found n (x ∷ table) t lsn ascend (inr later) = grind (arith, found_later, (has_found (x.txn + 1) table t lsn ascend.1 later))
 
 pub remains_is : (table : List Open) (t lsn : ℕ) → AscendFrom 0 table → OneHas table t lsn → Remains table t lsn
 remains_is table t lsn ascend has = let found = has_found 0 table t lsn ascend has in record { x = found.0; there = found.1; top = found.2 }

@@ -1,6 +1,6 @@
 -- What one more record says.
 use Rattle.std.proofs.lemmas.Grind.{common_steps}
-use Rattle.std.proofs.Common.{arith, ◌≡◌, ℕ, ◌==◌, ◌&&◌, ◌||◌, Bool, true, false, cond, List, [], ◌∷◌, ◌++◌, map, drop, Option, refl, sym, ap, ◌∙◌}
+use Rattle.std.proofs.Common.{arith, ◌≡◌, ℕ, ◌==◌, ◌&&◌, ◌||◌, Bool, true, cond, List, [], ◌∷◌, ◌++◌, map, drop, Option, refl, sym, ap, ◌∙◌}
 use Rattle.std.specs.Prelude.{filter}
 use Rattle.std.specs.List.{list_any}
 use Rattle.std.proofs.lemmas.List.{map-append}
@@ -13,7 +13,6 @@ use Rattle.log_records.specs.Unfinished.{is_begin, open_by, open_updates}
 use Rattle.log_records.specs.Sound.{Active, is_known, last_number, commit_number, commit_numbers}
 use Rattle.analysis.specs.Open.{Open}
 use Rattle.analysis.specs.Read.{open_at}
-use Rattle.std.proofs.Common.{Some, None}
 
 abbrev pub with : List Entry → Entry → List Entry
 with records e = records ++ e ∷ []
@@ -38,15 +37,7 @@ open_more updates (x ∷ entries) e = open_more (open_by updates x x.rec) entrie
 
 pub numbers_more : (records : List Entry) (e : Entry) (o : Option ℕ) → commit_number e ≡ o → commit_numbers (with records e) ≡ commit_numbers records ++ commit_numbers (e ∷ [])
 numbers_more [] e o is = refl
-numbers_more (x ∷ records) e o is = by (commit_number x) (numbers_more records e o is)
-  where
-    put : Option ℕ → List ℕ → List ℕ
-    put None l = l
-    put (Some n) l = n ∷ l
-
-    by : (p : Option ℕ) → commit_numbers (with records e) ≡ commit_numbers records ++ commit_numbers (e ∷ []) → put p (commit_numbers (with records e)) ≡ put p (commit_numbers records) ++ commit_numbers (e ∷ [])
-    by None rest = rest
-    by (Some n) rest = ap (λ (l : List ℕ). n ∷ l) rest
+numbers_more (x ∷ records) e o is = grind (arith, (numbers_more records e o is))
 
 -- A record of its own.
 
