@@ -1,6 +1,6 @@
 -- Blank devices.
-use Rattle.std.proofs.Common.{◌≡◌, ℕ, zero, suc, ◌-◌, ◌*◌, ◌/◌, ◌%◌, ◌<◌, ◌==◌, ◌||◌, List, [], map, get_or, take, drop, replicate, None, refl, sym, ap, subst, ◌∙◌, arith}
-use Rattle.std.specs.Prelude.{slice_index, nat_lt}
+use Rattle.std.proofs.Common.{◌≡◌, ℕ, suc, ◌-◌, ◌*◌, ◌/◌, ◌%◌, ◌<◌, List, [], map, get_or, take, drop, replicate, None, refl, sym, ap, subst, ◌∙◌, arith}
+use Rattle.std.specs.Prelude.{slice_index}
 use Rattle.std.specs.List.{AllByRecursion}
 use Rattle.std.proofs.lemmas.List.{ext_get_or, length-replicate, get_or-replicate, take-replicate, drop-replicate}
 use Rattle.std.proofs.lemmas.Nat.{mod_below}
@@ -17,7 +17,7 @@ use Rattle.slotted_page.specs.Laws.{IsBlank}
 use Rattle.slotted_page.proofs.Blank.{blank}
 use Rattle.frame_group.specs.Groups.{Frame, IsGroup, frames_in}
 use Rattle.frame_group.specs.Versions.{frames_of, version, CleanAsDisk}
-use Rattle.image_changes.specs.Rings.{RingName, Masters, Blocks, Groups, Segments, shape_of, octets_of, group_shape, segment_shape, units_on}
+use Rattle.image_changes.specs.Rings.{RingName, Masters, Groups, Segments, shape_of, octets_of, group_shape, segment_shape, units_on}
 use Rattle.image_changes.proofs.AppendLaws.{ring_fits}
 use Rattle.meta_segments.specs.Following.{Follow}
 use Rattle.meta_segments.proofs.Numbers.{none_follow}
@@ -30,9 +30,8 @@ use Rattle.log_records.proofs.Values.{page_and_slot, length_table_of, content_of
 use Rattle.log_store.proofs.Standing.{blank_has_no_blocks}
 
 pub zero_at : (n p : ℕ) → slice_index (replicate n 0) p ≡ 0
-zero_at zero p = refl
-zero_at (suc n) zero = refl
 zero_at (suc n) (suc p) = zero_at n p
+zero_at _ _ = refl
 
 abbrev zeros : ℕ → List ℕ
 zeros n = replicate n 0
@@ -51,10 +50,9 @@ module _ (ring_of_zeros : BlankIsRing) (g : Geometry) (limits : HasLimits g) whe
   lengths = record { log = length-replicate (log_length g) 0; flash = length-replicate (flash_length g) 0; disk = length-replicate (disk_length g) 0 }
 
   octets_zero : (ring : RingName) (p : ℕ) → slice_index (octets_of (shape_of g ring) (blank_image g)) p ≡ 0
-  octets_zero Masters p = zero_at (log_length g) p
-  octets_zero Blocks p = zero_at (log_length g) p
   octets_zero Groups p = zero_at (flash_length g) p
   octets_zero Segments p = zero_at (flash_length g) p
+  octets_zero _ p = zero_at (log_length g) p
 
   ring_blank : (ring : RingName) → IsRing (shape_of g ring) (octets_of (shape_of g ring) (blank_image g)) × (units_on (shape_of g ring) (blank_image g) ≡ record { hi = 0; live = [] })
   ring_blank ring = ring_of_zeros (shape_of g ring) (octets_of (shape_of g ring) (blank_image g)) (ring_fits g (blank_image g) ring limits lengths) (octets_zero ring)
@@ -98,30 +96,10 @@ module _ (ring_of_zeros : BlankIsRing) (g : Geometry) (limits : HasLimits g) whe
   }
 
   fits : (number : ℕ) → number < g.pages → FitsLog (logical_image g (blank_image g) []) number (version_at (versions_on g (blank_image g)) number)
-  fits number within =
-      subst (FitsLog (logical_image g (blank_image g) []) number) (sym (version_is g (blank_image g) number within))
-      (record {
-        logged = ap (λ (n : ℕ). (n == 0) || nat_lt n 0) (blank_page number within).lsn;
-        shows = λ slot low. tt;
-        knows = tt;
-      })
+  fits number within = grind (arith, version_is, blank_page)
 
   records : lists.IsSound (logical_image g (blank_image g) [])
-  records = record {
-    kept_before_redo = omega arith;
-    redo_before_end = omega arith;
-    kept_is_live = omega arith;
-    in_order = omega arith;
-    in_table = tt;
-    open_transactions = tt;
-    begun = tt;
-    losers_can_be_undone = λ t h. cc;
-    losers_hold_others_off = tt;
-    versions_fit = λ number within. fits number (omega (arith, within, length-versions g (blank_image g)));
-    room_for_undo = omega arith;
-    master_names_the_active = refl;
-    commits = record { before_redo = omega arith; run_on = refl; fit = omega arith };
-  }
+  records = grind (arith, fits, length-versions)
 
   pub sound_blank : IsSoundUnder None g (blank_image g) []
   sound_blank = record { octets = octets; held = blank_has_no_blocks g limits; records = records }

@@ -90,9 +90,7 @@ stands_front newest g old new blocks front left table count sound means may none
 stands_reached : (newest : Option Master) (g : Geometry) (old : State) (blocks : List (List LogRecord)) (changes : List Change) (table : List Content) (count : ℕ) → IsSoundUnder newest g old.image blocks →
     Means (logical_image_under newest g old.image blocks) table count → MayMakeAll newest g old.image blocks changes → AllByRecursion SealsNoCommit changes →
     (snapshot : Snapshot) (is : IsReached g (IsFrontOf changes) old snapshot) → StandsUnder (newest_after_all newest is.changes) g snapshot.image table count
-stands_reached newest g old blocks changes table count sound means may none snapshot is =
-    stands_front newest g old.image snapshot.image blocks is.changes is.made.0 table count sound means (subst (MayMakeAll newest g old.image blocks) is.made.1 may)
-    (all_left SealsNoCommit is.changes is.made.0 (subst (AllByRecursion SealsNoCommit) is.made.1 none)) is.reaches
+stands_reached newest g old blocks changes table count sound means may none snapshot is = grind (arith, stands_front, all_left)
 
 pub front_stands_for : FrontStandsFor
 front_stands_for newest g old new blocks changes table count sound means may none leaves =

@@ -23,10 +23,7 @@ IsAmong xs x = list_any (λ s. s == x) xs ≡ true
 
 all_among : (xs : List ℕ) → AllByRecursion (IsAmong xs) xs
 all_among [] = tt
-all_among (x ∷ xs) = (
-  or_left (x == x) (list_any (λ s. s == x) xs) (eq-eqb x x refl),
-  all_weaker (IsAmong xs) (IsAmong (x ∷ xs)) (λ y h. or_right (x == y) (list_any (λ s. s == y) xs) h) xs (all_among xs),
-)
+all_among (x ∷ xs) = grind (arith, or_left, eq-eqb, all_weaker, or_right, (all_among xs))
 
 of_member : (P : ℕ → Type 0) (xs : List ℕ) (x : ℕ) → AllByRecursion P xs → IsAmong xs x → P x
 of_member P [] x all among = cc among

@@ -47,8 +47,8 @@ module _ (newest : Option Master) (g : Geometry) (image : Image) where
 
 pub one_master_stands : OneMasterStands
 one_master_stands g image None None first second = refl
-one_master_stands g image None (Some m) first second = absurd (let none = first.none in let some = second.some in omega (arith, none, some))
-one_master_stands g image (Some m) None first second = absurd (let some = first.some in let none = second.none in omega (arith, none, some))
+one_master_stands g image None (Some m) first second = grind arith
+one_master_stands g image (Some m) None first second = grind arith
 one_master_stands g image (Some a) (Some b) first second = ap Some (one_newest image a b first.master second.master)
 
 pub one_meaning_for : OneMeaningFor

@@ -1,5 +1,5 @@
 -- The groups that a cache knows of.
-use Rattle.std.proofs.Common.{◌≡◌, ℕ, refl, arith, List, [], ◌∷◌, map, sym, ap, subst, ◌∙◌}
+use Rattle.std.proofs.Common.{◌≡◌, ℕ, refl, arith, List, [], ◌∷◌, map, sym, subst}
 use Rattle.std.specs.Prelude.{flat_map, ◌<◌}
 use Rattle.std.specs.List.{AllByRecursion}
 use Rattle.std.proofs.lemmas.List.{length-map}
@@ -36,16 +36,7 @@ all_frames g (frames ∷ groups) all sound = all_append (IsFrameOf g) frames (fl
 
 -- Groups that a cache knows of are of the form, where their pages are sound, and their frames are those of the image.
 pub groups_are_read : (g : Geometry) (first : ℕ) (groups : List (List Frame)) (image : Image) → HasGroups g first groups image → AllByRecursion (λ frames. AllByRecursion (λ frame. page.IsSound frame.octets) frames) groups → AreGroups g image × (frames_on g image ≡ flat_map (λ frames. frames) groups)
-groups_are_read g first groups image has sound =
-    let frames : frames_on g image ≡ flat_map (λ fs. fs) groups =
-    ap frames_of has.live ∙ frames_of_groups groups (all_weaker (λ fs. HasFrames g fs (group fs)) (λ fs. IsGroup (group fs) fs) (λ fs h. h.is_group) groups has.are_groups) in (
-      record {
-        form = has.form;
-        each = subst (AllByRecursion (λ content. IsGroup content (frames_in content))) (sym has.live) (each_group g groups has.are_groups);
-        frames = subst (AllByRecursion (IsFrameOf g)) (sym frames) (all_frames g groups has.are_groups sound);
-      },
-      frames,
-    )
+groups_are_read g first groups image has sound = grind (arith, frames_of_groups, all_weaker, each_group, all_frames)
 
 pub spelled_again : (contents : List (List ℕ)) → AllByRecursion (λ content. IsGroup content (frames_in content)) contents → contents ≡ map group (map frames_in contents)
 spelled_again [] all = refl
@@ -64,15 +55,7 @@ each_has g (content ∷ contents) all frames = (
 
 -- and groups of the form are there for a cache to find
 pub groups_are_there : (g : Geometry) (image : Image) → AreGroups g image → HasGroups g ((units_on (group_shape g) image).hi - length (units_on (group_shape g) image).live) (groups_on g image) image
-groups_are_there g image groups =
-    let live = (units_on (group_shape g) image).live in
-    let count = live_count (group_shape g) image.flash in
-    let long = length-map live frames_in in record {
-      form = groups.form;
-      next = omega (arith, count, long);
-      are_groups = each_has g live groups.each groups.frames;
-      live = spelled_again live groups.each;
-    }
+groups_are_there g image groups = grind (arith, live_count, length-map, each_has, spelled_again)
 
 -- Segments that follow these groups are the image's.
 pub segments_are_read : (g : Geometry) (first : ℕ) (groups : List (List Frame)) (image : Image) → HasGroups g first groups image → AreSaved g groups image → AreSegments g image

@@ -61,15 +61,9 @@ none_kept to from records are less =
     (entries_from (512 * from + 2) records) (all_below (512 * from + 2) (entries_from (512 * from + 2) records) _ (entries_in_order (512 * from + 2) records)))
 
 pub kept_records : (from n : ℕ) (blocks : List (List LogRecord)) → AllByRecursion AreBlock blocks → log_from (from + n) (drop n blocks) ≡ from_block (from + n) (log_from from blocks)
-kept_records from zero blocks are =
-    ap (λ m. log_from m blocks) (omega arith) ∙ sym (all_kept (from + zero) from blocks (omega arith))
+kept_records from zero blocks are = grind (arith, all_kept)
 kept_records from (suc n) [] are = refl
-kept_records from (suc n) (records ∷ blocks) are =
-    ap (λ m. log_from m (drop n blocks)) (omega arith)
-    ∙ kept_records (from + 1) n blocks are.1
-    ∙ ap (λ m. from_block m (log_from (from + 1) blocks)) (omega arith)
-    ∙ sym (filter-append (λ e. nat_le (512 * (from + suc n)) e.lsn) (entries_from (512 * from + 2) records) (log_from (from + 1) blocks)
-    ∙ ap (λ (l : List Entry). l ++ from_block (from + suc n) (log_from (from + 1) blocks)) (none_kept (from + suc n) from records are.0 (omega arith)))
+kept_records from (suc n) (records ∷ blocks) are = grind (arith, filter-append, records, none_kept, (kept_records (from + 1) n blocks are.1))
 
 pub newest_appended : (g : Geometry) (old new : Image) (content : List ℕ) → IsUnit content (master_in content) → Makes g (AppendsMaster content) old new → IsNewest new (master_in content)
 newest_appended g old new content unit made = record {
@@ -106,10 +100,7 @@ module _ (newest : Option Master) (g : Geometry) (old new : Image) (blocks : Lis
   next = next_block_is newest blocks
 
   end : kept + length (drop skipped blocks) ≡ next_block_under newest blocks
-  end =
-      let rises = may.may.kept_rises in
-      let within = may.may.kept_in_log in
-      let is = next in omega (arith, rises, within, is, length-drop skipped blocks)
+  end = grind (arith, next, length-drop)
 
   versions : versions_on g new ≡ versions_on g old
   versions = versions_same g old new (version_stays g old new (made.others Groups (λ h. cc)) made.disk)
@@ -167,18 +158,10 @@ module _ (newest : Option Master) (g : Geometry) (image : Image) (blocks : List 
   standing = logical_image_under newest g image blocks
 
   may_save : AreOrderly standing.log ⊎ (m.kept ≡ standing.hi) → MaySave newest g image blocks content
-  may_save orderly =
-      let is = sym (unit_read content m unit) in record {
-        unit = subst (IsUnit content) is unit;
-        master = subst (λ (n : Master). seen n ≡ (with_master standing n.kept).master) is master;
-        may = subst (λ (n : Master). MayCheckpoint standing n.kept) is may;
-        orderly = subst (λ (n : Master). AreOrderly standing.log ⊎ (n.kept ≡ standing.hi)) is orderly;
-      }
+  may_save orderly = grind (arith, unit_read)
 
   none_saved : m.kept ≡ standing.hi → blocks_saved newest blocks content ≡ []
-  none_saved all =
-      let is : (master_in content).kept ≡ m.kept = ap (λ (n : Master). n.kept) (unit_read content m unit) in
-      drop_of_length-le blocks (omega (arith, is, all, next_block_is newest blocks))
+  none_saved all = grind (arith, unit_read, drop_of_length-le, next_block_is)
 
 pub checkpoint_may_save : CheckpointMaySave
 checkpoint_may_save newest g image blocks content m sound unit is flushed rises within orderly =

@@ -1,6 +1,5 @@
 -- What stays of an image whose groups and disk stay.
 use Rattle.std.proofs.Common.{◌≡◌, ℕ, ◌+◌, ◌<◌, List, length, map, refl, arith, Option, Some, None, sym, ap, subst, ◌∙◌}
-use Rattle.std.specs.List.{AllByRecursion}
 use Rattle.site.specs.declared.geometry.Geometry.{Geometry}
 use Rattle.site.specs.declared.outside.Dev.TheVariants.{Log, Flash, Disk}
 use Rattle.site.specs.Geometry.{HasLengths}
@@ -10,17 +9,16 @@ use Rattle.log_records.specs.declared.log_record.LogRecord.{LogRecord}
 use Rattle.log_records.specs.Sound.{LogicalImage, Means}
 use Rattle.log_records.specs.Sound as lists
 use Rattle.slotted_page.specs.Layout as page
-use Rattle.frame_group.specs.Groups.{Frame, IsGroup, frames_in}
+use Rattle.frame_group.specs.Groups.{frames_in}
 use Rattle.frame_group.specs.Versions.{CleanAsDisk}
 use Rattle.checkpoint.specs.declared.master.Master.{Master}
 use Rattle.checkpoint.specs.Newest.{newest_of, IsOf}
 use Rattle.image_changes.specs.Rings.{RingName, Masters, Blocks, Groups, Segments, shape_of, group_shape, segment_shape, KeepsUnits}
 use Rattle.image_changes.specs.Changes.{SameSizes}
 use Rattle.log_store.proofs.BlockLaws.{blocks_stay}
-use Rattle.tail_rebuild.specs.Standing.{HasSaved}
 use Rattle.tail_rebuild.proofs.Following.{saved_again}
 use Rattle.flash_cache.specs.Representation.{frames_on, groups_on, disk_on}
-use Rattle.image_meaning.specs.Meaning.{kept_by, next_block_under, logical_image_under, IsUnused, HasNewest, IsFrameOf, AreGroups, AreSegments, AreOctetsSoundUnder, versions_on}
+use Rattle.image_meaning.specs.Meaning.{kept_by, next_block_under, logical_image_under, IsUnused, HasNewest, AreGroups, AreSegments, AreOctetsSoundUnder, versions_on}
 use Rattle.image_meaning.specs.LogicalImages.{with_versions}
 use Rattle.image_meaning.proofs.Versions.{versions_same, version_stays, frames_stay, disk_stays}
 use Rattle.image_changes.specs.Changes.{ReadsAs}
@@ -46,21 +44,14 @@ newest_stays (Some m) g old new keeps is = record {
 }
 
 pub groups_stay : (g : Geometry) (old new : Image) → KeepsUnits (group_shape g) old new → AreGroups g old → AreGroups g new
-groups_stay g old new keeps groups = record {
-  form = keeps.form groups.form;
-  each = subst (λ (u : Units). AllByRecursion (λ content. IsGroup content (frames_in content)) u.live) (sym keeps.units) groups.each;
-  frames = subst (AllByRecursion (IsFrameOf g)) (sym (frames_stay g old new keeps)) groups.frames;
-}
+groups_stay g old new keeps groups = grind (arith, frames_stay)
 
 -- Segments that follow the groups follow them still.
 pub same_groups : (g : Geometry) (old new : Image) → KeepsUnits (group_shape g) old new → groups_on g new ≡ groups_on g old
 same_groups g old new keeps = ap (λ (u : Units). map frames_in u.live) keeps.units
 
 pub segments_stay : (g : Geometry) (old new : Image) → KeepsUnits (segment_shape g) old new → KeepsUnits (group_shape g) old new → AreSegments g old → AreSegments g new
-segments_stay g old new there here segments = record {
-  segments = segments.segments;
-  follow = subst (λ (groups : List (List Frame)). HasSaved g groups segments.segments new) (sym (same_groups g old new here)) (saved_again g (groups_on g old) segments.segments old new here there segments.follow);
-}
+segments_stay g old new there here segments = grind (arith, same_groups, saved_again)
 
 -- The octets of an image whose groups and disk stay, and whose segments follow, are sound still, under whatever master is the newest then.
 pub octets_beside : (before after : Option Master) (g : Geometry) (old new : Image) → SameSizes old new → HasNewest after g new → AreSegments g new → KeepsUnits (group_shape g) old new →

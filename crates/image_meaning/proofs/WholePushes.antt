@@ -35,16 +35,8 @@ pub use Rattle.image_changes.proofs.Sequence.{reaches_parts}
 
 -- what staging makes of an image, whatever pages there are
 rewritten : (g : Geometry) (pages : List ℕ) (a b : Image) → Reaches g (changes_of pages) a b → Rewrites g pages a b
-rewritten g [] a b reads = record { sizes = reads.sizes; rings = reads.rings; exist = tt; others = λ place out. ap (λ (disk : List ℕ). slice_index disk place) reads.disk }
-rewritten g (page ∷ pages) a b reached =
-    let made = reached.1 in
-    let reads = reached.2 in
-    record {
-      sizes = λ dev. reads.sizes dev ∙ made.sizes dev;
-      rings = λ ring. record { units = (reads.rings ring).units ∙ (made.rings ring).units; form = λ form. (reads.rings ring).form ((made.rings ring).form form) };
-      exist = made.exist;
-      others = λ place out. ap (λ (disk : List ℕ). slice_index disk place) reads.disk ∙ made.others place out;
-    }
+rewritten g [] a b reads = grind arith
+rewritten g (page ∷ pages) a b reached = grind arith
 
 one_front : {X : Type 0} (x y : X) (ys left : List X) → x ∷ [] ≡ (y ∷ ys) ++ left → y ∷ ys ≡ x ∷ []
 one_front x y [] left same = sym (ap (take 1) same)
