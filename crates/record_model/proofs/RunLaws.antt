@@ -55,9 +55,7 @@ turn_at : (s : State) (lines : List Line) (listings : List (List CacheLine)) (i 
     IsTurnOf s (turns s lines listings) i line (next_listing (listings_after (take i lines) listings))
 unfolding IsTurnOf
 turn_at s [] listings i line below is = absurd cc
-turn_at s (x ∷ lines) listings zero line below is =
-    let same : x ≡ line = cc in
-    (ap (λ l. Some (turn s l (next_listing listings))) same, ap (λ l. (line_step s l (next_listing listings)).after) same)
+turn_at s (x ∷ lines) listings zero line below is = grind arith
 turn_at s (x ∷ lines) listings (suc i) line below is =
     later_turn s x lines listings i line (is_quit x) refl below (λ inside. turn_at (turn s x (next_listing listings)).after lines (later_listings x listings) i line inside is)
 

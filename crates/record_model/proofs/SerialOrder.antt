@@ -18,7 +18,7 @@ use Rattle.record_model.proofs.StepLaws.{length_table_with, found_is, IsNoCommit
 use Rattle.record_model.proofs.RunLaws.{IsRun, turns_are_run, state_after, one_commit_more, commits_make_the_table}
 use Rattle.record_model.proofs.SerialGets.{turn_of_run, gets_are_serial}
 use Rattle.record_model.proofs.SerialLists.{not_both, same_is, get_set_other, get_none}
-use Rattle.record_model.proofs.SerialLocks.{place, wrote, touched, Apart, set_here, set_there, all_pass, untouched, locks_kept}
+use Rattle.record_model.proofs.SerialLocks.{place, touched, Apart, set_here, set_there, all_pass, untouched, locks_kept}
 use Rattle.record_model.proofs.SerialWhole.{since_is}
 use Rattle.std.proofs.lemmas.List.{reverse-reverse}
 use Rattle.std.proofs.lemmas.Bool.{cases_Bool, or_parts, and_parts, not-true, eqb-true, eqb-false}
@@ -123,10 +123,7 @@ theirs s (Read n number) k long apart h d own before = elsewhere s n k _ own d b
 theirs s (Write n number value) k long apart h d own before = elsewhere s n k _ own d before
 theirs s (Erase n number) k long apart h d own before = elsewhere s n k _ own d before
 theirs s (Scan n number count) k long apart h d own before = elsewhere s n k _ own d before
-theirs s (Commit n) k long apart h d own before = let writes = writes_of (place s.sessions n) in
-    subst (Standing k own (table_with s.table writes)) (sym (set_there s.sessions n None k (λ e. eqb-false n k d (sym e))))
-    (same_standing k own s.table (table_with s.table writes) (place s.sessions k) (length_table_with s.table writes)
-    (λ r t. unwritten_stay s.table writes r (λ w. apart n k r (eqb-false n k d) w t)) before)
+theirs s (Commit n) k long apart h d own before = grind (arith, set_there, eqb-false, same_standing, length_table_with, unwritten_stay)
 theirs s (Abort n) k long apart h d own before = elsewhere s n k _ own d before
 theirs s (Set number value) k long apart h d own before = let tests = all_pass (wants_record s number ∷ wants_short value ∷ may_write s None number ∷ []) h in
     same_standing k own s.table (slice_set s.table number (Some value)) (place s.sessions k) (length_table_with s.table ((number, Some value) ∷ []))
@@ -186,8 +183,7 @@ accepted_goes_on s command listing t long apart line answers h =
   where
     taken : (k : ℕ) (own : List Turn) (b c : Bool) → b ≡ true → c ≡ true → (if b && c then (if is_begin command then [] else own) ++ t ∷ [] else own) ≡ (if is_begin command then [] else own) ++ t ∷ []
     taken k own true true p q = refl
-    taken k own true false p q = absurd cc
-    taken k own false c p q = absurd cc
+    taken k own _ _ p q = absurd cc
 
     left : (k : ℕ) (own : List Turn) (b c : Bool) → b ≡ false → (if b && c then (if is_begin command then [] else own) ++ t ∷ [] else own) ≡ own
     left k own true c p = absurd cc
@@ -206,11 +202,7 @@ IsTrail start [] s = s ≡ start
 IsTrail start (t ∷ earlier) s = (listing : List CacheLine) × (t ≡ turn t.before t.line listing) × (s ≡ t.after) × IsTrail start earlier t.before
 
 holds_at : (table : List Content) (commits made cap : ℕ) (earlier : List Turn) (s : State) → IsTrail (opened table commits made cap) earlier s → Represents s earlier
-holds_at table commits made cap [] s is = subst (λ (s : State). Represents s []) (sym is) (record {
-  long = refl;
-  apart = λ m n r d w t. not_both _ w (ap (λ (o : Option Session). wrote o r) (get_none Session 8 m));
-  standing = λ k. subst (Standing k [] table) (sym (get_none Session 8 k)) tt;
-})
+holds_at table commits made cap [] s is = grind (arith, not_both, get_none)
 holds_at table commits made cap (t ∷ earlier) s is =
     let before = holds_at table commits made cap earlier t.before is.3 in
     let after = subst (GoesOn t.before t.line t) (sym (ap (λ (u : Turn). u.after) is.1))
