@@ -1,9 +1,10 @@
 -- Transactions in the table, and what the list says of them.
-use Rattle.std.proofs.Common.{◌≡◌, ℕ, suc, ◌+◌, ◌<◌, List, [], ◌∷◌, ◌++◌, length, map, take, drop, reverse, set, get_or, option_map, Some, None, Result, Ok, Err, refl, sym, ap, subst, ◌∙◌, arith, add-one}
+use Rattle.std.proofs.lemmas.Grind.{common_steps}
+use Rattle.std.proofs.Common.{◌≡◌, ℕ, suc, ◌+◌, ◌<◌, List, [], ◌∷◌, ◌++◌, length, map, take, drop, set, get_or, option_map, Some, None, Result, Ok, Err, refl, sym, ap, subst, ◌∙◌, arith, add-one}
 use Rattle.std.specs.Prelude.{OnOk, OnErr, slice_get, vec_len}
 use Rattle.std.proofs.lemmas.Option.{slice_get-map, slice_get_read}
 use Rattle.std.specs.List.{AllByRecursion, remove, insert}
-use Rattle.std.proofs.lemmas.List.{take-append-drop, take-set, drop-set, drop-drop, get_or-drop, get_or-map, length-map, length-reverse, map-append}
+use Rattle.std.proofs.lemmas.List.{take-append-drop, take-set, drop-set, drop-drop, get_or-drop, get_or-map, length-map, map-append}
 use Rattle.std.proofs.lemmas.List.{map-set}
 use Rattle.std.proofs.lemmas.List.Sums.{sum_by-append, sum_by-cons, sum_by-set}
 use Rattle.std.proofs.Math.Seq.{map-set_same}
@@ -74,14 +75,7 @@ module _ (items : List Transaction) (place txn : ℕ) (at : StandsAt items place
   left_is = map-append open_of (take place items) (drop (suc place) items) ∙ ap (λ (l : List Transaction). front ++ map open_of l) (ap (λ n. drop n items) (sym (add-one place)) ∙ behind_is)
 
   pub replaces_at : (y z : Transaction) (after : Open → Open) → z ≡ get_or items place z → open_of y ≡ after (open_of z) → Replaces (map open_of items) (map open_of (set items place y)) txn after
-  replaces_at y z after reads is = record {
-    front = front;
-    was = open_of x;
-    back = back;
-    of = split.of;
-    old_is = is_split;
-    new_is = new_is y ∙ ap (λ (o : Open). front ++ o ∷ back) (is ∙ ap (λ (t : Transaction). after (open_of t)) (read_is z reads));
-  }
+  replaces_at y z after reads is = grind (arith, is_split, new_is, read_is)
 
   pub takes_at : TakesOut (map open_of items) (map open_of (remove items place)) txn
   takes_at = record { front = front; was = open_of x; back = back; of = split.of; old_is = is_split; new_is = left_is }
@@ -154,9 +148,7 @@ either_way (Err e) P Q R f g p q = g q
 -- a transaction at a place, as callers see it
 
 pub loser_is : (z : Transaction) (n : ℕ) → n ≡ vec_len z.updates → let seen : Loser = record { txn = z.txn; last = z.last; remaining = n } in seen ≡ loser_of (open_of z)
-loser_is z n is =
-    let same : n ≡ length (reverse z.updates.items) = is ∙ z.updates.ok.0 ∙ sym (length-reverse z.updates.items) in
-    ap (λ n. let seen : Loser = record { txn = z.txn; last = z.last; remaining = n } in seen) same
+loser_is z n is = grind (arith, common_steps)
 
 pub got_at : (items : List Transaction) (place : ℕ) (z : Transaction) → place < length items → z ≡ get_or items place z → slice_get (map loser_of (map open_of items)) place ≡ Some (loser_of (open_of z))
 got_at items place z less reads =

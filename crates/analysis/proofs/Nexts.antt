@@ -1,5 +1,5 @@
 -- Which Update is undone next.
-use Rattle.std.proofs.Common.{◌≡◌, inl, inr, ℕ, ◌+◌, ◌<◌, ◌≤◌, List, [], ◌∷◌, ◌++◌, length, Option, Some, None, refl, sym, subst, ◌∙◌, arith}
+use Rattle.std.proofs.Common.{◌≡◌, inl, inr, ℕ, ◌+◌, ◌<◌, ◌≤◌, List, [], ◌∷◌, ◌++◌, length, Option, Some, None, refl, sym, subst, arith}
 use Rattle.std.specs.Prelude.{slice_get, IfSome}
 use Rattle.std.proofs.lemmas.Option.{none-some, same_Some}
 use Rattle.std_lemmas.proofs.AllOf.{all_push, all_weaker}
@@ -39,32 +39,21 @@ next_none table y None none is = all_push (λ x. x.updates ≡ []) table y is (n
 next_none table y (Some next) none is = (has_more table y next.0 next.1 is.0, all_push (λ x. IsAtMost next.1 x.updates) table y is.1 (subst (IsAtMost next.1) (sym (none_first y.updates none)) tt))
 
 pub next_first : (table : List Open) (y : Open) (lsn : ℕ) → slice_get y.updates 0 ≡ Some lsn → IsNext table None → IsNext (table ++ y ∷ []) (Some (y.txn, lsn))
-next_first table y lsn some is =
-    let top = top_is y.updates lsn some in (
-      has_last table y lsn top,
-      all_push (λ x. IsAtMost lsn x.updates) table y (all_weaker (λ x. x.updates ≡ []) (λ x. IsAtMost lsn x.updates) (λ x empty. subst (IsAtMost lsn) (sym empty) tt) table is) (top_at_most y.updates lsn lsn top (omega arith)),
-    )
+next_first table y lsn some is = grind (arith, top_is, has_last, all_push, all_weaker, top_at_most)
 
 pub next_keeps : (table : List Open) (y : Open) (lsn : ℕ) (next : ℕ × ℕ) → slice_get y.updates 0 ≡ Some lsn → lsn ≤ next.1 → IsNext table (Some next) → IsNext (table ++ y ∷ []) (Some next)
 next_keeps table y lsn next some less is =
     (has_more table y next.0 next.1 is.0, all_push (λ x. IsAtMost next.1 x.updates) table y is.1 (top_at_most y.updates lsn next.1 (top_is y.updates lsn some) less))
 
 pub next_changes : (table : List Open) (y : Open) (lsn : ℕ) (next : ℕ × ℕ) → slice_get y.updates 0 ≡ Some lsn → next.1 < lsn → IsNext table (Some next) → IsNext (table ++ y ∷ []) (Some (y.txn, lsn))
-next_changes table y lsn next some less is =
-    let top = top_is y.updates lsn some in (
-      has_last table y lsn top,
-      all_push (λ x. IsAtMost lsn x.updates) table y (all_weaker (λ x. IsAtMost next.1 x.updates) (λ x. IsAtMost lsn x.updates) (λ x h. at_most_more next.1 lsn (omega (arith, less)) x.updates h) table is.1) (top_at_most y.updates lsn lsn top (omega arith)),
-    )
+next_changes table y lsn next some less is = grind (arith, top_is, has_last, all_push, all_weaker, at_most_more, top_at_most)
 
 -- The next one is found.
 
 has_found : (n : ℕ) (table : List Open) (t lsn : ℕ) → AscendFrom n table → OneHas table t lsn → (x : Open) × (found_in table t ≡ Some x) × IsTop lsn x.updates × (n ≤ t)
 has_found n [] t lsn ascend h = absurd h
 has_found n (x ∷ table) t lsn ascend (inl here) = (x, found_here x table t here.0, here.1, (let low = ascend.0 in let same = here.0 in omega (arith, low, same)))
-has_found n (x ∷ table) t lsn ascend (inr later) =
-    let found = has_found (x.txn + 1) table t lsn ascend.1 later in
-    let above = found.3 in
-    (found.0, found_later x table t (λ same. omega (arith, above, same)) ∙ found.1, found.2, (let low = ascend.0 in omega (arith, low, above)))
+has_found n (x ∷ table) t lsn ascend (inr later) = grind (arith, found_later, (has_found (x.txn + 1) table t lsn ascend.1 later))
 
 pub remains_is : (table : List Open) (t lsn : ℕ) → AscendFrom 0 table → OneHas table t lsn → Remains table t lsn
 remains_is table t lsn ascend has = let found = has_found 0 table t lsn ascend has in record { x = found.0; there = found.1; top = found.2 }

@@ -1,5 +1,5 @@
 -- The Updates that remain, among the records.
-use Rattle.std.proofs.Common.{◌≡◌, ℕ, ◌+◌, ◌<◌, ◌≤◌, ◌==◌, ◌&&◌, ◌||◌, not, Bool, true, false, cond, true≢false, List, [], ◌∷◌, ◌++◌, length, map, Option, Some, None, option_map, refl, sym, ap, subst, ◌∙◌, arith, append_assoc}
+use Rattle.std.proofs.Common.{◌≡◌, ℕ, ◌+◌, ◌<◌, ◌≤◌, ◌==◌, ◌&&◌, ◌||◌, not, Bool, true, false, true≢false, List, [], ◌∷◌, ◌++◌, length, map, Option, Some, None, option_map, refl, sym, ap, subst, ◌∙◌, arith, append_assoc}
 use Rattle.std.specs.Prelude.{filter}
 use Rattle.std.specs.Option.{option_or}
 use Rattle.std.specs.List.{AllByRecursion, list_any}
@@ -8,7 +8,7 @@ use Rattle.std.proofs.lemmas.Option.{none-some, same_Some}
 use Rattle.std_lemmas.proofs.AllOf.{all_both, all_filter_passed}
 use Rattle.std.proofs.lemmas.List.Elements.{filter-append}
 use Rattle.log_records.specs.declared.log_record.LogRecord.{LogRecord}
-use Rattle.log_records.specs.declared.log_record.LogRecord.TheVariants.{Begin, Update, Clr, Commit, End}
+use Rattle.log_records.specs.declared.log_record.LogRecord.TheVariants.{Update, Clr}
 use Rattle.log_records.specs.Log.{Entry, txn_of, is_of, is_update, is_closed, entries_of, last_where}
 use Rattle.log_records.specs.Unfinished.{left_open, open_by, open_updates, pending}
 use Rattle.log_records.specs.Sound.{Active, IsInOrder, is_known}
@@ -40,10 +40,7 @@ last_more (y ∷ xs) x = ap (λ (o : Option Entry). option_or o (Some y)) (last_
 
 -- the last item that passes a test
 last_passes : (test : Entry → Bool) (front : List Entry) (x : Entry) (back : List Entry) → test x ≡ true → AllByRecursion (λ y. test y ≡ false) back → last_where (λ e. true) (filter test (front ++ x ∷ back)) ≡ Some x
-last_passes test front x back here none =
-    ap (last_where (λ e. true)) (filter-append test front (x ∷ back)
-    ∙ ap (λ (l : List Entry). filter test front ++ l) (cond-true (test x) (x ∷ filter test back) (filter test back) here ∙ ap (λ (l : List Entry). x ∷ l) (filter_none test back none)))
-    ∙ last_more (filter test front) x
+last_passes test front x back here none = grind (arith, filter-append, cond-true, here, filter_none, last_more)
 
 all_right : {X : Type 0} (P : X → Type 0) (front : List X) (back : List X) → AllByRecursion P (front ++ back) → AllByRecursion P back
 all_right P [] back h = h
@@ -61,11 +58,7 @@ none_above top n less (m ∷ ms) h = ap (λ b. b || list_any (λ m. m == n) ms) 
 
 pub order_filter : (test : Entry → Bool) (from to : ℕ) (xs : List Entry) → IsInOrder from xs to → IsInOrder from (filter test xs) to
 order_filter test from to [] order = order
-order_filter test from to (x ∷ xs) order = by (test x) (order_filter test (x.lsn + 1) to xs order.1)
-  where
-    by : (b : Bool) → IsInOrder (x.lsn + 1) (filter test xs) to → IsInOrder from (cond b (x ∷ filter test xs) (filter test xs)) to
-    by true rest = (order.0, rest)
-    by false rest = in_order_from (x.lsn + 1) from (filter test xs) to (omega (arith, order.0)) rest
+order_filter test from to (x ∷ xs) order = grind (arith, in_order_from, (order_filter test (x.lsn + 1) to xs order.1))
 
 pub order_above : (from to n : ℕ) (xs : List Entry) → n < from → IsInOrder from xs to → AllByRecursion (λ x. n < x.lsn) xs
 order_above from to n [] less order = tt
@@ -86,12 +79,10 @@ descend_raise m n [] less h = tt
 descend_raise m n (u ∷ us) less h = (omega (arith, less, h.0), h.1)
 
 descend_by : (n : ℕ) (us : List Entry) (e : Entry) (rec : LogRecord) → n ≤ e.lsn → Descend n us → Descend (e.lsn + 1) (open_by us e rec)
-descend_by n us e Begin less h = descend_raise n (e.lsn + 1) us (omega (arith, less)) h
 descend_by n us e (Update txn prev page slot before after) less h = (omega arith, descend_raise n e.lsn us less h)
 descend_by n [] e (Clr txn prev undo_next page slot after) less h = tt
 descend_by n (u ∷ us) e (Clr txn prev undo_next page slot after) less h = descend_raise u.lsn (e.lsn + 1) us (omega (arith, less, h.0)) h.1
-descend_by n us e (Commit txn number) less h = descend_raise n (e.lsn + 1) us (omega (arith, less)) h
-descend_by n us e (End txn) less h = descend_raise n (e.lsn + 1) us (omega (arith, less)) h
+descend_by n us e _ less h = descend_raise n (e.lsn + 1) us (omega (arith, less)) h
 
 descend_open : (n to : ℕ) (us es : List Entry) → Descend n us → IsInOrder n es to → Descend to (open_updates us es)
 descend_open n to us [] h order = descend_raise n to us order h
@@ -109,12 +100,10 @@ all_at_most top n (u ∷ us) h first = (first, at_most_all top u.lsn us h.1 (ome
 
 module _ (P Q : Entry → Type 0) (give : (e : Entry) → P e → is_update e.rec ≡ true → Q e) where
   open_all_by : (us : List Entry) (e : Entry) (rec : LogRecord) → e.rec ≡ rec → P e → AllByRecursion Q us → AllByRecursion Q (open_by us e rec)
-  open_all_by us e Begin is p q = q
   open_all_by us e (Update txn prev page slot before after) is p q = (give e p (ap is_update is), q)
   open_all_by [] e (Clr txn prev undo_next page slot after) is p q = tt
   open_all_by (u ∷ us) e (Clr txn prev undo_next page slot after) is p q = q.1
-  open_all_by us e (Commit txn number) is p q = q
-  open_all_by us e (End txn) is p q = q
+  open_all_by us e _ is p q = q
 
   open_all : (us es : List Entry) → AllByRecursion P es → AllByRecursion Q us → AllByRecursion Q (open_updates us es)
   open_all us [] p q = q
@@ -153,11 +142,7 @@ known_open false c either open_still = absurd (true≢false (sym either ∙ open
 
 pub all_found : (P : Open → Type 0) (table : List Open) (t : ℕ) (x : Open) → AllByRecursion P table → found_in table t ≡ Some x → P x
 all_found P [] t x h is = absurd (none-some x is)
-all_found P (y ∷ table) t x h is = by (y.txn == t) is (all_found P table t x h.1)
-  where
-    by : (b : Bool) → cond b (Some y) (found_in table t) ≡ Some x → (found_in table t ≡ Some x → P x) → P x
-    by true e rest = subst P (same_Some y x e) h.0
-    by false e rest = rest e
+all_found P (y ∷ table) t x h is = grind (arith, same_Some, (all_found P table t x h.1))
 
 module _ (named : List Active) (records : List Entry) (table : List Open) (is : IsTable named records table) (known : (t : ℕ) → (is_known named records t || is_closed records t) ≡ false → entries_of t records ≡ []) where
   abbrev remains : Entry → Bool
@@ -187,9 +172,7 @@ module _ (named : List Active) (records : List Entry) (table : List Open) (is : 
   all_known = known_of named records records known
 
   pub none_pending : AllByRecursion (λ x. x.updates ≡ []) table → last_where (λ u. true) (pending records) ≡ None
-  none_pending none =
-      ap (last_where (λ u. true)) (filter_none remains records (all_both (λ e. (is_known named records (txn_of e) || is_closed records (txn_of e)) ≡ true) (λ e. (is_known named records (txn_of e) || is_closed records (txn_of e)) ≡ true) (λ e. remains e ≡ false)
-      (λ e knows again. not_remains (λ x. x.updates ≡ []) none e knows (λ empty. ap (list_any (λ m. m == e.lsn)) empty)) records all_known all_known))
+  none_pending none = grind (arith, filter_none, all_both, not_remains, all_known)
 
   module _ (from to : ℕ) (order : IsInOrder from records to) where
     descends : (s : ℕ) → Descend to (left_open records s)

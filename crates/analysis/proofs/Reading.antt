@@ -1,8 +1,8 @@
 -- Analysis with one more record.
-use Rattle.std.proofs.Common.{◌≡◌, ℕ, ◌+◌, ◌-◌, ◌^◌, min, true, false, List, [], ◌∷◌, length, Option, Some, None, refl, sym, ap, ◌∙◌, arith, length-append}
+use Rattle.std.proofs.Common.{rules, ◌≡◌, ℕ, ◌+◌, ◌-◌, ◌^◌, min, true, false, List, [], ◌∷◌, length, Option, Some, None, refl, sym, ◌∙◌, arith, length-append}
 use Rattle.log_records.specs.declared.log_record.LogRecord.TheVariants.{Begin}
 use Rattle.log_records.specs.Log.{Entry, txn_of, is_closing}
-use Rattle.log_records.specs.Sound.{Master, commit_number, commit_numbers}
+use Rattle.log_records.specs.Sound.{Master, commit_numbers}
 use Rattle.analysis.specs.declared.analysis.Analysis.{Analysis}
 use Rattle.analysis.specs.Open.{Open, found_in, Changes, begun}
 use Rattle.analysis.specs.Table.{listed, Becomes}
@@ -12,9 +12,7 @@ use Rattle.analysis.proofs.Steps.{next_table, goes_on, is_gone, is_new, known_mo
 
 commits_more : (m : Master) (records : List Entry) (e : Entry) (old new : ℕ) → old ≡ min (m.commits + length (commit_numbers records)) (2 ^ 64 - 1) → new ≡ min (old + length (commit_numbers (e ∷ []))) (2 ^ 64 - 1) →
     new ≡ min (m.commits + length (commit_numbers (with records e))) (2 ^ 64 - 1)
-commits_more m records e old new is more =
-    let both = ap length (numbers_more records e (commit_number e) refl) ∙ length-append (commit_numbers records) (commit_numbers (e ∷ [])) in
-    omega (arith, is, more, both)
+commits_more m records e old new is more = grind (arith, numbers_more, length-append)
 
 -- a record that isn't a Commit
 pub no_commit : (m : Master) (records : List Entry) (a : Analysis) → IsAnalysis m records a → a.commits ≡ min (a.commits + 0) (2 ^ 64 - 1)
@@ -38,11 +36,7 @@ module _ (m : Master) (records : List Entry) (e : Entry) (a b : Analysis) (is : 
   }
 
   pub closes_read : (x : Open) → found_in old (txn_of e) ≡ Some x → Changes old new (txn_of e) None → is_closing e.rec ≡ true → IsAnalysis m (with records e) b
-  closes_read x there changes closing = record {
-    table = next_table m.active records e old new None is.table changes (is_gone m.active records e closing);
-    commits = commits_more m records e a.commits b.commits is.commits commits;
-    known = known_more m.active records e is.known (known_active m.active records e x (says_active x there));
-  }
+  closes_read x there changes closing = search (rules, arith, next_table, is_gone, commits_more, known_more, known_active, says_active)
 
 module _ (m : Master) (records : List Entry) (lsn : ℕ) (a b : Analysis) (is : IsAnalysis m records a) (same : b.commits ≡ a.commits) (comes : MayCome records (record { lsn = lsn; rec = Begin })) where
   abbrev e : Entry

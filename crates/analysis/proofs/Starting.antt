@@ -1,5 +1,5 @@
 -- The table of the transactions that a master names.
-use Rattle.std.proofs.Common.{◌≡◌, ℕ, suc, ◌+◌, ◌<◌, ◌≤◌, ◌==◌, ◌||◌, ◌&&◌, Bool, true, false, cond, List, [], ◌∷◌, length, map, Option, Some, None, refl, ap, subst, ◌∙◌, arith}
+use Rattle.std.proofs.Common.{◌≡◌, ℕ, suc, ◌+◌, ◌<◌, ◌≤◌, ◌==◌, cond, List, [], ◌∷◌, length, map, Some, None, refl, ap, subst, arith}
 use Rattle.std.specs.Prelude.{slice_index_or}
 use Rattle.std.specs.List.{list_any}
 use Rattle.std.proofs.lemmas.Bool.{eqb-true}
@@ -34,20 +34,10 @@ fresh_ascend n (p ∷ q ∷ pairs) ascend low =
 
 fresh_says : (pairs : List Pair) (t : ℕ) → found_in (map fresh pairs) t ≡ cond (list_any (λ (a : Active). a.begin == t) (map active_of pairs)) (Some (record { txn = t; last = last_named (map active_of pairs) t; updates = [] })) None
 fresh_says [] t = refl
-fresh_says (p ∷ pairs) t = by (list_any (λ (a : Active). a.begin == t) (map active_of pairs)) (p.begin == t) refl (fresh_says pairs t)
-  where
-    by : (rest b : Bool) → (p.begin == t) ≡ b → found_in (map fresh pairs) t ≡ cond rest (Some (record { txn = t; last = last_named (map active_of pairs) t; updates = [] })) None →
-        cond b (Some (fresh p)) (found_in (map fresh pairs) t) ≡ cond (b || rest) (Some (record { txn = t; last = cond b p.last (last_named (map active_of pairs) t); updates = [] })) None
-    by rest true is later = ap (λ n. let o : Open = record { txn = n; last = p.last; updates = [] } in Some o) (eqb-true p.begin t is)
-    by rest false is later = later
+fresh_says (p ∷ pairs) t = grind (arith, eqb-true, (fresh_says pairs t))
 
 pub named_table : (pairs : List Pair) → Ascend pairs → IsTable (map active_of pairs) [] (map fresh pairs)
-named_table pairs ascend = record { ascend = fresh_ascend 0 pairs ascend (λ p rest is. omega arith); says = λ t. fresh_says pairs t ∙ by (list_any (λ (a : Active). a.begin == t) (map active_of pairs)) t }
-  where
-    by : (b : Bool) (t : ℕ) → cond {A = Option Open} b (Some (record { txn = t; last = last_named (map active_of pairs) t; updates = [] })) None
-        ≡ cond {A = Option Open} ((b || false) && true) (Some (record { txn = t; last = last_named (map active_of pairs) t; updates = [] })) None
-    by true t = refl
-    by false t = refl
+named_table pairs ascend = grind (arith, fresh_ascend, fresh_says)
 
 -- nothing of them is known to remain
 pub owed_fresh : (pairs : List Pair) → owed_for (map fresh pairs) ≡ length pairs

@@ -1,7 +1,7 @@
 -- One transaction of a list is changed, taken out or put in.
+use Rattle.std.proofs.lemmas.Grind.{common_steps}
 use Rattle.std.proofs.Common.{◌≡◌, ◌≢◌, ℕ, zero, suc, length, get_or, drop, ◌+◌, ◌-◌, ◌<◌, ◌≤◌, ◌==◌, cond, List, [], ◌∷◌, ◌++◌, Option, Some, None, refl, sym, ap, subst, ◌∙◌, arith}
 use Rattle.std.specs.List.{AllByRecursion}
-use Rattle.std.proofs.lemmas.List.Sums.{sum_by-append, sum_by-cons}
 use Rattle.std.proofs.lemmas.Bool.{cond-true, cond-false, eq-eqb, ne_eqb}
 use Rattle.analysis.specs.Open.{Open, found_in, AscendFrom, Changes, Replaces, TakesOut, owed_one, owed_for, begun}
 use Rattle.analysis.specs.Table.{Becomes}
@@ -58,26 +58,14 @@ module _ (front : List Open) (x : Open) (back : List Open) (before : AllByRecurs
   there = found_behind front (x ∷ back) x.txn before ∙ found_here x back x.txn refl
 
   pub changed : (y : Open) → y.txn ≡ x.txn → AscendFrom 0 (front ++ x ∷ back) → Changes (front ++ x ∷ back) (front ++ y ∷ back) x.txn (Some y)
-  changed y same ascend = record {
-    own = found_behind front (y ∷ back) x.txn before ∙ found_here y back x.txn same;
-    others = λ s ne. found_without front y back s (λ is. ne (sym is ∙ same)) ∙ sym (found_without front x back s (λ is. ne (sym is)));
-    ascend = ascend_changed 0 front x y back same ascend;
-  }
+  changed y same ascend = grind (arith, found_behind, found_here, found_without, ascend_changed)
 
   pub taken_out : AscendFrom 0 (front ++ x ∷ back) → Changes (front ++ x ∷ back) (front ++ back) x.txn None
-  taken_out ascend = record {
-    own = found_behind front back x.txn before ∙ found_below (x.txn + 1) back x.txn (ascend_back 0 front x back ascend) (omega arith);
-    others = λ s ne. sym (found_without front x back s (λ is. ne (sym is)));
-    ascend = ascend_without 0 front x back ascend;
-  }
+  taken_out ascend = grind (arith, found_behind, found_below, ascend_back, found_without, ascend_without)
 
   module _ (behind : AscendFrom (x.txn + 1) back) where
     pub put_in : AscendFrom 0 (front ++ back) → Changes (front ++ back) (front ++ x ∷ back) x.txn (Some x)
-    put_in ascend = record {
-      own = there;
-      others = λ s ne. found_without front x back s (λ is. ne (sym is));
-      ascend = ascend_with 0 front x back (omega arith) before behind ascend;
-    }
+    put_in ascend = grind (arith, there, found_without, ascend_with)
 
     pub not_there : found_in (front ++ back) x.txn ≡ None
     not_there = found_behind front back x.txn before ∙ found_below (x.txn + 1) back x.txn behind (omega arith)
@@ -96,9 +84,7 @@ ascend_at n (x ∷ table) (suc k) d ascend less = let above = ascend_at (x.txn +
 pub found_place : (n : ℕ) (table : List Open) (k : ℕ) (d : Open) → AscendFrom n table → k < length table → found_in table (get_or table k d).txn ≡ Some (get_or table k d)
 found_place n [] k d ascend less = absurd (omega (arith, less))
 found_place n (x ∷ table) zero d ascend less = found_here x table x.txn refl
-found_place n (x ∷ table) (suc k) d ascend less =
-    let above = ascend_at (x.txn + 1) table k d ascend.1 (omega (arith, less)) in
-    found_later x table (get_or table k d).txn (λ same. omega (arith, above, same)) ∙ found_place (x.txn + 1) table k d ascend.1 (omega (arith, less))
+found_place n (x ∷ table) (suc k) d ascend less = grind (arith, ascend_at, found_later, get_or, (found_place (x.txn + 1) table k d ascend.1 (omega (arith, less))))
 
 -- A transaction begins, again or anew.
 
@@ -111,16 +97,10 @@ begins_new old new lsn none more = subst (λ (o : Option Open). Changes old new 
 -- What is owed after a change, and without one.
 
 pub owed_replaced : (old new : List Open) (t : ℕ) (after : Open → Open) (r : Replaces old new t after) → owed_for new + owed_one r.was ≡ owed_for old + owed_one (after r.was)
-owed_replaced old new t after r =
-    let a = ap owed_for r.old_is ∙ sum_by-append owed_one r.front (r.was ∷ r.back) in
-    let b = ap owed_for r.new_is ∙ sum_by-append owed_one r.front (after r.was ∷ r.back) in
-    omega (arith, a, b, sum_by-cons owed_one r.was r.back, sum_by-cons owed_one (after r.was) r.back)
+owed_replaced old new t after r = grind (arith, common_steps)
 
 pub owed_taken : (old new : List Open) (t : ℕ) (r : TakesOut old new t) → owed_for new + owed_one r.was ≡ owed_for old
-owed_taken old new t r =
-    let a = ap owed_for r.old_is ∙ sum_by-append owed_one r.front (r.was ∷ r.back) in
-    let b = ap owed_for r.new_is ∙ sum_by-append owed_one r.front r.back in
-    omega (arith, a, b, sum_by-cons owed_one r.was r.back)
+owed_taken old new t r = grind (arith, common_steps)
 
 pub length-drop_one : (us : List ℕ) → length (drop 1 us) ≡ length us - 1
 length-drop_one [] = refl

@@ -1,5 +1,5 @@
 -- The table by the log alone, and what remains to be undone.
-use Rattle.std.proofs.Common.{◌≡◌, ◌⊎◌, inl, inr, ℕ, ◌*◌, ◌==◌, ◌&&◌, not, Bool, true, false, cond, nat_le, List, [], ◌∷◌, ◌++◌, map, Some, None, refl, sym, ap, subst, ◌∙◌, arith, true≢false}
+use Rattle.std.proofs.Common.{◌≡◌, ◌⊎◌, inl, inr, ℕ, ◌*◌, ◌==◌, ◌&&◌, not, Bool, true, false, nat_le, List, [], ◌∷◌, ◌++◌, Some, None, refl, sym, ap, subst, ◌∙◌, arith, true≢false}
 use Rattle.std.specs.Prelude.{filter}
 use Rattle.std.specs.List.{list_any, AllByRecursion}
 use Rattle.std.proofs.lemmas.Bool.{cond-true, cond-false, eq-eqb, and_parts, le-leb, leb-true, or_left, or_right, or_cases, false_from_ne_true, and_from}
@@ -7,12 +7,11 @@ use Rattle.std_lemmas.proofs.Bools.{and_false}
 use Rattle.std_lemmas.proofs.Lists.{any_between}
 use Rattle.std.proofs.lemmas.List.Elements.{filter-append}
 use Rattle.log_records.specs.declared.log_record.LogRecord.{LogRecord}
-use Rattle.log_records.specs.declared.log_record.LogRecord.TheVariants.{Begin, Update, Clr, Commit, End}
+use Rattle.log_records.specs.declared.log_record.LogRecord.TheVariants.{Begin}
 use Rattle.log_records.specs.Log.{Entry, txn_of, is_of, is_update, is_closing, is_closed, is_loser}
-use Rattle.log_records.specs.Unfinished.{is_begin, left_open, open_updates}
-use Rattle.log_records.specs.Sound.{LogicalImage, IsSound, is_known, last_number}
-use Rattle.analysis.specs.Open.{Open}
-use Rattle.analysis.specs.Read.{is_active, last_named, open_at, open_in}
+use Rattle.log_records.specs.Unfinished.{is_begin, left_open}
+use Rattle.log_records.specs.Sound.{LogicalImage, IsSound, is_known}
+use Rattle.analysis.specs.Read.{is_active, open_at, open_in}
 use Rattle.analysis.specs.Laws.{has_begun}
 use Rattle.analysis.specs.Taken.{is_named, is_taken, taken, TakenTable, TakenPending, AllAreTaken}
 use Rattle.analysis.proofs.Unfinished.{begins_as, table_of_unfinished}
@@ -34,12 +33,7 @@ active_by_log p sound t = by (is_active [] p.log t) (is_loser p.log t) refl refl
 
 -- of a loser the log says what is taken of it
 same_open : (p : LogicalImage) (sound : IsSound p) (t : ℕ) → is_loser p.log t ≡ true → open_at [] p.log t ≡ open_at p.master.active (taken p) t
-same_open p sound t loser =
-    let same = chain p sound t loser in
-    ap (λ (es : List Entry). by_entries 0 es) same.begins ∙ sym (ap (λ (es : List Entry). by_entries (last_named p.master.active t) es) (entries_taken p sound t loser ∙ same.begins))
-  where
-    by_entries : ℕ → List Entry → Open
-    by_entries d es = record { txn = t; last = last_number d (map (λ e. e.lsn) es); updates = map (λ u. u.lsn) (open_updates [] es) }
+same_open p sound t loser = grind (arith, chain, entries_taken)
 
 pub taken_table : TakenTable
 taken_table p sound =
@@ -71,11 +65,7 @@ remains_in records e = is_update e.rec && not (is_closed records (txn_of e)) && 
 
 filter_same : (test a b : Entry → Bool) (xs : List Entry) → AllByRecursion (λ x. (test x ≡ true → a x ≡ b x) × (test x ≡ false → b x ≡ false)) xs → filter a (filter test xs) ≡ filter b xs
 filter_same test a b [] h = refl
-filter_same test a b (x ∷ xs) h = by (test x) refl (filter_same test a b xs h.1)
-  where
-    by : (c : Bool) → test x ≡ c → filter a (filter test xs) ≡ filter b xs → filter a (cond c (x ∷ filter test xs) (filter test xs)) ≡ cond (b x) (x ∷ filter b xs) (filter b xs)
-    by true is rest = ap (λ c. cond c (x ∷ filter a (filter test xs)) (filter a (filter test xs))) (h.0.0 is) ∙ ap (λ (l : List Entry). cond (b x) (x ∷ l) l) rest
-    by false is rest = rest ∙ sym (cond-false (b x) (x ∷ filter b xs) (filter b xs) (h.0.1 is))
+filter_same test a b (x ∷ xs) h = grind (arith, cond-false, (filter_same test a b xs h.1))
 
 at_one : (P : Entry → Type 0) (front : List Entry) (x : Entry) (back : List Entry) → AllByRecursion P (front ++ x ∷ back) → P x
 at_one P [] x back h = h.0
@@ -83,10 +73,7 @@ at_one P (y ∷ front) x back h = at_one P front x back h.1
 
 update_is_no_begin : (rec : LogRecord) → is_update rec ≡ true → is_begin rec ≡ false
 update_is_no_begin Begin h = absurd (true≢false (sym h))
-update_is_no_begin (Update txn prev page slot before after) h = refl
-update_is_no_begin (Clr txn prev undo_next page slot after) h = refl
-update_is_no_begin (Commit txn number) h = refl
-update_is_no_begin (End txn) h = refl
+update_is_no_begin _ h = refl
 
 -- a conjunction that fails where its first part holds
 second_fails : (a c : Bool) → a ≡ true → (a && not c) ≡ false → c ≡ true
@@ -96,9 +83,7 @@ second_fails false c is h = absurd (true≢false (sym is))
 
 -- nothing of a closed transaction remains
 none_of_closed : (records : List Entry) (x : Entry) → is_closed records (txn_of x) ≡ true → remains_in records x ≡ false
-none_of_closed records x closed =
-    ap (λ b. is_update x.rec && not b && list_any (λ u. u.lsn == x.lsn) (left_open records (txn_of x))) closed
-    ∙ ap (λ b. b && list_any (λ u. u.lsn == x.lsn) (left_open records (txn_of x))) (and_false (is_update x.rec))
+none_of_closed records x closed = grind (arith, and_false)
 
 module _ (p : LogicalImage) (sound : IsSound p) (x : Entry) (at : IsIn p.log x) where
   -- of a loser
@@ -110,9 +95,7 @@ module _ (p : LogicalImage) (sound : IsSound p) (x : Entry) (at : IsIn p.log x) 
     open_there_too = false_from_ne_true (is_closed (taken p) (txn_of x)) (λ h. true≢false (sym (any_chosen (λ y. is_of (txn_of x) y && is_closing y.rec) (is_taken p.master) p.log h) ∙ open_still p sound (txn_of x) loser))
 
     remains_same : remains_in (taken p) x ≡ remains_in p.log x
-    remains_same =
-        ap (λ b. is_update x.rec && not b && list_any (λ u. u.lsn == x.lsn) (left_open (taken p) (txn_of x))) (open_there_too ∙ sym (open_still p sound (txn_of x) loser))
-        ∙ ap (λ (es : List Entry). is_update x.rec && not (is_closed p.log (txn_of x)) && list_any (λ u. u.lsn == x.lsn) (open_updates [] es)) (entries_taken p sound (txn_of x) loser)
+    remains_same = grind (arith, open_there_too, open_still, entries_taken)
 
   -- of another transaction
   module _ (none : is_loser p.log (txn_of x) ≡ false) where
@@ -140,12 +123,7 @@ module _ (p : LogicalImage) (sound : IsSound p) (x : Entry) (at : IsIn p.log x) 
         by (inr named) = or_left (is_named p.master.active (txn_of x)) (has_begun (taken p) (txn_of x)) named
 
     none_taken : is_taken p.master x ≡ true → remains_in (taken p) x ≡ false
-    none_taken here = by (is_update x.rec) refl
-      where
-        by : (b : Bool) → is_update x.rec ≡ b → remains_in (taken p) x ≡ false
-        by true update =
-            none_of_closed (taken p) x (second_fails (is_known p.master.active (taken p) (txn_of x)) (is_closed (taken p) (txn_of x)) (known_taken here update) (taken_is_loser p (txn_of x) sound ∙ none))
-        by false update = ap (λ b. b && not (is_closed (taken p) (txn_of x)) && list_any (λ u. u.lsn == x.lsn) (left_open (taken p) (txn_of x))) update
+    none_taken here = grind (arith, none_of_closed, second_fails, known_taken, taken_is_loser)
 
   each_remains : (b : Bool) → is_loser p.log (txn_of x) ≡ b → (is_taken p.master x ≡ true → remains_in (taken p) x ≡ remains_in p.log x) × (is_taken p.master x ≡ false → remains_in p.log x ≡ false)
   each_remains true loser = ((λ here. remains_same loser), (λ gone. absurd (true≢false (sym (is_there loser) ∙ gone))))

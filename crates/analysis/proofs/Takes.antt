@@ -1,12 +1,13 @@
 -- The unfinished transactions of a sound log, and its commits, by what a restart takes of it.
-use Rattle.std.proofs.Common.{◌≡◌, ◌⊎◌, inl, inr, ℕ, ◌+◌, ◌*◌, ◌<◌, ◌≤◌, ◌==◌, ◌&&◌, ◌||◌, not, Bool, true, false, cond, nat_lt, nat_le, List, [], ◌∷◌, length, drop, Option, Some, None, refl, sym, ap, subst, ◌∙◌, arith, true≢false}
+use Rattle.std.proofs.lemmas.Grind.{common_steps}
+use Rattle.std.proofs.Common.{◌≡◌, ◌⊎◌, inl, inr, ℕ, ◌+◌, ◌*◌, ◌<◌, ◌≤◌, ◌==◌, ◌&&◌, ◌||◌, not, Bool, true, false, nat_lt, nat_le, List, [], ◌∷◌, length, drop, Some, refl, sym, ap, subst, ◌∙◌, arith, true≢false}
 use Rattle.std.specs.Prelude.{filter}
 use Rattle.std.specs.List.{list_any, AllByRecursion}
-use Rattle.std.proofs.lemmas.Bool.{cond-true, cond-false, eqb-true, eq-eqb, and_parts, lt-ltb, leb-true, leb-false, le-leb, cases_lt, or_left, or_right, or_cases, false_from_ne_true, and_from}
+use Rattle.std.proofs.lemmas.Bool.{eqb-true, eq-eqb, and_parts, lt-ltb, leb-true, leb-false, le-leb, cases_lt, or_left, or_right, or_cases, false_from_ne_true, and_from}
 use Rattle.std.proofs.lemmas.Option.{none-some}
 use Rattle.std_lemmas.proofs.AllOf.{all_filter_passed}
 use Rattle.log_records.specs.declared.log_record.LogRecord.{LogRecord}
-use Rattle.log_records.specs.declared.log_record.LogRecord.TheVariants.{Begin, Update, Clr, Commit, End}
+use Rattle.log_records.specs.declared.log_record.LogRecord.TheVariants.{Begin, Commit}
 use Rattle.log_records.specs.Log.{Entry, txn_of, is_of, is_closing, is_closed, entries_of, is_loser}
 use Rattle.log_records.specs.Unfinished.{is_begin}
 use Rattle.log_records.specs.Sound.{Master, LogicalImage, IsSound, IsInOrder, IsLoserChain, is_known, before_block, commit_number, commit_number_by, commit_numbers}
@@ -22,12 +23,7 @@ use Rattle.analysis.proofs.Taking.{any_chosen, HasOne, one_of, begin_of, named_i
 -- of what is chosen all holds, so of all it holds where it is chosen
 chosen_all : (P : Entry → Type 0) (q : Entry → Bool) (xs : List Entry) → AllByRecursion P (filter q xs) → AllByRecursion (λ x. q x ≡ true → P x) xs
 chosen_all P q [] h = tt
-chosen_all P q (x ∷ xs) h = by (q x) refl h (chosen_all P q xs)
-  where
-    by : (b : Bool) → q x ≡ b → AllByRecursion P (cond b (x ∷ filter q xs) (filter q xs)) → (AllByRecursion P (filter q xs) → AllByRecursion (λ y. q y ≡ true → P y) xs) →
-        (q x ≡ true → P x) × AllByRecursion (λ y. q y ≡ true → P y) xs
-    by true is h rest = ((λ here. h.0), rest h.1)
-    by false is h rest = ((λ here. absurd (true≢false (sym here ∙ is))), rest h)
+chosen_all P q (x ∷ xs) h = grind (arith, (chosen_all P q xs))
 
 pub all_map : (P Q : Entry → Type 0) → ((x : Entry) → P x → Q x) → (xs : List Entry) → AllByRecursion P xs → AllByRecursion Q xs
 all_map P Q f [] h = tt
@@ -36,57 +32,21 @@ all_map P Q f (x ∷ xs) h = (f x h.0, all_map P Q f xs h.1)
 -- a choice that takes all that passes a test
 any_kept : (q test : Entry → Bool) (xs : List Entry) → AllByRecursion (λ x. q x ≡ true → test x ≡ true) xs → list_any q xs ≡ true → list_any q (filter test xs) ≡ true
 any_kept q test [] all h = h
-any_kept q test (x ∷ xs) all h = by (test x) refl (or_cases (q x) (list_any q xs) h) (any_kept q test xs all.1)
-  where
-    by : (b : Bool) → test x ≡ b → (q x ≡ true) ⊎ (list_any q xs ≡ true) → (list_any q xs ≡ true → list_any q (filter test xs) ≡ true) → list_any q (cond b (x ∷ filter test xs) (filter test xs)) ≡ true
-    by true is (inl here) rest = or_left (q x) (list_any q (filter test xs)) here
-    by true is (inr later) rest = or_right (q x) (list_any q (filter test xs)) (rest later)
-    by false is (inl here) rest = absurd (true≢false (sym (all.0 here) ∙ is))
-    by false is (inr later) rest = rest later
+any_kept q test (x ∷ xs) all h = grind (arith, common_steps, (any_kept q test xs all.1))
 
 filter_kept : (q test : Entry → Bool) (xs : List Entry) → AllByRecursion (λ x. q x ≡ true → test x ≡ true) xs → filter q (filter test xs) ≡ filter q xs
 filter_kept q test [] all = refl
-filter_kept q test (x ∷ xs) all = by (test x) (q x) refl refl (filter_kept q test xs all.1)
-  where
-    by : (b a : Bool) → test x ≡ b → q x ≡ a → filter q (filter test xs) ≡ filter q xs → filter q (cond b (x ∷ filter test xs) (filter test xs)) ≡ cond a (x ∷ filter q xs) (filter q xs)
-    by true true is passes rest = cond-true (q x) (x ∷ filter q (filter test xs)) (filter q (filter test xs)) passes ∙ ap (λ (l : List Entry). x ∷ l) rest
-    by true false is passes rest = cond-false (q x) (x ∷ filter q (filter test xs)) (filter q (filter test xs)) passes ∙ rest
-    by false true is passes rest = absurd (true≢false (sym (all.0 passes) ∙ is))
-    by false false is passes rest = rest
+filter_kept q test (x ∷ xs) all = grind (arith, common_steps, (filter_kept q test xs all.1))
 
 -- one that passes and isn't chosen
 any_lost : (P : Entry → Type 0) (q test : Entry → Bool) (xs : List Entry) → AllByRecursion P xs → list_any q xs ≡ true → list_any q (filter test xs) ≡ false → HasOne (λ x. P x × (test x ≡ false)) q
 any_lost P q test [] all h none = absurd (true≢false (sym h))
-any_lost P q test (x ∷ xs) all h none = by (test x) refl (or_cases (q x) (list_any q xs) h) none (any_lost P q test xs all.1)
-  where
-    or_false_left : (a b : Bool) → (a || b) ≡ false → a ≡ false
-    or_false_left true b h = h
-    or_false_left false b h = refl
-
-    or_false_right : (a b : Bool) → (a || b) ≡ false → b ≡ false
-    or_false_right true b h = absurd (true≢false h)
-    or_false_right false b h = h
-
-    by : (b : Bool) → test x ≡ b → (q x ≡ true) ⊎ (list_any q xs ≡ true) → list_any q (cond b (x ∷ filter test xs) (filter test xs)) ≡ false →
-        (list_any q xs ≡ true → list_any q (filter test xs) ≡ false → HasOne (λ y. P y × (test y ≡ false)) q) → HasOne (λ y. P y × (test y ≡ false)) q
-    by true is (inl here) none rest = absurd (true≢false (sym here ∙ or_false_left (q x) (list_any q (filter test xs)) none))
-    by true is (inr later) none rest = rest later (or_false_right (q x) (list_any q (filter test xs)) none)
-    by false is (inl here) none rest = record { x = x; holds = (all.0, is); passes = here }
-    by false is (inr later) none rest = rest later none
+any_lost P q test (x ∷ xs) all h none = grind (arith, or_cases, (any_lost P q test xs all.1))
 
 -- none passes of those that are chosen
 none_chosen : (q test : Entry → Bool) (xs : List Entry) → list_any q (filter test xs) ≡ false → AllByRecursion (λ x. test x ≡ true → q x ≡ false) xs
 none_chosen q test [] h = tt
-none_chosen q test (x ∷ xs) h = by (test x) refl h (none_chosen q test xs)
-  where
-    either_false : (a b : Bool) → (a || b) ≡ false → (a ≡ false) × (b ≡ false)
-    either_false true b h = absurd (true≢false h)
-    either_false false b h = (refl, h)
-
-    by : (b : Bool) → test x ≡ b → list_any q (cond b (x ∷ filter test xs) (filter test xs)) ≡ false → (list_any q (filter test xs) ≡ false → AllByRecursion (λ y. test y ≡ true → q y ≡ false) xs) →
-        (test x ≡ true → q x ≡ false) × AllByRecursion (λ y. test y ≡ true → q y ≡ false) xs
-    by true is h rest = let both = either_false (q x) (list_any q (filter test xs)) h in ((λ here. both.0), rest both.1)
-    by false is h rest = ((λ here. absurd (true≢false (sym here ∙ is))), rest h)
+none_chosen q test (x ∷ xs) h = grind (arith, (none_chosen q test xs))
 
 -- what holds of each record for every number holds for its own transaction
 pub each_own : (P : ℕ → Entry → Type 0) (xs : List Entry) → ((t : ℕ) → AllByRecursion (P t) xs) → AllByRecursion (λ x. P (txn_of x) x) xs
@@ -98,9 +58,7 @@ given_all A P [] h = tt
 given_all A P (x ∷ xs) h = ((λ a. (h a).0), given_all A P xs (λ a. (h a).1))
 
 pub own_begin : (t : ℕ) (x : Entry) → begins_as t x ≡ true → is_of t x ≡ true
-own_begin t x h =
-    let parts = and_parts (is_begin x.rec) (x.lsn == t) h in
-    eq-eqb (txn_of x) t (begin_of x.rec x.lsn parts.0 ∙ eqb-true x.lsn t parts.1)
+own_begin t x h = grind (arith, common_steps)
 
 pub own_any : (t : ℕ) (xs : List Entry) → list_any (begins_as t) xs ≡ true → list_any (is_of t) xs ≡ true
 own_any t [] h = h
@@ -223,39 +181,17 @@ pub taken_entries : TakenEntries
 taken_entries p t sound loser = entries_taken p sound t loser
 
 pub taken_is_loser : TakenIsLoser
-taken_is_loser p t sound = by (is_active p.master.active (taken p) t) (is_loser p.log t) refl refl
-  where
-    by : (a b : Bool) → is_active p.master.active (taken p) t ≡ a → is_loser p.log t ≡ b → is_active p.master.active (taken p) t ≡ is_loser p.log t
-    by true true is loser = is ∙ sym loser
-    by true false is loser = absurd (true≢false (sym (active_loser p sound t is) ∙ loser))
-    by false true is loser = absurd (true≢false (sym (loser_active p sound t loser) ∙ is))
-    by false false is loser = is ∙ sym loser
+taken_is_loser p t sound = grind (arith, active_loser, loser_active)
 
 -- Commits.
 
 commit_closes : (rec : LogRecord) (n : ℕ) → commit_number_by rec ≡ Some n → is_closing rec ≡ true
-commit_closes Begin n h = absurd (none-some n h)
-commit_closes (Update txn prev page slot before after) n h = absurd (none-some n h)
-commit_closes (Clr txn prev undo_next page slot after) n h = absurd (none-some n h)
 commit_closes (Commit txn number) n h = refl
-commit_closes (End txn) n h = absurd (none-some n h)
+commit_closes _ n h = absurd (none-some n h)
 
 same_commits : (a b : Entry → Bool) (xs : List Entry) → AllByRecursion (λ x. (n : ℕ) → commit_number x ≡ Some n → a x ≡ b x) xs → commit_numbers (filter a xs) ≡ commit_numbers (filter b xs)
 same_commits a b [] h = refl
-same_commits a b (x ∷ xs) h = by (a x) (b x) (commit_number x) refl refl refl (same_commits a b xs h.1)
-  where
-    put : Option ℕ → List ℕ → List ℕ
-    put None l = l
-    put (Some n) l = n ∷ l
-
-    by : (p q : Bool) (o : Option ℕ) → a x ≡ p → b x ≡ q → commit_number x ≡ o → commit_numbers (filter a xs) ≡ commit_numbers (filter b xs) →
-        commit_numbers (cond p (x ∷ filter a xs) (filter a xs)) ≡ commit_numbers (cond q (x ∷ filter b xs) (filter b xs))
-    by true true o here there is rest = ap (put (commit_number x)) rest
-    by true false None here there is rest = ap (λ (o : Option ℕ). put o (commit_numbers (filter a xs))) is ∙ rest
-    by true false (Some n) here there is rest = absurd (true≢false (sym here ∙ h.0 n is ∙ there))
-    by false true None here there is rest = rest ∙ sym (ap (λ (o : Option ℕ). put o (commit_numbers (filter b xs))) is)
-    by false true (Some n) here there is rest = absurd (true≢false (sym there ∙ sym (h.0 n is) ∙ here))
-    by false false o here there is rest = rest
+same_commits a b (x ∷ xs) h = grind (arith, (same_commits a b xs h.1))
 
 module _ (p : LogicalImage) (sound : IsSound p) where
   -- a record before the redo block of a transaction that wasn't closed there doesn't close it

@@ -1,12 +1,13 @@
 -- The records that a restart takes of a sound log.
+use Rattle.std.proofs.lemmas.Grind.{common_steps}
 use Rattle.std.proofs.Common.{◌≡◌, ◌⊎◌, inl, inr, ℕ, ◌+◌, ◌*◌, ◌<◌, ◌≤◌, ◌==◌, ◌&&◌, ◌||◌, not, Bool, true, false, cond, nat_lt, nat_le, List, [], ◌∷◌, ◌++◌, length, map, refl, sym, ap, subst, ◌∙◌, arith, append_assoc, append-nil, true≢false}
 use Rattle.std.specs.Prelude.{filter}
 use Rattle.std.specs.List.{list_any, AllByRecursion}
-use Rattle.std.proofs.lemmas.Bool.{cond-true, cond-false, eqb-true, eq-eqb, and_parts, ltb-true, lt-ltb, leb-true, cases_lt, or_left, or_right, or_cases, false_from_ne_true, and_from}
+use Rattle.std.proofs.lemmas.Bool.{cond-true, cond-false, eqb-true, eq-eqb, and_parts, lt-ltb, leb-true, cases_lt, or_left, or_right, or_cases, false_from_ne_true, and_from}
 use Rattle.std_lemmas.proofs.AllOf.{all_push, all_filter_passed}
 use Rattle.std.proofs.lemmas.List.Elements.{filter-append}
 use Rattle.log_records.specs.declared.log_record.LogRecord.{LogRecord}
-use Rattle.log_records.specs.declared.log_record.LogRecord.TheVariants.{Begin, Update, Clr, Commit, End}
+use Rattle.log_records.specs.declared.log_record.LogRecord.TheVariants.{Begin}
 use Rattle.log_records.specs.Log.{Entry, txn_of, txn_by, is_of, is_closing, is_closed, entries_of}
 use Rattle.log_records.specs.Unfinished.{is_begin, losers}
 use Rattle.log_records.specs.Sound.{Active, Master, LogicalImage, IsSound, IsInOrder, IsOfOpenTransaction, InTurn, is_known, before_block, from_block, last_lsn}
@@ -22,23 +23,12 @@ use Rattle.log_records.proofs.Entries.{closing_is_no_begin, in_order_least}
 -- what passes a test in chosen items passes it in all
 pub any_chosen : (q test : Entry → Bool) (xs : List Entry) → list_any q (filter test xs) ≡ true → list_any q xs ≡ true
 any_chosen q test [] h = h
-any_chosen q test (x ∷ xs) h = by (test x) h (any_chosen q test xs)
-  where
-    by : (b : Bool) → list_any q (cond b (x ∷ filter test xs) (filter test xs)) ≡ true → (list_any q (filter test xs) ≡ true → list_any q xs ≡ true) → (q x || list_any q xs) ≡ true
-    by true h rest = elim (or_cases (q x) (list_any q (filter test xs)) h) [ inl here ↦ or_left (q x) (list_any q xs) here | inr later ↦ or_right (q x) (list_any q xs) (rest later) ]
-    by false h rest = or_right (q x) (list_any q xs) (rest h)
+any_chosen q test (x ∷ xs) h = grind (arith, common_steps, (any_chosen q test xs))
 
 -- and in more chosen items
 any_more_chosen : (q first second : Entry → Bool) → ((x : Entry) → first x ≡ true → second x ≡ true) → (xs : List Entry) → list_any q (filter first xs) ≡ true → list_any q (filter second xs) ≡ true
 any_more_chosen q first second more [] h = h
-any_more_chosen q first second more (x ∷ xs) h = by (first x) (second x) (more x) h (any_more_chosen q first second more xs)
-  where
-    by : (a b : Bool) → (a ≡ true → b ≡ true) → list_any q (cond a (x ∷ filter first xs) (filter first xs)) ≡ true → (list_any q (filter first xs) ≡ true → list_any q (filter second xs) ≡ true) →
-        list_any q (cond b (x ∷ filter second xs) (filter second xs)) ≡ true
-    by true true more h rest = elim (or_cases (q x) (list_any q (filter first xs)) h) [ inl here ↦ or_left (q x) (list_any q (filter second xs)) here | inr later ↦ or_right (q x) (list_any q (filter second xs)) (rest later) ]
-    by true false more h rest = absurd (true≢false (sym (more refl)))
-    by false true more h rest = or_right (q x) (list_any q (filter second xs)) (rest h)
-    by false false more h rest = rest h
+any_more_chosen q first second more (x ∷ xs) h = grind (arith, common_steps, (any_more_chosen q first second more xs))
 
 pub any_left : (q : Entry → Bool) (xs ys : List Entry) → list_any q xs ≡ true → list_any q (xs ++ ys) ≡ true
 any_left q [] ys h = absurd (true≢false (sym h))
@@ -123,22 +113,12 @@ in_turn_at P acc (x ∷ front) e back h = subst (λ (l : List Entry). P l e) (ap
 
 begun_below : (n t : ℕ) (xs : List Entry) → list_any (begins_as t) (filter (λ x. nat_lt x.lsn n) xs) ≡ true → t < n
 begun_below n t [] h = absurd (true≢false (sym h))
-begun_below n t (x ∷ xs) h = by (nat_lt x.lsn n) refl h (begun_below n t xs)
-  where
-    by : (b : Bool) → nat_lt x.lsn n ≡ b → list_any (begins_as t) (cond b (x ∷ filter (λ y. nat_lt y.lsn n) xs) (filter (λ y. nat_lt y.lsn n) xs)) ≡ true → (list_any (begins_as t) (filter (λ y. nat_lt y.lsn n) xs) ≡ true → t < n) → t < n
-    by true is h rest = elim (or_cases (begins_as t x) (list_any (begins_as t) (filter (λ y. nat_lt y.lsn n) xs)) h) [
-      | inl here ↦ let same = eqb-true x.lsn t (and_parts (is_begin x.rec) (x.lsn == t) here).1 in let less = ltb-true x.lsn n is in omega (arith, same, less)
-      | inr later ↦ rest later
-    ]
-    by false is h rest = rest h
+begun_below n t (x ∷ xs) h = grind (arith, common_steps, (begun_below n t xs))
 
 -- a Begin is of the transaction that it begins
 pub begin_of : (rec : LogRecord) (lsn : ℕ) → is_begin rec ≡ true → txn_by lsn rec ≡ lsn
 begin_of Begin lsn h = refl
-begin_of (Update txn prev page slot before after) lsn h = absurd (true≢false (sym h))
-begin_of (Clr txn prev undo_next page slot after) lsn h = absurd (true≢false (sym h))
-begin_of (Commit txn number) lsn h = absurd (true≢false (sym h))
-begin_of (End txn) lsn h = absurd (true≢false (sym h))
+begin_of _ lsn h = absurd (true≢false (sym h))
 
 -- Whom the master names.
 
@@ -208,16 +188,7 @@ module _ (p : LogicalImage) (sound : IsSound p) where
 
     -- from the redo block on
     pub active_new : 512 * m.redo ≤ e.lsn → is_begin e.rec ≡ false → is_active m.active (filter (is_taken m) front) (txn_of e) ≡ true
-    active_new late other =
-        let lives = open_there late other in
-        let t = txn_of e in
-        let known : is_known m.active (filter (is_taken m) front) t ≡ true = by_known (or_cases (is_named m.active t) (has_begun (from_block m.redo front) t) lives.known) in
-        and_from (is_known m.active (filter (is_taken m) front) t) (not (is_closed (filter (is_taken m) front) t)) known (ap not (not_closed_taken t lives.not_closed))
-      where
-        by_known : (is_named m.active (txn_of e) ≡ true) ⊎ (has_begun (from_block m.redo front) (txn_of e) ≡ true) → is_known m.active (filter (is_taken m) front) (txn_of e) ≡ true
-        by_known (inl named) = or_left (is_named m.active (txn_of e)) (has_begun (filter (is_taken m) front) (txn_of e)) named
-        by_known (inr begun) = or_right (is_named m.active (txn_of e)) (has_begun (filter (is_taken m) front) (txn_of e))
-            (any_more_chosen (begins_as (txn_of e)) (λ x. nat_le (512 * m.redo) x.lsn) (is_taken m) (λ x first. or_left (nat_le (512 * m.redo) x.lsn) (is_named m.active (txn_of x)) first) front begun)
+    active_new late other = grind (arith, open_there, or_cases, and_from, not_closed_taken, or_left, or_right, any_more_chosen, nat_le)
 
     -- a Begin from there on: nothing taken before it closes its transaction
     module _ (late : 512 * m.redo ≤ e.lsn) where
@@ -240,28 +211,7 @@ module _ (p : LogicalImage) (sound : IsSound p) where
       all_in_front acc (x ∷ xs) turns low h = (record { before = acc; low = low; lives = turns.0 }, all_in_front (acc ++ x ∷ []) xs turns.1 (all_push (λ y. y.lsn < e.lsn) acc x low h.0) h.1)
 
       not_closing : (x : Entry) → IsInFront x → is_taken m x ≡ true → (is_of e.lsn x && is_closing x.rec) ≡ true → ⊥
-      not_closing x in_it here closes = by_place (cases_lt x.lsn (512 * m.redo))
-        where
-          own : txn_of x ≡ e.lsn
-          own = eqb-true (txn_of x) e.lsn (and_parts (is_of e.lsn x) (is_closing x.rec) closes).0
-
-          other : is_begin x.rec ≡ false
-          other = closing_is_no_begin x.rec (and_parts (is_of e.lsn x) (is_closing x.rec) closes).1
-
-          named_so : is_named m.active (txn_of x) ≡ true → ⊥
-          named_so named = not_named (ap (is_named m.active) (sym own) ∙ named)
-
-          by_known : (is_named m.active (txn_of x) ≡ true) ⊎ (has_begun (from_block m.redo in_it.before) (txn_of x) ≡ true) → ⊥
-          by_known (inl named) = named_so named
-          by_known (inr begun) = not_begun in_it.before in_it.low (ap (has_begun (from_block m.redo in_it.before)) (sym own) ∙ begun)
-
-          by_taken : x.lsn < 512 * m.redo → (nat_le (512 * m.redo) x.lsn ≡ true) ⊎ (is_named m.active (txn_of x) ≡ true) → ⊥
-          by_taken less (inl high) = let above = leb-true (512 * m.redo) x.lsn high in omega (arith, above, less)
-          by_taken less (inr named) = named_so named
-
-          by_place : (x.lsn < 512 * m.redo) ⊎ (512 * m.redo ≤ x.lsn) → ⊥
-          by_place (inl less) = by_taken less (or_cases (nat_le (512 * m.redo) x.lsn) (is_named m.active (txn_of x)) here)
-          by_place (inr high) = by_known (or_cases (is_named m.active (txn_of x)) (has_begun (from_block m.redo in_it.before) (txn_of x)) (in_it.lives high other).known)
+      not_closing x in_it here closes = grind (arith, cases_lt, eqb-true, and_parts, closing_is_no_begin, not_named, not_begun, nat_le, leb-true, or_cases)
 
       fresh_new : is_closed (filter (is_taken m) front) e.lsn ≡ false
       fresh_new = false_from_ne_true (is_closed (filter (is_taken m) front) e.lsn) (λ h.
@@ -270,13 +220,7 @@ module _ (p : LogicalImage) (sound : IsSound p) where
           not_closing one.x one.holds.0 one.holds.1 one.passes)
 
     step_there : is_taken m e ≡ true → Steps m.active (filter (is_taken m) front) e
-    step_there here = elim (cases_lt e.lsn (512 * m.redo)) [
-      | inl less ↦ step_old less here
-      | inr late ↦ record {
-        comes = λ begin. ap (is_closed (filter (is_taken m) front)) (begin_of e.rec e.lsn begin) ∙ fresh_new late;
-        active = active_new late;
-      }
-    ]
+    step_there here = grind (arith, cases_lt, step_old, begin_of, fresh_new, active_new)
 
 pub steps_on : StepsOn
 steps_on p earlier e rest sound split =
@@ -290,17 +234,7 @@ taken_in_order p sound = order_filter (is_taken p.master) (512 * p.master.kept) 
 
 begun_taken : (m : Master) (t : ℕ) → is_named m.active t ≡ true → (xs : List Entry) → has_begun xs t ≡ true → has_begun (filter (is_taken m) xs) t ≡ true
 begun_taken m t named [] h = h
-begun_taken m t named (x ∷ xs) h = by (is_taken m x) refl (or_cases (begins_as t x) (list_any (begins_as t) xs) h) (begun_taken m t named xs)
-  where
-    by : (b : Bool) → is_taken m x ≡ b → (begins_as t x ≡ true) ⊎ (list_any (begins_as t) xs ≡ true) → (has_begun xs t ≡ true → has_begun (filter (is_taken m) xs) t ≡ true) →
-        has_begun (cond b (x ∷ filter (is_taken m) xs) (filter (is_taken m) xs)) t ≡ true
-    by true is (inl here) rest = or_left (begins_as t x) (has_begun (filter (is_taken m) xs) t) here
-    by true is (inr later) rest = or_right (begins_as t x) (has_begun (filter (is_taken m) xs) t) (rest later)
-    by false is (inr later) rest = rest later
-    by false is (inl here) rest =
-        let parts = and_parts (is_begin x.rec) (x.lsn == t) here in
-        let own : txn_of x ≡ t = begin_of x.rec x.lsn parts.0 ∙ eqb-true x.lsn t parts.1 in
-        absurd (true≢false (sym (or_right (nat_le (512 * m.redo) x.lsn) (is_named m.active (txn_of x)) (ap (is_named m.active) own ∙ named)) ∙ is))
+begun_taken m t named (x ∷ xs) h = grind (arith, common_steps, (begun_taken m t named xs))
 
 pub taken_begin : TakenBegin
 taken_begin p sound = each p.master.active (λ t named. begun_taken p.master t named p.log (any_chosen (begins_as t) (λ x. nat_lt x.lsn (512 * p.master.redo)) p.log (named_parts p sound t named).begun))

@@ -1,12 +1,13 @@
 -- One list of the active transactions, and that it is the list of the unfinished ones.
-use Rattle.std.proofs.Common.{◌≡◌, ◌≢◌, ◌⊎◌, inl, inr, ℕ, ◌+◌, ◌<◌, ◌==◌, ◌&&◌, ◌||◌, not, Bool, true, false, cond, List, [], ◌∷◌, map, Some, None, refl, sym, ap, subst, ◌∙◌, arith}
+use Rattle.std.proofs.lemmas.Grind.{common_steps}
+use Rattle.std.proofs.Common.{◌≡◌, ◌≢◌, ◌⊎◌, inl, inr, ℕ, ◌+◌, ◌<◌, ◌==◌, ◌&&◌, not, Bool, true, cond, List, [], ◌∷◌, map, Some, None, refl, sym, ap, subst, ◌∙◌, arith}
 use Rattle.std.specs.Prelude.{filter, fold}
 use Rattle.std.proofs.lemmas.List.{length-map}
 use Rattle.std.specs.List.{list_any}
 use Rattle.std.proofs.lemmas.Bool.{cases_eq, cases_lt, eqb-true}
 use Rattle.std.proofs.lemmas.Option.{none-some, same_Some}
 use Rattle.log_records.specs.Log.{Entry, is_closed}
-use Rattle.log_records.specs.Unfinished.{is_begin, left_open, losers, owed_by}
+use Rattle.log_records.specs.Unfinished.{is_begin, losers, owed_by}
 use Rattle.log_records.specs.Sound.{Active, IsInOrder, is_known}
 use Rattle.analysis.specs.Open.{Open, found_in, AscendFrom, owed_one}
 use Rattle.analysis.specs.Read.{open_at}
@@ -47,22 +48,11 @@ one_table named records a b first second = same_tables 0 a b first.ascend second
 
 -- whom a master names has begun
 named_begun : (named : List Active) (records : List Entry) (t : ℕ) → HaveBegun named records → list_any (λ a. a.begin == t) named ≡ true → has_begun records t ≡ true
-named_begun [] records t begun h = absurd (not_both h)
-  where
-    not_both : false ≡ true → ⊥
-    not_both e = cc
-named_begun (a ∷ named) records t begun h = by (a.begin == t) refl h (named_begun named records t begun.1)
-  where
-    by : (b : Bool) → (a.begin == t) ≡ b → (b || list_any (λ (x : Active). x.begin == t) named) ≡ true → (list_any (λ (x : Active). x.begin == t) named ≡ true → has_begun records t ≡ true) → has_begun records t ≡ true
-    by true is h rest = subst (λ n. has_begun records n ≡ true) (eqb-true a.begin t is) begun.0
-    by false is h rest = rest h
+named_begun [] records t begun h = grind arith
+named_begun (a ∷ named) records t begun h = grind (arith, eqb-true, (named_begun named records t begun.1))
 
 known_is : (named : List Active) (records : List Entry) (t : ℕ) → HaveBegun named records → is_known named records t ≡ has_begun records t
-known_is named records t begun = by (list_any (λ (a : Active). a.begin == t) named) refl
-  where
-    by : (b : Bool) → list_any (λ (a : Active). a.begin == t) named ≡ b → is_known named records t ≡ has_begun records t
-    by true is = ap (λ b. b || has_begun records t) is ∙ sym (named_begun named records t begun is)
-    by false is = ap (λ b. b || has_begun records t) is
+known_is named records t begun = grind (arith, named_begun)
 
 abbrev pub lives_in : List Entry → Entry → Bool
 lives_in records e = is_begin e.rec && not (is_closed records e.lsn)
@@ -70,46 +60,16 @@ lives_in records e = is_begin e.rec && not (is_closed records e.lsn)
 abbrev pub begins_as : ℕ → Entry → Bool
 begins_as t e = is_begin e.rec && (e.lsn == t)
 
-listed_by : (begins lives same open_still later among : Bool) → (same ≡ true → lives ≡ open_still) → among ≡ (later && open_still) →
-    cond (begins && lives) (same || among) among ≡ (((begins && same) || later) && open_still)
-listed_by true true true open_still later among here rest = here refl
-listed_by true true false open_still later among here rest = rest
-listed_by true false true open_still later among here rest = rest ∙ ap (λ b. later && b) (sym (here refl)) ∙ and_false later ∙ here refl
-  where
-    and_false : (b : Bool) → (b && false) ≡ false
-    and_false true = refl
-    and_false false = refl
-listed_by true false false open_still later among here rest = rest
-listed_by false lives same open_still later among here rest = rest
-
-any_chosen : (b : Bool) (x t : ℕ) (ms : List ℕ) → list_any (λ s. s == t) (cond b (x ∷ ms) ms) ≡ cond b ((x == t) || list_any (λ s. s == t) ms) (list_any (λ s. s == t) ms)
-any_chosen true x t ms = refl
-any_chosen false x t ms = refl
-
-map_chosen : (b : Bool) (x : Entry) (xs : List Entry) → map (λ (e : Entry). e.lsn) (cond b (x ∷ xs) xs) ≡ cond b (x.lsn ∷ map (λ (e : Entry). e.lsn) xs) (map (λ (e : Entry). e.lsn) xs)
-map_chosen true x xs = refl
-map_chosen false x xs = refl
-
 pub listed_is : (records xs : List Entry) (t : ℕ) → list_any (λ s. s == t) (map (λ (e : Entry). e.lsn) (filter (lives_in records) xs)) ≡ (list_any (begins_as t) xs && not (is_closed records t))
 listed_is records [] t = refl
-listed_is records (x ∷ xs) t =
-    let lives = lives_in records x in
-    let rest = map (λ (e : Entry). e.lsn) (filter (lives_in records) xs) in
-    ap (list_any (λ s. s == t)) (map_chosen lives x (filter (lives_in records) xs)) ∙ any_chosen lives x.lsn t rest
-    ∙ listed_by (is_begin x.rec) (not (is_closed records x.lsn)) (x.lsn == t) (not (is_closed records t)) (list_any (begins_as t) xs) (list_any (λ s. s == t) rest)
-    (λ here. ap (λ n. not (is_closed records n)) (eqb-true x.lsn t here)) (listed_is records xs t)
+listed_is records (x ∷ xs) t = grind (arith, common_steps, (listed_is records xs t))
 
 pub active_is_unfinished : ActiveIsUnfinished
 active_is_unfinished named records t begun = ap (λ b. b && not (is_closed records t)) (known_is named records t begun) ∙ sym (listed_is records records t)
 
 found_listed : (named : List Active) (records : List Entry) (ns : List ℕ) (t : ℕ) → found_in (map (open_at named records) ns) t ≡ cond (list_any (λ s. s == t) ns) (Some (open_at named records t)) None
 found_listed named records [] t = refl
-found_listed named records (n ∷ ns) t = by (n == t) refl (found_listed named records ns t)
-  where
-    by : (b : Bool) → (n == t) ≡ b → found_in (map (open_at named records) ns) t ≡ cond (list_any (λ s. s == t) ns) (Some (open_at named records t)) None →
-        cond b (Some (open_at named records n)) (found_in (map (open_at named records) ns) t) ≡ cond (b || list_any (λ s. s == t) ns) (Some (open_at named records t)) None
-    by true is rest = ap (λ m. Some (open_at named records m)) (eqb-true n t is)
-    by false is rest = rest
+found_listed named records (n ∷ ns) t = grind (arith, eqb-true, (found_listed named records ns t))
 
 ascend_listed : (named : List Active) (records : List Entry) (from to : ℕ) (xs : List Entry) → IsInOrder from xs to → AscendFrom from (map (open_at named records) (map (λ (e : Entry). e.lsn) xs))
 ascend_listed named records from to [] order = tt
@@ -123,8 +83,7 @@ table_of_unfinished named records from to begun order = record {
 
 sums_of : (named : List Active) (records : List Entry) (ns : List ℕ) (a : ℕ) → fold (λ n x. n + owed_one x) a (map (open_at named records) ns) ≡ fold (λ n t. n + owed_by records t) a ns
 sums_of named records [] a = refl
-sums_of named records (t ∷ ns) a =
-    ap (λ k. fold (λ n x. n + owed_one x) (a + (k + 1)) (map (open_at named records) ns)) (length-map (left_open records t) (λ (u : Entry). u.lsn)) ∙ sums_of named records ns (a + owed_by records t)
+sums_of named records (t ∷ ns) a = grind (arith, length-map, (sums_of named records ns (a + owed_by records t)))
 
 pub owed_of_unfinished : OwedOfUnfinished
 owed_of_unfinished named records = sums_of named records (losers records) 0

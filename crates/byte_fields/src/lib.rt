@@ -11,7 +11,7 @@ pub use frame_head::{
     BadHead, FrameHead, HEAD_LEN, Mark, are_group_heads, read_head, read_heads, write_head,
     write_heads,
 };
-pub use laws::{group_heads, one_head, one_list};
+pub use laws::group_heads;
 
 /// The most octets that a value has.
 pub const VALUE_MAX: usize = 120;

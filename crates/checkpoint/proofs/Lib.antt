@@ -1,5 +1,5 @@
 mod Texts
 mod PairLists
-mod UnitParts
-mod Standing
+pub mod UnitParts
+pub mod Standing
 mod Saving

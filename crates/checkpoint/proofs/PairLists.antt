@@ -50,19 +50,14 @@ other_pairs octets p pairs are = record {
 }
 
 same_pair : (a b : Pair) → FitsFields a → FitsFields b → pair_spelling a ≡ pair_spelling b → a ≡ b
-same_pair a b fits other e =
-    let begin : a.begin ≡ b.begin = sym (from_be_bytes-to_be_bytes_8 a.begin fits.0) ∙ ap (λ (t : List ℕ). from_be_bytes w64 (take 8 t)) e ∙ from_be_bytes-to_be_bytes_8 b.begin other.0 in
-    let last : a.last ≡ b.last = sym (from_be_bytes-to_be_bytes_8 a.last fits.1) ∙ ap (λ (t : List ℕ). from_be_bytes w64 (drop 8 t)) e ∙ from_be_bytes-to_be_bytes_8 b.last other.1 in
-    λ i. record { begin = begin i; last = last i }
+same_pair a b fits other e = grind (arith, from_be_bytes-to_be_bytes_8)
 
 -- at most one list of so many pairs is spelled there
 pub one_list : (octets : List ℕ) (a b : List Pair) → ArePairs octets a → ArePairs octets b → length a ≡ length b → a ≡ b
 one_list octets [] [] first second size = refl
 one_list octets [] (p ∷ b) first second size = absurd (omega (arith, size))
 one_list octets (p ∷ a) [] first second size = absurd (omega (arith, size))
-one_list octets (p ∷ a) (q ∷ b) first second size =
-    ap (λ (x : Pair). x ∷ a) (same_pair p q first.fit.0 second.fit.0 (sym (first_pair octets p a first) ∙ first_pair octets q b second))
-    ∙ ap (λ (xs : List Pair). q ∷ xs) (one_list (drop 16 octets) a b (other_pairs octets p a first) (other_pairs octets q b second) (omega (arith, size)))
+one_list octets (p ∷ a) (q ∷ b) first second size = grind (arith, same_pair, first_pair, other_pairs, (one_list (drop 16 octets) a b (other_pairs octets p a first) (other_pairs octets q b second) (omega (arith, size))))
 
 -- the pairs that are spelled there are read there
 pub pairs_read : (octets : List ℕ) (pairs : List Pair) → ArePairs octets pairs → pairs_in (length pairs) octets ≡ pairs

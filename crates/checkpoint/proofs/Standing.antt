@@ -3,7 +3,7 @@ use Rattle.std.proofs.Common.{◌≡◌, ℕ, zero, suc, ◌+◌, ◌-◌, ◌*�
 use Rattle.std.specs.Option.{option_or}
 use Rattle.std.proofs.lemmas.List.{take_all, take-take, length-take}
 use Rattle.site.specs.declared.outside.Dev.TheVariants.{Log}
-use Rattle.site.specs.State.{State, Image, content_of, loose_of, IsSettled}
+use Rattle.site.specs.State.{State, Image, IsSettled}
 use Rattle.site.specs.Calls.{IsUnchanged}
 use Rattle.sealed_ring.specs.declared.slots.Shape.{Shape}
 use Rattle.sealed_ring.specs.declared.ring.Ring.{Ring}
@@ -26,11 +26,9 @@ one_newest image a b first second = one_is (newest_of (units_on master_shape ima
 
 -- the last of a list that isn't empty
 pub newest_at : (xs : List (List ℕ)) (k : ℕ) → length xs ≡ k + 1 → newest_of xs ≡ Some (get_or xs k [])
-newest_at [] k size = absurd (omega (arith, size))
 newest_at (x ∷ []) zero size = refl
-newest_at (x ∷ []) (suc k) size = absurd (omega (arith, size))
-newest_at (x ∷ y ∷ xs) zero size = absurd (omega (arith, size))
 newest_at (x ∷ y ∷ xs) (suc k) size = ap (λ (o : Option (List ℕ)). option_or o (Some x)) (newest_at (y ∷ xs) k (omega (arith, size)))
+newest_at _ _ size = absurd (omega (arith, size))
 
 newest_more : (xs : List (List ℕ)) (b : List ℕ) → newest_of (xs ++ b ∷ []) ≡ Some b
 newest_more [] b = refl
@@ -76,16 +74,7 @@ ring_newest ring site hi into shape fits same some reads =
 
 -- a ring that was found, and nothing changed since
 pub finds_still : (ring : Ring) (old mid new : State) → ring.shape ≡ master_shape → IsUnchanged old mid → IsUnchanged mid new → IsRing master_shape old.image.log → Matches ring mid → Finds ring new
-finds_still ring old mid new shape first second form fits = record {
-  form = subst (λ (s : Shape). IsRing s (region s new)) (sym shape) (subst (λ (image : Image). IsRing master_shape image.log) (sym (second.image ∙ first.image)) form);
-  hi = fits ∙ ap (λ (image : Image). hi_of ring.shape (content_of ring.shape.dev image)) (sym second.image);
-}
+finds_still ring old mid new shape first second form fits = grind arith
 
 pub ready_still : (ring : Ring) (old mid new : State) → ring.shape ≡ master_shape → IsUnchanged old mid → IsUnchanged mid new → IsSettled Log old → IsRing master_shape old.image.log → Matches ring mid → IsReady ring new
-ready_still ring old mid new shape first second settled form fits =
-    let finds = finds_still ring old mid new shape first second form fits in
-    record {
-      settled = ap (λ (s : Shape). loose_of s.dev new.loose) shape ∙ ap (loose_of Log) (second.loose ∙ first.loose) ∙ settled;
-      form = finds.form;
-      hi = finds.hi;
-    }
+ready_still ring old mid new shape first second settled form fits = grind (arith, finds_still)

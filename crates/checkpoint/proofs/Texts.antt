@@ -1,5 +1,5 @@
 -- Texts that are written over octets, one after the other, and parts of octets.
-use Rattle.std.proofs.Common.{◌≡◌, ℕ, ◌+◌, ◌<◌, ◌≤◌, List, [], ◌++◌, length, get_or, take, drop, ap, sym, ◌∙◌, arith, inl, inr, length-append}
+use Rattle.std.proofs.Common.{◌≡◌, ℕ, ◌+◌, ◌<◌, ◌≤◌, List, [], ◌++◌, length, get_or, take, drop, ap, sym, ◌∙◌, arith, length-append}
 use Rattle.std.proofs.lemmas.Bool.{cases_lt}
 use Rattle.std.proofs.lemmas.List.{take-append-drop, length-take, length-drop, get_or-take, get_or-drop, get_or_past}
 use Rattle.std_lemmas.proofs.Lists.{length_front}
@@ -12,11 +12,7 @@ pub IsBytes-drop : (n : ℕ) (octets : List ℕ) → IsBytes octets → IsBytes 
 IsBytes-drop n octets h i = rw get_or-drop (h (n + i))
 
 pub IsBytes-take : (n : ℕ) (octets : List ℕ) → IsBytes octets → IsBytes (take n octets)
-IsBytes-take n octets h i =
-    elim (cases_lt i n) [
-      | inl lt ↦ rw (get_or-take n octets i 0 lt) (h i)
-      | inr le ↦ rw (get_or_past (take n octets) i 0 (omega (arith, length-take n octets))) (omega arith)
-    ]
+IsBytes-take n octets h i = grind (arith, cases_lt, get_or-take, get_or_past, length-take)
 
 -- a text that was put at a place leaves the length
 pub length-written : {old new text : List ℕ} {at : ℕ} → Writes old new at text → length new ≡ length old

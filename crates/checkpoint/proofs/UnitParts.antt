@@ -121,6 +121,4 @@ written_unit m new writes = writes.written ∙ ap (λ n. spelling m ++ drop n (r
 
 pub length-unit : (m : Master) → length m.active ≤ 8 → length (unit m) ≡ 503
 unfolding unit
-length-unit m few =
-    let zeros = 503 - length (spelling m) in
-    omega (arith, length-append (spelling m) (replicate zeros 0), length-replicate {A = ℕ} zeros 0, length-spelling m, few)
+length-unit m few = grind (arith, length-append, length-replicate, length-spelling)

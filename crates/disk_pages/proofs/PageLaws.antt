@@ -4,7 +4,10 @@ use Rattle.std.proofs.lemmas.Bool.{cases_order}
 use Rattle.std.proofs.lemmas.List.{same_lists, get_or_default, get_or-take, get_or-drop, length-take-le, length-drop}
 use Rattle.site.specs.Laws.{length-put, put_below, put_behind, put_here}
 use Rattle.disk_pages.specs.Pages.{LiesOn, page_on, with_page}
-use Rattle.disk_pages.specs.Laws.{IsBesidePage, PageIsWritten, PageStays, OthersStay}
+use Rattle.disk_pages.specs.Laws.{IsBesidePage}
+use Rattle.disk_pages.specs.Laws.{HasWritten}
+use Rattle.std.specs.Prelude.{slice_index}
+use Rattle.std.specs.Prelude.{◌≢◌}
 
 -- a page has 4,096 octets
 pub length-page : (page : ℕ) (disk : List ℕ) → LiesOn page disk → length (page_on page disk) ≡ 4096
@@ -21,7 +24,7 @@ page_is page disk octets lies long same =
     let few : k < 4096 = omega (arith, lt, length-page page disk lies) in
     get_or_default (page_on page disk) k d 0 lt ∙ page_octet page disk k few ∙ same k few ∙ get_or_default octets k 0 d (omega (arith, few, long)))
 
-pub page_is_written : PageIsWritten
+pub page_is_written : (page : ℕ) (octets disk : List ℕ) → LiesOn page disk → length octets ≡ 4096 → HasWritten page octets disk (with_page page octets disk)
 page_is_written page octets disk lies long =
     let fits : 4096 * page + length octets ≤ length disk = omega (arith, lies, long) in
     let size = length-put disk (4096 * page) octets fits in record {
@@ -34,12 +37,14 @@ page_is_written page octets disk lies long =
     beside fits place (inl below) = put_below disk (4096 * page) octets place fits below
     beside fits place (inr behind) = put_behind disk (4096 * page) octets place fits (omega (arith, behind, long))
 
-pub page_stays : PageStays
+-- a page whose octets stay is the page that it was
+pub page_stays : (page : ℕ) (old new : List ℕ) → LiesOn page old → length new ≡ length old → ((place : ℕ) → 4096 * page ≤ place → place < 4096 * page + 4096 → slice_index new place ≡ slice_index old place) → page_on page new ≡ page_on page old
 page_stays page old new lies size same =
     page_is page new (page_on page old) (omega (arith, lies, size)) (length-page page old lies) (λ k lt.
     same (4096 * page + k) (omega arith) (omega (arith, lt)) ∙ sym (page_octet page old k lt))
 
-pub others_stay : OthersStay
+-- so is each page beside one that was written
+pub others_stay : (page other : ℕ) (octets old new : List ℕ) → other ≢ page → LiesOn other old → HasWritten page octets old new → page_on other new ≡ page_on other old
 others_stay page other octets old new ne lies w =
     page_stays other old new lies w.size (λ place from below. w.beside place (apart place from below))
   where

@@ -5,8 +5,8 @@ use Rattle.std.proofs.lemmas.List.{take_at, drop_at, length-map, length-replicat
 use Rattle.byte_fields.specs.FrameHeads.{blank, spelling_of_all, FitsFields, AreGroupHeads, present_in_front}
 use Rattle.byte_fields.proofs.HeadLists.{length_all, one_list}
 use Rattle.byte_fields.proofs.GroupHeads.{have_form}
-use Rattle.frame_group.specs.Groups.{Frame, head_of, heads_of, pages_of, group, IsFrame}
-use Rattle.frame_group.specs.Laws.{BeginsWithHeads, OneHeads}
+use Rattle.frame_group.specs.Groups.{Frame, head_of, heads_of, pages_of, group, IsFrame, IsGroup, HasHeads}
+use Rattle.byte_fields.specs.declared.frame_head.FrameHead.{FrameHead}
 
 pub length_heads : (frames : List Frame) → length frames ≤ 8 → length (heads_of frames) ≡ 8
 length_heads frames room =
@@ -39,7 +39,7 @@ heads_fit [] n are = blank_fits n
 heads_fit (frame ∷ frames) n are = (are.0.fits, heads_fit frames n are.1)
 
 -- a content begins with the heads of its frames
-pub begins_with_heads : BeginsWithHeads
+pub begins_with_heads : (content : List ℕ) (frames : List Frame) → IsGroup content frames → HasHeads content (heads_of frames)
 unfolding group
 begins_with_heads content frames is =
     let are = heads_are_group frames is.some is.room in
@@ -52,5 +52,5 @@ begins_with_heads content frames is =
       are_heads = are;
     }
 
-pub one_heads : OneHeads
+pub one_heads : (octets : List ℕ) (a b : List FrameHead) → HasHeads octets a → HasHeads octets b → a ≡ b
 one_heads octets a b first second = one_list octets a b first.at_front second.at_front (omega (arith, first.are_heads.eight, second.are_heads.eight))

@@ -6,8 +6,8 @@ use Rattle.std.proofs.lemmas.List.{take_at, drop_at, drop-drop, replicate-append
 use Rattle.byte_fields.specs.FrameHeads.{blank, spelling, spelling_of_all}
 use Rattle.byte_fields.proofs.HeadLists.{length_all}
 use Rattle.frame_group.specs.declared.group.TheConstants.{PAGE_LEN, HEADS_LEN}
-use Rattle.frame_group.specs.Groups.{Frame, heads_of, pages_of, group, IsFrame}
-use Rattle.frame_group.specs.Laws.{ZerosHaveNoFrames, PagesStand}
+use Rattle.frame_group.specs.Groups.{Frame, heads_of, pages_of, group, IsFrame, IsGroup}
+use Rattle.frame_group.specs.Laws.{ZerosHaveNoFrames}
 use Rattle.frame_group.proofs.Front.{length_heads}
 
 abbrev pub octets_of : List Frame → List ℕ
@@ -36,7 +36,7 @@ page_at size (frame ∷ frames) behind (suc i) d have less =
     ∙ ap (λ (t : List ℕ). take size (drop (size * i) t)) (drop_at frame.octets (octets_of frames ++ behind) size have.0)
     ∙ page_at size frames behind i d have.1 (omega arith)
 
-pub pages_stand : PagesStand
+pub pages_stand : (content : List ℕ) (frames : List Frame) (i : ℕ) (d : Frame) → IsGroup content frames → i < length frames → take PAGE_LEN (drop (HEADS_LEN + PAGE_LEN * i) content) ≡ (get_or frames i d).octets
 unfolding group
 pages_stand content frames i d is less =
     let heads = spelling_of_all (heads_of frames) in

@@ -1,11 +1,9 @@
 -- Laws of groups and of lists of frames.
-use Rattle.std.specs.Prelude.{◌≡◌, ◌≢◌, ℕ, ◌+◌, ◌*◌, ◌<◌, true, false, List, [], ◌∷◌, ◌++◌, length, map, flat_map}
-use Rattle.std.specs.Prelude.{take, drop, replicate, get_or, Some, None}
+use Rattle.std.specs.Prelude.{◌≡◌, ℕ, ◌+◌, true, false, List, [], ◌∷◌, ◌++◌, length, map, flat_map}
+use Rattle.std.specs.Prelude.{replicate, Some, None}
 use Rattle.std.specs.List.{AllByRecursion}
-use Rattle.std.specs.Option.{option_or}
-use Rattle.byte_fields.specs.declared.frame_head.FrameHead.{FrameHead}
-use Rattle.frame_group.specs.declared.group.TheConstants.{PAGE_LEN, HEADS_LEN, GROUP_LEN}
-use Rattle.frame_group.specs.Groups.{Frame, heads_of, group, IsGroup, HasHeads, frames_in}
+use Rattle.frame_group.specs.declared.group.TheConstants.{GROUP_LEN}
+use Rattle.frame_group.specs.Groups.{Frame, group, IsGroup, frames_in}
 use Rattle.frame_group.specs.Versions.{frames_of, last_frame, version, CleanAsDisk}
 
 -- Octets.
@@ -14,19 +12,6 @@ use Rattle.frame_group.specs.Versions.{frames_of, last_frame, version, CleanAsDi
 abbrev pub ZerosHaveNoFrames : Type 0
 ZerosHaveNoFrames = (content : List ℕ) → length content ≡ GROUP_LEN → content ≡ replicate (length content) 0
     → content ≡ group []
-
--- a group's content begins with the heads of its frames
-abbrev pub BeginsWithHeads : Type 0
-BeginsWithHeads = (content : List ℕ) (frames : List Frame) → IsGroup content frames → HasHeads content (heads_of frames)
-
--- at most one list of heads stands there
-abbrev pub OneHeads : Type 0
-OneHeads = (octets : List ℕ) (a b : List FrameHead) → HasHeads octets a → HasHeads octets b → a ≡ b
-
--- the page of each frame stands at its place
-abbrev pub PagesStand : Type 0
-PagesStand = (content : List ℕ) (frames : List Frame) (i : ℕ) (d : Frame) → IsGroup content frames → i < length frames →
-    take PAGE_LEN (drop (HEADS_LEN + PAGE_LEN * i) content) ≡ (get_or frames i d).octets
 
 -- the frames of a group are those of its content
 abbrev pub FramesAreIn : Type 0
@@ -43,26 +28,6 @@ FramesOfGroups = (groups : List (List Frame)) → AllByRecursion (λ frames. IsG
     → frames_of (map group groups) ≡ flat_map (λ frames. frames) groups
 
 -- The last frame of a page.
-
-abbrev pub LastOfBoth : Type 0
-LastOfBoth = (page : ℕ) (older newer : List Frame)
-    → last_frame page (older ++ newer) ≡ option_or (last_frame page newer) (last_frame page older)
-
--- it is a frame of the page
-abbrev pub LastIsOfPage : Type 0
-LastIsOfPage = (page : ℕ) (frames : List Frame) (frame : Frame) → last_frame page frames ≡ Some frame
-    → frame.page ≡ page
-
--- and no other one follows
-abbrev pub LastByIndex : Type 0
-LastByIndex = (page : ℕ) (frames : List Frame) (i : ℕ) (d : Frame) → i < length frames
-    → (get_or frames i d).page ≡ page →
-    ((j : ℕ) → i < j → j < length frames → (get_or frames j d).page ≢ page)
-    → last_frame page frames ≡ Some (get_or frames i d)
-
-abbrev pub NoneByIndex : Type 0
-NoneByIndex = (page : ℕ) (frames : List Frame) (d : Frame)
-    → ((j : ℕ) → j < length frames → (get_or frames j d).page ≢ page) → last_frame page frames ≡ None
 
 -- A group is pushed.
 

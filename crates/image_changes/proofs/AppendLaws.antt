@@ -19,53 +19,32 @@ use Rattle.image_changes.specs.Laws.{KeepsOrAppends, AppendMakes, AppendDone}
 pub ring_fits : (g : Geometry) (image : Image) (ring : RingName) → HasLimits g → HasLengths g image → FitsIn (shape_of g ring) (length (octets_of (shape_of g ring) image))
 ring_fits g image Masters limits lengths = let len = lengths.log in record { slots = omega arith; room = omega arith; stride = omega arith; inside = omega (arith, len); addresses = omega arith }
 ring_fits g image Blocks limits lengths = let len = lengths.log in let low = limits.blocks in let high = limits.few_blocks in record { slots = omega (arith, low); room = omega arith; stride = omega arith; inside = omega (arith, len); addresses = omega (arith, high) }
-ring_fits g image Groups limits lengths = let len = lengths.flash in let low = limits.groups in let high = limits.few_groups in record { slots = omega (arith, low); room = omega arith; stride = omega arith; inside = omega (arith, len); addresses = omega (arith, high) }
-ring_fits g image Segments limits lengths = let len = lengths.flash in let low = limits.groups in let high = limits.few_groups in record { slots = omega (arith, low); room = omega arith; stride = omega arith; inside = omega (arith, len); addresses = omega (arith, high) }
+ring_fits g image _ limits lengths = let len = lengths.flash in let low = limits.groups in let high = limits.few_groups in record { slots = omega (arith, low); room = omega arith; stride = omega arith; inside = omega (arith, len); addresses = omega (arith, high) }
 
 -- two of them lie apart, or on different devices
 pub rings_apart : (g : Geometry) (ring other : RingName) → other ≢ ring → Apart (shape_of g ring) (shape_of g other) ⊎ ((shape_of g other).dev ≢ (shape_of g ring).dev)
 rings_apart g Masters Masters ne = absurd (ne refl)
 rings_apart g Masters Blocks ne = inl (inl (omega arith))
-rings_apart g Masters Groups ne = inr (λ h. cc)
-rings_apart g Masters Segments ne = inr (λ h. cc)
 rings_apart g Blocks Masters ne = inl (inr (omega arith))
 rings_apart g Blocks Blocks ne = absurd (ne refl)
-rings_apart g Blocks Groups ne = inr (λ h. cc)
-rings_apart g Blocks Segments ne = inr (λ h. cc)
-rings_apart g Groups Masters ne = inr (λ h. cc)
-rings_apart g Groups Blocks ne = inr (λ h. cc)
 rings_apart g Groups Groups ne = absurd (ne refl)
 rings_apart g Groups Segments ne = inl (inl (omega arith))
-rings_apart g Segments Masters ne = inr (λ h. cc)
-rings_apart g Segments Blocks ne = inr (λ h. cc)
 rings_apart g Segments Groups ne = inl (inr (omega arith))
 rings_apart g Segments Segments ne = absurd (ne refl)
+rings_apart g _ _ ne = inr (λ h. cc)
 
 -- a ring is this one or another
 cases_ring : (r ring : RingName) → (r ≡ ring) ⊎ (r ≢ ring)
 cases_ring Masters Masters = inl refl
-cases_ring Masters Blocks = inr (λ h. cc)
-cases_ring Masters Groups = inr (λ h. cc)
-cases_ring Masters Segments = inr (λ h. cc)
-cases_ring Blocks Masters = inr (λ h. cc)
 cases_ring Blocks Blocks = inl refl
-cases_ring Blocks Groups = inr (λ h. cc)
-cases_ring Blocks Segments = inr (λ h. cc)
-cases_ring Groups Masters = inr (λ h. cc)
-cases_ring Groups Blocks = inr (λ h. cc)
 cases_ring Groups Groups = inl refl
-cases_ring Groups Segments = inr (λ h. cc)
-cases_ring Segments Masters = inr (λ h. cc)
-cases_ring Segments Blocks = inr (λ h. cc)
-cases_ring Segments Groups = inr (λ h. cc)
 cases_ring Segments Segments = inl refl
+cases_ring _ _ = inr (λ h. cc)
 
 -- none of them is on the disk
 not_disk : (g : Geometry) (ring : RingName) → Disk ≢ (shape_of g ring).dev
 not_disk g Masters = λ h. cc
-not_disk g Blocks = λ h. cc
-not_disk g Groups = λ h. cc
-not_disk g Segments = λ h. cc
+not_disk g _ = λ h. cc
 
 same_units : (s : Shape) (old new : List ℕ) → new ≡ old → (units_of s new ≡ units_of s old) × (IsRing s old → IsRing s new)
 same_units s old new same = (ap (units_of s) same, λ form. subst (IsRing s) (sym same) form)
@@ -95,10 +74,7 @@ module _ (g : Geometry) (ring : RingName) (bytes : List ℕ) (old now : Image) (
   ]
 
   sizes : SameSizes old now
-  sizes dev = elim (cases_dev dev s.dev) [
-    | inl here ↦ ap (λ (d : Dev). length (content_of d now)) here ∙ o.size ∙ ap (λ (d : Dev). length (content_of d old)) (sym here)
-    | inr other ↦ ap length (others dev other)
-  ]
+  sizes dev = grind arith
 
   abbrev Grows : Type 0
   Grows = units_on s now ≡ appended s (units_on s old) bytes
@@ -135,5 +111,4 @@ append_makes g ring bytes old new limits lengths quiet room leaves only =
     }) (leaves_others_too (shape_of g ring).dev old new (LeavesOldOrNew (shape_of g ring) (octets_of (shape_of g ring) old.image) bytes) leaves only)
 
 pub append_done : AppendDone
-append_done g ring bytes old new limits lengths room size form outside only more =
-    appends g ring bytes old.image new.image limits lengths (record { size = size; form = form; units = inr more; outside = outside }) (λ d ne. only.now.content d ne) room more
+append_done g ring bytes old new limits lengths room size form outside only more = grind (arith, appends)

@@ -3,7 +3,7 @@ use Rattle.std.proofs.Common.{◌≡◌, ℕ, ◌+◌, ◌≤◌, List, [], ◌�
 use Rattle.site.specs.declared.geometry.Geometry.{Geometry}
 use Rattle.site.specs.State.{State, Image}
 use Rattle.site.specs.Calls.{IsUnchanged}
-use Rattle.site.specs.Moments.{since, works_in}
+use Rattle.site.specs.Moments.{since}
 use Rattle.site.proofs.Working.{works_rise}
 use Rattle.sealed_ring.specs.Ring.{hi_of, Units}
 use Rattle.image_changes.specs.Rings.{Masters, Blocks, Groups, log_shape, master_shape, group_shape}
@@ -14,26 +14,15 @@ pub calls_none : (g : Geometry) (s : State) → CallsForUnits g s s
 calls_none g s = record { works = omega arith; calls = omega arith }
 
 pub calls_then : (g : Geometry) (a b c : State) → CallsForUnits g a b → CallsForUnits g b c → CallsForUnits g a c
-calls_then g a b c first second = record {
-  works = omega (arith, first.works, second.works);
-  calls = omega (arith, first.calls, second.calls);
-}
+calls_then g a b c first second = grind arith
 
 -- nothing but counts changed
 pub calls_unchanged : (g : Geometry) (old new : State) → IsUnchanged old new → CallsForUnits g old new
-calls_unchanged g old new same =
-    let works = ap works_in same.past in
-    let calls = ap length same.past in
-    let told = ap length same.told in
-    let cost = ap (cost_of g) same.image in
-    record { works = omega (arith, works, cost); calls = omega (arith, calls, told, cost) }
+calls_unchanged g old new same = grind arith
 
 -- nothing was told, and all calls are paid for
 pub calls_quiet : (g : Geometry) (old new : State) → new.past ≡ old.past ++ since old new → new.told ≡ old.told → length new.past + cost_of g old.image ≤ length old.past + cost_of g new.image → CallsForUnits g old new
-calls_quiet g old new grown same paid =
-    let few = works_rise old new grown in
-    let told = ap length same in
-    record { works = omega (arith, few, paid); calls = omega (arith, told, paid) }
+calls_quiet g old new grown same paid = grind (arith, works_rise)
 
 -- what the units of changes cost
 abbrev pub paid_by : Change → ℕ
@@ -89,7 +78,4 @@ module _ (g : Geometry) where
   -- so much more an image has cost that changes have led to
   pub cost_reached : (changes : List Change) (old new : Image) → Reaches g changes old new → cost_of g new ≡ cost_of g old + paid changes
   cost_reached [] old new reads = let same = cost_read old new reads in omega (arith, same)
-  cost_reached (change ∷ changes) old new reaches =
-      let one = cost_made change old reaches.0 reaches.1 in
-      let rest = cost_reached changes reaches.0 new reaches.2 in
-      omega (arith, one, rest)
+  cost_reached (change ∷ changes) old new reaches = grind (arith, cost_made, (cost_reached changes reaches.0 new reaches.2))

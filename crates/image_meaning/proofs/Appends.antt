@@ -7,7 +7,6 @@ use Rattle.std.proofs.lemmas.Grind.{flat_map-append}
 use Rattle.std_lemmas.proofs.AllOf.{all_append, all_right, all_drop}
 use Rattle.site.specs.declared.geometry.Geometry.{Geometry}
 use Rattle.site.specs.State.{Image}
-use Rattle.sealed_ring.specs.Ring.{Units}
 use Rattle.record_model.specs.State.{Content}
 use Rattle.log_records.specs.declared.log_record.LogRecord.{LogRecord}
 use Rattle.log_records.specs.Log.{version_at}
@@ -49,10 +48,7 @@ module _ (newest : Option Master) (g : Geometry) (old new : Image) (blocks : Lis
 
   -- the groups that are live then
   live_now : (units_on (group_shape g) new).live ≡ drop (leaving g old) live ++ content ∷ []
-  live_now =
-      ap (λ (u : Units). u.live) made.units
-      ∙ ap (λ (n : ℕ). drop (n - (g.groups - 1)) (live ++ content ∷ [])) (length-append live (content ∷ []))
-      ∙ drop-append-le (leaving g old) live (content ∷ []) few
+  live_now = grind (arith, length-append, drop-append-le, few)
 
   frames_now : frames_on g new ≡ rest_on g old ++ frames
   frames_now = ap frames_of live_now ∙ frames_more (drop (leaving g old) live) content frames is_group

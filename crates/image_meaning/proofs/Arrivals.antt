@@ -1,5 +1,5 @@
 -- Images that are reached by pushes alone.
-use Rattle.std.proofs.Common.{◌≢◌, inl, inr, ℕ, ◌<◌, List, [], ◌∷◌, Option, Some, sym, subst, ◌∙◌}
+use Rattle.std.proofs.Common.{arith, ◌≢◌, ℕ, ◌<◌, List, [], ◌∷◌, Option, Some, ◌∙◌}
 use Rattle.std.specs.List.{AllByRecursion}
 use Rattle.site.specs.declared.geometry.Geometry.{Geometry}
 use Rattle.site.specs.State.{Image}
@@ -9,24 +9,25 @@ use Rattle.log_laws.specs.NewImage.{Replaces}
 use Rattle.slotted_page.specs.Layout as page
 use Rattle.checkpoint.specs.declared.master.Master.{Master}
 use Rattle.image_changes.specs.Rings.{RingName, Masters, Blocks, Groups, Segments, KeepsUnits, shape_of}
-use Rattle.image_changes.specs.Changes.{Change, SealsBlock, RewritesPages, AppendsGroup, AppendsSegment, AppendsMaster, ring_of, SameSizes, Makes, Reaches}
+use Rattle.image_changes.specs.Changes.{Change, SealsBlock, RewritesPages, AppendsGroup, AppendsSegment, ring_of, SameSizes, Makes, Reaches}
 use Rattle.image_changes.proofs.Sequence.{ring_kept}
 use Rattle.log_store.proofs.BlockLaws.{blocks_stay}
 use Rattle.flash_cache.specs.Representation.{version_on}
 use Rattle.image_meaning.specs.Meaning.{logical_image_under, AreOctetsSoundUnder, IsSoundUnder, version_in}
 use Rattle.image_meaning.specs.Moments.{LeavesTableUnder}
-use Rattle.image_meaning.specs.Reached.{ChangesPages, IsKeptOrReplaced, IsPushed, LeavesPushed, ReachedIsSound, ReachedMeans, PushedStands}
+use Rattle.image_meaning.specs.Reached.{ChangesPages, IsPushed, LeavesPushed}
 use Rattle.image_meaning.proofs.UnchangedImages.{lengths_stay, newest_stays}
 use Rattle.image_meaning.proofs.Reading.{groups_are_read}
 use Rattle.image_meaning.proofs.Replacing.{version_replaces, replaced_is_sound, replaced_means}
+use Rattle.record_model.specs.State.{Content}
+use Rattle.log_records.specs.Sound.{Means}
+use Rattle.site.specs.State.{State}
+use Rattle.site.specs.Moments.{LeavesOnly}
 
 -- no change changes a length
 sizes_made : (g : Geometry) (change : Change) (a b : Image) → Makes g change a b → SameSizes a b
 sizes_made g (SealsBlock records) a b made = made.1.sizes
-sizes_made g (RewritesPages pages) a b made = made.sizes
-sizes_made g (AppendsGroup content) a b made = made.sizes
-sizes_made g (AppendsSegment content) a b made = made.sizes
-sizes_made g (AppendsMaster content) a b made = made.sizes
+sizes_made g _ a b made = made.sizes
 
 sizes_reached : (g : Geometry) (changes : List Change) (a b : Image) → Reaches g changes a b → SameSizes a b
 sizes_reached g [] a b reads = reads.sizes
@@ -34,11 +35,10 @@ sizes_reached g (change ∷ changes) a b reached = λ dev. sizes_reached g chang
 
 -- such a change appends to no ring but those of the groups and of the segments
 not_to : (ring : RingName) → Groups ≢ ring → Segments ≢ ring → (change : Change) → ChangesPages change → ring_of change ≢ Some ring
-not_to ring ne other (SealsBlock records) of_pages = absurd of_pages
 not_to ring ne other (RewritesPages pages) of_pages = λ is. cc
 not_to ring ne other (AppendsGroup content) of_pages = λ is. ne cc
 not_to ring ne other (AppendsSegment content) of_pages = λ is. other cc
-not_to ring ne other (AppendsMaster content) of_pages = absurd of_pages
+not_to ring ne other _ of_pages = absurd of_pages
 
 all_not_to : (ring : RingName) → Groups ≢ ring → Segments ≢ ring → (changes : List Change) → AllByRecursion ChangesPages changes → AllByRecursion (λ change. ring_of change ≢ Some ring) changes
 all_not_to ring ne other [] of_pages = tt
@@ -49,18 +49,10 @@ module _ (newest : Option Master) (g : Geometry) (old new : Image) (blocks : Lis
   kept ring ne other = ring_kept g ring p.changes old new (all_not_to ring ne other p.changes p.of_pages) p.reaches
 
   version_sound : (number : ℕ) → number < g.pages → page.IsSound (version_on g new number)
-  version_sound number within = by (p.versions number within)
-    where
-      by : IsKeptOrReplaced newest g old new blocks number → page.IsSound (version_on g new number)
-      by (inl same) = subst page.IsSound (sym same) (sound.octets.versions number within)
-      by (inr replaced) = replaced.0
+  version_sound number within = grind arith
 
   pub replaces : (number : ℕ) → number < g.pages → Replaces (logical_image_under newest g old blocks) number (version_in (version_on g new number))
-  replaces number within = by (p.versions number within)
-    where
-      by : IsKeptOrReplaced newest g old new blocks number → Replaces (logical_image_under newest g old blocks) number (version_in (version_on g new number))
-      by (inl same) = subst (λ (octets : List ℕ). Replaces (logical_image_under newest g old blocks) number (version_in octets)) (sym same) (version_replaces newest g old blocks number sound within)
-      by (inr replaced) = replaced.1
+  replaces number within = grind (arith, version_replaces)
 
   all_octets : AreOctetsSoundUnder newest g new
   all_octets = record {
@@ -76,13 +68,14 @@ module _ (newest : Option Master) (g : Geometry) (old new : Image) (blocks : Lis
   pub sound_there : IsSoundUnder newest g new blocks
   sound_there = replaced_is_sound newest g old new blocks sound all_octets (blocks_stay g _ blocks old new sound.held (kept Blocks (λ h. cc) (λ h. cc))) replaces
 
-pub reached_is_sound : ReachedIsSound
+-- Then the other one is sound too, and stands for the same.
+pub reached_is_sound : (newest : Option Master) (g : Geometry) (old new : Image) (blocks : List (List LogRecord)) → IsSoundUnder newest g old blocks → IsPushed newest g old new blocks → IsSoundUnder newest g new blocks
 reached_is_sound newest g old new blocks sound p = sound_there newest g old new blocks sound p
 
-pub reached_means : ReachedMeans
+pub reached_means : (newest : Option Master) (g : Geometry) (old new : Image) (blocks : List (List LogRecord)) → IsSoundUnder newest g old blocks → IsPushed newest g old new blocks → (table : List Content) (count : ℕ) → Means (logical_image_under newest g old blocks) table count → Means (logical_image_under newest g new blocks) table count
 reached_means newest g old new blocks sound p table count means = replaced_means newest g old new blocks sound (replaces newest g old new blocks sound p) table count means
 
-pub pushed_stands : PushedStands
+pub pushed_stands : (newest : Option Master) (g : Geometry) (old new : State) (blocks : List (List LogRecord)) (table : List Content) (count : ℕ) → IsSoundUnder newest g old.image blocks → Means (logical_image_under newest g old.image blocks) table count → LeavesOnly old new (LeavesPushed newest g blocks old) → LeavesOnly old new (LeavesTableUnder newest g table count old.told)
 pushed_stands newest g old new blocks table count sound means leaves =
     leaves_weaker old new (LeavesPushed newest g blocks old) (LeavesTableUnder newest g table count old.told) (λ snapshot is. record {
       told = is.told;

@@ -1,5 +1,5 @@
 -- Versions of pages, and records that aren't sealed yet.
-use Rattle.std.proofs.Common.{◌≡◌, ℕ, ◌+◌, ◌*◌, ◌/◌, ◌<◌, ◌≤◌, ◌==◌, ◌||◌, false, List, [], ◌∷◌, ◌++◌, length, Some, None, refl, sym, ap, ◌∙◌, arith, inl, inr}
+use Rattle.std.proofs.Common.{◌≡◌, ℕ, ◌+◌, ◌*◌, ◌/◌, ◌<◌, ◌≤◌, ◌==◌, ◌||◌, false, List, [], ◌∷◌, ◌++◌, length, Some, None, sym, ap, ◌∙◌, arith, inl, inr}
 use Rattle.std.specs.Prelude.{Option, IsTrue, nat_lt}
 use Rattle.std.specs.List.{AllByRecursion}
 use Rattle.std.specs.Option.{option_or}
@@ -8,9 +8,9 @@ use Rattle.std.proofs.lemmas.Bool.Decides.{nat_tests}
 use Rattle.std_lemmas.proofs.AllOf.{all_left, all_right, all_both}
 use Rattle.record_model.specs.State.{content_at}
 use Rattle.log_records.specs.declared.log_record.LogRecord.{LogRecord}
-use Rattle.log_records.specs.Log.{Entry, Version, slot_at, number_of, is_on, last_on, value_after, value_of}
+use Rattle.log_records.specs.Log.{Entry, Version, number_of, is_on, last_on, value_of}
 use Rattle.log_records.specs.Sound.{LogicalImage, InTurn}
-use Rattle.log_laws.specs.Follow.{Follows, next_entries, shown_by, shown}
+use Rattle.log_laws.specs.Follow.{Follows, next_entries, shown}
 use Rattle.log_laws.proofs.Lists.{or_is_none}
 use Rattle.log_laws.proofs.Orders.{all_from, none_passes, entries_in_order}
 use Rattle.log_laws.proofs.Versions.{table_same}
@@ -51,13 +51,7 @@ module _ (p : LogicalImage) (tail : List LogRecord) (page : ℕ) (v : Version) (
       ∙ ap (λ (o : Option Entry). option_or o (last_on p.log (32 * page + slot))) (none_passes (is_on (32 * page + slot)) (next_entries p tail) (off slot less))
 
   pub current : ((slot : ℕ) → slot < 32 → content_at v.slots slot ≡ shown (whole p tail) p.pages (32 * page + slot)) → IsCurrent p page v
-  current slots = record {
-    logged = logged;
-    all = record {
-      known = all_left (λ e. (n : ℕ) → number_of e.rec ≡ Some n → n / 32 ≡ page → e.lsn ≤ v.lsn) p.log (next_entries p tail) known;
-      slots = λ slot less. slots slot less ∙ ap (shown_by (slot_at p.pages (32 * page + slot))) (last_sealed slot less);
-    };
-  }
+  current slots = grind (arith, all_left, last_sealed)
 
 pub sealed_page_replaces : SealedPageReplaces
 sealed_page_replaces p tail page v logged all = current_replaces p page v (current p tail page v logged all.known all.slots)
@@ -80,32 +74,14 @@ extends_all p number none = none
 module _ (p : LogicalImage) (versions : List Version) (r : ReplaceAll p versions) where
   shown_by_last : (log : List Entry) → Extends p log → (number : ℕ) → number < 32 * length p.pages → shown log versions number ≡ shown log p.pages number
   unfolding Extends
-  shown_by_last log extends number within = by (last_on log number) refl
-    where
-      by : (o : Option Entry) → last_on log number ≡ o → shown log versions number ≡ shown log p.pages number
-      by None last =
-          ap (shown_by (slot_at versions number)) last ∙ slot_same p versions r number within (extends number last) ∙ sym (ap (shown_by (slot_at p.pages number)) last)
-      by (Some e) last = ap (shown_by (slot_at versions number)) last ∙ sym (ap (shown_by (slot_at p.pages number)) last)
+  shown_by_last log extends number within = grind (arith, slot_same)
 
   value_by_last : (log : List Entry) → Extends p log → (number : ℕ) → number < 32 * length p.pages → value_of log versions number ≡ value_of log p.pages number
   unfolding Extends
-  value_by_last log extends number within = by (last_on log number) refl
-    where
-      by : (o : Option Entry) → last_on log number ≡ o → value_of log versions number ≡ value_of log p.pages number
-      by None last =
-          ap (value_after log number (slot_at versions number)) last ∙ slot_same p versions r number within (extends number last)
-          ∙ sym (ap (value_after log number (slot_at p.pages number)) last)
-      by (Some e) last = ap (value_after log number (slot_at versions number)) last ∙ sym (ap (value_after log number (slot_at p.pages number)) last)
+  value_by_last log extends number within = grind (arith, slot_same)
 
   follows_still : (log : List Entry) → Extends p log → (e : Entry) → Follows p.master p.pages log e → Follows p.master versions log e
-  follows_still log extends e f = record {
-    in_table = λ number is. let within = f.in_table number is in let count = r.count in omega (arith, within, count);
-    of_open = f.of_open;
-    can_be_undone = f.can_be_undone;
-    held_off = f.held_off;
-    from_shown = λ number update is. f.from_shown number update is ∙ sym (shown_by_last log extends number (f.in_table number is));
-    ends_undone = f.ends_undone;
-  }
+  follows_still log extends e f = grind (arith, shown_by_last)
 
   all_follow : (log entries : List Entry) → Extends p log → InTurn (Follows p.master p.pages) log entries → InTurn (Follows p.master versions) log entries
   all_follow log [] extends follow = tt
@@ -120,21 +96,10 @@ table_stays p versions more r =
     table_same (p.log ++ more) (p.log ++ more) p.pages versions r.count (λ number within. value_by_last p versions r (p.log ++ more) (extends_more p p.log more (extends_all p)) number within)
 
 pub carries_still : CarriesStill
-carries_still p versions tail r carries = record {
-  sound = sound_with p versions carries.sound r;
-  follow = all_follow p versions r p.log (next_entries p tail) (extends_all p) carries.follow;
-}
+carries_still p versions tail r carries = grind (arith, sound_with, all_follow, extends_all)
 
 pub goes_on_still : GoesOnStill
-goes_on_still p versions records r goes = record {
-  are_block = goes.are_block;
-  follow = all_follow p versions r p.log (next_entries p records) (extends_all p) goes.follow;
-  numbered = record { before_redo = goes.numbered.before_redo; run_on = goes.numbered.run_on; fit = goes.numbered.fit };
-  room = goes.room;
-}
+goes_on_still p versions records r goes = grind (arith, all_follow, extends_all)
 
 pub shows_still : ShowsStill
-shows_still p versions more page v r within all = record {
-  known = all.known;
-  slots = λ slot less. all.slots slot less ∙ sym (shown_stays p versions more (32 * page + slot) r (omega (arith, within, less)));
-}
+shows_still p versions more page v r within all = grind (arith, shown_stays)

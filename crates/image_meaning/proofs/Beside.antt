@@ -5,7 +5,6 @@ use Rattle.std.proofs.lemmas.List.{length-append, drop-append-le}
 use Rattle.std_lemmas.proofs.AllOf.{all_append, all_right, all_drop}
 use Rattle.site.specs.declared.geometry.Geometry.{Geometry}
 use Rattle.site.specs.State.{Image}
-use Rattle.sealed_ring.specs.Ring.{Units}
 use Rattle.frame_group.specs.Groups.{Frame, IsGroup, frames_in}
 use Rattle.frame_group.specs.Versions.{frames_of}
 use Rattle.frame_group.proofs.Contents.{frames_are_in, frames_more}
@@ -15,7 +14,6 @@ use Rattle.image_changes.specs.Changes.{Change, SealsBlock, RewritesPages, Appen
 use Rattle.flash_cache.specs.Representation.{frames_on}
 use Rattle.image_meaning.specs.Meaning.{IsFrameOf, AreGroups}
 use Rattle.image_meaning.specs.Beside.{AreRingsSoundUnder, KeepsRings, RingsKeptUnder, RingsSaved}
-use Rattle.image_meaning.specs.LowerLaws.{MasterLaws}
 use Rattle.image_meaning.specs.Changes.{leaving, front_on, rest_on}
 use Rattle.image_meaning.proofs.UnchangedImages.{lengths_stay, newest_stays, groups_stay, segments_stay}
 use Rattle.image_meaning.proofs.SegmentLaws.{segments_pushed, segments_saved}
@@ -43,10 +41,7 @@ module _ (newest : Option Master) (g : Geometry) (old new : Image) (content : Li
   few = let many = sound.limits.groups in omega (arith, many)
 
   live_now : (units_on (group_shape g) new).live ≡ drop (leaving g old) live ++ content ∷ []
-  live_now =
-      ap (λ (u : Units). u.live) made.units
-      ∙ ap (λ (n : ℕ). drop (n - (g.groups - 1)) (live ++ content ∷ [])) (length-append live (content ∷ []))
-      ∙ drop-append-le (leaving g old) live (content ∷ []) few
+  live_now = grind (arith, length-append, drop-append-le, few)
 
   frames_now : frames_on g new ≡ rest_on g old ++ frames
   frames_now = ap frames_of live_now ∙ frames_more (drop (leaving g old) live) content frames is_group
@@ -88,11 +83,11 @@ rings_kept newest g (change ∷ changes) old new sound all reached =
     rings_kept newest g changes reached.0 new (one_kept newest g change old reached.0 sound all.0 reached.1) (all.1 reached.0 reached.1) reached.2
 
 -- a master unit more
-pub rings_saved : MasterLaws → RingsSaved
-rings_saved below newest g content old new sound unit made = record {
+pub rings_saved : RingsSaved
+rings_saved newest g content old new sound unit made = record {
   limits = sound.limits;
   lengths = lengths_stay g old new made.sizes sound.lengths;
-  masters = newest_appended below g old new content unit made;
+  masters = newest_appended g old new content unit made;
   segments = segments_stay g old new (made.others Segments (λ h. cc)) (made.others Groups (λ h. cc)) sound.segments;
   groups = groups_stay g old new (made.others Groups (λ h. cc)) sound.groups;
 }

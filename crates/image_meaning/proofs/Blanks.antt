@@ -1,6 +1,6 @@
 -- Blank devices.
-use Rattle.std.proofs.Common.{◌≡◌, ℕ, zero, suc, ◌-◌, ◌*◌, ◌/◌, ◌%◌, ◌<◌, ◌==◌, ◌||◌, List, [], map, get_or, take, drop, replicate, None, refl, sym, ap, subst, ◌∙◌, arith}
-use Rattle.std.specs.Prelude.{slice_index, nat_lt}
+use Rattle.std.proofs.Common.{◌≡◌, ℕ, suc, ◌-◌, ◌*◌, ◌/◌, ◌%◌, ◌<◌, List, [], map, get_or, take, drop, replicate, None, refl, sym, ap, subst, ◌∙◌, arith}
+use Rattle.std.specs.Prelude.{slice_index}
 use Rattle.std.specs.List.{AllByRecursion}
 use Rattle.std.proofs.lemmas.List.{ext_get_or, length-replicate, get_or-replicate, take-replicate, drop-replicate}
 use Rattle.std.proofs.lemmas.Nat.{mod_below}
@@ -8,18 +8,17 @@ use Rattle.site.specs.declared.geometry.Geometry.{Geometry}
 use Rattle.site.specs.Geometry.{HasLimits, HasLengths, log_length, flash_length, disk_length, blank_image}
 use Rattle.sealed_ring.specs.Ring.{IsRing, Units, hi_of}
 use Rattle.sealed_ring.specs.Laws.{BlankIsRing}
+use Rattle.sealed_ring.proofs.Examples.{blank_is_ring}
 use Rattle.record_model.specs.State.{Content, content_at}
 use Rattle.log_records.specs.Log.{Version, version_at, slot_at, table_of}
 use Rattle.log_records.specs.Sound.{FitsLog, Means}
 use Rattle.log_records.specs.Sound as lists
-use Rattle.log_laws.specs.ShownLaws.{TableAt}
 use Rattle.slotted_page.specs.Laws.{IsBlank}
 use Rattle.slotted_page.proofs.Blank.{blank}
 use Rattle.frame_group.specs.Groups.{Frame, IsGroup, frames_in}
 use Rattle.frame_group.specs.Versions.{frames_of, version, CleanAsDisk}
-use Rattle.image_changes.specs.Rings.{RingName, Masters, Blocks, Groups, Segments, shape_of, octets_of, group_shape, segment_shape, units_on}
+use Rattle.image_changes.specs.Rings.{RingName, Masters, Groups, Segments, shape_of, octets_of, group_shape, segment_shape, units_on}
 use Rattle.image_changes.proofs.AppendLaws.{ring_fits}
-use Rattle.log_store.specs.Laws.{BlankHasNoBlocks}
 use Rattle.meta_segments.specs.Following.{Follow}
 use Rattle.meta_segments.proofs.Numbers.{none_follow}
 use Rattle.tail_rebuild.specs.Standing.{HasSaved}
@@ -27,12 +26,12 @@ use Rattle.flash_cache.specs.Representation.{frames_on, disk_on, version_on}
 use Rattle.image_meaning.specs.Meaning.{IsUnused, IsFrameOf, AreSegments, AreOctetsSoundUnder, IsSoundUnder, logical_image, versions_on}
 use Rattle.image_meaning.specs.Laws.{BlankStands}
 use Rattle.image_meaning.proofs.Versions.{length-versions, version_is}
-use Rattle.log_records.proofs.Values.{page_and_slot, length_table_of}
+use Rattle.log_records.proofs.Values.{page_and_slot, length_table_of, content_of_table}
+use Rattle.log_store.proofs.Standing.{blank_has_no_blocks}
 
 pub zero_at : (n p : ℕ) → slice_index (replicate n 0) p ≡ 0
-zero_at zero p = refl
-zero_at (suc n) zero = refl
 zero_at (suc n) (suc p) = zero_at n p
+zero_at _ _ = refl
 
 abbrev zeros : ℕ → List ℕ
 zeros n = replicate n 0
@@ -51,10 +50,9 @@ module _ (ring_of_zeros : BlankIsRing) (g : Geometry) (limits : HasLimits g) whe
   lengths = record { log = length-replicate (log_length g) 0; flash = length-replicate (flash_length g) 0; disk = length-replicate (disk_length g) 0 }
 
   octets_zero : (ring : RingName) (p : ℕ) → slice_index (octets_of (shape_of g ring) (blank_image g)) p ≡ 0
-  octets_zero Masters p = zero_at (log_length g) p
-  octets_zero Blocks p = zero_at (log_length g) p
   octets_zero Groups p = zero_at (flash_length g) p
   octets_zero Segments p = zero_at (flash_length g) p
+  octets_zero _ p = zero_at (log_length g) p
 
   ring_blank : (ring : RingName) → IsRing (shape_of g ring) (octets_of (shape_of g ring) (blank_image g)) × (units_on (shape_of g ring) (blank_image g) ≡ record { hi = 0; live = [] })
   ring_blank ring = ring_of_zeros (shape_of g ring) (octets_of (shape_of g ring) (blank_image g)) (ring_fits g (blank_image g) ring limits lengths) (octets_zero ring)
@@ -98,33 +96,13 @@ module _ (ring_of_zeros : BlankIsRing) (g : Geometry) (limits : HasLimits g) whe
   }
 
   fits : (number : ℕ) → number < g.pages → FitsLog (logical_image g (blank_image g) []) number (version_at (versions_on g (blank_image g)) number)
-  fits number within =
-      subst (FitsLog (logical_image g (blank_image g) []) number) (sym (version_is g (blank_image g) number within))
-      (record {
-        logged = ap (λ (n : ℕ). (n == 0) || nat_lt n 0) (blank_page number within).lsn;
-        shows = λ slot low. tt;
-        knows = tt;
-      })
+  fits number within = grind (arith, version_is, blank_page)
 
   records : lists.IsSound (logical_image g (blank_image g) [])
-  records = record {
-    kept_before_redo = omega arith;
-    redo_before_end = omega arith;
-    kept_is_live = omega arith;
-    in_order = omega arith;
-    in_table = tt;
-    open_transactions = tt;
-    begun = tt;
-    losers_can_be_undone = λ t h. cc;
-    losers_hold_others_off = tt;
-    versions_fit = λ number within. fits number (omega (arith, within, length-versions g (blank_image g)));
-    room_for_undo = omega arith;
-    master_names_the_active = refl;
-    commits = record { before_redo = omega arith; run_on = refl; fit = omega arith };
-  }
+  records = grind (arith, fits, length-versions)
 
-  pub sound_blank : BlankHasNoBlocks → IsSoundUnder None g (blank_image g) []
-  sound_blank no_blocks = record { octets = octets; held = no_blocks g limits; records = records }
+  pub sound_blank : IsSoundUnder None g (blank_image g) []
+  sound_blank = record { octets = octets; held = blank_has_no_blocks g limits; records = records }
 
   -- no slot has a value
   pub slot_blank : (number : ℕ) → number < 32 * g.pages → slot_at (versions_on g (blank_image g)) number ≡ None
@@ -134,8 +112,8 @@ module _ (ring_of_zeros : BlankIsRing) (g : Geometry) (limits : HasLimits g) whe
       ∙ ap (λ (slots : List Content). content_at slots (number % 32)) (blank_page (number / 32) here).slots
       ∙ get_or-replicate 32 (number % 32) None None (mod_below number 32 (omega arith))
 
-  pub means_blank : TableAt → Means (logical_image g (blank_image g) []) (replicate (32 * g.pages) None) 0
-  means_blank at = record {
+  pub means_blank : Means (logical_image g (blank_image g) []) (replicate (32 * g.pages) None) 0
+  means_blank = record {
     table_is =
         ext_get_or None (replicate (32 * g.pages) None) (table_of [] (versions_on g (blank_image g)))
         (length-replicate (32 * g.pages) None ∙ ap (λ (n : ℕ). 32 * n) (sym (length-versions g (blank_image g))) ∙ sym (length_table_of [] (versions_on g (blank_image g))))
@@ -146,7 +124,7 @@ module _ (ring_of_zeros : BlankIsRing) (g : Geometry) (limits : HasLimits g) whe
       each : (number : ℕ) → number < 32 * g.pages → get_or (replicate {A = Content} (32 * g.pages) None) number None ≡ content_at (table_of [] (versions_on g (blank_image g))) number
       each number within =
           get_or-replicate (32 * g.pages) number None None within
-          ∙ sym (at [] (versions_on g (blank_image g)) number (omega (arith, within, length-versions g (blank_image g))) ∙ slot_blank number within)
+          ∙ sym (content_of_table [] (versions_on g (blank_image g)) number (omega (arith, within, length-versions g (blank_image g))) ∙ slot_blank number within)
 
-pub blank_stands : BlankIsRing → BlankHasNoBlocks → TableAt → BlankStands
-blank_stands ring_of_zeros no_blocks at g limits = record { blocks = []; sound = sound_blank ring_of_zeros g limits no_blocks; means = means_blank ring_of_zeros g limits at }
+pub blank_stands : BlankStands
+blank_stands g limits = record { blocks = []; sound = sound_blank blank_is_ring g limits; means = means_blank blank_is_ring g limits }

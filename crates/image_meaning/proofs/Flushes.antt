@@ -1,6 +1,6 @@
 -- When a checkpoint may be made.
-use Rattle.std.proofs.Common.{◌≡◌, ℕ, ◌+◌, ◌*◌, ◌/◌, ◌<◌, ◌≤◌, List, [], ◌∷◌, length, Some, refl, subst, arith}
-use Rattle.std.specs.Prelude.{filter, ◌&&◌, not}
+use Rattle.std.proofs.Common.{◌≡◌, ℕ, ◌+◌, ◌*◌, ◌/◌, ◌<◌, ◌≤◌, List, [], ◌∷◌, length, Some, refl, arith}
+use Rattle.std.specs.Prelude.{◌&&◌, not}
 use Rattle.std.specs.List.{AllByRecursion}
 use Rattle.std.proofs.lemmas.Nat.{mod_below, div-add-mod'}
 use Rattle.std_lemmas.proofs.AllOf.{all_filter, all_weaker, all_map}
@@ -17,9 +17,7 @@ use Rattle.log_records.proofs.Values.{page_and_slot}
 
 -- What holds of the LSN of each record holds of each unfinished transaction.
 of_losers : (P : ℕ → Type 0) (log : List Entry) → AllByRecursion (λ e. P e.lsn) log → AllByRecursion P (losers log)
-of_losers P log all =
-    all_map P (λ (e : Entry). e.lsn) (filter (λ e. is_begin e.rec && not (is_closed log e.lsn)) log)
-    (all_filter (λ (e : Entry). P e.lsn) (λ e. is_begin e.rec && not (is_closed log e.lsn)) log all)
+of_losers P log all = grind (arith, all_map, all_filter)
 
 -- The first block that they need.
 
@@ -49,10 +47,7 @@ oldest_is_there p sound = (
 -- Pages that are flushed.
 
 pub flushed_known : (p : LogicalImage) (kept : ℕ) → MayCheckpoint p kept → IsFlushed p
-flushed_known p kept may page within =
-    all_weaker (λ e. (number : ℕ) → number_of e.rec ≡ Some number → e.lsn ≤ (version_at p.pages (number / 32)).lsn)
-    (λ e. (number : ℕ) → number_of e.rec ≡ Some number → number / 32 ≡ page → e.lsn ≤ (version_at p.pages page).lsn)
-    (λ e h number is here. subst (λ n. e.lsn ≤ (version_at p.pages n).lsn) here (h number is)) p.log may.flushed
+flushed_known p kept may page within = grind (arith, all_weaker)
 
 known_flushed : (p : LogicalImage) → IsSound p → IsFlushed p → AllByRecursion (λ e. (number : ℕ) → number_of e.rec ≡ Some number → e.lsn ≤ (version_at p.pages (number / 32)).lsn) p.log
 known_flushed p sound flushed = each p.log sound.in_table (λ page within. flushed page within)

@@ -8,9 +8,8 @@ use Rattle.std_lemmas.proofs.Lists.{any_map}
 use Rattle.log_records.specs.Log.{Entry, is_loser, is_closed, entries_of}
 use Rattle.log_records.specs.Unfinished.{is_begin, losers}
 use Rattle.log_records.specs.Sound.{Active, LogicalImage, IsSound, last_lsn, active_in}
-use Rattle.log_laws.specs.LoserLaws.{ListedIsLoser, LoserIsListed}
 use Rattle.log_laws.specs.NewImage.{with_master}
-use Rattle.log_laws.proofs.Listing.{Ascends, losers_ascend, above}
+use Rattle.log_laws.proofs.Listing.{Ascends, losers_ascend, above, listed_is_loser, loser_is_listed}
 use Rattle.checkpoint.specs.declared.master.Master.{Master}
 use Rattle.checkpoint.specs.declared.pairs.Pair.{Pair}
 use Rattle.checkpoint.specs.Actives.{no_pair, Ascend}
@@ -24,10 +23,7 @@ IsAmong xs x = list_any (λ s. s == x) xs ≡ true
 
 all_among : (xs : List ℕ) → AllByRecursion (IsAmong xs) xs
 all_among [] = tt
-all_among (x ∷ xs) = (
-  or_left (x == x) (list_any (λ s. s == x) xs) (eq-eqb x x refl),
-  all_weaker (IsAmong xs) (IsAmong (x ∷ xs)) (λ y h. or_right (x == y) (list_any (λ s. s == y) xs) h) xs (all_among xs),
-)
+all_among (x ∷ xs) = grind (arith, or_left, eq-eqb, all_weaker, or_right, (all_among xs))
 
 of_member : (P : ℕ → Type 0) (xs : List ℕ) (x : ℕ) → AllByRecursion P xs → IsAmong xs x → P x
 of_member P [] x all among = cc among
@@ -74,7 +70,7 @@ pairs_are : (log : List Entry) (pairs : List Pair) → AllByRecursion (λ pair. 
 pairs_are log [] all = refl
 pairs_are log (pair ∷ pairs) all = let rest = pairs_are log pairs all.1 in λ i. record { begin = pair.begin; last = all.0 i } ∷ rest i
 
-module _ (listed_is_loser : ListedIsLoser) (loser_is_listed : LoserIsListed) (p : LogicalImage) (m : Master) (sound : IsSound p) (is : IsMasterOf p m) where
+module _ (p : LogicalImage) (m : Master) (sound : IsSound p) (is : IsMasterOf p m) where
   abbrev begins : List ℕ
   begins = map (λ (pair : Pair). pair.begin) m.active
 
@@ -107,5 +103,5 @@ module _ (listed_is_loser : ListedIsLoser) (loser_is_listed : LoserIsListed) (p 
   pub saved_is : seen m ≡ (with_master p m.kept).master
   saved_is = λ i. record { redo = is.redo i; kept = m.kept; commits = is.commits i; active = active_is i }
 
-pub master_is_saved : ListedIsLoser → LoserIsListed → MasterIsSaved
-master_is_saved listed_is_loser loser_is_listed p m sound is = saved_is listed_is_loser loser_is_listed p m sound is
+pub master_is_saved : MasterIsSaved
+master_is_saved = saved_is

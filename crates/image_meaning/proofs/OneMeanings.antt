@@ -8,13 +8,13 @@ use Rattle.log_records.specs.declared.log_record.LogRecord.{LogRecord}
 use Rattle.log_records.specs.Log.{table_of}
 use Rattle.log_records.specs.Sound.{commit_count}
 use Rattle.checkpoint.specs.declared.master.Master.{Master}
+use Rattle.checkpoint.proofs.Standing.{one_newest}
+use Rattle.log_store.proofs.OneLog.{one_log}
 use Rattle.checkpoint.specs.Newest.{newest_of, blank, IsOf}
-use Rattle.checkpoint.specs.Laws.{OneNewest}
 use Rattle.image_changes.specs.Rings.{master_shape, log_shape, units_on}
 use Rattle.log_store.specs.declared.store.LogStore.{LogStore}
 use Rattle.log_store.specs.LogList.{LogList}
 use Rattle.log_store.specs.Representation.{HasBlocks, Represents}
-use Rattle.log_store.specs.Laws.{OneLog}
 use Rattle.image_meaning.specs.Meaning.{saved_by, kept_by, logical_image_under, HasNewest, IsSoundUnder, StandsUnder}
 use Rattle.image_meaning.specs.Laws.{OneMeaningFor, OneMasterStands, NewestIsRead, ReadIsNewest}
 
@@ -28,11 +28,11 @@ list_of first blocks = record { first = first; blocks = blocks; tail = [] }
 holds : (g : Geometry) (image : Image) (first : ℕ) (blocks : List (List LogRecord)) → HasBlocks g first blocks image → Represents (empty_store g) image (list_of first blocks)
 holds g image first blocks has = record { kept = omega arith; blocks = has; tail = record { end = refl; have_form = tt; fit_fields = tt; text = refl } }
 
-module _ (one : OneLog) (newest : Option Master) (g : Geometry) (image : Image) where
+module _ (newest : Option Master) (g : Geometry) (image : Image) where
   -- an image has one list of blocks
   same_blocks : (a b : List (List LogRecord)) → IsSoundUnder newest g image a → IsSoundUnder newest g image b → a ≡ b
   same_blocks a b first second =
-      ap (λ (l : LogList). l.blocks) (one (empty_store g) image (list_of (kept_by newest) a) (list_of (kept_by newest) b) (holds g image (kept_by newest) a first.held) (holds g image (kept_by newest) b second.held) refl)
+      ap (λ (l : LogList). l.blocks) (one_log (empty_store g) image (list_of (kept_by newest) a) (list_of (kept_by newest) b) (holds g image (kept_by newest) a first.held) (holds g image (kept_by newest) b second.held) refl)
 
   pub one_meaning_under : (table other : List Content) (commits many : ℕ) → StandsUnder newest g image table commits → StandsUnder newest g image other many → (table ≡ other) × (commits ≡ many)
   one_meaning_under table other commits many stands too =
@@ -45,16 +45,16 @@ module _ (one : OneLog) (newest : Option Master) (g : Geometry) (image : Image) 
       count_by : List (List LogRecord) → ℕ
       count_by blocks = commit_count (logical_image_under newest g image blocks)
 
-pub one_master_stands : OneNewest → OneMasterStands
-one_master_stands one g image None None first second = refl
-one_master_stands one g image None (Some m) first second = absurd (let none = first.none in let some = second.some in omega (arith, none, some))
-one_master_stands one g image (Some m) None first second = absurd (let some = first.some in let none = second.none in omega (arith, none, some))
-one_master_stands one g image (Some a) (Some b) first second = ap Some (one image a b first.master second.master)
+pub one_master_stands : OneMasterStands
+one_master_stands g image None None first second = refl
+one_master_stands g image None (Some m) first second = grind arith
+one_master_stands g image (Some m) None first second = grind arith
+one_master_stands g image (Some a) (Some b) first second = ap Some (one_newest image a b first.master second.master)
 
-pub one_meaning_for : OneLog → OneNewest → OneMeaningFor
-one_meaning_for one newest g image table other commits many stands too =
-    one_meaning_under one too.newest g image table other commits many
-    (subst (λ (n : Option Master). StandsUnder n g image table commits) (one_master_stands newest g image stands.newest too.newest stands.stands.sound.octets.masters too.stands.sound.octets.masters) stands.stands)
+pub one_meaning_for : OneMeaningFor
+one_meaning_for g image table other commits many stands too =
+    one_meaning_under too.newest g image table other commits many
+    (subst (λ (n : Option Master). StandsUnder n g image table commits) (one_master_stands g image stands.newest too.newest stands.stands.sound.octets.masters too.stands.sound.octets.masters) stands.stands)
     too.stands
 
 -- The newest master is the one that is read.

@@ -1,14 +1,23 @@
 -- A group of frames pushed behind others.
 use Rattle.std.proofs.Common.{◌∙◌}
 use Rattle.frame_group.proofs.LastFrames.{new_version, other_versions, push_keeps_clean, drop_keeps_version, drop_keeps_clean}
-use Rattle.image_meaning.specs.Pushes.{PushedClean, PushedVersion, OthersKeepVersions}
+use Rattle.std.specs.Prelude.{ℕ, List, ◌++◌}
+use Rattle.frame_group.specs.Groups.{Frame}
+use Rattle.image_meaning.specs.Pushes.{MayPush}
+use Rattle.frame_group.specs.Versions.{CleanAsDisk}
+use Rattle.frame_group.specs.Versions.{last_frame, version}
+use Rattle.std.specs.Prelude.{Some, ◌≡◌}
+use Rattle.std.specs.Prelude.{None}
 
-pub pushed_clean : PushedClean
+-- then clean frames equal the disk still
+pub pushed_clean : (disk : ℕ → List ℕ) (front rest new : List Frame) → CleanAsDisk disk (front ++ rest) → MayPush disk front rest new → CleanAsDisk disk (rest ++ new)
 pushed_clean disk front rest new clean may = push_keeps_clean disk rest new (drop_keeps_clean disk front rest clean) may.clean
 
-pub pushed_version : PushedVersion
+-- a page of the new group has its version from it
+pub pushed_version : (disk : ℕ → List ℕ) (rest new : List Frame) (page : ℕ) (frame : Frame) → last_frame page new ≡ Some frame → version disk (rest ++ new) page ≡ frame.octets
 pushed_version disk rest new page frame last = new_version disk rest new page frame last
 
-pub others_keep_versions : OthersKeepVersions
+-- and every other page the version that it had
+pub others_keep_versions : (disk : ℕ → List ℕ) (front rest new : List Frame) (page : ℕ) → CleanAsDisk disk (front ++ rest) → MayPush disk front rest new → last_frame page new ≡ None → version disk (rest ++ new) page ≡ version disk (front ++ rest) page
 others_keep_versions disk front rest new page clean may none =
     other_versions disk rest new page none ∙ drop_keeps_version disk front rest page clean (may.staged page none)

@@ -1,5 +1,5 @@
 -- The groups that a cache knows of.
-use Rattle.std.proofs.Common.{◌≡◌, ℕ, refl, arith, List, [], ◌∷◌, map, sym, ap, subst, ◌∙◌}
+use Rattle.std.proofs.Common.{◌≡◌, ℕ, refl, arith, List, [], ◌∷◌, map, sym, subst}
 use Rattle.std.specs.Prelude.{flat_map, ◌<◌}
 use Rattle.std.specs.List.{AllByRecursion}
 use Rattle.std.proofs.lemmas.List.{length-map}
@@ -13,8 +13,13 @@ use Rattle.frame_group.specs.Versions.{frames_of}
 use Rattle.frame_group.proofs.Contents.{frames_are_in, frames_of_groups}
 use Rattle.flash_cache.specs.Representation.{HasFrames, frames_on, AreSaved}
 use Rattle.image_meaning.specs.Meaning.{IsFrameOf}
-use Rattle.image_meaning.specs.PushLaws.{GroupsAreRead, GroupsAreThere, SegmentsAreRead}
 use Rattle.flash_cache.proofs.Segments.{groups_are}
+use Rattle.site.specs.State.{Image}
+use Rattle.image_meaning.specs.Meaning.{AreGroups}
+use Rattle.flash_cache.specs.Representation.{HasGroups}
+use Rattle.flash_cache.specs.Representation.{groups_on}
+use Rattle.std.specs.Prelude.{length, ◌-◌}
+use Rattle.image_meaning.specs.Meaning.{AreSegments}
 
 each_group : (g : Geometry) (groups : List (List Frame)) → AllByRecursion (λ frames. HasFrames g frames (group frames)) groups → AllByRecursion (λ content. IsGroup content (frames_in content)) (map group groups)
 each_group g [] all = tt
@@ -29,17 +34,9 @@ all_frames : (g : Geometry) (groups : List (List Frame)) → AllByRecursion (λ 
 all_frames g [] all sound = tt
 all_frames g (frames ∷ groups) all sound = all_append (IsFrameOf g) frames (flat_map (λ fs. fs) groups) (frames_of_one g frames all.0.exist sound.0) (all_frames g groups all.1 sound.1)
 
-pub groups_are_read : GroupsAreRead
-groups_are_read g first groups image has sound =
-    let frames : frames_on g image ≡ flat_map (λ fs. fs) groups =
-    ap frames_of has.live ∙ frames_of_groups groups (all_weaker (λ fs. HasFrames g fs (group fs)) (λ fs. IsGroup (group fs) fs) (λ fs h. h.is_group) groups has.are_groups) in (
-      record {
-        form = has.form;
-        each = subst (AllByRecursion (λ content. IsGroup content (frames_in content))) (sym has.live) (each_group g groups has.are_groups);
-        frames = subst (AllByRecursion (IsFrameOf g)) (sym frames) (all_frames g groups has.are_groups sound);
-      },
-      frames,
-    )
+-- Groups that a cache knows of are of the form, where their pages are sound, and their frames are those of the image.
+pub groups_are_read : (g : Geometry) (first : ℕ) (groups : List (List Frame)) (image : Image) → HasGroups g first groups image → AllByRecursion (λ frames. AllByRecursion (λ frame. page.IsSound frame.octets) frames) groups → AreGroups g image × (frames_on g image ≡ flat_map (λ frames. frames) groups)
+groups_are_read g first groups image has sound = grind (arith, frames_of_groups, all_weaker, each_group, all_frames)
 
 pub spelled_again : (contents : List (List ℕ)) → AllByRecursion (λ content. IsGroup content (frames_in content)) contents → contents ≡ map group (map frames_in contents)
 spelled_again [] all = refl
@@ -56,16 +53,10 @@ each_has g (content ∷ contents) all frames = (
   each_has g contents all.1 (all_right (IsFrameOf g) (frames_in content) (frames_of contents) frames),
 )
 
-pub groups_are_there : GroupsAreThere
-groups_are_there g image groups =
-    let live = (units_on (group_shape g) image).live in
-    let count = live_count (group_shape g) image.flash in
-    let long = length-map live frames_in in record {
-      form = groups.form;
-      next = omega (arith, count, long);
-      are_groups = each_has g live groups.each groups.frames;
-      live = spelled_again live groups.each;
-    }
+-- and groups of the form are there for a cache to find
+pub groups_are_there : (g : Geometry) (image : Image) → AreGroups g image → HasGroups g ((units_on (group_shape g) image).hi - length (units_on (group_shape g) image).live) (groups_on g image) image
+groups_are_there g image groups = grind (arith, live_count, length-map, each_has, spelled_again)
 
-pub segments_are_read : SegmentsAreRead
+-- Segments that follow these groups are the image's.
+pub segments_are_read : (g : Geometry) (first : ℕ) (groups : List (List Frame)) (image : Image) → HasGroups g first groups image → AreSaved g groups image → AreSegments g image
 segments_are_read g first groups image has saved = subst (λ (l : List (List Frame)). AreSaved g l image) (sym (groups_are g first groups image has)) saved

@@ -59,10 +59,7 @@ known_by_number number lsn e known =
 
 -- so the last of them is the last that is known
 last_of_known : (log : List Entry) (number lsn : ℕ) → AreKnown log (number / 32) lsn → last_known log lsn number ≡ last_on log number
-last_of_known log number lsn known =
-    last_same (λ e. is_on number e && nat_le e.lsn lsn) (λ e. is_on number e) log
-    (all_weaker (λ e. (n : ℕ) → number_of e.rec ≡ Some n → n / 32 ≡ number / 32 → e.lsn ≤ lsn) (λ e. (is_on number e && nat_le e.lsn lsn) ≡ is_on number e)
-    (λ e is. known_by_number number lsn e is) log known)
+last_of_known log number lsn known = grind (arith, last_same, all_weaker, known_by_number)
 
 none_known : (log : List Entry) (number lsn : ℕ) → last_on log number ≡ None → last_known log lsn number ≡ None
 none_known log number lsn none = last_weaker (λ e. is_on number e) (λ e. is_on number e && nat_le e.lsn lsn) (λ e off. ap (λ (b : Bool). b && nat_le e.lsn lsn) off) log none
@@ -129,12 +126,7 @@ redone_is_current p page v r known = record {
 -- One record more.
 
 shown_with : (log : List Entry) (e : Entry) (pages : List Version) (number : ℕ) → shown (log ++ e ∷ []) pages number ≡ (if is_on number e then after_of e.rec else shown log pages number)
-shown_with log e pages number =
-    ap (shown_by (slot_at pages number)) (last_where-append (is_on number) log (e ∷ [])) ∙ by (is_on number e)
-  where
-    by : (b : Bool) → shown_by (slot_at pages number) (option_or (if b then Some e else None) (last_on log number)) ≡ (if b then after_of e.rec else shown log pages number)
-    by true = refl
-    by false = refl
+shown_with log e pages number = grind (arith, last_where-append)
 
 pub shows_more : ShowsMore
 shows_more log pages page v w e number all on here late redoes = record {
@@ -190,10 +182,7 @@ module _ (p : LogicalImage) (page : ℕ) (v w : Version) (front rest : List Entr
       (all_weaker (λ d. e.lsn + 1 ≤ d.lsn) (λ d. (is_on n d && nat_le d.lsn lsn) ≡ false) (λ d low. and_right (is_on n d) (nat_le d.lsn lsn) (lt-leb d.lsn lsn (omega (arith, low, le)))) rest (all_from (e.lsn + 1) rest (512 * p.hi) behind))
 
   parts : (n lsn : ℕ) → lsn ≤ e.lsn → last_known p.log lsn n ≡ option_or (if is_on n e && nat_le e.lsn lsn then Some e else None) (last_known front lsn n)
-  parts n lsn le =
-      ap (λ (log : List Entry). last_known log lsn n) split
-      ∙ last_where-append (λ d. is_on n d && nat_le d.lsn lsn) front (e ∷ rest)
-      ∙ ap (λ (o : Option Entry). option_or (option_or o (if is_on n e && nat_le e.lsn lsn then Some e else None)) (last_known front lsn n)) (none_behind n lsn le)
+  parts n lsn le = grind (arith, last_where-append, none_behind)
 
   -- before it
   before : (n : ℕ) → last_known p.log v.lsn n ≡ last_known front v.lsn n
@@ -203,11 +192,7 @@ module _ (p : LogicalImage) (page : ℕ) (v w : Version) (front rest : List Entr
 
   -- of those in front of it the same ones are known
   front_same : (slot : ℕ) → slot < 32 → last_known front e.lsn (32 * page + slot) ≡ last_known front v.lsn (32 * page + slot)
-  front_same slot less =
-      last_of_known front (32 * page + slot) e.lsn (known_on_page front page slot e.lsn less
-      (all_weaker (λ d. (n : ℕ) → number_of d.rec ≡ Some n → n / 32 ≡ page → d.lsn ≤ v.lsn) (λ d. (n : ℕ) → number_of d.rec ≡ Some n → n / 32 ≡ page → d.lsn ≤ e.lsn)
-      (λ d is n there same. let low = is n there same in omega (arith, low, next)) front known))
-      ∙ sym (last_of_known front (32 * page + slot) v.lsn (known_on_page front page slot v.lsn less known))
+  front_same slot less = grind (arith, last_of_known, known_on_page, all_weaker)
 
   after : (slot : ℕ) → slot < 32 → last_known p.log e.lsn (32 * page + slot) ≡ option_or (if 32 * page + slot == number then Some e else None) (last_known p.log v.lsn (32 * page + slot))
   after slot less =

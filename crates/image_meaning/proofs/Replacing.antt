@@ -1,5 +1,5 @@
 -- New versions of the pages of an image.
-use Rattle.std.proofs.Common.{ℕ, ◌<◌, List, Option, sym, subst, ◌∙◌, arith}
+use Rattle.std.proofs.Common.{ℕ, ◌<◌, List, Option, subst, arith}
 use Rattle.site.specs.declared.geometry.Geometry.{Geometry}
 use Rattle.site.specs.State.{Image}
 use Rattle.log_records.specs.declared.log_record.LogRecord.{LogRecord}
@@ -14,10 +14,7 @@ use Rattle.image_meaning.proofs.OtherVersions.{versions_are_sound, versions_mean
 
 pub replace_all : (newest : Option Master) (g : Geometry) (old new : Image) (blocks : List (List LogRecord)) → ((number : ℕ) → number < g.pages → Replaces (logical_image_under newest g old blocks) number (version_in (version_on g new number))) →
     ReplaceAll (logical_image_under newest g old blocks) (versions_on g new)
-replace_all newest g old new blocks replace = record {
-  count = length-versions g new ∙ sym (length-versions g old);
-  each = λ number less. let within : number < g.pages = omega (arith, less, length-versions g old) in subst (Replaces (logical_image_under newest g old blocks) number) (sym (version_is g new number within)) (replace number within);
-}
+replace_all newest g old new blocks replace = grind (arith, length-versions, version_is)
 
 pub version_replaces : VersionReplaces
 version_replaces newest g image blocks number sound within =

@@ -1,13 +1,9 @@
 -- The logical image of an image: what changes make of it, its room and its commits.
-use Rattle.std.proofs.Common.{◌≢◌, ◌+◌, ◌*◌, [], Option, refl, arith, length-append}
+use Rattle.std.proofs.Common.{[], Option, arith, length-append}
 use Rattle.std_lemmas.proofs.AllOf.{all_weaker}
 use Rattle.std_lemmas.proofs.Lists.{some_length}
-use Rattle.log_records.specs.Spelling.{AreBlock}
-use Rattle.log_records.specs.Log.{entries_from, log_from}
 use Rattle.log_laws.proofs.Owing.{blocks_have_records}
-use Rattle.frame_group.specs.Laws.{StagingKeepsVersions, StagingKeepsClean}
 use Rattle.checkpoint.specs.declared.master.Master.{Master}
-use Rattle.image_meaning.specs.Meaning.{kept_by, next_block_under}
 use Rattle.image_meaning.specs.LogicalImageLaws.{LogicalImageSealed, LogicalImageStays, StagedVersions, RoomForBlock, RoomForTailUnder}
 use Rattle.image_meaning.proofs.Versions.{versions_same}
 use Rattle.image_meaning.proofs.UnchangedImages.{next_block_is, same_logical_image}
@@ -21,16 +17,12 @@ logical_image_sealed newest g old new blocks records made = sealed_logical_image
 pub logical_image_stays : LogicalImageStays
 logical_image_stays newest g old new blocks same = same_logical_image newest g old new blocks (versions_same g old new same)
 
-pub staged_versions : StagingKeepsVersions → StagingKeepsClean → StagedVersions
-staged_versions versions_kept clean_kept newest g old new blocks pages sound may made = version_kept versions_kept clean_kept newest g old new blocks pages sound may made
+pub staged_versions : StagedVersions
+staged_versions newest g old new blocks pages sound may made = version_kept newest g old new blocks pages sound may made
 
 pub room_for_block : RoomForBlock
 room_for_block newest g image blocks tail fits = omega (arith, fits, next_block_is newest blocks)
 
 -- a block has a record at least
 pub room_for_tail : (newest : Option Master) → RoomForTailUnder newest
-room_for_tail newest g image blocks tail sound some fits =
-    let many = blocks_have_records (kept_by newest) blocks (all_weaker AreBlock (λ records. records ≢ []) (λ records are. are.some) blocks sound.held.are_blocks) in
-    let first = 512 * next_block_under newest blocks + 2 in
-    room_for_block newest g image blocks tail
-    (omega (arith, fits, many, some_length tail some, length_entries first tail, length-append (log_from (kept_by newest) blocks) (entries_from first tail)))
+room_for_tail newest g image blocks tail sound some fits = grind (arith, blocks_have_records, all_weaker, room_for_block, some_length, length_entries, length-append)

@@ -21,6 +21,9 @@ use Rattle.log_records.specs.Sound as lists
 use Rattle.log_laws.specs.NewImage.{with_master, MayCheckpoint}
 use Rattle.log_laws.proofs.Orders.{filter_none, all_from, entries_in_order}
 use Rattle.log_laws.proofs.Parts.{all_below}
+use Rattle.log_laws.proofs.Masters.{master_is_sound, master_means, master_is_orderly, empty_master_is_sound, empty_master_means, empty_master_is_orderly}
+use Rattle.checkpoint.proofs.UnitParts.{unit_read}
+use Rattle.checkpoint.proofs.Standing.{appended_is}
 use Rattle.checkpoint.specs.declared.master.Master.{Master}
 use Rattle.checkpoint.specs.Units.{IsUnit, master_in}
 use Rattle.checkpoint.specs.Newest.{seen}
@@ -30,8 +33,7 @@ use Rattle.log_store.specs.Representation.{HasBlocks}
 use Rattle.log_store.proofs.BlockLaws.{blocks_stay, blocks_from}
 use Rattle.image_meaning.specs.Meaning.{master_of, kept_by, next_block_under, logical_image_under, IsNewest, IsSoundUnder, versions_on}
 use Rattle.image_meaning.specs.Changes.{MaySave}
-use Rattle.image_meaning.specs.LowerLaws.{MasterLaws}
-use Rattle.image_meaning.specs.Checkpoints.{blocks_saved, MasterMaySave, EmptyMasterMaySave, CheckpointMaySave, SavedOctets, SavedLogicalImage, SavedIsSound, SavedMeans, SavedIsOrderly, ActiveAreKept}
+use Rattle.image_meaning.specs.Checkpoints.{blocks_saved, MasterMaySave, EmptyMasterMaySave, CheckpointMaySave, SavedOctets, ActiveAreKept}
 use Rattle.image_meaning.proofs.Flushes.{checkpoint_needs}
 use Rattle.image_meaning.proofs.Naming.{master_is_saved}
 use Rattle.image_meaning.proofs.Versions.{versions_same, version_stays}
@@ -59,149 +61,119 @@ none_kept to from records are less =
     (entries_from (512 * from + 2) records) (all_below (512 * from + 2) (entries_from (512 * from + 2) records) _ (entries_in_order (512 * from + 2) records)))
 
 pub kept_records : (from n : ℕ) (blocks : List (List LogRecord)) → AllByRecursion AreBlock blocks → log_from (from + n) (drop n blocks) ≡ from_block (from + n) (log_from from blocks)
-kept_records from zero blocks are =
-    ap (λ m. log_from m blocks) (omega arith) ∙ sym (all_kept (from + zero) from blocks (omega arith))
+kept_records from zero blocks are = grind (arith, all_kept)
 kept_records from (suc n) [] are = refl
-kept_records from (suc n) (records ∷ blocks) are =
-    ap (λ m. log_from m (drop n blocks)) (omega arith)
-    ∙ kept_records (from + 1) n blocks are.1
-    ∙ ap (λ m. from_block m (log_from (from + 1) blocks)) (omega arith)
-    ∙ sym (filter-append (λ e. nat_le (512 * (from + suc n)) e.lsn) (entries_from (512 * from + 2) records) (log_from (from + 1) blocks)
-    ∙ ap (λ (l : List Entry). l ++ from_block (from + suc n) (log_from (from + 1) blocks)) (none_kept (from + suc n) from records are.0 (omega arith)))
+kept_records from (suc n) (records ∷ blocks) are = grind (arith, filter-append, records, none_kept, (kept_records (from + 1) n blocks are.1))
 
-module _ (below : MasterLaws) where
-  pub newest_appended : (g : Geometry) (old new : Image) (content : List ℕ) → IsUnit content (master_in content) → Makes g (AppendsMaster content) old new → IsNewest new (master_in content)
-  newest_appended g old new content unit made = record {
-    form = made.form;
-    some = let hi = ap (λ (u : Units). u.hi) made.units in omega (arith, hi);
-    master = below.appended new (units_on master_shape old) content (master_in content) unit made.units;
+pub newest_appended : (g : Geometry) (old new : Image) (content : List ℕ) → IsUnit content (master_in content) → Makes g (AppendsMaster content) old new → IsNewest new (master_in content)
+newest_appended g old new content unit made = record {
+  form = made.form;
+  some = let hi = ap (λ (u : Units). u.hi) made.units in omega (arith, hi);
+  master = appended_is new (units_on master_shape old) content (master_in content) unit made.units;
+}
+
+pub saved_octets : SavedOctets
+saved_octets newest g old new content sound unit made =
+    octets_beside newest (Some (master_in content)) g old new made.sizes (newest_appended g old new content unit made)
+    (segments_stay g old new (made.others Segments (λ h. cc)) (made.others Groups (λ h. cc)) sound.segments) (made.others Groups (λ h. cc)) made.disk sound
+
+module _ (newest : Option Master) (g : Geometry) (old new : Image) (blocks : List (List LogRecord)) (content : List ℕ) (sound : IsSoundUnder newest g old blocks) (may : MaySave newest g old blocks content)
+    (made : Makes g (AppendsMaster content) old new) where
+  abbrev kept : ℕ
+  kept = (master_in content).kept
+
+  abbrev skipped : ℕ
+  skipped = kept - kept_by newest
+
+  abbrev before : LogicalImage
+  before = logical_image_under newest g old blocks
+
+  later : kept_by newest + skipped ≡ kept
+  later = let rises = may.may.kept_rises in omega (arith, rises)
+
+  records : log_from kept (drop skipped blocks) ≡ from_block kept (log_from (kept_by newest) blocks)
+  records =
+      ap (λ n. log_from n (drop skipped blocks)) (sym later) ∙ kept_records (kept_by newest) skipped blocks sound.held.are_blocks
+      ∙ ap (λ n. from_block n (log_from (kept_by newest) blocks)) later
+
+  next : next_block_under newest blocks ≡ kept_by newest + length blocks
+  next = next_block_is newest blocks
+
+  end : kept + length (drop skipped blocks) ≡ next_block_under newest blocks
+  end = grind (arith, next, length-drop)
+
+  versions : versions_on g new ≡ versions_on g old
+  versions = versions_same g old new (version_stays g old new (made.others Groups (λ h. cc)) made.disk)
+
+  pub logical_image_saved : logical_image_under (Some (master_in content)) g new (blocks_saved newest blocks content) ≡ with_master (logical_image_under newest g old blocks) kept
+  logical_image_saved = λ i. record { master = may.master i; log = records i; hi = end i; blocks = g.blocks; pages = versions i }
+
+  held : HasBlocks g kept (drop skipped blocks) new
+  held =
+      let within = may.may.kept_in_log in
+      let rises = may.may.kept_rises in
+      blocks_stay g _ (drop skipped blocks) old new
+      (subst (λ n. HasBlocks g n (drop skipped blocks) old) (omega (arith, rises)) (blocks_from g (kept_by newest) kept blocks old sound.held (omega (arith, within, next_block_is newest blocks))))
+      (made.others Blocks (λ h. cc))
+
+  list_sound : lists.IsSound (with_master before kept)
+  list_sound = by may.orderly
+    where
+      by : AreOrderly before.log ⊎ (kept ≡ before.hi) → lists.IsSound (with_master before kept)
+      by (inl orderly) = master_is_sound before kept sound.records orderly may.may
+      by (inr none) = subst (λ n. lists.IsSound (with_master before n)) (sym none) (empty_master_is_sound before sound.records (subst (MayCheckpoint before) none may.may))
+
+  list_means : (table : List Content) (count : ℕ) → Means before table count → Means (with_master before kept) table count
+  list_means table count means = by may.orderly
+    where
+      by : AreOrderly before.log ⊎ (kept ≡ before.hi) → Means (with_master before kept) table count
+      by (inl orderly) = master_means before kept sound.records orderly may.may table count means
+      by (inr none) = subst (λ n. Means (with_master before n) table count) (sym none) (empty_master_means before sound.records (subst (MayCheckpoint before) none may.may) table count means)
+
+  list_orderly : AreOrderly (with_master before kept).log
+  list_orderly = by may.orderly
+    where
+      by : AreOrderly before.log ⊎ (kept ≡ before.hi) → AreOrderly (with_master before kept).log
+      by (inl orderly) = master_is_orderly before kept sound.records orderly
+      by (inr none) = subst (λ n. AreOrderly (with_master before n).log) (sym none) (empty_master_is_orderly before sound.records)
+
+  pub sound_saved : IsSoundUnder (Some (master_in content)) g new (blocks_saved newest blocks content)
+  sound_saved = record {
+    octets = saved_octets newest g old new content sound.octets may.unit made;
+    held = held;
+    records = subst lists.IsSound (sym logical_image_saved) list_sound;
   }
 
-  pub saved_octets : SavedOctets
-  saved_octets newest g old new content sound unit made =
-      octets_beside newest (Some (master_in content)) g old new made.sizes (newest_appended g old new content unit made)
-      (segments_stay g old new (made.others Segments (λ h. cc)) (made.others Groups (λ h. cc)) sound.segments) (made.others Groups (λ h. cc)) made.disk sound
+  pub means_saved : (table : List Content) (count : ℕ) → Means before table count → Means (logical_image_under (Some (master_in content)) g new (blocks_saved newest blocks content)) table count
+  means_saved table count means = subst (λ (p : LogicalImage). Means p table count) (sym logical_image_saved) (list_means table count means)
 
-  module _ (newest : Option Master) (g : Geometry) (old new : Image) (blocks : List (List LogRecord)) (content : List ℕ) (sound : IsSoundUnder newest g old blocks) (may : MaySave newest g old blocks content)
-      (made : Makes g (AppendsMaster content) old new) where
-    abbrev kept : ℕ
-    kept = (master_in content).kept
+  pub orderly_saved : AreOrderly (logical_image_under (Some (master_in content)) g new (blocks_saved newest blocks content)).log
+  orderly_saved = subst (λ (p : LogicalImage). AreOrderly p.log) (sym logical_image_saved) list_orderly
 
-    abbrev skipped : ℕ
-    skipped = kept - kept_by newest
+-- A unit of a master is the one that its octets say.
 
-    abbrev before : LogicalImage
-    before = logical_image_under newest g old blocks
+module _ (newest : Option Master) (g : Geometry) (image : Image) (blocks : List (List LogRecord)) (content : List ℕ) (m : Master) (unit : IsUnit content m)
+    (master : seen m ≡ (with_master (logical_image_under newest g image blocks) m.kept).master) (may : MayCheckpoint (logical_image_under newest g image blocks) m.kept) where
+  abbrev standing : LogicalImage
+  standing = logical_image_under newest g image blocks
 
-    later : kept_by newest + skipped ≡ kept
-    later = let rises = may.may.kept_rises in omega (arith, rises)
+  may_save : AreOrderly standing.log ⊎ (m.kept ≡ standing.hi) → MaySave newest g image blocks content
+  may_save orderly = grind (arith, unit_read)
 
-    records : log_from kept (drop skipped blocks) ≡ from_block kept (log_from (kept_by newest) blocks)
-    records =
-        ap (λ n. log_from n (drop skipped blocks)) (sym later) ∙ kept_records (kept_by newest) skipped blocks sound.held.are_blocks
-        ∙ ap (λ n. from_block n (log_from (kept_by newest) blocks)) later
+  none_saved : m.kept ≡ standing.hi → blocks_saved newest blocks content ≡ []
+  none_saved all = grind (arith, unit_read, drop_of_length-le, next_block_is)
 
-    next : next_block_under newest blocks ≡ kept_by newest + length blocks
-    next = next_block_is newest blocks
+pub checkpoint_may_save : CheckpointMaySave
+checkpoint_may_save newest g image blocks content m sound unit is flushed rises within orderly =
+    let p = logical_image_under newest g image blocks in
+    may_save newest g image blocks content m unit (master_is_saved p m sound.records is) ((checkpoint_needs p m.kept sound.records).1 (flushed, rises, within)) orderly
 
-    end : kept + length (drop skipped blocks) ≡ next_block_under newest blocks
-    end =
-        let rises = may.may.kept_rises in
-        let within = may.may.kept_in_log in
-        let is = next in omega (arith, rises, within, is, length-drop skipped blocks)
+pub master_may_save : MasterMaySave
+master_may_save newest g image blocks content m unit master may orderly = may_save newest g image blocks content m unit master may (inl orderly)
 
-    versions : versions_on g new ≡ versions_on g old
-    versions = versions_same g old new (version_stays g old new (made.others Groups (λ h. cc)) made.disk)
-
-    pub logical_image_saved : logical_image_under (Some (master_in content)) g new (blocks_saved newest blocks content) ≡ with_master (logical_image_under newest g old blocks) kept
-    logical_image_saved = λ i. record { master = may.master i; log = records i; hi = end i; blocks = g.blocks; pages = versions i }
-
-    held : HasBlocks g kept (drop skipped blocks) new
-    held =
-        let within = may.may.kept_in_log in
-        let rises = may.may.kept_rises in
-        blocks_stay g _ (drop skipped blocks) old new
-        (subst (λ n. HasBlocks g n (drop skipped blocks) old) (omega (arith, rises)) (blocks_from g (kept_by newest) kept blocks old sound.held (omega (arith, within, next_block_is newest blocks))))
-        (made.others Blocks (λ h. cc))
-
-    list_sound : lists.IsSound (with_master before kept)
-    list_sound = by may.orderly
-      where
-        by : AreOrderly before.log ⊎ (kept ≡ before.hi) → lists.IsSound (with_master before kept)
-        by (inl orderly) = below.sound before kept sound.records orderly may.may
-        by (inr none) = subst (λ n. lists.IsSound (with_master before n)) (sym none) (below.empty_sound before sound.records (subst (MayCheckpoint before) none may.may))
-
-    list_means : (table : List Content) (count : ℕ) → Means before table count → Means (with_master before kept) table count
-    list_means table count means = by may.orderly
-      where
-        by : AreOrderly before.log ⊎ (kept ≡ before.hi) → Means (with_master before kept) table count
-        by (inl orderly) = below.means before kept sound.records orderly may.may table count means
-        by (inr none) = subst (λ n. Means (with_master before n) table count) (sym none) (below.empty_means before sound.records (subst (MayCheckpoint before) none may.may) table count means)
-
-    list_orderly : AreOrderly (with_master before kept).log
-    list_orderly = by may.orderly
-      where
-        by : AreOrderly before.log ⊎ (kept ≡ before.hi) → AreOrderly (with_master before kept).log
-        by (inl orderly) = below.orderly before kept sound.records orderly
-        by (inr none) = subst (λ n. AreOrderly (with_master before n).log) (sym none) (below.empty_orderly before sound.records)
-
-    pub sound_saved : IsSoundUnder (Some (master_in content)) g new (blocks_saved newest blocks content)
-    sound_saved = record {
-      octets = saved_octets newest g old new content sound.octets may.unit made;
-      held = held;
-      records = subst lists.IsSound (sym logical_image_saved) list_sound;
-    }
-
-    pub means_saved : (table : List Content) (count : ℕ) → Means before table count → Means (logical_image_under (Some (master_in content)) g new (blocks_saved newest blocks content)) table count
-    means_saved table count means = subst (λ (p : LogicalImage). Means p table count) (sym logical_image_saved) (list_means table count means)
-
-    pub orderly_saved : AreOrderly (logical_image_under (Some (master_in content)) g new (blocks_saved newest blocks content)).log
-    orderly_saved = subst (λ (p : LogicalImage). AreOrderly p.log) (sym logical_image_saved) list_orderly
-
-  pub saved_logical_image : SavedLogicalImage
-  saved_logical_image newest g old new blocks content sound may made = logical_image_saved newest g old new blocks content sound may made
-
-  pub saved_is_sound : SavedIsSound
-  saved_is_sound newest g old new blocks content sound may made = sound_saved newest g old new blocks content sound may made
-
-  pub saved_means : SavedMeans
-  saved_means newest g old new blocks content sound may made table count means = means_saved newest g old new blocks content sound may made table count means
-
-  pub saved_is_orderly : SavedIsOrderly
-  saved_is_orderly newest g old new blocks content sound may made = orderly_saved newest g old new blocks content sound may made
-
-  -- A unit of a master is the one that its octets say.
-
-  module _ (newest : Option Master) (g : Geometry) (image : Image) (blocks : List (List LogRecord)) (content : List ℕ) (m : Master) (unit : IsUnit content m)
-      (master : seen m ≡ (with_master (logical_image_under newest g image blocks) m.kept).master) (may : MayCheckpoint (logical_image_under newest g image blocks) m.kept) where
-    abbrev standing : LogicalImage
-    standing = logical_image_under newest g image blocks
-
-    may_save : AreOrderly standing.log ⊎ (m.kept ≡ standing.hi) → MaySave newest g image blocks content
-    may_save orderly =
-        let is = sym (below.read content m unit) in record {
-          unit = subst (IsUnit content) is unit;
-          master = subst (λ (n : Master). seen n ≡ (with_master standing n.kept).master) is master;
-          may = subst (λ (n : Master). MayCheckpoint standing n.kept) is may;
-          orderly = subst (λ (n : Master). AreOrderly standing.log ⊎ (n.kept ≡ standing.hi)) is orderly;
-        }
-
-    none_saved : m.kept ≡ standing.hi → blocks_saved newest blocks content ≡ []
-    none_saved all =
-        let is : (master_in content).kept ≡ m.kept = ap (λ (n : Master). n.kept) (below.read content m unit) in
-        drop_of_length-le blocks (omega (arith, is, all, next_block_is newest blocks))
-
-  pub checkpoint_may_save : CheckpointMaySave
-  checkpoint_may_save newest g image blocks content m sound unit is flushed rises within orderly =
-      let p = logical_image_under newest g image blocks in
-      may_save newest g image blocks content m unit (master_is_saved below.loser below.listed p m sound.records is) ((checkpoint_needs p m.kept sound.records).1 (flushed, rises, within)) orderly
-
-  pub master_may_save : MasterMaySave
-  master_may_save newest g image blocks content m unit master may orderly = may_save newest g image blocks content m unit master may (inl orderly)
-
-  pub empty_master_may_save : EmptyMasterMaySave
-  empty_master_may_save newest g image blocks content m unit master may all =
-      (may_save newest g image blocks content m unit master may (inr all), none_saved newest g image blocks content m unit master may all)
+pub empty_master_may_save : EmptyMasterMaySave
+empty_master_may_save newest g image blocks content m unit master may all =
+    (may_save newest g image blocks content m unit master may (inr all), none_saved newest g image blocks content m unit master may all)
 
 -- The blocks of the transactions that the master names as active.
 

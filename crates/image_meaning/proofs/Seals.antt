@@ -1,10 +1,9 @@
 -- A block that goes on is sealed.
-use Rattle.std.proofs.Common.{◌≡◌, ℕ, ◌+◌, List, [], ◌∷◌, ◌++◌, Option, sym, ap, subst, ◌∙◌, arith, length-append, ◌*◌}
+use Rattle.std.proofs.Common.{◌≡◌, ℕ, ◌+◌, List, [], ◌∷◌, ◌++◌, Option, sym, ap, subst, ◌∙◌, arith, length-append}
 use Rattle.site.specs.declared.geometry.Geometry.{Geometry}
 use Rattle.site.specs.State.{Image}
 use Rattle.record_model.specs.State.{Content, table_with}
 use Rattle.log_records.specs.declared.log_record.LogRecord.{LogRecord}
-use Rattle.log_records.specs.Log.{log_from, entries_from}
 use Rattle.log_records.specs.Sound.{LogicalImage, Means}
 use Rattle.log_records.specs.Sound as lists
 use Rattle.log_laws.specs.Follow.{GoesOn, sealed, writes_in}
@@ -15,7 +14,7 @@ use Rattle.checkpoint.specs.declared.master.Master.{Master}
 use Rattle.image_changes.specs.Rings.{Masters, Groups, Segments, KeepsUnits, shape_of}
 use Rattle.image_changes.specs.Changes.{SealsBlock, Makes}
 use Rattle.log_store.proofs.BlockLaws.{blocks_more}
-use Rattle.image_meaning.specs.Meaning.{master_of, kept_by, next_block_under, logical_image_under, IsSoundUnder, versions_on}
+use Rattle.image_meaning.specs.Meaning.{logical_image_under, IsSoundUnder, versions_on}
 use Rattle.image_meaning.specs.Laws as laws
 use Rattle.image_meaning.proofs.Versions.{versions_same, version_stays}
 use Rattle.image_meaning.proofs.UnchangedImages.{next_block_is, octets_stay, same_logical_image}
@@ -23,11 +22,7 @@ use Rattle.image_meaning.proofs.UnchangedImages.{next_block_is, octets_stay, sam
 -- the logical image of an image with one more block
 pub blocks_sealed : (newest : Option Master) (g : Geometry) (image : Image) (blocks : List (List LogRecord)) (records : List LogRecord) →
     logical_image_under newest g image (blocks ++ records ∷ []) ≡ sealed (logical_image_under newest g image blocks) records
-blocks_sealed newest g image blocks records =
-    let next = next_block_is newest blocks in
-    let log = log_from-append blocks records (kept_by newest) ∙ ap (λ n. log_from (kept_by newest) blocks ++ entries_from (512 * n + 2) records) (sym next) in
-    let hi : next_block_under newest (blocks ++ records ∷ []) ≡ next_block_under newest blocks + 1 = omega (arith, next, next_block_is newest (blocks ++ records ∷ []), length-append blocks (records ∷ [])) in
-    λ i. record { master = master_of newest; log = log i; hi = hi i; blocks = g.blocks; pages = versions_on g image }
+blocks_sealed newest g image blocks records = grind (arith, next_block_is, log_from-append, length-append)
 
 module _ (newest : Option Master) (g : Geometry) (old new : Image) (blocks : List (List LogRecord)) (records : List LogRecord) (made : Makes g (SealsBlock records) old new) where
   masters : KeepsUnits (shape_of g Masters) old new

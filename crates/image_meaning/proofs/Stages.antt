@@ -14,7 +14,7 @@ use Rattle.log_records.specs.Sound as lists
 use Rattle.slotted_page.specs.Layout as page
 use Rattle.frame_group.specs.Groups.{Frame}
 use Rattle.frame_group.specs.Versions.{last_frame, version, CleanAsDisk}
-use Rattle.frame_group.specs.Laws.{StagingKeepsVersions, StagingKeepsClean}
+use Rattle.frame_group.proofs.LastFrames.{staging_keeps_versions, staging_keeps_clean}
 use Rattle.disk_pages.specs.Pages.{page_on}
 use Rattle.disk_pages.proofs.PageLaws.{page_stays}
 use Rattle.checkpoint.specs.declared.master.Master.{Master}
@@ -24,7 +24,6 @@ use Rattle.log_store.proofs.BlockLaws.{blocks_stay}
 use Rattle.flash_cache.specs.Representation.{frames_on, disk_on, version_on, IsCleanOn}
 use Rattle.image_meaning.specs.Meaning.{logical_image_under, IsSoundUnder, versions_on}
 use Rattle.image_meaning.specs.Changes.{MayStage}
-use Rattle.image_meaning.specs.Laws.{StagedIsSound, StagedMeans}
 use Rattle.image_meaning.proofs.Versions.{versions_same, frames_stay}
 use Rattle.image_meaning.proofs.UnchangedImages.{lengths_stay, newest_stays, groups_stay, segments_stay, same_logical_image}
 
@@ -39,7 +38,7 @@ apart number other place ne from below =
       ]
     ]
 
-module _ (versions_kept : StagingKeepsVersions) (clean_kept : StagingKeepsClean) (newest : Option Master) (g : Geometry) (old new : Image) (blocks : List (List LogRecord)) (pages : List ℕ) (sound : IsSoundUnder newest g old blocks)
+module _ (newest : Option Master) (g : Geometry) (old new : Image) (blocks : List (List LogRecord)) (pages : List ℕ) (sound : IsSoundUnder newest g old blocks)
     (may : MayStage g old pages) (made : Makes g (RewritesPages pages) old new) where
   -- a page that isn't rewritten is as it was
   pub page_kept : (number : ℕ) → (Contains pages number → ⊥) → disk_on new number ≡ disk_on old number
@@ -72,12 +71,12 @@ module _ (versions_kept : StagingKeepsVersions) (clean_kept : StagingKeepsClean)
   pub version_kept : (number : ℕ) → version_on g new number ≡ version_on g old number
   version_kept number =
       ap (λ (fs : List Frame). version (disk_on new) fs number) same_frames
-      ∙ versions_kept (disk_on old) (disk_on new) (frames_on g old) (λ other none. page_kept other (unlisted other none)) number
+      ∙ staging_keeps_versions (disk_on old) (disk_on new) (frames_on g old) (λ other none. page_kept other (unlisted other none)) number
 
   clean : IsCleanOn g new
   clean =
       subst (CleanAsDisk (disk_on new)) (sym same_frames)
-      (clean_kept (disk_on old) (disk_on new) (frames_on g old) (λ other frame last not_dirty. page_kept other (clean_unlisted other frame last not_dirty)) sound.octets.clean)
+      (staging_keeps_clean (disk_on old) (disk_on new) (frames_on g old) (λ other frame last not_dirty. page_kept other (clean_unlisted other frame last not_dirty)) sound.octets.clean)
 
   pub same_versions : versions_on g new ≡ versions_on g old
   same_versions = versions_same g old new version_kept
@@ -99,9 +98,3 @@ module _ (versions_kept : StagingKeepsVersions) (clean_kept : StagingKeepsClean)
 
   pub means_staged : (table : List Content) (count : ℕ) → Means (logical_image_under newest g old blocks) table count → Means (logical_image_under newest g new blocks) table count
   means_staged table count means = subst (λ (p : LogicalImage). Means p table count) (sym (same_logical_image newest g old new blocks same_versions)) means
-
-pub staged_is_sound : StagingKeepsVersions → StagingKeepsClean → StagedIsSound
-staged_is_sound versions_kept clean_kept newest g old new blocks pages sound may made = sound_staged versions_kept clean_kept newest g old new blocks pages sound may made
-
-pub staged_means : StagingKeepsVersions → StagingKeepsClean → StagedMeans
-staged_means versions_kept clean_kept newest g old new blocks pages sound may made table count means = means_staged versions_kept clean_kept newest g old new blocks pages sound may made table count means

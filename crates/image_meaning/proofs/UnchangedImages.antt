@@ -1,6 +1,5 @@
 -- What stays of an image whose groups and disk stay.
 use Rattle.std.proofs.Common.{◌≡◌, ℕ, ◌+◌, ◌<◌, List, length, map, refl, arith, Option, Some, None, sym, ap, subst, ◌∙◌}
-use Rattle.std.specs.List.{AllByRecursion}
 use Rattle.site.specs.declared.geometry.Geometry.{Geometry}
 use Rattle.site.specs.declared.outside.Dev.TheVariants.{Log, Flash, Disk}
 use Rattle.site.specs.Geometry.{HasLengths}
@@ -10,20 +9,21 @@ use Rattle.log_records.specs.declared.log_record.LogRecord.{LogRecord}
 use Rattle.log_records.specs.Sound.{LogicalImage, Means}
 use Rattle.log_records.specs.Sound as lists
 use Rattle.slotted_page.specs.Layout as page
-use Rattle.frame_group.specs.Groups.{Frame, IsGroup, frames_in}
+use Rattle.frame_group.specs.Groups.{frames_in}
 use Rattle.frame_group.specs.Versions.{CleanAsDisk}
 use Rattle.checkpoint.specs.declared.master.Master.{Master}
 use Rattle.checkpoint.specs.Newest.{newest_of, IsOf}
 use Rattle.image_changes.specs.Rings.{RingName, Masters, Blocks, Groups, Segments, shape_of, group_shape, segment_shape, KeepsUnits}
 use Rattle.image_changes.specs.Changes.{SameSizes}
 use Rattle.log_store.proofs.BlockLaws.{blocks_stay}
-use Rattle.tail_rebuild.specs.Standing.{HasSaved}
 use Rattle.tail_rebuild.proofs.Following.{saved_again}
 use Rattle.flash_cache.specs.Representation.{frames_on, groups_on, disk_on}
-use Rattle.image_meaning.specs.Meaning.{kept_by, next_block_under, logical_image_under, IsUnused, HasNewest, IsFrameOf, AreGroups, AreSegments, AreOctetsSoundUnder, versions_on}
+use Rattle.image_meaning.specs.Meaning.{kept_by, next_block_under, logical_image_under, IsUnused, HasNewest, AreGroups, AreSegments, AreOctetsSoundUnder, versions_on}
 use Rattle.image_meaning.specs.LogicalImages.{with_versions}
-use Rattle.image_meaning.specs.Laws.{SameIsSound, SameMeans}
 use Rattle.image_meaning.proofs.Versions.{versions_same, version_stays, frames_stay, disk_stays}
+use Rattle.image_changes.specs.Changes.{ReadsAs}
+use Rattle.image_meaning.specs.Meaning.{IsSoundUnder}
+use Rattle.record_model.specs.State.{Content}
 
 pub next_block_is : (newest : Option Master) (blocks : List (List LogRecord)) → next_block_under newest blocks ≡ kept_by newest + length blocks
 next_block_is None blocks = omega arith
@@ -44,21 +44,14 @@ newest_stays (Some m) g old new keeps is = record {
 }
 
 pub groups_stay : (g : Geometry) (old new : Image) → KeepsUnits (group_shape g) old new → AreGroups g old → AreGroups g new
-groups_stay g old new keeps groups = record {
-  form = keeps.form groups.form;
-  each = subst (λ (u : Units). AllByRecursion (λ content. IsGroup content (frames_in content)) u.live) (sym keeps.units) groups.each;
-  frames = subst (AllByRecursion (IsFrameOf g)) (sym (frames_stay g old new keeps)) groups.frames;
-}
+groups_stay g old new keeps groups = grind (arith, frames_stay)
 
 -- Segments that follow the groups follow them still.
 pub same_groups : (g : Geometry) (old new : Image) → KeepsUnits (group_shape g) old new → groups_on g new ≡ groups_on g old
 same_groups g old new keeps = ap (λ (u : Units). map frames_in u.live) keeps.units
 
 pub segments_stay : (g : Geometry) (old new : Image) → KeepsUnits (segment_shape g) old new → KeepsUnits (group_shape g) old new → AreSegments g old → AreSegments g new
-segments_stay g old new there here segments = record {
-  segments = segments.segments;
-  follow = subst (λ (groups : List (List Frame)). HasSaved g groups segments.segments new) (sym (same_groups g old new here)) (saved_again g (groups_on g old) segments.segments old new here there segments.follow);
-}
+segments_stay g old new there here segments = grind (arith, same_groups, saved_again)
 
 -- The octets of an image whose groups and disk stay, and whose segments follow, are sound still, under whatever master is the newest then.
 pub octets_beside : (before after : Option Master) (g : Geometry) (old new : Image) → SameSizes old new → HasNewest after g new → AreSegments g new → KeepsUnits (group_shape g) old new →
@@ -83,7 +76,8 @@ octets_stay newest g old new sizes masters segments groups disk sound =
 pub same_logical_image : (newest : Option Master) (g : Geometry) (old new : Image) (blocks : List (List LogRecord)) → versions_on g new ≡ versions_on g old → logical_image_under newest g new blocks ≡ logical_image_under newest g old blocks
 same_logical_image newest g old new blocks same = ap (with_versions (logical_image_under newest g old blocks)) same
 
-pub same_is_sound : SameIsSound
+-- what reads the same is sound too, and stands for the same
+pub same_is_sound : (newest : Option Master) (g : Geometry) (old new : Image) (blocks : List (List LogRecord)) → IsSoundUnder newest g old blocks → ReadsAs g old new → IsSoundUnder newest g new blocks
 same_is_sound newest g old new blocks sound reads =
     let versions = versions_same g old new (version_stays g old new (reads.rings Groups) reads.disk) in
     record {
@@ -92,7 +86,7 @@ same_is_sound newest g old new blocks sound reads =
       records = subst lists.IsSound (sym (same_logical_image newest g old new blocks versions)) sound.records;
     }
 
-pub same_means : SameMeans
+pub same_means : (newest : Option Master) (g : Geometry) (old new : Image) (blocks : List (List LogRecord)) → ReadsAs g old new → (table : List Content) (count : ℕ) → Means (logical_image_under newest g old blocks) table count → Means (logical_image_under newest g new blocks) table count
 same_means newest g old new blocks reads table count means =
     let versions = versions_same g old new (version_stays g old new (reads.rings Groups) reads.disk) in
     subst (λ (p : LogicalImage). Means p table count) (sym (same_logical_image newest g old new blocks versions)) means

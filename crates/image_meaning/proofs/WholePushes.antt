@@ -13,7 +13,7 @@ use Rattle.log_records.specs.Sound.{LogicalImage, Means}
 use Rattle.log_laws.specs.NewImage.{Replaces}
 use Rattle.frame_group.specs.Groups.{Frame, IsGroup}
 use Rattle.frame_group.specs.Versions.{frames_of, last_frame}
-use Rattle.frame_group.specs.Laws.{IsStaged, StagingKeepsVersions, StagingKeepsClean}
+use Rattle.frame_group.specs.Laws.{IsStaged}
 use Rattle.frame_group.proofs.LastFrames.{last_of_both}
 use Rattle.disk_pages.specs.Pages.{page_on}
 use Rattle.checkpoint.specs.declared.master.Master.{Master}
@@ -25,24 +25,18 @@ use Rattle.flash_cache.specs.Representation.{frames_on, disk_on}
 use Rattle.flash_cache.specs.Pushed.{changes_of_push}
 use Rattle.image_meaning.specs.Meaning.{logical_image_under, IsSoundUnder, version_in}
 use Rattle.image_meaning.specs.Changes.{front_on, rest_on, MayStage, MayAppend}
-use Rattle.image_meaning.specs.PushLaws.{MayPushGroup, PushKeepsSound, PushKeepsMeaning}
+use Rattle.image_meaning.specs.PushLaws.{MayPushGroup}
 use Rattle.image_meaning.proofs.UnchangedImages.{same_is_sound, same_means, same_logical_image}
-use Rattle.image_meaning.proofs.Stages.{staged_is_sound, staged_means, page_kept, same_versions}
+use Rattle.image_meaning.proofs.Stages.{sound_staged, means_staged, page_kept, same_versions}
 use Rattle.image_meaning.proofs.Appends.{pushed_is_sound, pushed_means, frames_before}
+use Rattle.site.specs.State.{Snapshot, State}
+use Rattle.flash_cache.specs.Pushed.{LeavesPush}
 pub use Rattle.image_changes.proofs.Sequence.{reaches_parts}
 
 -- what staging makes of an image, whatever pages there are
 rewritten : (g : Geometry) (pages : List ℕ) (a b : Image) → Reaches g (changes_of pages) a b → Rewrites g pages a b
-rewritten g [] a b reads = record { sizes = reads.sizes; rings = reads.rings; exist = tt; others = λ place out. ap (λ (disk : List ℕ). slice_index disk place) reads.disk }
-rewritten g (page ∷ pages) a b reached =
-    let made = reached.1 in
-    let reads = reached.2 in
-    record {
-      sizes = λ dev. reads.sizes dev ∙ made.sizes dev;
-      rings = λ ring. record { units = (reads.rings ring).units ∙ (made.rings ring).units; form = λ form. (reads.rings ring).form ((made.rings ring).form form) };
-      exist = made.exist;
-      others = λ place out. ap (λ (disk : List ℕ). slice_index disk place) reads.disk ∙ made.others place out;
-    }
+rewritten g [] a b reads = grind arith
+rewritten g (page ∷ pages) a b reached = grind arith
 
 one_front : {X : Type 0} (x y : X) (ys left : List X) → x ∷ [] ≡ (y ∷ ys) ++ left → y ∷ ys ≡ x ∷ []
 one_front x y [] left same = sym (ap (take 1) same)
@@ -55,7 +49,7 @@ front_cases g [] (change ∷ changes) a b front reached = let long = ap length f
 front_cases g (page ∷ pages) (change ∷ changes) a b front reached =
     inr (rewritten g (page ∷ pages) a b (subst (λ (l : List Change). Reaches g l a b) (one_front (RewritesPages (page ∷ pages)) change changes front.0 front.1) reached))
 
-module _ (versions_kept : StagingKeepsVersions) (clean_kept : StagingKeepsClean) (newest : Option Master) (g : Geometry) (pages : List ℕ) (contents : List (List ℕ)) (group : List ℕ) (frames : List Frame) (old new : Image)
+module _ (newest : Option Master) (g : Geometry) (pages : List ℕ) (contents : List (List ℕ)) (group : List ℕ) (frames : List Frame) (old new : Image)
     (blocks : List (List LogRecord)) (sound : IsSoundUnder newest g old blocks) (is_group : IsGroup group frames) (may : MayPushGroup newest g old blocks pages contents frames) where
   page_at : (number : ℕ) (listed : Contains pages number) → slice_index pages listed.0 ≡ number
   page_at number listed = get_or_default pages listed.0 0 number listed.1 ∙ listed.2
@@ -68,7 +62,7 @@ module _ (versions_kept : StagingKeepsVersions) (clean_kept : StagingKeepsClean)
 
   -- while pages are staged
   sound_before : Rewrites g pages old new → IsSoundUnder newest g new blocks
-  sound_before made = staged_is_sound versions_kept clean_kept newest g old new blocks pages sound may_stage made
+  sound_before made = sound_staged newest g old new blocks pages sound may_stage made
 
   part_sound : ReadsAs g old new ⊎ Rewrites g pages old new → IsSoundUnder newest g new blocks
   part_sound (inl reads) = same_is_sound newest g old new blocks sound reads
@@ -76,12 +70,12 @@ module _ (versions_kept : StagingKeepsVersions) (clean_kept : StagingKeepsClean)
 
   part_means : ReadsAs g old new ⊎ Rewrites g pages old new → (table : List Content) (count : ℕ) → Means (logical_image_under newest g old blocks) table count → Means (logical_image_under newest g new blocks) table count
   part_means (inl reads) table count means = same_means newest g old new blocks reads table count means
-  part_means (inr made) table count means = staged_means versions_kept clean_kept newest g old new blocks pages sound may_stage made table count means
+  part_means (inr made) table count means = means_staged newest g old new blocks pages sound may_stage made table count means
 
   -- Once they are staged, the group is appended.
   module _ (mid : Image) (made : Rewrites g pages old mid) (disk : new.disk ≡ mid.disk) (staged : HasStaged pages contents old.disk new.disk) where
     sound_mid : IsSoundUnder newest g mid blocks
-    sound_mid = staged_is_sound versions_kept clean_kept newest g old mid blocks pages sound may_stage made
+    sound_mid = sound_staged newest g old mid blocks pages sound may_stage made
 
     page_staged : (number : ℕ) (frame : Frame) → Contains pages number → last_frame number (frames_on g old) ≡ Some frame → disk_on mid number ≡ frame.octets
     page_staged number frame listed last =
@@ -105,14 +99,14 @@ module _ (versions_kept : StagingKeepsVersions) (clean_kept : StagingKeepsClean)
       pushed = record {
         clean = λ number frame last not_dirty.
             may.clean number frame last not_dirty
-            ∙ sym (page_kept versions_kept clean_kept newest g old mid blocks pages sound may_stage made number (may.apart number frame last not_dirty));
+            ∙ sym (page_kept newest g old mid blocks pages sound may_stage made number (may.apart number frame last not_dirty));
         staged = λ number absent.
             subst (λ (u : Units). IsStaged (disk_on mid) (frames_of (take (length u.live + 1 - (g.groups - 1)) u.live)) (frames_of (drop (length u.live + 1 - (g.groups - 1)) u.live)) number)
             (sym (made.rings Groups).units) (front_staged number absent);
       };
       replace = λ number frame last.
           subst (λ (p : LogicalImage). Replaces p number (version_in frame.octets))
-          (sym (same_logical_image newest g old mid blocks (same_versions versions_kept clean_kept newest g old mid blocks pages sound may_stage made))) (may.replace number frame last);
+          (sym (same_logical_image newest g old mid blocks (same_versions newest g old mid blocks pages sound may_stage made))) (may.replace number frame last);
     }
 
     module _ (after : Image) (appended : Makes g (AppendsGroup group) mid after) (reads : ReadsAs g after new) where
@@ -123,29 +117,31 @@ module _ (versions_kept : StagingKeepsVersions) (clean_kept : StagingKeepsClean)
       all_means table count means =
           same_means newest g after new blocks reads table count
           (pushed_means newest g mid after blocks group frames sound_mid is_group may_append appended table count
-          (staged_means versions_kept clean_kept newest g old mid blocks pages sound may_stage made table count means))
+          (means_staged newest g old mid blocks pages sound may_stage made table count means))
 
-pub push_keeps_sound : StagingKeepsVersions → StagingKeepsClean → PushKeepsSound
-push_keeps_sound versions_kept clean_kept newest g pages contents group frames old snapshot blocks sound is_group may leaves = by leaves.either
+-- Whatever a crash leaves of it is sound,
+pub push_keeps_sound : (newest : Option Master) (g : Geometry) (pages : List ℕ) (contents : List (List ℕ)) (group : List ℕ) (frames : List Frame) (old : State) (snapshot : Snapshot) (blocks : List (List LogRecord)) → IsSoundUnder newest g old.image blocks → IsGroup group frames → MayPushGroup newest g old.image blocks pages contents frames → LeavesPush g pages contents group old snapshot → IsSoundUnder newest g snapshot.image blocks
+push_keeps_sound newest g pages contents group frames old snapshot blocks sound is_group may leaves = by leaves.either
   where
     by : ((changes : List Change) × IsFrontOf (changes_of pages) changes × Reaches g changes old.image snapshot.image)
         ⊎ (HasStaged pages contents old.image.disk snapshot.image.disk × Reaches g (changes_of_push pages group) old.image snapshot.image) → IsSoundUnder newest g snapshot.image blocks
-    by (inl part) = part_sound versions_kept clean_kept newest g pages contents group frames old.image snapshot.image blocks sound is_group may (front_cases g pages part.0 old.image snapshot.image part.1 part.2)
+    by (inl part) = part_sound newest g pages contents group frames old.image snapshot.image blocks sound is_group may (front_cases g pages part.0 old.image snapshot.image part.1 part.2)
     by (inr whole) =
         let parts = reaches_parts g (changes_of pages) (AppendsGroup group ∷ []) old.image snapshot.image whole.1 in
         let last = parts.2 in
-        all_sound versions_kept clean_kept newest g pages contents group frames old.image snapshot.image blocks sound is_group may parts.0 (rewritten g pages old.image parts.0 parts.1)
+        all_sound newest g pages contents group frames old.image snapshot.image blocks sound is_group may parts.0 (rewritten g pages old.image parts.0 parts.1)
         (last.2.disk ∙ last.1.disk) whole.0 last.0 last.1 last.2
 
-pub push_keeps_meaning : StagingKeepsVersions → StagingKeepsClean → PushKeepsMeaning
-push_keeps_meaning versions_kept clean_kept newest g pages contents group frames old snapshot blocks sound is_group may leaves = by leaves.either
+-- and stands for the same.
+pub push_keeps_meaning : (newest : Option Master) (g : Geometry) (pages : List ℕ) (contents : List (List ℕ)) (group : List ℕ) (frames : List Frame) (old : State) (snapshot : Snapshot) (blocks : List (List LogRecord)) → IsSoundUnder newest g old.image blocks → IsGroup group frames → MayPushGroup newest g old.image blocks pages contents frames → LeavesPush g pages contents group old snapshot → (table : List Content) (count : ℕ) → Means (logical_image_under newest g old.image blocks) table count → Means (logical_image_under newest g snapshot.image blocks) table count
+push_keeps_meaning newest g pages contents group frames old snapshot blocks sound is_group may leaves = by leaves.either
   where
     by : ((changes : List Change) × IsFrontOf (changes_of pages) changes × Reaches g changes old.image snapshot.image)
         ⊎ (HasStaged pages contents old.image.disk snapshot.image.disk × Reaches g (changes_of_push pages group) old.image snapshot.image) →
         (table : List Content) (count : ℕ) → Means (logical_image_under newest g old.image blocks) table count → Means (logical_image_under newest g snapshot.image blocks) table count
-    by (inl part) = part_means versions_kept clean_kept newest g pages contents group frames old.image snapshot.image blocks sound is_group may (front_cases g pages part.0 old.image snapshot.image part.1 part.2)
+    by (inl part) = part_means newest g pages contents group frames old.image snapshot.image blocks sound is_group may (front_cases g pages part.0 old.image snapshot.image part.1 part.2)
     by (inr whole) =
         let parts = reaches_parts g (changes_of pages) (AppendsGroup group ∷ []) old.image snapshot.image whole.1 in
         let last = parts.2 in
-        all_means versions_kept clean_kept newest g pages contents group frames old.image snapshot.image blocks sound is_group may parts.0 (rewritten g pages old.image parts.0 parts.1)
+        all_means newest g pages contents group frames old.image snapshot.image blocks sound is_group may parts.0 (rewritten g pages old.image parts.0 parts.1)
         (last.2.disk ∙ last.1.disk) whole.0 last.0 last.1 last.2

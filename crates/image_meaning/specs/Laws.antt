@@ -1,6 +1,5 @@
 -- Laws on images.
 use Rattle.std.specs.Prelude.{◌≡◌, ℕ, ◌+◌, ◌*◌, ◌<◌, List, [], ◌∷◌, ◌++◌, replicate, Option, None}
-use Rattle.std.specs.List.{AllByRecursion}
 use Rattle.site.specs.declared.geometry.Geometry.{Geometry}
 use Rattle.site.specs.Geometry.{HasLimits, blank_image}
 use Rattle.site.specs.State.{Image}
@@ -16,15 +15,13 @@ use Rattle.checkpoint.specs.declared.master.Master.{Master}
 use Rattle.checkpoint.specs.Newest.{HasMaster}
 use Rattle.sealed_ring.specs.Ring.{IsRing}
 use Rattle.image_changes.specs.Rings.{master_shape}
-use Rattle.image_changes.specs.Changes.{Change, SealsBlock, RewritesPages, AppendsGroup, AppendsSegment, ReadsAs, Makes}
-use Rattle.image_changes.specs.Changes.{Reaches}
+use Rattle.image_changes.specs.Changes.{SealsBlock, RewritesPages, AppendsGroup, AppendsSegment, Makes}
 use Rattle.log_store.specs.Representation.{HasBlocks}
 use Rattle.flash_cache.specs.Representation.{version_on}
 use Rattle.image_meaning.specs.Meaning.{saved_by, kept_by, logical_image_under, version_in, HasNewest}
 use Rattle.image_meaning.specs.Meaning.{AreOctetsSoundUnder}
 use Rattle.image_meaning.specs.Meaning.{IsSoundUnder, StandsUnder, StandsFor}
-use Rattle.image_meaning.specs.Changes.{MaySaveSegment, MayAppend, MayStage, MayMake, MayMakeAll, SealsNoCommit}
-use Rattle.image_meaning.specs.Changes.{newest_after, blocks_after, newest_after_all, blocks_after_all}
+use Rattle.image_meaning.specs.Changes.{MaySaveSegment, MayAppend, MayStage}
 
 -- blank devices stand for the table without values
 abbrev pub BlankStands : Type 0
@@ -51,17 +48,6 @@ abbrev pub ReadIsNewest : Type 0
 ReadIsNewest =
     (g : Geometry) (image : Image) (m : Master) → IsRing master_shape image.log → HasMaster image m →
     (newest : Option Master) × HasNewest newest g image × (m ≡ saved_by newest)
-
--- what reads the same is sound too, and stands for the same
-abbrev pub SameIsSound : Type 0
-SameIsSound = (newest : Option Master) (g : Geometry) (old new : Image) (blocks : List (List LogRecord))
-    → IsSoundUnder newest g old blocks → ReadsAs g old new → IsSoundUnder newest g new blocks
-
-abbrev pub SameMeans : Type 0
-SameMeans =
-    (newest : Option Master) (g : Geometry) (old new : Image) (blocks : List (List LogRecord)) → ReadsAs g old new →
-    (table : List Content) (count : ℕ) → Means (logical_image_under newest g old blocks) table count
-    → Means (logical_image_under newest g new blocks) table count
 
 -- A block that goes on is sealed.
 abbrev pub SealedIsSound : Type 0
@@ -168,37 +154,3 @@ VersionReplaces =
     Replaces (logical_image_under newest g image blocks) number (version_in (version_on g image number))
 
 -- Changes that may be made, one after the other.
-
--- each of them keeps an image sound
-abbrev pub ChangeKeepsSound : Type 0
-ChangeKeepsSound =
-    (newest : Option Master) (g : Geometry) (old new : Image) (blocks : List (List LogRecord)) (change : Change)
-    → IsSoundUnder newest g old blocks → MayMake newest g old blocks change → Makes g change old new →
-    IsSoundUnder (newest_after newest change) g new (blocks_after newest blocks change)
-
--- and what it stands for, where it seals no Commit
-abbrev pub ChangeKeepsMeaning : Type 0
-ChangeKeepsMeaning =
-    (newest : Option Master) (g : Geometry) (old new : Image) (blocks : List (List LogRecord)) (change : Change)
-    → IsSoundUnder newest g old blocks → MayMake newest g old blocks change →
-    SealsNoCommit change → Makes g change old new →
-    (table : List Content) (count : ℕ) → Means (logical_image_under newest g old blocks) table count
-    → Means (logical_image_under (newest_after newest change) g new (blocks_after newest blocks change)) table count
-
--- so do the first ones of a list
-abbrev pub FrontKeepsSound : Type 0
-FrontKeepsSound =
-    (newest : Option Master) (g : Geometry) (old new : Image) (blocks : List (List LogRecord))
-    (front left : List Change) → IsSoundUnder newest g old blocks → MayMakeAll newest g old blocks (front ++ left)
-    → Reaches g front old new →
-    IsSoundUnder (newest_after_all newest front) g new (blocks_after_all newest blocks front)
-
--- and where none of them seals a Commit the image stands for the same
-abbrev pub FrontKeepsMeaning : Type 0
-FrontKeepsMeaning =
-    (newest : Option Master) (g : Geometry) (old new : Image) (blocks : List (List LogRecord))
-    (front left : List Change) → IsSoundUnder newest g old blocks → MayMakeAll newest g old blocks (front ++ left) →
-    AllByRecursion SealsNoCommit front → Reaches g front old new →
-    (table : List Content) (count : ℕ) → Means (logical_image_under newest g old blocks) table count
-    → Means (logical_image_under (newest_after_all newest front) g new (blocks_after_all newest blocks front))
-    table count

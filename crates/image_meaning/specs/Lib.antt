@@ -11,5 +11,4 @@ pub mod Reached
 pub mod LogicalImageLaws
 pub mod Beside
 pub mod Flushed
-pub mod LowerLaws
 pub mod Checkpoints

@@ -1,5 +1,5 @@
 -- What a crash leaves of calls that change images.
-use Rattle.std.specs.Prelude.{◌≡◌, ◌⊎◌, ℕ, ◌+◌, List, [], ◌∷◌, ◌++◌, Option, None}
+use Rattle.std.specs.Prelude.{◌≡◌, ◌⊎◌, ℕ, ◌+◌, List, [], ◌∷◌, ◌++◌, Option}
 use Rattle.std.specs.List.{AllByRecursion}
 use Rattle.site.specs.declared.geometry.Geometry.{Geometry}
 use Rattle.site.specs.State.{State, Snapshot}
@@ -31,13 +31,6 @@ pub record LeavesEitherUnder (newest : Option Master) (g : Geometry) (before aft
   pub told : snapshot.told ≡ so_far
   pub stands : StandsUnder newest g snapshot.image before commits
       ⊎ StandsUnder newest g snapshot.image after (commits + 1)
-
--- where no master unit stands
-abbrev pub LeavesTable : Geometry → List Content → ℕ → List ℕ → Snapshot → Type 0
-LeavesTable = LeavesTableUnder None
-
-abbrev pub LeavesEither : Geometry → List Content → List Content → ℕ → List ℕ → Snapshot → Type 0
-LeavesEither = LeavesEitherUnder None
 
 -- whatever the newest master is
 pub record LeavesFor (g : Geometry) (table : List Content) (commits : ℕ) (so_far : List ℕ)

@@ -3,18 +3,14 @@ use Rattle.std.specs.Prelude.{◌≡◌, ◌⊎◌, ℕ, ◌<◌, List, Option, 
 use Rattle.std.specs.List.{AllByRecursion}
 use Rattle.site.specs.declared.geometry.Geometry.{Geometry}
 use Rattle.site.specs.State.{State, Image, Snapshot}
-use Rattle.site.specs.Moments.{LeavesOnly}
-use Rattle.record_model.specs.State.{Content}
 use Rattle.log_records.specs.declared.log_record.LogRecord.{LogRecord}
-use Rattle.log_records.specs.Sound.{Means}
 use Rattle.log_laws.specs.NewImage.{Replaces}
 use Rattle.slotted_page.specs.Layout as page
 use Rattle.frame_group.specs.Groups.{Frame}
 use Rattle.checkpoint.specs.declared.master.Master.{Master}
 use Rattle.image_changes.specs.Changes.{Change, RewritesPages, AppendsGroup, AppendsSegment, Reaches}
 use Rattle.flash_cache.specs.Representation.{HasGroups, version_on, IsCleanOn}
-use Rattle.image_meaning.specs.Meaning.{logical_image_under, version_in, IsSoundUnder, AreSegments}
-use Rattle.image_meaning.specs.Moments.{LeavesTableUnder}
+use Rattle.image_meaning.specs.Meaning.{logical_image_under, version_in, AreSegments}
 
 -- a change of groups, of segments or of disk pages
 abbrev pub ChangesPages : Change → Type 0
@@ -45,28 +41,8 @@ pub record IsPushed (newest : Option Master) (g : Geometry) (old new : Image)
   pub clean : IsCleanOn g new
   pub versions : (number : ℕ) → number < g.pages → IsKeptOrReplaced newest g old new blocks number
 
--- Then the other one is sound too, and stands for the same.
-abbrev pub ReachedIsSound : Type 0
-ReachedIsSound = (newest : Option Master) (g : Geometry) (old new : Image) (blocks : List (List LogRecord))
-    → IsSoundUnder newest g old blocks → IsPushed newest g old new blocks → IsSoundUnder newest g new blocks
-
-abbrev pub ReachedMeans : Type 0
-ReachedMeans =
-    (newest : Option Master) (g : Geometry) (old new : Image) (blocks : List (List LogRecord))
-    → IsSoundUnder newest g old blocks → IsPushed newest g old new blocks →
-    (table : List Content) (count : ℕ) → Means (logical_image_under newest g old blocks) table count
-    → Means (logical_image_under newest g new blocks) table count
-
 -- nothing was told, and such an image is left
 pub record LeavesPushed (newest : Option Master) (g : Geometry) (blocks : List (List LogRecord)) (old : State)
     (snapshot : Snapshot) : Type 0 where
   pub told : snapshot.told ≡ old.told
   pub pushed : IsPushed newest g old.image snapshot.image blocks
-
-abbrev pub PushedStands : Type 0
-PushedStands =
-    (newest : Option Master) (g : Geometry) (old new : State) (blocks : List (List LogRecord)) (table : List Content)
-    (count : ℕ) → IsSoundUnder newest g old.image blocks
-    → Means (logical_image_under newest g old.image blocks) table count →
-    LeavesOnly old new (LeavesPushed newest g blocks old)
-    → LeavesOnly old new (LeavesTableUnder newest g table count old.told)

@@ -1,5 +1,4 @@
 // Laws on a new master.
-ghost use Rattle.image_meaning.specs.LowerLaws.{MasterLaws};
 ghost use Rattle.image_meaning.specs.Beside.{RingsSaved};
 ghost use Rattle.image_meaning.specs.Checkpoints.{MasterMaySave, EmptyMasterMaySave, CheckpointMaySave, SavedOctets};
 ghost use Rattle.image_meaning.specs.Checkpoints.{SavedLogicalImage, SavedIsSound, SavedMeans, SavedIsOrderly};
@@ -7,30 +6,13 @@ ghost use Rattle.image_meaning.specs.Checkpoints.{CheckpointStands};
 ghost use Rattle.image_meaning.specs.Checkpoints.{PushedCheckpointStands, SaveStands};
 ghost use Rattle.image_meaning.specs.Checkpoints.{ActiveAreKept};
 
-use checkpoint::{one_master, stays_newest};
-use log_laws::{empty_master, losers_listed, new_master, sealed_is_orderly};
-
-// What the laws rest on.
-pub(crate) fn master_laws()
-    ensures { MasterLaws }
-{
-    new_master();
-    empty_master();
-    sealed_is_orderly();
-    losers_listed();
-    one_master();
-    stays_newest();
-}
-
 /// A master unit may be appended where each page's version knows of all of its records and the blocks of unfinished
 /// transactions are kept: over an orderly log, and over every log where no block is kept. A checkpoint's is one.
 pub fn master_may_save()
     ensures orderly { MasterMaySave }
     ensures empty { EmptyMasterMaySave }
     ensures checkpoint { CheckpointMaySave }
-{
-    master_laws();
-}
+{}
 
 /// Appending a master unit keeps an image sound, and what it stands for, from the new oldest kept block on, and leaves
 /// an orderly log: its octets stay sound, and its logical image is the one before with the new master.
@@ -41,9 +23,7 @@ pub fn master_saved()
     ensures sound { SavedIsSound }
     ensures means { SavedMeans }
     ensures orderly { SavedIsOrderly }
-{
-    master_laws();
-}
+{}
 
 /// Changes that seal no Commit, pushes of pages, and then a master unit leave devices that stand for the same table at
 /// each moment.
@@ -51,10 +31,7 @@ pub fn checkpoint_stands()
     ensures whole { CheckpointStands }
     ensures pushes { PushedCheckpointStands }
     ensures last { SaveStands }
-{
-    frame_group::staged();
-    master_laws();
-}
+{}
 
 /// A sound image keeps the blocks of the transactions that its master names as active.
 pub fn active_are_kept()

@@ -5,19 +5,10 @@ ghost use Rattle.image_meaning.specs.Laws.{SealedWithCommit, StagedIsSound, Stag
 ghost use Rattle.image_meaning.specs.Laws.{SegmentIsSound, SegmentMeans, ReplacedIsSound, ReplacedMeans};
 ghost use Rattle.image_meaning.specs.Laws.{VersionReplaces};
 
-use checkpoint::one_master;
-use log_laws::table_at;
-use log_store::{blank_log, one_log};
-use sealed_ring::blank_is_ring;
-
 /// Blank devices are sound and stand for the table without values, and for no commit.
 pub fn blank_stands()
     ensures { BlankStands }
-{
-    blank_is_ring();
-    blank_log();
-    table_at();
-}
+{}
 
 /// So it does whatever its newest master is. There is one at most, which is the one that is read.
 pub fn one_master_stands()
@@ -25,10 +16,7 @@ pub fn one_master_stands()
     ensures one { OneMasterStands }
     ensures read { NewestIsRead }
     ensures found { ReadIsNewest }
-{
-    one_log();
-    one_master();
-}
+{}
 
 /// Sealing a log block that goes on keeps an image sound. Without a Commit in the block it stands for the same; with
 /// one, the writes of its transaction enter the table, which is one commit more.
@@ -43,9 +31,7 @@ pub fn sealed()
 pub fn staged()
     ensures sound { StagedIsSound }
     ensures means { StagedMeans }
-{
-    frame_group::staged();
-}
+{}
 
 /// Appending a group keeps an image sound, and what it stands for, where no segment is due, each version that it brings
 /// fits the log and is as the one before in each slot that no record stands on, its clean frames equal the disk, and

@@ -6,8 +6,6 @@ ghost use Rattle.image_meaning.specs.Ahead.{SealedPageReplaces, ShownStays, Tabl
 ghost use Rattle.image_meaning.specs.Ahead.{GoesOnStill};
 ghost use Rattle.image_meaning.specs.Flushed.{CheckpointNeeds, OldestIsThere, MasterIsSaved};
 
-use log_laws::losers_listed;
-
 /// New versions of any pages at once keep a logical image sound, and what it stands for. The version that a page has is
 /// one.
 pub fn new_versions()
@@ -63,6 +61,4 @@ pub fn checkpoint_needs()
 /// transactions by ascending Begins, each with its last record, is the one that a checkpoint saves.
 pub fn master_is_saved()
     ensures { MasterIsSaved }
-{
-    losers_listed();
-}
+{}

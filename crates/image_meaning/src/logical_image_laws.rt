@@ -17,9 +17,7 @@ pub fn logical_images()
     ensures staged { StagedVersions }
     ensures replaced { EachReplaces }
     ensures replaced_under { (newest : Option Master) → EachReplacesUnder newest }
-{
-    frame_group::staged();
-}
+{}
 
 /// Under whatever master is the newest there is room for a tail as long as the kept blocks, or their records, one block
 /// more and what is owed have room.

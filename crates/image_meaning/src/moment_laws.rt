@@ -2,17 +2,12 @@
 ghost use Rattle.image_meaning.specs.Moments.{UnderLeavesFor, UnderLeavesEitherFor, FrontStandsFor, FrontStands};
 ghost use Rattle.image_meaning.specs.Moments.{PushStands, CommitStands};
 
-use crate::checkpoint_laws::master_laws;
-
 /// Calls of which a crash leaves the first ones of changes that may be made leave devices that stand for the same table
 /// at each moment, as long as no Commit is sealed: under the same newest master where no master unit is appended.
 pub fn calls_without_commit()
     ensures whole { FrontStandsFor }
     ensures under { FrontStands }
-{
-    frame_group::staged();
-    master_laws();
-}
+{}
 
 /// What stands under a newest master stands whatever it is.
 pub fn under_some_master()
@@ -23,15 +18,10 @@ pub fn under_some_master()
 /// So does a push.
 pub fn whole_push()
     ensures { PushStands }
-{
-    frame_group::staged();
-}
+{}
 
 /// Where the last of the changes seals a Commit, the devices stand for the table of before, or for the one with that
 /// transaction's writes.
 pub fn calls_with_commit()
     ensures { CommitStands }
-{
-    frame_group::staged();
-    master_laws();
-}
+{}

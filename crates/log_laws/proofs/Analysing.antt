@@ -1,5 +1,6 @@
 -- What analysis keeps of each unfinished transaction.
-use Rattle.std.proofs.Common.{◌≡◌, ℕ, ◌+◌, ◌-◌, ◌≤◌, true, false, cond, not, List, [], ◌∷◌, ◌++◌, length, map, drop, refl, sym, ap, subst, ◌∙◌, arith}
+use Rattle.std.proofs.lemmas.Grind.{common_steps}
+use Rattle.std.proofs.Common.{◌≡◌, ℕ, ◌+◌, ◌-◌, ◌≤◌, true, false, List, [], ◌∷◌, ◌++◌, length, map, drop, refl, sym, ap, subst, ◌∙◌, arith}
 use Rattle.std.specs.Prelude.{IsTrue}
 use Rattle.std.specs.List.{AllByRecursion, list_any}
 use Rattle.std.proofs.lemmas.List.{map-append}
@@ -7,44 +8,36 @@ use Rattle.std.proofs.lemmas.Bool.{and_parts, or_from, eq-eqb, ne_eqb}
 use Rattle.std_lemmas.proofs.AllOf.{all_right, all_weaker, all_map}
 use Rattle.std_lemmas.proofs.Lists.{map_same}
 use Rattle.log_records.specs.declared.log_record.LogRecord.{LogRecord}
-use Rattle.log_records.specs.declared.log_record.LogRecord.TheVariants.{Begin, Update, Clr, Commit, End}
-use Rattle.log_records.specs.Log.{Entry, txn_of, is_of, is_closing, is_closed, is_loser, entries_of}
-use Rattle.log_records.specs.Unfinished.{is_begin, losers, left_open, open_by, open_updates}
+use Rattle.log_records.specs.declared.log_record.LogRecord.TheVariants.{Begin, Clr}
+use Rattle.log_records.specs.Log.{Entry, txn_of, is_of, is_closing, is_loser}
+use Rattle.log_records.specs.Unfinished.{is_begin, losers, open_by, open_updates}
 use Rattle.log_records.specs.Sound.{IsInOrder, last_lsn}
 use Rattle.log_laws.specs.Follow.{IsFresh}
-use Rattle.log_laws.specs.UndoLaws.{next_by, next_in, next_of}
+use Rattle.log_laws.specs.UndoLaws.{next_in}
 use Rattle.log_laws.specs.Analysis.{Unfinished, unfinished_at, unfinished_in, remaining_by, after_record, IsUnfinished}
 use Rattle.log_laws.proofs.Values.{with}
 use Rattle.log_laws.proofs.Parts.{are_losers}
 use Rattle.log_laws.proofs.Appends.{fresh_entries}
 use Rattle.log_laws.proofs.Owing.{left_push}
-use Rattle.log_laws.proofs.Losers.{entries_other, entries_own, last_more}
+use Rattle.log_laws.proofs.Losers.{entries_own, last_more}
 use Rattle.log_laws.proofs.Undoing.{next_more}
 use Rattle.log_laws.proofs.Listing.{Ascends, above, losers_ascend, is_listed, losers_begin, losers_stay, losers_closed}
 
 -- One transaction.
 
 at_other : (log : List Entry) (e : Entry) (t : ℕ) → is_of t e ≡ false → unfinished_at (with log e) t ≡ unfinished_at log t
-at_other log e t h = ap (λ (es : List Entry). record { txn = t; last = last_lsn es; next = next_in t es; remaining = length (open_updates [] es) }) (entries_other log e t h)
+at_other log e t h = grind (arith, common_steps)
 
 less_one : (us : List Entry) → length (drop 1 us) ≡ length us - 1
 less_one [] = refl
 less_one (u ∷ us) = omega arith
 
 remaining_is : (us : List Entry) (e : Entry) (rec : LogRecord) → length (open_by us e rec) ≡ remaining_by (length us) rec
-remaining_is us e Begin = refl
-remaining_is us e (Update txn prev page slot before after) = omega arith
 remaining_is us e (Clr txn prev undo_next page slot after) = less_one us
-remaining_is us e (Commit txn n) = refl
-remaining_is us e (End txn) = refl
+remaining_is us e _ = grind arith
 
 pub at_own : (log : List Entry) (e : Entry) (t : ℕ) → is_of t e ≡ true → unfinished_at (with log e) t ≡ after_record (unfinished_at log t) e
-at_own log e t h =
-    let last : last_lsn (entries_of t (with log e)) ≡ e.lsn = last_more log e t ∙ ap (λ b. cond b e.lsn (last_lsn (entries_of t log))) h in
-    let next : next_of (with log e) t ≡ next_by (next_of log t) e.lsn e.rec = next_more log e t ∙ ap (λ b. cond b (next_by (next_of log t) e.lsn e.rec) (next_of log t)) h in
-    let left : length (left_open (with log e) t) ≡ remaining_by (length (left_open log t)) e.rec =
-    ap length (left_push log e t) ∙ ap (λ b. length (cond b (open_by (left_open log t) e e.rec) (left_open log t))) h ∙ remaining_is (left_open log t) e e.rec in
-    λ k. record { txn = t; last = last k; next = next k; remaining = left k }
+at_own log e t h = grind (arith, last_more, next_more, left_push, remaining_is)
 
 -- Lists of them.
 
@@ -60,7 +53,7 @@ rest_is : (x y : Unfinished) (xs ys : List Unfinished) → x ∷ xs ≡ y ∷ ys
 rest_is x y xs ys e = ap (drop 1) e
 
 others_same : (log : List Entry) (e : Entry) (ns : List ℕ) → AllByRecursion (λ n. is_of n e ≡ false) ns → map (unfinished_at (with log e)) ns ≡ map (unfinished_at log) ns
-others_same log e ns h = map_same (unfinished_at (with log e)) (unfinished_at log) ns (all_weaker (λ n. is_of n e ≡ false) (λ n. unfinished_at (with log e) n ≡ unfinished_at log n) (λ n o. at_other log e n o) ns h)
+others_same log e ns h = grind (arith, map_same, all_weaker, at_other)
 
 -- in a list that ascends one changes
 one_changes : (log : List Entry) (e : Entry) (from : ℕ) (ns : List ℕ) (front : List Unfinished) (x : Unfinished) (back : List Unfinished) → Ascends from ns →
@@ -106,8 +99,7 @@ unfinished_begin log lsn fresh =
     none_of (x ∷ l) h = or_from (is_of lsn x) (list_any (is_of lsn) l) h.0 (none_of l h.1)
 
     not_fresh : (t : ℕ) → IsTrue (is_loser log t) → lsn ≡ t → ⊥
-    not_fresh t loser same = let some = (and_parts (list_any (is_of t) log) (not (is_closed log t)) loser).0 in
-        let never = sym (none_of log fresh) ∙ ap (λ s. list_any (is_of s) log) same ∙ some in grind arith
+    not_fresh t loser same = grind (arith, and_parts, none_of)
 
 pub unfinished_more : (from to : ℕ) (log : List Entry) (e : Entry) (front : List Unfinished) (x : Unfinished) (back : List Unfinished) → IsInOrder from log to →
     is_begin e.rec ≡ false → is_closing e.rec ≡ false → unfinished_in log ≡ front ++ x ∷ back → x.txn ≡ txn_of e →

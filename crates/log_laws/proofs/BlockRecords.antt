@@ -39,9 +39,7 @@ past_none number octets used records is end =
     }
 
 regroup : (a b : List Entry) (e : Entry) (c d : List Entry) → a ++ ((b ++ (e ∷ c)) ++ d) ≡ (a ++ b) ++ (e ∷ (c ++ d))
-regroup a b e c d =
-    let one : (b ++ (e ∷ c)) ++ d ≡ b ++ (e ∷ (c ++ d)) = append_assoc b (e ∷ c) d in
-    ap (λ (l : List Entry). a ++ l) one ∙ sym (append_assoc a b (e ∷ (c ++ d)))
+regroup a b e c d = grind (arith, append_assoc)
 
 module _ (one_spelled : OneSpelled) (number : ℕ) (octets : List ℕ) (used at : ℕ) (records : List LogRecord) (done : List Entry) (a : IsPast number octets used at records done) where
   one_left : at < used → (rec : LogRecord) × (others : List LogRecord) × (a.left ≡ rec ∷ others)

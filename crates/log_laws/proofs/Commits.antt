@@ -4,21 +4,14 @@ use Rattle.std.proofs.lemmas.List.{append-nil, length-append}
 use Rattle.std.proofs.lemmas.List.Elements.{filter_map-append}
 use Rattle.record_model.specs.State.{Content, table_with}
 use Rattle.log_records.specs.declared.log_record.LogRecord.{LogRecord}
-use Rattle.log_records.specs.declared.log_record.LogRecord.TheVariants.{Begin, Update, Clr, Commit, End}
+use Rattle.log_records.specs.declared.log_record.LogRecord.TheVariants.{Commit}
 use Rattle.log_records.specs.Log.{Entry}
 use Rattle.log_records.specs.Sound.{LogicalImage, IsSound, Means, commit_number, commit_numbers}
 use Rattle.log_laws.specs.Follow.{GoesOn, sealed, next_entries, table_after, table_after_all, writes_in}
 use Rattle.log_laws.proofs.Seals.{sealed_means}
 
 no_commit : (table : List Content) (log : List Entry) (e : Entry) (entries : List Entry) → commit_numbers (e ∷ entries) ≡ [] → (commit_numbers entries ≡ []) × (table_after table log e.rec ≡ table)
-no_commit table log e entries h = by_rec e.lsn e.rec h
-  where
-    by_rec : (lsn : ℕ) (rec : LogRecord) → commit_numbers (record { lsn = lsn; rec = rec } ∷ entries) ≡ [] → (commit_numbers entries ≡ []) × (table_after table log rec ≡ table)
-    by_rec lsn Begin h = (h, refl)
-    by_rec lsn (Update txn prev page slot before after) h = (h, refl)
-    by_rec lsn (Clr txn prev undo_next page slot after) h = (h, refl)
-    by_rec lsn (Commit txn number) h = absurd (let l = ap length h in omega (arith, l))
-    by_rec lsn (End txn) h = (h, refl)
+no_commit table log e entries h = grind arith
 
 pub table_none : (table : List Content) (log entries : List Entry) → commit_numbers entries ≡ [] → table_after_all table log entries ≡ table
 table_none table log [] h = refl
@@ -27,10 +20,8 @@ table_none table log (e ∷ entries) h =
     ap (λ (t : List Content). table_after_all t (log ++ e ∷ []) entries) both.1 ∙ table_none table (log ++ e ∷ []) entries both.0
 
 pub table_append : (table : List Content) (log entries more : List Entry) → table_after_all table log (entries ++ more) ≡ table_after_all (table_after_all table log entries) (log ++ entries) more
-table_append table log [] more = ap (λ (l : List Entry). table_after_all table l more) (sym (append-nil log))
-table_append table log (e ∷ entries) more =
-    table_append (table_after table log e.rec) (log ++ e ∷ []) entries more
-    ∙ ap (λ (l : List Entry). table_after_all (table_after_all (table_after table log e.rec) (log ++ e ∷ []) entries) l more) (append_assoc log (e ∷ []) entries)
+table_append table log [] more = grind (arith, append-nil)
+table_append table log (e ∷ entries) more = grind (arith, append_assoc, (table_append (table_after table log e.rec) (log ++ e ∷ []) entries more))
 
 module _ (p : LogicalImage) (records : List LogRecord) (sound : IsSound p) (goes : GoesOn p records) (table : List Content) (count : ℕ) (means : Means p table count) where
   pub means_without_commit : commit_numbers (next_entries p records) ≡ [] → Means (sealed p records) table count

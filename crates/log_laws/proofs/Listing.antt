@@ -1,9 +1,9 @@
 -- The list of the unfinished transactions.
+use Rattle.std.proofs.lemmas.Grind.{common_steps}
 use Rattle.std.proofs.Common.{◌≡◌, ℕ, ◌+◌, ◌≤◌, ⊎_elim, Bool, true, false, cond, not, ◌&&◌, ◌||◌, List, [], ◌∷◌, ◌++◌, map, drop, refl, sym, ap, subst, ◌∙◌, arith}
-use Rattle.std.specs.Prelude.{filter, IsTrue, ◌==◌}
+use Rattle.std.specs.Prelude.{filter, ◌==◌}
 use Rattle.std.specs.List.{AllByRecursion, list_any}
-use Rattle.std.proofs.lemmas.List.{append-nil, map-append}
-use Rattle.std.proofs.lemmas.List.Elements.{filter-append}
+use Rattle.std.proofs.lemmas.List.{append-nil}
 use Rattle.std.proofs.lemmas.Bool.{and_from, and_parts, and_right, cases_Bool, eqb-true, eq-eqb, ne_eqb, or_cases, or_left, or_right}
 use Rattle.std_lemmas.proofs.AllOf.{all_right, all_weaker}
 use Rattle.std_lemmas.proofs.Lists.{filter_all}
@@ -23,43 +23,27 @@ abbrev pub is_listed : List Entry → Entry → Bool
 is_listed log x = is_begin x.rec && not (is_closed log x.lsn)
 
 losers_push : (log : List Entry) (e : Entry) → losers (with log e) ≡ map (λ (x : Entry). x.lsn) (filter (is_listed (with log e)) log) ++ map (λ (x : Entry). x.lsn) (cond (is_listed (with log e) e) (e ∷ []) [])
-losers_push log e = ap (map (λ (x : Entry). x.lsn)) (filter-append (is_listed (with log e)) log (e ∷ [])) ∙ map-append (λ (x : Entry). x.lsn) (filter (is_listed (with log e)) log) (cond (is_listed (with log e) e) (e ∷ []) [])
+losers_push log e = grind (arith, common_steps)
 
 listed_same : (log : List Entry) (e : Entry) → is_closing e.rec ≡ false → filter (is_listed (with log e)) log ≡ filter (is_listed log) log
-listed_same log e c = ap (λ (f : Entry → Bool). filter f log) (λ i x. ap (λ b. is_begin x.rec && not b) (closed_same log e x.lsn (and_right (is_of x.lsn e) (is_closing e.rec) c)) i)
+listed_same log e c = grind (arith, common_steps)
 
 pub losers_begin : (log : List Entry) (lsn : ℕ) → IsFresh lsn log → losers (with log (record { lsn = lsn; rec = Begin })) ≡ losers log ++ lsn ∷ []
-losers_begin log lsn fresh =
-    let e : Entry = record { lsn = lsn; rec = Begin } in
-    losers_push log e
-    ∙ ap (λ (l : List Entry). map (λ (x : Entry). x.lsn) l ++ map (λ (x : Entry). x.lsn) (cond (is_listed (with log e) e) (e ∷ []) [])) (listed_same log e refl)
-    ∙ ap (λ b. losers log ++ map (λ (x : Entry). x.lsn) (cond (not b) (e ∷ []) [])) (closed_same log e lsn (and_right (is_of lsn e) false refl) ∙ fresh_open lsn log fresh)
+losers_begin log lsn fresh = grind (arith, losers_push, listed_same, closed_same, and_right, fresh_open)
 
 pub losers_stay : (log : List Entry) (e : Entry) → is_begin e.rec ≡ false → is_closing e.rec ≡ false → losers (with log e) ≡ losers log
-losers_stay log e b c =
-    losers_push log e
-    ∙ ap (λ (l : List Entry). map (λ (x : Entry). x.lsn) l ++ map (λ (x : Entry). x.lsn) (cond (is_listed (with log e) e) (e ∷ []) [])) (listed_same log e c)
-    ∙ ap (λ g. losers log ++ map (λ (x : Entry). x.lsn) (cond (g && not (is_closed (with log e) e.lsn)) (e ∷ []) [])) b
-    ∙ append-nil (losers log)
+losers_stay log e b c = grind (arith, common_steps)
 
 -- A transaction is taken out.
 
 two_tests : (g a b : Bool) → (g && not (a || ((b && true) || false))) ≡ ((g && not a) && not b)
-two_tests true true b = refl
-two_tests true false true = refl
-two_tests true false false = refl
-two_tests false a b = refl
+two_tests true true b = grind arith
+two_tests _ _ _ = grind arith
 
 listed_twice : (log : List Entry) (t : ℕ) (test : Entry → Bool) → ((x : Entry) → test x ≡ (is_listed log x && not (t == x.lsn))) → (xs : List Entry) →
     map (λ (x : Entry). x.lsn) (filter test xs) ≡ filter (λ s. not (t == s)) (map (λ (x : Entry). x.lsn) (filter (is_listed log) xs))
 listed_twice log t test h [] = refl
-listed_twice log t test h (x ∷ xs) = ap (λ b. map (λ (y : Entry). y.lsn) (cond b (x ∷ filter test xs) (filter test xs))) (h x) ∙ by_tests (is_listed log x) (not (t == x.lsn)) refl (listed_twice log t test h xs)
-  where
-    by_tests : (a b : Bool) → not (t == x.lsn) ≡ b → map (λ (y : Entry). y.lsn) (filter test xs) ≡ filter (λ s. not (t == s)) (map (λ (y : Entry). y.lsn) (filter (is_listed log) xs)) →
-        map (λ (y : Entry). y.lsn) (cond (a && b) (x ∷ filter test xs) (filter test xs)) ≡ filter (λ s. not (t == s)) (map (λ (y : Entry). y.lsn) (cond a (x ∷ filter (is_listed log) xs) (filter (is_listed log) xs)))
-    by_tests true true same e = ap (λ (l : List ℕ). x.lsn ∷ l) e ∙ sym (ap (λ b. cond b (x.lsn ∷ filter (λ s. not (t == s)) (map (λ (y : Entry). y.lsn) (filter (is_listed log) xs))) (filter (λ s. not (t == s)) (map (λ (y : Entry). y.lsn) (filter (is_listed log) xs)))) same)
-    by_tests true false same e = e ∙ sym (ap (λ b. cond b (x.lsn ∷ filter (λ s. not (t == s)) (map (λ (y : Entry). y.lsn) (filter (is_listed log) xs))) (filter (λ s. not (t == s)) (map (λ (y : Entry). y.lsn) (filter (is_listed log) xs)))) same)
-    by_tests false b same e = e
+listed_twice log t test h (x ∷ xs) = grind (arith, (listed_twice log t test h xs))
 
 -- the list ascends
 abbrev pub Ascends : ℕ → List ℕ → Type 0
@@ -72,11 +56,7 @@ ascends_from from from' (n ∷ ns) l h = (let b = h.0 in omega (arith, b, l), h.
 
 pub losers_ascend : (test : Entry → Bool) (from : ℕ) (xs : List Entry) (to : ℕ) → IsInOrder from xs to → Ascends from (map (λ (x : Entry). x.lsn) (filter test xs))
 losers_ascend test from [] to h = tt
-losers_ascend test from (x ∷ xs) to h = by_test (test x) (losers_ascend test (x.lsn + 1) xs to h.1)
-  where
-    by_test : (b : Bool) → Ascends (x.lsn + 1) (map (λ (y : Entry). y.lsn) (filter test xs)) → Ascends from (map (λ (y : Entry). y.lsn) (cond b (x ∷ filter test xs) (filter test xs)))
-    by_test true k = (h.0, k)
-    by_test false k = ascends_from (x.lsn + 1) from (map (λ (y : Entry). y.lsn) (filter test xs)) (let b = h.0 in omega (arith, b)) k
+losers_ascend test from (x ∷ xs) to h = grind (arith, ascends_from, (losers_ascend test (x.lsn + 1) xs to h.1))
 
 pub above : (from : ℕ) (ns : List ℕ) → Ascends from ns → AllByRecursion (λ n. from ≤ n) ns
 above from [] h = tt
@@ -105,9 +85,7 @@ losers_closed from to log e front back order c split =
 -- Who is on the list.
 
 pub listed_is_loser : (log : List Entry) (t : ℕ) → list_any (λ s. s == t) (losers log) ≡ true → is_loser log t ≡ true
-listed_is_loser log t h =
-    let found = any_find (λ s. s == t) (losers log) h in
-    subst (λ s. is_loser log s ≡ true) (eqb-true found.0 t (find_passes (λ s. s == t) (losers log) found.0 found.1)) (all_find (λ s. IsTrue (is_loser log s)) (λ s. s == t) (losers log) found.0 (are_losers log) found.1)
+listed_is_loser log t h = grind (arith, any_find, eqb-true, find_passes, all_find, are_losers)
 
 pub begun_is_listed : (log : List Entry) (t : ℕ) → is_closed log t ≡ false → (xs : List Entry) → list_any (λ x. is_begin x.rec && (x.lsn == t)) xs ≡ true → list_any (λ s. s == t) (map (λ (x : Entry). x.lsn) (filter (is_listed log) xs)) ≡ true
 begun_is_listed log t lives [] h = absurd (grind arith)

@@ -1,9 +1,9 @@
 -- The log block by block.
-use Rattle.std.proofs.Common.{◌≡◌, ℕ, zero, suc, ◌+◌, ◌*◌, ◌<◌, List, [], ◌∷◌, ◌++◌, length, take, drop, refl, sym, ap, ◌∙◌, append_assoc, arith}
+use Rattle.std.proofs.Common.{◌≡◌, ℕ, zero, suc, ◌+◌, ◌*◌, ◌<◌, List, [], ◌∷◌, ◌++◌, length, take, drop, ap, append_assoc, arith}
 use Rattle.std.specs.Prelude.{slice_index_or}
 use Rattle.std.proofs.lemmas.List.{append-nil}
 use Rattle.log_records.specs.declared.log_record.LogRecord.{LogRecord}
-use Rattle.log_records.specs.Log.{Entry, entries_from, log_from}
+use Rattle.log_records.specs.Log.{entries_from, log_from}
 
 abbrev pub block_of : List (List LogRecord) → ℕ → List LogRecord
 block_of blocks n = slice_index_or blocks n []
@@ -12,26 +12,17 @@ block_of blocks n = slice_index_or blocks n []
 pub log_split : (first n k : ℕ) (blocks : List (List LogRecord)) → k ≡ first + n → n < length blocks →
     log_from first blocks ≡ log_from first (take n blocks) ++ (entries_from (512 * k + 2) (block_of blocks n) ++ log_from (k + 1) (drop (suc n) blocks))
 log_split first n k [] is less = absurd (omega (arith, less))
-log_split first zero k (records ∷ blocks) is less =
-    let same : first ≡ k = omega (arith, is) in
-    ap (λ (m : ℕ). entries_from (512 * m + 2) records ++ log_from (m + 1) blocks) same
-log_split first (suc n) k (records ∷ blocks) is less =
-    ap (λ (l : List Entry). entries_from (512 * first + 2) records ++ l) (log_split (first + 1) n k blocks (omega (arith, is)) (omega (arith, less)))
-    ∙ sym (append_assoc (entries_from (512 * first + 2) records) (log_from (first + 1) (take n blocks)) (entries_from (512 * k + 2) (block_of blocks n) ++ log_from (k + 1) (drop (suc n) blocks)))
+log_split first zero k (records ∷ blocks) is less = grind arith
+log_split first (suc n) k (records ∷ blocks) is less = grind (arith, append_assoc, (log_split (first + 1) n k blocks (omega (arith, is)) (omega (arith, less))))
 
 -- and one more of them
 pub log_take : (first n k : ℕ) (blocks : List (List LogRecord)) → k ≡ first + n → n < length blocks →
     log_from first (take (suc n) blocks) ≡ log_from first (take n blocks) ++ entries_from (512 * k + 2) (block_of blocks n)
 log_take first n k [] is less = absurd (omega (arith, less))
-log_take first zero k (records ∷ blocks) is less =
-    let same : first ≡ k = omega (arith, is) in
-    append-nil (entries_from (512 * first + 2) records) ∙ ap (λ (m : ℕ). entries_from (512 * m + 2) records) same
-log_take first (suc n) k (records ∷ blocks) is less =
-    ap (λ (l : List Entry). entries_from (512 * first + 2) records ++ l) (log_take (first + 1) n k blocks (omega (arith, is)) (omega (arith, less)))
-    ∙ sym (append_assoc (entries_from (512 * first + 2) records) (log_from (first + 1) (take n blocks)) (entries_from (512 * k + 2) (block_of blocks n)))
+log_take first zero k (records ∷ blocks) is less = grind (arith, append-nil)
+log_take first (suc n) k (records ∷ blocks) is less = grind (arith, append_assoc, (log_take (first + 1) n k blocks (omega (arith, is)) (omega (arith, less))))
 
 pub take_whole : (n : ℕ) (blocks : List (List LogRecord)) → n ≡ length blocks → take n blocks ≡ blocks
-take_whole zero [] is = refl
-take_whole (suc n) [] is = refl
 take_whole zero (records ∷ blocks) is = absurd (omega (arith, is))
 take_whole (suc n) (records ∷ blocks) is = ap (λ (l : List (List LogRecord)). records ∷ l) (take_whole n blocks (omega (arith, is)))
+take_whole _ [] is = grind arith

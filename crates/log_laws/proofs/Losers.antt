@@ -1,6 +1,6 @@
 -- Transactions at work, and transactions that are undone.
-use Rattle.std.proofs.Common.{◌≡◌, ℕ, ◌+◌, ◌*◌, ◌<◌, ◌≤◌, ◌⊎◌, ⊎_elim, Bool, true, false, cond, not, ◌&&◌, ◌||◌, List, [], ◌∷◌, ◌++◌, length, map, drop, Some, None, refl, sym, ap, subst, ◌∙◌, arith}
-use Rattle.std.specs.Prelude.{filter, filter_map, IsTrue, ◌==◌, nat_lt, nat_le}
+use Rattle.std.proofs.Common.{◌≡◌, ℕ, ◌+◌, ◌*◌, ◌<◌, ◌≤◌, ◌⊎◌, ⊎_elim, Bool, true, false, cond, not, ◌&&◌, ◌||◌, List, [], ◌∷◌, ◌++◌, length, map, drop, Some, refl, sym, ap, subst, ◌∙◌, arith}
+use Rattle.std.specs.Prelude.{filter, filter_map, IsTrue, ◌==◌, nat_lt}
 use Rattle.std.specs.List.{AllByRecursion, list_any}
 use Rattle.std.proofs.lemmas.List.{append-nil}
 use Rattle.std.proofs.lemmas.List.Elements.{filter-append, filter_map-append}
@@ -12,8 +12,8 @@ use Rattle.std_lemmas.proofs.Bools.{or_without_last}
 use Rattle.std_lemmas.proofs.AllOf.{all_filter, all_weaker, all_passed, all_drop}
 use Rattle.record_model.specs.State.{Content, Write}
 use Rattle.log_records.specs.declared.log_record.LogRecord.{LogRecord}
-use Rattle.log_records.specs.declared.log_record.LogRecord.TheVariants.{Begin, Update, Clr, Commit, End}
-use Rattle.log_records.specs.Log.{Entry, Version, txn_of, is_of, is_on, is_update, is_closing, is_closed, is_loser, entries_of, updates_in, last_where, last_on, first_update}
+use Rattle.log_records.specs.declared.log_record.LogRecord.TheVariants.{Begin, Update, Clr}
+use Rattle.log_records.specs.Log.{Entry, Version, txn_of, is_of, is_on, is_update, is_closing, is_closed, is_loser, entries_of, updates_in, first_update}
 use Rattle.log_records.specs.Unfinished.{is_begin, is_clr, clrs_in, open_by, open_updates, left_open, losers, owed_by}
 use Rattle.log_records.specs.Sound.{Active, Master, LogicalImage, IsOpen, IsLoserChain, IsInTable, is_known, before_block, from_block, last_lsn, last_number}
 use Rattle.log_laws.specs.Follow.{Follows, IsActive, IsFresh, IsFreeFor, IsUndoable, next_entries, write_of, shown}
@@ -40,35 +40,15 @@ last_number_of n [] e = refl
 last_number_of n (x ∷ entries) e = last_number_of x.lsn entries e
 
 pub last_more : (log : List Entry) (e : Entry) (t : ℕ) → last_lsn (entries_of t (with log e)) ≡ cond (is_of t e) e.lsn (last_lsn (entries_of t log))
-last_more log e t = ⊎_elim
-    (λ h. ap last_lsn (entries_own log e t h) ∙ last_number_of 0 (entries_of t log) e ∙ sym (ap (λ b. cond b e.lsn (last_lsn (entries_of t log))) h))
-    (λ h. ap last_lsn (entries_other log e t h) ∙ sym (ap (λ b. cond b e.lsn (last_lsn (entries_of t log))) h))
-    (cases_Bool (is_of t e))
+last_more log e t = grind (arith, entries_own, last_number_of, entries_other, cases_Bool)
 
 -- Open transactions stay open.
 
 known_more : (active : List Active) (redo : ℕ) (log : List Entry) (e : Entry) (t : ℕ) → IsTrue (is_known active (from_block redo log) t) → IsTrue (is_known active (from_block redo (with log e)) t)
-known_more active redo log e t h = ⊎_elim
-    (λ a. or_left (list_any (λ a. a.begin == t) active) (more (from_block redo (with log e))) a)
-    (λ b. or_right (list_any (λ a. a.begin == t) active) (more (from_block redo (with log e)))
-    (ap more (filter-append (λ x. nat_le (512 * redo) x.lsn) log (e ∷ []))
-    ∙ list_any-append (λ x. is_begin x.rec && (x.lsn == t)) (from_block redo log) (from_block redo (e ∷ []))
-    ∙ or_left (more (from_block redo log)) (more (from_block redo (e ∷ []))) b))
-    (or_cases (list_any (λ a. a.begin == t) active) (more (from_block redo log)) h)
-  where
-    more : List Entry → Bool
-    more l = list_any (λ x. is_begin x.rec && (x.lsn == t)) l
+known_more active redo log e t h = grind (arith, or_left, or_right, filter-append, list_any-append, or_cases)
 
 known_begun : (active : List Active) (redo : ℕ) (log : List Entry) (t : ℕ) → 512 * redo ≤ t → IsTrue (is_known active (from_block redo (with log (begins t))) t)
-known_begun active redo log t late =
-    or_right (list_any (λ a. a.begin == t) active) (more (from_block redo (with log (begins t))))
-    (ap more (filter-append (λ x. nat_le (512 * redo) x.lsn) log (begins t ∷ []))
-    ∙ list_any-append (λ x. is_begin x.rec && (x.lsn == t)) (from_block redo log) (from_block redo (begins t ∷ []))
-    ∙ or_right (more (from_block redo log)) (more (from_block redo (begins t ∷ [])))
-    (ap (λ b. more (cond b (begins t ∷ []) [])) (le-leb (512 * redo) t late) ∙ or_left (t == t) false (eq-eqb t t refl)))
-  where
-    more : List Entry → Bool
-    more l = list_any (λ x. is_begin x.rec && (x.lsn == t)) l
+known_begun active redo log t late = grind (arith, or_right, filter-append, list_any-append, le-leb, or_left, eq-eqb)
 
 pub open_more : (m : Master) (log : List Entry) (e : Entry) (t : ℕ) → IsOpen m log t → (is_of t e && is_closing e.rec) ≡ false → IsOpen m (with log e) t
 open_more m log e t o h = record { known = known_more m.active m.redo log e t o.known; not_closed = closed_same log e t h ∙ o.not_closed }
@@ -123,20 +103,13 @@ active_owes m log t last writes a = ap (λ n. n + 1) (left_is_written log t a.ch
 -- Which transactions are unfinished.
 
 pub loser_stays : (log : List Entry) (e : Entry) (t : ℕ) → is_of t e ≡ false → is_loser (with log e) t ≡ is_loser log t
-loser_stays log e t h =
-    ap (λ b. b && not (is_closed (with log e) t)) (list_any-append (is_of t) log (e ∷ []) ∙ or_without_last (list_any (is_of t) log) (is_of t e) h)
-    ∙ ap (λ b. list_any (is_of t) log && not b) (closed_same log e t (and_left (is_of t e) (is_closing e.rec) h))
+loser_stays log e t h = grind (arith, list_any-append, or_without_last, closed_same, and_left)
 
 pub loser_goes_on : (log : List Entry) (e : Entry) → is_closing e.rec ≡ false → is_closed log (txn_of e) ≡ false → is_loser (with log e) (txn_of e) ≡ true
-loser_goes_on log e c lives =
-    and_from (list_any (is_of (txn_of e)) (with log e)) (not (is_closed (with log e) (txn_of e)))
-    (list_any-append (is_of (txn_of e)) log (e ∷ []) ∙ or_right (list_any (is_of (txn_of e)) log) (is_of (txn_of e) e || false) (or_left (is_of (txn_of e) e) false (eq-eqb (txn_of e) (txn_of e) refl)))
-    (not_from_false (is_closed (with log e) (txn_of e)) (closed_same log e (txn_of e) (and_right (is_of (txn_of e) e) (is_closing e.rec) c) ∙ lives))
+loser_goes_on log e c lives = grind (arith, and_from, list_any-append, or_right, or_left, eq-eqb, not_from_false, closed_same, and_right)
 
 pub loser_is_closed : (log : List Entry) (e : Entry) → is_closing e.rec ≡ true → is_loser (with log e) (txn_of e) ≡ false
-loser_is_closed log e c =
-    ap (λ b. list_any (is_of (txn_of e)) (with log e) && not b) (closed_by log e (txn_of e) (and_from (is_of (txn_of e) e) (is_closing e.rec) (eq-eqb (txn_of e) (txn_of e) refl) c))
-    ∙ and_right (list_any (is_of (txn_of e)) (with log e)) false refl
+loser_is_closed log e c = grind (arith, closed_by, and_from, eq-eqb, and_right)
 
 pub loser_is_not_closed : (log : List Entry) (t : ℕ) → is_loser log t ≡ true → is_closed log t ≡ false
 loser_is_not_closed log t h = not-true (is_closed log t) (and_parts (list_any (is_of t) log) (not (is_closed log t)) h).1
@@ -145,11 +118,7 @@ loser_is_not_closed log t h = not-true (is_closed log t) (and_parts (list_any (i
 
 pub any_of_those : {X : Type 0} (test other : X → Bool) (xs : List X) → list_any test (filter other xs) ≡ true → list_any test xs ≡ true
 any_of_those test other [] h = h
-any_of_those test other (x ∷ xs) h = by_test (other x) (any_of_those test other xs) h
-  where
-    by_test : (b : Bool) → (list_any test (filter other xs) ≡ true → list_any test xs ≡ true) → list_any test (cond b (x ∷ filter other xs) (filter other xs)) ≡ true → list_any test (x ∷ xs) ≡ true
-    by_test true f h = ⊎_elim (λ a. or_left (test x) (list_any test xs) a) (λ a. or_right (test x) (list_any test xs) (f a)) (or_cases (test x) (list_any test (filter other xs)) h)
-    by_test false f h = or_right (test x) (list_any test xs) (f h)
+any_of_those test other (x ∷ xs) h = grind (arith, or_left, or_right, or_cases, (any_of_those test other xs))
 
 -- a transaction whose Begin is among these records, and that none of them closes, is one of their losers
 begin_is_listed : (closed : ℕ → Bool) (t : ℕ) (xs : List Entry) → closed t ≡ false → list_any (λ x. is_begin x.rec && (x.lsn == t)) xs ≡ true →
@@ -162,11 +131,7 @@ begin_is_listed closed t (x ∷ xs) lives h =
     listed ys = list_any (λ s. s == t) (map (λ (y : Entry). y.lsn) ys)
 
     here : (is_begin x.rec && (x.lsn == t)) ≡ true → listed (filter (λ y. is_begin y.rec && not (closed y.lsn)) (x ∷ xs)) ≡ true
-    here both =
-        let parts = and_parts (is_begin x.rec) (x.lsn == t) both in
-        let passes = and_from (is_begin x.rec) (not (closed x.lsn)) parts.0 (not_from_false (closed x.lsn) (ap closed (eqb-true x.lsn t parts.1) ∙ lives)) in
-        ap (λ b. listed (cond b (x ∷ filter (λ y. is_begin y.rec && not (closed y.lsn)) xs) (filter (λ y. is_begin y.rec && not (closed y.lsn)) xs))) passes
-        ∙ or_left (x.lsn == t) (listed (filter (λ y. is_begin y.rec && not (closed y.lsn)) xs)) parts.1
+    here both = grind (arith, and_parts, and_from, not_from_false, eqb-true, or_left)
 
     by_test : (b : Bool) → listed (filter (λ y. is_begin y.rec && not (closed y.lsn)) xs) ≡ true →
         listed (cond b (x ∷ filter (λ y. is_begin y.rec && not (closed y.lsn)) xs) (filter (λ y. is_begin y.rec && not (closed y.lsn)) xs)) ≡ true
@@ -230,35 +195,19 @@ all_left_open P updates (e ∷ entries) h a = by_rec e.lsn e.rec a.0 (λ us k. a
   where
     by_rec : (lsn : ℕ) (rec : LogRecord) → (is_update rec ≡ true → P (record { lsn = lsn; rec = rec })) → ((us : List Entry) → AllByRecursion P us → AllByRecursion P (open_updates us entries)) →
         AllByRecursion P (open_updates (open_by updates (record { lsn = lsn; rec = rec }) rec) entries)
-    by_rec lsn Begin a f = f updates h
     by_rec lsn (Update txn prev page slot before after) a f = f (record { lsn = lsn; rec = Update txn prev page slot before after } ∷ updates) (a refl, h)
     by_rec lsn (Clr txn prev undo_next page slot after) a f = f (drop 1 updates) (all_drop P 1 updates h)
-    by_rec lsn (Commit txn n) a f = f updates h
-    by_rec lsn (End txn) a f = f updates h
+    by_rec lsn _ a f = f updates h
 
 pub left_are_its_updates : (log : List Entry) (t : ℕ) → AllByRecursion (λ u. (is_update u.rec ≡ true) × (txn_of u ≡ t)) (left_open log t)
-left_are_its_updates log t =
-    all_left_open (λ u. (is_update u.rec ≡ true) × (txn_of u ≡ t)) [] (entries_of t log) tt
-    (all_weaker (λ e. is_of t e ≡ true) (λ e. is_update e.rec ≡ true → (is_update e.rec ≡ true) × (txn_of e ≡ t)) (λ e own update. (update, eqb-true (txn_of e) t own)) (entries_of t log) (all_passed (is_of t) log))
+left_are_its_updates log t = grind (arith, all_left_open, all_weaker, eqb-true, all_passed)
 
 pub left_keep : (P : Entry → Type 0) (log : List Entry) (t : ℕ) → AllByRecursion P log → AllByRecursion P (left_open log t)
-left_keep P log t all =
-    all_left_open P [] (entries_of t log) tt (all_weaker P (λ e. is_update e.rec ≡ true → P e) (λ e p update. p) (entries_of t log) (all_filter P (is_of t) log all))
+left_keep P log t all = grind (arith, all_left_open, all_weaker, all_filter)
 
 -- what an unfinished transaction has written it has alone
 alone : (log : List Entry) (t number : ℕ) (f : Entry) → IsUndoable log → is_closed log t ≡ false → first_update log t number ≡ Some f → IsFreeFor log t number
-alone log t number f undoable lives first s open' written = by_last (some_or_none (last_where (is_on number) (entries_of s log)))
-  where
-    own : (x : Entry) × (last_on log number ≡ Some x) × (txn_of x ≡ t)
-    own = last_is_own log t number f undoable.held lives first
-
-    by_last : (last_where (is_on number) (entries_of s log) ≡ None) ⊎ ((y : Entry) × (last_where (is_on number) (entries_of s log) ≡ Some y)) → s ≡ t
-    by_last = ⊎_elim
-        (λ none. absurd (let never = sym (none_any (is_on number) (entries_of s log) none) ∙ (sym (has_written_is log s number) ∙ written) in grind arith))
-        (λ y.
-        let u = update_of log s number y.0 (undoable.undone s) open' y.1 in
-        let x = last_is_own log s number u.0 undoable.held open' u.1 in
-        sym x.2 ∙ ap txn_of (same_Some x.0 own.0 (sym x.1 ∙ own.1)) ∙ own.2)
+alone log t number f undoable lives first s open' written = grind (arith, some_or_none, last_is_own, none_any, has_written_is, update_of, same_Some)
 
 pub clr_of_last_follows : (m : Master) (pages : List Version) (log : List Entry) (lsn t own at prev page slot : ℕ) (before after : Content) (rest : List Entry) →
     IsUndoable log → IsOpen m log t → is_loser log t ≡ true → AllByRecursion (IsInTable pages) log →

@@ -1,11 +1,11 @@
 -- The Updates of a transaction that no CLR compensates, as CLR after CLR takes the last of them off.
+use Rattle.std.proofs.lemmas.Grind.{common_steps}
 use Rattle.log_laws.proofs.Parts.{in_order_filter}
-use Rattle.std.proofs.Common.{◌≡◌, ℕ, ◌+◌, ◌≤◌, ◌<◌, Bool, true, List, [], ◌∷◌, ◌++◌, true≢false, refl, sym, ap, ◌∙◌, arith}
-use Rattle.std.specs.Prelude.{if◌then◌else◌, drop, ⊤}
+use Rattle.std.proofs.Common.{◌≡◌, ℕ, ◌+◌, ◌≤◌, ◌<◌, true, List, [], ◌∷◌, ◌++◌, true≢false, arith}
+use Rattle.std.specs.Prelude.{drop, ⊤}
 use Rattle.std.specs.List.{AllByRecursion}
-use Rattle.std.proofs.lemmas.Bool.{eq-eqb}
 use Rattle.log_records.specs.declared.log_record.LogRecord.{LogRecord}
-use Rattle.log_records.specs.declared.log_record.LogRecord.TheVariants.{Begin, Update, Clr, Commit, End}
+use Rattle.log_records.specs.declared.log_record.LogRecord.TheVariants.{Clr}
 use Rattle.log_records.specs.Log.{Entry, txn_of, is_of, entries_of}
 use Rattle.log_records.specs.Unfinished.{is_clr, open_by, open_updates, left_open}
 use Rattle.log_records.specs.Sound.{IsInOrder}
@@ -13,17 +13,8 @@ use Rattle.log_laws.specs.RoomLaws.{LeftPush}
 
 -- What a CLR takes off.
 
-clr_opens : (updates : List Entry) (e : Entry) (rec : LogRecord) → is_clr rec ≡ true → open_by updates e rec ≡ drop 1 updates
-clr_opens updates e (Clr txn prev undo_next page slot after) clr = refl
-clr_opens updates e Begin clr = absurd (true≢false (sym clr))
-clr_opens updates e (Update txn prev page slot before after) clr = absurd (true≢false (sym clr))
-clr_opens updates e (Commit txn number) clr = absurd (true≢false (sym clr))
-clr_opens updates e (End txn) clr = absurd (true≢false (sym clr))
-
 pub left_after_clr : LeftPush → (records : List Entry) (e : Entry) (t : ℕ) → is_clr e.rec ≡ true → txn_of e ≡ t → left_open (records ++ e ∷ []) t ≡ drop 1 (left_open records t)
-left_after_clr push records e t clr own =
-    push records e t ∙ ap (λ (b : Bool). if b then open_by (left_open records t) e e.rec else left_open records t) (eq-eqb (txn_of e) t own)
-    ∙ clr_opens (left_open records t) e e.rec clr
+left_after_clr push records e t clr own = grind (arith, common_steps)
 
 -- The LSNs of what is left fall.
 
@@ -44,15 +35,8 @@ dropped high [] are = are
 dropped high (u ∷ updates) are = record { below = are.below.1; fall = are.fall.1 }
 
 opens_below : (updates : List Entry) (e : Entry) (rec : LogRecord) (from : ℕ) → from ≤ e.lsn → AreBelow from updates → AreBelow (e.lsn + 1) (open_by updates e rec)
-opens_below updates e (Update txn prev page slot before after) from less are = record {
-  below = (omega arith, below_more from (e.lsn + 1) updates (omega (arith, less)) are.below);
-  fall = (below_more from e.lsn updates less are.below, are.fall);
-}
-opens_below updates e (Clr txn prev undo_next page slot after) from less are =
-    dropped (e.lsn + 1) updates (record { below = below_more from (e.lsn + 1) updates (omega (arith, less)) are.below; fall = are.fall })
-opens_below updates e Begin from less are = record { below = below_more from (e.lsn + 1) updates (omega (arith, less)) are.below; fall = are.fall }
-opens_below updates e (Commit txn number) from less are = record { below = below_more from (e.lsn + 1) updates (omega (arith, less)) are.below; fall = are.fall }
-opens_below updates e (End txn) from less are = record { below = below_more from (e.lsn + 1) updates (omega (arith, less)) are.below; fall = are.fall }
+opens_below updates e (Clr txn prev undo_next page slot after) from less are = grind (arith, dropped, below_more)
+opens_below updates e _ from less are = grind (arith, below_more)
 
 updates_fall : (from to : ℕ) (entries updates : List Entry) → IsInOrder from entries to → AreBelow from updates → Fall (open_updates updates entries)
 updates_fall from to [] updates order are = are.fall

@@ -1,41 +1,30 @@
 -- A sound log whose redo block is the first is orderly.
-use Rattle.std.proofs.Common.{◌≡◌, ℕ, ◌+◌, ◌*◌, ◌<◌, ◌≤◌, ⊎_elim, true, false, ◌&&◌, List, [], ◌∷◌, ◌++◌, not, sym, ap, subst, ◌∙◌, arith}
-use Rattle.std.specs.Prelude.{filter, IsTrue, nat_lt, nat_le, ◌==◌}
+use Rattle.std.proofs.Common.{◌≡◌, ℕ, ◌+◌, ◌*◌, ◌<◌, ◌≤◌, ⊎_elim, true, false, ◌&&◌, List, [], ◌∷◌, ◌++◌, not, sym, subst, arith}
+use Rattle.std.specs.Prelude.{filter, IsTrue, nat_lt, ◌==◌}
 use Rattle.std.specs.List.{AllByRecursion, list_any}
 use Rattle.std.proofs.lemmas.Bool.{and_parts, or_cases, cases_Bool, eqb-true, ne_eqb}
 use Rattle.std_lemmas.proofs.AllOf.{all_append, all_push, all_both, all_filter, all_weaker, all_map}
-use Rattle.log_records.specs.Log.{Entry, txn_of, is_of, is_closed, entries_of}
+use Rattle.log_records.specs.Log.{Entry, txn_of, is_closed, entries_of}
 use Rattle.log_records.specs.Unfinished.{is_begin, losers}
-use Rattle.log_records.specs.Sound.{Active, Master, IsOpen, IsSound, LogicalImage, InTurn, IsInOrder, IsOrderly, AreOrderly, HaveBegunBefore, before_block, from_block, is_known, last_lsn}
+use Rattle.log_records.specs.Sound.{Master, IsOpen, IsSound, LogicalImage, InTurn, IsInOrder, IsOrderly, AreOrderly, HaveBegunBefore, before_block, from_block, is_known, last_lsn}
 use Rattle.log_laws.specs.Follow.{Follows, IsFresh}
 use Rattle.log_laws.proofs.Lists.{all_find, any_find, find_passes}
 use Rattle.log_laws.proofs.Orders.{InTurn-all, InTurn-weaker, InTurn-append_all}
 use Rattle.log_laws.proofs.Parts.{begin_is, all_below}
 use Rattle.log_laws.proofs.Appends.{fresh_open}
+use Rattle.std.proofs.Common.{ap, ◌∙◌}
 
 -- a Begin among records that all come before an LSN does so too
 begun_before : (t to : ℕ) (entries : List Entry) → AllByRecursion (λ e. e.lsn < to) entries → list_any (λ e. is_begin e.rec && (e.lsn == t)) entries ≡ true → t < to
-begun_before t to entries below h =
-    let found = any_find (λ e. is_begin e.rec && (e.lsn == t)) entries h in
-    let same = eqb-true found.0.lsn t (and_parts (is_begin found.0.rec) (found.0.lsn == t) (find_passes (λ e. is_begin e.rec && (e.lsn == t)) entries found.0 found.1)).1 in
-    let less = all_find (λ e. e.lsn < to) (λ e. is_begin e.rec && (e.lsn == t)) entries found.0 below found.1 in
-    omega (arith, same, less)
+begun_before t to entries below h = grind (arith, any_find, eqb-true, and_parts, find_passes, all_find)
 
 -- what is behind all these records, and is of no transaction that one of them is of
 pub fresh_of : (lsn : ℕ) (entries : List Entry) → AllByRecursion (λ e. e.lsn < lsn) entries → AllByRecursion (λ e. txn_of e ≤ e.lsn) entries → IsFresh lsn entries
-fresh_of lsn entries below begun =
-    all_both (λ e. e.lsn < lsn) (λ e. txn_of e ≤ e.lsn) (λ e. is_of lsn e ≡ false) (λ e b h. ne_eqb (txn_of e) lsn (λ same. omega (arith, b, h, same))) entries below begun
+fresh_of lsn entries below begun = grind (arith, all_both, ne_eqb)
 
 -- a transaction that is known begins before
 known_before : (m : Master) (earlier : List Entry) (t to : ℕ) → AllByRecursion (λ a. a.begin < to) m.active → AllByRecursion (λ e. e.lsn < to) earlier → IsTrue (is_known m.active (from_block m.redo earlier) t) → t < to
-known_before m earlier t to named below known = ⊎_elim
-    (λ h.
-    let found = any_find (λ (a : Active). a.begin == t) m.active h in
-    let same = eqb-true found.0.begin t (find_passes (λ (a : Active). a.begin == t) m.active found.0 found.1) in
-    let less = all_find (λ a. a.begin < to) (λ (a : Active). a.begin == t) m.active found.0 named found.1 in
-    omega (arith, same, less))
-    (λ h. begun_before t to (from_block m.redo earlier) (all_filter (λ e. e.lsn < to) (λ e. nat_le (512 * m.redo) e.lsn) earlier below) h)
-    (or_cases (list_any (λ a. a.begin == t) m.active) (list_any (λ e. is_begin e.rec && (e.lsn == t)) (from_block m.redo earlier)) known)
+known_before m earlier t to named below known = grind (arith, any_find, eqb-true, find_passes, all_find, begun_before, all_filter, or_cases)
 
 -- records that are of open transactions, behind records that are orderly
 orderly_from : (m : Master) (from : ℕ) (earlier log : List Entry) (to : ℕ) → AllByRecursion (λ a. a.begin < from) m.active → IsInOrder from log to →
@@ -116,6 +105,4 @@ orderly_behind p entries to sound orderly order follow =
     (InTurn-weaker (Follows p.master p.pages) (λ earlier e. is_begin e.rec ≡ false → IsOpen p.master earlier (txn_of e)) (λ earlier e f. f.of_open) p.log entries follow))
 
 pub fresh_behind : (from : ℕ) (log : List Entry) (to lsn : ℕ) → IsInOrder from log to → AreOrderly log → to ≤ lsn → IsFresh lsn log
-fresh_behind from log to lsn order orderly late =
-    fresh_of lsn log (all_weaker (λ e. e.lsn < to) (λ e. e.lsn < lsn) (λ e b. omega (arith, b, late)) log (all_below from log to order))
-    (InTurn-all IsOrderly (λ e. txn_of e ≤ e.lsn) (λ earlier e o. o.begun) [] log orderly)
+fresh_behind from log to lsn order orderly late = grind (arith, fresh_of, all_weaker, all_below, InTurn-all)

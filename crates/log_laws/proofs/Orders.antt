@@ -1,8 +1,7 @@
 -- Logs in order, and the parts of a log.
-use Rattle.std.proofs.Common.{◌≡◌, ℕ, zero, suc, ◌+◌, ◌≤◌, Bool, false, cond, List, [], ◌∷◌, ◌++◌, length, Some, None, refl, sym, ap, subst, ◌∙◌, append_assoc, arith}
-use Rattle.std.specs.Prelude.{Option, filter, flat_map}
+use Rattle.std.proofs.Common.{◌≡◌, ℕ, ◌+◌, ◌≤◌, Bool, false, cond, List, [], ◌∷◌, ◌++◌, length, None, refl, sym, ap, subst, ◌∙◌, append_assoc, arith}
+use Rattle.std.specs.Prelude.{filter, flat_map}
 use Rattle.std.specs.List.{AllByRecursion}
-use Rattle.std.specs.Option.{option_or}
 use Rattle.std.proofs.lemmas.List.{append-nil, length-append}
 pub use Rattle.std_lemmas.proofs.Lists.{filter_all}
 use Rattle.log_records.specs.declared.log_record.LogRecord.{LogRecord}
@@ -38,7 +37,7 @@ all_from from (e ∷ log) to h = (h.0, all_from from log to (let b = h.0 in in_o
 
 pub none_passes : {X : Type 0} (test : X → Bool) (xs : List X) → AllByRecursion (λ x. test x ≡ false) xs → last_where test xs ≡ None
 none_passes test [] h = refl
-none_passes {X} test (x ∷ xs) h = ap (λ (o : Option X). option_or o (cond (test x) (Some x) None)) (none_passes test xs h.1) ∙ one_false test x h.0
+none_passes {X} test (x ∷ xs) h = grind (arith, one_false, (none_passes test xs h.1))
 
 pub filter_none : {X : Type 0} (test : X → Bool) (xs : List X) → AllByRecursion (λ x. test x ≡ false) xs → filter test xs ≡ []
 filter_none test [] h = refl

@@ -1,47 +1,41 @@
 -- All Updates that no CLR compensates, as one after the other is compensated.
+use Rattle.std.proofs.lemmas.Grind.{common_steps}
 use Rattle.log_laws.proofs.Parts.{in_order_filter}
-use Rattle.std.proofs.Math.Bool.{or-false, and-false, and-true}
+use Rattle.std.proofs.Math.Bool.{and-false, and-true}
 use Rattle.log_laws.proofs.Orders.{filter_all}
-use Rattle.std.proofs.Common.{◌≡◌, ℕ, ◌+◌, ◌≤◌, ◌<◌, ◌==◌, Bool, true, false, not, ◌&&◌, ◌||◌, List, [], ◌∷◌, ◌++◌, Option, None, Some, true≢false, refl, sym, ap, subst, ◌∙◌, arith, append-nil}
-use Rattle.std.specs.Prelude.{if◌then◌else◌, filter, reverse, drop}
+use Rattle.std.proofs.Common.{◌≡◌, ℕ, ◌+◌, ◌≤◌, ◌<◌, ◌==◌, Bool, true, false, not, ◌&&◌, ◌||◌, List, [], ◌∷◌, ◌++◌, None, Some, true≢false, refl, sym, ap, ◌∙◌, arith, append-nil}
+use Rattle.std.specs.Prelude.{if◌then◌else◌, filter, reverse}
 use Rattle.std.specs.List.{AllByRecursion, list_any}
-use Rattle.std.specs.Option.{option_or}
 use Rattle.std.proofs.lemmas.Bool.{eq-eqb, ne_eqb, eqb-true}
 use Rattle.std.proofs.lemmas.Option.{none-some, same_Some}
 use Rattle.std.proofs.lemmas.List.{reverse-append}
 use Rattle.std.proofs.lemmas.List.Elements.{filter-append}
-use Rattle.std.proofs.lemmas.List.Folds.{list_any-append}
 use Rattle.log_records.specs.declared.log_record.LogRecord.{LogRecord}
-use Rattle.log_records.specs.declared.log_record.LogRecord.TheVariants.{Begin, Update, Clr, Commit, End}
+use Rattle.log_records.specs.declared.log_record.LogRecord.TheVariants.{Clr, End}
 use Rattle.log_records.specs.Log.{Entry, txn_of, is_of, is_update, is_closing, is_closed, last_where}
 use Rattle.log_records.specs.Unfinished.{is_clr, open_by, left_open, pending}
 use Rattle.log_records.specs.Sound.{IsInOrder}
 use Rattle.log_laws.specs.RoomLaws.{LeftPush}
 use Rattle.log_laws.proofs.OpenUpdates.{left_after_clr}
+use Rattle.std.proofs.Common.{Option}
+use Rattle.std.specs.Option.{option_or}
+use Rattle.std.proofs.Common.{subst}
+use Rattle.std.specs.Prelude.{drop}
 
 -- Lists.
 
 filter_same : (p q : Entry → Bool) (xs : List Entry) → ((x : Entry) → p x ≡ q x) → filter p xs ≡ filter q xs
 filter_same p q [] same = refl
-filter_same p q (x ∷ xs) same = ap (λ (b : Bool). if b then x ∷ filter p xs else filter p xs) (same x) ∙ ap (λ (l : List Entry). if q x then x ∷ l else l) (filter_same p q xs same)
+filter_same p q (x ∷ xs) same = grind (arith, (filter_same p q xs same))
 
 filter_twice : (p q : Entry → Bool) (xs : List Entry) → filter (λ x. p x && q x) xs ≡ filter q (filter p xs)
 filter_twice p q [] = refl
-filter_twice p q (x ∷ xs) = by (p x) (filter_twice p q xs)
-  where
-    by : (b : Bool) → filter (λ x. p x && q x) xs ≡ filter q (filter p xs) →
-        (if b && q x then x ∷ filter (λ x. p x && q x) xs else filter (λ x. p x && q x) xs) ≡ filter q (if b then x ∷ filter p xs else filter p xs)
-    by true later = ap (λ (l : List Entry). if q x then x ∷ l else l) later
-    by false later = later
+filter_twice p q (x ∷ xs) = grind (arith, (filter_twice p q xs))
 
 -- without a last one there is none
 pub none_last : (xs : List Entry) → last_where (λ v. true) xs ≡ None → xs ≡ []
 none_last [] none = refl
-none_last (x ∷ xs) none = absurd (other (last_where (λ v. true) xs) none)
-  where
-    other : (o : Option Entry) → option_or o (Some x) ≡ None → ⊥
-    other None bad = none-some x (sym bad)
-    other (Some y) bad = none-some y (sym bad)
+none_last (x ∷ xs) none = grind (arith, none-some)
 
 -- the last of all is the last
 pub last_is : (xs : List Entry) (u : Entry) → last_where (λ v. true) xs ≡ Some u → (front : List Entry) × (xs ≡ front ++ u ∷ [])
@@ -60,9 +54,7 @@ last_is (x ∷ xs) u is = by (last_where (λ v. true) xs) refl (last_is xs u)
 -- the records before the last one have smaller LSNs
 before_last : (from to : ℕ) (front : List Entry) (u : Entry) → IsInOrder from (front ++ u ∷ []) to → (from ≤ u.lsn) × AllByRecursion (λ v. v.lsn < u.lsn) front
 before_last from to [] u order = (order.0, tt)
-before_last from to (x ∷ front) u order =
-    let later = before_last (x.lsn + 1) to front u order.1 in
-    (omega (arith, order.0, later.0), (omega (arith, later.0), later.1))
+before_last from to (x ∷ front) u order = grind (arith, (before_last (x.lsn + 1) to front u order.1))
 
 -- Which records are pending.
 
@@ -71,48 +63,37 @@ waits log e = is_update e.rec && not (is_closed log (txn_of e)) && list_any (λ 
 
 -- one that isn't an Update adds nothing by itself
 pending_more : (records : List Entry) (c : Entry) → is_update c.rec ≡ false → pending (records ++ c ∷ []) ≡ filter (waits (records ++ c ∷ [])) records
-pending_more records c other =
-    filter-append (waits (records ++ c ∷ [])) records (c ∷ [])
-    ∙ ap (λ (b : Bool). filter (waits (records ++ c ∷ [])) records ++ (if b && not (is_closed (records ++ c ∷ []) (txn_of c)) && list_any (λ u. u.lsn == c.lsn) (left_open (records ++ c ∷ []) (txn_of c)) then c ∷ [] else [])) other
-    ∙ append-nil (filter (waits (records ++ c ∷ [])) records)
+pending_more records c other = grind (arith, common_steps)
 
 -- a record that closes nothing closes nothing
 closed_stays : (records : List Entry) (c : Entry) (t : ℕ) → (is_of t c && is_closing c.rec) ≡ false → is_closed (records ++ c ∷ []) t ≡ is_closed records t
-closed_stays records c t not_closed =
-    list_any-append (λ e. is_of t e && is_closing e.rec) records (c ∷ []) ∙ ap (λ (b : Bool). is_closed records t || (b || false)) not_closed ∙ or-false (is_closed records t)
+closed_stays records c t not_closed = grind (arith, common_steps)
 
 -- another transaction's record leaves what is left
 left_stays : LeftPush → (records : List Entry) (c : Entry) (t : ℕ) → is_of t c ≡ false → left_open (records ++ c ∷ []) t ≡ left_open records t
 left_stays push records c t other = push records c t ∙ ap (λ (b : Bool). if b then open_by (left_open records t) c c.rec else left_open records t) other
 
 waits_same : (records records' : List Entry) (e : Entry) → is_closed records' (txn_of e) ≡ is_closed records (txn_of e) → left_open records' (txn_of e) ≡ left_open records (txn_of e) → waits records' e ≡ waits records e
-waits_same records records' e closed left =
-    ap (λ (b : Bool). is_update e.rec && not b && list_any (λ u. u.lsn == e.lsn) (left_open records' (txn_of e))) closed
-    ∙ ap (λ (l : List Entry). is_update e.rec && not (is_closed records (txn_of e)) && list_any (λ u. u.lsn == e.lsn) l) left
+waits_same records records' e closed left = grind arith
 
 -- The CLR of the last of all.
 
 -- the Update that is compensated waits no more
 taken_off : (any head : Bool) → (head ≡ true → any ≡ false) → any ≡ ((head || any) && not (head && true))
 taken_off any true none = none refl
-taken_off true false none = refl
-taken_off false false none = refl
+taken_off _ false none = grind arith
 
 regroup : (a b x y : Bool) → (a && b && (x && y)) ≡ ((a && b && x) && y)
 regroup true true x y = refl
-regroup true false x y = refl
-regroup false b x y = refl
+regroup _ _ x y = refl
 
 none_there : (n : ℕ) (xs : List Entry) → AllByRecursion (λ v. v.lsn < n) xs → list_any (λ v. v.lsn == n) xs ≡ false
 none_there n [] all = refl
-none_there n (x ∷ xs) all = let less = all.0 in ap (λ (b : Bool). b || list_any (λ v. v.lsn == n) xs) (ne_eqb x.lsn n (λ same. omega (arith, less, same))) ∙ none_there n xs all.1
+none_there n (x ∷ xs) all = grind (arith, ne_eqb, (none_there n xs all.1))
 
 not_closing : (rec : LogRecord) → is_clr rec ≡ true → (is_closing rec ≡ false) × (is_update rec ≡ false)
 not_closing (Clr txn prev undo_next page slot after) clr = (refl, refl)
-not_closing Begin clr = absurd (true≢false (sym clr))
-not_closing (Update txn prev page slot before after) clr = absurd (true≢false (sym clr))
-not_closing (Commit txn number) clr = absurd (true≢false (sym clr))
-not_closing (End txn) clr = absurd (true≢false (sym clr))
+not_closing _ clr = absurd (true≢false (sym clr))
 
 module _ (push : LeftPush) (records : List Entry) (c u : Entry) (rest : List Entry) (clr : is_clr c.rec ≡ true) (left : left_open records (txn_of c) ≡ u ∷ rest) (falls : AllByRecursion (λ v. v.lsn < u.lsn) rest) where
   abbrev gone : Entry → Bool
@@ -144,10 +125,7 @@ module _ (push : LeftPush) (records : List Entry) (c u : Entry) (rest : List Ent
 
   others_stay : (front : List Entry) → AllByRecursion (λ v. v.lsn < u.lsn) front → AllByRecursion (λ v. not (gone v) ≡ true) front
   others_stay [] all = tt
-  others_stay (v ∷ front) all = (
-    (let less = all.0 in ap (λ (b : Bool). not (b && is_of (txn_of v) c)) (ne_eqb u.lsn v.lsn (λ same. omega (arith, less, same)))),
-    others_stay front all.1,
-  )
+  others_stay (v ∷ front) all = grind (arith, ne_eqb, (others_stay front all.1))
 
   -- what is pending loses its last one
   pub pending_after_clr : (from to : ℕ) → IsInOrder from records to → last_where (λ v. true) (pending records) ≡ Some u → txn_of u ≡ txn_of c → pending records ≡ pending (records ++ c ∷ []) ++ u ∷ []
@@ -177,25 +155,7 @@ module _ (push : LeftPush) (records : List Entry) (lsn t : ℕ) (none : left_ope
   closing = record { lsn = lsn; rec = End t }
 
   waits_still : (e : Entry) → waits (records ++ closing ∷ []) e ≡ waits records e
-  waits_still e = by (t == txn_of e) refl
-    where
-      by : (b : Bool) → (t == txn_of e) ≡ b → waits (records ++ closing ∷ []) e ≡ waits records e
-      by false other =
-          waits_same records (records ++ closing ∷ []) e (closed_stays records closing (txn_of e) (ap (λ (b : Bool). b && true) other)) (left_stays push records closing (txn_of e) other)
-      by true own =
-          let same : t ≡ txn_of e = eqb-true t (txn_of e) own in
-          let was : left_open records (txn_of e) ≡ [] = sym (ap (left_open records) same) ∙ none in
-          let is : left_open (records ++ closing ∷ []) (txn_of e) ≡ left_open records (txn_of e) = push records closing (txn_of e) ∙ ap (λ (b : Bool). if b then left_open records (txn_of e) else left_open records (txn_of e)) own in
-          none_waits (records ++ closing ∷ []) (is ∙ was) ∙ sym (none_waits records was)
-        where
-          none_waits : (log : List Entry) → left_open log (txn_of e) ≡ [] → waits log e ≡ false
-          none_waits log empty =
-              ap (λ (l : List Entry). is_update e.rec && not (is_closed log (txn_of e)) && list_any (λ u. u.lsn == e.lsn) l) empty ∙ last_false (is_update e.rec) (not (is_closed log (txn_of e)))
-            where
-              last_false : (a b : Bool) → (a && b && false) ≡ false
-              last_false true true = refl
-              last_false true false = refl
-              last_false false b = refl
+  waits_still e = grind (arith, common_steps)
 
   -- what is pending stays
   pub pending_after_end : pending (records ++ closing ∷ []) ≡ pending records

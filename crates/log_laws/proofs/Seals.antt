@@ -1,5 +1,5 @@
 -- Sealing a block that goes on keeps a logical image sound, and changes what it means by the block's commits alone.
-use Rattle.std.proofs.Common.{◌≡◌, ℕ, ◌+◌, ◌-◌, ◌*◌, ◌/◌, ◌<◌, ◌≤◌, ◌⊎◌, inl, inr, true, false, ◌&&◌, List, [], ◌∷◌, ◌++◌, length, Some, sym, ap, subst, ◌∙◌, append_assoc, arith}
+use Rattle.std.proofs.Common.{◌≡◌, ℕ, ◌+◌, ◌-◌, ◌*◌, ◌<◌, ◌≤◌, ◌⊎◌, inl, inr, false, ◌&&◌, List, [], ◌∷◌, ◌++◌, length, sym, ap, subst, ◌∙◌, append_assoc, arith}
 use Rattle.std.specs.Prelude.{Option, flat_map, IsTrue, ◌==◌, ◌||◌, nat_lt, nat_le}
 use Rattle.std.specs.List.{AllByRecursion, range_with_len}
 use Rattle.std.specs.Option.{option_or}
@@ -9,11 +9,11 @@ use Rattle.std.proofs.lemmas.List.{append-nil, length-append}
 use Rattle.std.proofs.lemmas.List.Elements.{filter-append, filter_map-append}
 use Rattle.std_lemmas.proofs.AllOf.{all_append, all_weaker}
 use Rattle.std_lemmas.proofs.Lists.{range_push, filter_all}
-use Rattle.record_model.specs.State.{Content, content_at}
+use Rattle.record_model.specs.State.{Content}
 use Rattle.log_records.specs.declared.log_record.LogRecord.{LogRecord}
 use Rattle.log_records.specs.Spelling.{spelling, AreBlock}
-use Rattle.log_records.specs.Log.{Entry, Version, version_at, number_of, is_on, table_of}
-use Rattle.log_records.specs.Sound.{Master, AreNumbered, LogicalImage, InTurn, IsInOrder, IsSound, Means, IsOfOpenTransaction, before_block, from_block, last_known, FitsLog, IsInTable, ShowsLast, active_in, commit_number, commit_numbers, commit_count}
+use Rattle.log_records.specs.Log.{Entry, Version, version_at, is_on, table_of}
+use Rattle.log_records.specs.Sound.{Master, AreNumbered, LogicalImage, InTurn, IsInOrder, IsSound, Means, IsOfOpenTransaction, before_block, from_block, last_known, FitsLog, IsInTable, active_in, commit_number, commit_numbers, commit_count}
 use Rattle.log_laws.specs.Follow.{Follows, IsUndoable, GoesOn, sealed, next_entries, table_after_all}
 use Rattle.log_laws.proofs.Values.{with}
 use Rattle.log_laws.proofs.Orderly.{begun_behind}
@@ -54,17 +54,10 @@ module _ (p : LogicalImage) (records : List LogRecord) (sound : IsSound p) (bloc
   late = all_weaker (λ e. 512 * p.hi + 2 ≤ e.lsn) (λ e. 512 * p.master.redo ≤ e.lsn) (λ e h. let r = sound.redo_before_end in omega (arith, r, h)) (next_entries p records) behind
 
   pub before_same : before_block p.master.redo (p.log ++ next_entries p records) ≡ before_block p.master.redo p.log
-  before_same =
-      filter-append (λ e. nat_lt e.lsn (512 * p.master.redo)) p.log (next_entries p records)
-      ∙ ap (λ (l : List Entry). before_block p.master.redo p.log ++ l)
-      (filter_none (λ e. nat_lt e.lsn (512 * p.master.redo)) (next_entries p records) (all_weaker (λ e. 512 * p.master.redo ≤ e.lsn) (λ e. nat_lt e.lsn (512 * p.master.redo) ≡ false) (λ e h. le-ltb e.lsn (512 * p.master.redo) h) (next_entries p records) late))
-      ∙ append-nil (before_block p.master.redo p.log)
+  before_same = grind (arith, filter-append, filter_none, all_weaker, le-ltb, late, append-nil)
 
   pub from_more : from_block p.master.redo (p.log ++ next_entries p records) ≡ from_block p.master.redo p.log ++ next_entries p records
-  from_more =
-      filter-append (λ e. nat_le (512 * p.master.redo) e.lsn) p.log (next_entries p records)
-      ∙ ap (λ (l : List Entry). from_block p.master.redo p.log ++ l)
-      (filter_all (λ e. nat_le (512 * p.master.redo) e.lsn) (next_entries p records) (all_weaker (λ e. 512 * p.master.redo ≤ e.lsn) (λ e. nat_le (512 * p.master.redo) e.lsn ≡ true) (λ e h. le-leb (512 * p.master.redo) e.lsn h) (next_entries p records) late))
+  from_more = grind (arith, filter-append, filter_all, all_weaker, le-leb, late)
 
   low : (lsn : ℕ) → IsTrue ((lsn == 0) || nat_lt lsn (512 * p.hi)) → lsn < 512 * p.hi + 2
   low lsn h = grind (arith, nat_tests)
@@ -82,11 +75,7 @@ module _ (p : LogicalImage) (records : List LogRecord) (sound : IsSound p) (bloc
   logged_more lsn h = grind (arith, nat_tests)
 
   fits_sealed : (page : ℕ) (v : Version) → FitsLog p page v → FitsLog (sealed p records) page v
-  fits_sealed page v f = record {
-    logged = logged_more v.lsn f.logged;
-    shows = λ slot h. subst (ShowsLast (content_at v.slots slot)) (sym (known_same v.lsn (32 * page + slot) (low v.lsn f.logged))) (f.shows slot h);
-    knows = subst (AllByRecursion (λ e. (number : ℕ) → number_of e.rec ≡ Some number → number / 32 ≡ page → e.lsn ≤ v.lsn)) (sym before_same) f.knows;
-  }
+  fits_sealed page v f = grind (arith, logged_more, known_same, low, before_same)
 
   undoable_sealed : GoesOn p records → IsUndoable (p.log ++ next_entries p records)
   undoable_sealed goes = undoable_behind_all p.master p.pages p.log (next_entries p records) undoable goes.follow
@@ -114,17 +103,11 @@ module _ (p : LogicalImage) (records : List LogRecord) (sound : IsSound p) (bloc
 
   -- the count rises by the block's commits
   pub sealed_count : commit_count (sealed p records) ≡ commit_count p + length (commit_numbers (next_entries p records))
-  sealed_count =
-      ap (λ (l : List Entry). p.master.commits + length (commit_numbers l)) from_more
-      ∙ ap (λ (l : List ℕ). p.master.commits + length l) (filter_map-append commit_number (from_block p.master.redo p.log) (next_entries p records))
-      ∙ omega (arith, length-append (commit_numbers (from_block p.master.redo p.log)) (commit_numbers (next_entries p records)))
+  sealed_count = grind (arith, from_more, filter_map-append, length-append)
 
   means_with : GoesOn p records → (table : List Content) (count : ℕ) → Means p table count →
       Means (sealed p records) (table_after_all table p.log (next_entries p records)) (count + length (commit_numbers (next_entries p records)))
-  means_with goes table count means = record {
-    table_is = ap (λ (t : List Content). table_after_all t p.log (next_entries p records)) means.table_is ∙ sym (table_behind_all p.master p.pages p.log (next_entries p records) undoable goes.follow);
-    count_is = ap (λ n. n + length (commit_numbers (next_entries p records))) means.count_is ∙ sym sealed_count;
-  }
+  means_with goes table count means = grind (arith, table_behind_all, undoable, sealed_count)
 
   -- the commits run on where the block has none, or one with the next number
   pub numbered_with : (commit_numbers (next_entries p records) ≡ []) ⊎ (commit_numbers (next_entries p records) ≡ (commit_count p + 1) ∷ []) → AreNumbered (sealed p records)

@@ -1,26 +1,25 @@
 -- What slots show once all records are redone.
-use Rattle.std.proofs.Common.{◌≡◌, ℕ, ⊎_elim, Bool, true, false, cond, not, ◌||◌, List, [], ◌∷◌, Some, None, refl, sym, ap, ◌∙◌, arith}
+use Rattle.std.proofs.Common.{◌≡◌, ℕ, ⊎_elim, true, false, cond, List, [], ◌∷◌, Some, None, refl, ap, ◌∙◌, arith}
 use Rattle.std.specs.Prelude.{Option, option_map, unwrap_or}
 use Rattle.std.specs.List.{list_any}
-use Rattle.std.specs.Option.{option_or}
 use Rattle.std.proofs.lemmas.Bool.{and_from, cases_Bool, not_from_false}
 use Rattle.record_model.specs.State.{Content, last_write}
-use Rattle.log_records.specs.Log.{Entry, Version, slot_at, txn_of, is_of, is_on, is_closed, is_loser, entries_of, last_where, last_on, after_of, value_after, value_of}
-use Rattle.log_laws.specs.Follow.{IsUndoable, IsFree, IsFreeFor, has_written, writes_in, shown, shown_by}
+use Rattle.log_records.specs.Log.{Entry, Version, txn_of, is_of, is_on, is_closed, is_loser, entries_of, last_where, last_on, after_of, value_of}
+use Rattle.log_laws.specs.Follow.{IsUndoable, IsFree, IsFreeFor, has_written, writes_in, shown}
 use Rattle.log_laws.proofs.Lists.{last_passes}
-use Rattle.log_laws.proofs.Values.{with, last_push, last_of_own, last_is_own, update_of, value_closed}
+use Rattle.log_laws.proofs.Values.{with, last_push, last_of_own, value_closed}
 use Rattle.log_laws.proofs.Tables.{last_write_of}
 use Rattle.log_laws.proofs.Appends.{has_written_is, all_written}
 use Rattle.log_records.proofs.Lists.{all_last}
+use Rattle.std.proofs.Common.{sym}
+use Rattle.log_records.specs.Log.{slot_at}
+use Rattle.log_laws.specs.Follow.{shown_by}
+use Rattle.log_laws.proofs.Values.{last_is_own, update_of}
 
 -- One more record.
 
 pub shown_push : (log : List Entry) (e : Entry) (pages : List Version) (number : ℕ) → shown (with log e) pages number ≡ cond (is_on number e) (after_of e.rec) (shown log pages number)
-shown_push log e pages number = ap (shown_by (slot_at pages number)) (last_push log e number) ∙ by_test (is_on number e)
-  where
-    by_test : (b : Bool) → shown_by (slot_at pages number) (option_or (cond b (Some e) None) (last_on log number)) ≡ cond b (after_of e.rec) (shown log pages number)
-    by_test true = refl
-    by_test false = refl
+shown_push log e pages number = grind (arith, last_push)
 
 -- What is shown and what counts.
 
@@ -31,14 +30,7 @@ last_written log number x last =
     ∙ all_last (λ u. (n : ℕ) → is_on n u ≡ true → list_any (is_on n) (entries_of (txn_of u) log) ≡ true) (is_on number) log x (all_written log) last number (last_passes (is_on number) log x last)
 
 pub shown_is_value : (log : List Entry) (pages : List Version) (number : ℕ) → IsFree log number → shown log pages number ≡ value_of log pages number
-shown_is_value log pages number free = by_last (last_on log number) refl
-  where
-    by_last : (o : Option Entry) → last_on log number ≡ o → shown log pages number ≡ value_of log pages number
-    by_last None last = ap (shown_by (slot_at pages number)) last ∙ sym (ap (value_after log number (slot_at pages number)) last)
-    by_last (Some x) last = ⊎_elim
-        (λ closed. ap (shown_by (slot_at pages number)) last ∙ sym (value_closed log pages number x last closed))
-        (λ lives. absurd (let never = sym (free (txn_of x) lives) ∙ last_written log number x last in grind arith))
-        (cases_Bool (is_closed log (txn_of x)))
+shown_is_value log pages number free = grind (arith, value_closed, last_written, cases_Bool)
 
 pub shown_is_seen : (log : List Entry) (pages : List Version) (t number : ℕ) → IsUndoable log → is_closed log t ≡ false → IsFreeFor log t number →
     shown log pages number ≡ unwrap_or (last_write (writes_in t log) number) (value_of log pages number)
@@ -51,13 +43,8 @@ shown_is_seen log pages t number undoable lives free = by_own (last_where (is_on
     seen_is = ap (λ (o : Option Content). unwrap_or o (value_of log pages number)) (last_write_of (entries_of t log) number)
 
     by_last : last_where (is_on number) (entries_of t log) ≡ None → (o : Option Entry) → last_on log number ≡ o → shown log pages number ≡ value_of log pages number
-    by_last none None last = ap (shown_by (slot_at pages number)) last ∙ sym (ap (value_after log number (slot_at pages number)) last)
-    by_last none (Some x) last = ⊎_elim
-        (λ closed. ap (shown_by (slot_at pages number)) last ∙ sym (value_closed log pages number x last closed))
-        (λ open'. absurd (
-        let own = free (txn_of x) open' (last_written log number x last) in
-        let never : None ≡ Some x = sym none ∙ last_of_own log t number x last own in grind arith))
-        (cases_Bool (is_closed log (txn_of x)))
+    by_last none None last = grind arith
+    by_last none (Some x) last = grind (arith, value_closed, last_written, last_of_own, cases_Bool)
 
     by_own : (o : Option Entry) → last_where (is_on number) (entries_of t log) ≡ o → shown log pages number ≡ unwrap_or (last_write (writes_in t log) number) (value_of log pages number)
     by_own None o =
@@ -73,12 +60,7 @@ shown_is_seen log pages t number undoable lives free = by_own (last_where (is_on
 
 any_entries : (log : List Entry) (t number : ℕ) → list_any (is_on number) (entries_of t log) ≡ true → list_any (is_of t) log ≡ true
 any_entries [] t number h = absurd (grind arith)
-any_entries (e ∷ log) t number h = by_test (is_of t e) (any_entries log t number) h
-  where
-    by_test : (b : Bool) → (list_any (is_on number) (entries_of t log) ≡ true → list_any (is_of t) log ≡ true) → list_any (is_on number) (cond b (e ∷ entries_of t log) (entries_of t log)) ≡ true → (b || list_any (is_of t) log) ≡ true
-    by_test true f h = refl
-    by_test false f h = f h
+any_entries (e ∷ log) t number h = grind (arith, (any_entries log t number))
 
 pub writer_is_loser : (log : List Entry) (t number : ℕ) → is_closed log t ≡ false → has_written log t number ≡ true → is_loser log t ≡ true
-writer_is_loser log t number lives h =
-    and_from (list_any (is_of t) log) (not (is_closed log t)) (any_entries log t number (sym (has_written_is log t number) ∙ h)) (not_from_false (is_closed log t) lives)
+writer_is_loser log t number lives h = grind (arith, and_from, any_entries, has_written_is, not_from_false)

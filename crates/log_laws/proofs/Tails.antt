@@ -1,5 +1,5 @@
 -- A log that goes on record by record.
-use Rattle.std.proofs.Common.{◌≡◌, ◌-◌, ℕ, ◌+◌, ◌*◌, ◌≤◌, List, [], ◌∷◌, ◌++◌, length, Some, None, refl, sym, ap, subst, ◌∙◌, append_assoc, arith}
+use Rattle.std.proofs.Common.{◌≡◌, ◌-◌, ℕ, ◌+◌, ◌*◌, ◌≤◌, List, [], ◌∷◌, ◌++◌, length, Some, None, ap, ◌∙◌, append_assoc, arith}
 use Rattle.std.specs.Prelude.{Option, flat_map}
 use Rattle.std.specs.List.{AllByRecursion, cons_option}
 use Rattle.std.proofs.lemmas.List.{append-nil, length-append}
@@ -11,7 +11,7 @@ use Rattle.log_records.specs.declared.log_record.LogRecord.TheVariants.{Commit}
 use Rattle.log_records.specs.Spelling.{spelling, AreBlock}
 use Rattle.log_records.specs.Log.{Entry, entries_from, log_from, table_of}
 use Rattle.log_records.specs.Sound.{LogicalImage, IsSound, IsInOrder, InTurn, IsInTable, HasRoom, AreOrderly, commit_number, commit_numbers}
-use Rattle.log_laws.specs.Follow.{GoesOn, Follows, IsUndoable, IsFresh, sealed, next_entries, table_after, writes_in}
+use Rattle.log_laws.specs.Follow.{Follows, IsUndoable, IsFresh, sealed, next_entries, table_after, writes_in}
 use Rattle.log_laws.specs.Tail.{Carries, CommitsOnceAtMost, whole, next_lsn}
 use Rattle.log_laws.proofs.Parts.{InTurn-right}
 use Rattle.log_laws.proofs.Follow.{table_behind}
@@ -29,23 +29,16 @@ entries_append lsn (x ∷ xs) ys =
     ∙ ap (λ n. entries_from (lsn + length (spelling x)) xs ++ entries_from n ys) (omega (arith, length-append (spelling x) (flat_map spelling xs))))
 
 last_entry : (p : LogicalImage) (tail : List LogRecord) (rec : LogRecord) → next_entries p (tail ++ rec ∷ []) ≡ next_entries p tail ++ record { lsn = next_lsn p tail; rec = rec } ∷ []
-last_entry p tail rec =
-    entries_append (512 * p.hi + 2) tail (rec ∷ [])
-    ∙ ap (λ n. next_entries p tail ++ record { lsn = n; rec = rec } ∷ []) (omega arith)
+last_entry p tail rec = grind (arith, entries_append)
 
 pub whole_more : (p : LogicalImage) (tail : List LogRecord) (rec : LogRecord) → whole p (tail ++ rec ∷ []) ≡ whole p tail ++ record { lsn = next_lsn p tail; rec = rec } ∷ []
-whole_more p tail rec =
-    ap (λ (l : List Entry). p.log ++ l) (last_entry p tail rec) ∙ sym (append_assoc p.log (next_entries p tail) (record { lsn = next_lsn p tail; rec = rec } ∷ []))
+whole_more p tail rec = grind (arith, last_entry, append_assoc)
 
 pub carries_nothing : (p : LogicalImage) → IsSound p → Carries p []
 carries_nothing p sound = record { sound = sound; follow = tt }
 
 pub carries_more : (p : LogicalImage) (tail : List LogRecord) (rec : LogRecord) → Carries p tail → Follows p.master p.pages (whole p tail) (record { lsn = next_lsn p tail; rec = rec }) → Carries p (tail ++ rec ∷ [])
-carries_more p tail rec c f = record {
-  sound = c.sound;
-  follow = subst (InTurn (Follows p.master p.pages) p.log) (sym (last_entry p tail rec))
-      (InTurn-append (Follows p.master p.pages) p.log (next_entries p tail) (record { lsn = next_lsn p tail; rec = rec }) c.follow f);
-}
+carries_more p tail rec c f = grind (arith, last_entry, InTurn-append)
 
 pub whole_in_order : (p : LogicalImage) (tail : List LogRecord) → Carries p tail → IsInOrder (512 * p.master.kept) (whole p tail) (next_lsn p tail)
 whole_in_order p tail c =
@@ -80,8 +73,7 @@ pub commits_stay : (log : List Entry) (e : Entry) → commit_number e ≡ None �
 commits_stay log e h = filter_map-append commit_number log (e ∷ []) ∙ ap (λ (o : Option ℕ). commit_numbers log ++ cons_option o []) h ∙ append-nil (commit_numbers log)
 
 pub tail_without_commit : (p : LogicalImage) (tail : List LogRecord) → Carries p tail → commit_numbers (next_entries p tail) ≡ [] → table_of (whole p tail) p.pages ≡ table_of p.log p.pages
-tail_without_commit p tail c none =
-    table_behind_all p.master p.pages p.log (next_entries p tail) (undoable_of p c.sound) c.follow ∙ table_none (table_of p.log p.pages) p.log (next_entries p tail) none
+tail_without_commit p tail c none = grind (arith, table_behind_all, undoable_of, table_none)
 
 pub sealed_tail : (p : LogicalImage) (tail : List LogRecord) → Carries p tail → AreBlock tail → HasRoom (sealed p tail) → CommitsOnceAtMost p tail → IsSound (sealed p tail)
 sealed_tail p tail c block room commits =
@@ -91,17 +83,11 @@ sealed_tail p tail c block room commits =
 
 pub log_from-append : (blocks : List (List LogRecord)) (records : List LogRecord) (number : ℕ) →
     log_from number (blocks ++ records ∷ []) ≡ log_from number blocks ++ entries_from (512 * (number + length blocks) + 2) records
-log_from-append [] records number =
-    append-nil (entries_from (512 * number + 2) records) ∙ ap (λ n. entries_from (512 * n + 2) records) (omega arith)
-log_from-append (b ∷ blocks) records number =
-    ap (λ (log : List Entry). entries_from (512 * number + 2) b ++ log) (log_from-append blocks records (number + 1))
-    ∙ sym (append_assoc (entries_from (512 * number + 2) b) (log_from (number + 1) blocks) _)
-    ∙ ap (λ n. entries_from (512 * number + 2) b ++ log_from (number + 1) blocks ++ entries_from (512 * n + 2) records) (omega arith)
+log_from-append [] records number = grind (arith, append-nil)
+log_from-append (b ∷ blocks) records number = grind (arith, append_assoc, (log_from-append blocks records (number + 1)))
 
 pub whole_in_table : (p : LogicalImage) (tail : List LogRecord) → Carries p tail → AllByRecursion (IsInTable p.pages) (whole p tail)
-whole_in_table p tail c =
-    all_append (IsInTable p.pages) p.log (next_entries p tail) c.sound.in_table
-    (InTurn-all (Follows p.master p.pages) (IsInTable p.pages) (λ earlier e f. f.in_table) p.log (next_entries p tail) c.follow)
+whole_in_table p tail c = grind (arith, all_append, InTurn-all)
 
 pub InTurn-left : {X : Type 0} (P : List X → X → Type 0) (earlier xs ys : List X) → InTurn P earlier (xs ++ ys) → InTurn P earlier xs
 InTurn-left P earlier [] ys h = tt
@@ -110,16 +96,8 @@ InTurn-left P earlier (x ∷ xs) ys h = (h.0, InTurn-left P (earlier ++ x ∷ []
 pub whole_sealed : (p : LogicalImage) (tail : List LogRecord) → whole (sealed p tail) [] ≡ whole p tail
 whole_sealed p tail = append-nil (whole p tail)
 
-pub sealed_is_orderly : (p : LogicalImage) (records : List LogRecord) → IsSound p → AreOrderly p.log → GoesOn p records → AreOrderly (sealed p records).log
-sealed_is_orderly p records sound orderly goes = whole_stays_orderly p records (record { sound = sound; follow = goes.follow }) orderly
-
 pub carries_front : (p : LogicalImage) (front : List LogRecord) (rec : LogRecord) → Carries p (front ++ rec ∷ []) → Carries p front × Follows p.master p.pages (whole p front) (record { lsn = next_lsn p front; rec = rec })
-carries_front p front rec c =
-    let e : Entry = record { lsn = next_lsn p front; rec = rec } in
-    let all = subst (InTurn (Follows p.master p.pages) p.log) (last_entry p front rec) c.follow in (
-      record { sound = c.sound; follow = InTurn-left (Follows p.master p.pages) p.log (next_entries p front) (e ∷ []) all },
-      (InTurn-right (Follows p.master p.pages) p.log (next_entries p front) (e ∷ []) all).0,
-    )
+carries_front p front rec c = grind (arith, last_entry, InTurn-left, InTurn-right)
 
 pub tail_with_commit : (p : LogicalImage) (front : List LogRecord) (t number : ℕ) → Carries p (front ++ Commit t number ∷ []) → commit_numbers (next_entries p front) ≡ [] →
     table_of (whole p (front ++ Commit t number ∷ [])) p.pages ≡ table_with (table_of p.log p.pages) (writes_in t (whole p front))

@@ -1,14 +1,14 @@
 -- Where undoing a transaction goes on.
+use Rattle.std.proofs.lemmas.Grind.{common_steps}
 use Rattle.std.proofs.Common.{◌≡◌, ℕ, ◌+◌, ◌<◌, ◌≤◌, ⊎_elim, true, cond, List, [], ◌∷◌, ◌++◌, length, drop, map, Some, refl, sym, ap, subst, ◌∙◌, append_assoc, arith}
 use Rattle.std.specs.Prelude.{find, IsTrue, ◌==◌}
 use Rattle.std.specs.List.{AllByRecursion}
 use Rattle.std.proofs.lemmas.List.{append-nil, length-append}
-use Rattle.std.proofs.lemmas.List.Elements.{filter-append}
 use Rattle.std.proofs.lemmas.Bool.{cases_Bool, eq-eqb, ne_eqb}
 use Rattle.std_lemmas.proofs.AllOf.{all_right, all_both, all_weaker}
 use Rattle.record_model.specs.State.{Write}
 use Rattle.log_records.specs.declared.log_record.LogRecord.{LogRecord}
-use Rattle.log_records.specs.declared.log_record.LogRecord.TheVariants.{Begin, Update, Clr, Commit, End}
+use Rattle.log_records.specs.declared.log_record.LogRecord.TheVariants.{Begin, Update, Clr}
 use Rattle.log_records.specs.Log.{Entry, txn_of, is_of, is_update, entries_of}
 use Rattle.log_records.specs.Unfinished.{is_clr, clrs_in, open_by, open_updates, left_open, prev_of}
 use Rattle.log_records.specs.Sound.{Master, InTurn, IsInOrder, IsLoserChain, Continues, Compensates, Undoes, last_lsn, last_number}
@@ -26,10 +26,7 @@ next_append next [] ys = refl
 next_append next (x ∷ xs) ys = next_append (next_by next x.lsn x.rec) xs ys
 
 pub next_more : (log : List Entry) (e : Entry) (t : ℕ) → next_of (with log e) t ≡ cond (is_of t e) (next_by (next_of log t) e.lsn e.rec) (next_of log t)
-next_more log e t = ⊎_elim
-    (λ h. ap (next_in t) (entries_own log e t h) ∙ next_append t (entries_of t log) (e ∷ []) ∙ sym (ap (λ b. cond b (next_by (next_of log t) e.lsn e.rec) (next_of log t)) h))
-    (λ h. ap (next_in t) (entries_other log e t h) ∙ sym (ap (λ b. cond b (next_by (next_of log t) e.lsn e.rec) (next_of log t)) h))
-    (cases_Bool (is_of t e))
+next_more log e t = grind (arith, entries_own, next_append, entries_other, cases_Bool)
 
 -- Along a chain.
 
@@ -50,11 +47,7 @@ undone_prev (Clr t prev undo_next page slot after) (Update t' prev' page' slot' 
 undone_prev _ _ next lsn h = absurd h
 
 some_clr : (earlier : List Entry) (e : Entry) → is_clr e.rec ≡ true → clrs_in (earlier ++ e ∷ []) ≡ [] → ⊥
-some_clr earlier e h none = not_empty (clrs_in earlier) (sym (filter-append (λ x. is_clr x.rec) earlier (e ∷ []) ∙ ap (λ b. clrs_in earlier ++ cond b (e ∷ []) []) h) ∙ none)
-  where
-    not_empty : (xs : List Entry) → xs ++ e ∷ [] ≡ [] → ⊥
-    not_empty [] h = let l = ap length h in omega (arith, l)
-    not_empty (x ∷ xs) h = let l = ap length h in omega (arith, l)
+some_clr earlier e h none = grind (arith, common_steps)
 
 -- one record more
 step : (t next : ℕ) (stack : List Entry) → AreLinked t stack → (lsn : ℕ) (rec : LogRecord) → Undoes stack rec →
@@ -62,27 +55,11 @@ step : (t next : ℕ) (stack : List Entry) → AreLinked t stack → (lsn : ℕ)
     (next_by next lsn rec ≡ top_lsn t (open_by stack (record { lsn = lsn; rec = rec }) rec)) × AreLinked t (open_by stack (record { lsn = lsn; rec = rec }) rec)
     × ((is_clr rec ≡ true → ⊥) → lsn ≡ top_lsn t (open_by stack (record { lsn = lsn; rec = rec }) rec))
 step t next stack k lsn (Update txn prev page slot before after) u p = let q = p refl in (refl, (q.0, q.1, q.2, k), λ no. refl)
-step t next [] k lsn (Clr txn prev undo_next page slot after) u p = absurd u
-step t next (v ∷ stack) k lsn (Clr txn prev undo_next page slot after) u p = (undone_prev (Clr txn prev undo_next page slot after) v.rec next lsn u ∙ k.0, k.3, λ no. absurd (no refl))
-step t next [] k lsn Begin u p = absurd u
-step t next (v ∷ stack) k lsn Begin u p = absurd u
-step t next [] k lsn (Commit txn n) u p = absurd u
-step t next (v ∷ stack) k lsn (Commit txn n) u p = absurd u
-step t next [] k lsn (End txn) u p = absurd u
-step t next (v ∷ stack) k lsn (End txn) u p = absurd u
+step t next (v ∷ stack) k lsn (Clr txn prev undo_next page slot after) u p = grind (arith, undone_prev)
+step t next _ k lsn _ u p = absurd u
 
 ready_more : (t : ℕ) (earlier : List Entry) (e : Entry) → Continues earlier e → last_lsn earlier < e.lsn → IsReady t earlier → IsReady t (earlier ++ e ∷ [])
-ready_more t earlier e c less r =
-    let linked = c.linked in
-    let late = r.late in
-    let new = step t (next_in t earlier) (open_updates [] earlier) r.linked e.lsn e.rec c.undoes (λ h. (linked ∙ r.last (c.updates_first h), omega (arith, linked, less), omega (arith, linked, late))) in
-    record {
-      some = omega (arith, length-append earlier (e ∷ []));
-      next = next_append t earlier (e ∷ []) ∙ new.0 ∙ ap (top_lsn t) (sym (open_append [] earlier (e ∷ [])));
-      linked = subst (AreLinked t) (sym (open_append [] earlier (e ∷ []))) new.1;
-      last = λ none. last_number_of 0 earlier e ∙ new.2 (λ h. some_clr earlier e h none) ∙ ap (top_lsn t) (sym (open_append [] earlier (e ∷ [])));
-      late = omega (arith, late, less, last_number_of 0 earlier e);
-    }
+ready_more t earlier e c less r = grind (arith, step, length-append, next_append, open_append, last_number_of, some_clr)
 
 last_below : (n from : ℕ) (entries : List Entry) (to : ℕ) → IsInOrder from entries to → 1 ≤ length entries → last_number n (map (λ e. e.lsn) entries) < to
 last_below n from [] to order some = absurd (omega (arith, some))
@@ -105,21 +82,14 @@ ready t from to entries order chain = subst (IsReady t) (sym chain.begins)
 all_up_to_last : (n from : ℕ) (entries : List Entry) (to : ℕ) → IsInOrder from entries to → AllByRecursion (λ e. e.lsn ≤ last_number n (map (λ x. x.lsn) entries)) entries
 all_up_to_last n from [] to order = tt
 all_up_to_last n from (x ∷ []) to order = (omega arith, tt)
-all_up_to_last n from (x ∷ y ∷ entries) to order =
-    let rest = all_up_to_last x.lsn (x.lsn + 1) (y ∷ entries) to order.1 in
-    (let a = order.1.0 in let b = rest.0 in omega (arith, a, b), rest)
+all_up_to_last n from (x ∷ y ∷ entries) to order = grind (arith, (all_up_to_last x.lsn (x.lsn + 1) (y ∷ entries) to order.1))
 
 all_found : (from : ℕ) (log : List Entry) (to : ℕ) → IsInOrder from log to → AllByRecursion (λ u. find (λ e. e.lsn == u.lsn) log ≡ Some u) log
 all_found from [] to order = tt
-all_found from (x ∷ log) to order = (
-  ap (λ b. cond b (Some x) (find (λ e. e.lsn == x.lsn) log)) (eq-eqb x.lsn x.lsn refl),
-  all_both (λ u. x.lsn + 1 ≤ u.lsn) (λ u. find (λ e. e.lsn == u.lsn) log ≡ Some u) (λ u. find (λ e. e.lsn == u.lsn) (x ∷ log) ≡ Some u)
-      (λ u late found. ap (λ b. cond b (Some x) (find (λ e. e.lsn == u.lsn) log)) (ne_eqb x.lsn u.lsn (λ same. omega (arith, late, same))) ∙ found)
-      log (all_from (x.lsn + 1) log to order.1) (all_found (x.lsn + 1) log to order.1),
-)
+all_found from (x ∷ log) to order = grind (arith, eq-eqb, all_both, ne_eqb, all_from, (all_found (x.lsn + 1) log to order.1))
 
 pub found_by_lsn : (from to : ℕ) (earlier : List Entry) (e : Entry) (rest : List Entry) → IsInOrder from (earlier ++ e ∷ rest) to → find (λ x. x.lsn == e.lsn) (earlier ++ e ∷ rest) ≡ Some e
-found_by_lsn from to earlier e rest order = (all_right (λ u. find (λ x. x.lsn == u.lsn) (earlier ++ e ∷ rest) ≡ Some u) earlier (e ∷ rest) (all_found from (earlier ++ e ∷ rest) to order)).0
+found_by_lsn from to earlier e rest order = grind (arith, all_right, all_found)
 
 -- The next Update to be undone.
 

@@ -5,7 +5,7 @@ use Rattle.std.specs.List.{AllByRecursion, list_any}
 use Rattle.std.proofs.lemmas.Bool.{and_from, eq-eqb, not_from_false, or_left}
 use Rattle.record_model.specs.State.{Write}
 use Rattle.log_records.specs.declared.log_record.LogRecord.{LogRecord}
-use Rattle.log_records.specs.declared.log_record.LogRecord.TheVariants.{Begin, Update, Clr, Commit, End}
+use Rattle.log_records.specs.declared.log_record.LogRecord.TheVariants.{Update, Clr, End}
 use Rattle.log_records.specs.Log.{Entry, txn_of, is_of, is_closing, is_closed, is_loser, entries_of}
 use Rattle.log_records.specs.Unfinished.{left_open}
 use Rattle.log_records.specs.Sound.{Master, LogicalImage, IsInOrder, IsInTable, IsOpen}
@@ -36,8 +36,7 @@ module _ (p : LogicalImage) (tail : List LogRecord) (x : Unfinished) (c : Carrie
 
   to_undo : (at : ℕ) (rec : LogRecord) (rest : List Entry) → left_open (whole p tail) x.txn ≡ record { lsn = at; rec = rec } ∷ rest → IsNext (whole p tail) x.txn (record { lsn = at; rec = rec }) rest →
       IsInTable p.pages (record { lsn = at; rec = rec }) → IsToUndo p (whole p tail) x rec
-  to_undo at (Update txn prev page slot before after) rest left n in_table =
-      let next = is.next_is in
+  to_undo at (Update txn prev page slot before after) rest left n in_table = let next = is.next_is in
       let nn = n.next in
       let falls = n.falls in
       let early = n.early in
@@ -50,10 +49,7 @@ module _ (p : LogicalImage) (tail : List LogRecord) (x : Unfinished) (c : Carrie
         λ lsn. subst (λ l. Follows p.master p.pages (whole p tail) (record { lsn = lsn; rec = Clr x.txn l prev page slot before })) (sym last)
             (clr_of_last_follows p.master p.pages (whole p tail) lsn x.txn txn at prev page slot before after rest (whole_is_undoable p tail c) lives is.loser (whole_in_table p tail c) left),
       )
-  to_undo at Begin rest left n in_table = absurd (let u = n.update in grind arith)
-  to_undo at (Clr txn prev undo_next page slot after) rest left n in_table = absurd (let u = n.update in grind arith)
-  to_undo at (Commit txn number) rest left n in_table = absurd (let u = n.update in grind arith)
-  to_undo at (End txn) rest left n in_table = absurd (let u = n.update in grind arith)
+  to_undo at _ rest left n in_table = absurd (let u = n.update in grind arith)
 
   pub undo_step : 0 < x.remaining → (u : Entry) × (find (λ e. e.lsn == x.next) (whole p tail) ≡ Some u) × IsToUndo p (whole p tail) x u.rec
   undo_step some =

@@ -1,19 +1,24 @@
 -- What a record that is put behind a log makes of the value at a number.
-use Rattle.std.proofs.Common.{◌≡◌, ℕ, ⊎_elim, Bool, true, false, cond, not, ◌&&◌, ◌||◌, List, [], ◌∷◌, ◌++◌, Some, None, refl, sym, ap, ◌∙◌, arith}
+use Rattle.std.proofs.lemmas.Grind.{common_steps}
+use Rattle.std.proofs.Common.{◌≡◌, ℕ, ⊎_elim, Bool, true, false, ◌&&◌, ◌||◌, List, [], ◌∷◌, ◌++◌, Some, None, refl, sym, ap, ◌∙◌, arith}
 use Rattle.std.specs.Prelude.{Option, find, IsTrue}
-use Rattle.std.specs.List.{list_any, AllByRecursion}
+use Rattle.std.specs.List.{AllByRecursion}
 use Rattle.std.specs.Option.{option_or}
 use Rattle.std.proofs.lemmas.List.Folds.{list_any-append, find-append}
-use Rattle.std.proofs.lemmas.Bool.{or_parts, or_right, or_left, and_from, and_parts, and_right, cases_Bool, eqb-true, eq-eqb, not_from_false}
+use Rattle.std.proofs.lemmas.Bool.{or_parts, and_from, and_parts, and_right, eqb-true, eq-eqb, not_from_false}
 use Rattle.std_lemmas.proofs.Options.{option_or_none}
 use Rattle.std_lemmas.proofs.Bools.{or_without_last}
 use Rattle.record_model.specs.State.{Content}
-use Rattle.log_records.specs.Log.{Entry, Version, slot_at, txn_of, is_of, is_on, is_update, is_loser, is_closed, is_closing, entries_of, last_where, last_on, first_update, before_of, before_first, after_of, value_after, value_of, is_number}
+use Rattle.log_records.specs.Log.{Entry, Version, txn_of, is_of, is_on, is_update, is_loser, is_closed, is_closing, entries_of, last_where, last_on, first_update, before_of, before_first, after_of, value_after, value_of, is_number}
 use Rattle.log_records.specs.Sound.{Pairwise, HoldsOff}
-use Rattle.log_laws.specs.Follow.{CanBeUndone, shown, shown_by}
+use Rattle.log_laws.specs.Follow.{CanBeUndone, shown}
 use Rattle.log_laws.proofs.Lists.{one_false, one_true, last_passes, last_any, last_where-filter, find-filter, last_of_both, find_passes, all_find, any_left}
 use Rattle.log_laws.proofs.Chains.{update_of_chain}
 use Rattle.log_records.proofs.Lists.{one, last_where-append, all_last}
+use Rattle.std.proofs.Common.{cond}
+use Rattle.std.proofs.lemmas.Bool.{cases_Bool}
+use Rattle.log_records.specs.Log.{slot_at}
+use Rattle.log_laws.specs.Follow.{shown_by}
 
 abbrev pub with : List Entry → Entry → List Entry
 with log e = log ++ e ∷ []
@@ -32,7 +37,7 @@ pub closed_same : (log : List Entry) (e : Entry) (t : ℕ) → (is_of t e && is_
 closed_same log e t h = closed_push log e t ∙ or_without_last (is_closed log t) (is_of t e && is_closing e.rec) h
 
 pub closed_by : (log : List Entry) (e : Entry) (t : ℕ) → (is_of t e && is_closing e.rec) ≡ true → is_closed (with log e) t ≡ true
-closed_by log e t h = closed_push log e t ∙ or_right (is_closed log t) ((is_of t e && is_closing e.rec) || false) (or_left (is_of t e && is_closing e.rec) false h)
+closed_by log e t h = grind (arith, common_steps)
 
 pub open_before : (log : List Entry) (e : Entry) (t : ℕ) → is_closed (with log e) t ≡ false → is_closed log t ≡ false
 open_before log e t h = (or_parts (is_closed log t) ((is_of t e && is_closing e.rec) || false) (sym (closed_push log e t) ∙ h)).0
@@ -43,15 +48,13 @@ abbrev pub updates_there : ℕ → ℕ → Entry → Bool
 updates_there t number x = is_of t x && (is_update x.rec && is_on number x)
 
 pub first_is : (log : List Entry) (t number : ℕ) → first_update log t number ≡ find (updates_there t number) log
-first_is log t number = find-filter (is_on number) (λ x. is_update x.rec) (entries_of t log) ∙ find-filter (λ x. is_update x.rec && is_on number x) (is_of t) log
+first_is log t number = grind (arith, find-filter)
 
 pub first_push : (log : List Entry) (e : Entry) (t number : ℕ) → first_update (with log e) t number ≡ option_or (first_update log t number) (one (updates_there t number) e)
-first_push log e t number = first_is (with log e) t number ∙ find-append (updates_there t number) log (e ∷ []) ∙ ap (λ (o : Option Entry). option_or o (one (updates_there t number) e)) (sym (first_is log t number))
+first_push log e t number = grind (arith, first_is, find-append)
 
 pub first_same : (log : List Entry) (e : Entry) (t number : ℕ) → (is_update e.rec && is_on number e) ≡ false → first_update (with log e) t number ≡ first_update log t number
-first_same log e t number h =
-    first_push log e t number ∙ ap (option_or (first_update log t number)) (one_false (updates_there t number) e (and_right (is_of t e) (is_update e.rec && is_on number e) h))
-    ∙ option_or_none (first_update log t number)
+first_same log e t number h = grind (arith, first_push, one_false, and_right, option_or_none)
 
 pub last_push : (log : List Entry) (e : Entry) (number : ℕ) → last_on (with log e) number ≡ option_or (one (is_on number) e) (last_on log number)
 last_push log e number = last_where-append (is_on number) log (e ∷ [])
@@ -70,27 +73,20 @@ last_of_own log t number x e own = last_where-filter (is_on number) (is_of t) lo
 
 pub value_same : (log log' : List Entry) (slot : Content) (number : ℕ) (x : Entry) → is_closed log' (txn_of x) ≡ is_closed log (txn_of x) → first_update log' (txn_of x) number ≡ first_update log (txn_of x) number →
     value_after log' number slot (Some x) ≡ value_after log number slot (Some x)
-value_same log log' slot number x closed first =
-    ap (λ b. cond b (after_of x.rec) (before_first (first_update log' (txn_of x) number))) closed
-    ∙ ap (λ (o : Option Entry). cond (is_closed log (txn_of x)) (after_of x.rec) (before_first o)) first
+value_same log log' slot number x closed first = grind arith
 
 pub value_open : (log : List Entry) (pages : List Version) (number : ℕ) (x : Entry) → last_on log number ≡ Some x → is_closed log (txn_of x) ≡ false →
     value_of log pages number ≡ before_first (first_update log (txn_of x) number)
-value_open log pages number x last lives =
-    ap (value_after log number (slot_at pages number)) last ∙ ap (λ b. cond b (after_of x.rec) (before_first (first_update log (txn_of x) number))) lives
+value_open log pages number x last lives = grind arith
 
 pub value_closed : (log : List Entry) (pages : List Version) (number : ℕ) (x : Entry) → last_on log number ≡ Some x → is_closed log (txn_of x) ≡ true →
     value_of log pages number ≡ after_of x.rec
-value_closed log pages number x last closed =
-    ap (value_after log number (slot_at pages number)) last ∙ ap (λ b. cond b (after_of x.rec) (before_first (first_update log (txn_of x) number))) closed
+value_closed log pages number x last closed = grind arith
 
 -- Transactions that are unfinished.
 
 pub is_loser_with : (log : List Entry) (t number : ℕ) (x : Entry) → is_closed log t ≡ false → last_where (is_on number) (entries_of t log) ≡ Some x → IsTrue (is_loser log t)
-is_loser_with log t number x lives e =
-    and_from (list_any (is_of t) log) (not (is_closed log t))
-    (any_left (is_of t) (is_on number) log (last_any (λ y. is_of t y && is_on number y) log x (sym (last_where-filter (is_on number) (is_of t) log) ∙ e)))
-    (not_from_false (is_closed log t) lives)
+is_loser_with log t number x lives e = grind (arith, and_from, any_left, last_any, last_where-filter, not_from_false)
 
 -- one that has something on a number has an Update there
 pub update_of : (log : List Entry) (t number : ℕ) (x : Entry) → CanBeUndone log t → is_closed log t ≡ false → last_where (is_on number) (entries_of t log) ≡ Some x →
@@ -123,9 +119,7 @@ last_is_own log t number u held lives e = own_last log t number log u held lives
 -- so the value there is what stood before its first Update
 pub value_held : (log : List Entry) (pages : List Version) (t number : ℕ) (u : Entry) → Pairwise (HoldsOff log) log → is_closed log t ≡ false → first_update log t number ≡ Some u →
     value_of log pages number ≡ before_of u.rec
-value_held log pages t number u held lives e =
-    let x = last_is_own log t number u held lives e in
-    value_open log pages number x.0 x.1 (ap (is_closed log) x.2 ∙ lives) ∙ ap (λ s. before_first (first_update log s number)) x.2 ∙ ap before_first e
+value_held log pages t number u held lives e = grind (arith, last_is_own, held, value_open)
 
 -- where no unfinished transaction but this record's has an Update, nor that one, the value is what the slot shows
 pub value_free : (log : List Entry) (pages : List Version) (number : ℕ) (e : Entry) → ((t : ℕ) → CanBeUndone log t) → AllByRecursion (λ u. HoldsOff log u e) log → is_on number e ≡ true →

@@ -1,10 +1,8 @@
 -- The laws on a new version of a page, on a new master, and on orderly logs.
 use Rattle.std.specs.Prelude.{ℕ, List}
 use Rattle.record_model.specs.State.{Content}
-use Rattle.log_records.specs.declared.log_record.LogRecord.{LogRecord}
 use Rattle.log_records.specs.Log.{Version}
 use Rattle.log_records.specs.Sound.{LogicalImage, IsSound, Means, AreOrderly}
-use Rattle.log_laws.specs.Follow.{GoesOn, sealed}
 use Rattle.log_laws.specs.NewImage.{with_version, Replaces, with_master, MayCheckpoint}
 
 -- a new version keeps a logical image sound, and what it stands for
@@ -41,8 +39,3 @@ EmptyMasterMeans =
 
 abbrev pub EmptyMasterIsOrderly : Type 0
 EmptyMasterIsOrderly = (p : LogicalImage) → IsSound p → AreOrderly (with_master p p.hi).log
-
--- a block that goes on keeps a log orderly
-abbrev pub SealedIsOrderly : Type 0
-SealedIsOrderly = (p : LogicalImage) (records : List LogRecord) → IsSound p → AreOrderly p.log → GoesOn p records
-    → AreOrderly (sealed p records).log

@@ -1,9 +1,8 @@
 -- A log whose last records aren't sealed yet.
-use Rattle.std.specs.Prelude.{◌≡◌, ◌⊎◌, ℕ, ◌+◌, ◌*◌, List, [], ◌∷◌, ◌++◌, length}
+use Rattle.std.specs.Prelude.{◌≡◌, ◌⊎◌, ℕ, ◌+◌, ◌*◌, List, [], ◌∷◌, ◌++◌}
 use Rattle.log_records.specs.declared.log_record.LogRecord.{LogRecord}
 use Rattle.log_records.specs.Spelling.{used_by}
-use Rattle.log_records.specs.Log.{Entry, log_from}
-use Rattle.log_records.specs.Sets.{blank_versions}
+use Rattle.log_records.specs.Log.{Entry}
 use Rattle.log_records.specs.Sound.{LogicalImage, InTurn, IsSound, commit_count, commit_numbers}
 use Rattle.log_laws.specs.Follow.{Follows, next_entries}
 
@@ -24,13 +23,3 @@ pub record Carries (p : LogicalImage) (tail : List LogRecord) : Type 0 where
 abbrev pub CommitsOnceAtMost : LogicalImage → List LogRecord → Type 0
 CommitsOnceAtMost p tail = (commit_numbers (next_entries p tail) ≡ [])
     ⊎ (commit_numbers (next_entries p tail) ≡ (commit_count p + 1) ∷ [])
-
--- a log without checkpoints, over pages that were never written: its blocks from number 0 on
-abbrev pub plain : ℕ → ℕ → List (List LogRecord) → LogicalImage
-plain pages room blocks = record {
-  master = record { redo = 0; kept = 0; commits = 0; active = [] };
-  log = log_from 0 blocks;
-  hi = length blocks;
-  blocks = room;
-  pages = blank_versions pages;
-}

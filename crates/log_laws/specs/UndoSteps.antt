@@ -1,11 +1,10 @@
 -- One step of undo.
 use Rattle.std.specs.Prelude.{◌≡◌, ℕ, ◌+◌, ◌*◌, ◌<◌, ◌≤◌, ◌==◌, false, List, [], ◌∷◌, ◌++◌, length, find, Some}
-use Rattle.record_model.specs.State.{Write}
 use Rattle.log_records.specs.declared.log_record.LogRecord.{LogRecord}
 use Rattle.log_records.specs.declared.log_record.LogRecord.TheVariants.{Update, Clr, End}
 use Rattle.log_records.specs.Log.{Entry, txn_of, is_closing}
-use Rattle.log_records.specs.Sound.{Master, LogicalImage, IsInOrder}
-use Rattle.log_laws.specs.Follow.{Follows, IsActive}
+use Rattle.log_records.specs.Sound.{LogicalImage}
+use Rattle.log_laws.specs.Follow.{Follows}
 use Rattle.log_laws.specs.Tail.{Carries, whole}
 use Rattle.log_laws.specs.Analysis.{Unfinished, IsUnfinished, after_record}
 
@@ -17,26 +16,13 @@ IsToUndo p log x (Update txn prev page slot before after) =
 IsToUndo p log x _ = ⊥
 
 -- as long as an Update remains the record at the LSN where undoing goes on is one
-abbrev pub UndoStep : Type 0
-UndoStep =
-    (p : LogicalImage) (tail : List LogRecord) (x : Unfinished) → Carries p tail → p.master.redo ≡ 0
-    → IsUnfinished (whole p tail) x → 0 < x.remaining →
-    (u : Entry) × (find (λ e. e.lsn == x.next) (whole p tail) ≡ Some u) × IsToUndo p (whole p tail) x u.rec
-
--- and where none remains the End may follow
-abbrev pub UndoEnd : Type 0
-UndoEnd =
-    (p : LogicalImage) (tail : List LogRecord) (x : Unfinished) → Carries p tail → p.master.redo ≡ 0
-    → IsUnfinished (whole p tail) x → x.remaining ≡ 0 →
-    (lsn : ℕ) → Follows p.master p.pages (whole p tail) (record { lsn = lsn; rec = End x.txn })
-
--- So it is wherever redo begins.
 abbrev pub UndoGoesOn : Type 0
 UndoGoesOn =
     (p : LogicalImage) (tail : List LogRecord) (x : Unfinished) → Carries p tail → IsUnfinished (whole p tail) x
     → 0 < x.remaining →
     (u : Entry) × (find (λ e. e.lsn == x.next) (whole p tail) ≡ Some u) × IsToUndo p (whole p tail) x u.rec
 
+-- and where none remains the End may follow
 abbrev pub UndoEnds : Type 0
 UndoEnds =
     (p : LogicalImage) (tail : List LogRecord) (x : Unfinished) → Carries p tail → IsUnfinished (whole p tail) x
@@ -47,10 +33,3 @@ UndoEnds =
 abbrev pub UnfinishedStep : Type 0
 UnfinishedStep = (log : List Entry) (e : Entry) (x : Unfinished) → IsUnfinished log x → x.txn ≡ txn_of e
     → is_closing e.rec ≡ false → IsUnfinished (log ++ e ∷ []) (after_record x e)
-
--- an active transaction is unfinished, and undoing it goes on with its last record
-abbrev pub ActiveIsUnfinished : Type 0
-ActiveIsUnfinished =
-    (m : Master) (from to : ℕ) (log : List Entry) (t last : ℕ) (writes : List Write) → IsInOrder from log to
-    → IsActive m log t last writes →
-    IsUnfinished log (record { txn = t; last = last; next = last; remaining = length writes })

@@ -1,7 +1,7 @@
 // The laws on a new version of a page, on a new master, and on orderly logs.
 ghost use Rattle.log_laws.specs.NewImageLaws.{VersionIsSound, VersionMeans, MasterIsSound, MasterMeans};
 ghost use Rattle.log_laws.specs.NewImageLaws.{MasterIsOrderly, EmptyMasterIsSound, EmptyMasterMeans};
-ghost use Rattle.log_laws.specs.NewImageLaws.{EmptyMasterIsOrderly, SealedIsOrderly};
+ghost use Rattle.log_laws.specs.NewImageLaws.{EmptyMasterIsOrderly};
 
 /// A new version of a page keeps a logical image sound, and what it stands for.
 pub fn new_version()
@@ -21,9 +21,4 @@ pub fn empty_master()
     ensures sound { EmptyMasterIsSound }
     ensures means { EmptyMasterMeans }
     ensures orderly { EmptyMasterIsOrderly }
-{}
-
-/// A block that goes on keeps a log orderly.
-pub fn sealed_is_orderly()
-    ensures { SealedIsOrderly }
 {}

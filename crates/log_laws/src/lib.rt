@@ -17,12 +17,12 @@ mod undo_laws;
 pub use active_laws::losers_after;
 pub use examples::{a_loser, a_stray};
 pub use follow_laws::commit_follows;
-pub use image_laws::{empty_master, new_master, new_version, sealed_is_orderly};
+pub use image_laws::{empty_master, new_master, new_version};
 pub use loser_laws::losers_listed;
 pub use room_laws::{left_push, owed_closing, owed_clr, owed_none};
 pub use seal_laws::{means_with_commit, means_without_commit, sealed_is_sound};
-pub use shown_laws::{shown_is_seen, shown_push, table_at};
-pub use step_laws::{undo_end, undo_goes_on, undo_step, unfinished_step};
+pub use shown_laws::{shown_is_seen, shown_push};
+pub use step_laws::{undo_goes_on, unfinished_step};
 pub use tail_laws::{
     carries_more, carries_nothing, commits_more, orderly_goes_on, sealed_count, sealed_tail,
     tail_with_commit, tail_without_commit, whole_in_order, whole_is_undoable, whole_more,

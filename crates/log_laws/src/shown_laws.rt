@@ -1,15 +1,10 @@
 // What slots show once all records are redone, and what counts.
-ghost use Rattle.log_laws.specs.ShownLaws.{ShownPush, TableAt};
+ghost use Rattle.log_laws.specs.ShownLaws.{ShownPush};
 ghost use Rattle.log_laws.specs.ShownLaws.{ShownIsSeen};
 
 /// One more record shows what it leaves on its number, and nothing else changes.
 pub fn shown_push()
     ensures { ShownPush }
-{}
-
-/// What the table that counts has at a number.
-pub fn table_at()
-    ensures { TableAt }
 {}
 
 /// Where none but one transaction has written, what is shown is what that one sees.

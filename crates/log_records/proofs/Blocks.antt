@@ -2,7 +2,7 @@
 use Rattle.std.proofs.Common.{◌≡◌, ◌≢◌, ℕ, ◌+◌, ◌-◌, ◌≤◌, ◌<◌, List, [], ◌∷◌, ◌++◌, length, take, drop, replicate, refl, sym, ap, ◌∙◌, subst, append_assoc, arith}
 use Rattle.std.specs.Prelude.{slice_range, flat_map}
 use Rattle.std.specs.List.{AllByRecursion}
-use Rattle.std.specs.Int.{w16, to_be_bytes, from_be_bytes}
+use Rattle.std.specs.Int.{w16, from_be_bytes}
 use Rattle.std.proofs.lemmas.List.{take_at, drop_at, append-nil, length-append, length-take, length-take-le, length-drop, length-replicate, drop-drop, take-append-drop}
 use Rattle.std.proofs.lemmas.List.Folds.{drop_split}
 use Rattle.std.proofs.Math.Seq.{take-length}
@@ -10,7 +10,7 @@ use Rattle.std.proofs.lemmas.Grind.{flat_map-append}
 use Rattle.std.proofs.lemmas.Nat.{be_bytes_2, from_be_bytes-to_be_bytes_2}
 use Rattle.std_lemmas.proofs.AllOf.{all_push, all_between}
 use Rattle.log_records.specs.declared.log_record.LogRecord.{LogRecord}
-use Rattle.log_records.specs.declared.log_record.LogRecord.TheVariants.{Begin, Update, Clr, Commit, End}
+use Rattle.log_records.specs.declared.log_record.LogRecord.TheVariants.{Begin}
 use Rattle.log_records.specs.Spelling.{spelling, used_by, block, block_len, HasForm, FitsFields, AreBlock, IsBlock, IsSpelledAt}
 use Rattle.log_records.specs.Laws.{OneSpelled, WrittenIsSpelled}
 use Rattle.log_records.proofs.Records.{spelling_is_one}
@@ -30,18 +30,13 @@ TellsUsed content used = used ≡ from_be_bytes w16 (take 2 content)
 -- the first two octets tell where the records end
 pub used_is : (content : List ℕ) (all : List LogRecord) (used : ℕ) → IsBlock content all → TellsUsed content used → used ≡ used_by all
 unfolding block
-used_is content all used is e =
-    let room = is.are_block.room in
-    e ∙ ap (λ (c : List ℕ). from_be_bytes w16 (take 2 c)) is.spelled ∙ from_be_bytes-to_be_bytes_2 (used_by all) (omega (arith, room))
+used_is content all used is e = grind (arith, from_be_bytes-to_be_bytes_2)
 
 -- a record takes at least one octet
 pub some_octet : (rec : LogRecord) → 1 ≤ length (spelling rec)
 unfolding spelling
 some_octet Begin = omega arith
-some_octet (Update txn prev page slot before after) = omega arith
-some_octet (Clr txn prev undo_next page slot after) = omega arith
-some_octet (Commit txn number) = omega arith
-some_octet (End txn) = omega arith
+some_octet _ = omega arith
 
 pub used_low : (all : List LogRecord) → AreBlock all → 3 ≤ used_by all
 used_low [] are = absurd (are.some refl)
@@ -72,13 +67,7 @@ used_parts done left = omega (arith, ap length (flat_map-append spelling done le
 
 pub spelled_next : (content : List ℕ) (used at : ℕ) (rec : LogRecord) (rest : List ℕ) → drop at content ≡ spelling rec ++ rest → at + length (spelling rec) ≤ used →
     HasForm rec → FitsFields rec → IsSpelledAt content at used rec (at + length (spelling rec))
-spelled_next content used at rec rest e inside form fits = record {
-  text = ap (λ n. take n (drop at content)) (omega arith) ∙ ap (take (length (spelling rec))) e ∙ take_at (spelling rec) rest _ refl;
-  length_is = refl;
-  inside = inside;
-  has_form = form;
-  fits_fields = fits;
-}
+spelled_next content used at rec rest e inside form fits = grind (arith, take_at)
 
 -- where the place isn't the end, a block has a record there
 next_of : (content : List ℕ) (used at : ℕ) (r : ReadTo content used at) → TellsUsed content used → at < used → (all left : List LogRecord) → IsBlock content all → all ≡ r.records ++ left →
@@ -121,17 +110,7 @@ one_spelled octets from limit a b end stop first second =
 
 -- what was written is spelled there
 pub written_is_spelled : WrittenIsSpelled
-written_is_spelled old new from limit rec end form fits writes inside =
-    let low : from ≤ length old = omega (arith, writes.length_is, writes.inside) in
-    let behind : drop from new ≡ spelling rec ++ drop end old =
-    ap (drop from) (writes.written ∙ append_assoc (take from old) (spelling rec) (drop end old)) ∙ drop_at (take from old) (spelling rec ++ drop end old) from (length-take-le from old low) in
-    record {
-      text = ap (λ n. take n (drop from new)) (omega (arith, writes.length_is)) ∙ ap (take (length (spelling rec))) behind ∙ take_at (spelling rec) (drop end old) _ refl;
-      length_is = writes.length_is;
-      inside = inside;
-      has_form = form;
-      fits_fields = fits;
-    }
+written_is_spelled old new from limit rec end form fits writes inside = grind (arith, append_assoc, drop_at, length-take-le, take_at)
 
 same_next : (content : List ℕ) (used at end : ℕ) (r : ReadTo content used at) → TellsUsed content used → (rec : LogRecord) → IsSpelledAt content at used rec end →
     (all : List LogRecord) → IsBlock content all → (left : List LogRecord) × (all ≡ (r.records ++ rec ∷ []) ++ left)
@@ -168,21 +147,7 @@ not_empty (rec ∷ all) low = λ e. cc
 pub is_block : (content : List ℕ) (used : ℕ) (r : ReadTo content used used) → TellsUsed content used → IsBytes content → length content ≡ 503 → 3 ≤ used → used ≤ 503 →
     drop used content ≡ replicate (length (drop used content)) 0 → (records : List LogRecord) × IsBlock content records × (used ≡ used_by records)
 unfolding block
-is_block content used r e fits len low high rest =
-    let head : to_be_bytes w16 used ≡ take 2 content =
-    be_bytes_2 (take 2 content) used (omega (arith, length-take 2 content, len)) (IsBytes-take 2 content fits) e in
-    let done = flat_map spelling r.records in
-    let tail : drop used content ≡ replicate (block_len - used_by r.records) 0 =
-    rest ∙ ap (λ n. replicate n 0) (omega (arith, length-drop used content, len, r.place)) in (
-      r.records,
-      record {
-        are_block = record { some = not_empty r.records (omega (arith, r.place, low)); have_form = r.have_form; fit_fields = r.fit_fields; room = omega (arith, r.place, high) };
-        spelled = sym (take-append-drop 2 content) ∙ ap (λ (t : List ℕ). t ++ drop 2 content) (sym head) ∙ ap (λ n. to_be_bytes w16 n ++ drop 2 content) r.place
-            ∙ ap (λ (t : List ℕ). to_be_bytes w16 (used_by r.records) ++ t) (r.text ∙ ap (λ (t : List ℕ). done ++ t) tail)
-            ∙ sym (append_assoc (to_be_bytes w16 (used_by r.records)) done (replicate (block_len - used_by r.records) 0));
-      },
-      r.place,
-    )
+is_block content used r e fits len low high rest = grind (arith, be_bytes_2, length-take, IsBytes-take, length-drop, not_empty, take-append-drop, append_assoc)
 
 nothing_left : (left : List LogRecord) → length (flat_map spelling left) ≡ 0 → flat_map spelling left ≡ []
 nothing_left [] e = refl
@@ -215,13 +180,4 @@ zero_from_the_end content from h = subst AreZero (sym (to_the_end content from))
 
 pub length-block : (records : List LogRecord) → used_by records ≤ block_len → length (block records) ≡ block_len
 unfolding block
-length-block records room =
-    let flat = flat_map spelling records in
-    let zero : List ℕ = replicate (block_len - used_by records) 0 in
-    omega (
-      arith,
-      length-append (to_be_bytes w16 (used_by records) ++ flat) zero,
-      length-append (to_be_bytes w16 (used_by records)) flat,
-      length-replicate {A = ℕ} (block_len - used_by records) 0,
-      room,
-    )
+length-block records room = grind (arith, length-append, length-replicate)

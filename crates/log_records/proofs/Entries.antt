@@ -1,7 +1,7 @@
 -- Entries of a log: how many, their order, their kinds.
 use Rattle.std.proofs.Common.{◌≡◌, suc, ℕ, ◌+◌, ◌≤◌, true, false, List, [], ◌∷◌, ◌++◌, length, refl, ap, arith}
 use Rattle.log_records.specs.declared.log_record.LogRecord.{LogRecord}
-use Rattle.log_records.specs.declared.log_record.LogRecord.TheVariants.{Begin, Update, Clr, Commit, End}
+use Rattle.log_records.specs.declared.log_record.LogRecord.TheVariants.{Begin}
 use Rattle.log_records.specs.Log.{Entry, entries_from, is_closing}
 use Rattle.log_records.specs.Spelling.{spelling}
 use Rattle.log_records.specs.Unfinished.{is_begin}
@@ -28,7 +28,4 @@ in_order_least from to (x ∷ front) e back order = let below = in_order_least (
 
 pub closing_is_no_begin : (rec : LogRecord) → is_closing rec ≡ true → is_begin rec ≡ false
 closing_is_no_begin Begin h = absurd (grind arith)
-closing_is_no_begin (Update txn prev page slot before after) h = refl
-closing_is_no_begin (Clr txn prev undo_next page slot after) h = refl
-closing_is_no_begin (Commit txn number) h = refl
-closing_is_no_begin (End txn) h = refl
+closing_is_no_begin _ h = refl

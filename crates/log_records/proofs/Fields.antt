@@ -1,5 +1,5 @@
 -- A field that is read is the field that was written, and what was written is read again.
-use Rattle.std.proofs.Common.{◌≡◌, ℕ, zero, suc, ◌+◌, ◌^◌, ◌<◌, ◌≤◌, Bool, true, false, cond, ◌||◌, ltb, List, [], ◌∷◌, ◌++◌, length, get_or, take, drop, Option, Some, None, refl, sym, ap, subst, ◌∙◌, add-one, arith, inl, inr}
+use Rattle.std.proofs.Common.{◌≡◌, ℕ, zero, suc, ◌+◌, ◌^◌, ◌<◌, ◌≤◌, Bool, true, false, cond, ◌||◌, ltb, List, [], ◌∷◌, ◌++◌, length, get_or, take, drop, Option, Some, None, refl, sym, ap, subst, ◌∙◌, add-one, arith}
 use Rattle.std.specs.Prelude.{nat_lt}
 use Rattle.std.specs.Int.{Width, w32, w64, byte_len, from_be_bytes, to_be_bytes}
 use Rattle.std.proofs.lemmas.Bool.{cases_lt, ltb-false, ltb-true, le-ltb, lt-ltb, or_parts}
@@ -18,11 +18,7 @@ pub IsBytes-drop : (n : ℕ) (octets : List ℕ) → IsBytes octets → IsBytes 
 IsBytes-drop n octets h i = rw get_or-drop (h (n + i))
 
 pub IsBytes-take : (n : ℕ) (octets : List ℕ) → IsBytes octets → IsBytes (take n octets)
-IsBytes-take n octets h i =
-    elim (cases_lt i n) [
-      | inl lt ↦ rw (get_or-take n octets i 0 lt) (h i)
-      | inr le ↦ rw (get_or_past (take n octets) i 0 (omega (arith, length-take n octets))) (omega arith)
-    ]
+IsBytes-take n octets h i = grind (arith, cases_lt, get_or-take, get_or_past, length-take)
 
 -- the value of a step that did not fail
 pub bind_some : {A B : Type 0} (r : Option A) (f : A → Option B) (y : B) → (r >>= f) ≡ Some y → (x : A) × (r ≡ Some x) × (f x ≡ Some y)
@@ -52,20 +48,10 @@ record IsWide (w : Width) (limit : ℕ) : Type 0 where
   below : (octets : List ℕ) → IsBytes octets → from_be_bytes w octets < limit
 
 wide32 : IsWide w32 (2 ^ 32)
-wide32 = record {
-  len = λ n. refl;
-  back = λ octets len fits. be_bytes_4 octets _ len fits refl;
-  again = λ n lt. from_be_bytes-to_be_bytes_4 n lt;
-  below = λ octets fits. omega (arith, fits 0, fits 1, fits 2, fits 3);
-}
+wide32 = grind (arith, be_bytes_4, from_be_bytes-to_be_bytes_4)
 
 wide64 : IsWide w64 (2 ^ 64)
-wide64 = record {
-  len = λ n. refl;
-  back = λ octets len fits. be_bytes_8 octets _ len fits refl;
-  again = λ n lt. from_be_bytes-to_be_bytes_8 n lt;
-  below = λ octets fits. omega (arith, fits 0, fits 1, fits 2, fits 3, fits 4, fits 5, fits 6, fits 7);
-}
+wide64 = grind (arith, be_bytes_8, from_be_bytes-to_be_bytes_8)
 
 number_field : (w : Width) (limit : ℕ) → IsWide w limit → IsField (number_at w) (to_be_bytes w) (λ n. n < limit)
 number_field w limit wide = record { takes = takes; again = again }
@@ -135,10 +121,7 @@ value_takes (suc n ∷ rest) x fits e =
 value_again : (content : Content) (rest : List ℕ) → IsShort content → value_at (content_spelling content ++ rest) ≡ Some (content, rest)
 unfolding value_at
 value_again None rest short = refl
-value_again (Some value) rest short =
-    let fits : nat_lt VALUE_MAX (length value) ≡ false = le-ltb _ _ short in
-    let there : nat_lt (length (value ++ rest)) (length value) ≡ false = le-ltb _ _ (omega (arith, length-append value rest)) in
-    ap (λ (k : ℕ). value_at (k ∷ (value ++ rest))) (add-one (length value)) ∙ rw (fits, there, take_at value rest (length value) refl, drop_at value rest (length value) refl) refl
+value_again (Some value) rest short = grind (arith, le-ltb, length-append, add-one, take_at, drop_at)
 
 pub value_field : IsField value_at content_spelling IsShort
 value_field = record { takes = value_takes; again = value_again }

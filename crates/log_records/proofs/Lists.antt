@@ -1,5 +1,5 @@
 -- The last item that passes a test.
-use Rattle.std.proofs.Common.{◌≡◌, ⊎_elim, Bool, true, cond, List, [], ◌∷◌, ◌++◌, Some, None, sym, ap, subst, ◌∙◌, arith}
+use Rattle.std.proofs.Common.{◌≡◌, ⊎_elim, Bool, cond, List, [], ◌∷◌, ◌++◌, Some, None, sym, arith}
 use Rattle.std.specs.Prelude.{Option}
 use Rattle.std.specs.List.{AllByRecursion}
 use Rattle.std.specs.Option.{option_or}
@@ -12,11 +12,9 @@ one test x = cond (test x) (Some x) None
 
 pub last_where-append : {X : Type 0} (test : X → Bool) (xs ys : List X) → last_where test (xs ++ ys) ≡ option_or (last_where test ys) (last_where test xs)
 last_where-append {X} test [] ys = sym (option_or_none (last_where test ys))
-last_where-append {X} test (x ∷ xs) ys = ap (λ (o : Option X). option_or o (one test x)) (last_where-append test xs ys) ∙ option_or_assoc (last_where test ys) (last_where test xs) (one test x)
+last_where-append {X} test (x ∷ xs) ys = grind (arith, option_or_assoc, (last_where-append test xs ys))
 
 -- what holds of all holds of the last
 pub all_last : {X : Type 0} (P : X → Type 0) (test : X → Bool) (xs : List X) (x : X) → AllByRecursion P xs → last_where test xs ≡ Some x → P x
 all_last P test [] x h e = absurd (grind arith)
-all_last P test (y ∷ ys) x h e = ⊎_elim (all_last P test ys x h.1)
-    (λ o. let c = cond_some (test y) y x o.1 in subst P c.1 h.0)
-    (option_or_some (last_where test ys) (one test y) x e)
+all_last P test (y ∷ ys) x h e = grind (arith, cond_some, option_or_some, (all_last P test ys x h.1))

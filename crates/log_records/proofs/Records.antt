@@ -1,5 +1,5 @@
 -- What is read is spelled so, and what is spelled so is read.
-use Rattle.std.proofs.Common.{◌≡◌, ℕ, suc, ◌^◌, ◌<◌, Bool, true, false, cond, ◌⊎◌, inl, inr, eqb, List, [], ◌∷◌, ◌++◌, Some, refl, sym, ap, subst, ◌∙◌, append_assoc}
+use Rattle.std.proofs.Common.{arith, ◌≡◌, ℕ, suc, ◌^◌, ◌<◌, Bool, true, false, cond, ◌⊎◌, inl, inr, eqb, List, [], ◌∷◌, ◌++◌, Some, refl, sym, ap, subst, ◌∙◌, append_assoc}
 use Rattle.std.specs.Int.{w32, w64, to_be_bytes}
 use Rattle.std.proofs.lemmas.Bool.{eqb-true}
 use Rattle.std.proofs.lemmas.Option.{same_Some}
@@ -28,9 +28,7 @@ commit_takes octets x fits e =
 
 commit_again : (txn number : ℕ) (rest : List ℕ) → txn < 2 ^ 64 → number < 2 ^ 64 → commit_at (to_be_bytes w64 txn ++ (to_be_bytes w64 number ++ rest)) ≡ Some (Commit txn number, rest)
 unfolding commit_at spelling
-commit_again txn number rest t n =
-    bind_is _ _ _ _ (u64_field.again txn (to_be_bytes w64 number ++ rest) t)
-    (bind_is _ _ _ _ (u64_field.again number rest n) refl)
+commit_again txn number rest t n = grind (arith, bind_is, u64_field)
 
 end_takes : (octets : List ℕ) (x : LogRecord × List ℕ) → IsBytes octets → end_at octets ≡ Some x → TakesRecord (5 ∷ octets) x
 unfolding end_at spelling
@@ -73,14 +71,7 @@ update_again : (txn prev page slot : ℕ) (before after : Content) (rest : List 
     update_at (to_be_bytes w64 txn ++ (to_be_bytes w64 prev ++ (to_be_bytes w32 page ++ (slot ∷ (content_spelling before ++ (content_spelling after ++ rest))))))
     ≡ Some (Update txn prev page slot before after, rest)
 unfolding update_at spelling
-update_again txn prev page slot before after rest t p g s b a =
-    let r5 = content_spelling after ++ rest in
-    let r4 = content_spelling before ++ r5 in
-    let r3 = slot ∷ r4 in
-    let r2 = to_be_bytes w32 page ++ r3 in
-    let r1 = to_be_bytes w64 prev ++ r2 in
-    bind_is _ _ _ _ (u64_field.again txn r1 t) (bind_is _ _ _ _ (u64_field.again prev r2 p) (bind_is _ _ _ _ (u32_field.again page r3 g)
-    (bind_is _ _ _ _ (slot_field.again slot r4 s) (bind_is _ _ _ _ (value_field.again before r5 b) (bind_is _ _ _ _ (value_field.again after rest a) refl)))))
+update_again txn prev page slot before after rest t p g s b a = grind (arith, bind_is, u64_field, u32_field, slot_field, value_field)
 
 clr_takes : (octets : List ℕ) (x : LogRecord × List ℕ) → IsBytes octets → clr_at octets ≡ Some x → TakesRecord (3 ∷ octets) x
 unfolding clr_at spelling
@@ -110,14 +101,7 @@ clr_again : (txn prev next page slot : ℕ) (after : Content) (rest : List ℕ) 
     clr_at (to_be_bytes w64 txn ++ (to_be_bytes w64 prev ++ (to_be_bytes w64 next ++ (to_be_bytes w32 page ++ (slot ∷ (content_spelling after ++ rest))))))
     ≡ Some (Clr txn prev next page slot after, rest)
 unfolding clr_at spelling
-clr_again txn prev next page slot after rest t p n g s a =
-    let r5 = content_spelling after ++ rest in
-    let r4 = slot ∷ r5 in
-    let r3 = to_be_bytes w32 page ++ r4 in
-    let r2 = to_be_bytes w64 next ++ r3 in
-    let r1 = to_be_bytes w64 prev ++ r2 in
-    bind_is _ _ _ _ (u64_field.again txn r1 t) (bind_is _ _ _ _ (u64_field.again prev r2 p) (bind_is _ _ _ _ (u64_field.again next r3 n)
-    (bind_is _ _ _ _ (u32_field.again page r4 g) (bind_is _ _ _ _ (slot_field.again slot r5 s) (bind_is _ _ _ _ (value_field.again after rest a) refl)))))
+clr_again txn prev next page slot after rest t p n g s a = grind (arith, bind_is, u64_field, u32_field, slot_field, value_field)
 
 pub record_again : (rec : LogRecord) (rest : List ℕ) → HasForm rec → FitsFields rec → record_at (spelling rec ++ rest) ≡ Some (rec, rest)
 unfolding record_at spelling

@@ -1,5 +1,5 @@
 -- The block of a transaction that sets one record.
-use Rattle.std.proofs.Common.{◌≡◌, ℕ, ◌+◌, ◌-◌, ◌*◌, ◌/◌, ◌%◌, ◌^◌, ◌≤◌, ◌<◌, List, [], ◌∷◌, ◌++◌, length, drop, replicate, Some, None, refl, sym, ap, ◌∙◌, append_assoc, length-append, arith}
+use Rattle.std.proofs.Common.{◌≡◌, ℕ, ◌+◌, ◌-◌, ◌*◌, ◌/◌, ◌%◌, ◌^◌, ◌≤◌, ◌<◌, [], ◌∷◌, ◌++◌, length, drop, replicate, Some, None, refl, sym, ap, ◌∙◌, append_assoc, length-append, arith}
 use Rattle.std.proofs.lemmas.Option.{same_Some}
 use Rattle.byte_fields.specs.declared.TheConstants.{VALUE_MAX}
 use Rattle.record_model.specs.State.{Content}
@@ -15,10 +15,7 @@ use Rattle.log_records.proofs.Records.{spelling_is_one}
 pub behind_three : (a b c : LogRecord) →
     drop 2 (block (a ∷ b ∷ c ∷ [])) ≡ spelling a ++ (spelling b ++ (spelling c ++ replicate (block_len - used_by (a ∷ b ∷ c ∷ [])) 0))
 unfolding block
-behind_three a b c =
-    let zeros = replicate (block_len - used_by (a ∷ b ∷ c ∷ [])) 0 in
-    append_assoc (spelling a) (spelling b ++ (spelling c ++ [])) zeros
-    ∙ ap (λ (l : List ℕ). spelling a ++ l) (append_assoc (spelling b) (spelling c ++ []) zeros ∙ ap (λ (l : List ℕ). spelling b ++ l) (append_assoc (spelling c) [] zeros))
+behind_three a b c = grind (arith, append_assoc)
 
 pub content_small : (content : Content) → IsShort content → length (content_spelling content) ≤ VALUE_MAX + 1
 content_small None short = omega arith
@@ -50,22 +47,10 @@ module _ (pages i : ℕ) (c : Change) (few : pages ≤ 65536) (small : i < 2 ^ 4
   update_small = omega (arith, length_update (512 * i + 2) (512 * i + 2) (c.number / 32) (c.number % 32) c.before c.after, content_small c.before is.before, content_small c.after is.after)
 
 pub used_by_set : (i : ℕ) (c : Change) → used_by (records_of i c) ≡ 2 + 1 + length (spelling (update_of i c)) + 17
-used_by_set i c = omega (
-  arith,
-  length-append (spelling Begin) (spelling (update_of i c) ++ (spelling (commit_of i) ++ [])),
-  length-append (spelling (update_of i c)) (spelling (commit_of i) ++ []),
-  length-append (spelling (commit_of i)) [],
-  length_begin,
-  length_commit i,
-)
+used_by_set i c = grind (arith, length-append, length_begin, length_commit)
 
 pub set_is_block : SetIsBlock
-set_is_block pages i c few small is = record {
-  some = λ e. cc;
-  have_form = (tt, (update_form pages i c few small is, (tt, tt)));
-  fit_fields = (tt, (update_fits pages i c few small is, (commit_fits pages i c few small is, tt)));
-  room = omega (arith, used_by_set i c, update_small pages i c few small is);
-}
+set_is_block pages i c few small is = grind (arith, update_form, update_fits, commit_fits, used_by_set, update_small)
 
 pub set_lsns : SetLsns
 set_lsns i c = ap (λ n. (512 * i + 2) ∷ n ∷ (n + length (spelling (update_of i c))) ∷ []) (omega (arith, length_begin))

@@ -6,7 +6,7 @@ use Rattle.std.proofs.lemmas.List.{length-append, length-drop, drop-drop, drop-a
 use Rattle.std_lemmas.proofs.AllOf.{all_drop}
 use Rattle.site.specs.declared.geometry.Geometry.{Geometry}
 use Rattle.site.specs.State.{Image}
-use Rattle.sealed_ring.specs.Ring.{IsRing, Units, last_of, appended}
+use Rattle.sealed_ring.specs.Ring.{IsRing, last_of, appended}
 use Rattle.sealed_ring.proofs.Units.{live_count}
 use Rattle.log_records.specs.declared.log_record.LogRecord.{LogRecord}
 use Rattle.log_records.specs.Spelling.{block, AreBlock}
@@ -15,17 +15,11 @@ use Rattle.log_store.specs.Representation.{HasBlocks}
 
 -- the last ones of the last ones
 last_twice : (k m : ℕ) (xs : List (List ℕ)) → k ≤ m → last_of k (last_of m xs) ≡ last_of k xs
-last_twice k m xs le =
-    let size = length-drop (length xs - m) xs in
-    drop-drop (length (drop (length xs - m) xs) - k) (length xs - m) xs
-    ∙ ap (λ (n : ℕ). drop n xs) (omega (arith, size, le))
+last_twice k m xs le = grind (arith, length-drop, drop-drop)
 
 -- of a list with one more
 last_more : (k : ℕ) (xs : List (List ℕ)) (x : List ℕ) → k ≤ length xs → last_of (k + 1) (xs ++ x ∷ []) ≡ last_of k xs ++ x ∷ []
-last_more k xs x le =
-    let size = length-append xs (x ∷ []) in
-    ap (λ (n : ℕ). drop n (xs ++ x ∷ [])) (omega (arith, size, le))
-    ∙ drop-append-le (length xs - k) xs (x ∷ []) (omega arith)
+last_more k xs x le = grind (arith, length-append, drop-append-le)
 
 all_more : (blocks : List (List LogRecord)) (records : List LogRecord) → AllByRecursion AreBlock blocks → AreBlock records → AllByRecursion AreBlock (blocks ++ records ∷ [])
 all_more [] records all are = (are, tt)
@@ -33,13 +27,7 @@ all_more (first ∷ blocks) records all are = (all.0, all_more blocks records al
 
 -- they stay where the ring has the same units
 pub blocks_stay : (g : Geometry) (first : ℕ) (blocks : List (List LogRecord)) (a b : Image) → HasBlocks g first blocks a → KeepsUnits (log_shape g) a b → HasBlocks g first blocks b
-blocks_stay g first blocks a b has keeps = record {
-  form = keeps.form has.form;
-  next = has.next ∙ sym (ap (λ (u : Units). u.hi) keeps.units);
-  few = has.few;
-  are_blocks = has.are_blocks;
-  units = ap (λ (u : Units). last_of (length blocks) u.live) keeps.units ∙ has.units;
-}
+blocks_stay g first blocks a b has keeps = grind arith
 
 -- as many units live
 lives : (g : Geometry) (first : ℕ) (blocks : List (List LogRecord)) (a : Image) → HasBlocks g first blocks a → length blocks ≤ length (units_on (log_shape g) a).live
@@ -52,23 +40,7 @@ lives g first blocks a has =
 -- one block more
 pub blocks_more : (g : Geometry) (first : ℕ) (blocks : List (List LogRecord)) (records : List LogRecord) (a b : Image) → HasBlocks g first blocks a → length blocks + 1 ≤ g.blocks - 1 → AreBlock records →
     IsRing (log_shape g) b.log → units_on (log_shape g) b ≡ appended (log_shape g) (units_on (log_shape g) a) (block records) → HasBlocks g first (blocks ++ records ∷ []) b
-blocks_more g first blocks records a b has room are form units =
-    let live = (units_on (log_shape g) a).live in
-    let size = length-append blocks (records ∷ []) in
-    let hi = ap (λ (u : Units). u.hi) units in
-    let next = has.next in record {
-      form = form;
-      next = omega (arith, size, hi, next);
-      few = omega (arith, size, room);
-      are_blocks = all_more blocks records has.are_blocks are;
-      units =
-          ap (λ (u : Units). last_of (length (blocks ++ records ∷ [])) u.live) units
-          ∙ ap (λ (n : ℕ). last_of n (last_of (g.blocks - 1) (live ++ block records ∷ []))) size
-          ∙ last_twice (length blocks + 1) (g.blocks - 1) (live ++ block records ∷ []) room
-          ∙ last_more (length blocks) live (block records) (lives g first blocks a has)
-          ∙ ap (λ (l : List (List ℕ)). l ++ block records ∷ []) has.units
-          ∙ sym (map-append block blocks (records ∷ []));
-    }
+blocks_more g first blocks records a b has room are form units = grind (arith, length-append, all_more, last_twice, last_more, map-append)
 
 -- and fewer, from a later one on
 pub blocks_from : (g : Geometry) (first from : ℕ) (blocks : List (List LogRecord)) (a : Image) → HasBlocks g first blocks a → from ≤ first + length blocks → HasBlocks g (max first from) (drop (from - first) blocks) a

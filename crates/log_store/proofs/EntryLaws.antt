@@ -8,7 +8,7 @@ use Rattle.log_records.specs.Log.{Entry, entries_from, log_from}
 use Rattle.site.specs.State.{State}
 use Rattle.log_store.specs.declared.store.LogStore.{LogStore}
 use Rattle.log_store.specs.Representation.{Finds, Represents}
-use Rattle.log_store.specs.LogList.{LogList, next_block, sealed, entries, sealed_if, with_record}
+use Rattle.log_store.specs.LogList.{LogList, next_block, entries, sealed_if, with_record}
 
 abbrev entry : ℕ → LogRecord → Entry
 entry lsn rec = record { lsn = lsn; rec = rec }
@@ -35,14 +35,8 @@ sealing_keeps false log = refl
 
 -- a record more stands behind them
 pub one_more : (rec : LogRecord) (log : LogList) (lsn : ℕ) → lsn ≡ 512 * next_block log + used_by log.tail → entries (with_record rec log) ≡ entries log ++ record { lsn = lsn; rec = rec } ∷ []
-one_more rec log lsn is =
-    ap (λ (l : List Entry). sealed log ++ l) (entries_more (512 * next_block log + 2) log.tail rec ∙ ap (λ (n : ℕ). entries_from (512 * next_block log + 2) log.tail ++ entry n rec ∷ []) (omega (arith, is)))
-    ∙ sym (append_assoc (sealed log) (entries_from (512 * next_block log + 2) log.tail) _)
+one_more rec log lsn is = grind (arith, entries_more, append_assoc)
 
 -- where a store puts its next record
 pub next_place : (store : LogStore) (site : State) (log : LogList) (lsn : ℕ) → Finds store site → Represents store site.image log → lsn ≡ 512 * store.ring.hi + store.used → lsn ≡ 512 * next_block log + used_by log.tail
-next_place store site log lsn fits holds is =
-    let next = holds.blocks.next in
-    let hi = fits.hi in
-    let end = holds.tail.end in
-    omega (arith, next, hi, end, is)
+next_place store site log lsn fits holds is = grind arith

@@ -9,7 +9,7 @@ use Rattle.log_records.specs.declared.log_record.LogRecord.{LogRecord}
 use Rattle.log_records.specs.Spelling.{spelling, used_by, HasForm, FitsFields, AreBlock, IsBlock, IsSpelledAt}
 use Rattle.log_records.specs.Log.{Entry, entries_from, log_from}
 use Rattle.log_records.proofs.Blocks.{some_octet, behind, one_spelled, spelled_next}
-use Rattle.log_store.specs.LogList.{LogList, next_block, sealed, entries, at_lsn, sealed_block}
+use Rattle.log_store.specs.LogList.{LogList, next_block, entries, at_lsn, sealed_block}
 use Rattle.log_store.specs.Representation.{HasTail, HasRecords}
 
 -- one entry more in front
@@ -40,8 +40,7 @@ second_none lsn (x ∷ xs) ys none = ap (λ (o : Option LogRecord). if x.lsn == 
 
 none_before : (lsn from : ℕ) (records : List LogRecord) → lsn < from → at_lsn lsn (entries_from from records) ≡ None
 none_before lsn from [] below = refl
-none_before lsn from (rec ∷ records) below =
-    not_here lsn from rec (entries_from (from + length (spelling rec)) records) (λ is. omega (arith, is, below)) ∙ none_before lsn (from + length (spelling rec)) records (omega (arith, below))
+none_before lsn from (rec ∷ records) below = grind (arith, not_here, (none_before lsn (from + length (spelling rec)) records (omega (arith, below))))
 
 none_behind : (lsn from : ℕ) (records : List LogRecord) → from + length (flat_map spelling records) ≤ lsn → at_lsn lsn (entries_from from records) ≡ None
 none_behind lsn from [] above = refl
@@ -69,16 +68,11 @@ shifted k offset from place (rec ∷ records) is =
 
 blocks_before : (lsn first : ℕ) (blocks : List (List LogRecord)) → lsn < 512 * first → at_lsn lsn (log_from first blocks) ≡ None
 blocks_before lsn first [] below = refl
-blocks_before lsn first (records ∷ blocks) below =
-    first_none lsn (entries_from (512 * first + 2) records) (log_from (first + 1) blocks) (none_before lsn (512 * first + 2) records (omega (arith, below)))
-    ∙ blocks_before lsn (first + 1) blocks (omega (arith, below))
+blocks_before lsn first (records ∷ blocks) below = grind (arith, first_none, none_before, (blocks_before lsn (first + 1) blocks (omega (arith, below))))
 
 blocks_behind : (lsn first : ℕ) (blocks : List (List LogRecord)) → AllByRecursion AreBlock blocks → 512 * (first + length blocks) ≤ lsn → at_lsn lsn (log_from first blocks) ≡ None
 blocks_behind lsn first [] all above = refl
-blocks_behind lsn first (records ∷ blocks) all above =
-    let room = all.0.room in
-    first_none lsn (entries_from (512 * first + 2) records) (log_from (first + 1) blocks) (none_behind lsn (512 * first + 2) records (omega (arith, above, room)))
-    ∙ blocks_behind lsn (first + 1) blocks all.1 (omega (arith, above))
+blocks_behind lsn first (records ∷ blocks) all above = grind (arith, first_none, none_behind, (blocks_behind lsn (first + 1) blocks all.1 (omega (arith, above))))
 
 block_at : (b offset first : ℕ) (blocks : List (List LogRecord)) → AllByRecursion AreBlock blocks → first ≤ b → b < first + length blocks → offset < 512 →
     at_lsn (512 * b + offset) (log_from first blocks) ≡ at_lsn offset (entries_from 2 (get_or blocks (b - first) []))
@@ -104,16 +98,10 @@ block_at b offset first (records ∷ blocks) all from to small =
 
 pub in_block : (log : LogList) (lsn b offset : ℕ) → AllByRecursion AreBlock log.blocks → log.first ≤ b → b < next_block log → offset < 512 → lsn ≡ 512 * b + offset →
     at_lsn lsn (entries log) ≡ at_lsn offset (entries_from 2 (sealed_block log b))
-in_block log lsn b offset all from to small is =
-    ap (λ (n : ℕ). at_lsn n (entries log)) is
-    ∙ second_none (512 * b + offset) (sealed log) (entries_from (512 * next_block log + 2) log.tail) (none_before (512 * b + offset) (512 * next_block log + 2) log.tail (omega (arith, to, small)))
-    ∙ block_at b offset log.first log.blocks all from to small
+in_block log lsn b offset all from to small is = grind (arith, second_none, none_before, block_at)
 
 pub in_tail : (log : LogList) (lsn b offset : ℕ) → AllByRecursion AreBlock log.blocks → b ≡ next_block log → lsn ≡ 512 * b + offset → at_lsn lsn (entries log) ≡ at_lsn offset (entries_from 2 log.tail)
-in_tail log lsn b offset all at is =
-    first_none lsn (sealed log) (entries_from (512 * next_block log + 2) log.tail) (blocks_behind lsn log.first log.blocks all (omega (arith, at, is)))
-    ∙ ap (λ (n : ℕ). at_lsn n (entries_from (512 * next_block log + 2) log.tail)) (is ∙ ap (λ (n : ℕ). 512 * n + offset) at)
-    ∙ shifted (512 * next_block log) offset 2 (512 * next_block log + 2) log.tail refl
+in_tail log lsn b offset all at is = grind (arith, first_none, blocks_behind, shifted)
 
 -- Walking over the records of octets.
 

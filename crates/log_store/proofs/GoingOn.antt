@@ -1,6 +1,5 @@
 -- A store goes on.
-use Rattle.std.proofs.Common.{◌≡◌, ◌+◌, ◌-◌, ◌≤◌, ◌∙◌, sym, ap, subst, arith}
-use Rattle.site.specs.declared.geometry.Geometry.{Geometry}
+use Rattle.std.proofs.Common.{◌≡◌, ◌+◌, ◌-◌, ◌≤◌, arith}
 use Rattle.site.specs.Geometry.{HasLimits, HasLengths}
 use Rattle.site.specs.State.{State}
 use Rattle.site.specs.Calls.{Preserves}
@@ -14,27 +13,9 @@ use Rattle.site.proofs.Working.{lengths_later}
 -- where its bounds still hold
 pub goes_on : (store store' : LogStore) (old new : State) → Invariant store old → Preserves old new → store'.geometry ≡ store.geometry → IsUsable store'.ring new → store'.ring.shape ≡ store.ring.shape →
     store'.kept ≤ store'.ring.hi → store'.ring.hi ≤ store'.kept + (store.geometry.blocks - 1) → 2 ≤ store'.used → store'.used ≤ block_len → Invariant store' new
-goes_on store store' old new going goes geometry usable shape kept live low high = record {
-  limits = subst HasLimits (sym geometry) going.limits;
-  lengths = subst (λ (g : Geometry). HasLengths g new.image) (sym geometry) (lengths_later store.geometry old new goes going.lengths);
-  usable = usable;
-  shape = shape ∙ going.shape ∙ ap log_shape (sym geometry);
-  kept = kept;
-  live = subst (λ (g : Geometry). store'.ring.hi ≤ store'.kept + (g.blocks - 1)) (sym geometry) live;
-  low = low;
-  high = high;
-}
+goes_on store store' old new going goes geometry usable shape kept live low high = grind (arith, lengths_later)
 
 -- a store with an empty tail, over the ring that stands there
 pub begins : (store : LogStore) (old new : State) → HasLimits store.geometry → HasLengths store.geometry old.image → Preserves old new → IsUsable store.ring new → store.ring.shape ≡ log_shape store.geometry →
     store.kept ≡ store.ring.hi - (store.geometry.blocks - 1) → store.used ≡ 2 → Invariant store new
-begins store old new limits lengths goes usable shape kept used = record {
-  limits = limits;
-  lengths = lengths_later store.geometry old new goes lengths;
-  usable = usable;
-  shape = shape;
-  kept = omega (arith, kept);
-  live = omega (arith, kept);
-  low = omega (arith, used);
-  high = omega (arith, used);
-}
+begins store old new limits lengths goes usable shape kept used = grind (arith, lengths_later)

@@ -1,5 +1,5 @@
 -- The number of the log's next block over an honest site, whatever stands there: calls one after the other.
-use Rattle.std.proofs.Common.{◌≡◌, inl, inr, arith, refl, sym, ap, subst, ◌∙◌}
+use Rattle.std.proofs.Common.{◌≡◌, inl, inr, arith, refl, sym, ap, ◌∙◌}
 use Rattle.std.specs.Prelude.{◌^◌, Result, Ok, Err, IsErrOf}
 use Rattle.site.specs.declared.outside.Dev.TheVariants.{Log}
 use Rattle.site.specs.declared.outside.Stop.{Stop}
@@ -36,22 +36,14 @@ at_end store old new is full same = ap (λ (s : State). hi_of (log_shape store.g
 
 -- one that leaves the log's device
 pub next_elsewhere : {T : Type 0} (r : Result T Stop) (store : LogStore) (before now : State) → now.image.log ≡ before.image.log → (IsErrOf r (Worn Log) → ⊥) → KeepsNext r store store before now
-next_elsewhere r store before now same never = record {
-  next = λ is. ok_always r _ (is ∙ ap (hi_of (log_shape store.geometry)) (sym same));
-  masters = ok_always r _ (ap (hi_of master_shape) same);
-  worn = λ is says. absurd (never says);
-}
+next_elsewhere r store before now same never = grind (arith, ok_always)
 
 pub next_nothing : {T : Type 0} {x : T} {store : LogStore} {site : State} → KeepsNext {T = T} (Ok x) store store site site
 next_nothing {store = store} {site = site} = next_elsewhere _ store site site refl (λ says. no_error says)
 
 pub next_then : {A B : Type 0} {a : A} {r : Result B Stop} {old mid new : LogStore} {before between now : State} → mid.geometry ≡ old.geometry →
     KeepsNext {T = A} (Ok a) old mid before between → KeepsNext r mid new between now → KeepsNext r old new before now
-next_then {r = r} {now = now} sizes first second = record {
-  next = λ is. second.next (first.next is);
-  masters = ok_as r _ _ (λ same. same ∙ first.masters) second.masters;
-  worn = λ is says. subst (λ (g : Geometry). hi_of (log_shape g) now.image.log ≡ 2 ^ 40) sizes (second.worn (first.next is) says);
-}
+next_then {r = r} {now = now} sizes first second = grind (arith, ok_as)
 
 pub next_failed : {A B : Type 0} {stop : Stop} {old new : LogStore} {before now : State} → KeepsNext {T = A} (Err stop) old new before now → KeepsNext {T = B} (Err stop) old new before now
 next_failed first = record { next = λ is. tt; masters = tt; worn = λ is says. first.worn is (err_again _ _ says) }

@@ -4,15 +4,16 @@ use Rattle.std.specs.Prelude.{map, flat_map}
 use Rattle.std.specs.List.{AllByRecursion}
 use Rattle.std.proofs.lemmas.List.{length-append}
 use Rattle.std_lemmas.proofs.Lists.{front_same}
-use Rattle.sealed_ring.specs.Ring.{last_of}
-use Rattle.image_changes.specs.Rings.{log_shape, units_on}
 use Rattle.log_records.specs.declared.log_record.LogRecord.{LogRecord}
 use Rattle.log_records.specs.Spelling.{spelling, block, HasForm, FitsFields, AreBlock, IsBlock}
 use Rattle.log_records.proofs.Blocks.{behind, some_octet}
 use Rattle.log_records.proofs.Records.{spelling_is_one}
 use Rattle.log_store.specs.Representation.{HasTail}
-use Rattle.log_store.specs.Laws.{OneLog}
 use Rattle.log_store.proofs.Standing.{one_end}
+use Rattle.log_store.specs.Representation.{Represents}
+use Rattle.log_store.specs.declared.store.LogStore.{LogStore}
+use Rattle.log_store.specs.LogList.{LogList}
+use Rattle.site.specs.State.{Image}
 
 -- a text is that of one list of records
 pub one_list : (a b : List LogRecord) → AllByRecursion HasForm a → AllByRecursion FitsFields a → AllByRecursion HasForm b → AllByRecursion FitsFields b → flat_map spelling a ≡ flat_map spelling b → a ≡ b
@@ -33,28 +34,16 @@ one_block a b first second same =
 
 pub one_blocks : (a b : List (List LogRecord)) → AllByRecursion AreBlock a → AllByRecursion AreBlock b → map block a ≡ map block b → a ≡ b
 one_blocks [] [] all all' same = refl
-one_blocks [] (y ∷ b) all all' same = let none = ap length same in absurd (omega (arith, none))
-one_blocks (x ∷ a) [] all all' same = let none = ap length same in absurd (omega (arith, none))
-one_blocks (x ∷ a) (y ∷ b) all all' same =
-    (λ i. one_block x y all.0 all'.0 (ap (first_or []) same) i ∷ one_blocks a b all.1 all'.1 (ap (drop 1) same) i)
+one_blocks (x ∷ a) (y ∷ b) all all' same = (λ i. one_block x y all.0 all'.0 (ap (first_or []) same) i ∷ one_blocks a b all.1 all'.1 (ap (drop 1) same) i)
   where
     first_or : List ℕ → List (List ℕ) → List ℕ
     first_or none [] = none
     first_or none (first ∷ rest) = first
+one_blocks _ _ all all' same = let none = ap length same in absurd (omega (arith, none))
 
 one_tail : (octets : List ℕ) (used : ℕ) (a b : List LogRecord) → HasTail octets used a → HasTail octets used b → a ≡ b
-one_tail octets used a b first second =
-    let end = first.end in
-    let stop = second.end in
-    one_list a b first.have_form first.fit_fields second.have_form second.fit_fields
-    (front_same (flat_map spelling a) (flat_map spelling b) _ _ (omega (arith, end, stop)) (sym first.text ∙ second.text))
+one_tail octets used a b first second = grind (arith, one_list, front_same)
 
-pub one_log : OneLog
-one_log store image a b first second same =
-    let next = first.blocks.next in
-    let next' = second.blocks.next in
-    let count : length a.blocks ≡ length b.blocks = omega (arith, next, next', same) in
-    let blocks : a.blocks ≡ b.blocks = one_blocks a.blocks b.blocks first.blocks.are_blocks second.blocks.are_blocks
-    (sym first.blocks.units ∙ ap (λ (n : ℕ). last_of n (units_on (log_shape store.geometry) image).live) count ∙ second.blocks.units) in
-    let tail = one_tail store.tail store.used a.tail b.tail first.tail second.tail in
-    (λ i. record { first = same i; blocks = blocks i; tail = tail i })
+-- what stands there and the octets of the tail tell the log, from its first block on
+pub one_log : (store : LogStore) (image : Image) (a b : LogList) → Represents store image a → Represents store image b → a.first ≡ b.first → a ≡ b
+one_log store image a b first second same = grind (arith, one_blocks, one_tail)

@@ -3,13 +3,13 @@ use Rattle.std.proofs.Common.{◌≡◌, ◌⊎◌, inl, inr, ⊎_elim, ℕ, ◌
 use Rattle.std.specs.Prelude.{slice_index}
 use Rattle.site.specs.declared.outside.Dev.TheVariants.{Log}
 use Rattle.site.specs.declared.geometry.Geometry.{Geometry}
-use Rattle.site.specs.State.{State, Image, Snapshot, loose_of, IsSettled, IsQuiet}
+use Rattle.site.specs.State.{State, Image, Snapshot, IsSettled, IsQuiet}
 use Rattle.site.specs.Calls.{Preserves}
 use Rattle.site.specs.Moments.{Leaves, LeavesOnly, OnlyDevice}
 use Rattle.site.specs.Laws.{leaves_weaker, leaves_others_too, no_call, settled_leaves, told_is, unchanged}
 use Rattle.sealed_ring.specs.declared.slots.Shape.{Shape}
 use Rattle.sealed_ring.specs.declared.ring.Ring.{Ring}
-use Rattle.sealed_ring.specs.Ring.{IsRing, SameOutside, hi_of, units_of, appended}
+use Rattle.sealed_ring.specs.Ring.{IsRing, SameOutside, units_of, appended}
 use Rattle.sealed_ring.specs.Ready.{region, IsReady, LeavesOldOrNew}
 use Rattle.sealed_ring.specs.Ready as ready
 use Rattle.log_records.specs.Spelling.{block, AreBlock}
@@ -53,18 +53,11 @@ none_front g all site quiet = none_made g (IsFrontOf all) site site quiet (all, 
 
 -- the ring of a store that fits is ready
 pub ring_ready : (store : LogStore) (site : State) → Invariant store site → Matches store site → IsReady store.ring site
-ring_ready store site going fits = record {
-  settled = ap (λ (s : Shape). loose_of s.dev site.loose) going.shape ∙ fits.settled;
-  form = subst (λ (s : Shape). IsRing s (region s site)) (sym going.shape) fits.form;
-  hi = fits.hi ∙ sym (ap (λ (s : Shape). hi_of s (region s site)) going.shape);
-}
+ring_ready store site going fits = grind arith
 
 -- the ring of a store that found its log is found
 pub ring_finds : (store : LogStore) (site : State) → Invariant store site → Finds store site → ready.Finds store.ring site
-ring_finds store site going finds = record {
-  form = subst (λ (s : Shape). IsRing s (region s site)) (sym going.shape) finds.form;
-  hi = finds.hi ∙ sym (ap (λ (s : Shape). hi_of s (region s site)) going.shape);
-}
+ring_finds store site going finds = grind arith
 
 -- an append of the tail's block
 module _ (store : LogStore) (old new : State) (log : LogList) (bytes : List ℕ) (going : Invariant store old) (finds : Finds store old) (holds : Represents store old.image log) (room : HasRoom store) (some : 2 < store.used)
@@ -128,8 +121,4 @@ module _ (store : LogStore) (old new : State) (log : LogList) (bytes : List ℕ)
     seal_reaches sealing wants = subst (λ (b : Bool). Reaches g (changes_if b log) old.image new.image) (sym wants) (new.image, (are, done), reads_itself g new.image)
 
     pub seal_holds : (sealing : Bool) → sealing ≡ true → (ring : Ring) → Represents (record store { ring = ring; tail = replicate 503 0; used = 2 }) new.image (sealed_if sealing log)
-    seal_holds sealing wants ring = subst (λ (b : Bool). Represents (record store { ring = ring; tail = replicate 503 0; used = 2 }) new.image (sealed_if b log)) (sym wants) (record {
-      kept = holds.kept;
-      blocks = more_blocks new.image done.form done.units;
-      tail = record { end = refl; have_form = tt; fit_fields = tt; text = refl };
-    })
+    seal_holds sealing wants ring = grind (arith, more_blocks, done)

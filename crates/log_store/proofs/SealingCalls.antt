@@ -1,17 +1,16 @@
 -- Calls that seal the tail where that is wanted: none of it, the same error again, and a record that is placed behind.
-use Rattle.std.proofs.Common.{◌≡◌, true≢false, ◌∙◌, Bool, false, refl, sym, ap, subst, arith}
+use Rattle.std.proofs.Common.{◌≡◌, true≢false, Bool, false, refl, sym, subst, arith}
 use Rattle.std.specs.Prelude.{Ok, Err}
 use Rattle.site.specs.declared.outside.Dev.TheVariants.{Log}
 use Rattle.site.specs.declared.outside.Stop.{Stop}
 use Rattle.site.specs.declared.outside.Stop.TheVariants.{Device, Worn}
 use Rattle.site.specs.State.{State}
 use Rattle.site.specs.Moments.{SameBut}
-use Rattle.site.specs.Faults.{faults_in}
 use Rattle.site.specs.Laws.{no_call, goes_nowhere}
 use Rattle.site.proofs.Working.{no_error, err_again, same_error}
 use Rattle.image_changes.proofs.Sequence.{reads_itself}
 use Rattle.log_store.specs.declared.store.LogStore.{LogStore}
-use Rattle.log_store.specs.Representation.{Invariant, Matches, Finds, IsNext}
+use Rattle.log_store.specs.Representation.{Invariant}
 use Rattle.log_store.specs.Sealing.{SealsTail}
 use Rattle.log_store.proofs.NextBlocks.{next_nothing, next_failed}
 use Rattle.log_store.proofs.SealLaws.{none_left, none_front, none_beside}
@@ -51,70 +50,9 @@ seals_nothing {T = T} {x = x} store site none going =
 -- the same error of an answer of another type
 pub seals_failed : {A B : Type 0} {stop : Stop} {sealing wanted : Bool} {old new : LogStore} {before now : State} → sealing ≡ wanted →
     SealsTail {T = A} (Err stop) sealing old new before now → SealsTail {T = B} (Err stop) wanted old new before now
-seals_failed {A = A} {B = B} {stop = stop} {old = old} {new = new} {before = before} {now = now} same s =
-    subst (λ (b : Bool). SealsTail {T = B} (Err stop) b old new before now) same (record {
-      keeps = record {
-        finds = λ found. tt;
-        fits = λ fits. tt;
-        changes = s.changes;
-        quiet = λ honest quiet. tt;
-        next = tt;
-        at_most_one = s.at_most_one;
-        ended = tt;
-        err = s.err;
-        kept = s.kept;
-        geometry = s.geometry;
-        preserves = s.preserves;
-        faults = s.faults ∙ same_error A B stop (faults_in before);
-        reads = s.reads;
-        worn = (λ says. s.worn.0 (err_again {A = B} {B = A} stop (Worn Log) says), λ both. err_again {A = A} {B = B} stop (Worn Log) (s.worn.1 both));
-        device = λ says. s.device (err_again {A = B} {B = A} stop (Device Log) says);
-        stops = s.stops;
-      };
-      any_moment = s.any_moment;
-      front = s.front;
-      reaches = λ log found holds. tt;
-      next_block = λ honest. next_failed (s.next_block honest);
-      outside = λ honest. tt;
-      beside = s.beside;
-      device_calls = λ honest. tt;
-      going = s.going;
-    })
+seals_failed {A = A} {B = B} {stop = stop} {old = old} {new = new} {before = before} {now = now} same s = grind (arith, same_error, err_again, next_failed)
 
 -- a record is placed in the tail behind it
 pub seals_placed : {A B : Type 0} {a : A} {b : B} {sealing wanted : Bool} {old mid new : LogStore} {before now : State} → sealing ≡ wanted → new ≡ record mid { tail = new.tail; used = new.used } →
     Invariant new now → SealsTail {T = A} (Ok a) sealing old mid before now → SealsTail {T = B} (Ok b) wanted old new before now
-seals_placed {A = A} {B = B} {a = a} {b = b} {old = old} {mid = mid} {new = new} {before = before} {now = now} same rest going s =
-    let hi = ap (λ (it : LogStore). it.ring.hi) rest in
-    subst (λ (w : Bool). SealsTail {T = B} (Ok b) w old new before now) same (record {
-      keeps = record {
-        finds = λ found. let is = s.finds found in subst (λ (it : LogStore). Finds it now) (sym rest) (record { honest = is.honest; form = is.form; hi = is.hi });
-        fits = λ fits. let is = s.fits fits in subst (λ (it : LogStore). Matches it now) (sym rest) (record { honest = is.honest; settled = is.settled; form = is.form; hi = is.hi });
-        changes = s.changes;
-        quiet = s.quiet;
-        next = hi ∙ s.next;
-        at_most_one = (omega (arith, hi, s.at_most_one.0), omega (arith, hi, s.at_most_one.1));
-        ended = ap (λ (it : LogStore). it.ring.ended) rest ∙ s.ended;
-        err = tt;
-        kept = ap (λ (it : LogStore). it.kept) rest ∙ s.kept;
-        geometry = ap (λ (it : LogStore). it.geometry) rest ∙ s.geometry;
-        preserves = s.preserves;
-        faults = s.faults;
-        reads = s.reads;
-        worn = (λ says. absurd (no_error {T = B} {x = b} {e = Worn Log} says), λ both. absurd (no_error {T = A} {x = a} {e = Worn Log} (s.worn.1 both)));
-        device = λ says. absurd (no_error {T = B} {x = b} {e = Device Log} says);
-        stops = tt;
-      };
-      any_moment = s.any_moment;
-      front = s.front;
-      reaches = s.reaches;
-      next_block = λ honest. record {
-        next = λ is. subst (λ (it : LogStore). IsNext it now) (sym rest) ((s.next_block honest).next is);
-        masters = (s.next_block honest).masters;
-        worn = λ is says. absurd (no_error {T = B} {x = b} {e = Worn Log} says);
-      };
-      outside = s.outside;
-      beside = s.beside;
-      device_calls = λ honest. let past = s.device_calls honest in omega (arith, hi, past);
-      going = going;
-    })
+seals_placed {A = A} {B = B} {a = a} {b = b} {old = old} {mid = mid} {new = new} {before = before} {now = now} same rest going s = grind (arith, no_error)

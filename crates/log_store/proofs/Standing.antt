@@ -1,5 +1,5 @@
 -- What stands on the devices.
-use Rattle.std.proofs.Common.{◌≡◌, ◌≢◌, ℕ, zero, suc, get_or, ◌+◌, ◌-◌, ◌%◌, ◌≤◌, ◌<◌, ◌*◌, ◌/◌, List, [], ◌∷◌, length, take, drop, replicate, refl, sym, ap, ◌∙◌, subst, arith}
+use Rattle.std.proofs.Common.{◌≡◌, ◌≢◌, ℕ, zero, suc, get_or, ◌+◌, ◌-◌, ◌%◌, ◌≤◌, ◌<◌, ◌*◌, ◌/◌, List, [], ◌∷◌, length, take, replicate, refl, sym, ap, ◌∙◌, subst, arith}
 use Rattle.std.specs.Prelude.{slice_index, Option}
 use Rattle.std.specs.List.{AllByRecursion}
 use Rattle.std.specs.Int.{w16, from_be_bytes}
@@ -8,9 +8,8 @@ use Rattle.std.proofs.lemmas.Nat.{mod_below, div-add-mod'}
 use Rattle.site.specs.declared.geometry.Geometry.{Geometry}
 use Rattle.site.specs.Geometry.{log_length}
 use Rattle.site.specs.State.{State, Image}
-use Rattle.site.specs.Laws.{stays_honest}
 use Rattle.sealed_ring.specs.declared.slots.Shape.{Shape}
-use Rattle.sealed_ring.specs.Ring.{FitsIn, Units, IsLive, hi_of, units_of, unit_at, place, last_of}
+use Rattle.sealed_ring.specs.Ring.{FitsIn, Units, IsLive, hi_of, units_of, unit_at, last_of}
 use Rattle.sealed_ring.specs.Ready.{region}
 use Rattle.sealed_ring.proofs.Examples.{blank_is_ring}
 use Rattle.sealed_ring.proofs.Heads.{unit_is}
@@ -25,24 +24,21 @@ use Rattle.log_store.specs.Representation.{Invariant, end_of, Matches, Finds, Ha
 use Rattle.log_records.specs.Log.{entries_from}
 use Rattle.log_store.proofs.BlockLaws.{blocks_stay}
 use Rattle.log_store.proofs.Finding.{in_block, in_tail, tail_has, block_has}
-use Rattle.log_store.specs.Laws.{FitsBeside, HoldsBeside, BlankHasNoBlocks}
+use Rattle.log_store.specs.Laws.{FitsBeside, HoldsBeside}
+use Rattle.site.specs.Geometry.{HasLimits, blank_image}
 
 -- beside the log's ring
 
 pub fits_beside : FitsBeside
-fits_beside store old new keeps goes settled fits = record {
-  honest = stays_honest old new goes fits.honest;
-  settled = settled;
-  form = keeps.form fits.form;
-  hi = fits.hi ∙ sym (ap (λ (u : Units). u.hi) keeps.units);
-}
+fits_beside store old new keeps goes settled fits = grind arith
 
 pub holds_beside : HoldsBeside
 holds_beside store old new log keeps holds = record { kept = holds.kept; blocks = blocks_stay store.geometry log.first log.blocks old new holds.blocks keeps; tail = holds.tail }
 
 -- blank devices
 
-pub blank_has_no_blocks : BlankHasNoBlocks
+-- blank devices have no block
+pub blank_has_no_blocks : (g : Geometry) → HasLimits g → HasBlocks g 0 [] (blank_image g)
 blank_has_no_blocks g limits =
     let c : List ℕ = replicate (log_length g) 0 in
     let low = limits.blocks in
@@ -97,10 +93,7 @@ pub ring_found : (store : LogStore) (site : State) → Invariant store site → 
 ring_found store site going found = found.hi ∙ sym (ap (λ (s : Shape). hi_of s (region s site)) going.shape)
 
 read_whole : (s : Shape) (hi n : ℕ) (c : List ℕ) → 3 ≤ s.slots → hi ≡ hi_of s c → IsLive s hi n → take s.room (unit_at s (units_of s c) n) ≡ unit_at s (units_of s c) n
-read_whole s hi n c slots is live =
-    ap (take s.room) (unit_is s hi n c slots is live)
-    ∙ take-take s.room s.room (drop (place s (n % s.slots) + 9) c) (omega arith)
-    ∙ sym (unit_is s hi n c slots is live)
+read_whole s hi n c slots is live = grind (arith, unit_is, take-take)
 
 pub unit_read : (store : LogStore) (site : State) (n : ℕ) (read octets : List ℕ) → Invariant store site → Finds store site → IsLive store.ring.shape store.ring.hi n →
     octets ≡ take 503 read → read ≡ take 503 (unit_at store.ring.shape (units_of store.ring.shape (region store.ring.shape site)) n) → octets ≡ block_on store.geometry site.image n
@@ -119,10 +112,7 @@ one_end octets a b first second =
 
 -- a block of the log that the store holds
 pub held_block : (store : LogStore) (site : State) (log : LogList) (n : ℕ) → Finds store site → Represents store site.image log → log.first ≤ n → n < store.ring.hi → IsBlock (block_on store.geometry site.image n) (sealed_block log n)
-held_block store site log n fits holds from below =
-    let next = holds.blocks.next in
-    let hi = fits.hi in
-    stands_there store.geometry log site.image n holds.blocks from (omega (arith, next, hi, below))
+held_block store site log n fits holds from below = grind (arith, stands_there)
 
 -- what was found in the tail, and in a sealed block
 module _ (store : LogStore) (site : State) (log : LogList) (lsn : ℕ) (fits : Finds store site) (holds : Represents store site.image log) (result : Option LogRecord) where
@@ -132,28 +122,13 @@ module _ (store : LogStore) (site : State) (log : LogList) (lsn : ℕ) (fits : F
   abbrev offset : ℕ
   offset = lsn % 512
 
-  parts : lsn ≡ 512 * b + offset
-  parts = let all = div-add-mod' lsn 512 in omega (arith, all)
-
   pub found_in_tail : b ≡ store.ring.hi → ((records : List LogRecord) → HasRecords store.tail store.used records → result ≡ at_lsn offset (entries_from 2 records)) → at_lsn lsn (entries log) ≡ result
-  found_in_tail at found =
-      let next = holds.blocks.next in
-      let hi = fits.hi in
-      in_tail log lsn b offset holds.blocks.are_blocks (omega (arith, at, next, hi)) parts ∙ sym (found log.tail (tail_has store.tail store.used log.tail holds.tail))
+  found_in_tail at found = grind (arith, in_tail, tail_has)
 
   pub found_in_block : 512 * log.first ≤ lsn → b < store.ring.hi → (octets : List ℕ) (used : ℕ) → IsBlock octets (sealed_block log b) × (used ≡ used_by (sealed_block log b)) →
       ((records : List LogRecord) → HasRecords octets used records → result ≡ at_lsn offset (entries_from 2 records)) → at_lsn lsn (entries log) ≡ result
-  found_in_block from below octets used is found =
-      let next = holds.blocks.next in
-      let hi = fits.hi in
-      let small = mod_below lsn 512 (omega arith) in
-      let all = parts in
-      in_block log lsn b offset holds.blocks.are_blocks (omega (arith, from, all, small)) (omega (arith, below, next, hi)) small parts
-      ∙ sym (found (sealed_block log b) (block_has octets used (sealed_block log b) is.0 is.1))
+  found_in_block from below octets used is found = grind (arith, mod_below, in_block, block_has)
 
 -- an LSN before the tail is of a sealed block
 pub block_bounds : (store : LogStore) (log : LogList) (lsn : ℕ) → store.used ≤ 503 → lsn < end_of store → 512 * log.first ≤ lsn → lsn / 512 ≢ store.ring.hi → (log.first ≤ lsn / 512) × (lsn / 512 < store.ring.hi)
-block_bounds store log lsn high before from ne =
-    let all = div-add-mod' lsn 512 in
-    let small = mod_below lsn 512 (omega arith) in
-    (omega (arith, all, small, from), omega (arith, all, small, high, before, ne))
+block_bounds store log lsn high before from ne = grind (arith, div-add-mod', mod_below)

@@ -1,5 +1,5 @@
 -- The tail's octets.
-use Rattle.std.proofs.Common.{◌*◌, Bool, true, false, ◌≡◌, inl, inr, IsTrue, ℕ, ◌+◌, ◌-◌, ◌≤◌, ◌<◌, List, [], ◌∷◌, ◌++◌, length, take, drop, replicate, refl, sym, ap, ◌∙◌, append_assoc, arith}
+use Rattle.std.proofs.Common.{◌*◌, Bool, true, false, ◌≡◌, IsTrue, ℕ, ◌+◌, ◌-◌, ◌≤◌, ◌<◌, List, [], ◌∷◌, ◌++◌, length, take, drop, replicate, refl, sym, ap, ◌∙◌, append_assoc, arith}
 use Rattle.std.proofs.lemmas.Bool.{cases_Bool, cond-true, cond-false}
 use Rattle.std.proofs.lemmas.Bool.Decides.{nat_tests}
 use Rattle.std.specs.Prelude.{flat_map, Some, None, nat_lt, if◌then◌else◌}
@@ -10,24 +10,19 @@ use Rattle.std_lemmas.proofs.AllOf.{all_push}
 use Rattle.record_model.specs.State.{Content}
 use Rattle.log_records.specs.declared.log_record.LogRecord.{LogRecord}
 use Rattle.log_records.specs.declared.log_record.LogRecord.TheVariants.{Begin, Update, Clr, Commit, End}
-use Rattle.log_records.specs.Spelling.{spelling, content_spelling, IsShort, used_by, block, block_len, HasForm, FitsFields, AreBlock}
+use Rattle.log_records.specs.Spelling.{spelling, content_spelling, IsShort, block, block_len, HasForm, FitsFields, AreBlock}
 use Rattle.log_records.specs.Writes.{Writes}
 use Rattle.log_store.specs.Representation.{HasTail}
 
 -- behind the offset of their end, the tail's octets are the block of its records
 pub tail_is_block : (octets : List ℕ) (used : ℕ) (records : List LogRecord) → HasTail octets used records → to_be_bytes w16 used ++ drop 2 octets ≡ block records
 unfolding block
-tail_is_block octets used records t =
-    let flat = flat_map spelling records in
-    ap (λ (rest : List ℕ). to_be_bytes w16 used ++ rest) t.text
-    ∙ ap (λ (n : ℕ). to_be_bytes w16 n ++ (flat ++ replicate (block_len - n) 0)) t.end
-    ∙ sym (append_assoc (to_be_bytes w16 (used_by records)) flat (replicate (block_len - used_by records) 0))
+tail_is_block octets used records t = grind (arith, append_assoc)
 
 -- which make a block, where there are some
 pub tail_has_block : (octets : List ℕ) (used : ℕ) (records : List LogRecord) → HasTail octets used records → 2 + 1 ≤ used → used ≤ block_len → AreBlock records
 tail_has_block octets used [] t low high = let end = t.end in absurd (omega (arith, end, low))
-tail_has_block octets used (rec ∷ records) t low high =
-    let end = t.end in record { some = λ none. cc; have_form = t.have_form; fit_fields = t.fit_fields; room = omega (arith, end, high) }
+tail_has_block octets used (rec ∷ records) t low high = grind arith
 
 -- a record written behind the last one is the tail's last one
 pub tail_more : (old new : List ℕ) (used end : ℕ) (records : List LogRecord) (rec : LogRecord) → HasTail old used records → Writes old new used (spelling rec) end → HasForm rec → FitsFields rec → HasTail new end (records ++ rec ∷ [])
@@ -66,12 +61,8 @@ content_short (Some value) short = omega (arith, short)
 pub spelling_short : (rec : LogRecord) → HasForm rec → length (spelling rec) ≤ 264
 unfolding spelling
 spelling_short Begin form = omega arith
-spelling_short (Update txn prev page slot before after) form =
-    let first = content_short before form.1 in
-    let second = content_short after form.2 in
-    let both = length-append (content_spelling before) (content_spelling after) in
-    omega (arith, first, second, both)
-spelling_short (Clr txn prev undo_next page slot after) form = let short = content_short after form.1 in omega (arith, short)
+spelling_short (Update txn prev page slot before after) form = grind (arith, content_short, length-append)
+spelling_short (Clr txn prev undo_next page slot after) form = grind (arith, content_short)
 spelling_short (Commit txn number) form = omega arith
 spelling_short (End txn) form = omega arith
 
@@ -81,10 +72,7 @@ full_tail used len short over = grind (arith, nat_tests)
 
 -- once the tail was sealed where a record didn't fit, it fits
 pub room_made : (used len left : ℕ) → len ≤ 264 → left ≡ (if nat_lt block_len (used + len) then 2 else used) → left + len ≤ block_len
-room_made used len left short is = elim (cases_Bool (nat_lt block_len (used + len))) [
-  | inl over ↦ let empty = is ∙ cond-true (nat_lt block_len (used + len)) 2 used over in omega (arith, empty, short)
-  | inr fits ↦ let same = is ∙ cond-false (nat_lt block_len (used + len)) 2 used fits in let enough : used + len ≤ block_len = grind (arith, nat_tests) in omega (arith, same, enough)
-]
+room_made used len left short is = grind (arith, cases_Bool, cond-true, cond-false, nat_tests)
 
 -- the end of a log doesn't fall where its tail is sealed
 pub end_rises : (sealing : Bool) (hi used hi' used' : ℕ) → used ≤ block_len → hi' ≡ (if sealing then hi + 1 else hi) → used' ≡ (if sealing then 2 else used) → 512 * hi + used ≤ 512 * hi' + used'

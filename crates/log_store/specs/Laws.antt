@@ -1,8 +1,6 @@
 -- Laws on logs.
 use Rattle.std.specs.Prelude.{◌≡◌, true, []}
 use Rattle.site.specs.declared.outside.Dev.TheVariants.{Log}
-use Rattle.site.specs.declared.geometry.Geometry.{Geometry}
-use Rattle.site.specs.Geometry.{HasLimits, blank_image}
 use Rattle.site.specs.State.{State, Image, IsSettled}
 use Rattle.site.specs.Calls.{Preserves}
 use Rattle.log_records.specs.declared.log_record.LogRecord.{LogRecord}
@@ -10,7 +8,7 @@ use Rattle.log_records.specs.Spelling.{HasForm}
 use Rattle.image_changes.specs.Rings.{log_shape, KeepsUnits}
 use Rattle.log_store.specs.declared.store.LogStore.{LogStore}
 use Rattle.log_store.specs.LogList.{LogList}
-use Rattle.log_store.specs.Representation.{Matches, HasBlocks, Represents, has_tail, overflows}
+use Rattle.log_store.specs.Representation.{Matches, Represents, has_tail, overflows}
 
 -- calls that leave the units of the log's ring, and nothing of its device loose, leave a store fit
 abbrev pub FitsBeside : Type 0
@@ -21,15 +19,6 @@ FitsBeside = (store : LogStore) (old new : State) → KeepsUnits (log_shape stor
 abbrev pub HoldsBeside : Type 0
 HoldsBeside = (store : LogStore) (old new : Image) (log : LogList) → KeepsUnits (log_shape store.geometry) old new
     → Represents store old log → Represents store new log
-
--- blank devices have no block
-abbrev pub BlankHasNoBlocks : Type 0
-BlankHasNoBlocks = (g : Geometry) → HasLimits g → HasBlocks g 0 [] (blank_image g)
-
--- what stands there and the octets of the tail tell the log, from its first block on
-abbrev pub OneLog : Type 0
-OneLog = (store : LogStore) (image : Image) (a b : LogList) → Represents store image a → Represents store image b
-    → a.first ≡ b.first → a ≡ b
 
 -- a tail that a record doesn't fit has records
 abbrev pub FullTail : Type 0

@@ -5,7 +5,7 @@ mod laws;
 mod reading;
 mod store;
 
-pub use laws::{blank_log, full_tail, one_log, stays_beside};
+pub use laws::{full_tail, stays_beside};
 pub use store::LogStore;
 
 // Where the records of a block begin: behind the offset of their end.

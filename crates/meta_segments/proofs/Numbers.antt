@@ -1,5 +1,5 @@
 -- Segments follow the groups, when one more comes.
-use Rattle.std.proofs.Common.{◌≡◌, ℕ, ◌+◌, ◌-◌, ◌*◌, ◌/◌, ◌%◌, ◌<◌, ◌≤◌, ◌⊎◌, inl, inr, ⊎_elim, List, [], ◌∷◌, ◌++◌, length, get_or, drop, refl, ap, sym, ◌∙◌, arith, subst, length-append}
+use Rattle.std.proofs.Common.{◌≡◌, ℕ, ◌+◌, ◌-◌, ◌*◌, ◌/◌, ◌%◌, ◌<◌, ◌≤◌, ◌⊎◌, inl, inr, ⊎_elim, List, [], ◌∷◌, ◌++◌, length, get_or, drop, ap, sym, ◌∙◌, arith, subst, length-append}
 use Rattle.std.proofs.lemmas.Bool.{cases_lt}
 use Rattle.std.proofs.lemmas.List.{get_or-drop, get_or_append_left, get_or_push, length-drop}
 use Rattle.byte_fields.specs.declared.frame_head.FrameHead.{FrameHead}
@@ -16,31 +16,15 @@ size_more gone live heads = length-drop gone (live ++ heads ∷ []) ∙ ap (λ n
 -- what was live before, and still is, is the same
 pub older_same : (next gone n : ℕ) (live : List Heads) (heads : Heads) → IsLive (next + 1) (drop gone (live ++ heads ∷ [])) n → n < next →
     IsLive next live n × (heads_with (next + 1) (drop gone (live ++ heads ∷ [])) n ≡ heads_with next live n)
-older_same next gone n live heads is less =
-    let size = size_more gone live heads in
-    let there : next ≤ n + length live = omega (arith, is.not_before, size, less) in
-    let place : gone + (n + length (drop gone (live ++ heads ∷ [])) - (next + 1)) ≡ n + length live - next = omega (arith, is.not_before, size, less, there) in (
-      record { not_before = there; before = less },
-      get_or-drop gone (live ++ heads ∷ []) (n + length (drop gone (live ++ heads ∷ [])) - (next + 1)) []
-          ∙ ap (λ (i : ℕ). get_or (live ++ heads ∷ []) i []) place ∙ get_or_append_left live (heads ∷ []) [] (n + length live - next) (omega (arith, there, less)),
-    )
+older_same next gone n live heads is less = grind (arith, size_more, get_or-drop, get_or, get_or_append_left)
 
 -- the new one
 pub newest_is : (next gone : ℕ) (live : List Heads) (heads : Heads) → IsLive (next + 1) (drop gone (live ++ heads ∷ [])) next →
     heads_with (next + 1) (drop gone (live ++ heads ∷ [])) next ≡ heads
-newest_is next gone live heads is =
-    let size = size_more gone live heads in
-    let place : gone + (next + length (drop gone (live ++ heads ∷ [])) - (next + 1)) ≡ length live = omega (arith, is.not_before, size) in
-    get_or-drop gone (live ++ heads ∷ []) (next + length (drop gone (live ++ heads ∷ [])) - (next + 1)) []
-    ∙ ap (λ (i : ℕ). get_or (live ++ heads ∷ []) i []) place ∙ get_or_push live heads [] (length live) refl
+newest_is next gone live heads is = grind (arith, size_more, get_or-drop, get_or, get_or_push)
 
 pub none_follow : NoneFollow
-none_follow = record {
-  low = omega arith;
-  high = omega arith;
-  same = λ n group segment. absurd (omega (arith, group.before));
-  saved = λ n group less. absurd (omega (arith, less));
-}
+none_follow = grind arith
 
 pub group_follows : GroupFollows
 group_follows k h gone segments groups heads follow room = record {
@@ -54,9 +38,7 @@ group_follows k h gone segments groups heads follow room = record {
 
 reach : (k h gone n : ℕ) (segments groups : List Heads) (heads : Heads) → Follow k segments h groups → h ≡ 4 * k + 4 → IsLive h groups n →
     (gone ≡ 0) ⊎ (length groups ≤ 4 * length (drop gone (segments ++ heads ∷ []))) → k + 1 ≤ n / 4 + length (drop gone (segments ++ heads ∷ []))
-reach k h gone n segments groups heads follow due group (inl none) =
-    let size = size_more gone segments heads in
-    ⊎_elim (λ less. let saved = follow.saved n group less in omega (arith, saved.not_before, size, none)) (λ le. omega (arith, le, size, none)) (cases_lt n (4 * k))
+reach k h gone n segments groups heads follow due group (inl none) = grind (arith, size_more, cases_lt)
 reach k h gone n segments groups heads follow due group (inr room) = omega (arith, group.not_before, due, room)
 
 pub segment_follows : SegmentFollows

@@ -158,13 +158,7 @@ pub record HasGroups (content : List ℕ) (heads : List FrameHead) (group : ℕ)
 
 -- before the first group is read
 pub no_groups : (content : List ℕ) (n : ℕ) → n ≡ 32 → HasGroups content (replicate n blank) 0
-no_groups content n all = record {
-  size = length-replicate n blank ∙ all;
-  are = no_heads content;
-  groups = λ i less. absurd (omega (arith, less));
-  blanks = λ i le. ⊎_elim (λ low. get_or-replicate n i blank blank low)
-      (λ high. get_or_past (replicate n blank) i blank (omega (arith, length-replicate n blank, high))) (cases_lt i n);
-}
+no_groups content n all = grind (arith, length-replicate, no_heads, get_or-replicate, get_or_past, cases_lt)
 
 -- the heads of a group are said by those up to its end
 group_by_front : (a b : List FrameHead) (group n : ℕ) → take n a ≡ take n b → 8 * group + 8 ≤ n → heads_of_group a group ≡ heads_of_group b group
@@ -218,14 +212,7 @@ group_read content heads new group at k have less here eight are is =
 
 -- all four groups are a segment
 pub segment_read : (content : List ℕ) (heads : List FrameHead) (group : ℕ) → HasGroups content heads group → length content ≡ 512 → 4 ≤ group → IsSegment content heads
-segment_read content heads group have full four =
-    let size = have.size in
-    let are : AreHeads content heads = subst (AreHeads content) (take_all (8 * group) heads (omega (arith, size, four))) have.are in
-    record {
-      spelled = whole content heads are (omega (arith, full, size));
-      are_heads = record { size = size; groups = λ n less. have.groups n (omega (arith, less, four)) };
-      fit_fields = are.fit_fields;
-    }
+segment_read content heads group have full four = grind (arith, take_all, whole)
 
 -- a segment has a group in the octets of each
 pub segment_has_group : (content : List ℕ) (heads : List FrameHead) (group : ℕ) → IsSegment content heads → group < 4 →

@@ -1,5 +1,5 @@
 -- Heads that fill octets.
-use Rattle.std.proofs.Common.{◌≡◌, ℕ, suc, ◌*◌, ◌/◌, ◌%◌, ◌<◌, ◌≤◌, List, [], ◌∷◌, length, get_or, drop, ap, sym, ◌∙◌, arith, subst}
+use Rattle.std.proofs.Common.{◌≡◌, ℕ, suc, ◌*◌, ◌/◌, ◌%◌, ◌<◌, ◌≤◌, List, [], ◌∷◌, length, get_or, sym, ◌∙◌, arith, subst}
 use Rattle.std.specs.List.{AllByRecursion}
 use Rattle.std.proofs.lemmas.List.{take_all, get_or-take, get_or-drop}
 use Rattle.std_lemmas.proofs.AllOf.{all_at}
@@ -21,8 +21,7 @@ all_from_at P (x ∷ xs) d h = (h 0 (omega arith), all_from_at P xs d (λ i less
 
 -- a head of a segment is a head of one of its groups
 head_of_group : (heads : List FrameHead) (i : ℕ) → get_or (heads_of_group heads (i / 8)) (i % 8) blank ≡ get_or heads i blank
-head_of_group heads i =
-    get_or-take 8 (drop (8 * (i / 8)) heads) (i % 8) blank (omega arith) ∙ get_or-drop (8 * (i / 8)) heads (i % 8) blank ∙ ap (λ n. get_or heads n blank) (omega arith)
+head_of_group heads i = grind (arith, get_or-take, get_or-drop, get_or)
 
 -- so a segment's heads can be written
 pub segment_form : (heads : List FrameHead) → AreSegmentHeads heads → AllByRecursion HasForm heads
@@ -33,11 +32,7 @@ segment_form heads are = all_from_at HasForm heads blank (λ i less.
 
 -- a segment's heads stand at the front of its content
 pub at_front : (content : List ℕ) (heads : List FrameHead) → IsSegment content heads → AreHeads content heads
-at_front content heads is = record {
-  text = take_all (16 * length heads) content (omega (arith, ap length is.spelled, length_all heads)) ∙ is.spelled;
-  have_form = segment_form heads is.are_heads;
-  fit_fields = is.fit_fields;
-}
+at_front content heads is = grind (arith, take_all, length_all, have_form, segment_form)
 
 pub one_segment : OneSegment
 one_segment content a b first second =

@@ -1,16 +1,16 @@
 -- A reply tells whether the command was carried out.
-use Rattle.std.proofs.Common.{◌≡◌, ℕ, ◌+◌, ◌-◌, Bool, true, false, cond, List, [], ◌∷◌, Option, Some, None, refl, ap, sym}
+use Rattle.std.proofs.Common.{arith, ◌≡◌, ℕ, ◌+◌, ◌-◌, Bool, true, false, List, [], ◌∷◌, Option, Some, None, refl, ap, sym}
 use Rattle.std.specs.Prelude.{not, ◌&&◌, is_none, option_map, map}
 use Rattle.std.specs.List.{AllByRecursion, range_with_len}
 use Rattle.record_model.specs.declared.words.Command.{Command}
-use Rattle.record_model.specs.declared.words.Command.TheVariants.{Begin, Read, Write, Erase, Scan, Commit, Abort, Get, Set, Checkpoint, Cache, Stat, Quit}
+use Rattle.record_model.specs.declared.words.Command.TheVariants.{Begin, Read, Write, Erase, Scan, Commit, Abort, Get, Set}
 use Rattle.record_model.specs.declared.words.CacheLine.{CacheLine}
 use Rattle.record_model.specs.declared.words.Why.{Why}
 use Rattle.record_model.specs.declared.words.Why.TheVariants.{BadSession, NoRecord, TooLong}
 use Rattle.record_model.specs.declared.words.Reply.{Reply}
 use Rattle.record_model.specs.declared.words.Reply.TheVariants as reply
 use Rattle.record_model.specs.State.{Content, State, seen, content_at, busy_read, busy_write}
-use Rattle.record_model.specs.Step.{Outcome, outcome, lacks_room, refusal, first_refusal, refuse_if, wants_active, wants_record, wants_short, may_read, may_write, ready, answer, found}
+use Rattle.record_model.specs.Step.{outcome, lacks_room, refusal, first_refusal, refuse_if, wants_active, wants_record, wants_short, may_read, may_write, ready, answer, found}
 use Rattle.record_model.specs.Laws.{is_refused, RefusalsAreTold}
 
 -- a test's reply is a refusal
@@ -42,21 +42,16 @@ refusals : (s : State) (command : Command) → IsRefusal (refusal s command)
 unfolding IsRefusal
 refusals s (Begin n) = refused_if _ BadSession
 refusals s (Read n number) = first_of (wants_active s n ∷ wants_record s number ∷ may_read s (Some n) number ∷ []) (refused_if _ BadSession, (refused_if _ NoRecord, (busy_with (busy_read s (Some n) number), tt)))
-refusals s (Write n number value) =
-    first_of (wants_active s n ∷ wants_record s number ∷ wants_short value ∷ may_write s (Some n) number ∷ [])
+refusals s (Write n number value) = first_of (wants_active s n ∷ wants_record s number ∷ wants_short value ∷ may_write s (Some n) number ∷ [])
     (refused_if _ BadSession, (refused_if _ NoRecord, (refused_if _ TooLong, (busy_with (busy_write s (Some n) number), tt))))
 refusals s (Erase n number) = first_of (wants_active s n ∷ wants_record s number ∷ may_write s (Some n) number ∷ []) (refused_if _ BadSession, (refused_if _ NoRecord, (busy_with (busy_write s (Some n) number), tt)))
-refusals s (Scan n number count) =
-    first_of (wants_active s n ∷ wants_record s (number + count - 1) ∷ map (may_read s (Some n)) (range_with_len number count))
+refusals s (Scan n number count) = first_of (wants_active s n ∷ wants_record s (number + count - 1) ∷ map (may_read s (Some n)) (range_with_len number count))
     (refused_if _ BadSession, (refused_if _ NoRecord, all_busy s (Some n) (range_with_len number count)))
 refusals s (Commit n) = refused_if _ BadSession
 refusals s (Abort n) = refused_if _ BadSession
 refusals s (Get number) = first_of (wants_record s number ∷ may_read s None number ∷ []) (refused_if _ NoRecord, (busy_with (busy_read s None number), tt))
 refusals s (Set number value) = first_of (wants_record s number ∷ wants_short value ∷ may_write s None number ∷ []) (refused_if _ NoRecord, (refused_if _ TooLong, (busy_with (busy_write s None number), tt)))
-refusals s Checkpoint = tt
-refusals s Cache = tt
-refusals s Stat = tt
-refusals s Quit = tt
+refusals s _ = tt
 
 found_is_none : (content : Content) → is_refused (found content) ≡ false
 found_is_none None = refl
@@ -64,30 +59,15 @@ found_is_none (Some value) = refl
 
 -- no answer is one
 answers : (s : State) (command : Command) (listing : List CacheLine) → is_refused (answer s command listing) ≡ false
-answers s (Begin n) listing = refl
 answers s (Read n number) listing = found_is_none (seen s n number)
-answers s (Write n number value) listing = refl
-answers s (Erase n number) listing = refl
-answers s (Scan n number count) listing = refl
-answers s (Commit n) listing = refl
-answers s (Abort n) listing = refl
 answers s (Get number) listing = found_is_none (content_at s.table number)
-answers s (Set number value) listing = refl
-answers s Checkpoint listing = refl
-answers s Cache listing = refl
-answers s Stat listing = refl
-answers s Quit listing = refl
-
-chosen : (b : Bool) (o p : Outcome) → is_refused o.reply ≡ true → is_refused p.reply ≡ false → not b ≡ not (is_refused (cond b o p).reply)
-chosen true o p h k = ap not (sym h)
-chosen false o p h k = ap not (sym k)
+answers s _ listing = refl
 
 of_tests : (s : State) (command : Command) (listing : List CacheLine) (r : Option Reply) → IsRefusal r →
     (is_none r && not (lacks_room (ready s command) command)) ≡ not (is_refused (outcome s command listing r).reply)
 unfolding IsRefusal
 of_tests s command listing (Some refused) h = ap not (sym h)
-of_tests s command listing None h =
-    chosen (lacks_room (ready s command) command) _ _ refl (answers (ready s command) command listing)
+of_tests s command listing None h = grind (arith, answers)
 
 pub refusals_are_told : RefusalsAreTold
 refusals_are_told s command listing = of_tests s command listing (refusal s command) (refusals s command)

@@ -1,5 +1,6 @@
 -- What follows for a whole run.
-use Rattle.std.proofs.Common.{◌≡◌, ℕ, zero, suc, ◌+◌, ◌<◌, Bool, true, false, cond, List, [], ◌∷◌, ◌++◌, length, map, take, Some, refl, ap, sym, ◌∙◌, subst, arith, add-one}
+use Rattle.std.proofs.lemmas.Grind.{common_steps}
+use Rattle.std.proofs.Common.{◌≡◌, ℕ, zero, suc, ◌+◌, ◌<◌, Bool, true, false, cond, List, [], ◌∷◌, ◌++◌, length, map, take, Some, refl, ap, sym, ◌∙◌, arith, add-one}
 use Rattle.std.specs.Prelude.{count_by, filter, slice_index_or, slice_get}
 use Rattle.std.specs.List.{list_any}
 use Rattle.std.proofs.lemmas.List.Recursion.{is_count_by}
@@ -7,8 +8,9 @@ use Rattle.std.proofs.lemmas.Bool.{or_parts}
 use Rattle.record_model.specs.declared.words.CacheLine.{CacheLine}
 use Rattle.record_model.specs.State.{Content, State}
 use Rattle.record_model.specs.Run.{Line, Turn, line_step, turn, turns, state_at, is_quit, is_committed, commit_marks, commits_among, committed_tables, next_listing, later_listings, left_by, listings_after}
-use Rattle.record_model.specs.Laws.{IsCountedIn, EachLineHasATurn, TurnsFollow, CommitsMakeTheTable}
+use Rattle.record_model.specs.Laws.{IsCountedIn, EachLineHasATurn, TurnsFollow}
 use Rattle.record_model.proofs.StepLaws.{commits_once}
+use Rattle.record_model.specs.Laws.{IsCountedAt}
 
 pub each_line_has_a_turn : EachLineHasATurn
 each_line_has_a_turn s [] listings h = refl
@@ -32,11 +34,6 @@ ends : (s : State) (line : Line) (lines : List Line) (listings : List (List Cach
     turns s (line ∷ lines) listings ≡ turn s line (next_listing listings) ∷ []
 ends s line lines listings h = rw h refl
 
-goes_on : (s : State) (line : Line) (lines : List Line) (listings : List (List CacheLine)) → is_quit line ≡ false →
-    turns s (line ∷ lines) listings
-    ≡ turn s line (next_listing listings) ∷ turns (turn s line (next_listing listings)).after lines (later_listings line listings)
-goes_on s line lines listings h = rw h refl
-
 -- a turn of a run, with the place after it as a successor
 IsTurnOf : State → List Turn → ℕ → Line → List CacheLine → Type 0
 IsTurnOf s run i line listing =
@@ -50,25 +47,15 @@ later_turn : (s : State) (x : Line) (lines : List Line) (listings : List (List C
     suc i < length (turns s (x ∷ lines) listings) → (i < length rest → IsTurnOf after rest i line listing) →
     IsTurnOf s (turns s (x ∷ lines) listings) (suc i) line listing
 unfolding IsTurnOf
-later_turn s x lines listings i line true h below k = absurd (ended (subst (λ (run : List Turn). suc i < length run) (ends s x lines listings h) below))
-  where
-    ended : suc i < 1 → ⊥
-    ended k = omega (arith, k)
-later_turn s x lines listings i line false h below k =
-    let after = (turn s x (next_listing listings)).after in
-    let rest = turns after lines (later_listings x listings) in
-    let listing = next_listing (listings_after (take i lines) (later_listings x listings)) in
-    let long : suc i < suc (length rest) = subst (λ (run : List Turn). suc i < length run) (goes_on s x lines listings h) below in
-    subst (λ (run : List Turn). IsTurnOf s run (suc i) line listing) (sym (goes_on s x lines listings h)) (k (omega (arith, long)))
+later_turn s x lines listings i line true h below k = grind (arith, ends)
+later_turn s x lines listings i line false h below k = grind (arith, IsTurnOf)
 
 turn_at : (s : State) (lines : List Line) (listings : List (List CacheLine)) (i : ℕ) (line : Line) →
     i < length (turns s lines listings) → slice_get lines i ≡ Some line →
     IsTurnOf s (turns s lines listings) i line (next_listing (listings_after (take i lines) listings))
 unfolding IsTurnOf
 turn_at s [] listings i line below is = absurd cc
-turn_at s (x ∷ lines) listings zero line below is =
-    let same : x ≡ line = cc in
-    (ap (λ l. Some (turn s l (next_listing listings))) same, ap (λ l. (line_step s l (next_listing listings)).after) same)
+turn_at s (x ∷ lines) listings zero line below is = grind arith
 turn_at s (x ∷ lines) listings (suc i) line below is =
     later_turn s x lines listings i line (is_quit x) refl below (λ inside. turn_at (turn s x (next_listing listings)).after lines (later_listings x listings) i line inside is)
 
@@ -86,12 +73,7 @@ IsRun s (t ∷ run) = (listing : List CacheLine) × (t ≡ turn s t.line listing
 
 pub turns_are_run : (s : State) (lines : List Line) (listings : List (List CacheLine)) → IsRun s (turns s lines listings)
 turns_are_run s [] listings = tt
-turns_are_run s (line ∷ lines) listings =
-    (next_listing listings, refl, quit_or (is_quit line) _ _ tt (turns_are_run (turn s line (next_listing listings)).after lines (later_listings line listings)))
-  where
-    quit_or : (b : Bool) (s : State) (run : List Turn) → Unit {0} → IsRun s run → IsRun s (cond b [] run)
-    quit_or true s run u h = tt
-    quit_or false s run u h = h
+turns_are_run s (line ∷ lines) listings = grind (arith, (turns_are_run (turn s line (next_listing listings)).after lines (later_listings line listings)))
 
 -- Commits.
 
@@ -115,17 +97,13 @@ cond_same false x y z h k = k refl
 tables_cons : (b : Bool) (table default : List Content) (t : Turn) (run : List Turn) (n : ℕ) →
     slice_index_or (table ∷ map (λ (u : Turn). u.after.table) (cond b (t ∷ run) run)) (cond b (1 + n) n) default
     ≡ cond b (slice_index_or (t.after.table ∷ map (λ (u : Turn). u.after.table) run) n default) (slice_index_or (table ∷ map (λ (u : Turn). u.after.table) run) n default)
-tables_cons true table default t run n =
-    let one : 1 + n ≡ suc n = omega arith in
-    ap (λ k. slice_index_or (table ∷ t.after.table ∷ map (λ (u : Turn). u.after.table) run) k default) one
+tables_cons true table default t run n = grind arith
 tables_cons false table default t run n = refl
 
 -- what a turn of a run does to the count and to the table
 turn_counts : (s : State) (t : Turn) (listing : List CacheLine) → t ≡ turn s t.line listing →
     IsCountedIn s (record { after = t.after; reply = t.reply })
-turn_counts s t listing is =
-    let c = commits_once s t.line listing in
-    subst (λ (u : Turn). IsCountedIn s (record { after = u.after; reply = u.reply })) (sym is) (record { committed = c.committed; others = c.others })
+turn_counts s t listing is = grind (arith, commits_once)
 
 tables_at : (s : State) (run : List Turn) (i : ℕ) (table default : List Content) → IsRun s run → table ≡ s.table →
     slice_index_or (table ∷ committed_tables run) (commits_among i (commit_marks run)) default ≡ (state_at run s i).table
@@ -151,7 +129,7 @@ counts_at s (t ∷ run) (suc i) is =
     more true n h k = let e = h refl in omega (arith, e)
     more false n h k = let e = k refl in omega (arith, e)
 
-pub commits_make_the_table : CommitsMakeTheTable
+pub commits_make_the_table : (s : State) (lines : List Line) (listings : List (List CacheLine)) (i : ℕ) → IsCountedAt s (turns s lines listings) i
 commits_make_the_table s lines listings i = record {
   table = sym (tables_at s (turns s lines listings) i s.table s.table (turns_are_run s lines listings) refl);
   commits = counts_at s (turns s lines listings) i (turns_are_run s lines listings);
@@ -165,15 +143,5 @@ state_after s (u ∷ earlier) later t = state_after u.after earlier later t
 -- a turn that commits is one more
 pub one_commit_more : (earlier later : List Turn) (t : Turn) → is_committed t.reply ≡ true →
     commits_among (suc (length earlier)) (commit_marks (earlier ++ t ∷ later)) ≡ commits_among (length earlier) (commit_marks (earlier ++ t ∷ later)) + 1
-one_commit_more [] later t h =
-    commits_cons 0 (is_committed t.reply) (commit_marks later)
-    ∙ ap (λ (b : Bool). cond b (1 + commits_among 0 (commit_marks later)) (commits_among 0 (commit_marks later))) h
-one_commit_more (u ∷ earlier) later t h =
-    let marks = commit_marks (earlier ++ t ∷ later) in
-    commits_cons (suc (length earlier)) (is_committed u.reply) marks
-    ∙ more (is_committed u.reply) _ _ (one_commit_more earlier later t h)
-    ∙ ap (λ (n : ℕ). n + 1) (sym (commits_cons (length earlier) (is_committed u.reply) marks))
-  where
-    more : (b : Bool) (n m : ℕ) → n ≡ m + 1 → cond b (1 + n) n ≡ cond b (1 + m) m + 1
-    more true n m e = omega (arith, e)
-    more false n m e = e
+one_commit_more [] later t h = grind (arith, common_steps)
+one_commit_more (u ∷ earlier) later t h = grind (arith, common_steps, (one_commit_more earlier later t h))

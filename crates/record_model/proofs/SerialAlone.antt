@@ -1,21 +1,21 @@
 -- A session that runs alone.
-use Rattle.std.proofs.Common.{◌≡◌, ℕ, ◌+◌, ◌*◌, ◌-◌, ◌<◌, ◌≤◌, Bool, true, false, List, [], ◌∷◌, ◌++◌, length, length-append, Option, Some, None, inl, inr, refl, ap, sym, ◌∙◌, arith}
-use Rattle.std.specs.Prelude.{◌==◌, not, ◌&&◌, ◌||◌, filter_map, nat_lt, nat_le, slice_set, map, option_map, unwrap_or, is_none, is_some, sum_by, if◌then◌else◌}
+use Rattle.std.proofs.lemmas.Grind.{common_steps}
+use Rattle.std.proofs.Common.{◌≡◌, ℕ, ◌+◌, ◌*◌, ◌-◌, ◌<◌, ◌≤◌, Bool, true, false, List, [], ◌∷◌, ◌++◌, length, Option, Some, None, refl, ap, ◌∙◌, arith}
+use Rattle.std.specs.Prelude.{◌&&◌, filter_map, nat_lt, slice_set, map, option_map, unwrap_or, is_none, sum_by}
 use Rattle.std.specs.List.{range_with_len}
 use Rattle.std.proofs.lemmas.Bool.Decides.{nat_tests}
-use Rattle.std.proofs.lemmas.Bool.{cases_Bool, eqb-false}
 use Rattle.std_lemmas.proofs.AllOf.{each_member}
 use Rattle.record_model.specs.declared.words.Command.{Command}
-use Rattle.record_model.specs.declared.words.Command.TheVariants.{Begin, Read, Write, Erase, Scan, Commit, Set}
+use Rattle.record_model.specs.declared.words.Command.TheVariants.{Read, Write, Erase, Scan, Commit, Set}
 use Rattle.record_model.specs.declared.words.Why.TheVariants.{BadSession}
 use Rattle.record_model.specs.declared.words.CacheLine.{CacheLine}
 use Rattle.record_model.specs.declared.words.Reply.{Reply}
 use Rattle.record_model.specs.declared.words.Reply.TheVariants as reply
-use Rattle.record_model.specs.State.{Content, Session, State, opened, content_at, table_with, last_write, session_at, writes_of, reads_of, seen, is_other, busy_read, busy_write, active_sessions, used, owed, kept_by_checkpoint, is_due}
+use Rattle.record_model.specs.State.{Content, Session, State, opened, content_at, table_with, last_write, writes_of, seen, is_other, used, owed}
 use Rattle.record_model.specs.State as state
-use Rattle.record_model.specs.Step.{Outcome, step, outcome, refusal, refuse_if, wants_active, wants_record, wants_short, may_read, may_write, asks_for_checkpoint, ready, lacks_room, effect, answer, found, item, having_read, having_written}
-use Rattle.record_model.proofs.SerialLists.{set_set, no_values, get_none, only_one, passes_none, map_of_each, filter_map_same}
-use Rattle.record_model.proofs.SerialLocks.{place, wrote, touched, set_here, set_there, pass_all}
+use Rattle.record_model.specs.Step.{Outcome, step, refusal, refuse_if, wants_active, wants_record, wants_short, may_read, may_write, asks_for_checkpoint, ready, lacks_room, effect, answer, found, item, having_read, having_written}
+use Rattle.record_model.proofs.SerialLists.{set_set, no_values, only_one, passes_none, map_of_each, filter_map_same}
+use Rattle.record_model.proofs.SerialLocks.{place, wrote, touched, set_here, pass_all}
 
 -- what a session of these writes sees at a record of the table
 abbrev pub view : List Content → List state.Write → ℕ → Content
@@ -37,27 +37,19 @@ alone table commits cap n writes reads = record {
 
 -- What a command does where its tests let it through.
 
-pub ready_is : (s : State) (command : Command) → asks_for_checkpoint s command ≡ false → ready s command ≡ s
-ready_is s command h = ap (λ (b : Bool). record s { kept = if b then kept_by_checkpoint s else s.kept }) h
-
 carried : State → Command → List CacheLine → Outcome
 carried s command listing = record { after = effect s command; reply = answer s command listing }
 
 pub step_through : (s : State) (command : Command) (listing : List CacheLine) → refusal s command ≡ None →
     lacks_room (ready s command) command ≡ false →
     step s command listing ≡ record { after = effect (ready s command) command; reply = answer (ready s command) command listing }
-step_through s command listing h room =
-    ap (outcome s command listing) h
-    ∙ ap (λ (b : Bool). if b then record { after = ready s command; reply = reply.Full (used (ready s command)) (owed (ready s command)) s.cap } else record { after = effect (ready s command) command; reply = answer (ready s command) command listing }) room
+step_through s command listing h room = grind arith
 
 step_plain : (s : State) (command : Command) (listing : List CacheLine) → refusal s command ≡ None →
     asks_for_checkpoint s command ≡ false → lacks_room s command ≡ false →
     step s command listing ≡ carried s command listing
 unfolding carried
-step_plain s command listing h asks room =
-    let same = ready_is s command asks in
-    step_through s command listing h (ap (λ (r : State). lacks_room r command) same ∙ room)
-    ∙ ap (λ (r : State). carried r command listing) same
+step_plain s command listing h asks room = grind (arith, common_steps)
 
 -- Nobody keeps it off.
 
@@ -65,18 +57,8 @@ module _ (table : List Content) (commits cap n : ℕ) (writes : List state.Write
   here : place (alone table commits cap n writes reads).sessions n ≡ Some (lone writes reads)
   here = set_here (no_values Session 8) n (Some (lone writes reads)) n refl known
 
-  there : (m : ℕ) → (m ≡ n → ⊥) → place (alone table commits cap n writes reads).sessions m ≡ None
-  there m d = set_there (no_values Session 8) n (Some (lone writes reads)) m d ∙ get_none Session 8 m
-
   no_other : (test : Option Session → Bool) → test None ≡ false → (m : ℕ) → (is_other (Some n) m && test (place (alone table commits cap n writes reads).sessions m)) ≡ false
-  no_other test none m = elim (cases_Bool (n == m)) [
-    | inl e ↦ ap (λ (b : Bool). not b && test (place (alone table commits cap n writes reads).sessions m)) e
-    | inr e ↦ ap (λ (o : Option Session). is_other (Some n) m && test o) (there m (λ d. eqb-false n m e (sym d))) ∙ ap (λ (b : Bool). is_other (Some n) m && b) none ∙ and_false (is_other (Some n) m)
-  ]
-    where
-      and_false : (b : Bool) → (b && false) ≡ false
-      and_false true = refl
-      and_false false = refl
+  no_other test none m = grind (arith, common_steps)
 
   free_read : (number : ℕ) → may_read (alone table commits cap n writes reads) (Some n) number ≡ None
   free_read number = ap (option_map reply.Busy) (passes_none _ (range_with_len 0 8) (no_other (λ o. wrote o number) refl))
@@ -111,12 +93,7 @@ with_write : (table : List Content) (commits cap n : ℕ) (writes : List state.W
       made = length writes + 1 + 1;
     }
     ≡ alone table commits cap n (writes ++ write ∷ []) reads
-with_write table commits cap n writes write reads known =
-    ap (λ (sessions : List (Option Session)). record (alone table commits cap n writes reads) { sessions = sessions; made = length writes + 1 + 1 }) (again table commits cap n writes reads known (having_written write))
-    ∙ ap (λ (made : ℕ). record (alone table commits cap n (writes ++ write ∷ []) reads) { made = made }) more
-  where
-    more : length writes + 1 + 1 ≡ length (writes ++ write ∷ []) + 1
-    more = omega (arith, length-append writes (write ∷ []))
+with_write table commits cap n writes write reads known = grind (arith, common_steps)
 
 fits : (cap n : ℕ) → n ≤ cap → nat_lt cap n ≡ false
 fits cap n h = grind (arith, nat_tests)
@@ -131,13 +108,7 @@ pub read_alone : (table : List Content) (commits cap n : ℕ) (writes : List sta
     step (alone table commits cap n writes reads) (Read n number) []
     ≡ record { after = alone table commits cap n writes (reads ++ number ∷ []); reply = found (view table writes number) }
 unfolding carried answered
-read_alone table commits cap n writes reads number known small =
-    let s = alone table commits cap n writes reads in
-    step_plain s (Read n number) []
-    (pass_all (wants_active s n ∷ wants_record s number ∷ may_read s (Some n) number ∷ []) (active table commits cap n writes reads known, (small, (free_read table commits cap n writes reads known number, tt))))
-    refl refl
-    ∙ ap (λ (content : Content). answered (found content) (effect s (Read n number))) (sees table commits cap n writes reads known number)
-    ∙ ap (answered (found (view table writes number))) (with_reads table commits cap n writes reads (number ∷ []) known)
+read_alone table commits cap n writes reads number known small = grind (arith, common_steps)
 
 pub scan_alone : (table : List Content) (commits cap n : ℕ) (writes : List state.Write) (reads : List ℕ) (number count : ℕ) → n < 8 →
     wants_record (alone table commits cap n writes reads) (number + count - 1) ≡ None →
@@ -187,49 +158,17 @@ pub commit_alone : (table : List Content) (commits cap n : ℕ) (writes : List s
     ((step (alone table commits cap n writes reads) (Commit n) []).reply ≡ reply.Committed (commits + 1))
     × ((step (alone table commits cap n writes reads) (Commit n) []).after.table ≡ table_with table writes)
 unfolding carried
-commit_alone table commits cap n writes reads known =
-    let same = step_plain (alone table commits cap n writes reads) (Commit n) [] (active table commits cap n writes reads known) refl refl in
-    (ap (λ (o : Outcome). o.reply) same, ap (λ (o : Outcome). o.after.table) same ∙ ap (λ (o : Option Session). table_with table (writes_of o)) (here table commits cap n writes reads known))
+commit_alone table commits cap n writes reads known = grind (arith, common_steps)
 
 -- Where no session is active.
-
-ready_first : (table : List Content) (commits cap : ℕ) (command : Command) → ready (opened table commits 0 cap) command ≡ opened table commits 0 cap
-ready_first table commits cap command = ap (λ (kept : ℕ). record (opened table commits 0 cap) { kept = kept }) (nothing (asks_for_checkpoint (opened table commits 0 cap) command))
-  where
-    nothing : (b : Bool) → (if b then kept_by_checkpoint (opened table commits 0 cap) else 0) ≡ 0
-    nothing true = refl
-    nothing false = refl
-
-step_first : (table : List Content) (commits cap : ℕ) (command : Command) → refusal (opened table commits 0 cap) command ≡ None →
-    lacks_room (opened table commits 0 cap) command ≡ false →
-    step (opened table commits 0 cap) command [] ≡ carried (opened table commits 0 cap) command []
-unfolding carried
-step_first table commits cap command h room =
-    let same = ready_first table commits cap command in
-    step_through (opened table commits 0 cap) command [] h (ap (λ (r : State). lacks_room r command) same ∙ room)
-    ∙ ap (λ (r : State). carried r command []) same
 
 pub unrefused : (b : Bool) (answer : Reply) → refuse_if b answer ≡ None → b ≡ false
 unrefused true answer h = absurd cc
 unrefused false answer h = refl
-
-pub begin_alone : (table : List Content) (commits cap n : ℕ) → nat_le 8 n ≡ false → 4 ≤ cap →
-    step (opened table commits 0 cap) (Begin n) [] ≡ record { after = alone table commits cap n [] []; reply = reply.Done }
-unfolding carried
-begin_alone table commits cap n known room =
-    let s = opened table commits 0 cap in
-    step_first table commits cap (Begin n)
-    (ap (λ (b : Bool). refuse_if (b || is_some (place s.sessions n)) (reply.Refused BadSession)) known ∙ ap (λ (o : Option Session). refuse_if (is_some o) (reply.Refused BadSession)) (get_none Session 8 n))
-    (fits cap 2 (omega arith))
 
 pub set_alone : (table : List Content) (commits cap number : ℕ) (value : List ℕ) →
     wants_record (opened table commits 0 cap) number ≡ None → wants_short value ≡ None → 4 ≤ cap →
     ((step (opened table commits 0 cap) (Set number value) []).reply ≡ reply.Committed (commits + 1))
     × ((step (opened table commits 0 cap) (Set number value) []).after.table ≡ slice_set table number (Some value))
 unfolding carried
-set_alone table commits cap number value small short room =
-    let s = opened table commits 0 cap in
-    let same = step_first table commits cap (Set number value)
-    (pass_all (wants_record s number ∷ wants_short value ∷ may_write s None number ∷ []) (small, (short, (ap (option_map reply.Busy) (passes_none _ (range_with_len 0 8) (λ m. ap (λ (o : Option Session). touched o number) (get_none Session 8 m))), tt))))
-    (fits cap 4 room) in
-    (ap (λ (o : Outcome). o.reply) same, ap (λ (o : Outcome). o.after.table) same)
+set_alone table commits cap number value small short room = grind (arith, common_steps)

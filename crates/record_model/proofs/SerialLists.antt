@@ -1,9 +1,10 @@
 -- Lists, as serial order needs them.
-use Rattle.std.proofs.Common.{◌≡◌, ℕ, zero, suc, ◌+◌, ◌<◌, ◌≤◌, Bool, true, false, cond, List, [], ◌∷◌, length, Option, Some, None, inl, inr, refl, ap, ◌∙◌, subst, arith}
+use Rattle.std.proofs.Common.{◌≡◌, ℕ, zero, suc, ◌+◌, ◌<◌, ◌≤◌, Bool, true, false, cond, List, [], ◌∷◌, length, Option, Some, None, refl, ap, ◌∙◌, arith}
 use Rattle.std.specs.Prelude.{◌==◌, filter_map, find, slice_index_or, slice_set, replicate, map}
 use Rattle.std.specs.List.{range_with_len, AllByRecursion, cons_option}
 use Rattle.std.proofs.lemmas.Bool.Decides.{nat_tests}
 use Rattle.std.proofs.lemmas.Bool.{cases_Bool, eqb-true, eqb-false}
+use Rattle.std.proofs.Common.{inl, inr, subst}
 
 -- Tests.
 
@@ -17,34 +18,24 @@ same_is m = grind (arith, nat_tests)
 -- Places.
 
 pub get_set_same : {A : Type 0} (xs : List A) (i : ℕ) (x d : A) → i < length xs → slice_index_or (slice_set xs i x) i d ≡ x
-get_set_same [] i x d h = absurd (omega arith)
-get_set_same (y ∷ xs) zero x d h = refl
 get_set_same (y ∷ xs) (suc i) x d h = get_set_same xs i x d (omega arith)
+get_set_same _ _ x d h = grind arith
 
 pub get_set_other : {A : Type 0} (xs : List A) (i j : ℕ) (x d : A) → (i ≡ j → ⊥) → slice_index_or (slice_set xs i x) j d ≡ slice_index_or xs j d
-get_set_other [] i j x d h = refl
 get_set_other (y ∷ xs) zero zero x d h = absurd (h refl)
-get_set_other (y ∷ xs) zero (suc j) x d h = refl
-get_set_other (y ∷ xs) (suc i) zero x d h = refl
 get_set_other (y ∷ xs) (suc i) (suc j) x d h = get_set_other xs i j x d (λ e. h (ap suc e))
+get_set_other _ _ _ x d h = refl
 
 pub set_set : {A : Type 0} (xs : List A) (i : ℕ) (x y : A) → slice_set (slice_set xs i x) i y ≡ slice_set xs i y
-set_set [] i x y = refl
-set_set (z ∷ xs) zero x y = refl
 set_set (z ∷ xs) (suc i) x y = ap (λ (l : List _). z ∷ l) (set_set xs i x y)
-
-pub set_beyond : {A : Type 0} (xs : List A) (i : ℕ) (x : A) → length xs ≤ i → slice_set xs i x ≡ xs
-set_beyond [] i x h = refl
-set_beyond (z ∷ xs) zero x h = absurd (omega arith)
-set_beyond {A} (z ∷ xs) (suc i) x h = ap (λ (l : List A). z ∷ l) (set_beyond xs i x (omega arith))
+set_set _ _ x y = refl
 
 abbrev pub no_values : (A : Type 0) → ℕ → List (Option A)
 no_values A k = replicate k None
 
 pub get_none : (A : Type 0) (k n : ℕ) → slice_index_or (no_values A k) n None ≡ None
-get_none A zero n = refl
-get_none A (suc k) zero = refl
 get_none A (suc k) (suc n) = get_none A k n
+get_none A _ _ = refl
 
 -- an option list with one value in it
 pub only_one : (A : Type 0) (k n : ℕ) (x : A) → n < k → filter_map (λ (o : Option A). o) (slice_set (no_values A k) n (Some x)) ≡ x ∷ []

@@ -1,18 +1,18 @@
 -- No session writes what another one has touched.
-use Rattle.std.proofs.Common.{◌≡◌, ℕ, zero, suc, ◌+◌, ◌<◌, ◌≤◌, Bool, true, false, List, [], ◌∷◌, length, Option, Some, None, inl, inr, refl, ap, sym, ◌∙◌, subst, arith}
+use Rattle.std.proofs.lemmas.Grind.{common_steps}
+use Rattle.std.proofs.Common.{◌≡◌, ℕ, suc, ◌+◌, ◌<◌, ◌≤◌, Bool, true, false, List, [], ◌∷◌, length, Option, Some, None, inl, inr, refl, ap, sym, ◌∙◌, subst, arith}
 use Rattle.std.specs.Prelude.{◌==◌, not, ◌&&◌, ◌||◌, ◌⊎◌, ◌-◌, find, slice_index_or, slice_set, map, option_map}
 use Rattle.std.specs.List.{list_any, range_with_len, AllByRecursion}
-use Rattle.std.proofs.lemmas.Bool.{or_left, or_right, cases_lt, or_cases, eqb-true, eqb-false, ne_eqb}
+use Rattle.std.proofs.lemmas.Bool.{or_left, cases_lt, or_cases, eqb-true, ne_eqb}
 use Rattle.std_lemmas.proofs.AllOf.{all_member}
-use Rattle.std.proofs.lemmas.List.Folds.{list_any-append}
 use Rattle.record_model.specs.declared.words.Command.{Command}
-use Rattle.record_model.specs.declared.words.Command.TheVariants.{Begin, Read, Write, Erase, Scan, Commit, Abort, Get, Set, Checkpoint, Cache, Stat, Quit}
+use Rattle.record_model.specs.declared.words.Command.TheVariants.{Begin, Read, Write, Erase, Scan, Commit, Abort}
 use Rattle.record_model.specs.declared.words.Reply.{Reply}
 use Rattle.record_model.specs.declared.words.Reply.TheVariants as reply
-use Rattle.record_model.specs.State.{Content, Session, State, writes_of, reads_of, is_other, busy_read, busy_write}
+use Rattle.record_model.specs.State.{Session, State, writes_of, reads_of, is_other, busy_read, busy_write}
 use Rattle.record_model.specs.State as state
 use Rattle.record_model.specs.Step.{refusal, first_refusal, wants_active, wants_record, wants_short, may_read, may_write, ready, effect, having_read, having_written}
-use Rattle.record_model.proofs.SerialLists.{not_both, get_set_same, get_set_other, set_beyond, none_passes, each_of_map}
+use Rattle.record_model.proofs.SerialLists.{not_both, get_set_same, get_set_other, none_passes, each_of_map}
 
 abbrev pub place : List (Option Session) → ℕ → Option Session
 place sessions n = slice_index_or sessions n None
@@ -36,9 +36,8 @@ pub set_there : (sessions : List (Option Session)) (k : ℕ) (v : Option Session
 set_there sessions k v m d = get_set_other sessions k m v None (λ e. d (sym e))
 
 pub get_beyond : (sessions : List (Option Session)) (n : ℕ) → length sessions ≤ n → place sessions n ≡ None
-get_beyond [] n h = refl
-get_beyond (o ∷ sessions) zero h = absurd (omega arith)
 get_beyond (o ∷ sessions) (suc n) h = get_beyond sessions n (omega arith)
+get_beyond _ _ h = grind arith
 
 -- what a session in a new place has written is what it had, or what no other has touched, and what it has touched likewise
 abbrev WritesMore : List (Option Session) → ℕ → Option Session → Type 0
@@ -47,30 +46,8 @@ WritesMore sessions k v = (r : ℕ) → wrote v r ≡ true → (wrote (place ses
 abbrev TouchesMore : List (Option Session) → ℕ → Option Session → Type 0
 TouchesMore sessions k v = (r : ℕ) → touched v r ≡ true → (touched (place sessions k) r ≡ true) ⊎ ((m : ℕ) → (m ≡ k → ⊥) → wrote (place sessions m) r ≡ true → ⊥)
 
-apart_within : (sessions : List (Option Session)) (k : ℕ) (v : Option Session) → k < length sessions → Apart sessions → WritesMore sessions k v → TouchesMore sessions k v →
-    (m n r : ℕ) → (m ≡ n → ⊥) → (b c : Bool) → (m == k) ≡ b → (n == k) ≡ c →
-    wrote (place (slice_set sessions k v) m) r ≡ true → touched (place (slice_set sessions k v) n) r ≡ true → ⊥
-apart_within sessions k v below apart writes touches m n r d true true p q w t = d (eqb-true m k p ∙ sym (eqb-true n k q))
-apart_within sessions k v below apart writes touches m n r d true false p q w t =
-    let other : n ≡ k → ⊥ = eqb-false n k q in
-    let mine : wrote v r ≡ true = subst (λ o. wrote o r ≡ true) (set_here sessions k v m (eqb-true m k p) below) w in
-    let theirs : touched (place sessions n) r ≡ true = subst (λ o. touched o r ≡ true) (set_there sessions k v n other) t in
-    elim (writes r mine) [ inl h ↦ apart k n r (λ e. other (sym e)) h theirs | inr h ↦ h n other theirs ]
-apart_within sessions k v below apart writes touches m n r d false true p q w t =
-    let other : m ≡ k → ⊥ = eqb-false m k p in
-    let mine : touched v r ≡ true = subst (λ o. touched o r ≡ true) (set_here sessions k v n (eqb-true n k q) below) t in
-    let theirs : wrote (place sessions m) r ≡ true = subst (λ o. wrote o r ≡ true) (set_there sessions k v m other) w in
-    elim (touches r mine) [ inl h ↦ apart m k r other theirs h | inr h ↦ h m other theirs ]
-apart_within sessions k v below apart writes touches m n r d false false p q w t =
-    apart m n r d
-    (subst (λ o. wrote o r ≡ true) (set_there sessions k v m (eqb-false m k p)) w)
-    (subst (λ o. touched o r ≡ true) (set_there sessions k v n (eqb-false n k q)) t)
-
 pub apart_set : (sessions : List (Option Session)) (k : ℕ) (v : Option Session) → Apart sessions → WritesMore sessions k v → TouchesMore sessions k v → Apart (slice_set sessions k v)
-apart_set sessions k v apart writes touches = elim (cases_lt k (length sessions)) [
-  | inl below ↦ λ m n r d w t. apart_within sessions k v below apart writes touches m n r d (m == k) (n == k) refl refl w t
-  | inr beyond ↦ subst Apart (sym (set_beyond sessions k v beyond)) apart
-]
+apart_set sessions k v apart writes touches = grind (arith, common_steps)
 
 -- What a session has after one more read or write.
 
@@ -81,10 +58,7 @@ reads_wrote numbers (Some session) r = refl
 pub reads_touched : (numbers : List ℕ) (o : Option Session) (r : ℕ) → touched (option_map (having_read numbers) o) r ≡ true →
     (touched o r ≡ true) ⊎ (list_any (λ read. read == r) numbers ≡ true)
 reads_touched numbers None r h = absurd cc
-reads_touched numbers (Some session) r h = elim (or_cases (wrote (Some session) r) _ h) [
-  | inl w ↦ inl (or_left _ _ w)
-  | inr t ↦ elim (or_cases _ _ (sym (list_any-append (λ read. read == r) session.reads numbers) ∙ t)) [ inl old ↦ inl (or_right (wrote (Some session) r) _ old) | inr new ↦ inr new ]
-]
+reads_touched numbers (Some session) r h = grind (arith, common_steps)
 
 one_number : (number r : ℕ) → ((number == r) || false) ≡ true → number ≡ r
 one_number number r h = elim (or_cases (number == r) false h) [ inl e ↦ eqb-true number r e | inr e ↦ absurd cc ]
@@ -92,18 +66,12 @@ one_number number r h = elim (or_cases (number == r) false h) [ inl e ↦ eqb-tr
 pub writes_wrote : (write : state.Write) (o : Option Session) (r : ℕ) → wrote (option_map (having_written write) o) r ≡ true →
     (wrote o r ≡ true) ⊎ (write.0 ≡ r)
 writes_wrote write None r h = absurd cc
-writes_wrote write (Some session) r h = elim (or_cases _ _ (sym (list_any-append (λ (w : state.Write). w.0 == r) session.writes (write ∷ [])) ∙ h)) [
-  | inl old ↦ inl old
-  | inr new ↦ inr (one_number write.0 r new)
-]
+writes_wrote write (Some session) r h = grind (arith, common_steps)
 
 pub writes_touched : (write : state.Write) (o : Option Session) (r : ℕ) → touched (option_map (having_written write) o) r ≡ true →
     (touched o r ≡ true) ⊎ (write.0 ≡ r)
 writes_touched write None r h = absurd cc
-writes_touched write (Some session) r h = elim (or_cases (wrote (option_map (having_written write) (Some session)) r) _ h) [
-  | inl w ↦ elim (writes_wrote write (Some session) r w) [ inl old ↦ inl (or_left _ _ old) | inr new ↦ inr new ]
-  | inr t ↦ inl (or_right (wrote (Some session) r) _ t)
-]
+writes_touched write (Some session) r h = grind (arith, common_steps)
 
 -- What the tests say.
 
@@ -151,9 +119,7 @@ wrote_touched o r h = or_left (wrote o r) _ h
 
 reading : (s : State) (n : ℕ) (numbers : List ℕ) → length s.sessions ≡ 8 → Apart s.sessions → ((r : ℕ) → list_any (λ read. read == r) numbers ≡ true → may_read s (Some n) r ≡ None) →
     Apart (slice_set s.sessions n (option_map (having_read numbers) (place s.sessions n)))
-reading s n numbers long apart free = apart_set s.sessions n _ apart
-    (λ r h. inl (sym (reads_wrote numbers (place s.sessions n) r) ∙ h))
-    (λ r h. elim (reads_touched numbers (place s.sessions n) r h) [ inl old ↦ inl old | inr new ↦ inr (unread s n r long (free r new)) ])
+reading s n numbers long apart free = grind (arith, apart_set, reads_wrote, reads_touched, unread)
 
 writing : (s : State) (n : ℕ) (write : state.Write) → length s.sessions ≡ 8 → Apart s.sessions → may_write s (Some n) write.0 ≡ None →
     Apart (slice_set s.sessions n (option_map (having_written write) (place s.sessions n)))
@@ -172,23 +138,14 @@ one_is number r h = one_number number r h
 
 pub locks_kept : (s : State) (command : Command) → length s.sessions ≡ 8 → refusal s command ≡ None → Apart s.sessions → Apart (effect (ready s command) command).sessions
 locks_kept s (Begin n) long h apart = with_none s n _ (λ r. refl) (λ r. refl) apart
-locks_kept s (Read n number) long h apart =
-    let tests = all_pass (wants_active s n ∷ wants_record s number ∷ may_read s (Some n) number ∷ []) h in
+locks_kept s (Read n number) long h apart = let tests = all_pass (wants_active s n ∷ wants_record s number ∷ may_read s (Some n) number ∷ []) h in
     reading s n (number ∷ []) long apart (λ r e. subst (λ (q : ℕ). may_read s (Some n) q ≡ None) (one_is number r e) tests.1.1.0)
-locks_kept s (Write n number value) long h apart =
-    let tests = all_pass (wants_active s n ∷ wants_record s number ∷ wants_short value ∷ may_write s (Some n) number ∷ []) h in
+locks_kept s (Write n number value) long h apart = let tests = all_pass (wants_active s n ∷ wants_record s number ∷ wants_short value ∷ may_write s (Some n) number ∷ []) h in
     writing s n (number, Some value) long apart tests.1.1.1.0
-locks_kept s (Erase n number) long h apart =
-    let tests = all_pass (wants_active s n ∷ wants_record s number ∷ may_write s (Some n) number ∷ []) h in
+locks_kept s (Erase n number) long h apart = let tests = all_pass (wants_active s n ∷ wants_record s number ∷ may_write s (Some n) number ∷ []) h in
     writing s n (number, None) long apart tests.1.1.0
-locks_kept s (Scan n number count) long h apart =
-    let tests = all_pass (wants_active s n ∷ wants_record s (number + count - 1) ∷ map (may_read s (Some n)) (range_with_len number count)) h in
+locks_kept s (Scan n number count) long h apart = let tests = all_pass (wants_active s n ∷ wants_record s (number + count - 1) ∷ map (may_read s (Some n)) (range_with_len number count)) h in
     reading s n (range_with_len number count) long apart (λ r e. all_member (λ q. may_read s (Some n) q ≡ None) (range_with_len number count) r (each_of_map (may_read s (Some n)) (λ a. a ≡ None) (range_with_len number count) tests.1.1) e)
 locks_kept s (Commit n) long h apart = with_none s n None (λ r. refl) (λ r. refl) apart
 locks_kept s (Abort n) long h apart = with_none s n None (λ r. refl) (λ r. refl) apart
-locks_kept s (Get number) long h apart = apart
-locks_kept s (Set number value) long h apart = apart
-locks_kept s Checkpoint long h apart = apart
-locks_kept s Cache long h apart = apart
-locks_kept s Stat long h apart = apart
-locks_kept s Quit long h apart = apart
+locks_kept s _ long h apart = apart

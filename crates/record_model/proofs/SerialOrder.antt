@@ -1,14 +1,15 @@
 -- Serial order, whatever the sessions' interleaving.
+use Rattle.std.proofs.lemmas.Grind.{common_steps}
 use Rattle.std.proofs.Common.{◌≡◌, ℕ, suc, ◌+◌, ◌*◌, ◌-◌, ◌<◌, ◌≤◌, Bool, true, false, List, [], ◌∷◌, ◌++◌, length, length-append, length-set, Option, Some, None, inl, inr, refl, ap, sym, ◌∙◌, subst, arith, add-one}
-use Rattle.std.specs.Prelude.{◌==◌, ◌&&◌, ◌||◌, nat_le, slice_set, map, reverse, option_map, is_none, is_some, IsTrue, if◌then◌else◌}
+use Rattle.std.specs.Prelude.{◌==◌, ◌&&◌, ◌||◌, slice_set, map, reverse, option_map, is_none, is_some, IsTrue, if◌then◌else◌}
 use Rattle.std.specs.List.{list_any, range_with_len}
 use mathlib.Core.List.{reverse_aux}
 use Rattle.record_model.specs.declared.words.Command.{Command}
-use Rattle.record_model.specs.declared.words.Command.TheVariants.{Begin, Read, Write, Erase, Scan, Commit, Abort, Get, Set, Checkpoint, Cache, Stat, Quit}
+use Rattle.record_model.specs.declared.words.Command.TheVariants.{Begin, Read, Write, Erase, Scan, Commit, Abort, Get, Set}
 use Rattle.record_model.specs.declared.words.CacheLine.{CacheLine}
 use Rattle.record_model.specs.declared.words.Reply.{Reply}
 use Rattle.record_model.specs.declared.words.Reply.TheVariants as reply
-use Rattle.record_model.specs.State.{Content, Session, State, opened, content_at, table_with, session_at, writes_of, reads_of, seen, kept_by_checkpoint}
+use Rattle.record_model.specs.State.{Content, Session, State, opened, content_at, table_with, writes_of, seen}
 use Rattle.record_model.specs.State as state
 use Rattle.record_model.specs.Step.{Outcome, step, outcome, refusal, refuse_if, wants_active, wants_record, wants_short, may_read, may_write, ready, lacks_room, is_accepted, effect, answer, having_read, having_written}
 use Rattle.record_model.specs.Run.{Line, Turn, line_step, turn, turns, replies, left_by, state_at, is_committed, commit_marks, commits_among, after_commits}
@@ -17,10 +18,10 @@ use Rattle.record_model.proofs.StepLaws.{length_table_with, found_is, IsNoCommit
 use Rattle.record_model.proofs.RunLaws.{IsRun, turns_are_run, state_after, one_commit_more, commits_make_the_table}
 use Rattle.record_model.proofs.SerialGets.{turn_of_run, gets_are_serial}
 use Rattle.record_model.proofs.SerialLists.{not_both, same_is, get_set_other, get_none}
-use Rattle.record_model.proofs.SerialLocks.{place, wrote, touched, Apart, set_here, set_there, get_beyond, all_pass, untouched, locks_kept}
+use Rattle.record_model.proofs.SerialLocks.{place, touched, Apart, set_here, set_there, all_pass, untouched, locks_kept}
 use Rattle.record_model.proofs.SerialWhole.{since_is}
 use Rattle.std.proofs.lemmas.List.{reverse-reverse}
-use Rattle.std.proofs.lemmas.Bool.{cases_lt, cases_Bool, or_parts, and_parts, not-true, eqb-true, eqb-false}
+use Rattle.std.proofs.lemmas.Bool.{cases_Bool, or_parts, and_parts, not-true, eqb-true, eqb-false}
 use Rattle.std_lemmas.proofs.Options.{none_if_is_none}
 use Rattle.record_model.proofs.SerialAlone.{alone, unrefused, step_through, commit_alone, set_alone}
 use Rattle.record_model.proofs.SerialSteps.{Standing, reply_more, state_more, one_turn, read_more, scan_more, write_more, erase_more, begin_first}
@@ -40,82 +41,58 @@ placed : (s : State) (n : ℕ) (f : Session → Session) (session : Session) →
 placed s n f session active below = set_here s.sessions n _ n refl below ∙ ap (option_map f) active
 
 gone : (sessions : List (Option Session)) (n : ℕ) → place (slice_set sessions n None) n ≡ None
-gone sessions n = elim (cases_lt n (length sessions)) [
-  | inl below ↦ set_here sessions n None n refl below
-  | inr beyond ↦ let none : Option Session = None in get_beyond (slice_set sessions n none) n (omega (arith, beyond, length-set sessions n none))
-]
+gone sessions n = grind (arith, common_steps)
 
 began : (s : State) (n : ℕ) (t : Turn) → length s.sessions ≡ 8 → refusal s (Begin n) ≡ None → t.line ≡ Some (Begin n) → t.reply ≡ reply.Done → StepsOn s (Begin n) t n
-began s n t long h line answer own before =
-    let known = (or_parts (nat_le 8 n) _ (unrefused _ _ h)).0 in
-    let first = begin_first n s.table t line answer known in
-    subst (Standing n (t ∷ []) s.table) (sym (set_here s.sessions n (Some (record { born = s.made; writes = []; reads = [] })) n refl (let k = first.known in omega (arith, k, long)))) first
+began s n t long h line answer own before = grind (arith, or_parts, unrefused, begin_first, set_here)
 
 -- what its commands make of it, of whichever kind
 mine : (s : State) (command : Command) (listing : List CacheLine) (t : Turn) (k : ℕ) → length s.sessions ≡ 8 → refusal s command ≡ None →
     t.line ≡ Some command → t.reply ≡ answer (ready s command) command listing → session_of command ≡ Some k → StepsOn s command t k
-mine s (Begin n) listing t k long h line answer e =
-    let same : n ≡ k = cc in
+mine s (Begin n) listing t k long h line answer e = let same : n ≡ k = cc in
     subst (StepsOn s (Begin n) t) same (began s n t long h line answer)
-mine s (Read n number) listing t k long h line answer e =
-    let same : n ≡ k = cc in
+mine s (Read n number) listing t k long h line answer e = let same : n ≡ k = cc in
     subst (StepsOn s (Read n number) t) same λ own before.
     let tests = all_pass (wants_active s n ∷ wants_record s number ∷ may_read s (Some n) number ∷ []) h in
     let active = is_active (place s.sessions n) _ tests.0 in
     let replays = subst (Standing n own s.table) active.1 before in
     subst (Standing n (own ++ t ∷ []) s.table) (sym (placed s n (having_read (number ∷ [])) active.0 active.1 (let k = replays.known in omega (arith, k, long))))
     (read_more s n own active.0 t active.1 replays number line answer tests.1.0)
-mine s (Write n number value) listing t k long h line answer e =
-    let same : n ≡ k = cc in
+mine s (Write n number value) listing t k long h line answer e = let same : n ≡ k = cc in
     subst (StepsOn s (Write n number value) t) same λ own before.
     let tests = all_pass (wants_active s n ∷ wants_record s number ∷ wants_short value ∷ may_write s (Some n) number ∷ []) h in
     let active = is_active (place s.sessions n) _ tests.0 in
     let replays = subst (Standing n own s.table) active.1 before in
     subst (Standing n (own ++ t ∷ []) s.table) (sym (placed s n (having_written (number, Some value)) active.0 active.1 (let k = replays.known in omega (arith, k, long))))
     (write_more s n own active.0 t active.1 replays number value line answer tests.1.0 tests.1.1.0)
-mine s (Erase n number) listing t k long h line answer e =
-    let same : n ≡ k = cc in
+mine s (Erase n number) listing t k long h line answer e = let same : n ≡ k = cc in
     subst (StepsOn s (Erase n number) t) same λ own before.
     let tests = all_pass (wants_active s n ∷ wants_record s number ∷ may_write s (Some n) number ∷ []) h in
     let active = is_active (place s.sessions n) _ tests.0 in
     let replays = subst (Standing n own s.table) active.1 before in
     subst (Standing n (own ++ t ∷ []) s.table) (sym (placed s n (having_written (number, None)) active.0 active.1 (let k = replays.known in omega (arith, k, long))))
     (erase_more s n own active.0 t active.1 replays number line answer tests.1.0)
-mine s (Scan n number count) listing t k long h line answer e =
-    let same : n ≡ k = cc in
+mine s (Scan n number count) listing t k long h line answer e = let same : n ≡ k = cc in
     subst (StepsOn s (Scan n number count) t) same λ own before.
     let tests = all_pass (wants_active s n ∷ wants_record s (number + count - 1) ∷ map (may_read s (Some n)) (range_with_len number count)) h in
     let active = is_active (place s.sessions n) _ tests.0 in
     let replays = subst (Standing n own s.table) active.1 before in
     subst (Standing n (own ++ t ∷ []) s.table) (sym (placed s n (having_read (range_with_len number count)) active.0 active.1 (let k = replays.known in omega (arith, k, long))))
     (scan_more s n own active.0 t active.1 replays number count line answer tests.1.0)
-mine s (Commit n) listing t k long h line answer e =
-    let same : n ≡ k = cc in
+mine s (Commit n) listing t k long h line answer e = let same : n ≡ k = cc in
     subst (StepsOn s (Commit n) t) same λ own before.
     subst (Standing n (own ++ t ∷ []) (table_with s.table (writes_of (place s.sessions n)))) (sym (gone s.sessions n)) tt
-mine s (Abort n) listing t k long h line answer e =
-    let same : n ≡ k = cc in
+mine s (Abort n) listing t k long h line answer e = let same : n ≡ k = cc in
     subst (StepsOn s (Abort n) t) same λ own before.
     subst (Standing n (own ++ t ∷ []) s.table) (sym (gone s.sessions n)) tt
-mine s (Get number) listing t k long h line answer e = absurd cc
-mine s (Set number value) listing t k long h line answer e = absurd cc
-mine s Checkpoint listing t k long h line answer e = absurd cc
-mine s Cache listing t k long h line answer e = absurd cc
-mine s Stat listing t k long h line answer e = absurd cc
-mine s Quit listing t k long h line answer e = absurd cc
+mine s _ listing t k long h line answer e = absurd cc
 
 -- A command of another session, or of none.
 
 same_standing : (k : ℕ) (own : List Turn) (table other : List Content) (o : Option Session) → length other ≡ length table →
     ((r : ℕ) → touched o r ≡ true → content_at other r ≡ content_at table r) → Standing k own table o → Standing k own other o
 same_standing k own table other None sizes same before = tt
-same_standing k own table other (Some session) sizes same before = record {
-  known = before.known;
-  quits = before.quits;
-  begins = before.begins;
-  long = before.long;
-  again = λ third commits cap long agrees room. before.again third commits cap (long ∙ sizes) (λ r e. agrees r e ∙ same r e) room;
-}
+same_standing k own table other (Some session) sizes same before = grind (arith, same)
 
 unwritten_stay : (table : List Content) (writes : List state.Write) (r : ℕ) → (list_any (λ write. write.0 == r) writes ≡ true → ⊥) → content_at (table_with table writes) r ≡ content_at table r
 unwritten_stay table [] r h = refl
@@ -146,21 +123,12 @@ theirs s (Read n number) k long apart h d own before = elsewhere s n k _ own d b
 theirs s (Write n number value) k long apart h d own before = elsewhere s n k _ own d before
 theirs s (Erase n number) k long apart h d own before = elsewhere s n k _ own d before
 theirs s (Scan n number count) k long apart h d own before = elsewhere s n k _ own d before
-theirs s (Commit n) k long apart h d own before =
-    let writes = writes_of (place s.sessions n) in
-    subst (Standing k own (table_with s.table writes)) (sym (set_there s.sessions n None k (λ e. eqb-false n k d (sym e))))
-    (same_standing k own s.table (table_with s.table writes) (place s.sessions k) (length_table_with s.table writes)
-    (λ r t. unwritten_stay s.table writes r (λ w. apart n k r (eqb-false n k d) w t)) before)
+theirs s (Commit n) k long apart h d own before = grind (arith, set_there, eqb-false, same_standing, length_table_with, unwritten_stay)
 theirs s (Abort n) k long apart h d own before = elsewhere s n k _ own d before
-theirs s (Get number) k long apart h d own before = before
-theirs s (Set number value) k long apart h d own before =
-    let tests = all_pass (wants_record s number ∷ wants_short value ∷ may_write s None number ∷ []) h in
+theirs s (Set number value) k long apart h d own before = let tests = all_pass (wants_record s number ∷ wants_short value ∷ may_write s None number ∷ []) h in
     same_standing k own s.table (slice_set s.table number (Some value)) (place s.sessions k) (length_table_with s.table ((number, Some value) ∷ []))
     (λ r t. get_set_other s.table number r (Some value) None (λ e. untouched s number long tests.1.1.0 k (subst (λ (q : ℕ). touched (place s.sessions k) q ≡ true) (sym e) t))) before
-theirs s Checkpoint k long apart h d own before = before
-theirs s Cache k long apart h d own before = before
-theirs s Stat k long apart h d own before = before
-theirs s Quit k long apart h d own before = before
+theirs s _ k long apart h d own before = before
 
 -- What holds at each moment of a run. Of the turns before it the last one comes first.
 
@@ -178,16 +146,7 @@ GoesOn s line t after = (length after.sessions ≡ 8) × Apart after.sessions
 
 refused_goes_on : (s : State) (command : Command) (listing : List CacheLine) (t : Turn) → length s.sessions ≡ 8 → Apart s.sessions →
     is_accepted s command ≡ false → GoesOn s (Some command) t (step s command listing).after
-refused_goes_on s command listing t long apart h =
-    subst (GoesOn s (Some command) t) (sym (refused_changes_nothing s command listing h))
-    (long, apart, λ k own before. subst (λ own. Standing k own s.table (place s.sessions k)) (sym (same k own)) before)
-  where
-    and_false : (b c : Bool) → c ≡ false → (b && c) ≡ false
-    and_false true c e = e
-    and_false false c e = refl
-
-    same : (k : ℕ) (own : List Turn) → grown k s (Some command) t own ≡ own
-    same k own = ap (λ (b : Bool). if b then (if is_begin command then [] else own) ++ t ∷ [] else own) (and_false (is_session k (session_of command)) (is_accepted s command) h)
+refused_goes_on s command listing t long apart h = grind (arith, refused_changes_nothing)
 
 pub sessions_stay : (s : State) (command : Command) → length (effect s command).sessions ≡ length s.sessions
 sessions_stay s (Begin n) = length-set s.sessions n _
@@ -197,12 +156,7 @@ sessions_stay s (Erase n number) = length-set s.sessions n _
 sessions_stay s (Scan n number count) = length-set s.sessions n _
 sessions_stay s (Commit n) = length-set s.sessions n _
 sessions_stay s (Abort n) = length-set s.sessions n _
-sessions_stay s (Get number) = refl
-sessions_stay s (Set number value) = refl
-sessions_stay s Checkpoint = refl
-sessions_stay s Cache = refl
-sessions_stay s Stat = refl
-sessions_stay s Quit = refl
+sessions_stay s _ = refl
 
 of_session : (k : ℕ) (o : Option ℕ) → is_session k o ≡ true → o ≡ Some k
 of_session k None h = absurd cc
@@ -229,8 +183,7 @@ accepted_goes_on s command listing t long apart line answers h =
   where
     taken : (k : ℕ) (own : List Turn) (b c : Bool) → b ≡ true → c ≡ true → (if b && c then (if is_begin command then [] else own) ++ t ∷ [] else own) ≡ (if is_begin command then [] else own) ++ t ∷ []
     taken k own true true p q = refl
-    taken k own true false p q = absurd cc
-    taken k own false c p q = absurd cc
+    taken k own _ _ p q = absurd cc
 
     left : (k : ℕ) (own : List Turn) (b c : Bool) → b ≡ false → (if b && c then (if is_begin command then [] else own) ++ t ∷ [] else own) ≡ own
     left k own true c p = absurd cc
@@ -249,11 +202,7 @@ IsTrail start [] s = s ≡ start
 IsTrail start (t ∷ earlier) s = (listing : List CacheLine) × (t ≡ turn t.before t.line listing) × (s ≡ t.after) × IsTrail start earlier t.before
 
 holds_at : (table : List Content) (commits made cap : ℕ) (earlier : List Turn) (s : State) → IsTrail (opened table commits made cap) earlier s → Represents s earlier
-holds_at table commits made cap [] s is = subst (λ (s : State). Represents s []) (sym is) (record {
-  long = refl;
-  apart = λ m n r d w t. not_both _ w (ap (λ (o : Option Session). wrote o r) (get_none Session 8 m));
-  standing = λ k. subst (Standing k [] table) (sym (get_none Session 8 k)) tt;
-})
+holds_at table commits made cap [] s is = grind (arith, not_both, get_none)
 holds_at table commits made cap (t ∷ earlier) s is =
     let before = holds_at table commits made cap earlier t.before is.3 in
     let after = subst (GoesOn t.before t.line t) (sym (ap (λ (u : Turn). u.after) is.1))
@@ -266,14 +215,8 @@ holds_at table commits made cap (t ∷ earlier) s is =
 
 trail_of : (start s : State) (done earlier later : List Turn) (t : Turn) → IsTrail start done s → IsRun s (earlier ++ t ∷ later) →
     IsTrail start (reverse_aux earlier done) t.before × ((listing : List CacheLine) × (t ≡ turn t.before t.line listing))
-trail_of start s done [] later t trail is =
-    let same = ap (λ (u : Turn). u.before) is.1 in
-    (subst (IsTrail start done) (sym same) trail, (is.0, is.1 ∙ ap (λ (s : State). turn s t.line is.0) (sym same)))
-trail_of start s done (u ∷ earlier) later t trail is =
-    let same = ap (λ (u : Turn). u.before) is.1 in
-    trail_of start u.after (u ∷ done) earlier later t
-    (is.0, is.1 ∙ ap (λ (s : State). turn s u.line is.0) (sym same), refl, subst (IsTrail start done) (sym same) trail)
-    is.2
+trail_of start s done [] later t trail is = grind (arith, common_steps)
+trail_of start s done (u ∷ earlier) later t trail is = grind (arith, common_steps, (trail_of start u.after (u ∷ done) earlier later t))
 
 -- A commit.
 
@@ -284,19 +227,9 @@ may_commit _ = false
 
 answers_no_commit : (s : State) (command : Command) (listing : List CacheLine) → may_commit command ≡ false → is_committed (answer s command listing) ≡ false
 unfolding may_commit
-answers_no_commit s (Begin n) listing h = refl
 answers_no_commit s (Read n number) listing h = found_is (seen s n number)
-answers_no_commit s (Write n number value) listing h = refl
-answers_no_commit s (Erase n number) listing h = refl
-answers_no_commit s (Scan n number count) listing h = refl
-answers_no_commit s (Commit n) listing h = absurd cc
-answers_no_commit s (Abort n) listing h = refl
 answers_no_commit s (Get number) listing h = found_is (content_at s.table number)
-answers_no_commit s (Set number value) listing h = absurd cc
-answers_no_commit s Checkpoint listing h = refl
-answers_no_commit s Cache listing h = refl
-answers_no_commit s Stat listing h = refl
-answers_no_commit s Quit listing h = refl
+answers_no_commit s _ listing h = grind arith
 
 chosen_reply : (b : Bool) (o p : Outcome) → is_committed o.reply ≡ false → is_committed p.reply ≡ false → is_committed (if b then o else p).reply ≡ false
 chosen_reply true o p h k = h
@@ -306,8 +239,7 @@ outcome_no_commit : (s : State) (command : Command) (listing : List CacheLine) (
     is_committed (outcome s command listing r).reply ≡ false
 unfolding IsNoCommit
 outcome_no_commit s command listing (Some refused) harmless h = harmless
-outcome_no_commit s command listing None harmless h =
-    chosen_reply (lacks_room (ready s command) command) _ _ refl (answers_no_commit (ready s command) command listing h)
+outcome_no_commit s command listing None harmless h = grind (arith, chosen_reply, answers_no_commit)
 
 no_commit : (s : State) (command : Command) (listing : List CacheLine) → may_commit command ≡ false → is_committed (step s command listing).reply ≡ false
 no_commit s command listing h = outcome_no_commit s command listing (refusal s command) (refusals s command) h
@@ -319,12 +251,7 @@ let_through s command listing None harmless h = refl
 let_through s command listing (Some refused) harmless h = not_both _ h harmless
 
 roomy : (s : State) (command : Command) (listing : List CacheLine) → refusal s command ≡ None → is_committed (step s command listing).reply ≡ true → lacks_room (ready s command) command ≡ false
-roomy s command listing tests h =
-    enough (lacks_room (ready s command) command) _ _ refl (sym (ap (λ (r : Option Reply). is_committed (outcome s command listing r).reply) tests) ∙ h)
-  where
-    enough : (b : Bool) (o p : Outcome) → is_committed o.reply ≡ false → is_committed (if b then o else p).reply ≡ true → b ≡ false
-    enough true o p k e = not_both _ e k
-    enough false o p k e = refl
+roomy s command listing tests h = grind (arith, not_both)
 
 -- these turns have their replies again alone, and leave this table
 abbrev RunsAgain : State → List Turn → List Content → ℕ → Type 0
@@ -338,12 +265,7 @@ AnswersAgain s line t earlier = (cap : ℕ) → 4 * length (committed_by (line_s
 
 commit_taken : (n : ℕ) (t : Turn) (own : List Turn) → (n == n) ≡ true → is_none (refusal t.before (Commit n)) ≡ true →
     grown n t.before (Some (Commit n)) t own ≡ own ++ t ∷ []
-commit_taken n t own p q = taken (n == n) (is_none (refusal t.before (Commit n))) p q
-  where
-    taken : (a b : Bool) → a ≡ true → b ≡ true → (if a && (b && true) then own ++ t ∷ [] else own) ≡ own ++ t ∷ []
-    taken true true p q = refl
-    taken true false p q = absurd cc
-    taken false b p q = absurd cc
+commit_taken n t own p q = grind arith
 
 session_commit : (n : ℕ) (listing : List CacheLine) (t : Turn) (earlier : List Turn) → t.line ≡ Some (Commit n) →
     t.reply ≡ (step t.before (Commit n) listing).reply → t.after ≡ (step t.before (Commit n) listing).after →
@@ -406,8 +328,8 @@ each_commit : (line : Line) (listing : List CacheLine) (t : Turn) (earlier : Lis
     is_committed t.reply ≡ true → Represents t.before earlier → AnswersAgain t.before line t earlier
 unfolding may_commit
 each_commit None listing t earlier line answers leaves commits holds = not_both _ (ap is_committed (sym answers) ∙ commits) refl
-each_commit (Some (Commit n)) listing t earlier line answers leaves commits holds = session_commit n listing t earlier line answers leaves commits holds
-each_commit (Some (Set number value)) listing t earlier line answers leaves commits holds = set_commit number value listing t earlier line answers leaves commits
+each_commit (Some (Commit n)) listing t earlier line answers leaves commits holds = grind (arith, session_commit)
+each_commit (Some (Set number value)) listing t earlier line answers leaves commits holds = grind (arith, set_commit)
 each_commit (Some command) listing t earlier line answers leaves commits holds = other_commit command listing t earlier refl answers commits
 
 -- the table when a commit is over
@@ -426,23 +348,7 @@ table_after table commits made cap lines listings earlier later t e committed =
 session_whole : (n : ℕ) (listing : List CacheLine) (t : Turn) (earlier : List Turn) → t.line ≡ Some (Commit n) →
     t.reply ≡ (step t.before (Commit n) listing).reply → is_committed t.reply ≡ true → Represents t.before earlier →
     IsOfSession n (reverse earlier) t (since_begin n (t ∷ earlier))
-session_whole n listing t earlier line answers commits holds =
-    let s = t.before in
-    let own = since_begin n earlier in
-    let tests = let_through s (Commit n) listing (refusal s (Commit n)) (refusals s (Commit n)) (ap is_committed (sym answers) ∙ commits) in
-    let active = is_active (place s.sessions n) _ tests in
-    let replays = subst (Standing n own s.table) active.1 (holds.standing n) in
-    let since = since_is n earlier replays.begins in
-    record {
-      before = since.before;
-      first = since.first;
-      between = since.between;
-      split = since.split;
-      begins = since.begins;
-      is_begun = since.is_begun;
-      once = since.once;
-      whole = ap (λ (l : Line). grown n s l t own) line ∙ commit_taken n t own (same_is n) (ap is_none tests) ∙ ap (λ (l : List Turn). l ++ t ∷ []) since.whole;
-    }
+session_whole n listing t earlier line answers commits holds = grind (arith, let_through, refusals, is_active, since_is, commit_taken, same_is)
 
 each_whole : (line : Line) (listing : List CacheLine) (t : Turn) (earlier : List Turn) → t.line ≡ line →
     t.reply ≡ (line_step t.before line listing).reply → is_committed t.reply ≡ true → Represents t.before earlier →
@@ -458,14 +364,7 @@ each_whole (Some command) listing t earlier line answers commits holds = not_bot
 answered_so_far : (n : ℕ) (past : List Turn) (s : State) (cap : ℕ) → Represents s past → IsTrue (is_some (place s.sessions n)) →
     4 * length (since_begin n past) ≤ cap →
     replies (turns (opened s.table s.commits 0 cap) (lines_of (since_begin n past)) []) ≡ replies (since_begin n past)
-answered_so_far n past s cap holds active room =
-    let session = the_session (place s.sessions n) active in
-    let replays = subst (Standing n (since_begin n past) s.table) session.1 (holds.standing n) in
-    (replays.again s.table s.commits cap refl (λ r e. refl) room).0
-  where
-    the_session : (o : Option Session) → IsTrue (is_some o) → (session : Session) × (o ≡ Some session)
-    the_session None h = absurd cc
-    the_session (Some session) h = (session, refl)
+answered_so_far n past s cap holds active room = grind arith
 
 -- the table and the count behind a turn
 opens_after : (table : List Content) (commits made cap : ℕ) (lines : List Line) (listings : List (List CacheLine)) (earlier later : List Turn) (t : Turn) (room : ℕ) →

@@ -1,51 +1,39 @@
 -- What a session has been answered can be had again, alone, on each table that is the same where the session has read or written.
-use Rattle.std.proofs.Common.{◌≡◌, ℕ, ◌+◌, ◌*◌, ◌-◌, ◌<◌, ◌≤◌, Bool, true, false, List, [], ◌∷◌, ◌++◌, length, length-append, Option, Some, None, inl, inr, refl, ap, sym, ◌∙◌, arith}
-use Rattle.std.specs.Prelude.{◌==◌, ◌||◌, filter_map, nat_le, option_map, unwrap_or, if◌then◌else◌, drop}
+use Rattle.std.proofs.lemmas.Grind.{common_steps}
+use Rattle.std.proofs.Common.{◌≡◌, ℕ, ◌+◌, ◌*◌, ◌-◌, ◌<◌, ◌≤◌, Bool, true, false, List, [], ◌∷◌, ◌++◌, length, length-append, Option, Some, None, refl, ap, sym, ◌∙◌, arith}
+use Rattle.std.specs.Prelude.{◌==◌, ◌||◌, filter_map, nat_le, option_map, unwrap_or}
 use Rattle.std.specs.List.{list_any, range_with_len}
-use Rattle.std.proofs.lemmas.Bool.Decides.{nat_tests}
-use Rattle.std.proofs.lemmas.Bool.{or_left, or_right, or_cases}
+use Rattle.std.proofs.lemmas.Bool.{or_left, or_right}
 use Rattle.std_lemmas.proofs.AllOf.{each_member}
 use Rattle.std.proofs.lemmas.List.Folds.{list_any-append}
 use Rattle.record_model.specs.declared.words.Command.{Command}
 use Rattle.record_model.specs.declared.words.Command.TheVariants.{Begin, Read, Write, Erase, Scan}
 use Rattle.record_model.specs.declared.words.Why.TheVariants.{NoRecord}
-use Rattle.record_model.specs.declared.words.CacheLine.{CacheLine}
 use Rattle.record_model.specs.declared.words.Reply.{Reply}
 use Rattle.record_model.specs.declared.words.Reply.TheVariants as reply
-use Rattle.record_model.specs.State.{Content, Session, State, opened, content_at, table_with, last_write, session_at, writes_of, reads_of, seen}
+use Rattle.record_model.specs.State.{Content, Session, State, opened, content_at, last_write, writes_of, seen}
 use Rattle.record_model.specs.State as state
 use Rattle.record_model.specs.Step.{Outcome, step, refuse_if, wants_record, wants_short, answer, found, item}
-use Rattle.record_model.specs.Run.{Line, Turn, line_step, turn, turns, replies, left_by, listings_after, is_quit, is_cache}
+use Rattle.record_model.specs.Run.{Line, Turn, line_step, turn, turns, replies, left_by, listings_after, is_quit}
 use Rattle.record_model.specs.Serial.{lines_of}
 use Rattle.record_model.proofs.RunLaws.{turns-append}
 use Rattle.record_model.proofs.SerialLists.{same_is, filter_map_same}
 use Rattle.record_model.proofs.SerialLocks.{place, wrote, touched}
 use Rattle.record_model.proofs.SerialWhole.{StartsWithBegin, starts_still}
-use Rattle.record_model.proofs.SerialAlone.{view, lone, alone, read_alone, scan_alone, write_alone, erase_alone, begin_alone}
+use Rattle.record_model.proofs.SerialAlone.{view, lone, alone, read_alone, scan_alone, write_alone, erase_alone}
 
 -- One line more.
 
 no_listings : (lines : List Line) → listings_after lines [] ≡ []
 no_listings [] = refl
-no_listings (line ∷ lines) = ap (listings_after lines) (none (is_cache line)) ∙ no_listings lines
-  where
-    none : (b : Bool) → ◌≡◌ {A = List (List CacheLine)} (if b then drop 1 [] else []) []
-    none true = refl
-    none false = refl
+no_listings (line ∷ lines) = grind (arith, (no_listings lines))
 
 pub one_turn : (s : State) (line : Line) → turns s (line ∷ []) [] ≡ turn s line [] ∷ []
-one_turn s line = ap (λ (l : List Turn). turn s line [] ∷ l) (none (is_quit line))
-  where
-    none : (b : Bool) → ◌≡◌ {A = List Turn} (if b then [] else []) []
-    none true = refl
-    none false = refl
+one_turn s line = grind arith
 
 pub one_line_more : (s : State) (lines : List Line) (line : Line) → list_any is_quit lines ≡ false →
     turns s (lines ++ line ∷ []) [] ≡ turns s lines [] ++ turn (left_by s (turns s lines [])) line [] ∷ []
-one_line_more s lines line h =
-    turns-append lines (line ∷ []) s [] h
-    ∙ ap (λ listings. turns s lines [] ++ turns (left_by s (turns s lines [])) (line ∷ []) listings) (no_listings lines)
-    ∙ ap (λ l. turns s lines [] ++ l) (one_turn (left_by s (turns s lines [])) line)
+one_line_more s lines line h = grind (arith, turns-append, no_listings, one_turn)
 
 pub replies_append : (xs ys : List Turn) → replies (xs ++ ys) ≡ replies xs ++ replies ys
 replies_append [] ys = refl
@@ -86,26 +74,12 @@ pub reply_more : (s after : State) (own : List Turn) (t : Turn) → list_any is_
     replies (turns s (lines_of own) []) ≡ replies own → left_by s (turns s (lines_of own) []) ≡ after →
     (line_step after t.line []).reply ≡ t.reply →
     replies (turns s (lines_of (own ++ t ∷ [])) []) ≡ replies (own ++ t ∷ [])
-reply_more s after own t quits same left last =
-    let run = turns s (lines_of own) [] in
-    let next = turn (left_by s run) t.line [] in
-    ap (λ lines. replies (turns s lines [])) (lines_append own (t ∷ []))
-    ∙ ap replies (one_line_more s (lines_of own) t.line quits)
-    ∙ replies_append run (next ∷ [])
-    ∙ ap (λ (l : List Reply). l ++ next.reply ∷ []) same
-    ∙ ap (λ (a : State). replies own ++ (line_step a t.line []).reply ∷ []) left
-    ∙ ap (λ (r : Reply). replies own ++ r ∷ []) last
-    ∙ sym (replies_append own (t ∷ []))
+reply_more s after own t quits same left last = grind (arith, lines_append, one_line_more, replies_append)
 
 pub state_more : (s after : State) (own : List Turn) (t : Turn) → list_any is_quit (lines_of own) ≡ false →
     left_by s (turns s (lines_of own) []) ≡ after →
     left_by s (turns s (lines_of (own ++ t ∷ [])) []) ≡ (line_step after t.line []).after
-state_more s after own t quits left =
-    let run = turns s (lines_of own) [] in
-    ap (λ lines. left_by s (turns s lines [])) (lines_append own (t ∷ []))
-    ∙ ap (left_by s) (one_line_more s (lines_of own) t.line quits)
-    ∙ left_last s run (turn (left_by s run) t.line [])
-    ∙ ap (λ (a : State). (line_step a t.line []).after) left
+state_more s after own t quits left = grind (arith, lines_append, one_line_more, left_last)
 
 one_more : (n : ℕ) (own : List Turn) (table : List Content) (writes : List state.Write) (reads : List ℕ) (t : Turn) (command : Command) (writes' : List state.Write) (reads' : List ℕ) →
     t.line ≡ Some command → is_quit (Some command) ≡ false → Replays n own table writes reads →
@@ -131,19 +105,13 @@ one_more n own table writes reads t command writes' reads' line goes replays mor
 -- A command of the session's own.
 
 touches_more : (writes : List state.Write) (reads numbers : List ℕ) (r : ℕ) → touched (Some (lone writes reads)) r ≡ true → touched (Some (lone writes (reads ++ numbers))) r ≡ true
-touches_more writes reads numbers r h = elim (or_cases (wrote (Some (lone writes reads)) r) _ h) [
-  | inl w ↦ or_left (wrote (Some (lone writes reads)) r) _ w
-  | inr q ↦ or_right (wrote (Some (lone writes reads)) r) _ (list_any-append (λ read. read == r) reads numbers ∙ or_left _ _ q)
-]
+touches_more writes reads numbers r h = grind (arith, common_steps)
 
 touches_new : (writes : List state.Write) (reads numbers : List ℕ) (r : ℕ) → list_any (λ read. read == r) numbers ≡ true → touched (Some (lone writes (reads ++ numbers))) r ≡ true
 touches_new writes reads numbers r h = or_right (wrote (Some (lone writes reads)) r) _ (list_any-append (λ read. read == r) reads numbers ∙ or_right (list_any (λ read. read == r) reads) _ h)
 
 touches_write : (writes : List state.Write) (write : state.Write) (reads : List ℕ) (r : ℕ) → touched (Some (lone writes reads)) r ≡ true → touched (Some (lone (writes ++ write ∷ []) reads)) r ≡ true
-touches_write writes write reads r h = elim (or_cases (wrote (Some (lone writes reads)) r) _ h) [
-  | inl w ↦ or_left _ _ (list_any-append (λ (x : state.Write). x.0 == r) writes (write ∷ []) ∙ or_left _ _ w)
-  | inr q ↦ or_right (wrote (Some (lone (writes ++ write ∷ []) reads)) r) _ q
-]
+touches_write writes write reads r h = grind (arith, common_steps)
 
 module _ (s : State) (n : ℕ) (own : List Turn) (session : Session) (t : Turn) (active : place s.sessions n ≡ Some session) (replays : Replays n own s.table session.writes session.reads) where
   has_record : (number : ℕ) (other : List Content) (commits cap : ℕ) → length other ≡ length s.table → wants_record s number ≡ None →
@@ -195,18 +163,4 @@ module _ (s : State) (n : ℕ) (own : List Turn) (session : Session) (t : Turn) 
       ∙ ap (λ (r : Reply). record { after = alone other commits cap n (session.writes ++ (number, None) ∷ []) session.reads; reply = r }) (sym answer))
 
 pub begin_first : (n : ℕ) (table : List Content) (t : Turn) → t.line ≡ Some (Begin n) → t.reply ≡ reply.Done → nat_le 8 n ≡ false → Replays n (t ∷ []) table [] []
-begin_first n table t line answer known = record {
-  known = below known;
-  quits = ap (λ (l : Line). is_quit l || false) line;
-  begins = line;
-  long = omega arith;
-  again = λ other commits cap sizes agrees room.
-      let s = opened other commits 0 cap in
-      let first = ap (λ (l : Line). line_step s l []) line ∙ begin_alone other commits cap n known (omega (arith, room)) in (
-        ap replies (one_turn s t.line) ∙ ap (λ (o : Outcome). o.reply ∷ []) first ∙ ap (λ (r : Reply). r ∷ []) (sym answer),
-        ap (left_by s) (one_turn s t.line) ∙ ap (λ (o : Outcome). o.after) first,
-      );
-}
-  where
-    below : nat_le 8 n ≡ false → n < 8
-    below e = grind (arith, nat_tests)
+begin_first n table t line answer known = grind (arith, common_steps)

@@ -85,16 +85,14 @@ begun_here : (n : ℕ) (own begins : Bool) (t : Turn) (since : List Turn) → ow
     (t.line ≡ Some (Begin n)) × (more own begins t since ≡ t ∷ [])
 unfolding more
 begun_here n true true t since h k starts = (starts, refl)
-begun_here n true false t since h k starts = absurd cc
-begun_here n false begins t since h k starts = absurd cc
+begun_here n _ _ t since h k starts = absurd cc
 
 begun_before : (n : ℕ) (own begins : Bool) (t : Turn) (since : List Turn) → own ≡ true → begins ≡ false → (t.line ≡ Some (Begin n) → ⊥) → StartsWithBegin n (more own begins t since) →
     StartsWithBegin n since × (more own begins t since ≡ since ++ t ∷ [])
 unfolding more
-begun_before n true true t since h k never starts = absurd cc
 begun_before n true false t [] h k never starts = absurd (never starts)
 begun_before n true false t (first ∷ rest) h k never starts = (starts, refl)
-begun_before n false begins t since h k never starts = absurd cc
+begun_before n _ _ t since h k never starts = absurd cc
 
 passed_by : (n : ℕ) (own begins : Bool) (t : Turn) (since : List Turn) → own ≡ false → StartsWithBegin n (more own begins t since) →
     StartsWithBegin n since × (more own begins t since ≡ since)

@@ -1,22 +1,22 @@
 -- What follows from the step of the model.
-use Rattle.std.proofs.Common.{◌≡◌, ℕ, ◌+◌, ◌-◌, Bool, true, false, cond, List, [], ◌∷◌, length, Option, Some, None, refl, ap, sym, ◌∙◌, arith, slice_set, ◌≤◌}
+use Rattle.std.proofs.Common.{rules, ◌≡◌, ℕ, ◌+◌, ◌-◌, Bool, true, false, List, [], ◌∷◌, length, Option, Some, None, refl, ◌∙◌, arith, slice_set, ◌≤◌}
 use Rattle.std.specs.Prelude.{not, ◌&&◌, is_none, if◌then◌else◌, option_map, map}
 use Rattle.std.specs.List.{AllByRecursion, range_with_len}
 use Rattle.std.proofs.lemmas.Grind.{common_steps}
-use Rattle.std_lemmas.proofs.Bools.{and_false, and_true}
-use Rattle.std.proofs.lemmas.Bool.{not-false}
 use Rattle.record_model.specs.declared.words.Command.{Command}
-use Rattle.record_model.specs.declared.words.Command.TheVariants.{Begin, Read, Write, Erase, Scan, Commit, Abort, Get, Set, Checkpoint, Cache, Stat, Quit}
+use Rattle.record_model.specs.declared.words.Command.TheVariants.{Begin, Read, Write, Erase, Scan, Commit, Abort, Get, Set}
 use Rattle.record_model.specs.declared.words.CacheLine.{CacheLine}
 use Rattle.record_model.specs.declared.words.Why.{Why}
 use Rattle.record_model.specs.declared.words.Why.TheVariants.{BadSession, NoRecord, TooLong}
 use Rattle.record_model.specs.declared.words.Reply.{Reply}
 use Rattle.record_model.specs.declared.words.Reply.TheVariants as reply
-use Rattle.record_model.specs.State.{kept_by_checkpoint, Content, Session, State, table_with, session_at, writes_of, seen, content_at, busy_read, busy_write}
+use Rattle.record_model.specs.State.{kept_by_checkpoint, Content, Session, State, table_with, session_at, writes_of, busy_read, busy_write}
 use Rattle.record_model.specs.State as state
 use Rattle.record_model.specs.Step.{lacks_room, asks_for_checkpoint, Outcome, outcome, refusal, first_refusal, refuse_if, wants_active, wants_record, wants_short, may_read, may_write, ready, effect, answer, found}
 use Rattle.record_model.specs.Run.{is_committed}
-use Rattle.record_model.specs.Laws.{IsCountedIn, KeepsSizes, CommitsOnce, SizesStay, RefusedChangesNothing}
+use Rattle.record_model.specs.Laws.{IsCountedIn, KeepsSizes, SizesStay}
+use Rattle.record_model.specs.Run.{Line, line_step}
+use Rattle.record_model.specs.Step.{makes_checkpoint, is_accepted, step}
 
 -- Sizes.
 
@@ -35,25 +35,13 @@ effect_keeps s (Erase n number) = record { table = refl; sessions = with_length 
 effect_keeps s (Scan n number count) = record { table = refl; sessions = with_length s n _; cap = refl }
 effect_keeps s (Commit n) = record { table = length_table_with s.table (writes_of (session_at s n)); sessions = with_length s n _; cap = refl }
 effect_keeps s (Abort n) = record { table = refl; sessions = with_length s n _; cap = refl }
-effect_keeps s (Get number) = record { table = refl; sessions = refl; cap = refl }
 effect_keeps s (Set number value) = record { table = length_table_with s.table ((number, Some value) ∷ []); sessions = refl; cap = refl }
-effect_keeps s Checkpoint = record { table = refl; sessions = refl; cap = refl }
-effect_keeps s Cache = record { table = refl; sessions = refl; cap = refl }
-effect_keeps s Stat = record { table = refl; sessions = refl; cap = refl }
-effect_keeps s Quit = record { table = refl; sessions = refl; cap = refl }
-
--- an outcome that is one of two
-chosen : (P : Outcome → Type 0) (b : Bool) (o p : Outcome) → P o → P p → P (cond b o p)
-chosen P true o p h k = h
-chosen P false o p h k = k
+effect_keeps s _ = record { table = refl; sessions = refl; cap = refl }
 
 outcome_keeps : (s : State) (command : Command) (listing : List CacheLine) (r : Option Reply) →
     KeepsSizes s (outcome s command listing r).after
 outcome_keeps s command listing (Some refused) = record { table = refl; sessions = refl; cap = refl }
-outcome_keeps s command listing None =
-    chosen (λ o. KeepsSizes s o.after) _ _ _
-    (record { table = refl; sessions = refl; cap = refl })
-    (let kept = effect_keeps (ready s command) command in record { table = kept.table; sessions = kept.sessions; cap = kept.cap })
+outcome_keeps s command listing None = search (rules, arith, effect_keeps)
 
 pub sizes_stay : SizesStay
 sizes_stay s None listing = record { table = refl; sessions = refl; cap = refl }
@@ -70,22 +58,6 @@ still s o other table commits = record { committed = λ h. absurd cc; others = �
 pub found_is : (content : Content) → is_committed (found content) ≡ false
 found_is None = refl
 found_is (Some value) = refl
-
-counted : (s : State) (command : Command) (listing : List CacheLine) → IsCountedIn s (carried s command listing)
-unfolding carried
-counted s (Begin n) listing = still s _ refl refl refl
-counted s (Read n number) listing = still s _ (found_is (seen s n number)) refl refl
-counted s (Write n number value) listing = still s _ refl refl refl
-counted s (Erase n number) listing = still s _ refl refl refl
-counted s (Scan n number count) listing = still s _ refl refl refl
-counted s (Commit n) listing = record { committed = λ h. (refl, refl); others = λ h. absurd cc }
-counted s (Abort n) listing = still s _ refl refl refl
-counted s (Get number) listing = still s _ (found_is (content_at s.table number)) refl refl
-counted s (Set number value) listing = record { committed = λ h. (refl, refl); others = λ h. absurd cc }
-counted s Checkpoint listing = still s _ refl refl refl
-counted s Cache listing = still s _ refl refl refl
-counted s Stat listing = still s _ refl refl refl
-counted s Quit listing = still s _ refl refl refl
 
 -- a test's reply is no commit
 unfoldable pub IsNoCommit : Option Reply → Type 0
@@ -123,20 +95,16 @@ refusals s (Commit n) = refused_if _ BadSession
 refusals s (Abort n) = refused_if _ BadSession
 refusals s (Get number) = first_of (wants_record s number ∷ may_read s None number ∷ []) (refused_if _ NoRecord, (busy_with (busy_read s None number), tt))
 refusals s (Set number value) = first_of (wants_record s number ∷ wants_short value ∷ may_write s None number ∷ []) (refused_if _ NoRecord, (refused_if _ TooLong, (busy_with (busy_write s None number), tt)))
-refusals s Checkpoint = tt
-refusals s Cache = tt
-refusals s Stat = tt
-refusals s Quit = tt
+refusals s _ = tt
 
 counted_outcome : (s : State) (command : Command) (listing : List CacheLine) (r : Option Reply) → IsNoCommit r →
     IsCountedIn s (outcome s command listing r)
 unfolding carried IsNoCommit
 counted_outcome s command listing (Some refused) h = still s _ h refl refl
-counted_outcome s command listing None h =
-    chosen (IsCountedIn s) _ _ _ (still s _ refl refl refl)
-    (let c = counted (ready s command) command listing in record { committed = c.committed; others = c.others })
+counted_outcome s command listing None h = grind (arith, still)
 
-pub commits_once : CommitsOnce
+-- a line commits at most once
+pub commits_once : (s : State) (line : Line) (listing : List CacheLine) → IsCountedIn s (line_step s line listing)
 commits_once s None listing = still s _ refl refl refl
 commits_once s (Some command) listing = counted_outcome s command listing (refusal s command) (refusals s command)
 
@@ -149,27 +117,15 @@ refused_leaves : (s : State) (command : Command) (listing : List CacheLine) (r :
     (is_none r && not (lacks_room (ready s command) command)) ≡ false →
     (outcome s command listing r).after ≡ kept_where s (asks_for_checkpoint s command && is_none r)
 unfolding kept_where
-refused_leaves s command listing (Some refused) h = ap (kept_where s) (sym (and_false (asks_for_checkpoint s command)))
-refused_leaves s command listing None h =
-    let full : lacks_room (ready s command) command ≡ true = not-false _ h in
-    rw full (ap (kept_where s) (sym (and_true (asks_for_checkpoint s command))))
+refused_leaves s command listing (Some refused) h = grind (arith, common_steps)
+refused_leaves s command listing None h = grind (arith, common_steps)
 
-pub refused_changes_nothing : RefusedChangesNothing
+-- a command that isn't carried out changes nothing, but that a checkpoint is made where one comes before the refusal
+pub refused_changes_nothing : (s : State) (command : Command) (listing : List CacheLine) → is_accepted s command ≡ false → (step s command listing).after ≡ record s { kept = if makes_checkpoint s command then kept_by_checkpoint s else s.kept }
 unfolding kept_where
 refused_changes_nothing s command listing h = refused_leaves s command listing (refusal s command) h
 
 -- no command makes fewer records than there were
 pub effect_makes : (s : State) (command : Command) → s.made ≤ (effect s command).made
-effect_makes s (Begin n) = omega arith
-effect_makes s (Read n number) = omega arith
-effect_makes s (Write n number value) = omega arith
-effect_makes s (Erase n number) = omega arith
-effect_makes s (Scan n number count) = omega arith
-effect_makes s (Commit n) = omega arith
-effect_makes s (Abort n) = omega arith
-effect_makes s (Get number) = omega arith
-effect_makes s (Set number value) = omega arith
-effect_makes s Checkpoint = omega arith
-effect_makes s Cache = omega arith
-effect_makes s Stat = omega arith
-effect_makes s Quit = omega arith
+effect_makes s (Begin n) = grind arith
+effect_makes s _ = grind arith

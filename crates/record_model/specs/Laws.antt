@@ -1,13 +1,12 @@
 -- What follows from the model, for those who build on it.
 use Rattle.std.specs.Prelude.{◌≡◌, ℕ, ◌+◌, ◌<◌, Bool, true, false, not, List, length, take, slice_get, Some, IsTrue}
-use Rattle.std.specs.Prelude.{if◌then◌else◌}
 use Rattle.std.specs.List.{list_any}
 use Rattle.record_model.specs.declared.words.Command.{Command}
 use Rattle.record_model.specs.declared.words.CacheLine.{CacheLine}
 use Rattle.record_model.specs.declared.words.Reply.{Reply}
 use Rattle.record_model.specs.declared.words.Reply.TheVariants as reply
-use Rattle.record_model.specs.State.{State, kept_by_checkpoint}
-use Rattle.record_model.specs.Step.{Outcome, step, is_accepted, makes_checkpoint}
+use Rattle.record_model.specs.State.{State}
+use Rattle.record_model.specs.Step.{Outcome, step, is_accepted}
 use Rattle.record_model.specs.Run.{Line, Turn, turn as turn_of, line_step, turns, state_at, next_listing}
 use Rattle.record_model.specs.Run.{listings_after, is_quit, is_committed, commit_marks, commits_among, after_commits}
 
@@ -23,16 +22,6 @@ pub record KeepsSizes (before after : State) : Type 0 where
   pub table : length after.table ≡ length before.table
   pub sessions : length after.sessions ≡ length before.sessions
   pub cap : after.cap ≡ before.cap
-
--- a line commits at most once
-abbrev pub CommitsOnce : Type 0
-CommitsOnce = (s : State) (line : Line) (listing : List CacheLine) → IsCountedIn s (line_step s line listing)
-
--- a command that isn't carried out changes nothing, but that a checkpoint is made where one comes before the refusal
-abbrev pub RefusedChangesNothing : Type 0
-RefusedChangesNothing = (s : State) (command : Command) (listing : List CacheLine) → is_accepted s command ≡ false →
-    (step s command listing).after
-    ≡ record s { kept = if makes_checkpoint s command then kept_by_checkpoint s else s.kept }
 
 -- whether a reply says that the command wasn't carried out
 abbrev pub is_refused : Reply → Bool
@@ -80,7 +69,3 @@ TurnsFollow = (s : State) (lines : List Line) (listings : List (List CacheLine))
 pub record IsCountedAt (s : State) (run : List Turn) (i : ℕ) : Type 0 where
   pub table : (state_at run s i).table ≡ after_commits s.table run (commits_among i (commit_marks run))
   pub commits : (state_at run s i).commits ≡ s.commits + commits_among i (commit_marks run)
-
-abbrev pub CommitsMakeTheTable : Type 0
-CommitsMakeTheTable = (s : State) (lines : List Line) (listings : List (List CacheLine)) (i : ℕ) →
-    IsCountedAt s (turns s lines listings) i

@@ -1,19 +1,7 @@
 // Facts about the model. The functions do nothing: each states its law as a clause.
-ghost use Rattle.record_model.specs.Laws.{CommitsOnce, RefusedChangesNothing, RefusalsAreTold, SizesStay};
-ghost use Rattle.record_model.specs.Laws.{EachLineHasATurn, TurnsFollow, CommitsMakeTheTable};
+ghost use Rattle.record_model.specs.Laws.{RefusalsAreTold, SizesStay};
+ghost use Rattle.record_model.specs.Laws.{EachLineHasATurn, TurnsFollow};
 ghost use Rattle.record_model.specs.Serial.{GetsAreSerial, Serial};
-
-/// A line commits at most once: the reply `Committed` names the count of commits, which has then risen by one, and
-/// after every other reply the table and the count are as they were.
-pub fn commits_once()
-    ensures { CommitsOnce }
-{}
-
-/// A command that isn't carried out leaves the state as it was, but for the checkpoint that may come before its
-/// refusal.
-pub fn refused_changes_nothing()
-    ensures { RefusedChangesNothing }
-{}
 
 /// A command was accepted exactly where its reply is neither `Busy` nor `Full` nor `Refused`.
 pub fn refusals_are_told()
@@ -33,11 +21,6 @@ pub fn each_line_has_a_turn()
 /// Each turn of a run answers its own line, from the state that the turns before it left.
 pub fn turns_follow()
     ensures { TurnsFollow }
-{}
-
-/// After each turn of a run the table is the one that the commits so far have made.
-pub fn commits_make_the_table()
-    ensures { CommitsMakeTheTable }
 {}
 
 /// An accepted `get` answers what the table of the commits before it has.

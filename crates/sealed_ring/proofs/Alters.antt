@@ -1,5 +1,5 @@
 -- What keeps a ring's form and units: contents that differ only in the body of one slot and the gate of one slot.
-use Rattle.std.proofs.Common.{◌≡◌, ◌≢◌, ◌⊎◌, inl, inr, ℕ, zero, suc, ◌+◌, ◌-◌, ◌%◌, ◌^◌, ◌≤◌, ◌<◌, List, [], ◌∷◌, ◌++◌, length, get_or, take, drop, min, refl, sym, ◌∙◌, ap, arith}
+use Rattle.std.proofs.Common.{◌≡◌, ◌≢◌, ◌⊎◌, ℕ, zero, suc, ◌+◌, ◌-◌, ◌%◌, ◌^◌, ◌≤◌, ◌<◌, List, [], ◌∷◌, ◌++◌, length, get_or, take, drop, min, refl, sym, ◌∙◌, ap, arith}
 use Rattle.std.proofs.lemmas.List.{same_lists, length-take, length-drop, get_or-take, get_or-drop, get_or_default, length_push}
 use Rattle.std.proofs.lemmas.Bool.{cases_lt, cases_eq}
 use Rattle.std.proofs.lemmas.Nat.{mod_below}
@@ -49,9 +49,7 @@ module _ (s : Shape) (hi : ℕ) (old new : List ℕ) (slots : 3 ≤ s.slots) (fo
   slot n = mod_below n s.slots (omega arith)
 
   live_same : (body : ℕ) → ((n : ℕ) → n < hi → hi < n + s.slots → n % s.slots ≢ body) → length new ≡ length old → ((j : ℕ) → j < s.slots → j ≢ body → SamePart (place s j + 1) (8 + s.room) old new) → live s hi new ≡ live s hi old
-  live_same body apart size parts =
-      units_same s old new (hi - (s.slots - 1)) (min hi (s.slots - 1)) (λ n lo below.
-      content_same s (n % s.slots) old new size (parts (n % s.slots) (slot n) (apart n (omega arith) (omega arith))))
+  live_same body apart size parts = grind (arith, units_same, content_same, slot)
 
   -- the body of the next slot and the gate of the one after it may be anything
   pub next_alters : Alters s (hi % s.slots) ((hi + 1) % s.slots) old new → Keeps s hi old new
@@ -88,25 +86,14 @@ last_but_one m x xs is = let e : suc (length xs) - m ≡ 1 = omega arith in ap (
 
 -- the live units with one more, where there are fewer than can live
 push_few : (s : Shape) (c : List ℕ) (hi m first k first' k' : ℕ) → hi < m → first ≡ 0 → k ≡ suc hi → first' ≡ 0 → k' ≡ hi → units_from s c first k ≡ last_of m (units_from s c first' k' ++ content_at s c (hi % s.slots) ∷ [])
-push_few s c hi m first k first' k' lt f n f' n' =
-    let zero_hi : 0 + hi ≡ hi = omega arith in
-    (λ i. units_from s c (f i) (n i)) ∙ units_push s c 0 hi ∙ ap (λ (x : ℕ). units_from s c 0 hi ++ content_at s c (x % s.slots) ∷ []) zero_hi
-    ∙ sym (last_all m (units_from s c 0 hi ++ content_at s c (hi % s.slots) ∷ []) (omega (arith, length_push (units_from s c 0 hi) (content_at s c (hi % s.slots)), length-units s c 0 hi)))
-    ∙ sym (λ i. last_of m (units_from s c (f' i) (n' i) ++ content_at s c (hi % s.slots) ∷ []))
+push_few s c hi m first k first' k' lt f n f' n' = grind (arith, units_push, last_all, length_push, length-units)
 
 -- and where as many live as can
 push_full : (s : Shape) (c : List ℕ) (hi m first k first' k' : ℕ) → first ≡ first' + 1 → k ≡ m → k' ≡ m → first' + m ≡ hi → units_from s c first k ≡ last_of m (units_from s c first' k' ++ content_at s c (hi % s.slots) ∷ [])
-push_full s c hi m first k first' k' f n n' top =
-    (λ i. units_from s c (f i) (n i))
-    ∙ sym (last_but_one m (content_at s c (first' % s.slots)) (units_from s c (first' + 1) m) (length-units s c (first' + 1) m))
-    ∙ ap (last_of m) (units_push s c first' m ∙ ap (λ (x : ℕ). units_from s c first' m ++ content_at s c (x % s.slots) ∷ []) top)
-    ∙ sym (ap (λ (x : ℕ). last_of m (units_from s c first' x ++ content_at s c (hi % s.slots) ∷ [])) n')
+push_full s c hi m first k first' k' f n n' top = grind (arith, last_but_one, length-units, units_push)
 
 pub live_push : (s : Shape) (hi : ℕ) (c : List ℕ) → live s (hi + 1) c ≡ last_of (s.slots - 1) (live s hi c ++ content_at s c (hi % s.slots) ∷ [])
-live_push s hi c = elim (cases_lt hi (s.slots - 1)) [
-  | inl few ↦ push_few s c hi (s.slots - 1) _ _ _ _ few (omega arith) (omega arith) (omega arith) (omega arith)
-  | inr full ↦ push_full s c hi (s.slots - 1) _ _ _ _ (omega arith) (omega arith) (omega arith) (omega arith)
-]
+live_push s hi c = grind (arith, cases_lt, push_few, push_full)
 
 -- the gate of the staged unit may be anything: closed it keeps the units, open it adds this one
 module _ (s : Shape) (hi : ℕ) (old new : List ℕ) (slots : 3 ≤ s.slots) (staged : IsStaged s hi old) (a : Alters s s.slots (hi % s.slots) old new) where
@@ -123,41 +110,10 @@ module _ (s : Shape) (hi : ℕ) (old new : List ℕ) (slots : 3 ≤ s.slots) (st
   same_gate n lt near = a.gates (n % s.slots) (inside n) (mod_apart n hi s.slots lt near)
 
   pub stays_closed : gate s new (hi % s.slots) ≢ 165 → Keeps s hi old new
-  stays_closed shut = record {
-    form = record {
-      numbers = λ n lt near. same_number (n % s.slots) (inside n) ∙ staged.form.numbers n lt near;
-      gates = λ n lt near. same_gate n lt (omega arith) ∙ staged.form.gates n lt near;
-      closed = shut;
-      bounded = staged.form.bounded;
-      unused = λ j lt above has. staged.form.unused j lt above (ap (λ (n : ℕ). n % s.slots) (sym (same_number j lt)) ∙ has);
-    };
-    live = same_content _ _;
-    outside = a.outside;
-    size = a.size;
-  }
+  stays_closed shut = grind (arith, same_number, inside, same_gate, same_content)
 
   pub is_opened : gate s new (hi % s.slots) ≡ 165 → hi < 2 ^ 40 → Adds s hi old new
-  is_opened is room = record {
-    form = record {
-      numbers = λ n lt near. same_number (n % s.slots) (inside n) ∙ (elim (cases_eq n hi) [
-        | inl newest ↦ ap (λ (x : ℕ). number s old (x % s.slots)) newest ∙ staged.number ∙ sym newest
-        | inr older ↦ staged.form.numbers n (omega arith) (omega arith)
-      ]);
-      gates = λ n lt near. elim (cases_eq n hi) [
-        | inl newest ↦ ap (λ (x : ℕ). gate s new (x % s.slots)) newest ∙ is
-        | inr older ↦ same_gate n (omega arith) (omega arith) ∙ staged.form.gates n (omega arith) (omega arith)
-      ];
-      closed = λ opened. staged.next (sym (a.gates ((hi + 1) % s.slots) (inside (hi + 1)) (λ same. mod_apart hi (hi + 1) s.slots (omega arith) (omega arith) (sym same))) ∙ opened);
-      bounded = omega arith;
-      unused = λ j lt above has. staged.form.unused j lt (omega arith) (ap (λ (n : ℕ). n % s.slots) (sym (same_number j lt)) ∙ has);
-    };
-    live = same_content _ _ ∙ live_push s hi old;
-    outside = a.outside;
-    size = a.size;
-  }
+  is_opened is room = grind (arith, same_number, inside, cases_eq, same_gate, mod_apart, same_content, live_push)
 
   pub either : hi < 2 ^ 40 → Keeps s hi old new ⊎ Adds s hi old new
-  either room = elim (cases_eq (gate s new (hi % s.slots)) 165) [
-    | inl is ↦ inr (is_opened is room)
-    | inr shut ↦ inl (stays_closed shut)
-  ]
+  either room = grind (arith, cases_eq, is_opened, stays_closed)

@@ -1,5 +1,5 @@
 -- What the definitions say of small contents.
-use Rattle.std.proofs.Common.{◌≡◌, ℕ, ◌+◌, ◌-◌, ◌%◌, ◌^◌, ◌≤◌, ◌<◌, List, [], ◌∷◌, length, min, get_or, take, drop, replicate, refl, sym, ◌∙◌, ap, arith}
+use Rattle.std.proofs.Common.{◌≡◌, ℕ, ◌+◌, ◌-◌, ◌^◌, ◌≤◌, ◌<◌, List, [], ◌∷◌, length, min, get_or, take, drop, replicate, refl, sym, ◌∙◌, ap, arith}
 use Rattle.std.proofs.lemmas.List.{same_lists, length-take, length-drop, get_or-take, get_or-drop, get_or_default, get_or-replicate}
 use Rattle.std.specs.Int.{from_be_bytes, w64}
 use Rattle.site.specs.declared.outside.Dev.TheVariants.{Log}
@@ -69,13 +69,7 @@ module _ (s : Shape) (c : List ℕ) (fits : FitsIn s (length c)) (blank : (p : �
   zero_number j lt = ap (from_be_bytes w64) (eight j lt)
 
   pub blank_form : HasForm s 0 c
-  blank_form = record {
-    numbers = λ n lt near. absurd (omega arith);
-    gates = λ n lt near. absurd (omega arith);
-    closed = λ is_open. let zero = blank (place s (0 % s.slots)) in omega (arith, is_open, zero);
-    bounded = omega arith;
-    unused = λ j lt above own. let zero : number s c j % s.slots ≡ 0 = ap (λ (n : ℕ). n % s.slots) (zero_number j lt) ∙ mod_self 0 s.slots (omega (arith, fits.slots)) in omega (arith, own, zero);
-  }
+  blank_form = grind (arith, zero_number, mod_self)
 
   pub blank_ring : IsRing s c
   blank_ring = ring_at s 0 c fits.slots blank_form

@@ -1,5 +1,5 @@
 -- The octets of a slot's head.
-use Rattle.std.proofs.Common.{◌≡◌, ℕ, zero, suc, ◌+◌, ◌-◌, ◌%◌, ◌≤◌, ◌<◌, min, List, [], get_or, take, drop, sym, ◌∙◌, ap, arith}
+use Rattle.std.proofs.Common.{◌≡◌, ℕ, zero, suc, ◌+◌, ◌-◌, ◌%◌, ◌≤◌, ◌<◌, List, [], get_or, take, drop, sym, ◌∙◌, ap, arith}
 use Rattle.std.proofs.lemmas.List.{drop-drop, drop-take, take-take}
 use Rattle.std.specs.Int.{from_be_bytes, w64}
 use Rattle.sealed_ring.specs.declared.slots.Shape.{Shape}
@@ -38,10 +38,8 @@ part_front s c j at k inside =
 -- the unit at a place of the live ones
 pub units_from_at : (s : Shape) (c : List ℕ) (first k i : ℕ) → i < k → get_or (units_from s c first k) i [] ≡ content_at s c ((first + i) % s.slots)
 units_from_at s c first zero i lt = absurd (omega arith)
-units_from_at s c first (suc k) zero lt = let e : first ≡ first + 0 = omega arith in ap (λ (n : ℕ). content_at s c (n % s.slots)) e
-units_from_at s c first (suc k) (suc i) lt = let e : first + 1 + i ≡ first + suc i = omega arith in units_from_at s c (first + 1) k i (omega arith) ∙ ap (λ (n : ℕ). content_at s c (n % s.slots)) e
+units_from_at s c first (suc k) zero lt = grind arith
+units_from_at s c first (suc k) (suc i) lt = grind (arith, (units_from_at s c (first + 1) k i (omega arith)))
 
 pub unit_is : (s : Shape) (hi n : ℕ) (c : List ℕ) → 3 ≤ s.slots → hi ≡ hi_of s c → IsLive s hi n → unit_at s (units_of s c) n ≡ content_at s c (n % s.slots)
-unit_is s hi n c slots is live =
-    let e : hi_of s c - (s.slots - 1) + (n - (hi_of s c - (s.slots - 1))) ≡ n = omega (arith, is, live.below, live.near) in
-    units_from_at s c (hi_of s c - (s.slots - 1)) (min (hi_of s c) (s.slots - 1)) (n - (hi_of s c - (s.slots - 1))) (omega (arith, is, live.below, live.near)) ∙ ap (λ (x : ℕ). content_at s c (x % s.slots)) e
+unit_is s hi n c slots is live = grind (arith, units_from_at)

@@ -19,11 +19,7 @@ rows_add a b w = grind arith
 
 -- whole slots that are read have room where they are read into
 pub slots_fit : (s : Shape) (hi n long count : ℕ) → count ≡ in_row s hi n (long / s.stride) → count * s.stride ≤ long
-slots_fit s hi n long count is =
-    let few : count ≤ long / s.stride = omega (arith, is) in
-    let rows = rows_within count (long / s.stride) s.stride few in
-    let whole = div-mul-le_self long s.stride in
-    omega (arith, rows, whole)
+slots_fit s hi n long count is = grind (arith, rows_within, div-mul-le_self)
 
 -- what was read into them is as long as they are
 pub row_long : (s : Shape) (hi n count : ℕ) (into read : List ℕ) → count ≡ in_row s hi n (length into / s.stride) → length read ≡ length (take (count * s.stride) into) → length read ≡ count * s.stride
@@ -87,7 +83,4 @@ module _ (s : Shape) (count : ℕ) (read rest : List ℕ) (stride : 9 + s.room �
     numbers_read stand i less = number_of_slot i less ∙ stand i less
 
     pub contents_read : (hi : ℕ) → 3 ≤ s.slots → hi ≡ hi_of s c → IsLive s hi n → n + count ≤ hi → HaveContents s (units_of s c) n count (read ++ rest)
-    contents_read hi slots his live below i less =
-        let near = live.near in
-        of_read i 9 s.room less stride ∙ of_slot i 9 s.room less stride
-        ∙ sym (unit_is s hi (n + i) c slots his (record { below = omega (arith, less, below); near = omega (arith, near) }))
+    contents_read hi slots his live below i less = grind (arith, of_read, of_slot, unit_is)

@@ -3,9 +3,10 @@ use Rattle.std.proofs.Common.{◌≡◌, inl, inr, ℕ, zero, suc, ◌+◌, ◌%
 use Rattle.std.proofs.lemmas.Nat.{mod_below}
 use Rattle.sealed_ring.specs.declared.slots.Shape.{Shape}
 use Rattle.sealed_ring.specs.Ring.{FitsIn, place, IsBeside, gate, number, counts, hi_below, hi_of, live, Units, units_of, HasForm, IsRing}
-use Rattle.sealed_ring.specs.Laws.{Apart, LeavesOthers}
+use Rattle.sealed_ring.specs.Laws.{Apart}
 use Rattle.sealed_ring.proofs.Alters.{SamePart, number_same, content_same, units_same}
 use Rattle.sealed_ring.proofs.Places.{ends}
+use Rattle.sealed_ring.specs.Ring.{SameOutside}
 
 -- the gate and the body of each slot are the same
 pub record SameSlots (t : Shape) (old new : List ℕ) : Type 0 where
@@ -40,13 +41,7 @@ module _ (t : Shape) (old new : List ℕ) (slots : 3 ≤ t.slots) (a : SameSlots
   same_units = λ i. let u : Units = record { hi = same_hi i; live = ((ap (λ (h : ℕ). live t h new) same_hi) ∙ same_live (hi_of t old)) i } in u
 
   form_stays : (hi : ℕ) → HasForm t hi old → HasForm t hi new
-  form_stays hi f = record {
-    numbers = λ n lt near. same_number (n % t.slots) (slot n) ∙ f.numbers n lt near;
-    gates = λ n lt near. same_gate (n % t.slots) (slot n) ∙ f.gates n lt near;
-    closed = λ is_open. f.closed (sym (same_gate (hi % t.slots) (slot hi)) ∙ is_open);
-    bounded = f.bounded;
-    unused = λ j lt above own. f.unused j lt above (ap (λ (n : ℕ). n % t.slots) (sym (same_number j lt)) ∙ own);
-  }
+  form_stays hi f = grind (arith, same_number, slot, same_gate)
 
   pub ring_stays : IsRing t old → IsRing t new
   ring_stays f = subst (λ (h : ℕ). HasForm t h new) (sym same_hi) (form_stays (hi_of t old) f)
@@ -56,7 +51,8 @@ inside_apart : (s t : Shape) (len j p : ℕ) → Apart s t → FitsIn s len → 
 inside_apart s t len j p (inl below) own fits lt lo hi i in_s = inr (omega (arith, ends s len own i in_s, own.stride))
 inside_apart s t len j p (inr above) own fits lt lo hi i in_s = inl (omega (arith, ends t len fits j lt, fits.stride))
 
-pub leaves_others : LeavesOthers
+-- a change inside the one leaves the other
+pub leaves_others : (s t : Shape) (old new : List ℕ) → Apart s t → FitsIn s (length old) → FitsIn t (length old) → length new ≡ length old → SameOutside s old new → (units_of t new ≡ units_of t old) × (IsRing t old → IsRing t new)
 leaves_others s t old new apart own fits size outside =
     let a : SameSlots t old new = record {
       size = size;

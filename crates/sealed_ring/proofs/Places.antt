@@ -1,7 +1,7 @@
 -- Where the gates and bodies of slots lie: no two of them overlap.
-use Rattle.std.proofs.Common.{◌≡◌, ◌≢◌, inl, inr, ⊎_elim, ℕ, ◌+◌, ◌*◌, ◌≤◌, ◌<◌, List, [], ◌∷◌, length, get_or, refl, ◌∙◌, ap, arith, false}
+use Rattle.std.proofs.Common.{◌≡◌, ◌≢◌, inl, inr, ⊎_elim, ℕ, ◌+◌, ◌*◌, ◌≤◌, ◌<◌, List, [], ◌∷◌, length, get_or, refl, ap, arith, false}
 use Rattle.std.proofs.lemmas.Bool.{cases_lt, cases_order, or_from}
-use Rattle.site.specs.State.{MayStand, is_loose, is_within}
+use Rattle.site.specs.State.{MayStand, is_within}
 use Rattle.site.specs.Calls.{put, range}
 use Rattle.site.specs.Laws.{within_not, put_below, put_behind}
 use Rattle.sealed_ring.specs.declared.slots.Shape.{Shape}
@@ -42,12 +42,7 @@ module _ (s : Shape) (len : ℕ) (fits : FitsIn s len) where
 
   -- what differs only in the body of one slot and the gate of one
   pub alters_by : (old new : List ℕ) (b g : ℕ) → b < s.slots → g < s.slots → length new ≡ length old → ((p : ℕ) → IsBeside (place s b + 1) (8 + s.room) p → p ≢ place s g → get_or new p 0 ≡ get_or old p 0) → Alters s b g old new
-  alters_by old new b g b_in g_in size same = record {
-    size = size;
-    parts = λ j lt ne p lo hi. same p (body_beside j b p ne lo hi) (body_not_gate j g p lo hi);
-    gates = λ j lt ne. same (place s j) (gate_beside j b) (gates_apart j g ne);
-    outside = λ p out. same p (outside_beside b p b_in out) (outside_not_gate g p g_in out);
-  }
+  alters_by old new b g b_in g_in size same = grind (arith, body_beside, body_not_gate, gate_beside, gates_apart, outside_beside, outside_not_gate)
 
   -- what differs only in the gate of one slot
   pub alters_gate : (old new : List ℕ) (g : ℕ) → g < s.slots → length new ≡ length old → ((p : ℕ) → p ≢ place s g → get_or new p 0 ≡ get_or old p 0) → Alters s s.slots g old new
@@ -72,6 +67,4 @@ beside_one g p ne = elim (cases_lt p g) [ inl lt ↦ inl lt | inr le ↦ inr (om
 
 -- two ranges loose, the older one written: octets beside both are as they were
 pub two_loose : (g at : ℕ) (bytes old now : List ℕ) → at + length bytes ≤ length old → MayStand (range g 1 ∷ range at (length bytes) ∷ []) (put old at bytes) now → (p : ℕ) → IsBeside at (length bytes) p → p ≢ g → get_or now p 0 ≡ get_or old p 0
-two_loose g at bytes old now fits m p beside ne =
-    m.kept p (or_from (is_within (range g 1) p) (is_loose (range at (length bytes) ∷ []) p) (within_not g 1 p (beside_one g p ne)) (or_from (is_within (range at (length bytes)) p) false (within_not at (length bytes) p beside) refl))
-    ∙ put_beside old at bytes p fits beside
+two_loose g at bytes old now fits m p beside ne = grind (arith, or_from, beside_one, put_beside)

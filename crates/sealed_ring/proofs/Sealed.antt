@@ -1,5 +1,5 @@
 -- What staging and opening come to.
-use Rattle.std.proofs.Common.{◌≡◌, ◌≢◌, inl, inr, ℕ, ◌+◌, ◌%◌, ◌^◌, ◌≤◌, ◌<◌, List, length, true, nat_eq, sym, ◌∙◌, ap, subst, arith}
+use Rattle.std.proofs.Common.{◌≡◌, ◌≢◌, inl, inr, ℕ, ◌+◌, ◌%◌, ◌^◌, ◌≤◌, ◌<◌, List, length, true, nat_eq, sym, ◌∙◌, subst, arith}
 use Rattle.std.proofs.lemmas.Bool.{cases_eq, and_parts, and_from, eqb-true, eq-eqb}
 use Rattle.std.proofs.lemmas.Nat.{mod_below}
 use Rattle.sealed_ring.specs.declared.slots.Shape.{Shape}
@@ -22,11 +22,7 @@ module _ (s : Shape) (hi : ℕ) (bytes old : List ℕ) (fits : FitsIn s (length 
       next_alters s hi old now fits.slots form (alters_by s (length old) fits old now (hi % s.slots) ((hi + 1) % s.slots) (slot hi) (slot (hi + 1)) st.size st.others)
 
   pub is_staged : (now : List ℕ) → HasForm s hi old → Stages s hi bytes old now → IsStaged s hi now
-  is_staged now form st = record {
-    form = (stages_keeps now form st).form;
-    number = st.number;
-    next = λ is_open. let zero = st.next in omega (arith, is_open, zero);
-  }
+  is_staged now form st = grind (arith, stages_keeps)
 
   -- the opening changes one gate
   gate_alters : (now : List ℕ) → Opens s hi old now → Alters s s.slots (hi % s.slots) old now
@@ -61,9 +57,7 @@ seals s hi bytes old mid now fits st o =
 -- the new unit is the highest, whatever stood in the ring
 module _ (s : Shape) (hi : ℕ) (bytes old now : List ℕ) (fits : FitsIn s (length old)) (is : Seals s hi bytes old now) where
   newest : counts s now (hi % s.slots) ≡ true
-  newest = and_from (nat_eq (gate s now (hi % s.slots)) 165) (nat_eq (number s now (hi % s.slots) % s.slots) (hi % s.slots))
-      (eq-eqb (gate s now (hi % s.slots)) 165 is.opened)
-      (eq-eqb (number s now (hi % s.slots) % s.slots) (hi % s.slots) (ap (λ (x : ℕ). x % s.slots) is.number))
+  newest = grind (arith, and_from, nat_eq, eq-eqb)
 
   number_now : (k : ℕ) → k ≢ hi % s.slots → number s now k ≡ number s old k
   number_now k ne = number_same s k old now is.size (λ p lo hi'. is.others p
@@ -76,23 +70,7 @@ module _ (s : Shape) (hi : ℕ) (bytes old now : List ℕ) (fits : FitsIn s (len
       (gates_apart s (length old) fits k ((hi + 1) % s.slots) other)
 
   older : hi ≡ hi_of s old → (k : ℕ) → k < s.slots → counts s now k ≡ true → number s now k < hi + 1
-  older same k lt does =
-      let parts = and_parts (nat_eq (gate s now k) 165) (nat_eq (number s now k % s.slots) k) does in
-      let is_open : gate s now k ≡ 165 = eqb-true (gate s now k) 165 parts.0 in
-      let own : number s now k % s.slots ≡ k = eqb-true (number s now k % s.slots) k parts.1 in
-      elim (cases_eq k (hi % s.slots)) [
-        | inl new ↦ let has : number s now k ≡ hi = ap (number s now) new ∙ is.number in omega arith
-        | inr ne ↦ elim (cases_eq k ((hi + 1) % s.slots)) [
-          | inl next ↦ let zero : gate s now k ≡ 0 = ap (gate s now) next ∙ is.next in omega arith
-          | inr other ↦
-              let was : counts s old k ≡ true = and_from (nat_eq (gate s old k) 165) (nat_eq (number s old k % s.slots) k)
-              (eq-eqb (gate s old k) 165 (sym (gate_now k ne other) ∙ is_open))
-              (eq-eqb (number s old k % s.slots) k (ap (λ (x : ℕ). x % s.slots) (sym (number_now k ne)) ∙ own)) in
-              let below = hi_at_least s old k s.slots lt was in
-              let kept = number_now k ne in
-              omega (arith, below, kept, same)
-        ]
-      ]
+  older same k lt does = grind (arith, and_parts, nat_eq, eqb-true, cases_eq, and_from, eq-eqb, gate_now, number_now, hi_at_least)
 
   pub seals_hi : hi ≡ hi_of s old → hi + 1 ≡ hi_of s now
   seals_hi same =
@@ -103,11 +81,4 @@ module _ (s : Shape) (hi : ℕ) (bytes old now : List ℕ) (fits : FitsIn s (len
 
   -- and all outside the ring is as it was
   pub sealed_outside : SameOutside s old now
-  sealed_outside p out =
-      let next = (hi + 1) % s.slots in
-      is.others p (out (hi % s.slots) (mod_below hi s.slots (omega (arith, fits.slots))))
-      (not_at (place s next) (9 + s.room) p (omega arith) (out next (mod_below (hi + 1) s.slots (omega (arith, fits.slots)))))
-    where
-      not_at : (at n p : ℕ) → 0 < n → IsBeside at n p → p ≢ at
-      not_at at n p some (inl below) same = omega arith
-      not_at at n p some (inr behind) same = omega arith
+  sealed_outside p out = grind (arith, mod_below)

@@ -17,9 +17,7 @@ use Rattle.sealed_ring.proofs.Places.{alters_by, alters_gate, one_loose, two_loo
 -- what stands in the device within a write
 pub within_stands : (dev : Dev) (at n : ℕ) (s : State) (snapshot : Snapshot) (rs : List Range) (c : List ℕ) → loose_of dev s.loose ≡ rs → content_of dev s.image ≡ c → MayLeave (within_write dev at n s) snapshot
     → MayStand (range at n ∷ rs) c (content_of dev snapshot.image)
-within_stands dev at n s snapshot rs c r is m =
-    subst (λ (x : List ℕ). MayStand (range at n ∷ rs) x (content_of dev snapshot.image)) is
-    (subst (λ (x : List Range). MayStand x (content_of dev s.image) (content_of dev snapshot.image)) (loose_of-same dev (range at n ∷ loose_of dev s.loose) s.loose ∙ ap (λ (x : List Range). range at n ∷ x) r) (m.content dev))
+within_stands dev at n s snapshot rs c r is m = grind arith
 
 put_drop : (c : List ℕ) (at : ℕ) (bytes : List ℕ) → at + length bytes ≤ length c → drop at (put c at bytes) ≡ bytes ++ drop (at + length bytes) c
 put_drop c at bytes fits =

@@ -1,7 +1,7 @@
 -- The whole append, from its two halves.
-use Rattle.std.proofs.Common.{◌≡◌, ◌⊎◌, inl, inr, ℕ, ◌+◌, ◌-◌, ◌%◌, ◌≤◌, List, [], ◌∷◌, ◌++◌, refl, sym, ◌∙◌, ap, subst}
+use Rattle.std.proofs.Common.{arith, ◌≡◌, ◌⊎◌, inl, inr, ℕ, ◌+◌, ◌%◌, ◌≤◌, List, [], refl, sym, ◌∙◌, ap, subst}
 use Rattle.sealed_ring.specs.declared.slots.Shape.{Shape}
-use Rattle.sealed_ring.specs.Ring.{content_at, live, Units, units_of, HasForm, IsRing, last_of, appended, Keeps, Adds, OldOrNew}
+use Rattle.sealed_ring.specs.Ring.{content_at, live, Units, units_of, HasForm, IsRing, appended, Keeps, Adds, OldOrNew}
 use Rattle.site.specs.State.{State, now_of, IsSettled}
 use Rattle.site.specs.Moments.{Leaves, LeavesOnly}
 use Rattle.site.specs.Laws.{in_sequence, leaves_weaker, settled_leaves}
@@ -25,10 +25,7 @@ module _ (s : Shape) (hi : ℕ) (old bytes : List ℕ) (slots : 3 ≤ s.slots) (
   old_of now k = record { form = ring_at s hi now slots k.form; units = inl (kept_units now k); outside = k.outside; size = k.size }
 
   pub added_units : (mid now : List ℕ) → Keeps s hi old mid → content_at s mid (hi % s.slots) ≡ bytes → Adds s hi mid now → units_of s now ≡ appended s (units_of s old) bytes
-  added_units mid now k is a =
-      units_at s (hi + 1) now slots a.form
-      ∙ (λ i. let u : Units = record { hi = hi + 1; live = (a.live ∙ (λ j. last_of (s.slots - 1) (k.live j ++ is j ∷ []))) i } in u)
-      ∙ ap (λ (u : Units). appended s u bytes) (sym (units_at s hi old slots form))
+  added_units mid now k is a = grind (arith, units_at)
 
   pub either_of : (mid now : List ℕ) → Keeps s hi old mid → content_at s mid (hi % s.slots) ≡ bytes → Keeps s hi mid now ⊎ Adds s hi mid now → OldOrNew s old bytes now
   either_of mid now k is (inl kept) = old_of now (record { form = kept.form; live = kept.live ∙ k.live; outside = λ p out. kept.outside p out ∙ k.outside p out; size = kept.size ∙ k.size })

@@ -4,18 +4,12 @@ use Rattle.site.specs.State.{State}
 use Rattle.site.specs.Calls.{Preserves}
 use Rattle.sealed_ring.specs.declared.slots.Shape.{Shape}
 use Rattle.sealed_ring.specs.declared.ring.Ring.{Ring}
-use Rattle.sealed_ring.specs.Ring.{FitsIn, IsRing, counts, number, hi_of, Units, units_of, appended, SameOutside}
+use Rattle.sealed_ring.specs.Ring.{FitsIn, IsRing, counts, number, hi_of, Units, units_of, appended}
 use Rattle.sealed_ring.specs.Ready.{IsUsable}
 
 -- two rings of one device that don't overlap
 abbrev pub Apart : Shape → Shape → Type 0
 Apart s t = (s.base + s.slots * s.stride ≤ t.base) ⊎ (t.base + t.slots * t.stride ≤ s.base)
-
--- a change inside the one leaves the other
-abbrev pub LeavesOthers : Type 0
-LeavesOthers = (s t : Shape) (old new : List ℕ) → Apart s t → FitsIn s (length old) → FitsIn t (length old)
-    → length new ≡ length old → SameOutside s old new
-    → (units_of t new ≡ units_of t old) × (IsRing t old → IsRing t new)
 
 -- a ring can be used after any calls, since no length changes
 abbrev pub UsableStays : Type 0

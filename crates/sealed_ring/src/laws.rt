@@ -1,11 +1,6 @@
 // Laws on rings that the crates above use; their lemmas stand in proofs/.
-ghost use Rattle.sealed_ring.specs.Laws.{LeavesOthers, UsableStays, HiIsHighest};
+ghost use Rattle.sealed_ring.specs.Laws.{UsableStays, HiIsHighest};
 ghost use Rattle.sealed_ring.specs.Laws.{LiveCount, AppendsBehind, EndsOldest, BlankIsRing};
-
-/// Law: an append to one ring leaves each other ring of the device as it was.
-pub fn leaves_others()
-    ensures { LeavesOthers }
-{}
 
 /// Law: a ring can be used after any calls on its site.
 pub fn usable_stays()

@@ -8,6 +8,6 @@ mod sealing;
 mod slots;
 
 pub use judging::judge;
-pub use laws::{appends, blank_is_ring, hi_is_highest, leaves_others, usable_stays};
+pub use laws::{appends, blank_is_ring, hi_is_highest, usable_stays};
 pub use ring::{CONTENT_AT, Ring};
 pub use slots::Shape;

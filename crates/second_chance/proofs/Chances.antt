@@ -1,5 +1,5 @@
 -- The second chances: each at its place, at most seven, and none of them staged.
-use Rattle.std.proofs.Common.{◌≡◌, ℕ, zero, suc, ◌+◌, ◌≤◌, ◌==◌, Bool, true, false, not, ◌&&◌, ◌||◌, cond, List, [], ◌∷◌, length, take, filter, slice_get, Some, arith, refl, ap}
+use Rattle.std.proofs.Common.{◌≡◌, ℕ, zero, suc, ◌+◌, ◌≤◌, Bool, true, false, not, ◌&&◌, ◌||◌, cond, List, [], ◌∷◌, length, take, filter, slice_get, arith, refl, ap}
 use Rattle.std.specs.List.{enumerate_from, AllByRecursion}
 use Rattle.std.proofs.lemmas.Bool.{and_parts, eq-eqb}
 use Rattle.std.proofs.lemmas.List.{length-take}
@@ -8,7 +8,7 @@ use Rattle.std.proofs.lemmas.List.FromFn.{length-enumerate_from}
 use Rattle.std_lemmas.proofs.AllOf.{all_both, all_passed, all_take}
 use Rattle.byte_fields.specs.declared.frame_head.Mark.{Mark}
 use Rattle.second_chance.specs.Plans.{Placed, chances_of, is_among}
-use Rattle.second_chance.specs.Laws.{IsChanceIn, ChancesStand, ChancesFew, ChancesAreNotStaged}
+use Rattle.second_chance.specs.Laws.{ChancesStand, ChancesFew, ChancesAreNotStaged}
 use Rattle.second_chance.proofs.Pushes.{chances_stand}
 
 -- whether a frame is wanted
@@ -20,10 +20,7 @@ chances_pass true front = all_take (λ f. wanted f ≡ true) 7 _ (all_passed wan
 chances_pass false front = tt
 
 pub chances_stand_in : ChancesStand
-chances_stand_in given front = All-from_recursion (IsChanceIn front) (chances_of given front)
-    (all_both (λ f. slice_get front f.0 ≡ Some f.1) (λ f. wanted f ≡ true) (IsChanceIn front)
-    (λ f stands passes. let parts = and_parts f.1.valid f.1.referenced passes in record { stands = stands; valid = parts.0; referenced = parts.1 })
-    (chances_of given front) (chances_stand given front) (chances_pass given front))
+chances_stand_in given front = grind (arith, All-from_recursion, all_both, slice_get, and_parts, chances_stand, chances_pass)
 
 pub chances_few : ChancesFew
 chances_few true front = let long = length-take 7 (filter wanted (enumerate_from 0 front)) in omega (arith, long)
@@ -49,11 +46,7 @@ taken_few test other n (x ∷ xs) all = by (test x) (other x) refl n all (λ m r
 -- each frame of a list is among them
 among_more : (x : Placed) (xs ys : List Placed) → AllByRecursion (λ f. is_among xs f.0 ≡ true) ys → AllByRecursion (λ f. is_among (x ∷ xs) f.0 ≡ true) ys
 among_more x xs [] all = tt
-among_more x xs (y ∷ ys) all = (or_true (x.0 == y.0) all.0, among_more x xs ys all.1)
-  where
-    or_true : {b : Bool} (a : Bool) → b ≡ true → (a || b) ≡ true
-    or_true true is = refl
-    or_true false is = is
+among_more x xs (y ∷ ys) all = grind (arith, (among_more x xs ys all.1))
 
 own_among : (xs : List Placed) → AllByRecursion (λ f. is_among xs f.0 ≡ true) xs
 own_among [] = tt
@@ -62,17 +55,7 @@ own_among (x ∷ xs) = (ap (λ b. b || is_among xs x.0) (eq-eqb x.0 x.0 refl), a
 -- of a list no more pass one test and fail another, and pass the other, than there are
 parted : (test other : Placed → Bool) (xs : List Placed) → length (filter (λ f. test f && not (other f)) xs) + length (filter other xs) ≤ length xs
 parted test other [] = omega arith
-parted test other (x ∷ xs) = by (test x) (other x) (parted test other xs)
-  where
-    failing : List Placed
-    failing = filter (λ f. test f && not (other f)) xs
-
-    by : (a b : Bool) → length failing + length (filter other xs) ≤ length xs
-        → length (cond (a && not b) (x ∷ failing) failing) + length (cond b (x ∷ filter other xs) (filter other xs)) ≤ suc (length xs)
-    by true true rest = omega (arith, rest)
-    by true false rest = omega (arith, rest)
-    by false true rest = omega (arith, rest)
-    by false false rest = omega (arith, rest)
+parted test other (x ∷ xs) = grind (arith, (parted test other xs))
 
 among_few : (given : Bool) (front : List Mark) → length (chances_of given front) ≤ length (filter (λ f. is_among (chances_of given front) f.0) (enumerate_from 0 front))
 among_few true front = taken_few wanted (λ f. is_among (chances_of true front) f.0) 7 (enumerate_from 0 front) (own_among (chances_of true front))

@@ -1,11 +1,11 @@
 -- What the loops of a plan have chosen so far.
-use Rattle.std.proofs.Common.{◌≡◌, ℕ, ◌+◌, ◌<◌, ◌≤◌, ◌==◌, Bool, true, false, not, ◌&&◌, ◌||◌, cond, List, [], ◌∷◌, ◌++◌, length, get_or, take, drop, map, filter, take-append-drop, append-nil, arith, refl, sym, ap, ◌∙◌}
+use Rattle.std.proofs.Common.{◌≡◌, ℕ, ◌+◌, ◌<◌, ◌≤◌, Bool, true, false, not, ◌&&◌, cond, List, [], ◌∷◌, ◌++◌, length, get_or, take, drop, map, filter, take-append-drop, append-nil, arith, refl, sym, ap, ◌∙◌}
 use Rattle.std.specs.List.{enumerate_from}
 use Rattle.std.proofs.lemmas.List.{map-append, take_all, take-append-le, length-map}
 use Rattle.std.proofs.lemmas.List.Elements.{filter_more, filter-append, filter_agree}
 use Rattle.std.proofs.lemmas.List.FromFn.{length-enumerate_from, get_or-enumerate_from}
 use Rattle.byte_fields.specs.declared.frame_head.Mark.{Mark}
-use Rattle.second_chance.specs.Plans.{Placed, is_among, chances_of, staged_of}
+use Rattle.second_chance.specs.Plans.{Placed, chances_of, staged_of}
 use Rattle.second_chance.specs.Laws.{names}
 
 -- the numbers of those among the first i that pass the test
@@ -44,9 +44,7 @@ chosen_whole test number xs i all = ap (λ l. map number (filter test l)) (take_
 -- and no more than so many were found
 pub chosen_all : {X : Type 0} (n : ℕ) (test : X → Bool) (number : X → ℕ) (xs : List X) (i : ℕ) → length xs ≤ i → length (chosen test number xs i) ≤ n
     → chosen test number xs i ≡ map number (take n (filter test xs))
-chosen_all {X = X} n test number xs i all few =
-    let whole : chosen test number xs i ≡ map number (filter test xs) = chosen_whole test number xs i all in
-    whole ∙ ap (map number) (sym (take_all n (filter test xs) (omega (arith, few, ap length whole, length-map (filter test xs) number))))
+chosen_all {X = X} n test number xs i all few = grind (arith, chosen_whole, take_all, length-map)
 
 -- Frames by their places.
 
@@ -94,15 +92,6 @@ pub staged_all : (chances : List ℕ) (front : List Mark) (i : ℕ) → length f
     → placed (is_staged chances) front i ≡ map place (filter (λ f. is_staged chances f.0 f.1) (enumerate_from 0 front))
 staged_all chances front i all = chosen_whole (λ f. is_staged chances f.0 f.1) place (enumerate_from 0 front) i (omega (arith, all, length-enumerate_from 0 front))
 
--- the places of frames name them
-named : (frames : List Placed) (i : ℕ) → names (map place frames) i ≡ is_among frames i
-named [] i = refl
-named (f ∷ frames) i = ap (λ b. f.0 == i || b) (named frames i)
-
 pub staged_are : (given : Bool) (front : List Mark)
     → map place (filter (λ f. is_staged (map place (chances_of given front)) f.0 f.1) (enumerate_from 0 front)) ≡ map place (staged_of given front)
-staged_are given front = ap (map place) (filter_agree
-    (λ f. is_staged (map place (chances_of given front)) f.0 f.1)
-    (λ f. (f.1.valid && f.1.dirty) && not (is_among (chances_of given front) f.0))
-    (λ f. ap (λ b. (f.1.valid && f.1.dirty) && not b) (named (chances_of given front) f.0))
-    (enumerate_from 0 front))
+staged_are given front = grind (arith, filter_agree)

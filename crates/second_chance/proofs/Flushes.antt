@@ -1,43 +1,26 @@
 -- A flush, push by push.
-use Rattle.std.proofs.Common.{◌≡◌, ℕ, zero, suc, ◌+◌, ◌-◌, ◌<◌, ◌≤◌, ◌==◌, Bool, true, false, not, ◌&&◌, ◌||◌, cond, List, [], ◌∷◌, ◌++◌, length, take, reverse, filter, arith, refl, sym, ap, ◌∙◌}
-use Rattle.std.specs.List.{list_any, enumerate_from}
+use Rattle.std.proofs.Common.{rules, ◌≡◌, ℕ, zero, suc, ◌+◌, ◌-◌, ◌<◌, ◌≤◌, Bool, true, false, ◌&&◌, cond, List, [], ◌∷◌, ◌++◌, length, take, reverse, filter, arith, refl, sym, ap, ◌∙◌}
+use Rattle.std.specs.List.{list_any}
 use Rattle.std.proofs.lemmas.List.{length-map}
 use Rattle.std.proofs.lemmas.Bool.{eq-eqb}
 use Rattle.std_lemmas.proofs.Lists.{any_map, any_reverse}
 use Rattle.byte_fields.specs.declared.frame_head.Mark.{Mark}
 use Rattle.second_chance.specs.declared.plan.PoolMark.{PoolMark}
-use Rattle.second_chance.specs.Plans.{Placed, chances_of, pulled_at_flush}
+use Rattle.second_chance.specs.Plans.{chances_of, pulled_at_flush}
 use Rattle.second_chance.specs.Machine.{Rules, PoolPage, Cache, saved, saved_page, pool_mark, pool_marks, is_pulled, leaving, push_changed, wants_flush, flushed_by, flushed, staged_in_push, staged_in_flush}
 use Rattle.second_chance.specs.Laws.{changed_count}
 
 -- A push saves a page.
 
 pub few_chances : (given : Bool) (front : List Mark) → length (chances_of given front) ≤ 7
-few_chances true front = take_few 7 (filter (λ f. f.1.valid && f.1.referenced) (enumerate_from 0 front))
-  where
-    take_few : (n : ℕ) (xs : List Placed) → length (take n xs) ≤ n
-    take_few zero xs = omega arith
-    take_few (suc n) [] = omega arith
-    take_few (suc n) (x ∷ xs) = omega (arith, take_few n xs)
+few_chances true front = grind arith
 few_chances false front = omega arith
 
 -- some page that is changed is among the first of the changed ones
 one_pulled : (n : ℕ) (marks : List PoolMark) → list_any (λ p. p.changed) marks ≡ true
     → list_any (λ p. p.changed && is_pulled (take (suc n) (filter (λ q. q.changed) marks)) p.page) marks ≡ true
 one_pulled n [] some = absurd cc
-one_pulled n (mark ∷ marks) some = by mark.changed refl some (one_pulled n marks)
-  where
-    here : (mark.page == mark.page) ≡ true
-    here = eq-eqb mark.page mark.page refl
-
-    by : (b : Bool) → mark.changed ≡ b → (b || list_any (λ p. p.changed) marks) ≡ true
-        → (list_any (λ p. p.changed) marks ≡ true → list_any (λ p. p.changed && is_pulled (take (suc n) (filter (λ q. q.changed) marks)) p.page) marks ≡ true)
-        → ((b && is_pulled (take (suc n) (cond b (mark ∷ filter (λ q. q.changed) marks) (filter (λ q. q.changed) marks))) mark.page)
-        || list_any (λ p. p.changed && is_pulled (take (suc n) (cond b (mark ∷ filter (λ q. q.changed) marks) (filter (λ q. q.changed) marks))) p.page) marks) ≡ true
-    by true is any rest =
-        ap (λ t. (t || is_pulled (take n (filter (λ q. q.changed) marks)) mark.page)
-        || list_any (λ p. p.changed && is_pulled (take (suc n) (mark ∷ filter (λ q. q.changed) marks)) p.page) marks) here
-    by false is any rest = rest any
+one_pulled n (mark ∷ marks) some = grind (arith, eq-eqb, (one_pulled n marks))
 
 any_marks : (test : PoolMark → Bool) (cache : Cache) → list_any test (pool_marks cache) ≡ list_any (λ p. test (pool_mark cache.queue p)) cache.pool
 any_marks test cache = any_map test (pool_mark cache.queue) (reverse cache.pool) ∙ any_reverse (λ p. test (pool_mark cache.queue p)) cache.pool
@@ -55,32 +38,15 @@ pulled_some r cache wants =
 
 -- what a save leaves changed
 pub count_cons : (p : PoolPage) (pool : List PoolPage) → changed_count (p ∷ pool) ≡ cond p.changed 1 0 + changed_count pool
-count_cons p pool = by p.changed
-  where
-    by : (b : Bool) → length (cond b (p ∷ filter (λ q. q.changed) pool) (filter (λ q. q.changed) pool)) ≡ cond b 1 0 + length (filter (λ q. q.changed) pool)
-    by true = omega arith
-    by false = omega arith
+count_cons p pool = grind arith
 
 saved_le : (f : ℕ → Bool) (pool : List PoolPage) → changed_count (saved f pool) ≤ changed_count pool
 saved_le f [] = omega arith
-saved_le f (p ∷ pool) = omega (arith, count_cons p pool, count_cons (saved_page f p) (saved f pool), saved_le f pool, here p.changed (f p.page))
-  where
-    here : (b c : Bool) → cond (b && not c) 1 0 ≤ cond b 1 0
-    here true true = omega arith
-    here true false = omega arith
-    here false c = omega arith
+saved_le f (p ∷ pool) = grind (arith, count_cons, (saved_le f pool))
 
 saved_lt : (f : ℕ → Bool) (pool : List PoolPage) → list_any (λ p. p.changed && f p.page) pool ≡ true → changed_count (saved f pool) < changed_count pool
 saved_lt f [] some = absurd cc
-saved_lt f (p ∷ pool) some = by p.changed (f p.page) some (count_cons p pool) (count_cons (saved_page f p) (saved f pool)) (saved_lt f pool)
-  where
-    by : (b c : Bool) → ((b && c) || list_any (λ q. q.changed && f q.page) pool) ≡ true
-        → changed_count (p ∷ pool) ≡ cond b 1 0 + changed_count pool → changed_count (saved f (p ∷ pool)) ≡ cond (b && not c) 1 0 + changed_count (saved f pool)
-        → (list_any (λ q. q.changed && f q.page) pool ≡ true → changed_count (saved f pool) < changed_count pool)
-        → changed_count (saved f (p ∷ pool)) < changed_count (p ∷ pool)
-    by true true any old new rest = omega (arith, old, new, saved_le f pool)
-    by true false any old new rest = omega (arith, old, new, rest any)
-    by false c any old new rest = omega (arith, old, new, rest any)
+saved_lt f (p ∷ pool) some = grind (arith, count_cons, saved_le, (saved_lt f pool))
 
 pub push_saves : (rules : Rules) (cache : Cache) → wants_flush cache ≡ true → changed_count (push_changed rules cache).pool < changed_count cache.pool
 push_saves r cache wants = saved_lt (is_pulled (pulled_at_flush r.chances (leaving r cache.queue) (pool_marks cache))) cache.pool (pulled_some r cache wants)
@@ -89,12 +55,7 @@ push_saves r cache wants = saved_lt (is_pulled (pulled_at_flush r.chances (leavi
 
 none_changed : (pool : List PoolPage) → changed_count pool ≡ 0 → list_any (λ p. p.changed) pool ≡ false
 none_changed [] none = refl
-none_changed (p ∷ pool) none = by p.changed (count_cons p pool) (none_changed pool)
-  where
-    by : (b : Bool) → changed_count (p ∷ pool) ≡ cond b 1 0 + changed_count pool → (changed_count pool ≡ 0 → list_any (λ q. q.changed) pool ≡ false)
-        → (b || list_any (λ q. q.changed) pool) ≡ false
-    by true is rest = absurd (omega (arith, is, none))
-    by false is rest = rest (omega (arith, is, none))
+none_changed (p ∷ pool) none = grind (arith, count_cons, (none_changed pool))
 
 flushed_more : (n m : ℕ) (rules : Rules) (cache : Cache) → changed_count cache.pool ≤ n → changed_count cache.pool ≤ m → flushed_by n rules cache ≡ flushed_by m rules cache
 flushed_more zero zero r cache a b = refl
@@ -110,11 +71,7 @@ flushed_more (suc n) (suc m) r cache a b = by (wants_flush cache) refl (λ wants
 
 changed_le : (pool : List PoolPage) → changed_count pool ≤ length pool
 changed_le [] = omega arith
-changed_le (p ∷ pool) = omega (arith, count_cons p pool, changed_le pool, here p.changed)
-  where
-    here : (b : Bool) → cond b 1 0 ≤ 1
-    here true = omega arith
-    here false = omega arith
+changed_le (p ∷ pool) = grind (arith, count_cons, (changed_le pool))
 
 long : (rules : Rules) (cache : Cache) → length (push_changed rules cache).pool ≡ length cache.pool
 long r cache = length-map cache.pool (saved_page (is_pulled (pulled_at_flush r.chances (leaving r cache.queue) (pool_marks cache))))

@@ -1,13 +1,13 @@
 -- The groups that work pushes, counted.
-use Rattle.std.proofs.Common.{◌≡◌, ℕ, zero, suc, ◌+◌, ◌≤◌, ◌==◌, Bool, true, false, not, ◌&&◌, ◌||◌, cond, List, [], ◌∷◌, ◌++◌, length, drop, reverse, refl, ap, arith}
+use Rattle.std.proofs.Common.{rules, ◌≡◌, ℕ, zero, suc, ◌+◌, ◌≤◌, ◌==◌, Bool, true, false, cond, List, [], ◌∷◌, ◌++◌, length, drop, reverse, refl, ap, arith}
 use Rattle.std.specs.Prelude.{if◌then◌else◌}
 use Rattle.std.proofs.lemmas.Bool.{leb-true}
 use Rattle.std.proofs.lemmas.List.{length-append, length-drop, reverse-append}
 use Rattle.record_model.specs.Touches.{CacheOp, touch, flush}
 use Rattle.second_chance.specs.declared.frame.Frame.{Frame}
-use Rattle.second_chance.specs.Queue.{Queue, pushed, with_read}
+use Rattle.second_chance.specs.Queue.{Queue, pushed}
 use Rattle.second_chance.specs.Plans.{pulled_at_eviction}
-use Rattle.second_chance.specs.Machine.{Rules, PoolPage, Cache, holds, is_changed, without, is_full, is_pulled, leaving, pool_marks, push_evicted, must_be_pushed, after_eviction, evict_first, evict_coldest, lacks_room, with_room, in_front, touched, wants_flush, push_changed, flushed_by, flushed, apply_op, next_group}
+use Rattle.second_chance.specs.Machine.{Rules, PoolPage, Cache, is_changed, without, is_full, is_pulled, leaving, pool_marks, push_evicted, must_be_pushed, after_eviction, evict_first, with_room, in_front, touched, wants_flush, push_changed, flushed_by, flushed, apply_op, next_group}
 use Rattle.second_chance.specs.Laws.{changed_count}
 use Rattle.second_chance.specs.Groups.{groups_for, groups_for_all, FlushPushesChanged, NearlyAllArePushed, TouchPushesOne, WorkPushesFew}
 use Rattle.second_chance.proofs.Flushes.{count_cons, push_saves}
@@ -44,13 +44,7 @@ count_reverse (p ∷ xs) =
 -- pages that leave the pool
 count_without : (leaves : ℕ → Bool) (pool : List PoolPage) → changed_count (without leaves pool) ≤ changed_count pool
 count_without leaves [] = omega arith
-count_without leaves (p ∷ pool) = by (not (leaves p.page)) (count_without leaves pool) (count_cons p pool) (count_cons p (without leaves pool))
-  where
-    by : (b : Bool) → changed_count (without leaves pool) ≤ changed_count pool → changed_count (p ∷ pool) ≡ cond p.changed 1 0 + changed_count pool
-        → changed_count (p ∷ without leaves pool) ≡ cond p.changed 1 0 + changed_count (without leaves pool)
-        → changed_count (cond b (p ∷ without leaves pool) (without leaves pool)) ≤ changed_count (p ∷ pool)
-    by true rest old new = omega (arith, rest, old, new)
-    by false rest old new = omega (arith, rest, old)
+count_without leaves (p ∷ pool) = grind (arith, count_cons, (count_without leaves pool))
 
 abbrev beside : ℕ → List PoolPage → List PoolPage
 beside page pool = without (λ other. other == page) pool
@@ -58,15 +52,7 @@ beside page pool = without (λ other. other == page) pool
 -- a page that leaves as changed is one less
 count_own : (page : ℕ) (pool : List PoolPage) → is_changed pool page ≡ true → changed_count (beside page pool) + 1 ≤ changed_count pool
 count_own page [] some = absurd cc
-count_own page (p ∷ pool) some = by (p.page == page) p.changed some (count_own page pool) (count_without (λ other. other == page) pool) (count_cons p pool) (count_cons p (beside page pool))
-  where
-    by : (here changed : Bool) → ((here && changed) || is_changed pool page) ≡ true → (is_changed pool page ≡ true → changed_count (beside page pool) + 1 ≤ changed_count pool)
-        → changed_count (beside page pool) ≤ changed_count pool → changed_count (p ∷ pool) ≡ cond changed 1 0 + changed_count pool
-        → changed_count (p ∷ beside page pool) ≡ cond changed 1 0 + changed_count (beside page pool)
-        → changed_count (cond (not here) (p ∷ beside page pool) (beside page pool)) + 1 ≤ changed_count (p ∷ pool)
-    by true true some later few old new = omega (arith, few, old)
-    by true false some later few old new = omega (arith, later some, old)
-    by false changed some later few old new = omega (arith, later some, old, new)
+count_own page (p ∷ pool) some = grind (arith, count_without, count_cons, (count_own page pool))
 
 -- An eviction: the group that it pushes, and the changed pages that are left.
 
@@ -89,30 +75,16 @@ first_few rules (coldest ∷ warmer) cache some same =
 
 room_few : (rules : Rules) (page : ℕ) (cache : Cache) → 1 ≤ rules.groups →
     (next_group (with_room rules page cache) ≤ next_group cache + 1) × (changed_count (with_room rules page cache).pool ≤ changed_count cache.pool)
-room_few rules page cache some = by (lacks_room rules page cache)
-  where
-    by : (b : Bool) → (next_group (if b then evict_coldest rules cache else cache) ≤ next_group cache + 1) × (changed_count (if b then evict_coldest rules cache else cache).pool ≤ changed_count cache.pool)
-    by true = first_few rules (reverse cache.pool) cache some (count_reverse cache.pool)
-    by false = (omega arith, omega arith)
+room_few rules page cache some = grind (arith, first_few, count_reverse)
 
 -- A touch.
 
 pub front_next : (page : ℕ) (change : Bool) (cache : Cache) → next_group (in_front page change cache) ≡ next_group cache
-front_next page change cache = by (holds cache.pool page)
-  where
-    by : (b : Bool) → (if b then cache.queue else with_read page cache.queue).first + length (if b then cache.queue else with_read page cache.queue).groups ≡ next_group cache
-    by true = refl
-    by false = ap (λ n. cache.queue.first + n) (length-groups_read page cache.queue.groups)
+front_next page change cache = grind (arith, length-groups_read)
 
 -- only a change makes one more page changed
 front_changed : (page : ℕ) (change : Bool) (cache : Cache) → changed_count (in_front page change cache).pool ≤ changed_count cache.pool + cond change 1 0
-front_changed page change cache = by (is_changed cache.pool page) change (count_own page cache.pool) (count_without (λ other. other == page) cache.pool)
-  where
-    by : (was now : Bool) → (was ≡ true → changed_count (beside page cache.pool) + 1 ≤ changed_count cache.pool) → changed_count (beside page cache.pool) ≤ changed_count cache.pool
-        → changed_count (record { page = page; changed = was || now } ∷ beside page cache.pool) ≤ changed_count cache.pool + cond now 1 0
-    by true now own few = omega (arith, own refl, count_cons (record { page = page; changed = true }) (beside page cache.pool))
-    by false true own few = omega (arith, few, count_cons (record { page = page; changed = true }) (beside page cache.pool))
-    by false false own few = omega (arith, few, count_cons (record { page = page; changed = false }) (beside page cache.pool))
+front_changed page change cache = grind (arith, count_own, count_without, count_cons)
 
 touched_few : (rules : Rules) (page : ℕ) (change : Bool) (cache : Cache) → 1 ≤ rules.groups →
     (next_group (touched rules page change cache) ≤ next_group cache + 1) × (changed_count (touched rules page change cache).pool ≤ changed_count cache.pool + cond change 1 0)
@@ -147,13 +119,7 @@ flush_pushes_changed rules cache some = omega (arith, flushed_few rules cache so
 
 work_few : (rules : Rules) (work : CacheOp) (cache : Cache) → 1 ≤ rules.groups →
     next_group (apply_op rules work cache) + changed_count (apply_op rules work cache).pool ≤ next_group cache + changed_count cache.pool + groups_for work
-work_few rules (touch page change) cache some =
-    let few = touched_few rules page change cache some in
-    omega (arith, few.0, few.1, two change)
-  where
-    two : (b : Bool) → (if b then 2 else 1) ≡ 1 + cond b 1 0
-    two true = refl
-    two false = refl
+work_few rules (touch page change) cache some = grind (arith, touched_few)
 work_few rules flush cache some = omega (arith, flushed_few rules cache some)
 
 pub work_pushes_few : WorkPushesFew

@@ -1,5 +1,5 @@
 -- A plan by its three parts.
-use Rattle.std.proofs.Common.{◌≡◌, ℕ, ◌-◌, Bool, not, ◌||◌, List, [], length, map, filter, take, if◌then◌else◌, refl, ap, ◌∙◌}
+use Rattle.std.proofs.Common.{arith, ◌≡◌, ℕ, ◌-◌, Bool, not, ◌||◌, List, [], length, map, filter, take, if◌then◌else◌, refl, ap, ◌∙◌}
 use Rattle.std.specs.List.{enumerate_from}
 use Rattle.std.specs.Borrow.{Bor}
 use Rattle.std.specs.Prelude.{Option, Some, None, unwrap_or}
@@ -19,10 +19,6 @@ unwrapped (Some front) none is = refl
 abbrev page : PoolMark → ℕ
 page p = p.page
 
-parts : (a a' b b' d d' : List ℕ) → a ≡ a' → b ≡ b' → d ≡ d'
-    → ◌≡◌ {A = Plan} (record { chances = a; staged = b; pulled = d }) (record { chances = a'; staged = b'; pulled = d' })
-parts a a' b b' d d' chances staged pulled = λ i. record { chances = chances i; staged = staged i; pulled = pulled i }
-
 -- the staged frames of these second chances
 staged_by : (given : Bool) (front : List Mark) (chances staged : List ℕ) → chances ≡ map place (chances_of given front)
     → staged ≡ map place (filter (λ f. is_staged chances f.0 f.1) (enumerate_from 0 front)) → staged ≡ map place (staged_of given front)
@@ -36,16 +32,10 @@ pub eviction_is : (pulls given : Bool) (front known : List Mark) (pool : List Po
     → chances ≡ map place (chances_of given front) → staged ≡ map place (filter (λ f. is_staged chances f.0 f.1) (enumerate_from 0 front)) → n ≡ length chances
     → pulled ≡ map page (if pulls then take (8 - 1 - n) (filter (λ p. p.changed || not p.framed) pool) else [])
     → ◌≡◌ {A = Plan} (record { chances = chances; staged = staged; pulled = pulled }) (eviction_plan pulls given known pool)
-eviction_is pulls given front known pool chances staged pulled n same are staged_is n_is pulled_is =
-    parts chances _ staged _ pulled _ are (staged_by given front chances staged are staged_is)
-    (pulled_is ∙ ap (λ k. map page (if pulls then take (8 - 1 - k) (filter (λ p. p.changed || not p.framed) pool) else [])) (many given front chances n are n_is))
-    ∙ ap (λ f. eviction_plan pulls given f pool) same
+eviction_is pulls given front known pool chances staged pulled n same are staged_is n_is pulled_is = grind (arith, staged_by, many)
 
 pub flush_is : (given : Bool) (front known : List Mark) (pool : List PoolMark) (chances staged pulled : List ℕ) (n : ℕ) → front ≡ known
     → chances ≡ map place (chances_of given front) → staged ≡ map place (filter (λ f. is_staged chances f.0 f.1) (enumerate_from 0 front)) → n ≡ length chances
     → pulled ≡ map page (take (8 - n) (filter (λ p. p.changed) pool))
     → ◌≡◌ {A = Plan} (record { chances = chances; staged = staged; pulled = pulled }) (flush_plan given known pool)
-flush_is given front known pool chances staged pulled n same are staged_is n_is pulled_is =
-    parts chances _ staged _ pulled _ are (staged_by given front chances staged are staged_is)
-    (pulled_is ∙ ap (λ k. map page (take (8 - k) (filter (λ p. p.changed) pool))) (many given front chances n are n_is))
-    ∙ ap (λ f. flush_plan given f pool) same
+flush_is given front known pool chances staged pulled n same are staged_is n_is pulled_is = grind (arith, staged_by, many)

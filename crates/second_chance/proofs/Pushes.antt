@@ -1,5 +1,5 @@
 -- A push, by the places and the page numbers of its plan.
-use Rattle.std.proofs.Common.{◌≡◌, ℕ, suc, ◌+◌, ◌==◌, Bool, true, false, ◌&&◌, ◌||◌, List, [], ◌∷◌, ◌++◌, length, map, reverse, filter, filter_map, append_assoc, length-append, slice_get, option_map, Some, arith, refl, sym, ap, subst, ◌∙◌}
+use Rattle.std.proofs.Common.{◌≡◌, ℕ, suc, ◌+◌, ◌==◌, Bool, true, false, ◌&&◌, ◌||◌, List, [], ◌∷◌, ◌++◌, length, map, reverse, filter, filter_map, append_assoc, length-append, slice_get, option_map, Some, arith, refl, sym, ap, ◌∙◌}
 use Rattle.std.specs.List.{enumerate_from, AllByRecursion}
 use Rattle.std.proofs.lemmas.Bool.{ne_eqb, eqb-false}
 use Rattle.std.proofs.lemmas.List.Elements.{recursion_from_All}
@@ -24,11 +24,7 @@ behind_is (other ∷ before) mark front = behind_is before mark front
 
 numbered : (before front : List Mark) (n : ℕ) → n ≡ length before → StandIn (before ++ front) (enumerate_from n front)
 numbered before [] n is = tt
-numbered before (mark ∷ front) n is = (
-  ap (slice_get (before ++ mark ∷ front)) is ∙ behind_is before mark front,
-  subst (λ all. StandIn all (enumerate_from (n + 1) front)) (append_assoc before (mark ∷ []) front)
-      (numbered (before ++ mark ∷ []) front (n + 1) (omega (arith, is, length-append before (mark ∷ [])))),
-)
+numbered before (mark ∷ front) n is = grind (arith, slice_get, behind_is, append_assoc, length-append, (numbered (before ++ mark ∷ []) front (n + 1) (omega (arith, is, length-append before (mark ∷ [])))))
 
 numbered_stand : (front : List Mark) → StandIn front (enumerate_from 0 front)
 numbered_stand front = numbered [] front 0 refl
@@ -75,11 +71,7 @@ apart_from (p ∷ pool) apart = (
 
 changed_here : (pool : List PoolPage) → Apart pool → AllByRecursion (λ p. is_changed pool p.page ≡ p.changed) pool
 changed_here [] apart = tt
-changed_here (p ∷ pool) apart = (
-  own_page p pool (no_other p.page pool apart.0),
-  all_both (λ other. (other.page == p.page) ≡ false) (λ other. is_changed pool other.page ≡ other.changed) (λ other. is_changed (p ∷ pool) other.page ≡ other.changed)
-      (λ other not_it is. other_page other.page p pool (ne_eqb _ _ (λ same. eqb-false _ _ not_it (sym same))) ∙ is) pool apart.0 (changed_here pool apart.1),
-)
+changed_here (p ∷ pool) apart = grind (arith, own_page, no_other, all_both, other_page, ne_eqb, eqb-false, (changed_here pool apart.1))
 
 marked_here : (cache : Cache) → AreApart cache.pool → AllByRecursion (λ m. is_changed cache.pool m.page ≡ m.changed) (pool_marks cache)
 marked_here cache apart = all_map (λ m. is_changed cache.pool m.page ≡ m.changed) (pool_mark cache.queue) (reverse cache.pool)

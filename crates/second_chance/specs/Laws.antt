@@ -6,7 +6,7 @@ use Rattle.byte_fields.specs.declared.frame_head.Mark.{Mark}
 use Rattle.record_model.specs.Touches.{flush}
 use Rattle.second_chance.specs.declared.frame.Frame.{Frame}
 use Rattle.second_chance.specs.declared.plan.Plan.{Plan}
-use Rattle.second_chance.specs.Queue.{pushed, frame_of, group_marks}
+use Rattle.second_chance.specs.Queue.{pushed, frame_of}
 use Rattle.second_chance.specs.Plans.{Placed, chances_of, staged_of, eviction_plan, flush_plan}
 use Rattle.second_chance.specs.Machine.{Rules, PoolPage, Cache, is_changed, without, saved, pool_marks, is_full}
 use Rattle.second_chance.specs.Machine.{leaving, push_evicted, push_changed, wants_flush, flushed, Staged}
@@ -119,11 +119,3 @@ pub record IsStagedIn (front : List Mark) (frame : Placed) : Type 0 where
   pub stands : slice_get front frame.0 ≡ Some frame.1
   pub valid : frame.1.valid ≡ true
   pub dirty : frame.1.dirty ≡ true
-
-abbrev pub StagedStand : Type 0
-StagedStand = (given : Bool) (front : List Mark) → All (IsStagedIn front) (staged_of given front)
-
--- No page is staged twice.
-abbrev pub StagedApart : Type 0
-StagedApart = (given : Bool) (group : List Frame) (later : List (List Frame))
-    → AllPairs (λ a b. a.1.page ≢ b.1.page) (staged_of given (group_marks group later))

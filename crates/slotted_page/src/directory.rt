@@ -5,6 +5,7 @@ ghost use Rattle.slotted_page.specs.Layout.{IsSound};
 ghost use Rattle.slotted_page.specs.Changes.{Wrote, SetsEntry};
 ghost use Rattle.std.specs.Int.{w16, w64, to_be_bytes};
 
+use crate::PAGE_LEN;
 use byte_fields::{get_u16, get_u64, put_u16, put_u64};
 
 // The number in the two octets from a place on.
@@ -18,8 +19,7 @@ fn number_at(octets: &[u8], at: usize) -> usize
 }
 
 /// How many octets the heap takes up.
-pub fn used_of(octets: &[u8]) -> usize
-    requires { length octets.now ≡ 4096 }
+pub fn used_of(octets: &[u8; PAGE_LEN]) -> usize
     ensures number { result ≡ used_of octets.now }
     ensures small { result < 2 ^ 16 }
 {
@@ -28,16 +28,14 @@ pub fn used_of(octets: &[u8]) -> usize
 
 /// The page's LSN.
 #[tactic(auto, unfolding(crate::specs::Layout::lsn_of))]
-pub fn lsn_of(octets: &[u8]) -> u64
-    requires { length octets.now ≡ 4096 }
+pub fn lsn_of(octets: &[u8; PAGE_LEN]) -> u64
     ensures { result ≡ lsn_of octets.now }
 {
     get_u64(octets, 0)
 }
 
 /// Where a slot's value begins.
-pub fn offset_of(octets: &[u8], slot: u8) -> usize
-    requires size { length octets.now ≡ 4096 }
+pub fn offset_of(octets: &[u8; PAGE_LEN], slot: u8) -> usize
     requires slot { slot < 32 }
     ensures number { result ≡ offset_of octets.now slot }
     ensures small { result < 2 ^ 16 }
@@ -46,8 +44,7 @@ pub fn offset_of(octets: &[u8], slot: u8) -> usize
 }
 
 /// The length of a slot's value plus one, or 0 where the slot is empty.
-pub fn code_of(octets: &[u8], slot: u8) -> usize
-    requires size { length octets.now ≡ 4096 }
+pub fn code_of(octets: &[u8; PAGE_LEN], slot: u8) -> usize
     requires slot { slot < 32 }
     ensures number { result ≡ code_of octets.now slot }
     ensures small { result < 2 ^ 16 }
@@ -56,8 +53,7 @@ pub fn code_of(octets: &[u8], slot: u8) -> usize
 }
 
 /// The length of a slot's value, or 0 where the slot is empty.
-pub fn length_of(octets: &[u8], slot: u8) -> usize
-    requires size { length octets.now ≡ 4096 }
+pub fn length_of(octets: &[u8; PAGE_LEN], slot: u8) -> usize
     requires slot { slot < 32 }
     ensures number { result ≡ length_of octets.now slot }
     ensures small { result < 2 ^ 16 }
@@ -66,7 +62,7 @@ pub fn length_of(octets: &[u8], slot: u8) -> usize
 }
 
 /// What a slot of a sound page has.
-pub fn content_of(octets: &[u8], slot: u8) -> Option<&[u8]>
+pub fn content_of(octets: &[u8; PAGE_LEN], slot: u8) -> Option<&[u8]>
     requires sound { IsSound octets.now }
     requires slot { slot < 32 }
     ensures { option_copied result ≡ content_of octets.now slot }
@@ -88,24 +84,21 @@ fn put_number(octets: &mut [u8], at: usize, number: u16)
 }
 
 /// Sets the page's LSN.
-pub fn put_lsn(octets: &mut [u8], lsn: u64)
-    requires { length octets.old ≡ 4096 }
+pub fn put_lsn(octets: &mut [u8; PAGE_LEN], lsn: u64)
     ensures { Wrote octets.old octets.new 0 (to_be_bytes w64 lsn) }
 {
     put_u64(octets, 0, lsn);
 }
 
 /// Sets how many octets the heap takes up.
-pub fn put_used(octets: &mut [u8], used: u16)
-    requires { length octets.old ≡ 4096 }
+pub fn put_used(octets: &mut [u8; PAGE_LEN], used: u16)
     ensures { Wrote octets.old octets.new 8 (to_be_bytes w16 used) }
 {
     put_number(octets, 8, used);
 }
 
 /// Sets the entry of a slot.
-pub fn put_entry(octets: &mut [u8], slot: u8, offset: u16, code: u16)
-    requires size { length octets.old ≡ 4096 }
+pub fn put_entry(octets: &mut [u8; PAGE_LEN], slot: u8, offset: u16, code: u16)
     requires slot { slot < 32 }
     ensures { SetsEntry octets.old octets.new slot offset code }
 {

@@ -11,7 +11,7 @@ use crate::{HEAP_LEN, PAGE_LEN, SLOTS};
 use byte_fields::VALUE_MAX;
 
 // Empties a slot.
-fn clear(octets: &mut [u8], slot: u8)
+fn clear(octets: &mut [u8; PAGE_LEN], slot: u8)
     requires sound { IsSound octets.old }
     requires slot { slot < 32 }
     ensures { Sets octets.old octets.new slot None }
@@ -28,7 +28,7 @@ fn write(octets: &mut [u8], at: usize, text: &[u8])
 }
 
 // Puts a value in front of the heap, for a slot.
-fn place(octets: &mut [u8], slot: u8, value: &[u8])
+fn place(octets: &mut [u8; PAGE_LEN], slot: u8, value: &[u8])
     requires sound { IsSound octets.old }
     requires slot { slot < 32 }
     requires short { length value.now ≤ VALUE_MAX }
@@ -44,7 +44,7 @@ fn place(octets: &mut [u8], slot: u8, value: &[u8])
 }
 
 // Puts what a slot of another page has into the same slot of this one, which is empty.
-fn carry(from: &[u8], octets: &mut [u8], slot: u8)
+fn carry(from: &[u8; PAGE_LEN], octets: &mut [u8; PAGE_LEN], slot: u8)
     requires from { IsSound from.now }
     requires sound { IsSound octets.old }
     requires slot { slot < 32 }
@@ -59,7 +59,7 @@ fn carry(from: &[u8], octets: &mut [u8], slot: u8)
 }
 
 // Sets the LSN of a page.
-fn set_lsn(octets: &mut [u8], lsn: u64)
+fn set_lsn(octets: &mut [u8; PAGE_LEN], lsn: u64)
     requires { IsSound octets.old }
     ensures sound { IsSound octets.new }
     ensures slots { slots_of octets.new ≡ slots_of octets.old }
@@ -78,7 +78,7 @@ pub fn blank() -> [u8; PAGE_LEN]
 }
 
 // The page with all its values at the end of the heap, so that it takes up no more octets than they have.
-fn packed(octets: &[u8]) -> [u8; PAGE_LEN]
+fn packed(octets: &[u8; PAGE_LEN]) -> [u8; PAGE_LEN]
     requires sound { IsSound octets.now }
     requires room { total_length (slots_of octets.now) ≤ 3952 }
     ensures sound { IsSound result }
@@ -95,7 +95,7 @@ fn packed(octets: &[u8]) -> [u8; PAGE_LEN]
 }
 
 // Moves all values to the end of the heap.
-fn compact(octets: &mut [u8])
+fn compact(octets: &mut [u8; PAGE_LEN])
     requires sound { IsSound octets.old }
     requires room { total_length (slots_of octets.old) ≤ 3952 }
     ensures sound { IsSound octets.new }
@@ -108,7 +108,7 @@ fn compact(octets: &mut [u8])
 }
 
 // Sees to it that the heap takes in so many octets more. The slot that they are for may be emptied.
-fn make_room(octets: &mut [u8], slot: u8, len: usize)
+fn make_room(octets: &mut [u8; PAGE_LEN], slot: u8, len: usize)
     requires sound { IsSound octets.old }
     requires slot { slot < 32 }
     requires fits { total_length (slice_set (slots_of octets.old) slot None) + len ≤ 3952 }
@@ -125,7 +125,7 @@ fn make_room(octets: &mut [u8], slot: u8, len: usize)
 }
 
 // Puts a value into a slot.
-fn insert(octets: &mut [u8], slot: u8, value: &[u8])
+fn insert(octets: &mut [u8; PAGE_LEN], slot: u8, value: &[u8])
     requires sound { IsSound octets.old }
     requires slot { slot < 32 }
     requires short { length value.now ≤ VALUE_MAX }
@@ -137,7 +137,7 @@ fn insert(octets: &mut [u8], slot: u8, value: &[u8])
 }
 
 // Gives a slot another content.
-fn put_content(octets: &mut [u8], slot: u8, value: Option<&[u8]>)
+fn put_content(octets: &mut [u8; PAGE_LEN], slot: u8, value: Option<&[u8]>)
     requires sound { IsSound octets.old }
     requires slot { slot < 32 }
     requires short { content_length (option_copied value) ≤ VALUE_MAX }
@@ -151,7 +151,7 @@ fn put_content(octets: &mut [u8], slot: u8, value: Option<&[u8]>)
 }
 
 /// Gives a slot another content, and the page another LSN.
-pub fn set(octets: &mut [u8], slot: u8, value: Option<&[u8]>, lsn: u64)
+pub fn set(octets: &mut [u8; PAGE_LEN], slot: u8, value: Option<&[u8]>, lsn: u64)
     requires sound { IsSound octets.old }
     requires slot { slot < 32 }
     requires short { content_length (option_copied value) ≤ VALUE_MAX }

@@ -3,11 +3,11 @@ ghost use Rattle.std.specs.Prelude.{◌≡◌, ◌<◌, ◌≤◌, ◌↔◌, Is
 ghost use Rattle.slotted_page.specs.Layout.{slots_of, content_length, total_length, IsSound, FitsPage};
 
 use crate::directory::length_of;
-use crate::{HEAP_LEN, SLOTS};
+use crate::{HEAP_LEN, PAGE_LEN, SLOTS};
 use byte_fields::VALUE_MAX;
 
 // The length of what a slot has, or 0 for the slot that is left out.
-fn length_unless(octets: &[u8], slot: u8, out: u8) -> usize
+fn length_unless(octets: &[u8; PAGE_LEN], slot: u8, out: u8) -> usize
     requires sound { IsSound octets.now }
     requires slot { slot < 32 }
     requires left_out { out < 32 }
@@ -21,7 +21,7 @@ fn length_unless(octets: &[u8], slot: u8, out: u8) -> usize
 }
 
 /// How many octets the values of the other slots have together.
-fn length_of_others(octets: &[u8], slot: u8) -> usize
+fn length_of_others(octets: &[u8; PAGE_LEN], slot: u8) -> usize
     requires sound { IsSound octets.now }
     requires slot { slot < 32 }
     ensures { result ≡ total_length (slice_set (slots_of octets.now) slot None) }
@@ -44,7 +44,7 @@ fn length_given(value: Option<&[u8]>) -> usize
 }
 
 /// Whether the values of all slots have room together, with this content in a slot.
-pub fn fits(octets: &[u8], slot: u8, value: Option<&[u8]>) -> bool
+pub fn fits(octets: &[u8; PAGE_LEN], slot: u8, value: Option<&[u8]>) -> bool
     requires sound { IsSound octets.now }
     requires slot { slot < 32 }
     ensures { IsTrue result ↔ FitsPage (slots_of octets.now) slot (option_copied value.entry) }

@@ -11,7 +11,7 @@ use Rattle.site.specs.Laws.{leaves_weaker, leaves_others_too, settled_is, quiet_
 use Rattle.sealed_ring.specs.Ring.{IsRing, units_of}
 use Rattle.disk_pages.specs.Pages.{LiesOn}
 use Rattle.image_changes.specs.Rings.{RingName, Masters, Blocks, Groups, Segments, shape_of, KeepsUnits}
-use Rattle.image_changes.specs.Changes.{Change, RewritesPages, Rewrites, Reaches, SameSizes}
+use Rattle.image_changes.specs.Changes.{RewritesPages, Rewrites, Reaches, SameSizes}
 use Rattle.image_changes.specs.Reached.{IsReached, LeavesFront, IsFrontOf}
 use Rattle.image_changes.proofs.Adding.{none_made}
 use Rattle.image_changes.proofs.Sequence.{reads_itself}
@@ -79,14 +79,11 @@ none_front g pages site quiet = none_made g (IsFrontOf (changes_of pages)) site 
 
 -- what was staged
 pub staged : (pages : List ℕ) (contents : List (List ℕ)) (old mid new : State) → HasWritten pages contents (length pages) old mid → new.image ≡ mid.image → HasStaged pages contents old.image.disk new.image.disk
-staged pages contents old mid new written same =
-    subst (λ (i : Image). HasStaged pages contents old.image.disk i.disk) (sym same) (record { size = written.size; here = written.here; beside = written.beside })
+staged pages contents old mid new written same = grind arith
 
 pub staged_reaches : (g : Geometry) (pages : List ℕ) (contents : List (List ℕ)) (old new : State) → 0 < length pages → HasLengths g old.image → All (λ p. LiesOn p old.image.disk) pages → ChangesOnly Disk old new
     → HasStaged pages contents old.image.disk new.image.disk → Reaches g (changes_of pages) old.image new.image
-staged_reaches g pages contents old new some lengths lie changes staged =
-    subst (λ (l : List Change). Reaches g l old.image new.image) (sym (changes_some pages some))
-    (reaches g pages old.image new.image lengths lie (λ d ne. changes.only.now.content d ne) staged.size staged.beside)
+staged_reaches g pages contents old new some lengths lie changes staged = grind (arith, changes_some, reaches, staged)
 
 -- the sync behind the writes
 pub sync_left : (pages : List ℕ) (old mid new : State) → HasLeft pages old mid → ChangesOnly Disk mid new → LeavesOnly mid new (MayLeave (now_of mid)) → HasLeft pages old new

@@ -25,28 +25,14 @@ use Rattle.tail_rebuild.proofs.Saved.{segment_count}
 -- A ring that has the same units.
 
 pub groups_again : (g : Geometry) (first : ℕ) (groups : List (List Frame)) (old new : Image) → KeepsUnits (group_shape g) old new → HasGroups g first groups old → HasGroups g first groups new
-groups_again g first groups old new keeps has = record {
-  form = keeps.form has.form;
-  next = has.next ∙ sym (ap (λ (u : Units). u.hi) keeps.units);
-  are_groups = has.are_groups;
-  live = ap (λ (u : Units). u.live) keeps.units ∙ has.live;
-}
+groups_again g first groups old new keeps has = grind arith
 
 segments_again : (g : Geometry) (segments : List (List FrameHead)) (old new : Image) → KeepsUnits (segment_shape g) old new → HasSegments g segments old → HasSegments g segments new
-segments_again g segments old new keeps has = record {
-  form = keeps.form has.form;
-  are_segments = has.are_segments;
-  exist = has.exist;
-  live = ap (λ (u : Units). u.live) keeps.units ∙ has.live;
-}
+segments_again g segments old new keeps has = grind arith
 
 pub saved_again : (g : Geometry) (groups : List (List Frame)) (segments : List (List FrameHead)) (old new : Image) → KeepsUnits (group_shape g) old new → KeepsUnits (segment_shape g) old new
     → HasSaved g groups segments old → HasSaved g groups segments new
-saved_again g groups segments old new here there holds = record {
-  has = segments_again g segments old new there holds.has;
-  follow = subst (λ (h : ℕ). Follow (hi_of (segment_shape g) new.flash) segments h (map heads_of groups)) (sym (ap (λ (u : Units). u.hi) here.units))
-      (subst (λ (k : ℕ). Follow k segments (hi_of (group_shape g) old.flash) (map heads_of groups)) (sym (ap (λ (u : Units). u.hi) there.units)) holds.follow);
-}
+saved_again g groups segments old new here there holds = grind (arith, segments_again)
 
 pub stands_again : StandsAgain
 stands_again g first groups segments old new same has holds =
@@ -68,12 +54,7 @@ frames_eight g frames has = (heads_are_group frames has.is_group.some has.is_gro
 
 last_four : (g : Geometry) (groups : List (List Frame)) → AllByRecursion (λ frames. HasFrames g frames (group frames)) groups → 4 ≤ length groups → (i : ℕ) → i < 4
     → heads_of_group (segment_of groups) i ≡ heads_of (get_or groups (length groups - 4 + i) [])
-last_four g groups all four i less =
-    let n = length groups - 4 in
-    let long = length-drop n groups in
-    group_of_flat heads_of (λ frames. HasFrames g frames (group frames)) (drop n groups) i [] (λ frames has. frames_eight g frames has) (all_drop (λ frames. HasFrames g frames (group frames)) n groups all)
-    (omega (arith, long, four, less))
-    ∙ ap heads_of (get_or-drop n groups i [])
+last_four g groups all four i less = grind (arith, length-drop, group_of_flat, frames_eight, all_drop, get_or-drop)
 
 pub are_segment : (g : Geometry) (groups : List (List Frame)) → AllByRecursion (λ frames. HasFrames g frames (group frames)) groups → 4 ≤ length groups → IsSegment (spelling_of_all (segment_of groups)) (segment_of groups)
 are_segment g groups all four =

@@ -40,7 +40,7 @@ module _ (xs eight rest : Heads) (p : ℕ) (fits : 8 * p ≤ length xs) (are : l
 pub flat_more : {X : Type 0} (f : X → Heads) (xs : List X) (i : ℕ) (d : X) → i < length xs → flat_map f (take (suc i) xs) ≡ flat_map f (take i xs) ++ f (get_or xs i d)
 flat_more f [] i d less = absurd (omega (arith, less))
 flat_more f (x ∷ xs) zero d less = append-nil (f x)
-flat_more f (x ∷ xs) (suc i) d less = ap (λ (l : Heads). f x ++ l) (flat_more f xs i d (omega (arith, less))) ∙ sym (append_assoc (f x) (flat_map f (take i xs)) (f (get_or xs i d)))
+flat_more f (x ∷ xs) (suc i) d less = grind (arith, append_assoc, get_or, (flat_more f xs i d (omega (arith, less))))
 
 -- lists of eight one behind the other, by their places
 pub group_of_flat : {X : Type 0} (f : X → Heads) (P : X → Type 0) (xs : List X) (i : ℕ) (d : X) → ((x : X) → P x → length (f x) ≡ 8) → AllByRecursion P xs → i < length xs → heads_of_group (flat_map f xs) i ≡ f (get_or xs i d)

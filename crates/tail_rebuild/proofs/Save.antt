@@ -6,7 +6,7 @@ use Rattle.site.specs.declared.outside.Dev.{Dev}
 use Rattle.site.specs.declared.outside.Dev.TheVariants.{Flash}
 use Rattle.site.specs.declared.outside.Stop.{Stop}
 use Rattle.site.specs.Geometry.{HasLimits, HasLengths}
-use Rattle.site.specs.State.{State, Image, Snapshot, IsQuiet}
+use Rattle.site.specs.State.{State, Snapshot, IsQuiet}
 use Rattle.site.specs.Calls.{Preserves, IsUnchanged}
 use Rattle.site.specs.Moments.{LeavesOnly, OnlyDevice, SameBut, ChangesOnly}
 use Rattle.site.specs.Laws.{leaves_weaker, unchanged, unchanged_calm, no_call, quiet_settled}
@@ -72,10 +72,7 @@ module _ (g : Geometry) (groups segments : Ring) (first : ℕ) (stand : List (Li
 
   -- the ring of segments, where it is to be appended to
   pub finds_mid : Finds segments mid
-  finds_mid = record {
-    form = subst (λ (s : Shape). IsRing s (region s mid)) (sym rings.segments_shape) (subst (λ i. IsRing (segment_shape g) i.flash) (sym same.image) stands.holds.has.form);
-    hi = fits_again segments old mid same.image stands.segments_fit;
-  }
+  finds_mid = grind (arith, fits_again)
 
   pub ready_mid : IsQuiet old → IsReady segments mid
   ready_mid quiet = record { settled = quiet_settled segments.shape.dev mid (same.loose ∙ quiet); form = finds_mid.form; hi = finds_mid.hi }
@@ -130,10 +127,7 @@ unchanged_changes dev old new same = record {
 
 -- rings that were found are there still, where only counts changed
 pub finds_later : (ring : Ring) (old mid : State) → mid.image ≡ old.image → Finds ring old → Finds ring mid
-finds_later ring old mid same finds = record {
-  form = subst (λ (i : Image). IsRing ring.shape (region ring.shape (record old { image = i }))) (sym same) finds.form;
-  hi = fits_again ring old mid same finds.hi;
-}
+finds_later ring old mid same finds = grind (arith, fits_again)
 
 -- both rings are found behind an append to that of the segments
 pub both_found : (g : Geometry) (groups segments ring : Ring) (mid new : State) (content : List ℕ) → HasLimits g → HasLengths g mid.image → groups.shape ≡ group_shape g → segments.shape ≡ segment_shape g → length content ≡ 512 → Preserves mid new

@@ -24,9 +24,7 @@ use Rattle.tail_rebuild.proofs.Standing.{first_is, heads_at_exist}
 
 -- all live segments are listed
 pub segment_count : (g : Geometry) (segments : List (List FrameHead)) (image : Image) → HasSegments g segments image → length segments ≡ min (hi_of (segment_shape g) image.flash) (g.groups / 4 + 2)
-segment_count g segments image has =
-    let all : length segments ≡ min (hi_of (segment_shape g) image.flash) (g.groups / 4 + 3 - 1) = sym (length-map segments spelling_of_all) ∙ ap length (sym has.live) ∙ live_count (segment_shape g) image.flash in
-    omega (arith, all)
+segment_count g segments image has = grind (arith, length-map, live_count)
 
 -- the content of a live segment
 segment_is : (g : Geometry) (ring : Ring) (site : State) (n : ℕ) (segments : List (List FrameHead)) (content : List ℕ) → ring.shape ≡ segment_shape g → RingFits ring site → IsLive ring.shape ring.hi n
@@ -123,8 +121,4 @@ module _ (g : Geometry) (groups segments : Ring) (site : State) (first own segme
 -- the ring of groups is near the number that the segments tell
 pub near_segments : (g : Geometry) (segments : Ring) (site : State) (first : ℕ) (stand : List (List Frame)) (saved : List (List FrameHead)) (shape : Shape) → shape ≡ group_shape g → segments.shape ≡ segment_shape g → RingFits segments site
     → HasGroups g first stand site.image → HasSaved g stand saved site.image → IsNear shape (region shape site) (4 * segments.hi)
-near_segments g segments site first stand saved shape is segments_shape fits has holds =
-    let next : segments.hi ≡ hi_of (segment_shape g) site.image.flash = fits ∙ ap (λ (t : Shape). hi_of t (region t site)) segments_shape in
-    let low = holds.follow.low in
-    let high = holds.follow.high in
-    subst (λ (t : Shape). IsNear t (region t site) (4 * segments.hi)) (sym is) (record { form = has.form; least = omega (arith, next, low); most = omega (arith, next, high) })
+near_segments g segments site first stand saved shape is segments_shape fits has holds = grind arith

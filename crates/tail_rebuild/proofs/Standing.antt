@@ -1,5 +1,5 @@
 -- The groups that stand on flash, and what was read of one.
-use Rattle.std.proofs.Common.{◌≡◌, ℕ, zero, suc, ◌+◌, ◌-◌, ◌*◌, ◌<◌, ◌≤◌, min, true≢false, List, [], ◌∷◌, ◌++◌, length, get_or, map, take, drop, replicate, arith, sym, ap, subst, ◌∙◌}
+use Rattle.std.proofs.Common.{◌≡◌, ℕ, zero, suc, ◌+◌, ◌-◌, ◌<◌, ◌≤◌, min, true≢false, List, [], ◌∷◌, ◌++◌, length, get_or, map, take, drop, replicate, arith, sym, ap, subst, ◌∙◌}
 use Rattle.std.proofs.lemmas.List.{take-take, length-map, get_or-map, get_or-replicate, length-replicate}
 use Rattle.std.specs.List.{AllByRecursion}
 use Rattle.std_lemmas.proofs.AllOf.{all_at}
@@ -41,14 +41,7 @@ module _ (g : Geometry) (first : ℕ) (groups : List (List Frame)) (image : Imag
 -- what was read of a group
 
 heads_front : (octets : List ℕ) (n : ℕ) (heads : List FrameHead) → 128 ≤ n → HasHeads octets heads → HasHeads (take n octets) heads
-heads_front octets n heads long has = record {
-  at_front = record {
-    text = take-take (16 * length heads) n octets (let eight = has.are_heads.eight in omega (arith, eight, long)) ∙ has.at_front.text;
-    have_form = has.at_front.have_form;
-    fit_fields = has.at_front.fit_fields;
-  };
-  are_heads = has.are_heads;
-}
+heads_front octets n heads long has = grind (arith, take-take)
 
 pub heads_stand : (g : Geometry) (ring : Ring) (site : State) (n : ℕ) (into : List ℕ) (frames : List Frame) → ring.shape ≡ group_shape g → HasFrames g frames (group_on g site.image n)
     → drop 8 into ≡ take 128 (unit_at ring.shape (units_in ring.shape site) n) → HasHeads (take 128 (drop 8 into)) (heads_of frames)
@@ -84,9 +77,7 @@ heads_are octets heads other read own = one_heads octets heads other read own
 
 -- the heads of frames whose pages exist
 blanks_exist : (pages n : ℕ) → PagesExist pages (replicate n blank)
-blanks_exist pages n k d lt =
-    let is : get_or (replicate n blank) k d ≡ blank = get_or-replicate n k blank d (subst (λ (m : ℕ). k < m) (length-replicate n blank) lt) in
-    λ present. absurd (true≢false (sym present ∙ ap (λ (h : FrameHead). h.present) is))
+blanks_exist pages n k d lt = grind (arith, get_or, get_or-replicate, length-replicate)
 
 heads_exist : (pages : ℕ) (frames : List Frame) (n : ℕ) → AllByRecursion (λ frame. frame.page < pages) frames → PagesExist pages (map head_of frames ++ replicate n blank)
 heads_exist pages [] n all k d lt = blanks_exist pages n k d lt

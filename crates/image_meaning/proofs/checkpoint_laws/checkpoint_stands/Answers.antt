@@ -2,10 +2,10 @@ use Rattle.image_meaning.proofs.CheckpointMoments.{checkpoint_stands, pushed_che
 use Rattle.image_meaning.proofs.checkpoint_laws.checkpoint_stands.Goals as goal
 
 pub returns-clause-whole : goal.returns-clause-whole
-returns-clause-whole c = checkpoint_stands c.staged.ensures.versions c.staged.ensures.clean c.master_laws.ensures
+returns-clause-whole c = checkpoint_stands
 
 pub returns-clause-pushes : goal.returns-clause-pushes
-returns-clause-pushes c = pushed_checkpoint_stands c.staged.ensures.versions c.staged.ensures.clean c.master_laws.ensures
+returns-clause-pushes c = pushed_checkpoint_stands
 
 pub returns-clause-last : goal.returns-clause-last
-returns-clause-last c = save_stands c.staged.ensures.versions c.staged.ensures.clean c.master_laws.ensures
+returns-clause-last c = save_stands

@@ -2,10 +2,10 @@ use Rattle.image_meaning.proofs.OneMeanings.{one_meaning_for, one_master_stands,
 use Rattle.image_meaning.proofs.laws.one_master_stands.Goals as goal
 
 pub returns-clause-meaning : goal.returns-clause-meaning
-returns-clause-meaning c = one_meaning_for c.one_log.ensures c.one_master.ensures.newest
+returns-clause-meaning c = one_meaning_for
 
 pub returns-clause-one : goal.returns-clause-one
-returns-clause-one c = one_master_stands c.one_master.ensures.newest
+returns-clause-one c = one_master_stands
 
 pub returns-clause-read : goal.returns-clause-read
 returns-clause-read c = newest_is_read

@@ -14,7 +14,7 @@ pub returns-clause-stays : goal.returns-clause-stays
 returns-clause-stays c = logical_image_stays
 
 pub returns-clause-staged : goal.returns-clause-staged
-returns-clause-staged c = staged_versions c.staged.ensures.versions c.staged.ensures.clean
+returns-clause-staged c = staged_versions
 
 pub returns-clause-replaced : goal.returns-clause-replaced
 returns-clause-replaced c = replace_all None

@@ -2,4 +2,4 @@ use Rattle.image_meaning.proofs.Leaving.{commit_stands}
 use Rattle.image_meaning.proofs.moment_laws.calls_with_commit.Goals as goal
 
 pub returns : goal.returns
-returns c = commit_stands c.staged.ensures.versions c.staged.ensures.clean c.master_laws.ensures
+returns c = commit_stands

@@ -2,4 +2,4 @@ use Rattle.image_meaning.proofs.Leaving.{push_stands}
 use Rattle.image_meaning.proofs.moment_laws.whole_push.Goals as goal
 
 pub returns : goal.returns
-returns c = push_stands c.staged.ensures.versions c.staged.ensures.clean
+returns c = push_stands

@@ -1,5 +1,0 @@
-use Rattle.log_store.proofs.OneLog.{one_log}
-use Rattle.log_store.proofs.laws.one_log.Goals as goal
-
-pub returns : goal.returns
-returns c = one_log
