@@ -143,6 +143,10 @@ module _ (store : PageStore) (rest : Pool) (last : Frame) (h : HasLeft store res
       h.knows n ∙ ap (λ b. cond b false (is_framed store.pool n)) (ne_eqb n last.page other)
       ∙ told n (subst IsSome (others n other) some)
 
+  -- whether it is to be pushed, by what the pool was told
+  pub must_be : AreTold store → (framed : Bool) → framed ≡ is_framed store.pool last.page → must_be_pushed store.flash.directory (pool_page last) ≡ (last.changed || not framed)
+  must_be told framed is = sym (ap (λ b. last.changed || not b) (is ∙ told last.page (subst IsSome (sym own) refl)))
+
   pub rest_going : (site : State) → Invariant store site → Invariant smaller site
   rest_going site going = record {
     flash = going.flash;

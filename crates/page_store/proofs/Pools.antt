@@ -8,7 +8,7 @@ use Rattle.std.proofs.lemmas.Option.{none-some}
 use Rattle.std.proofs.lemmas.Bool.{eqb-true, eqb-false, ne_eqb}
 use Rattle.buffer_pool.specs.declared.frame.Frame.{Frame}
 use Rattle.buffer_pool.specs.Frames as pool
-use Rattle.buffer_pool.specs.Frames.{State as Pool, AreDistinct, frame_of}
+use Rattle.buffer_pool.specs.Frames.{AreDistinct, frame_of}
 use Rattle.second_chance.specs.Queue.{Queue, with_read}
 use Rattle.second_chance.specs.Machine.{Rules, PoolPage, Cache, holds, is_changed, without, touched, in_front, with_room, evict_coldest}
 use Rattle.page_store.specs.Caching.{pool_page}

@@ -4,7 +4,7 @@ use Rattle.std.proofs.lemmas.List.Sums.{length-filter, count_by-le-length}
 use Rattle.std.specs.Prelude.{slice_get}
 use Rattle.std.specs.List.{AllByRecursion}
 use Rattle.std.proofs.lemmas.Option.{slice_get-get_or}
-use Rattle.std.proofs.lemmas.Bool.{eqb-true, eqb-false, eq-eqb, ne_eqb}
+use Rattle.std.proofs.lemmas.Bool.{ne_eqb}
 use Rattle.std.proofs.lemmas.List.{length-map, length-take}
 use Rattle.std_lemmas.proofs.Bools.{eq_turned}
 use Rattle.std_lemmas.proofs.AllOf.{all_take, all_reverse, all_filter, all_passed, all_at}
@@ -23,7 +23,6 @@ use Rattle.page_store.specs.Pulling.{mark_for, movable, without_all, LeavesOut, 
 use Rattle.page_store.proofs.Pools.{pages_without}
 use Rattle.page_store.proofs.Clearing.{is_among}
 use Rattle.page_store.proofs.Saving.{distinct_filter, distinct_take, distinct_reverse, found_all}
-use Rattle.page_store.proofs.Touching.{all_without}
 use Rattle.page_store.proofs.ToldPages.{told_without}
 
 abbrev pub page_of : Frame → ℕ
@@ -49,7 +48,7 @@ frames_without law (page ∷ pages) frames n =
 
 pub all_left : (P : Frame → Type 0) (pages : List ℕ) (frames : List Frame) → AllByRecursion P frames → AllByRecursion P (without_all pages frames)
 all_left P [] frames all = all
-all_left P (page ∷ pages) frames all = all_left P pages (pool.without frames page) (all_without P frames page all)
+all_left P (page ∷ pages) frames all = all_left P pages (pool.without frames page) (all_filter P (λ (f : Frame). not (f.page == page)) frames all)
 
 pub distinct_left : (pages : List ℕ) (frames : List Frame) → AreDistinct frames → AreDistinct (without_all pages frames)
 distinct_left [] frames apart = apart
