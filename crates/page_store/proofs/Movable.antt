@@ -1,4 +1,5 @@
 -- Which pages a push at an eviction pulls.
+use Rattle.std_lemmas.proofs.Bools.{or_true}
 use Rattle.std.proofs.Common.{◌≡◌, ℕ, ◌+◌, ◌≤◌, Bool, true, false, not, ◌||◌, cond, List, [], ◌∷◌, ◌++◌, take, map, filter, reverse, refl, sym, ap, ◌∙◌}
 use Rattle.std.proofs.lemmas.Simd.{map-map}
 use Rattle.std.proofs.lemmas.List.{map-append, reverse-append, take-take, take-map}
@@ -44,15 +45,11 @@ pulled_of false n queue xs = refl
 pub pulled_by_plan : (pulls : Bool) (n : ℕ) (queue : Queue) (xs : List Frame) → n ≤ 7
     → map (λ (m : PoolMark). m.page) (cond pulls (take n (filter passes (map movable_mark (take 7 (movable queue xs))))) []) ≡ map (λ (f : Frame). f.page) (cond pulls (take n (movable queue xs)) [])
 pulled_by_plan pulls n queue xs few =
-    ap (λ (l : List PoolMark). map (λ (m : PoolMark). m.page) (cond pulls (take n l) [])) (filter_all passes (map movable_mark first) (all_map (λ (m : PoolMark). passes m ≡ true) movable_mark first (all_each _ (λ f. each f.changed) first)))
+    ap (λ (l : List PoolMark). map (λ (m : PoolMark). m.page) (cond pulls (take n l) [])) (filter_all passes (map movable_mark first) (all_map (λ (m : PoolMark). passes m ≡ true) movable_mark first (all_each _ (λ (f : Frame). or_true f.changed) first)))
     ∙ by pulls
   where
     first : List Frame
     first = take 7 (movable queue xs)
-
-    each : (changed : Bool) → (changed || true) ≡ true
-    each true = refl
-    each false = refl
 
     by : (pulls : Bool) → map (λ (m : PoolMark). m.page) (cond pulls (take n (map movable_mark first)) []) ≡ map (λ (f : Frame). f.page) (cond pulls (take n (movable queue xs)) [])
     by false = refl
