@@ -1,8 +1,7 @@
-ghost use Rattle.std.specs.Prelude.{◌≡◌, ◌+◌, true, false, [], map, take, IfOk, IfErr};
+ghost use Rattle.std.specs.Prelude.{◌≡◌, ◌+◌, true, false, [], map, take, IfOk};
 ghost use Rattle.buffer_pool.specs.Listing.{struck, enlisted};
 
-use site::Stop;
-use std::alloc::Global;
+use std::alloc::{AllocError, Global};
 use std::collections::BTreeMap;
 
 /// The pages that a push may take from the pool, by the numbers of their last touches, so that the coldest come first.
@@ -70,9 +69,8 @@ impl Index {
     }
 
     /// The first pages of the list, so many at most, and whether each was changed.
-    pub(crate) fn coldest(&self, alloc: Global, most: usize) -> Result<Vec<(u32, bool)>, Stop>
+    pub(crate) fn coldest(&self, alloc: Global, most: usize) -> Result<Vec<(u32, bool)>, AllocError>
         ensures marks { IfOk result (λ marks. marks.items ≡ take most (map (λ w. w.1) self.now.listed.entries)) }
-        ensures memory { IfErr result (λ stop. stop ≡ Stop.Memory) }
     {
         let mut marks = Vec::new(alloc);
         let mut warmer = self.listed.iter();

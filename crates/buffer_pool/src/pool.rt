@@ -1,17 +1,18 @@
-ghost use Rattle.std.specs.Prelude.{◌≡◌, ◌<◌, ◌≤◌, ◌==◌, ◌↔◌, ◌∷◌, ◌++◌, [], ℕ, List, length, map, IsTrue, true, false};
-ghost use Rattle.std.specs.Prelude.{Some, None, IsSome, IsNone, is_some, if◌then◌else◌, IfOk, IfErr, IfSome, IfNone};
+ghost use Rattle.std.specs.Prelude.{◌≡◌, ◌<◌, ◌≤◌, ◌==◌, ◌↔◌, ◌∷◌, ◌++◌, [], length, map, IsTrue, true, false};
+ghost use Rattle.std.specs.Prelude.{Some, None, IsSome, is_some, if◌then◌else◌, IfOk, IfErr, IfSome, IfNone};
 ghost use Rattle.std.specs.Prelude.{OnOk, OnErr, OnSome, slice_get, option_map, option_copied};
 ghost use Rattle.slotted_page.specs.Layout.{slots_of, content_length, IsSound, FitsPage};
-ghost use Rattle.buffer_pool.specs.Frames.{IsPool, frame_of, without, touched, cleared, mark_of, front_of};
+ghost use Rattle.buffer_pool.specs.Frames.{IsPool, frame_of, is_framed, without, touched, cleared, mark_of, front_of};
 ghost use Rattle.buffer_pool.specs.Frames.{coldest_changed, coldest_movable, KnowsSame, Knows, ChangesFront};
 
+use crate::frame::Frame;
 use crate::index::Index;
 use crate::pool_entry::PoolEntry;
 use byte_fields::VALUE_MAX;
 use lru::LruCache;
 use site::Stop;
 use slotted_page::Page;
-use std::alloc::Global;
+use std::alloc::{AllocError, Global};
 use std::marker::Model;
 use std::num::NonZeroUsize;
 
@@ -40,9 +41,8 @@ impl Model for Pool {
 }
 
 // Adds a page to others where it is wanted.
-fn add_if(pages: &mut Vec<u32>, page: u32, wanted: bool) -> Result<(), Stop>
+fn add_if(pages: &mut Vec<u32>, page: u32, wanted: bool) -> Result<(), AllocError>
     ensures ok { OnOk result (pages.new.items ≡ pages.old.items ++ (if wanted then page ∷ [] else [])) }
-    ensures memory { IfErr result (λ stop. stop ≡ Stop.Memory) }
 {
     if wanted {
         pages.push(page)?;
@@ -56,9 +56,8 @@ fn add_mark_if(
     page: u32,
     changed: bool,
     wanted: bool,
-) -> Result<(), Stop>
+) -> Result<(), AllocError>
     ensures ok { OnOk result (marks.new.items ≡ marks.old.items ++ (if wanted then (page, changed) ∷ [] else [])) }
-    ensures memory { IfErr result (λ stop. stop ≡ Stop.Memory) }
 {
     if wanted {
         marks.push((page, changed))?;
@@ -68,11 +67,10 @@ fn add_mark_if(
 
 impl Pool {
     /// An empty pool with room for so many pages, 1 to 4,096.
-    pub fn new(alloc: Global, size: u32) -> Result<Pool, Stop>
+    pub fn new(alloc: Global, size: u32) -> Result<Pool, AllocError>
         requires least { 1 ≤ size }
         requires most { size ≤ 4096 }
         ensures empty { IfOk result (λ pool. pool ≡ record { size = size; frames = []; framed = [] }) }
-        ensures memory { IfErr result (λ stop. stop ≡ Stop.Memory) }
     {
         let Some(most) = NonZeroUsize::new(size as usize) else {
             unreachable!();
@@ -193,11 +191,12 @@ impl Pool {
         self.index.list(kept.stamp, page, true, true);
     }
 
-    /// Takes out the page that was touched longest ago: its number, whether it was changed, and what it holds.
-    pub fn take_coldest(&mut self) -> Option<(u32, bool, Page)>
-        ensures some { IfSome result (λ taken. self.old.frames
-            ≡ self.new.frames ++ record { page = taken.0; changed = taken.1; content = taken.2 } ∷ []) }
-        ensures framed { IfSome result (λ taken. Knows taken.0 false self.old self.new) }
+    /// Takes out the page that was touched longest ago, and tells whether it has a frame in the queue on flash, as the
+    /// pool was told.
+    pub fn take_coldest(&mut self) -> Option<(Frame, bool)>
+        ensures some { IfSome result (λ taken. self.old.frames ≡ self.new.frames ++ taken.0 ∷ []) }
+        ensures told { IfSome result (λ taken. taken.1 ≡ is_framed self.old taken.0.page) }
+        ensures framed { IfSome result (λ taken. Knows taken.0.page false self.old self.new) }
         ensures none { IfNone result (self.old.frames ≡ []) }
         ensures same { IfNone result (self.new ≡ self.old) }
         ensures size { self.new.size ≡ self.old.size }
@@ -205,7 +204,12 @@ impl Pool {
         let (page, kept) = self.pages.pop_lru()?;
         let listed = kept.is_listed();
         self.index.strike(kept.stamp, listed);
-        Some((page, kept.changed, Box::into_inner(kept.content)))
+        let frame = Frame {
+            page,
+            changed: kept.changed,
+            content: Box::into_inner(kept.content),
+        };
+        Some((frame, kept.framed))
     }
 
     /// Takes out a page: whether it was changed, and what it holds; none exactly where it isn't there. The others stay
@@ -282,9 +286,8 @@ impl Pool {
     }
 
     /// The number of each page, the front first, and whether it was changed.
-    pub fn marks(&self, alloc: Global) -> Result<Vec<(u32, bool)>, Stop>
+    pub fn marks(&self, alloc: Global) -> Result<Vec<(u32, bool)>, AllocError>
         ensures marks { IfOk result (λ marks. marks.items ≡ map mark_of self.now.frames) }
-        ensures memory { IfErr result (λ stop. stop ≡ Stop.Memory) }
     {
         let mut marks = Vec::new(alloc);
         let mut colder = self.pages.iter();
@@ -295,10 +298,9 @@ impl Pool {
     }
 
     /// The pages that were changed, the one that was touched longest ago in front, so many at most.
-    pub fn coldest_changed(&self, alloc: Global, most: usize) -> Result<Vec<u32>, Stop>
+    pub fn coldest_changed(&self, alloc: Global, most: usize) -> Result<Vec<u32>, AllocError>
         ensures pages { IfOk result (λ pages. pages.items
             ≡ map (λ frame. frame.page) (coldest_changed most self.now.frames)) }
-        ensures memory { IfErr result (λ stop. stop ≡ Stop.Memory) }
     {
         let mut pages = Vec::new(alloc);
         let mut warmer = self.pages.iter();
@@ -312,9 +314,8 @@ impl Pool {
     }
 
     // The pages that are listed, found without the index.
-    fn walk_to_listed(&self, alloc: Global, most: usize) -> Result<Vec<(u32, bool)>, Stop>
+    fn walk_to_listed(&self, alloc: Global, most: usize) -> Result<Vec<(u32, bool)>, AllocError>
         ensures marks { IfOk result (λ marks. marks.items ≡ map mark_of (coldest_movable most self.now)) }
-        ensures memory { IfErr result (λ stop. stop ≡ Stop.Memory) }
     {
         let mut marks = Vec::new(alloc);
         let mut warmer = self.pages.iter();
@@ -330,9 +331,12 @@ impl Pool {
     /// The pages that were changed or have no frame in the queue on flash, the one that was touched longest ago in
     /// front, so many at most, and whether each was changed. The pool is walked only where memory was wanting once for
     /// the index of these pages.
-    pub fn coldest_movable(&self, alloc: Global, most: usize) -> Result<Vec<(u32, bool)>, Stop>
+    pub fn coldest_movable(
+        &self,
+        alloc: Global,
+        most: usize,
+    ) -> Result<Vec<(u32, bool)>, AllocError>
         ensures marks { IfOk result (λ marks. marks.items ≡ map mark_of (coldest_movable most self.now)) }
-        ensures memory { IfErr result (λ stop. stop ≡ Stop.Memory) }
     {
         if self.index.whole {
             return self.index.coldest(alloc, most);

@@ -4,7 +4,11 @@ use Rattle.std.specs.List.{AllPairs, Contains}
 use Rattle.std.proofs.lemmas.List.{get_or_default}
 use Rattle.std_lemmas.proofs.AllOf.{all_append}
 use Rattle.site.specs.declared.geometry.Geometry.{Geometry}
-use Rattle.site.specs.State.{State, Image, Snapshot}
+use Rattle.std.specs.Prelude.{Result, OnOk, IsErrOf}
+use Rattle.std_lemmas.proofs.Results.{ok_both}
+use Rattle.site.specs.declared.outside.Stop.{Stop}
+use Rattle.site.specs.declared.outside.Stop.TheVariants.{Foreign}
+use Rattle.site.specs.State.{State, Image, Snapshot, IsQuiet}
 use Rattle.site.specs.Moments.{LeavesOnly}
 use Rattle.site.specs.Laws.{leaves_weaker}
 use Rattle.image_changes.specs.Changes.{Change, AppendsGroup, Reaches}
@@ -15,11 +19,13 @@ use Rattle.frame_group.specs.Versions.{last_frame, version, version_by, CleanAsD
 use Rattle.frame_group.proofs.LastFrames.{last_by_index, none_by_index, last_is_of_page, new_version, other_versions, push_keeps_clean}
 use Rattle.second_chance.specs.Queue.{Queue, has_frame}
 use Rattle.second_chance.specs.Plans.{Placed, chances_given}
-use Rattle.second_chance.specs.Machine.{chance_frame}
+use Rattle.second_chance.specs.Machine.{chance_frame, rules_of, staged_in_push}
 use Rattle.tail_rebuild.specs.Saving.{is_due, changes_of_save}
 use Rattle.flash_cache.specs.declared.cache.FlashCache.{FlashCache}
 use Rattle.flash_cache.specs.Representation.{Invariant, Matches, HasGroups, HasFrames, AreSaved, Represents, AllTogether, Shows, frames_on, disk_on, version_on, IsCleanOn}
-use Rattle.flash_cache.specs.Kept.{KeepsVersions, GivesVersions, LeavesVersions, AreCleanGiven, LeavesClean}
+use Rattle.flash_cache.specs.Kept.{KeepsVersions, GivesVersions, LeavesVersions, AreCleanGiven, LeavesClean, PushesGroup}
+use Rattle.flash_cache.specs.OnDisk.{HasLastStaged}
+use Rattle.flash_cache.proofs.PushLaws.{push_front}
 use Rattle.flash_cache.specs.Laws.{UnframedIsDisk}
 use Rattle.flash_cache.specs.Pushed.{no_frame, front_leaves, staged_pages, staged_contents, chance_marks, chance_given, frames_given, known_given, frames_pushed, known_pushed, pushed_groups, pushed_queue, changes_of_push, changes_before, changes_of_group, LeavesPushBehind}
 use Rattle.flash_cache.proofs.Given.{length-given, given_at}
@@ -302,3 +308,26 @@ module _ (cache : FlashCache) (groups : List (List Frame)) (old : State) (going 
     holds_behind geometry =
         holds_pushed cache groups old.image pages changed contents cache' new holds marks lists geometry queue
         (has_then cache groups old.image few room holds pages changed contents marks lists differ own new staged (made_by new made)) (saved_then new made)
+
+  -- all of it, by the moments, and by what is reached
+  pub pushes_group : {T : Type 0} (result : Result T Stop) (cache' : FlashCache) (new : State) → (IsQuiet old → LeavesOnly old new (PushesBehind (changes_before cache old.image)))
+      → OnOk result (Reaches cache.geometry (changes_of_group cache old.image pages changed contents) old.image new.image) → OnOk result (HasStaged (staged_pages cache) (staged_contents cache groups) old.image.disk new.image.disk)
+      → (IsQuiet old → OnOk result (HasLastStaged cache.geometry (staged_in_push (rules_of 0 cache.geometry.groups) cache.directory) old new)) → OnOk result (cache'.directory ≡ pushed_queue cache (known_pushed cache pages changed))
+      → cache'.geometry ≡ cache.geometry → (IsErrOf result Foreign → ⊥) → PushesGroup result cache cache' groups pages changed contents old new
+  pushes_group result cache' new any reaches staged last queue geometry foreign =
+      let Both : Type 0 = HasStaged (staged_pages cache) (staged_contents cache groups) old.image.disk new.image.disk × Reaches cache.geometry (changes_of_group cache old.image pages changed contents) old.image new.image in
+      let both = ok_both result _ _ Both (λ s r. (s, r)) staged reaches in
+      record {
+        any_moment = any;
+        front = λ quiet. push_front cache.geometry _ _ _ _ old new (any quiet);
+        reaches = reaches;
+        staged = staged;
+        last = last;
+        frames = own;
+        versions = λ quiet clean. leaves_versions new clean (any quiet);
+        gives = λ clean. ok_both result Both _ _ (λ b q. gives_behind cache' new.image b.0 b.1 q clean) both queue;
+        clean_moment = λ quiet clean given. leaves_clean new clean given (any quiet);
+        clean = λ clean given. ok_both result Both _ _ (λ b q. clean_behind cache' new.image b.0 b.1 q clean given) both queue;
+        holds = ok_both result Both _ _ (λ b q. holds_behind cache' new.image b.0 b.1 q geometry) both queue;
+        foreign = foreign;
+      }

@@ -24,14 +24,15 @@ use Rattle.flash_cache.specs.declared.cache.FlashCache.{FlashCache}
 use Rattle.flash_cache.specs.Representation.{Invariant, Represents, HasFrames, AllTogether, Shows, version_on}
 use Rattle.flash_cache.specs.declared.leaving.DepartingFrames.{DepartingFrames}
 use Rattle.flash_cache.specs.Leaving.{page_at, AreAt, again}
-use Rattle.flash_cache.specs.Pushed.{no_frame, staged_marks, staged_pages, chance_marks, chance_given, pages_pushed, frames_given, known_given, frames_pushed, known_pushed}
+use Rattle.flash_cache.specs.declared.cache.PushPlan.{PushPlan}
+use Rattle.flash_cache.specs.Pushed.{IsPlan, no_frame, staged_marks, staged_pages, chance_marks, chance_given, pages_pushed, frames_given, known_given, frames_pushed, known_pushed}
 use Rattle.flash_cache.proofs.Given.{length-given, known_of_given}
 use Rattle.flash_cache.proofs.StagedFrames.{frames_at}
 use Rattle.flash_cache.proofs.PushedOutcome.{stored}
 use Rattle.flash_cache.proofs.Queues.{together_length, has_at}
 use Rattle.tail_rebuild.proofs.Standing.{stands}
 use Rattle.flash_cache.proofs.Standing.{known_heads, length-mapped}
-use Rattle.flash_cache.proofs.StagedMarks.{AreNumbered, length-marks, read_at, marks_exist, staged_numbered, chances_numbered}
+use Rattle.flash_cache.proofs.StagedMarks.{AreNumbered, length-marks, read_at, marks_exist, chances_numbered, staged_among, chances_among}
 
 -- the pages given exist
 
@@ -87,8 +88,8 @@ module _ (cache : FlashCache) (site : State) (groups : List (List Frame)) (going
   contents_are marks places numbered is = ap (map (page_at unit)) is ∙ contents_of unit front marks each (inside marks numbered)
 
 -- the pages of the frames that are staged
-pub pages_are : (cache : FlashCache) (places : List ℕ) (staged : DepartingFrames) → AreAt cache.directory.groups places staged → places ≡ map (λ f. f.0) (staged_marks cache) → staged.pages.items ≡ staged_pages cache
-pages_are cache places staged are is = are.pages ∙ read_at (λ (m : Mark). m.page) cache.directory.groups (staged_marks cache) places (staged_numbered cache) is
+pub pages_are : (cache : FlashCache) (plan : PushPlan) (staged : DepartingFrames) → IsPlan plan cache → AreAt plan.front.now plan.plan.staged staged → staged.pages.items ≡ staged_pages cache
+pages_are cache plan staged is are = are.pages ∙ read_at (λ (m : Mark). m.page) plan.front.now (staged_marks cache) plan.plan.staged (staged_among cache plan is) is.staged
 
 -- the second chances, as they were read
 
@@ -100,15 +101,15 @@ known_marks : (marks : List Placed) → known_given (map (λ f. f.1.page) marks)
 known_marks [] = refl
 known_marks (f ∷ marks) = ap (λ (l : List Known). chance_frame f ∷ l) (known_marks marks)
 
-module _ (cache : FlashCache) (places : List ℕ) (chances : DepartingFrames) (are : AreAt cache.directory.groups places chances) (planned : places ≡ map (λ f. f.0) (chance_marks cache)) where
+module _ (cache : FlashCache) (plan : PushPlan) (chances : DepartingFrames) (planned : IsPlan plan cache) (are : AreAt plan.front.now plan.plan.chances chances) where
   pub chance_pages : chances.pages.items ≡ map (λ f. f.1.page) (chance_marks cache)
-  chance_pages = are.pages ∙ read_at (λ (m : Mark). m.page) cache.directory.groups (chance_marks cache) places (chances_numbered cache) planned
+  chance_pages = are.pages ∙ read_at (λ (m : Mark). m.page) plan.front.now (chance_marks cache) plan.plan.chances (chances_among cache plan planned) planned.chances
 
   pub chance_dirty : chances.dirty.items ≡ map (λ f. f.1.dirty) (chance_marks cache)
-  chance_dirty = are.dirty ∙ read_at (λ (m : Mark). m.dirty) cache.directory.groups (chance_marks cache) places (chances_numbered cache) planned
+  chance_dirty = are.dirty ∙ read_at (λ (m : Mark). m.dirty) plan.front.now (chance_marks cache) plan.plan.chances (chances_among cache plan planned) planned.chances
 
-  many : length places ≡ length (chance_marks cache)
-  many = ap length planned ∙ length-mapped (λ (f : Placed). f.0) (chance_marks cache)
+  many : length plan.plan.chances ≡ length (chance_marks cache)
+  many = ap length planned.chances ∙ length-mapped (λ (f : Placed). f.0) (chance_marks cache)
 
   pages_long : length chances.pages.items ≡ length (chance_marks cache)
   pages_long = ap length chance_pages ∙ length-mapped (λ (f : Placed). f.1.page) (chance_marks cache)
@@ -137,14 +138,14 @@ module _ (cache : FlashCache) (places : List ℕ) (chances : DepartingFrames) (a
 
   -- where groups stand on flash, they are the second chances of the push
   pub again_is : (site : State) (groups : List (List Frame)) → Invariant cache site → Represents cache site.image groups
-      → chances.contents.items ≡ map (page_at (unit_at cache.ring.shape (units_in cache.ring.shape site) cache.directory.first)) places
+      → chances.contents.items ≡ map (page_at (unit_at cache.ring.shape (units_in cache.ring.shape site) cache.directory.first)) plan.plan.chances
       → again chances ≡ map (chance_given (version_on cache.geometry site.image)) (chance_marks cache)
   again_is site groups going holds read =
       let marks = chance_marks cache in
       let versions : ℕ → List ℕ = version_on cache.geometry site.image in
       let octets : List Frame → List (List ℕ) = λ (l : List Frame). map (λ (x : Frame). x.octets) l in
       let contents : chances.contents.items ≡ map (λ f. versions f.1.page) marks =
-      read ∙ contents_are cache site groups going holds marks places (chances_numbered cache) planned
+      read ∙ contents_are cache site groups going holds marks plan.plan.chances (chances_numbered cache) planned.chances
       ∙ sym (map_map (λ (x : Frame). x.octets) (λ (f : Placed). get_or (get_or groups 0 []) f.0 no_frame) marks)
       ∙ sym (ap octets (stored cache groups site.image going.few going.limits.groups holds))
       ∙ map_map (λ (x : Frame). x.octets) (chance_given versions) marks in

@@ -9,12 +9,17 @@ use Rattle.second_chance.specs.declared.frame.Frame.{Frame as Known}
 use Rattle.second_chance.specs.Queue.{group_marks, front_marks}
 use Rattle.second_chance.specs.Plans.{Placed, chances_given, staged_of}
 use Rattle.second_chance.specs.Machine.{rules_of, leaving}
+use Rattle.site.specs.State.{State}
+use Rattle.sealed_ring.specs.declared.slots.Shape.{Shape}
+use Rattle.sealed_ring.specs.Ring.{IsLive}
+use Rattle.flash_cache.specs.Representation.{Invariant}
 use Rattle.stage_out.specs.Staged.{calls_of}
 use Rattle.second_chance.proofs.DistinctStaged.{staged_stand_in, staged_apart}
 use Rattle.second_chance.proofs.Chances.{chances_stand_in, chances_are_not_staged}
 use Rattle.flash_cache.specs.declared.cache.FlashCache.{FlashCache}
 use Rattle.flash_cache.specs.Leaving.{no_mark, mark_at}
-use Rattle.flash_cache.specs.Pushed.{front_leaves, staged_marks, staged_pages, chance_marks}
+use Rattle.flash_cache.specs.declared.cache.PushPlan.{PushPlan}
+use Rattle.flash_cache.specs.Pushed.{front_leaves, staged_marks, staged_pages, chance_marks, IsPlan}
 
 -- marks of a group
 
@@ -50,10 +55,9 @@ read_by f front [] all = refl
 read_by f front (x ∷ xs) all = λ i. f (get_or_from_slice_get front x.0 x.1 no_mark all.0 i) ∷ read_by f front xs all.1 i
 
 -- what is read of marks by their places
-pub read_at : {Y : Type 0} (f : Mark → Y) (groups : List (List Known)) (marks : List Placed) (places : List ℕ) → AreNumbered (front_marks groups) marks → places ≡ map (λ x. x.0) marks → map (λ place. f (mark_at groups place)) places ≡ map (λ x. f x.1) marks
-read_at f groups marks places stand is =
-    ap (map (λ place. f (mark_at groups place))) is
-    ∙ read_by f (front_marks groups) marks (recursion_from_All (λ (x : Placed). slice_get (front_marks groups) x.0 ≡ Some x.1) marks stand)
+pub read_at : {Y : Type 0} (f : Mark → Y) (front : List Mark) (marks : List Placed) (places : List ℕ) → AreNumbered front marks → places ≡ map (λ x. x.0) marks → map (λ place. f (mark_at front place)) places ≡ map (λ x. f x.1) marks
+read_at f front marks places stand is =
+    ap (map (λ place. f (mark_at front place))) is ∙ read_by f front marks (recursion_from_All (λ (x : Placed). slice_get front x.0 ≡ Some x.1) marks stand)
 
 pub marks_exist : (pages : ℕ) (groups : List (List Known)) (marks : List Placed) → AreNumbered (front_marks groups) marks → AllByRecursion (λ frames. AllByRecursion (λ (frame : Known). frame.page < pages) frames) groups → All (λ page. page < pages) (map (λ f. f.1.page) marks)
 marks_exist pages groups marks stand exist = All-map (λ (page : ℕ). page < pages) (λ (f : Placed). f.1.page) marks (λ k d lt. front_exists pages groups _ _ exist (stand k d lt))
@@ -81,9 +85,27 @@ module _ (cache : FlashCache) where
   pub chances_numbered : AreNumbered front (chance_marks cache)
   chances_numbered k d lt = leaving_is (front_leaves cache) _ _ (chances_stand_in chances_given out k d lt).stands
 
+  module _ (plan : PushPlan) (is : IsPlan plan cache) where
+    pub staged_among : AreNumbered plan.front.now (staged_marks cache)
+    staged_among = subst (λ (l : List Mark). AreNumbered l (staged_marks cache)) (sym is.front) (λ k d lt. (staged_stand_in chances_given out k d lt).stands)
+
+    pub chances_among : AreNumbered plan.front.now (chance_marks cache)
+    chances_among = subst (λ (l : List Mark). AreNumbered l (chance_marks cache)) (sym is.front) (λ k d lt. (chances_stand_in chances_given out k d lt).stands)
+
   marks_few : (b : Bool) → length (cond b front []) ≤ length front
   marks_few true = omega arith
   marks_few false = omega arith
+
+  -- what leaves are at most eight frames, of a group that there is
+  pub leaving_few : (leaves : List Mark) → leaves ≡ out → AllByRecursion (λ frames. (1 ≤ length frames) × (length frames ≤ 8)) cache.directory.groups → length leaves ≤ 8
+  leaving_few leaves is sizes = omega (arith, ap length is, marks_few (front_leaves cache), front_few cache.directory.groups sizes)
+
+  front_some : (groups : List (List Known)) → 0 < length (front_marks groups) → 0 < length groups
+  front_some [] some = absurd (omega (arith, some))
+  front_some (group ∷ later) some = omega arith
+
+  pub leaving_some : (leaves : List Mark) → leaves ≡ out → 0 < length leaves → 0 < length cache.directory.groups
+  leaving_some leaves is some = front_some cache.directory.groups (omega (arith, ap length is, marks_few (front_leaves cache), some))
 
   -- no more frames are read than the front group has
   pub reads_few : (staged chances : List ℕ) → AllByRecursion (λ frames. (1 ≤ length frames) × (length frames ≤ 8)) cache.directory.groups → staged ≡ map (λ f. f.0) (staged_marks cache) → chances ≡ map (λ f. f.0) (chance_marks cache) → length staged + length chances ≤ 8
@@ -117,3 +139,8 @@ module _ (cache : FlashCache) where
       let high : j < length marks = omega (arith, within, many) in
       λ same. apart_by chances_given (front_leaves cache) cache.directory.groups i j e before high
       (sym (get_or-map (λ (f : Placed). f.1.page) marks i e d low) ∙ same ∙ get_or-map (λ (f : Placed). f.1.page) marks j e d high)
+
+pub front_live : (cache : FlashCache) (site : State) → Invariant cache site → (n : ℕ) → n ≡ cache.directory.first → 1 ≤ length cache.directory.groups → IsLive cache.ring.shape cache.ring.hi n
+front_live cache site going n is some =
+    let slots = ap (λ (s : Shape). s.slots) going.rings.groups_shape in
+    record { below = omega (arith, is, some, going.next); near = omega (arith, is, going.next, going.few, slots) }

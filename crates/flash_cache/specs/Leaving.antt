@@ -6,10 +6,9 @@ use Rattle.sealed_ring.specs.declared.ring.Ring.{Ring}
 use Rattle.sealed_ring.specs.Ready.{IsUsable}
 use Rattle.byte_fields.specs.declared.frame_head.FrameHead.{FrameHead}
 use Rattle.byte_fields.specs.declared.frame_head.Mark.{Mark}
-use Rattle.frame_group.specs.Groups.{Frame, frame_of}
-use Rattle.second_chance.specs.declared.frame.Frame.{Frame as Known}
-use Rattle.second_chance.specs.Queue.{front_marks}
+use Rattle.frame_group.specs.Groups.{Frame, frame_of, group, heads_of}
 use Rattle.flash_cache.specs.declared.leaving.DepartingFrames.{DepartingFrames}
+use Rattle.flash_cache.specs.declared.making.NewGroup.{NewGroup}
 use Rattle.flash_cache.specs.Pushed.{frames_given}
 
 -- a ring of groups that may be read
@@ -21,18 +20,18 @@ pub record IsGroupRing (ring : Ring) (site : State) : Type 0 where
 abbrev pub no_mark : Mark
 no_mark = record { page = 0; valid = false; dirty = false; referenced = false }
 
--- the mark at a place of the front group
-abbrev pub mark_at : List (List Known) → ℕ → Mark
-mark_at groups place = slice_index_or (front_marks groups) place no_mark
+-- the mark at a place of the front group, of its marks
+abbrev pub mark_at : List Mark → ℕ → Mark
+mark_at front place = slice_index_or front place no_mark
 
 -- the page at a place of a group's content
 abbrev pub page_at : List ℕ → ℕ → List ℕ
 page_at content place = take 4096 (drop (128 + 4096 * place) content)
 
 -- the pages and marks of frames are those at these places of the front group, and each has a content
-pub record AreAt (groups : List (List Known)) (places : List ℕ) (frames : DepartingFrames) : Type 0 where
-  pub pages : frames.pages.items ≡ map (λ place. (mark_at groups place).page) places
-  pub dirty : frames.dirty.items ≡ map (λ place. (mark_at groups place).dirty) places
+pub record AreAt (front : List Mark) (places : List ℕ) (frames : DepartingFrames) : Type 0 where
+  pub pages : frames.pages.items ≡ map (λ place. (mark_at front place).page) places
+  pub dirty : frames.dirty.items ≡ map (λ place. (mark_at front place).dirty) places
   pub count : length frames.contents.items ≡ length places
 
 -- the frames that are put into a group again
@@ -42,3 +41,8 @@ again frames = frames_given frames.pages.items frames.dirty.items frames.content
 -- the frames that heads and contents make
 abbrev pub frames_with : List FrameHead → List (List ℕ) → List Frame
 frames_with heads contents = map (λ f. frame_of f.0 f.1) (zip heads contents)
+
+-- a group as it is written, with these frames
+pub record IsMadeOf (made : NewGroup) (frames : List Frame) : Type 0 where
+  pub content : made.content ≡ group frames
+  pub heads : made.heads ≡ heads_of frames

@@ -15,6 +15,7 @@ use Rattle.second_chance.specs.Plans.{Placed, chances_of, staged_of, chances_giv
 use Rattle.second_chance.specs.Machine.{rules_of, is_full, leaving, chance_frame}
 use Rattle.tail_rebuild.specs.Saving.{is_due, changes_of_save}
 use Rattle.flash_cache.specs.declared.cache.FlashCache.{FlashCache}
+use Rattle.flash_cache.specs.declared.cache.PushPlan.{PushPlan}
 use Rattle.flash_cache.specs.Representation.{version_on, groups_on}
 
 -- whether the front group leaves with a push: the queue has as many groups as can be
@@ -39,6 +40,12 @@ staged_contents cache groups =
 -- the frames of the front group that the machine's push gives a second chance
 abbrev pub chance_marks : FlashCache → List Placed
 chance_marks cache = chances_of chances_given (leaving (rules_of 0 cache.geometry.groups) cache.directory)
+
+-- the marks of what leaves with the next push, and the machine's plan for them
+pub record IsPlan (plan : PushPlan) (cache : FlashCache) : Type 0 where
+  pub front : plan.front.now ≡ leaving (rules_of 0 cache.geometry.groups) cache.directory
+  pub chances : plan.plan.chances ≡ map (λ f. f.0) (chance_marks cache)
+  pub staged : plan.plan.staged ≡ map (λ f. f.0) (staged_marks cache)
 
 -- a second chance in the new group, where pages have these versions: its page's version, dirty as it was
 abbrev pub chance_given : (ℕ → List ℕ) → Placed → Frame

@@ -1,6 +1,6 @@
 // The queue on flash: its groups stand on a ring of the flash device, and a directory in memory knows their frames.
-ghost use Rattle.std.specs.Prelude.{◌≡◌, ◌≢◌, ◌⊎◌, ◌↔◌, ◌+◌, ◌-◌, ◌*◌, ◌<◌, ◌≤◌, ℕ, List, length, map, take, []};
-ghost use Rattle.std.specs.Prelude.{true, false, IsTrue, IfOk, OnOk, OnErr, IfErr, IsErrOf, IfSome, IfNone};
+ghost use Rattle.std.specs.Prelude.{◌≡◌, ◌≢◌, ◌⊎◌, ◌↔◌, ◌+◌, ◌-◌, ◌*◌, ◌<◌, ◌≤◌, ℕ, List, length, take, []};
+ghost use Rattle.std.specs.Prelude.{true, false, IsTrue, IfOk, OnOk, OnErr, IfErr, IsErrOf};
 ghost use Rattle.std.specs.Prelude.{Some, if◌then◌else◌, slice_get, AllPairs};
 ghost use Rattle.std.specs.List.{All, AllByRecursion};
 ghost use Rattle.site.specs.declared.outside.Dev.{Dev};
@@ -15,30 +15,29 @@ ghost use Rattle.byte_fields.specs.declared.frame_head.FrameHead.{FrameHead};
 ghost use Rattle.byte_fields.specs.FrameHeads.{AreGroupHeads};
 ghost use Rattle.image_changes.specs.Rings.{group_shape, Groups as GroupRing};
 ghost use Rattle.image_changes.specs.Changes.{Appends, Reaches};
-ghost use Rattle.image_changes.specs.Reached.{LeavesFront};
 ghost use Rattle.frame_group.specs.Groups.{Frame, IsFrame, heads_of, group};
 ghost use Rattle.tail_rebuild.specs.Listing.{ReadsFlash};
 ghost use Rattle.tail_rebuild.specs.Saving.{is_due};
 ghost use Rattle.second_chance.specs.Queue.{has_frame, with_read, marks, front_marks};
-ghost use Rattle.second_chance.specs.Machine.{rules_of, leaving, staged_in_push};
+ghost use Rattle.second_chance.specs.Machine.{rules_of, leaving};
 ghost use Rattle.stage_out.specs.Staged.{HasStaged, calls_of};
 ghost use Rattle.flash_directory.specs.Heads.{frames_in};
 ghost use Rattle.flash_cache.specs.Calls.{KeepsCache};
 ghost use Rattle.flash_cache.specs.Representation.{Invariant, Matches, IsNext, HasGroups};
 ghost use Rattle.flash_cache.specs.Representation.{HasFrames, AreSaved, Represents, queue_of, version_on};
-ghost use Rattle.flash_cache.specs.Representation.{PagesExist, IsCleanOn, start_reads};
-ghost use Rattle.flash_cache.specs.Pushed.{staged_marks, staged_pages, staged_contents, chance_marks, pages_pushed};
-ghost use Rattle.flash_cache.specs.Pushed.{frames_given, frames_pushed, known_pushed, pushed_groups, pushed_queue};
-ghost use Rattle.flash_cache.specs.Pushed.{changes_of_push, changes_before, changes_of_group, LeavesPush};
-ghost use Rattle.flash_cache.specs.Pushed.{LeavesPushBehind, ChangesPages};
-ghost use Rattle.flash_cache.specs.OnDisk.{HasLastStaged, SomeMoment};
-ghost use Rattle.flash_cache.specs.Kept.{GivesVersions, LeavesVersions, AreCleanGiven, LeavesClean};
+ghost use Rattle.flash_cache.specs.Representation.{PagesExist, start_reads};
+ghost use Rattle.flash_cache.specs.Pushed.{staged_pages, staged_contents, pages_pushed};
+ghost use Rattle.flash_cache.specs.Pushed.{frames_given, frames_pushed, known_pushed, pushed_queue};
+ghost use Rattle.flash_cache.specs.Pushed.{changes_of_push, LeavesPush};
+ghost use Rattle.flash_cache.specs.Pushed.{ChangesPages, IsPlan};
+ghost use Rattle.flash_cache.specs.OnDisk.{SomeMoment};
+ghost use Rattle.flash_cache.specs.Kept.{PushesGroup};
 
 use crate::leaving::frames_leaving;
-use crate::making::{PagesToPush, group_content, heads_given};
+use crate::making::{PagesToPush, heads_given, new_group};
 use byte_fields::{FrameHead, Mark};
 use flash_directory::{Directory, HeadView};
-use frame_group::{GROUP_LEN, HEADS_LEN, PAGE_LEN, group_heads};
+use frame_group::{HEADS_LEN, PAGE_LEN};
 use sealed_ring::Ring;
 use second_chance::Plan;
 use site::{Dev, Geometry, Site, Stop};
@@ -46,6 +45,13 @@ use slotted_page::Page;
 use stage_out::stage;
 use std::alloc::Global;
 use tail_rebuild::{rebuild, save_due};
+
+/// What a push does with the front group: the marks of the frames that leave the queue with it, and the plan for them.
+#[derive(Drop)]
+pub struct PushPlan<'a> {
+    pub front: &'a [Mark],
+    pub plan: Plan,
+}
 
 /// The queue of groups on flash. It is ended once a call that changes it gave an error.
 #[derive(Drop)]
@@ -178,22 +184,21 @@ impl FlashCache {
     /// has the version that it had, or all pages given have their contents, and every other page the version that it
     /// had.
     ///
-    /// `plan` is that of the machine for the front group. The lists are the pages given, of which none is given twice,
-    /// whether each was changed, and the content of each. With the second chances they are 1 to 8 pages; a page that
-    /// has a second chance may be given, too, and has the content given then.
+    /// `plan` is that of the machine for the front group, by the marks of what leaves with it. The lists are the pages
+    /// given, of which none is given twice, whether each was changed, and the content of each. With the second chances
+    /// they are 1 to 8 pages; a page that has a second chance may be given, too, and has the content given then.
     ///
     /// `Foreign` comes only of a site that isn't honest, or has other groups than the cache found.
     pub fn push_group<S: Site>(
         &mut self,
         site: &mut S,
-        plan: &Plan,
+        plan: &PushPlan,
         pages: &[u32],
         changed: &[bool],
         contents: &[Page],
     ) -> Result<(), Stop>
         requires going { Invariant self.old (S.state site.old) }
-        requires chances { plan.now.chances ≡ map (λ f. f.0) (chance_marks self.old) }
-        requires staged { plan.now.staged ≡ map (λ f. f.0) (staged_marks self.old) }
+        requires plan { IsPlan plan.now self.old }
         requires marks { length changed.now ≡ length pages.now }
         requires lists { length contents.now ≡ length pages.now }
         requires some { 1 ≤ length (pages_pushed self.old pages.now) }
@@ -201,80 +206,25 @@ impl FlashCache {
         requires exist { All (λ page. page < self.old.geometry.pages) pages.now }
         requires apart { AllPairs (λ a b. a ≢ b) pages.now }
 
-        // The devices, of an honest site that the cache fits and whose groups it holds.
-        ensures any_moment { (groups : List (List Frame))
+        // Of an honest site that the cache fits and whose groups it holds.
+        ensures pushes { (groups : List (List Frame))
             → Matches self.old (S.state site.old) → Represents self.old (S.state site.old).image groups
-            → IsQuiet (S.state site.old)
-            → LeavesOnly (S.state site.old) (S.state site.new) (LeavesPushBehind self.old.geometry
-            (changes_before self.old (S.state site.old).image)
-            (staged_pages self.old) (staged_contents self.old groups)
-            (group (frames_pushed self.old (S.state site.old).image
-            pages.now changed.now contents.now)) (S.state site.old)) }
-        ensures front { (groups : List (List Frame))
-            → Matches self.old (S.state site.old) → Represents self.old (S.state site.old).image groups
-            → IsQuiet (S.state site.old) → LeavesFront self.old.geometry
-            (changes_of_group self.old (S.state site.old).image pages.now changed.now contents.now)
+            → PushesGroup result self.old self.new groups pages.now changed.now contents.now
             (S.state site.old) (S.state site.new) }
-        ensures reaches { (groups : List (List Frame))
-            → Matches self.old (S.state site.old) → Represents self.old (S.state site.old).image groups
-            → OnOk result (Reaches self.old.geometry
-            (changes_of_group self.old (S.state site.old).image pages.now changed.now contents.now)
-            (S.state site.old).image (S.state site.new).image) }
-        ensures staged { (groups : List (List Frame))
-            → Matches self.old (S.state site.old) → Represents self.old (S.state site.old).image groups
-            → OnOk result (HasStaged (staged_pages self.old) (staged_contents self.old groups)
-            (S.state site.old).image.disk (S.state site.new).image.disk) }
-        ensures last { (groups : List (List Frame))
-            → Matches self.old (S.state site.old) → Represents self.old (S.state site.old).image groups
-            → IsQuiet (S.state site.old) → OnOk result (HasLastStaged self.old.geometry
-            (staged_in_push (rules_of 0 self.old.geometry.groups) self.old.directory)
-            (S.state site.old) (S.state site.new)) }
-        ensures frames { (groups : List (List Frame))
-            → Matches self.old (S.state site.old) → Represents self.old (S.state site.old).image groups
-            → let frames = frames_pushed self.old (S.state site.old).image pages.now changed.now contents.now in
-            HasFrames self.old.geometry frames (group frames) }
+
+        // Of every honest site.
         ensures changes { IsTrue (S.state site.old).honest
             → ChangesPages (S.state site.old) (S.state site.new) }
         ensures alone { IsTrue (S.state site.old).honest → staged_pages self.old ≡ []
             → Untouched Dev.Disk (S.state site.old) (S.state site.new) }
 
-        // What that means for the pages, where valid clean frames equal their disk pages.
-        ensures versions { (groups : List (List Frame))
-            → Matches self.old (S.state site.old) → Represents self.old (S.state site.old).image groups
-            → IsQuiet (S.state site.old) → IsCleanOn self.old.geometry (S.state site.old).image
-            → LeavesOnly (S.state site.old) (S.state site.new)
-            (LeavesVersions self.old groups pages.now changed.now contents.now (S.state site.old)) }
-        ensures gives { (groups : List (List Frame))
-            → Matches self.old (S.state site.old) → Represents self.old (S.state site.old).image groups
-            → IsCleanOn self.old.geometry (S.state site.old).image
-            → OnOk result (GivesVersions self.old.geometry self.new.directory.first
-            (pushed_groups self.old groups
-            (frames_pushed self.old (S.state site.old).image pages.now changed.now contents.now))
-            pages.now contents.now (S.state site.old).image (S.state site.new).image) }
-        ensures clean_moment { (groups : List (List Frame))
-            → Matches self.old (S.state site.old) → Represents self.old (S.state site.old).image groups
-            → IsQuiet (S.state site.old) → IsCleanOn self.old.geometry (S.state site.old).image
-            → AreCleanGiven self.old pages.now changed.now contents.now (S.state site.old).image
-            → LeavesOnly (S.state site.old) (S.state site.new) (LeavesClean self.old.geometry) }
-        ensures clean { (groups : List (List Frame))
-            → Matches self.old (S.state site.old) → Represents self.old (S.state site.old).image groups
-            → IsCleanOn self.old.geometry (S.state site.old).image
-            → AreCleanGiven self.old pages.now changed.now contents.now (S.state site.old).image
-            → OnOk result (IsCleanOn self.old.geometry (S.state site.new).image) }
-
-        // The cache.
-        ensures directory { OnOk result (self.new.directory
-            ≡ pushed_queue self.old (known_pushed self.old pages.now changed.now)) }
-        ensures holds { (groups : List (List Frame))
-            → Matches self.old (S.state site.old) → Represents self.old (S.state site.old).image groups
-            → OnOk result (Represents self.new (S.state site.new).image
-            (pushed_groups self.old groups
-            (frames_pushed self.old (S.state site.old).image pages.now changed.now contents.now))) }
         // Five calls for the group, five for a segment, and one for each page that is staged and for the sync.
         ensures device_calls { IsTrue (S.state site.old).honest
             → OnOk result (length (S.state site.new).past ≤ length (S.state site.old).past + 19) }
 
         // Of every site.
+        ensures directory { OnOk result (self.new.directory
+            ≡ pushed_queue self.old (known_pushed self.old pages.now changed.now)) }
         ensures keeps { KeepsCache result self.old self.new (S.state site.old) (S.state site.new) }
         ensures ended { OnOk result (self.new.ended ≡ self.old.ended) }
         ensures err { OnErr result (self.new.ended ≡ true) }
@@ -283,9 +233,6 @@ impl FlashCache {
             → reads_of d (S.state site.new) ≡ reads_of d (S.state site.old) }
 
         // When each answer comes.
-        ensures foreign { (groups : List (List Frame))
-            → Matches self.old (S.state site.old) → Represents self.old (S.state site.old).image groups
-            → IsErrOf result Stop.Foreign → ⊥ }
         ensures stops { IfErr result (λ stop. (stop ≡ Stop.Device Dev.Flash)
             ⊎ ((stop ≡ Stop.Device Dev.Disk)
             ⊎ ((stop ≡ Stop.Memory)
@@ -310,11 +257,15 @@ impl FlashCache {
     }
 
     // The same where no segment is due, but that an error doesn't end the cache.
-    fn push<S: Site>(&mut self, site: &mut S, plan: &Plan, given: &PagesToPush) -> Result<(), Stop>
+    fn push<S: Site>(
+        &mut self,
+        site: &mut S,
+        plan: &PushPlan,
+        given: &PagesToPush,
+    ) -> Result<(), Stop>
         requires going { Invariant self.old (S.state site.old) }
         requires none_due { is_due self.old.ring.hi self.old.segments.hi ≡ false }
-        requires chances { plan.now.chances ≡ map (λ f. f.0) (chance_marks self.old) }
-        requires staged { plan.now.staged ≡ map (λ f. f.0) (staged_marks self.old) }
+        requires plan { IsPlan plan.now self.old }
         requires marks { length given.now.changed.now ≡ length given.now.pages.now }
         requires lists { length given.now.contents.now ≡ length given.now.pages.now }
         requires some { 1 ≤ length (pages_pushed self.old given.now.pages.now) }
@@ -375,19 +326,17 @@ impl FlashCache {
         let (staged, chances) = match frames_leaving(
             self.alloc,
             site,
-            &self.directory,
             &self.ring,
-            plan,
+            self.directory.first(),
+            plan.front,
+            &plan.plan,
         ) {
             Ok(both) => both,
             Err(stop) => return Err(stop),
         };
-        let content = group_content(&chances, &given.heads, given.contents);
-        let Ok(heads) = group_heads(&content) else {
-            unreachable!()
-        };
+        let group = new_group(&chances, &given.heads, given.contents);
         let (pages, octets) = (staged.pages.as_slice(), staged.contents.as_slice());
-        self.write(site, pages, octets, &content, &heads)
+        self.write(site, pages, octets, &group.content, &group.heads)
     }
 
     // Stages pages, and then appends a group; its heads are these.
@@ -488,25 +437,18 @@ impl FlashCache {
         Ok(())
     }
 
-    /// What a plan knows of the front group's frames, in the first places of `into`, with their number; none where the
-    /// queue has room for one group more.
-    pub fn front_marks(&self, into: &mut [Mark; 8]) -> Option<usize>
-        requires { 2 ≤ self.now.geometry.groups }
-        ensures marks { IfSome result (λ count. slice_get (marks self.now.directory) 0 ≡ Some (take count into.new)) }
-        ensures full { IfSome result (λ count. length self.now.directory.groups + 1 ≡ self.now.geometry.groups) }
-        ensures most { IfSome result (λ count. count ≤ 8) }
-        ensures few { IfNone result (length self.now.directory.groups + 1 ≢ self.now.geometry.groups) }
-
-        // They are the marks of what leaves with the next push.
-        ensures leaves { length self.now.directory.groups < self.now.geometry.groups → IfSome result (λ count.
-            leaving (rules_of 0 self.now.geometry.groups) self.now.directory ≡ take count into.new) }
-        ensures stays { length self.now.directory.groups < self.now.geometry.groups → IfNone result
-            (leaving (rules_of 0 self.now.geometry.groups) self.now.directory ≡ []) }
+    /// What a plan knows of the frames that leave with the next push, in the first places of `into`, with their number:
+    /// those of the front group, and none where the queue has room for one group more.
+    pub fn front_marks(&self, into: &mut [Mark; 8]) -> usize
+        requires groups { 2 ≤ self.now.geometry.groups }
+        requires few { length self.now.directory.groups < self.now.geometry.groups }
+        ensures leaves { take result into.new ≡ leaving (rules_of 0 self.now.geometry.groups) self.now.directory }
+        ensures few { result ≤ 8 }
     {
         if !self.is_full() {
-            return None;
+            return 0;
         }
-        Some(self.directory.marks(0, into))
+        self.directory.marks(0, into)
     }
 
     // Whether the queue has as many groups as can be.

@@ -6,24 +6,15 @@ ghost use Rattle.site.specs.declared.outside.Stop.{Stop};
 ghost use Rattle.sealed_ring.specs.Ring.{IsLive, unit_at};
 ghost use Rattle.sealed_ring.specs.Reading.{ReadsFrom};
 ghost use Rattle.sealed_ring.specs.Ready.{units_in, Matches as RingFits};
-ghost use Rattle.second_chance.specs.Queue.{front_marks};
 ghost use Rattle.flash_cache.specs.Leaving.{mark_at, page_at, AreAt, IsGroupRing};
 
 use byte_fields::Mark;
-use flash_directory::Directory;
 use frame_group::{HEADS_LEN, PAGE_LEN};
 use sealed_ring::Ring;
 use second_chance::{Places, Plan};
 use site::{Dev, Site, Stop};
 use slotted_page::Page;
-use std::alloc::Global;
-
-const NO_MARK: Mark = Mark {
-    page: 0,
-    valid: false,
-    dirty: false,
-    referenced: false,
-};
+use std::alloc::{AllocError, Global};
 
 /// Frames of the front group.
 #[derive(Drop)]
@@ -37,37 +28,38 @@ pub struct DepartingFrames {
 }
 
 /// The frames of the front group that a plan stages, and those that it gives a second chance, each by one read of one
-/// page.
+/// page. The group has this number, and these marks where it leaves with the push.
 pub fn frames_leaving<S: Site>(
     alloc: Global,
     site: &mut S,
-    directory: &Directory,
     ring: &Ring,
+    group: u64,
+    front: &[Mark],
     plan: &Plan,
 ) -> Result<(DepartingFrames, DepartingFrames), Stop>
     requires ring { IsGroupRing ring.now (S.state site.old) }
-    requires live { 0 < length directory.now.groups → IsLive ring.now.shape ring.now.hi directory.now.first }
-    requires few { length (front_marks directory.now.groups) ≤ 8 }
-    requires staged { All (λ place. place < length (front_marks directory.now.groups)) plan.now.staged }
-    requires chances { All (λ place. place < length (front_marks directory.now.groups)) plan.now.chances }
+    requires live { 0 < length front.now → IsLive ring.now.shape ring.now.hi group }
+    requires few { length front.now ≤ 8 }
+    requires staged { All (λ place. place < length front.now) plan.now.staged }
+    requires chances { All (λ place. place < length front.now) plan.now.chances }
 
-    ensures staged { IfOk result (λ both. AreAt directory.now.groups plan.now.staged both.0) }
-    ensures chances { IfOk result (λ both. AreAt directory.now.groups plan.now.chances both.1) }
+    ensures staged { IfOk result (λ both. AreAt front.now plan.now.staged both.0) }
+    ensures chances { IfOk result (λ both. AreAt front.now plan.now.chances both.1) }
     ensures staged_contents { IsTrue (S.state site.old).honest → RingFits ring.now (S.state site.old)
         → IfOk result (λ both. both.0.contents.items ≡ map (page_at (unit_at ring.now.shape
-        (units_in ring.now.shape (S.state site.old)) directory.now.first)) plan.now.staged) }
+        (units_in ring.now.shape (S.state site.old)) group)) plan.now.staged) }
     ensures chances_contents { IsTrue (S.state site.old).honest → RingFits ring.now (S.state site.old)
         → IfOk result (λ both. both.1.contents.items ≡ map (page_at (unit_at ring.now.shape
-        (units_in ring.now.shape (S.state site.old)) directory.now.first)) plan.now.chances) }
+        (units_in ring.now.shape (S.state site.old)) group)) plan.now.chances) }
     ensures reads { ReadsFrom result Dev.Flash (length plan.now.staged + length plan.now.chances)
         (S.state site.old) (S.state site.new) }
     ensures stops { IfErr result (λ stop. (stop ≡ Stop.Device Dev.Flash) ⊎ (stop ≡ Stop.Memory)) }
 {
-    let staged = match frames_at(alloc, site, directory, ring, &plan.staged) {
+    let staged = match frames_at(alloc, site, ring, group, front, &plan.staged) {
         Ok(frames) => frames,
         Err(stop) => return Err(stop),
     };
-    match frames_at(alloc, site, directory, ring, &plan.chances) {
+    match frames_at(alloc, site, ring, group, front, &plan.chances) {
         Ok(chances) => Ok((staged, chances)),
         Err(stop) => Err(stop),
     }
@@ -77,24 +69,25 @@ pub fn frames_leaving<S: Site>(
 fn frames_at<S: Site>(
     alloc: Global,
     site: &mut S,
-    directory: &Directory,
     ring: &Ring,
+    group: u64,
+    front: &[Mark],
     places: &Places,
 ) -> Result<DepartingFrames, Stop>
     requires ring { IsGroupRing ring.now (S.state site.old) }
-    requires live { 0 < length directory.now.groups → IsLive ring.now.shape ring.now.hi directory.now.first }
-    requires few { length (front_marks directory.now.groups) ≤ 8 }
-    requires places { All (λ place. place < length (front_marks directory.now.groups)) places.now }
+    requires live { 0 < length front.now → IsLive ring.now.shape ring.now.hi group }
+    requires few { length front.now ≤ 8 }
+    requires places { All (λ place. place < length front.now) places.now }
 
-    ensures are { IfOk result (λ frames. AreAt directory.now.groups places.now frames) }
+    ensures are { IfOk result (λ frames. AreAt front.now places.now frames) }
     ensures contents { IsTrue (S.state site.old).honest → RingFits ring.now (S.state site.old)
         → IfOk result (λ frames. frames.contents.items ≡ map (page_at (unit_at ring.now.shape
-        (units_in ring.now.shape (S.state site.old)) directory.now.first)) places.now) }
+        (units_in ring.now.shape (S.state site.old)) group)) places.now) }
     ensures reads { ReadsFrom result Dev.Flash (length places.now) (S.state site.old) (S.state site.new) }
     ensures stops { IfErr result (λ stop. (stop ≡ Stop.Device Dev.Flash) ⊎ (stop ≡ Stop.Memory)) }
 {
-    let (pages, dirty) = pages_at(alloc, directory, places)?;
-    match contents_at(alloc, site, ring, directory.first(), places) {
+    let (pages, dirty) = pages_at(alloc, front, places)?;
+    match contents_at(alloc, site, ring, group, places) {
         Ok(contents) => Ok(DepartingFrames {
             pages,
             dirty,
@@ -104,30 +97,21 @@ fn frames_at<S: Site>(
     }
 }
 
-// The pages of the front group's frames at these places, and whether each frame is dirty. The one error is want of
-// memory.
+// The pages of the frames at these places, and whether each frame is dirty.
 fn pages_at(
     alloc: Global,
-    directory: &Directory,
+    front: &[Mark],
     places: &Places,
-) -> Result<(Vec<u32>, Vec<bool>), Stop>
-    requires { All (λ place. place < length (front_marks directory.now.groups)) places.now }
+) -> Result<(Vec<u32>, Vec<bool>), AllocError>
+    requires { All (λ place. place < length front.now) places.now }
 
-    ensures pages { IfOk result (λ both. both.0.items
-        ≡ map (λ place. (mark_at directory.now.groups place).page) places.now) }
-    ensures dirty { IfOk result (λ both. both.1.items
-        ≡ map (λ place. (mark_at directory.now.groups place).dirty) places.now) }
-    ensures stops { IfErr result (λ stop. stop ≡ Stop.Memory) }
+    ensures pages { IfOk result (λ both. both.0.items ≡ map (λ place. (mark_at front.now place).page) places.now) }
+    ensures dirty { IfOk result (λ both. both.1.items ≡ map (λ place. (mark_at front.now place).dirty) places.now) }
 {
     let mut pages = Vec::new(alloc);
     let mut dirty = Vec::new(alloc);
-    if places.is_empty() {
-        return Ok((pages, dirty));
-    }
-    let mut marks = [NO_MARK; 8];
-    directory.marks(0, &mut marks);
     for index in 0..places.len() {
-        let mark = &marks[places.at(index) as usize];
+        let mark = &front[places.at(index) as usize];
         pages.push(mark.page)?;
         dirty.push(mark.dirty)?;
     }

@@ -7,5 +7,5 @@ mod laws;
 mod leaving;
 mod making;
 
-pub use cache::FlashCache;
+pub use cache::{FlashCache, PushPlan};
 pub use laws::unframed_is_disk;

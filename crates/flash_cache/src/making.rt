@@ -1,9 +1,9 @@
 // The content of a group.
 ghost use Rattle.std.specs.Prelude.{◌≡◌, ◌+◌, ◌≤◌, ◌++◌, List, length};
 ghost use Rattle.std.specs.List.{AllByRecursion};
-ghost use Rattle.frame_group.specs.Groups.{Frame, IsFrame, heads_of, group};
+ghost use Rattle.frame_group.specs.Groups.{Frame, IsFrame, heads_of};
 ghost use Rattle.flash_cache.specs.Pushed.{frames_given};
-ghost use Rattle.flash_cache.specs.Leaving.{frames_with, again};
+ghost use Rattle.flash_cache.specs.Leaving.{frames_with, again, IsMadeOf};
 
 use crate::leaving::DepartingFrames;
 use byte_fields::FrameHead;
@@ -43,38 +43,50 @@ pub fn heads_given(pages: &[u32], changed: &[bool], contents: &[Page]) -> [Frame
     heads
 }
 
-/// The content of a group with the second chances, and behind them the frames that these heads and contents make.
-pub fn group_content(
-    chances: &DepartingFrames,
-    heads: &[FrameHead; 8],
-    contents: &[Page],
-) -> [u8; GROUP_LEN]
+/// A group as it is written, and its heads.
+#[derive(Drop)]
+pub struct NewGroup {
+    pub content: [u8; GROUP_LEN],
+    pub heads: [FrameHead; 8],
+}
+
+/// The group with the second chances, and behind them the frames that these heads and contents make.
+pub fn new_group(chances: &DepartingFrames, heads: &[FrameHead; 8], contents: &[Page]) -> NewGroup
     requires marks { length chances.now.dirty.items ≡ length chances.now.pages.items }
     requires lists { length chances.now.contents.items ≡ length chances.now.pages.items }
     requires few { length chances.now.pages.items + length contents.now ≤ 8 }
     requires heads { heads.now ≡ heads_of (frames_with heads.now contents.now) }
 
-    ensures content { result ≡ group (again chances.now ++ frames_with heads.now contents.now) }
+    ensures content { IsMadeOf result (again chances.now ++ frames_with heads.now contents.now) }
     ensures are_frames { AllByRecursion IsFrame (again chances.now ++ frames_with heads.now contents.now) }
 {
     let octets = chances.contents.as_slice();
     let first = heads_given(chances.pages.as_slice(), chances.dirty.as_slice(), octets);
-    let mut content = [0u8; GROUP_LEN];
-    put_frames(&mut content, 0, &first, octets);
-    put_frames(&mut content, octets.len(), heads, contents);
-    content
+    let mut group = NewGroup {
+        content: [0; GROUP_LEN],
+        heads: [FrameHead::BLANK; 8],
+    };
+    put_frames(&mut group, 0, &first, octets);
+    put_frames(&mut group, octets.len(), heads, contents);
+    group
 }
 
 /// Puts the frames that these heads and contents make behind the first ones of a group.
-fn put_frames(content: &mut [u8; GROUP_LEN], from: usize, heads: &[FrameHead; 8], contents: &[Page])
+fn put_frames(group: &mut NewGroup, from: usize, heads: &[FrameHead; 8], contents: &[Page])
     requires few { from + length contents.now ≤ 8 }
     requires heads { heads.now ≡ heads_of (frames_with heads.now contents.now) }
 
-    ensures grown { (before : List Frame) → length before ≡ from → content.old ≡ group before
-        → content.new ≡ group (before ++ frames_with heads.now contents.now) }
+    ensures grown { (before : List Frame) → length before ≡ from → IsMadeOf group.old before
+        → IsMadeOf group.new (before ++ frames_with heads.now contents.now) }
     ensures are_frames { AllByRecursion IsFrame (frames_with heads.now contents.now) }
 {
     for (index, page) in contents.iter().enumerate() {
-        put_frame(content, from + index, &heads[index], page.bytes());
+        group.heads[from + index] = heads[index];
+        put_frame(
+            &mut group.content,
+            from + index,
+            &heads[index],
+            page.bytes(),
+        );
     }
 }

@@ -7,7 +7,7 @@ ghost use Rattle.disk_pages.specs.Pages.{LiesOn};
 
 use byte_fields::Mark;
 use disk_pages::read_page;
-use flash_cache::FlashCache;
+use flash_cache::{FlashCache, PushPlan};
 use mem_site::{Call, MemSite};
 use second_chance::plan_evict;
 use site::{Dev, Failed, Geometry, Site, Stop};
@@ -126,11 +126,13 @@ fn push<S: Site>(
         return Err(Stop::Foreign);
     }
     let mut marks = [NO_MARK; 8];
-    let plan = match cache.front_marks(&mut marks) {
-        Some(count) => plan_evict(Some(&marks[..count]), &[]),
-        None => plan_evict(None, &[]),
+    let count = cache.front_marks(&mut marks);
+    let front = &marks[..count];
+    let plan = PushPlan {
+        front,
+        plan: plan_evict(Some(front), &[]),
     };
-    if plan.chances.len() > 7 {
+    if plan.plan.chances.len() > 7 {
         return Err(Stop::Memory);
     }
     let content = Page::from_bytes(&[octet; 4096]);

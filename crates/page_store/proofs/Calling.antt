@@ -64,6 +64,14 @@ stands_as {old = old} {new = new} {pages = pages} {pages' = pages'} {before = be
 
 -- Nothing is called.
 
+pub stops_not : {T : Type 0} {x : T} {log : LogStore} {pages : PageStore} {sealing pushing : Bool} → sealing ≡ false → pushing ≡ false → StopsAtEnd {T = T} (Ok x) log pages sealing pushing
+stops_not {T = T} {x = x} none kept = record {
+  worn_log = λ says. absurd (no_error {T = T} {x = x} {e = Worn Log} says);
+  at_log_end = λ forced end. absurd (true≢false (sym forced ∙ none));
+  worn_flash = λ says. absurd (no_error {T = T} {x = x} {e = Worn Flash} says);
+  never_past = λ pushed past. true≢false (sym pushed ∙ kept);
+}
+
 pub forces_still : {T : Type 0} (r : Result T Stop) {log : LogStore} {sealing : Bool} → OnOk r (sealing ≡ false) → (has_tail log ≡ true → HasRoom log) → Forces r log log sealing
 forces_still r {log = log} none room = record {
   next = ok_as r _ _ (λ is. sym (ap {B = ℕ} (λ (b : Bool). cond b (log.ring.hi + 1) log.ring.hi) is)) none;

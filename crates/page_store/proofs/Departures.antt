@@ -27,10 +27,10 @@ use Rattle.page_store.specs.Ahead.{evicted}
 use Rattle.page_store.specs.Calls.{MayWork}
 use Rattle.page_store.specs.Pulling.{LeavesOut, mark_for, without_all, pulled, evicted_of, evicted_frames}
 use Rattle.page_store.specs.Leaves.{AreReady, AreGiven, Gives, AreChanged, KeepsCurrent}
-use Rattle.page_store.proofs.Pools.{absent}
+use Rattle.buffer_pool.proofs.Order.{absent}
 use Rattle.page_store.proofs.Clearing.{is_among}
 use Rattle.page_store.proofs.Saving.{distinct_reverse, found_all}
-use Rattle.page_store.proofs.Removing.{absent_part, few_part, page_of, frames_without, all_left, pulled_few, all_pulled, pulled_move, pulled_apart, pool_left}
+use Rattle.page_store.proofs.Removing.{none_either, absent_part, few_part, page_of, frames_without, all_left, pulled_few, all_pulled, pulled_move, pulled_apart, pool_left}
 use Rattle.page_store.proofs.Choosing.{room_some}
 use Rattle.page_store.proofs.Movable.{pulled_of}
 use Rattle.std.specs.List.{All}
@@ -91,10 +91,6 @@ pub record IsWithout (old new gone : List Frame) : Type 0 where
   pub absent : AllByRecursion (λ (f : Frame). frame_of new f.page ≡ None) gone
   pub others : (n : ℕ) → is_among (map page_of gone) n ≡ false → frame_of new n ≡ frame_of old n
 
-none_either : (b : Bool) → ◌≡◌ {A = Option Frame} (cond b None None) None
-none_either true = refl
-none_either false = refl
-
 all_gone : (P : ℕ → Type 0) (xs : List Frame) → ((n : ℕ) → is_among (map page_of xs) n ≡ true → P n) → AllByRecursion (λ (f : Frame). P f.page) xs
 all_gone P [] all = tt
 all_gone P (x ∷ xs) all = (
@@ -142,6 +138,10 @@ module _ (store : PageStore) (rest : Pool) (last : Frame) (h : HasLeft store res
   rest_told told n some (inr other) =
       h.knows n ∙ ap (λ b. cond b false (is_framed store.pool n)) (ne_eqb n last.page other)
       ∙ told n (subst IsSome (others n other) some)
+
+  -- whether it is to be pushed, by what the pool was told
+  pub must_be : AreTold store → (framed : Bool) → framed ≡ is_framed store.pool last.page → must_be_pushed store.flash.directory (pool_page last) ≡ (last.changed || not framed)
+  must_be told framed is = sym (ap (λ b. last.changed || not b) (is ∙ told last.page (subst IsSome (sym own) refl)))
 
   pub rest_going : (site : State) → Invariant store site → Invariant smaller site
   rest_going site going = record {

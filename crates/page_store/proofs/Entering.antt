@@ -9,7 +9,7 @@ use Rattle.buffer_pool.specs.Frames.{State as Pool, frame_of, Knows}
 use Rattle.page_store.specs.declared.store.PageStore.{PageStore}
 use Rattle.page_store.specs.Representation.{IsPage, AreTold, Invariant, Matches}
 use Rattle.second_chance.specs.Queue.{has_frame}
-use Rattle.page_store.proofs.Pools.{absent}
+use Rattle.buffer_pool.proofs.Order.{absent}
 use Rattle.page_store.proofs.ToldPages.{told_put}
 
 pub put_fits : (store : PageStore) (pool : Pool) (frame : Frame) (site : State) → pool.frames ≡ frame ∷ store.pool.frames → frame.content ≡ version_on store.flash.geometry site.image frame.page

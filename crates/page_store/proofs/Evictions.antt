@@ -1,5 +1,6 @@
 -- The coldest page leaves the pool.
-use Rattle.std.proofs.Common.{◌≡◌, ◌≢◌, inl, ℕ, Bool, true, false, ◌&&◌, List, [], ◌∷◌, ◌++◌, reverse, refl, sym, subst}
+use Rattle.std_lemmas.proofs.Bools.{and_false}
+use Rattle.std.proofs.Common.{◌≡◌, ◌≢◌, inl, ℕ, Bool, false, List, [], ◌∷◌, ◌++◌, reverse, refl, sym, subst}
 use Rattle.std.specs.List.{AllByRecursion}
 use Rattle.std.proofs.lemmas.List.{reverse-append}
 use Rattle.site.specs.declared.geometry.Geometry.{Geometry}
@@ -53,8 +54,4 @@ reverse_last xs x = reverse-append xs (x ∷ [])
 -- what is pushed of these
 
 pub not_forced : (log : LogStore) → forces log [] ≡ false
-not_forced log = by (has_tail log)
-  where
-    by : (b : Bool) → (b && false) ≡ false
-    by true = refl
-    by false = refl
+not_forced log = and_false (has_tail log)

@@ -27,3 +27,4 @@ pub mod ToldPages
 pub mod Touching
 pub mod Unsealed
 pub mod Versions
+pub mod Misses

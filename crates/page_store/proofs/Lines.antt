@@ -1,9 +1,8 @@
 -- The lines of a listing, one by one.
 use Rattle.std.proofs.Common.{◌≡◌, ℕ, suc, ◌+◌, List, [], ◌∷◌, ◌++◌, Bool, length, take, map, Some, arith, refl, sym, ap, ◌∙◌, append_assoc, append-nil}
 use Rattle.std.specs.Prelude.{slice_get}
-use Rattle.std.proofs.lemmas.Option.{slice_get_within, slice_get-get_or, same_Some}
+use Rattle.std.proofs.lemmas.Option.{slice_get_within}
 use Rattle.std.proofs.lemmas.List.{length-take-le}
-use Rattle.std.proofs.Math.Seq.{take-suc}
 use Rattle.std_lemmas.proofs.Lists.{take_next}
 use Rattle.byte_fields.specs.declared.frame_head.Mark.{Mark}
 use Rattle.record_model.specs.declared.words.CacheLine.{CacheLine}

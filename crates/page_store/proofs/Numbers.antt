@@ -1,5 +1,5 @@
 -- The numbers of the groups that a flush appends.
-use Rattle.std.proofs.Common.{◌≡◌, ℕ, zero, suc, ◌+◌, ◌≤◌, Bool, true, false, ◌&&◌, List, [], ◌∷◌, length, reverse, refl, ap, arith}
+use Rattle.std.proofs.Common.{◌≡◌, ℕ, zero, suc, ◌+◌, ◌≤◌, Bool, true, false, ◌&&◌, List, [], ◌∷◌, length, reverse, ap, arith}
 use Rattle.std.specs.Prelude.{if◌then◌else◌}
 use Rattle.second_chance.specs.Machine.{Rules, PoolPage, Cache, push_evicted, must_be_pushed, after_eviction, evict_first, evict_coldest, push_changed, flushed_by, flushed, wants_flush}
 use Rattle.second_chance.specs.Laws.{FlushGoesOn}

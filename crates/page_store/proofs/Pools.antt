@@ -1,14 +1,14 @@
 -- The pool as the machine sees it.
 use Rattle.std.proofs.Common.{◌≡◌, ◌≢◌, ℕ, ◌==◌, Bool, true, false, not, ◌&&◌, ◌||◌, cond, is_some, List, [], ◌∷◌, length, map, Option, Some, None, refl, sym, ap, subst, ◌∙◌}
-use Rattle.buffer_pool.proofs.Order.{frame_page}
+use Rattle.buffer_pool.proofs.Order.{absent, frame_page}
 use Rattle.std.proofs.Math.Bool.{or-false}
 use Rattle.std.specs.Prelude.{nat_le}
 use Rattle.std.specs.List.{AllByRecursion}
 use Rattle.std.proofs.lemmas.Option.{none-some}
-use Rattle.std.proofs.lemmas.Bool.{eqb-true, eqb-false, ne_eqb}
+use Rattle.std.proofs.lemmas.Bool.{eqb-true, ne_eqb}
 use Rattle.buffer_pool.specs.declared.frame.Frame.{Frame}
 use Rattle.buffer_pool.specs.Frames as pool
-use Rattle.buffer_pool.specs.Frames.{State as Pool, AreDistinct, frame_of}
+use Rattle.buffer_pool.specs.Frames.{AreDistinct, frame_of}
 use Rattle.second_chance.specs.Queue.{Queue, with_read}
 use Rattle.second_chance.specs.Machine.{Rules, PoolPage, Cache, holds, is_changed, without, touched, in_front, with_room, evict_coldest}
 use Rattle.page_store.specs.Caching.{pool_page}
@@ -80,15 +80,6 @@ touched_held r frames queue page frame distinct found =
     ∙ sym (ap (in_front page false) (room_held r page cache held))
 
 -- A page that isn't in the pool.
-
-pub absent : (frames : List Frame) (page : ℕ) → frame_of frames page ≡ None → AllByRecursion (λ other. page ≢ other.page) frames
-absent [] page none = tt
-absent (frame ∷ frames) page none = by (frame.page == page) refl none (absent frames page)
-  where
-    by : (b : Bool) → (frame.page == page) ≡ b → cond b (Some frame) (frame_of frames page) ≡ None
-        → (frame_of frames page ≡ None → AllByRecursion (λ other. page ≢ other.page) frames) → AllByRecursion (λ other. page ≢ other.page) (frame ∷ frames)
-    by true is none rest = absurd (none-some frame (sym none))
-    by false is none rest = ((λ same. eqb-false _ _ is (sym same)), rest none)
 
 none_leaves : (frames : List Frame) (page : ℕ) → AllByRecursion (λ other. page ≢ other.page) frames → without (λ other. other == page) (map pool_page frames) ≡ map pool_page frames
 none_leaves [] page all = refl

@@ -28,10 +28,10 @@ use Rattle.disk_pages.specs.Pages.{page_on}
 use Rattle.slotted_page.specs.Layout.{IsSound}
 use Rattle.flash_cache.specs.declared.cache.FlashCache.{FlashCache}
 use Rattle.flash_cache.specs.Representation as flash_cache
-use Rattle.flash_cache.specs.Representation.{groups_on, version_on, disk_on, IsCleanOn, HasGroups, AreSaved}
+use Rattle.flash_cache.specs.Representation.{groups_on, version_on, IsCleanOn, HasGroups, AreSaved}
 use Rattle.tail_rebuild.proofs.Following.{saved_again}
 use Rattle.flash_cache.specs.Kept as kept
-use Rattle.flash_cache.specs.Kept.{KeepsVersions, GivesVersions, AreCleanGiven, LeavesClean}
+use Rattle.flash_cache.specs.Kept.{GivesVersions, AreCleanGiven, LeavesClean}
 use Rattle.buffer_pool.specs.declared.frame.Frame.{Frame}
 use Rattle.buffer_pool.specs.Frames.{frame_of}
 use Rattle.log_store.specs.declared.store.LogStore.{LogStore}

@@ -3,9 +3,9 @@ use Rattle.std.proofs.Common.{◌≡◌, ◌≢◌, ℕ, zero, suc, ◌-◌, ◌
 use Rattle.std.proofs.lemmas.List.Sums.{length-filter, count_by-le-length}
 use Rattle.std.specs.Prelude.{slice_get}
 use Rattle.std.specs.List.{AllByRecursion}
-use Rattle.std.proofs.lemmas.Option.{slice_get-get_or}
-use Rattle.std.proofs.lemmas.Bool.{eqb-true, eqb-false, eq-eqb, ne_eqb}
-use Rattle.std.proofs.lemmas.List.{length-map, length-take}
+use Rattle.std.proofs.lemmas.Option.{get_or_from_slice_get}
+use Rattle.std.proofs.lemmas.Bool.{ne_eqb}
+use Rattle.std.proofs.lemmas.List.{length-take}
 use Rattle.std_lemmas.proofs.Bools.{eq_turned}
 use Rattle.std_lemmas.proofs.AllOf.{all_take, all_reverse, all_filter, all_passed, all_at}
 use Rattle.buffer_pool.specs.declared.frame.Frame.{Frame}
@@ -23,7 +23,6 @@ use Rattle.page_store.specs.Pulling.{mark_for, movable, without_all, LeavesOut, 
 use Rattle.page_store.proofs.Pools.{pages_without}
 use Rattle.page_store.proofs.Clearing.{is_among}
 use Rattle.page_store.proofs.Saving.{distinct_filter, distinct_take, distinct_reverse, found_all}
-use Rattle.page_store.proofs.Touching.{all_without}
 use Rattle.page_store.proofs.ToldPages.{told_without}
 
 abbrev pub page_of : Frame → ℕ
@@ -49,7 +48,7 @@ frames_without law (page ∷ pages) frames n =
 
 pub all_left : (P : Frame → Type 0) (pages : List ℕ) (frames : List Frame) → AllByRecursion P frames → AllByRecursion P (without_all pages frames)
 all_left P [] frames all = all
-all_left P (page ∷ pages) frames all = all_left P pages (pool.without frames page) (all_without P frames page all)
+all_left P (page ∷ pages) frames all = all_left P pages (pool.without frames page) (all_filter P (λ (f : Frame). not (f.page == page)) frames all)
 
 pub distinct_left : (pages : List ℕ) (frames : List Frame) → AreDistinct frames → AreDistinct (without_all pages frames)
 distinct_left [] frames apart = apart
@@ -172,24 +171,19 @@ module _ (law : WithoutTakesOne) (store : PageStore) (own : IsStore store) where
 
   pub next_page : (k : ℕ) (d : Frame) → k < length xs → (page : ℕ) → slice_get (map page_of xs) k ≡ Some page → (get_or xs k d).page ≡ page
   next_page k d less page at =
-      let there : slice_get (map page_of xs) k ≡ Some (get_or (map page_of xs) k 0) = slice_get-get_or (map page_of xs) k 0 (omega (arith, less, length-map xs page_of)) in
-      let same : get_or (map page_of xs) k 0 ≡ page = some_same _ _ (sym there ∙ at) in
-      sym (page_in xs k d less) ∙ same
-    where
-      some_same : (a b : ℕ) → Some a ≡ Some b → a ≡ b
-      some_same a b same = cc
+      sym (page_in xs k d less) ∙ get_or_from_slice_get (map page_of xs) k page 0 at
 
   pub next_pulled : (k : ℕ) (d : Frame) → k < length xs → (page : ℕ) → slice_get (map page_of xs) k ≡ Some page → frame_of (without_all (take k (map page_of xs)) frames) page ≡ Some (get_or xs k d)
   next_pulled k d less page at = subst (λ (n : ℕ). frame_of (without_all (take k (map page_of xs)) frames) n ≡ Some (get_or xs k d)) (next_page k d less page at) (next_there law frames xs xs_found xs_apart k d less)
 
+pub none_either : (b : Bool) → ◌≡◌ {A = Option Frame} (cond b None None) None
+none_either true = refl
+none_either false = refl
+
 -- a page that isn't there isn't there then
 pub absent_part : WithoutTakesOne → (old new : List Frame) → LeavesOut old new → (page : ℕ) → frame_of old page ≡ None → frame_of new page ≡ None
 absent_part law old new part page none =
-    ap (λ (l : List Frame). frame_of l page) part.left ∙ frames_without law part.pages old page ∙ ap (λ (o : Option Frame). cond (is_among part.pages page) None o) none ∙ either (is_among part.pages page)
-  where
-    either : (b : Bool) → ◌≡◌ {A = Option Frame} (cond b None None) None
-    either true = refl
-    either false = refl
+    ap (λ (l : List Frame). frame_of l page) part.left ∙ frames_without law part.pages old page ∙ ap (λ (o : Option Frame). cond (is_among part.pages page) None o) none ∙ none_either (is_among part.pages page)
 
 pub few_part : (old new : List Frame) → LeavesOut old new → length new ≤ length old
 few_part old new part = let count = ap length part.left in omega (arith, count, few_left part.pages old)

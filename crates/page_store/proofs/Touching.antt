@@ -6,6 +6,7 @@ use Rattle.second_chance.specs.Machine.{staged_by}
 use Rattle.write_ahead.specs.Forcing.{forces}
 use Rattle.page_store.specs.Staging.{staged_by_eviction}
 use Rattle.std.specs.List.{AllByRecursion}
+use Rattle.std_lemmas.proofs.AllOf.{all_filter}
 use Rattle.std.proofs.lemmas.Option.{none-some}
 use Rattle.std.proofs.lemmas.List.{length-map}
 use Rattle.site.specs.State.{State, Image}
@@ -93,14 +94,6 @@ module _ (store : PageStore) (page : ℕ) (frame : Frame) (found : frame_of stor
 
 -- The same frames in another order.
 
-pub all_without : (P : Frame → Type 0) (frames : List Frame) (page : ℕ) → AllByRecursion P frames → AllByRecursion P (pool.without frames page)
-all_without P [] page all = tt
-all_without P (frame ∷ frames) page all = by (frame.page == page) (all_without P frames page all.1)
-  where
-    by : (b : Bool) → AllByRecursion P (pool.without frames page) → AllByRecursion P (cond (not b) (frame ∷ pool.without frames page) (pool.without frames page))
-    by true rest = rest
-    by false rest = (all.0, rest)
-
 pub all_found : (P : Frame → Type 0) (frames : List Frame) (page : ℕ) (frame : Frame) → AllByRecursion P frames → frame_of frames page ≡ Some frame → P frame
 all_found P [] page frame all found = absurd (none-some frame found)
 all_found P (first ∷ frames) page frame all found = by (first.page == page) found (all_found P frames page frame all.1)
@@ -111,7 +104,7 @@ all_found P (first ∷ frames) page frame all found = by (first.page == page) fo
 
 pub all_touched : (P : Frame → Type 0) (frames : List Frame) (page : ℕ) (frame : Frame) → frame_of frames page ≡ Some frame → AllByRecursion P frames → AllByRecursion P (pool.touched frames page)
 all_touched P frames page frame found all =
-    subst (λ o. AllByRecursion P (pool.in_front o (pool.without frames page))) (sym found) (all_found P frames page frame all found, all_without P frames page all)
+    subst (λ o. AllByRecursion P (pool.in_front o (pool.without frames page))) (sym found) (all_found P frames page frame all found, all_filter P (λ (f : Frame). not (f.page == page)) frames all)
 
 pub order_fits : (store : PageStore) (pool : Pool) (site : State) → ((n : ℕ) → frame_of pool.frames n ≡ frame_of store.pool.frames n) → Matches store site → Matches (record store { pool = pool }) site
 order_fits store pool site same fits = record {

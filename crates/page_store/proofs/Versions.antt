@@ -1,5 +1,5 @@
 -- The version of a page is read.
-use Rattle.std.proofs.Common.{◌≡◌, ℕ, ◌<◌, true, false, refl, sym, subst, ◌∙◌}
+use Rattle.std.proofs.Common.{◌≡◌, ℕ, ◌<◌, sym, subst, ◌∙◌}
 use Rattle.flash_cache.proofs.Standing.{rings_later}
 use Rattle.std.specs.List.{AllByRecursion}
 use Rattle.site.specs.declared.outside.Dev.TheVariants.{Log, Flash, Disk}

@@ -24,7 +24,7 @@ use Rattle.second_chance.specs.Laws.{changed_count}
 use Rattle.log_store.specs.declared.store.LogStore.{LogStore}
 use Rattle.log_store.specs.LogList.{LogList, sealed_if}
 use Rattle.log_store.specs.Representation as log_store
-use Rattle.log_store.specs.Representation.{has_tail, end_of, HasRoom}
+use Rattle.log_store.specs.Representation.{has_tail, HasRoom}
 use Rattle.checkpoint.specs.declared.master.Master.{Master}
 use Rattle.image_meaning.specs.Beside.{AreRingsSoundUnder}
 use Rattle.write_ahead.specs.Forcing.{IsLogged, end_forced, forces, IsLogAtEnd, Forces}

@@ -11,3 +11,4 @@ pub mod Taking
 pub mod Laws
 pub mod Staging
 pub mod Telling
+pub mod Rooms

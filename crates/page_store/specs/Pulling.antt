@@ -1,5 +1,5 @@
 -- Which pages of the pool a push takes.
-use Rattle.std.specs.Prelude.{◌≡◌, ℕ, ◌-◌, List, [], ◌∷◌, length, filter, take, reverse, if◌then◌else◌}
+use Rattle.std.specs.Prelude.{◌≡◌, ℕ, ◌-◌, false, List, [], ◌∷◌, length, filter, take, reverse, if◌then◌else◌}
 use Rattle.buffer_pool.specs.declared.frame.Frame.{Frame}
 use Rattle.buffer_pool.specs.Frames.{without}
 use Rattle.second_chance.specs.declared.plan.PoolMark.{PoolMark}
@@ -12,6 +12,10 @@ use Rattle.page_store.specs.Caching.{pool_page, rules}
 -- what a plan knows of a page in the pool
 abbrev pub mark_for : Queue → Frame → PoolMark
 mark_for queue frame = pool_mark queue (pool_page frame)
+
+-- and of one that is changed or has no frame: it is as one without a frame
+abbrev pub movable_mark : Frame → PoolMark
+movable_mark frame = record { page = frame.page; changed = frame.changed; framed = false }
 
 -- how many pages a group has room for beside its second chances
 abbrev pub room_for_pages : Rules → Queue → ℕ

@@ -1,9 +1,9 @@
 // Changed pages are pushed, until none is changed.
-ghost use Rattle.std.specs.Prelude.{◌≡◌, ◌<◌, ◌≤◌, [], length, map, true, if◌then◌else◌, IfOk, OnOk, IfErr, IsSome};
+ghost use Rattle.std.specs.Prelude.{◌≡◌, ◌<◌, [], map, true, IfOk, OnOk, IfErr, IsSome};
 ghost use Rattle.std.specs.Prelude.{Some};
 ghost use Rattle.std.specs.List.{All};
 ghost use Rattle.site.specs.declared.outside.Stop.{Stop};
-ghost use Rattle.flash_cache.specs.Pushed.{staged_marks, chance_marks};
+ghost use Rattle.flash_cache.specs.Pushed.{IsPlan};
 ghost use Rattle.second_chance.specs.Machine.{wants_flush, push_changed};
 ghost use Rattle.buffer_pool.specs.Frames.{IsPool, frame_of};
 ghost use Rattle.log_store.specs.declared.store.LogStore.{LogStore};
@@ -12,63 +12,27 @@ ghost use Rattle.write_ahead.specs.Forcing.{forces};
 ghost use Rattle.page_store.specs.Representation.{AreTold};
 ghost use Rattle.page_store.specs.Caching.{cache_of};
 ghost use Rattle.page_store.specs.Leaves.{AreReady};
-ghost use Rattle.page_store.specs.Flushing.{saved_next, content_in, cleared_all, flushed_first, flushed_contents};
-ghost use Rattle.page_store.specs.Pulling.{mark_for};
-ghost use Rattle.page_store.specs.Changing.{standing, push_changes, flush_changes};
-ghost use Rattle.page_store.specs.Calls.{MayWork, Pushes, Saves, Flushes, Keeps, Stands};
-ghost use Rattle.std.specs.Prelude.{◌+◌};
+ghost use Rattle.page_store.specs.Flushing.{saved_next, content_in, cleared_all, flushed_contents};
+ghost use Rattle.page_store.specs.Changing.{flush_changes};
+ghost use Rattle.page_store.specs.Rooms.{SavesFirst};
+ghost use Rattle.page_store.specs.Calls.{MayWork, Pushes, Flushes, Keeps, Stands};
 ghost use Rattle.record_model.specs.Touches.{flush};
-ghost use Rattle.second_chance.specs.Machine.{staged_in_push, staged_by, flushed};
+ghost use Rattle.second_chance.specs.Machine.{staged_by, flushed};
 ghost use Rattle.page_store.specs.Caching.{next_group, rules};
 ghost use Rattle.page_store.specs.Staging.{Stages};
 
-use crate::pushing::{GROUP_SIZE, NO_MARK, leaving, room_for_pages};
+use crate::pushing::{GROUP_SIZE, NO_MARK, room_for_pages};
 use crate::store::PageStore;
 use buffer_pool::frames_of_pages;
-use flash_cache::unframed_is_disk;
+use flash_cache::PushPlan;
 use image_changes::{changes_add_up, fronts_add_up};
 use log_store::LogStore;
-use second_chance::{Plan, PoolMark, flushes_save_all, plan_flush};
+use second_chance::{flushes_save_all, plan_flush};
 use site::{Site, Stop};
 use slotted_page::Page;
 use std::alloc::Global;
 
 impl PageStore {
-    // What a plan knows of these pages, which are the coldest changed ones.
-    fn changed_marks(&self, pages: &[u32]) -> Result<Vec<PoolMark>, Stop>
-        requires { pages.now ≡ map (λ f. f.page) (saved_next self.now) }
-        ensures marks { IfOk result (λ marks. marks.items
-            ≡ map (mark_for self.now.flash.directory) (saved_next self.now)) }
-        ensures memory { IfErr result (λ stop. stop ≡ Stop.Memory) }
-    {
-        let mut marks = Vec::new(self.alloc);
-        for page in pages {
-            let framed = self.flash.holds(*page);
-            marks.push(PoolMark {
-                page: *page,
-                changed: true,
-                framed,
-            })?;
-        }
-        Ok(marks)
-    }
-
-    // The plan of a push of these pages, which are the coldest changed ones.
-    fn plan_for_changed(&self, pages: &[u32]) -> Result<Plan, Stop>
-        requires pages { pages.now ≡ map (λ f. f.page) (saved_next self.now) }
-        requires groups { 2 ≤ self.now.flash.geometry.groups }
-        requires few { length self.now.flash.directory.groups < self.now.flash.geometry.groups }
-        ensures chances { IfOk result (λ plan. plan.chances ≡ map (λ f. f.0) (chance_marks self.now.flash)) }
-        ensures staged { IfOk result (λ plan. plan.staged ≡ map (λ f. f.0) (staged_marks self.now.flash)) }
-        ensures pulled { IfOk result (λ plan. plan.pulled ≡ map (λ f. f.page) (saved_next self.now)) }
-        ensures memory { IfErr result (λ stop. stop ≡ Stop.Memory) }
-    {
-        let changed = self.changed_marks(pages)?;
-        let mut marks = [NO_MARK; 8];
-        let count = leaving(&self.flash, &mut marks);
-        Ok(plan_flush(Some(&marks[..count]), changed.as_slice()))
-    }
-
     // What a page that is in the pool has.
     fn content_of(&self, page: u32) -> Page
         requires { IsSome (frame_of self.now.pool.frames page) }
@@ -118,33 +82,17 @@ impl PageStore {
         &mut self,
         site: &mut S,
         log: &mut LogStore,
-        plan: &Plan,
+        plan: &PushPlan,
         pages: &[u32],
         contents: &[Page],
     ) -> Result<(), Stop>
         requires going { MayWork log.old self.old (S.state site.old) }
         requires some { wants_flush (cache_of self.old) ≡ true }
-        requires chances { plan.now.chances ≡ map (λ f. f.0) (chance_marks self.old.flash) }
-        requires staged { plan.now.staged ≡ map (λ f. f.0) (staged_marks self.old.flash) }
+        requires plan { IsPlan plan.now self.old.flash }
         requires pages { pages.now ≡ map (λ f. f.page) (saved_next self.old) }
         requires contents { contents.now ≡ map (content_in self.old.pool.frames) pages.now }
 
-        // Of an honest site.
-        ensures keeps { (list : LogList) → AreReady self.old log.old list (S.state site.old)
-            → Keeps result log.old self.old (S.state site.old) (S.state site.new) list
-            (forces log.old (flushed_first self.old))
-            (push_changes (standing log.old list self.old (S.state site.old).image) (saved_next self.old)) }
-        ensures stands { (list : LogList) → AreReady self.old log.old list (S.state site.old)
-            → OnOk result (Stands log.old log.new self.old self.new (S.state site.old) (S.state site.new) list
-            (forces log.old (flushed_first self.old))
-            (push_changes (standing log.old list self.old (S.state site.old).image) (saved_next self.old))) }
-
-        // Of every site.
-        ensures pushes { Pushes result log.old log.new self.old self.new (S.state site.old) (S.state site.new)
-            (forces log.old (flushed_first self.old)) }
-        ensures stages { Stages result (staged_in_push (rules self.old) self.old.flash.directory)
-            (next_group (cache_of self.old) + 1) self.old self.new (S.state site.old) (S.state site.new) }
-        ensures saves { Saves result log.old self.old self.new (S.state site.old) (S.state site.new) }
+        ensures { SavesFirst result log.old log.new self.old self.new (S.state site.old) (S.state site.new) }
     {
         frames_of_pages();
         let changed = [true; GROUP_SIZE];
@@ -168,24 +116,15 @@ impl PageStore {
         requires some { wants_flush (cache_of self.old) ≡ true }
         requires pages { pages.now ≡ map (λ f. f.page) (saved_next self.old) }
 
-        // Of an honest site.
-        ensures keeps { (list : LogList) → AreReady self.old log.old list (S.state site.old)
-            → Keeps result log.old self.old (S.state site.old) (S.state site.new) list
-            (forces log.old (flushed_first self.old))
-            (push_changes (standing log.old list self.old (S.state site.old).image) (saved_next self.old)) }
-        ensures stands { (list : LogList) → AreReady self.old log.old list (S.state site.old)
-            → OnOk result (Stands log.old log.new self.old self.new (S.state site.old) (S.state site.new) list
-            (forces log.old (flushed_first self.old))
-            (push_changes (standing log.old list self.old (S.state site.old).image) (saved_next self.old))) }
-
-        // Of every site.
-        ensures pushes { Pushes result log.old log.new self.old self.new (S.state site.old) (S.state site.new)
-            (forces log.old (flushed_first self.old)) }
-        ensures stages { Stages result (staged_in_push (rules self.old) self.old.flash.directory)
-            (next_group (cache_of self.old) + 1) self.old self.new (S.state site.old) (S.state site.new) }
-        ensures saves { Saves result log.old self.old self.new (S.state site.old) (S.state site.new) }
+        ensures { SavesFirst result log.old log.new self.old self.new (S.state site.old) (S.state site.new) }
     {
-        let plan = self.plan_for_changed(pages)?;
+        let mut marks = [NO_MARK; 8];
+        let count = self.flash.front_marks(&mut marks);
+        let front = &marks[..count];
+        let plan = PushPlan {
+            front,
+            plan: plan_flush(Some(front), &[]),
+        };
         let contents = self.contents_of(pages)?;
         self.push_and_clear(site, log, &plan, pages, contents.as_slice())
     }

@@ -1,12 +1,12 @@
 // The pages of the cache, line by line.
-ghost use Rattle.std.specs.Prelude.{◌≡◌, ◌+◌, ◌^◌, ◌<◌, ◌≤◌, ◌++◌, ◌∷◌, [], length, map, take, List, Some, slice_get};
+ghost use Rattle.std.specs.Prelude.{◌≡◌, ◌+◌, ◌^◌, ◌<◌, ◌≤◌, ◌++◌, ◌∷◌, [], length, map, List, Some, slice_get};
 ghost use Rattle.std.specs.Prelude.{IfOk, OnOk, IfErr};
 ghost use Rattle.site.specs.declared.outside.Stop.{Stop};
 ghost use Rattle.byte_fields.specs.declared.frame_head.Mark.{Mark};
 ghost use Rattle.record_model.specs.declared.words.CacheLine.{CacheLine};
 ghost use Rattle.second_chance.specs.Queue.{marks};
 ghost use Rattle.second_chance.specs.Machine.{frame_lines, group_lines, listing};
-ghost use Rattle.page_store.specs.Caching.{pool_page, cache_of};
+ghost use Rattle.page_store.specs.Caching.{cache_of};
 
 use crate::pushing::NO_MARK;
 use crate::store::PageStore;

@@ -1,11 +1,11 @@
 // Pages leave the pool for the queue on flash.
-ghost use Rattle.std.specs.Prelude.{◌≡◌, ◌≢◌, ◌+◌, ◌^◌, ◌<◌, ◌≤◌, ◌&&◌, ℕ, [], length, map, take, true, false};
-ghost use Rattle.std.specs.Prelude.{if◌then◌else◌, OnOk, IsErrOf, Some, None, AllPairs};
+ghost use Rattle.std.specs.Prelude.{◌≡◌, ◌≢◌, ◌+◌, ◌^◌, ◌<◌, ◌≤◌, ◌&&◌, ℕ, [], length, true, false};
+ghost use Rattle.std.specs.Prelude.{if◌then◌else◌, ◌||◌, not, OnOk, IsErrOf, Some, None, AllPairs};
 ghost use Rattle.std.specs.List.{All};
 ghost use Rattle.site.specs.declared.outside.Dev.{Dev};
 ghost use Rattle.site.specs.declared.outside.Stop.{Stop};
-ghost use Rattle.flash_cache.specs.Pushed.{staged_marks, chance_marks, pages_pushed, known_pushed, pushed_queue};
-ghost use Rattle.second_chance.specs.Machine.{rules_of, leaving, evict_coldest, must_be_pushed};
+ghost use Rattle.flash_cache.specs.Pushed.{pages_pushed, known_pushed, pushed_queue, IsPlan};
+ghost use Rattle.second_chance.specs.Machine.{rules_of, evict_coldest, must_be_pushed};
 ghost use Rattle.buffer_pool.specs.Frames.{frame_of};
 ghost use Rattle.log_store.specs.declared.store.LogStore.{LogStore};
 ghost use Rattle.log_store.specs.LogList.{LogList};
@@ -14,8 +14,9 @@ ghost use Rattle.page_store.specs.Caching.{cache_of, rules, is_full, is_pushed, 
 ghost use Rattle.page_store.specs.Pulling.{room_for_pages};
 ghost use Rattle.page_store.specs.Ahead.{evicted, pushed_for_room};
 ghost use Rattle.page_store.specs.Leaves.{AreReady};
-ghost use Rattle.page_store.specs.Changing.{given_changes, eviction_changes, room_changes};
+ghost use Rattle.page_store.specs.Changing.{given_changes, eviction_changes};
 ghost use Rattle.page_store.specs.Calls.{MayWork, Pushes, StopsAtEnd, Keeps, Stands, KeepsGiven, StandsGiven};
+ghost use Rattle.page_store.specs.Rooms.{MakesRoom};
 ghost use Rattle.second_chance.specs.Machine.{staged_in_push};
 ghost use Rattle.page_store.specs.Caching.{next_group};
 ghost use Rattle.page_store.specs.Staging.{staged_by_eviction, Stages};
@@ -24,11 +25,11 @@ use crate::store::PageStore;
 use crate::taking::EvictedPages;
 use buffer_pool::frames_of_pages;
 use byte_fields::Mark;
-use flash_cache::{FlashCache, unframed_is_disk};
+use flash_cache::{FlashCache, PushPlan, unframed_is_disk};
 use image_changes::{changes_add_up, fronts_add_up, ring_kept};
 use image_meaning::rings_kept_under;
 use log_store::{LogStore, stays_beside};
-use second_chance::{Plan, plan_flush};
+use second_chance::plan_flush;
 use site::{Site, Stop};
 use slotted_page::Page;
 use write_ahead::force_for;
@@ -43,20 +44,6 @@ pub const NO_MARK: Mark = Mark {
     referenced: false,
 };
 
-/// What a plan knows of the frames that leave the queue with the next push, in the first places of `into`, with their
-/// number.
-pub fn leaving(flash: &FlashCache, into: &mut [Mark; 8]) -> usize
-    requires groups { 2 ≤ flash.now.geometry.groups }
-    requires few { length flash.now.directory.groups < flash.now.geometry.groups }
-    ensures marks { take result into.new ≡ leaving (rules_of 0 flash.now.geometry.groups) flash.now.directory }
-    ensures few { result ≤ 8 }
-{
-    match flash.front_marks(into) {
-        Some(count) => count,
-        None => 0,
-    }
-}
-
 /// How many pages the next group has room for beside its second chances.
 pub fn room_for_pages(flash: &FlashCache) -> usize
     requires groups { 2 ≤ flash.now.geometry.groups }
@@ -66,15 +53,15 @@ pub fn room_for_pages(flash: &FlashCache) -> usize
     ensures few { result ≤ 8 }
 {
     let mut marks = [NO_MARK; 8];
-    let count = leaving(flash, &mut marks);
+    let count = flash.front_marks(&mut marks);
     GROUP_SIZE - plan_flush(Some(&marks[..count]), &[]).chances.len()
 }
 
 /// Whether a page that leaves the pool is to be pushed: it was changed, or it has no frame in the queue.
-pub fn must_be_pushed(flash: &FlashCache, page: u32, changed: bool) -> bool
-    ensures { result ≡ must_be_pushed flash.now.directory (record { page = page; changed = changed }) }
+fn must_be_pushed(changed: bool, framed: bool) -> bool
+    ensures { result ≡ (changed || not framed) }
 {
-    changed || !flash.holds(page)
+    changed || !framed
 }
 
 impl PageStore {
@@ -84,14 +71,13 @@ impl PageStore {
         &mut self,
         site: &mut S,
         log: &mut LogStore,
-        plan: &Plan,
+        plan: &PushPlan,
         pages: &[u32],
         changed: &[bool],
         contents: &[Page],
     ) -> Result<(), Stop>
         requires going { MayWork log.old self.old (S.state site.old) }
-        requires chances { plan.now.chances ≡ map (λ f. f.0) (chance_marks self.old.flash) }
-        requires staged { plan.now.staged ≡ map (λ f. f.0) (staged_marks self.old.flash) }
+        requires plan { IsPlan plan.now self.old.flash }
         requires marks { length changed.now ≡ length pages.now }
         requires lists { length contents.now ≡ length pages.now }
         requires some { 1 ≤ length pages.now }
@@ -128,10 +114,8 @@ impl PageStore {
         rings_kept_under();
         match force_for(site, log, contents) {
             Ok(()) => {
-                let mut front = [NO_MARK; 8];
-                let count = leaving(&self.flash, &mut front);
                 let pushed = self.flash.push_group(site, plan, pages, changed, contents);
-                self.update_framed_marks(&front[..count]);
+                self.update_framed_marks(plan.front);
                 self.update_framed_pages(pages);
                 pushed
             }
@@ -170,14 +154,18 @@ impl PageStore {
     {
         frames_of_pages();
         unframed_is_disk();
-        let Some((page, changed, content)) = self.pool.take_coldest() else {
+        let Some((coldest, framed)) = self.pool.take_coldest() else {
             return Ok(());
         };
-        if !must_be_pushed(&self.flash, page, changed) {
+        if !must_be_pushed(coldest.changed, framed) {
             return Ok(());
         }
-        match self.take_with(page, changed, content) {
+        let mut marks = [NO_MARK; 8];
+        let count = self.flash.front_marks(&mut marks);
+        let front = &marks[..count];
+        match self.take_with(front, coldest) {
             Ok((plan, taken)) => {
+                let plan = PushPlan { front, plan };
                 let EvictedPages {
                     pages,
                     changed,
@@ -197,23 +185,12 @@ impl PageStore {
     ) -> Result<(), Stop>
         requires going { MayWork log.old self.old (S.state site.old) }
 
-        // Of an honest site.
-        ensures keeps { (list : LogList) → AreReady self.old log.old list (S.state site.old)
-            → Keeps result log.old self.old (S.state site.old) (S.state site.new) list
-            (forces log.old (pushed_for_room self.old)) (room_changes log.old list self.old (S.state site.old).image) }
-        ensures stands { (list : LogList) → AreReady self.old log.old list (S.state site.old)
-            → OnOk result (Stands log.old log.new self.old self.new (S.state site.old) (S.state site.new) list
-            (forces log.old (pushed_for_room self.old)) (room_changes log.old list self.old (S.state site.old).image)) }
+        // Of an honest site, and of every site.
+        ensures room { MakesRoom result log.old log.new self.old self.new (S.state site.old) (S.state site.new) }
 
         // Of every site.
         ensures pushes { Pushes result log.old log.new self.old self.new (S.state site.old) (S.state site.new)
             (forces log.old (pushed_for_room self.old)) }
-        ensures stages { Stages result
-            (if is_full self.old then staged_by_eviction (rules self.old) (cache_of self.old) else [])
-            (next_group (cache_of self.old) + (if (is_full self.old && is_pushed (cache_of self.old)) then 1 else 0))
-            self.old self.new (S.state site.old) (S.state site.new) }
-        ensures worn { StopsAtEnd result log.old self.old (forces log.old (pushed_for_room self.old))
-            (is_full self.old && is_pushed (cache_of self.old)) }
         ensures machine { OnOk result (cache_of self.new ≡ with_way self.old) }
         ensures room_made { OnOk result (length self.new.pool.frames < self.new.pool.size) }
         ensures absent { (page : ℕ) → frame_of self.old.pool.frames page ≡ None

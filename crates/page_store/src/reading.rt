@@ -1,5 +1,5 @@
 // Pages come into the pool.
-ghost use Rattle.std.specs.Prelude.{None, length, ◌&&◌, ◌≡◌, ◌⊎◌, ◌+◌, ◌≤◌, ◌<◌, false, if◌then◌else◌, IsTrue, IfOk};
+ghost use Rattle.std.specs.Prelude.{None, length, ◌≡◌, ◌⊎◌, ◌+◌, ◌≤◌, ◌<◌, false, if◌then◌else◌, IsTrue, IfOk};
 ghost use Rattle.std.specs.Prelude.{OnOk, OnErr, IfErr};
 ghost use Rattle.site.specs.declared.outside.Dev.{Dev};
 ghost use Rattle.site.specs.declared.outside.Stop.{Stop};
@@ -7,21 +7,18 @@ ghost use Rattle.site.specs.Calls.{IsUnchanged};
 ghost use Rattle.slotted_page.specs.Layout.{IsSound};
 ghost use Rattle.disk_pages.specs.Pages.{LiesOn, page_on};
 ghost use Rattle.flash_cache.specs.Representation.{version_on};
-ghost use Rattle.second_chance.specs.Queue.{has_frame, with_read};
+ghost use Rattle.second_chance.specs.Queue.{with_read};
 ghost use Rattle.second_chance.specs.Machine.{in_front};
 ghost use Rattle.buffer_pool.specs.Frames.{frame_of, front_of};
-ghost use Rattle.log_store.specs.LogList.{LogList};
-ghost use Rattle.write_ahead.specs.Forcing.{forces};
 ghost use Rattle.page_store.specs.Representation.{Invariant, Matches, current};
-ghost use Rattle.page_store.specs.Caching.{cache_of, is_full, is_pushed, with_way};
-ghost use Rattle.page_store.specs.Ahead.{pushed_for_room};
-ghost use Rattle.page_store.specs.Leaves.{AreReady, KeepsCurrent, PutsIn};
-ghost use Rattle.page_store.specs.Changing.{room_changes};
+ghost use Rattle.page_store.specs.Caching.{cache_of};
+ghost use Rattle.page_store.specs.Leaves.{KeepsCurrent, PutsIn};
 ghost use Rattle.site.specs.Work.{Calls};
-ghost use Rattle.page_store.specs.Calls.{MayWork, KeepsInvariant, StopsAtEnd, Reads, Keeps, Stands};
+ghost use Rattle.page_store.specs.Rooms.{BringsIn};
+ghost use Rattle.page_store.specs.Calls.{MayWork, Reads};
 ghost use Rattle.std.specs.Prelude.{[]};
-ghost use Rattle.page_store.specs.Caching.{next_group, rules};
-ghost use Rattle.page_store.specs.Staging.{staged_by_eviction, Stages};
+ghost use Rattle.page_store.specs.Caching.{next_group};
+ghost use Rattle.page_store.specs.Staging.{Stages};
 
 use crate::store::PageStore;
 use disk_pages::{PAGE_LEN, read_page};
@@ -135,32 +132,7 @@ impl PageStore {
         requires exists { page < self.old.flash.geometry.pages }
         requires absent { frame_of self.old.pool.frames page ≡ None }
 
-        // Of an honest site.
-        ensures keeps { (list : LogList) → AreReady self.old log.old list (S.state site.old)
-            → Keeps result log.old self.old (S.state site.old) (S.state site.new) list
-            (forces log.old (pushed_for_room self.old)) (room_changes log.old list self.old (S.state site.old).image) }
-        ensures stands { (list : LogList) → AreReady self.old log.old list (S.state site.old)
-            → OnOk result (Stands log.old log.new self.old self.new (S.state site.old) (S.state site.new) list
-            (forces log.old (pushed_for_room self.old)) (room_changes log.old list self.old (S.state site.old).image)) }
-
-        // Of every site.
-        ensures works { KeepsInvariant result log.old log.new self.old self.new (S.state site.old) (S.state site.new)
-            (forces log.old (pushed_for_room self.old)) }
-        ensures stages { Stages result
-            (if is_full self.old then staged_by_eviction (rules self.old) (cache_of self.old) else [])
-            (next_group (cache_of self.old) + (if (is_full self.old && is_pushed (cache_of self.old)) then 1 else 0))
-            self.old self.new (S.state site.old) (S.state site.new) }
-        ensures worn { StopsAtEnd result log.old self.old (forces log.old (pushed_for_room self.old))
-            (is_full self.old && is_pushed (cache_of self.old)) }
-        ensures ended { self.new.ended ≡ self.old.ended }
-        ensures machine { OnOk result (cache_of self.new ≡ in_front page false (with_way self.old)) }
-        ensures front { OnOk result ((front_of self.new.pool.frames).page ≡ page) }
-        ensures there { OnOk result (0 < length self.new.pool.frames) }
-        ensures flash_reads { (S.state site.new).flash_reads ≤ (S.state site.old).flash_reads
-            + (if (is_full self.old && is_pushed (cache_of self.old)) then 12 else 0)
-            + (if has_frame (with_way self.old).queue page then 1 else 0) }
-        ensures disk_reads { (S.state site.new).disk_reads ≤ (S.state site.old).disk_reads
-            + (if has_frame (with_way self.old).queue page then 0 else 1) }
+        ensures { BringsIn result log.old log.new self.old self.new (S.state site.old) (S.state site.new) page }
     {
         match self.make_room(site, log) {
             Ok(()) => self.read_in(site, page),

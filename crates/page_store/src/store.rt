@@ -1,5 +1,5 @@
 // The pool, the queue on flash and the disk, joined under the write-ahead rule.
-ghost use Rattle.std.specs.Prelude.{◌≡◌, ◌≢◌, ◌⊎◌, ◌↔◌, ◌+◌, ◌*◌, ◌^◌, ◌<◌, ◌≤◌, ℕ, List, [], length, true, false};
+ghost use Rattle.std.specs.Prelude.{◌≡◌, ◌≢◌, ◌⊎◌, ◌↔◌, ◌+◌, ◌^◌, ◌<◌, ◌≤◌, ℕ, List, [], length, true, false};
 ghost use Rattle.std.specs.Prelude.{if◌then◌else◌, IsTrue, IfOk, OnOk, OnErr, IfErr, IsErrOf, Some, None};
 ghost use Rattle.std.specs.Prelude.{option_copied, slice_index_or, Option};
 ghost use Rattle.site.specs.declared.outside.Dev.{Dev};
@@ -225,8 +225,7 @@ impl PageStore {
             + (if misses (rules self.old) page (cache_of self.old) then 1 else 0) }
     {
         frames_of_pages();
-        if self.pool.page(page).is_some() {
-            self.pool.touch(page);
+        if self.pool.touch(page) {
             return Ok(());
         }
         if let Err(stop) = self.bring_in(site, log, page) {

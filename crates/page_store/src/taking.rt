@@ -2,14 +2,15 @@
 ghost use Rattle.std.specs.Prelude.{◌≡◌, ◌<◌, ◌≤◌, ◌++◌, ◌∷◌, [], List, length, map, IfOk, OnOk, IfErr};
 ghost use Rattle.site.specs.declared.outside.Stop.{Stop};
 ghost use Rattle.buffer_pool.specs.declared.frame.Frame.{Frame};
-ghost use Rattle.flash_cache.specs.Pushed.{staged_marks, chance_marks};
+ghost use Rattle.second_chance.specs.Machine.{leaving};
+ghost use Rattle.page_store.specs.Caching.{rules};
 ghost use Rattle.page_store.specs.Representation.{IsStore, AreTold};
-ghost use Rattle.page_store.specs.Pulling.{mark_for, without_all, LeavesOut, candidates, pulled};
-ghost use Rattle.page_store.specs.Taking.{Has};
+ghost use Rattle.page_store.specs.Pulling.{movable_mark, without_all, LeavesOut, candidates, pulled};
+ghost use Rattle.page_store.specs.Taking.{Has, IsPlanFor};
 
-use crate::pushing::{NO_MARK, leaving};
 use crate::store::PageStore;
-use buffer_pool::frames_of_pages;
+use buffer_pool::{Frame, frames_of_pages};
+use byte_fields::Mark;
 use second_chance::{Places, Plan, PoolMark, plan_evict};
 use site::Stop;
 use slotted_page::Page;
@@ -56,37 +57,32 @@ impl PageStore {
     // no frame in the queue.
     fn candidates(&self) -> Result<Vec<PoolMark>, Stop>
         requires { AreTold self.now }
-        ensures marks { IfOk result (λ marks. marks.items
-            ≡ map (mark_for self.now.flash.directory) (candidates self.now)) }
+        ensures marks { IfOk result (λ marks. marks.items ≡ map movable_mark (candidates self.now)) }
         ensures memory { IfErr result (λ stop. stop ≡ Stop.Memory) }
     {
         let coldest = self.pool.coldest_movable(self.alloc, MOST_PULLED)?;
         let mut found = Vec::new(self.alloc);
         for (page, changed) in &coldest {
-            let framed = self.flash.holds(*page);
+            // Each is to be pushed; of one that is changed no plan asks whether it has a frame.
             found.push(PoolMark {
                 page: *page,
                 changed: *changed,
-                framed,
+                framed: false,
             })?;
         }
         Ok(found)
     }
 
-    // The plan of a push with a page that the pool has not any more.
-    fn plan_for_evicted(&self) -> Result<Plan, Stop>
+    // The plan of a push with a page that the pool has not any more. The marks are those of what leaves with the push.
+    fn plan_for_evicted(&self, front: &[Mark]) -> Result<Plan, Stop>
         requires told { AreTold self.now }
-        requires groups { 2 ≤ self.now.flash.geometry.groups }
-        requires few { length self.now.flash.directory.groups < self.now.flash.geometry.groups }
-        ensures chances { IfOk result (λ plan. plan.chances ≡ map (λ f. f.0) (chance_marks self.now.flash)) }
-        ensures staged { IfOk result (λ plan. plan.staged ≡ map (λ f. f.0) (staged_marks self.now.flash)) }
-        ensures pulled { IfOk result (λ plan. plan.pulled ≡ map (λ f. f.page) (pulled self.now)) }
+        requires front { front.now ≡ leaving (rules self.now) self.now.flash.directory }
+        requires few { length front.now ≤ 8 }
+        ensures plan { IfOk result (λ plan. IsPlanFor plan self.now (map (λ f. f.page) (pulled self.now))) }
         ensures memory { IfErr result (λ stop. stop ≡ Stop.Memory) }
     {
         let found = self.candidates()?;
-        let mut marks = [NO_MARK; 8];
-        let count = leaving(&self.flash, &mut marks);
-        Ok(plan_evict(Some(&marks[..count]), found.as_slice()))
+        Ok(plan_evict(Some(front), found.as_slice()))
     }
 
     // Takes the pages out of the pool that a push with an evicted page pulls.
@@ -120,17 +116,14 @@ impl PageStore {
     /// which are taken out of the pool.
     pub(crate) fn take_with(
         &mut self,
-        page: u32,
-        changed: bool,
-        content: Page,
+        front: &[Mark],
+        evicted: Frame,
     ) -> Result<(Plan, EvictedPages), Stop>
         requires store { IsStore self.old }
-        requires groups { 2 ≤ self.old.flash.geometry.groups }
-        requires few { length self.old.flash.directory.groups < self.old.flash.geometry.groups }
-        ensures chances { IfOk result (λ both. both.0.chances ≡ map (λ f. f.0) (chance_marks self.old.flash)) }
-        ensures staged { IfOk result (λ both. both.0.staged ≡ map (λ f. f.0) (staged_marks self.old.flash)) }
-        ensures taken { IfOk result (λ both. Has both.1
-            (record { page = page; changed = changed; content = content } ∷ pulled self.old)) }
+        requires front { front.now ≡ leaving (rules self.old) self.old.flash.directory }
+        requires few { length front.now ≤ 8 }
+        ensures plan { IfOk result (λ both. IsPlanFor both.0 self.old (map (λ f. f.page) (pulled self.old))) }
+        ensures taken { IfOk result (λ both. Has both.1 (evicted ∷ pulled self.old)) }
         ensures pool { OnOk result (self.new.pool ≡ record self.old.pool {
           frames = without_all (map (λ f. f.page) (pulled self.old)) self.old.pool.frames;
           framed = self.new.pool.framed;
@@ -141,9 +134,9 @@ impl PageStore {
         ensures size { self.new.pool.size ≡ self.old.pool.size }
         ensures memory { IfErr result (λ stop. stop ≡ Stop.Memory) }
     {
-        let plan = self.plan_for_evicted()?;
+        let plan = self.plan_for_evicted(front)?;
         let mut taken = EvictedPages::new(self.alloc);
-        taken.push(page, changed, content)?;
+        taken.push(evicted.page, evicted.changed, evicted.content)?;
         self.pull(&plan.pulled, &mut taken)?;
         Ok((plan, taken))
     }

@@ -3,7 +3,7 @@ use Rattle.std.proofs.Common.{◌≡◌, ℕ, zero, suc, ◌==◌, ◌&&◌, ◌
 use Rattle.std.specs.Prelude.{option_map, if◌then◌else◌}
 use Rattle.std.specs.List.{cons_option, list_any}
 use Rattle.std.proofs.lemmas.Bool.{ne_eqb, eqb-true, or_cases}
-use Rattle.std_lemmas.proofs.Bools.{eq_turned, and_true, or_without, or_assoc}
+use Rattle.std_lemmas.proofs.Bools.{eq_turned, and_true, or_true, or_false, or_without, or_assoc}
 use Rattle.byte_fields.specs.declared.frame_head.Mark.{Mark}
 use Rattle.second_chance.specs.declared.frame.Frame.{Frame}
 use Rattle.second_chance.specs.declared.plan.Plan.{Plan}
@@ -23,10 +23,6 @@ group_append (x ∷ xs) ys n = ap (λ b. (x.page == n) || b) (group_append xs ys
 
 groups_append : (gs : List (List Frame)) (g : List Frame) (n : ℕ) → in_groups (gs ++ g ∷ []) n ≡ (in_groups gs n || in_group g n)
 groups_append [] g n = or_false (in_group g n)
-  where
-    or_false : (b : Bool) → (b || false) ≡ b
-    or_false true = refl
-    or_false false = refl
 groups_append (h ∷ gs) g n = ap (λ b. in_group h n || b) (groups_append gs g n) ∙ sym (or_assoc (in_group h n) (in_groups gs n) (in_group g n))
 
 -- the marks of a group name its pages
@@ -39,10 +35,6 @@ among_group (f ∷ group) later n = (λ i. eq_turned n f.page i || among_group g
 mark_there : (front : List Mark) (place : ℕ) (mark : Mark) (n : ℕ) → slice_get front place ≡ Some mark → (mark.page == n) ≡ true → among front n ≡ true
 mark_there front place mark n at is = found front place at
   where
-    or_true : (b : Bool) → (b || true) ≡ true
-    or_true true = refl
-    or_true false = refl
-
     found : (front : List Mark) (place : ℕ) → slice_get front place ≡ Some mark → among front n ≡ true
     found [] place at = absurd cc
     found (m ∷ front) zero at = let same : m ≡ mark = cc in ap (λ (x : Mark). (n == x.page) || among front n) same ∙ ap (λ b. b || among front n) (eq_turned n mark.page ∙ is)
@@ -113,10 +105,6 @@ pub stays_in : (pages : List ℕ) (pool : List PoolPage) (n : ℕ) → holds (wi
 stays_in pages [] n held = absurd cc
 stays_in pages (p ∷ pool) n held = by (names pages p.page) refl held (stays_in pages pool n)
   where
-    or_true : (b : Bool) → (b || true) ≡ true
-    or_true true = refl
-    or_true false = refl
-
     by : (b : Bool) → names pages p.page ≡ b → holds (cond (not b) (p ∷ without (names pages) pool) (without (names pages) pool)) n ≡ true
         → (holds (without (names pages) pool) n ≡ true → (names pages n ≡ false) × (holds pool n ≡ true)) → (names pages n ≡ false) × (holds (p ∷ pool) n ≡ true)
     by true is held rest = let r = rest held in (r.0, ap (λ b. (p.page == n) || b) r.1 ∙ or_true (p.page == n))
@@ -139,10 +127,6 @@ pub unless_more : (front : List Mark) (mark : Mark) (queue : Queue) (framed : �
     → unless (front ++ mark ∷ []) queue framed n ≡ (framed n && (not (among front n || (n == mark.page)) || has_frame queue n))
 unless_more front mark queue framed n = ap (λ b. framed n && (not b || has_frame queue n)) (more front)
   where
-    or_false : (b : Bool) → (b || false) ≡ b
-    or_false true = refl
-    or_false false = refl
-
     more : (front : List Mark) → among (front ++ mark ∷ []) n ≡ (among front n || (n == mark.page))
     more [] = or_false (n == mark.page)
     more (m ∷ front) = ap (λ b. (n == m.page) || b) (more front) ∙ sym (or_assoc (n == m.page) (among front n) (n == mark.page))

@@ -9,7 +9,7 @@ use Rattle.std.proofs.lemmas.Option.{none-some}
 use Rattle.std.proofs.lemmas.List.{map-append, reverse-append}
 use Rattle.std.proofs.lemmas.List.Elements.{filter-append}
 use Rattle.std.proofs.lemmas.List.Kept.{AllPairs-cons}
-use Rattle.std_lemmas.proofs.Bools.{eq_turned}
+use Rattle.std_lemmas.proofs.Bools.{eq_turned, or_false, or_assoc}
 use Rattle.lru.specs.LruCache.{LruCache, put_entries, last_entry}
 use Rattle.lru.proofs.CallerLemmas.{Contains-lookup_entry}
 use Rattle.second_chance.specs.declared.plan.PoolMark.{PoolMark}
@@ -51,10 +51,6 @@ marked page (e ∷ es) distinct = by (page == e.0) refl (marked page es distinct
         let none : is_changed (pages_in es) page ≡ false =
         none_changed page es (subst (λ n. AllByRecursion (λ y. nat_eq n y ≡ false) (keys_of es)) (sym same) distinct.0) in
         sym (ap (λ b. e.1.changed || b) none ∙ or_false e.1.changed)
-      where
-        or_false : (b : Bool) → (b || false) ≡ b
-        or_false true = refl
-        or_false false = refl
     by false is rest = rest
 
 -- No two pages are the same.
@@ -157,15 +153,7 @@ without_more (p ∷ pool) gone page = by (names gone p.page) (p.page == page) (n
   where
     names_more : (gone : List ℕ) → names (gone ++ page ∷ []) p.page ≡ (names gone p.page || (page == p.page))
     names_more [] = or_false (page == p.page)
-      where
-        or_false : (b : Bool) → (b || false) ≡ b
-        or_false true = refl
-        or_false false = refl
-    names_more (g ∷ gone) = ap (λ b. g == p.page || b) (names_more gone) ∙ or_assoc (g == p.page) (names gone p.page) (page == p.page)
-      where
-        or_assoc : (a b c : Bool) → (a || (b || c)) ≡ ((a || b) || c)
-        or_assoc true b c = refl
-        or_assoc false b c = refl
+    names_more (g ∷ gone) = ap (λ b. g == p.page || b) (names_more gone) ∙ sym (or_assoc (g == p.page) (names gone p.page) (page == p.page))
 
     by : (a b : Bool) → names (gone ++ page ∷ []) p.page ≡ (names gone p.page || (page == p.page)) → (p.page == page) ≡ (page == p.page)
         → without (λ n. n == page) (without (names gone) pool) ≡ without (names (gone ++ page ∷ [])) pool

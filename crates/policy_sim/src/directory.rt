@@ -1,6 +1,6 @@
 // The queue on flash, with a table by the pages' numbers in place of the maps that a directory of any pages needs.
 ghost use Rattle.std.specs.Prelude.{◌≡◌, ◌↔◌, ◌+◌, ◌^◌, ◌<◌, ◌≤◌, ℕ, [], ◌∷◌, ◌++◌, length, drop, take, IsTrue, Some};
-ghost use Rattle.std.specs.Prelude.{IfErr, IfSome, OnOk, is_some, slice_get, if◌then◌else◌};
+ghost use Rattle.std.specs.Prelude.{IfSome, OnOk, is_some, slice_get, if◌then◌else◌};
 ghost use Rattle.second_chance.specs.Queue.{has_frame, marks, pushed, with_read};
 ghost use Rattle.flash_directory.specs.Heads.{newest, IsNewest};
 ghost use Rattle.flash_directory.specs.Places.{newer};
@@ -12,8 +12,7 @@ use arrayvec::ArrayVec;
 use byte_fields::Mark;
 use flash_directory::Place;
 use second_chance::Frame;
-use site::Stop;
-use std::alloc::Global;
+use std::alloc::{AllocError, Global};
 use std::collections::VecDeque;
 use std::marker::Model;
 
@@ -68,13 +67,16 @@ impl Directory {
 
     /// A group of these frames enters the queue behind the others, and the front one leaves where it is said to. Where
     /// memory is wanting the queue is empty then.
-    pub fn push_group(&mut self, frames: ArrayVec<Frame, 8>, drop_front: bool) -> Result<(), Stop>
+    pub fn push_group(
+        &mut self,
+        frames: ArrayVec<Frame, 8>,
+        drop_front: bool,
+    ) -> Result<(), AllocError>
         requires some { 1 ≤ length frames.items }
         requires few { length frames.items ≤ 8 }
         requires front { IsTrue drop_front → 0 < length self.old.groups }
         requires number { self.old.first + length self.old.groups ≤ 2 ^ 31 }
         ensures ok { OnOk result (self.new ≡ pushed drop_front frames.items self.old) }
-        ensures memory { IfErr result (λ stop. stop ≡ Stop.Memory) }
     {
         drop_front_group(&mut self.groups, &mut self.slots, self.first, drop_front);
         self.first = first_then(self.first, drop_front);
@@ -173,11 +175,10 @@ fn append(
     slots: &mut Vec<Slot>,
     group: Group,
     number: u32,
-) -> Result<(), Stop>
+) -> Result<(), AllocError>
     ensures groups { OnOk result (groups.new.items ≡ groups.old.items ++ group ∷ []) }
     ensures enters { OnOk result ((n : ℕ)
         → at_page slots.new.items n ≡ newer number group n (at_page slots.old.items n)) }
-    ensures memory { IfErr result (λ stop. stop ≡ Stop.Memory) }
 {
     enter_group(slots, &group, number)?;
     groups.push_back(group)?;

@@ -1,5 +1,5 @@
 ghost use Rattle.std.specs.Prelude.{◌≡◌, ◌+◌, ◌<◌, ◌≤◌, ◌&&◌, ◌||◌, not, false, ℕ, Bool, [], List, length, take};
-ghost use Rattle.std.specs.Prelude.{IsTrue, IfOk, IfErr, OnOk, if◌then◌else◌};
+ghost use Rattle.std.specs.Prelude.{IsTrue, IfOk, OnOk, if◌then◌else◌};
 ghost use Rattle.byte_fields.specs.declared.frame_head.Mark.{Mark};
 ghost use Rattle.second_chance.specs.Queue.{has_frame, with_read, front_marks};
 ghost use Rattle.second_chance.specs.Plans.{eviction_plan};
@@ -19,8 +19,7 @@ use crate::policy::Policy;
 use crate::pool::Pool;
 use byte_fields::Mark;
 use second_chance::{Plan, PoolMark, PushPolicy, plan_evict_taking, plans_are_pushes};
-use site::Stop;
-use std::alloc::Global;
+use std::alloc::{AllocError, Global};
 
 /// No mark.
 const NO_MARK: Mark = Mark {
@@ -63,14 +62,13 @@ pub struct Pushed {
 
 impl Machine {
     /// A machine with nothing in its pool and its queue, for a flash of so many groups and a pool of so many pages.
-    pub fn new(alloc: Global, kind: Policy, groups: u32, pages: u32) -> Result<Machine, Stop>
+    pub fn new(alloc: Global, kind: Policy, groups: u32, pages: u32) -> Result<Machine, AllocError>
         requires some { 2 ≤ groups }
         requires most { groups ≤ 16384 }
         ensures rules { IfOk result (λ machine. rules_in machine ≡ rules_of_policy kind groups pages) }
         ensures blank { IfOk result (λ machine. cache_of machine ≡ blank) }
         ensures some { IfOk result (λ machine. 1 ≤ machine.groups) }
         ensures pool { IfOk result (λ machine. IsOrdered machine) }
-        ensures memory { IfErr result (λ stop. stop ≡ Stop.Memory) }
     {
         Ok(Machine {
             taking: kind.taking(),
@@ -128,11 +126,10 @@ impl Machine {
     }
 
     /// Pushes a group with a page that has left the pool. It answers how many frames are written to disk.
-    fn push(&mut self, own: &Entry) -> Result<usize, Stop>
+    fn push(&mut self, own: &Entry) -> Result<usize, AllocError>
         requires usable { IsUsable self.old }
         requires gone { holds (pages_of self.old.pool) own.now.page ≡ false }
         ensures ok { IfOk result (λ staged. HasPushed self.old self.new (page_of own.now) staged) }
-        ensures memory { IfErr result (λ stop. stop ≡ Stop.Memory) }
     {
         plans_are_pushes();
         // No page is in the pool twice.
@@ -154,10 +151,9 @@ impl Machine {
     }
 
     /// Takes the coldest page out of the pool, and pushes it where it must be.
-    fn evict(&mut self) -> Result<Pushed, Stop>
+    fn evict(&mut self) -> Result<Pushed, AllocError>
         requires { IsUsable self.old }
         ensures ok { IfOk result (λ made. HasEvicted self.old self.new made) }
-        ensures memory { IfErr result (λ stop. stop ≡ Stop.Memory) }
     {
         let Some(coldest) = self.pool.take_coldest() else {
             return Ok(Pushed {
@@ -179,10 +175,9 @@ impl Machine {
     }
 
     /// Makes room for one page more in the pool.
-    fn make_room(&mut self) -> Result<Pushed, Stop>
+    fn make_room(&mut self) -> Result<Pushed, AllocError>
         requires { IsUsable self.old }
         ensures ok { IfOk result (λ made. HasRoom self.old self.new made) }
-        ensures memory { IfErr result (λ stop. stop ≡ Stop.Memory) }
     {
         if self.pool.len() < self.pages as usize {
             return Ok(Pushed {
@@ -194,10 +189,9 @@ impl Machine {
     }
 
     /// A touch of a page, and what it counts. The page's frame is looked for after the eviction.
-    pub fn touch(&mut self, page: u32, change: bool) -> Result<Counts, Stop>
+    pub fn touch(&mut self, page: u32, change: bool) -> Result<Counts, AllocError>
         requires { IsUsable self.old }
         ensures ok { IfOk result (λ made. HasTouched self.old self.new page change made) }
-        ensures memory { IfErr result (λ stop. stop ≡ Stop.Memory) }
     {
         if self.pool.holds(page) {
             self.pool
@@ -236,13 +230,12 @@ fn list_unframed(
     queue: &Directory,
     front: &[Mark],
     pulls: bool,
-) -> Result<(), Stop>
+) -> Result<(), AllocError>
     requires { IsPool pool.old }
     ensures pages { OnOk result (pages_of pool.new ≡ pages_of pool.old) }
     ensures pool { OnOk result (IsPool pool.new) }
     ensures listed { IsTrue pulls → (framed : ℕ → Bool) → IsListedBy framed pool.old.pages.entries
         → OnOk result (IsListedBy (unless front.now queue.now framed) pool.new.pages.entries) }
-    ensures memory { IfErr result (λ stop. stop ≡ Stop.Memory) }
 {
     if !pulls {
         return Ok(());

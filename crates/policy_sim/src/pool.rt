@@ -1,5 +1,5 @@
 ghost use Rattle.std.specs.Prelude.{◌≡◌, ◌≤◌, ◌==◌, ◌&&◌, ◌||◌, not, false, ℕ, Bool, nat_eq, take, [], ◌∷◌, ◌++◌};
-ghost use Rattle.std.specs.Prelude.{length, IfOk, IfErr, OnOk, IfSome, IfNone};
+ghost use Rattle.std.specs.Prelude.{length, IfOk, OnOk, IfSome, IfNone};
 ghost use Rattle.std.specs.Map.{remove_entry};
 ghost use Rattle.second_chance.specs.Queue.{Queue, has_frame};
 ghost use Rattle.second_chance.specs.Machine.{holds, is_changed, without, pool_mark};
@@ -11,8 +11,7 @@ use crate::directory::Directory;
 use crate::entry::{Entry, Kept};
 use lru::LruCache;
 use second_chance::{Places, PoolMark};
-use site::Stop;
-use std::alloc::Global;
+use std::alloc::{AllocError, Global};
 use std::collections::BTreeMap;
 
 /// The most pages that a push takes from the pool.
@@ -30,10 +29,9 @@ pub struct Pool {
 
 impl Pool {
     /// A pool without pages.
-    pub fn new(alloc: Global) -> Result<Pool, Stop>
+    pub fn new(alloc: Global) -> Result<Pool, AllocError>
         ensures empty { IfOk result (λ pool. pool.pages.entries ≡ []) }
         ensures pool { IfOk result (λ pool. IsPool pool) }
-        ensures memory { IfErr result (λ stop. stop ≡ Stop.Memory) }
     {
         Ok(Pool {
             pages: LruCache::unbounded(alloc)?,
@@ -91,11 +89,10 @@ impl Pool {
     }
 
     /// Lists a page where it is to be listed, of which this is kept.
-    fn enlist(&mut self, page: u32, kept: &Kept) -> Result<(), Stop>
+    fn enlist(&mut self, page: u32, kept: &Kept) -> Result<(), AllocError>
         ensures listed { OnOk result (self.new.listed.entries ≡ enlisted page kept.now self.old.listed.entries) }
         ensures pages { self.new.pages ≡ self.old.pages }
         ensures next { self.new.next ≡ self.old.next }
-        ensures memory { IfErr result (λ stop. stop ≡ Stop.Memory) }
     {
         if !kept.listed {
             return Ok(());
@@ -124,7 +121,7 @@ impl Pool {
     /// Brings a page to the front, whether it is in the pool or not. It is changed where it was, and where it is now.
     /// It is listed where it was, and where it is to be listed now: a page that is changed, or comes into the pool with
     /// no frame in the queue, where a list is wanted.
-    pub fn touch(&mut self, page: u32, change: bool, list: bool) -> Result<(), Stop>
+    pub fn touch(&mut self, page: u32, change: bool, list: bool) -> Result<(), AllocError>
         requires { IsPool self.old }
         ensures ok { OnOk result (pages_of self.new
             ≡ record { page = page; changed = is_changed (pages_of self.old) page || change }
@@ -133,7 +130,6 @@ impl Pool {
         ensures listed { (queue : Queue) → IsListed queue self.old
             → list ≡ (change || (not (holds (pages_of self.old) page) && not (has_frame queue page)))
             → OnOk result (IsListed queue self.new) }
-        ensures memory { IfErr result (λ stop. stop ≡ Stop.Memory) }
     {
         let before = self.unlist(page);
         let kept = touched(&before, change, list, self.next);
@@ -142,7 +138,7 @@ impl Pool {
         self.pages.put(page, kept)?;
         // No caller makes so many touches.
         let Some(next) = self.next.checked_add(1) else {
-            return Err(Stop::Memory);
+            return Err(AllocError);
         };
         self.next = next;
         Ok(())
@@ -212,13 +208,12 @@ impl Pool {
     }
 
     /// Lists a page where it is in the pool, since it has no frame in the queue any more.
-    pub fn list(&mut self, page: u32) -> Result<(), Stop>
+    pub fn list(&mut self, page: u32) -> Result<(), AllocError>
         requires { IsPool self.old }
         ensures pages { OnOk result (pages_of self.new ≡ pages_of self.old) }
         ensures pool { OnOk result (IsPool self.new) }
         ensures listed { (framed : ℕ → Bool) → IsListedBy framed self.old.pages.entries
             → OnOk result (IsListedBy (but page framed) self.new.pages.entries) }
-        ensures memory { IfErr result (λ stop. stop ≡ Stop.Memory) }
     {
         let _len = self.pages.len();
         let Some(kept) = self.pages.peek(&page) else {

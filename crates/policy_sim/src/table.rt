@@ -1,12 +1,12 @@
 // Where each page's last frame stands, in a table by the pages' numbers.
-ghost use Rattle.std.specs.Prelude.{◌≡◌, ◌<◌, ◌==◌, ℕ, length, OnOk, IfErr, IfSome, if◌then◌else◌};
+ghost use Rattle.std.specs.Prelude.{◌≡◌, ◌<◌, ◌==◌, ℕ, length, OnOk, IfSome, if◌then◌else◌};
 ghost use Rattle.second_chance.specs.Queue.{in_group};
 ghost use Rattle.flash_directory.specs.Places.{elsewhere, newer};
 ghost use Rattle.policy_sim.specs.Tables.{at_page, place_of};
 
 use crate::queued::Group;
 use flash_directory::Place;
-use site::Stop;
+use std::alloc::AllocError;
 
 /// What a table has of a page: whether the page has a frame, and where its last one stands.
 #[derive(Clone, Copy, Debug)]
@@ -50,10 +50,9 @@ pub fn find(slots: &Vec<Slot>, page: u32) -> Option<Place>
 }
 
 /// Makes a table so long that it has a slot for this page.
-fn reach(slots: &mut Vec<Slot>, page: u32) -> Result<(), Stop>
+fn reach(slots: &mut Vec<Slot>, page: u32) -> Result<(), AllocError>
     ensures same { OnOk result ((n : ℕ) → at_page slots.new.items n ≡ at_page slots.old.items n) }
     ensures long { OnOk result (page < length slots.new.items) }
-    ensures memory { IfErr result (λ stop. stop ≡ Stop.Memory) }
 {
     let at = page as usize;
     if at < slots.len() {
@@ -64,10 +63,9 @@ fn reach(slots: &mut Vec<Slot>, page: u32) -> Result<(), Stop>
 }
 
 /// What the table has of a page is now this.
-fn put(slots: &mut Vec<Slot>, page: u32, slot: Slot) -> Result<(), Stop>
+fn put(slots: &mut Vec<Slot>, page: u32, slot: Slot) -> Result<(), AllocError>
     ensures puts { OnOk result ((n : ℕ) → at_page slots.new.items n
         ≡ (if page == n then place_of slot else at_page slots.old.items n)) }
-    ensures memory { IfErr result (λ stop. stop ≡ Stop.Memory) }
 {
     reach(slots, page)?;
     slots[page as usize] = slot;
@@ -99,10 +97,9 @@ pub fn forget_group(slots: &mut Vec<Slot>, group: &Group, number: u64)
 }
 
 /// Each page of a group, which has this number, now has its last frame there.
-pub fn enter_group(slots: &mut Vec<Slot>, group: &Group, number: u32) -> Result<(), Stop>
+pub fn enter_group(slots: &mut Vec<Slot>, group: &Group, number: u32) -> Result<(), AllocError>
     ensures enters { OnOk result ((n : ℕ) → at_page slots.new.items n
         ≡ newer number group.now n (at_page slots.old.items n)) }
-    ensures memory { IfErr result (λ stop. stop ≡ Stop.Memory) }
 {
     for (index, frame) in group.as_slice().iter().enumerate() {
         let slot = Slot {

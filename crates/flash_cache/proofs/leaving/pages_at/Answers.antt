@@ -1,20 +1,16 @@
-use Rattle.std.proofs.Common.{◌<◌, ℕ, length, ◌++◌, ◌∷◌, [], sym, ◌∙◌}
-use Rattle.second_chance.specs.Queue.{front_marks}
+use Rattle.std.proofs.Common.{ℕ, Bool, List, ◌++◌, ◌∷◌, [], sym, ap, ◌∙◌}
 use Rattle.flash_cache.specs.Leaving.{mark_at}
-use Rattle.flash_cache.proofs.Gathering.{mapped_more, mark_is, taken_has}
+use Rattle.flash_cache.proofs.Gathering.{mapped_more}
 use Rattle.flash_cache.proofs.leaving.pages_at.Goals as goal
 
 pub loop-index-preserved : goal.loop-index-preserved
 loop-index-preserved c =
-    let groups = c.args.directory.now.groups in
+    let front = c.args.front.now in
+    let n = c.loop-index.index in
     let place : ℕ = c.at.result in
-    let below = taken_has (λ (p : ℕ). p < length (front_marks groups)) c.args.places.now c.loop-index.index place c.requires c.at.ensures in
-    let same = (mark_is groups c.marks.new.into c.marks.result place c.marks.ensures.marks below).1 in
     record {
-      pages = c.in_ok-push.ensures.items
-          ∙ (λ i. c.loop-index.invariant.pages i ++ (sym same i).page ∷ [])
-          ∙ sym (mapped_more (λ (p : ℕ). (mark_at groups p).page) c.args.places.now c.loop-index.index place c.at.ensures);
-      dirty = c.in_ok-push-2.ensures.items
-          ∙ (λ i. c.loop-index.invariant.dirty i ++ (sym same i).dirty ∷ [])
-          ∙ sym (mapped_more (λ (p : ℕ). (mark_at groups p).dirty) c.args.places.now c.loop-index.index place c.at.ensures);
+      pages = c.in_ok-push.ensures.items ∙ ap (λ (l : List ℕ). l ++ (mark_at front place).page ∷ []) c.loop-index.invariant.pages
+          ∙ sym (mapped_more (λ (p : ℕ). (mark_at front p).page) c.args.places.now n place c.at.ensures);
+      dirty = c.in_ok-push-2.ensures.items ∙ ap (λ (l : List Bool). l ++ (mark_at front place).dirty ∷ []) c.loop-index.invariant.dirty
+          ∙ sym (mapped_more (λ (p : ℕ). (mark_at front p).dirty) c.args.places.now n place c.at.ensures);
     }

@@ -4,6 +4,6 @@ use Rattle.flash_cache.proofs.leaving.pages_at.Given as goal
 
 abbrev pub invariant-loop-index : goal.invariant-loop-index
 invariant-loop-index l = record {
-  pages : l.pages.items ≡ map (λ place. (mark_at l.fn.directory.groups place).page) (take l.index l.places);
-  dirty : l.dirty.items ≡ map (λ place. (mark_at l.fn.directory.groups place).dirty) (take l.index l.places);
+  pages : l.pages.items ≡ map (λ place. (mark_at l.front place).page) (take l.index l.places);
+  dirty : l.dirty.items ≡ map (λ place. (mark_at l.front place).dirty) (take l.index l.places);
 }

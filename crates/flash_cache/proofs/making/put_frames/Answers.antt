@@ -1,13 +1,14 @@
+use Rattle.std.specs.Prelude.{slice_set}
 use Rattle.std.proofs.Common.{◌≡◌, ◌+◌, ◌<◌, ◌≤◌, ℕ, List, [], ◌∷◌, ◌++◌, length, get_or, take, sym, ◌∙◌, ap, subst, arith, append_assoc, length-append}
 use Rattle.std.proofs.lemmas.List.{get_or_default, take_all, take_more, length-take-le}
 use Rattle.std.specs.List.{AllByRecursion}
 use Rattle.std_lemmas.proofs.AllOf.{all_push}
 use Rattle.byte_fields.specs.declared.frame_head.FrameHead.{FrameHead}
 use Rattle.byte_fields.specs.FrameHeads.{blank}
-use Rattle.frame_group.specs.Groups.{Frame, IsFrame, group, frame_of, lsn_of}
-use Rattle.flash_cache.specs.Leaving.{frames_with}
+use Rattle.frame_group.specs.Groups.{Frame, IsFrame, group, heads_of, frame_of, lsn_of}
+use Rattle.flash_cache.specs.Leaving.{frames_with, IsMadeOf}
 use Rattle.flash_cache.specs.Pushed.{no_frame}
-use Rattle.flash_cache.proofs.Heads.{is_with, is_with_all}
+use Rattle.flash_cache.proofs.Heads.{is_with, is_with_all, next_head}
 use Rattle.flash_cache.proofs.making.put_frames.Goals as goal
 
 pub put_frame-requires-clause-present : goal.put_frame-requires-clause-present
@@ -38,10 +39,15 @@ loop-index-preserved c =
     record {
       grown = λ before at was.
           let longer = length-append before (take n frames) in
-          c.put_frame.ensures.grown (before ++ take n frames) (omega (arith, longer, many, at)) (c.loop-index.invariant.grown before at was)
-          ∙ ap (λ (f : Frame). group ((before ++ take n frames) ++ f ∷ [])) own
-          ∙ ap group (append_assoc before (take n frames) (get_or frames n no_frame ∷ []))
-          ∙ ap (λ (l : List Frame). group (before ++ l)) (sym more);
+          let at_end : c.args.from + n ≡ length (before ++ take n frames) = omega (arith, longer, many, at) in
+          let so_far = c.loop-index.invariant.grown before at was in
+          let behind : (before ++ take n frames) ++ get_or frames n no_frame ∷ [] ≡ before ++ take (n + 1) frames = append_assoc before (take n frames) (get_or frames n no_frame ∷ []) ∙ ap (λ (l : List Frame). before ++ l) (sym more) in
+          record {
+            content = c.put_frame.ensures.grown (before ++ take n frames) (omega (arith, longer, many, at)) so_far.content
+                ∙ ap (λ (f : Frame). group ((before ++ take n frames) ++ f ∷ [])) own ∙ ap group behind;
+            heads = (λ i. slice_set (so_far.heads i) (at_end i) (w.head i))
+                ∙ next_head (before ++ take n frames) (get_or frames n no_frame) (omega (arith, longer, many, at, less, c.requires.few)) ∙ ap heads_of behind;
+          };
       are_frames = subst (AllByRecursion IsFrame) (sym more) (all_push IsFrame (take n frames) (get_or frames n no_frame) c.loop-index.invariant.are_frames (subst IsFrame own c.put_frame.ensures.frame));
     }
 
@@ -51,8 +57,8 @@ whole heads contents n le = take_all n (frames_with heads contents) le
 pub returns-clause-grown : goal.returns-clause-grown
 returns-clause-grown c before at was =
     let w = is_with_all c.args.heads.now c.args.contents.now (omega (arith, c.requires.few)) c.requires.heads in
-    c.loop-index.invariant.grown before at was
-    ∙ ap (λ (l : List Frame). group (before ++ l)) (whole c.args.heads.now c.args.contents.now c.loop-index.index (omega (arith, w, c.loop-index-test.false)))
+    subst (λ (l : List Frame). IsMadeOf c.loop-index.group (before ++ l)) (whole c.args.heads.now c.args.contents.now c.loop-index.index (omega (arith, w, c.loop-index-test.false)))
+    (c.loop-index.invariant.grown before at was)
 
 pub returns-clause-are_frames : goal.returns-clause-are_frames
 returns-clause-are_frames c =

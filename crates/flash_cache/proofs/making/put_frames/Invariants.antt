@@ -1,11 +1,11 @@
 use Rattle.std.proofs.Common.{◌≡◌, ◌++◌, List, length, take}
 use Rattle.std.specs.List.{AllByRecursion}
-use Rattle.frame_group.specs.Groups.{Frame, IsFrame, group}
-use Rattle.flash_cache.specs.Leaving.{frames_with}
+use Rattle.frame_group.specs.Groups.{Frame, IsFrame}
+use Rattle.flash_cache.specs.Leaving.{frames_with, IsMadeOf}
 use Rattle.flash_cache.proofs.making.put_frames.Given as goal
 
 abbrev pub invariant-loop-index : goal.invariant-loop-index
 invariant-loop-index l = record {
-  grown : (before : List Frame) → length before ≡ l.from → l.fn.content ≡ group before → l.content ≡ group (before ++ take l.index (frames_with l.heads l.contents));
+  grown : (before : List Frame) → length before ≡ l.from → IsMadeOf l.fn.group before → IsMadeOf l.group (before ++ take l.index (frames_with l.heads l.contents));
   are_frames : AllByRecursion IsFrame (take l.index (frames_with l.heads l.contents));
 }

@@ -3,8 +3,10 @@ use Rattle.buffer_pool.specs.Frames.{State, mark_of, coldest_movable}
 use Rattle.buffer_pool.proofs.Listed.{Listed, marks_listed, coldest_are}
 use Rattle.buffer_pool.proofs.pool.Pool.coldest_movable.Goals as goal
 
-pub returns-then-self-clause-marks : goal.returns-then-self-clause-marks
-returns-then-self-clause-marks c = subst (λ (l : List (ℕ × Bool)). IfOk c.coldest.result (λ marks. marks.items ≡ l))
-    (ap (λ (ws : Listed). take c.args.most (marks_listed ws)) (c.self.invariant.2.listed c.if-self.true)
-    ∙ coldest_are c.args.most c.self.inside.size c.self.inside.pages.entries c.self.invariant.1.distinct
-    ∙ ap (λ (p : State). map mark_of (coldest_movable c.args.most p)) c.self.view_is) c.coldest.ensures.marks
+pub returns-then-self : goal.returns-then-self
+returns-then-self c = record {
+  marks = subst (λ (l : List (ℕ × Bool)). IfOk c.coldest.result (λ marks. marks.items ≡ l))
+      (ap (λ (ws : Listed). take c.args.most (marks_listed ws)) (c.self.invariant.2.listed c.if-self.true)
+      ∙ coldest_are c.args.most c.self.inside.size c.self.inside.pages.entries c.self.invariant.1.distinct
+      ∙ ap (λ (p : State). map mark_of (coldest_movable c.args.most p)) c.self.view_is) c.coldest.ensures.marks;
+}

@@ -14,5 +14,7 @@ pub loop-page-preserved : goal.loop-page-preserved
 loop-page-preserved c = one_more_told _ c.loop-page.marks.items _ c.loop-page.colder c.next.new.self (c.in-Some.page.now, c.in-Some.kept.now)
     c.loop-page.invariant c.in-Some.ensures.steps c.in_ok-push.ensures.items
 
-pub returns-clause-marks : goal.returns-clause-marks
-returns-clause-marks c = all_told _ c.loop-page.marks.items c.loop-page.colder c.loop-page.invariant c.in_default.ensures.steps.0
+pub returns : goal.returns
+returns c = record {
+  marks = all_told _ c.loop-page.marks.items c.loop-page.colder c.loop-page.invariant c.in_default.ensures.steps.0;
+}

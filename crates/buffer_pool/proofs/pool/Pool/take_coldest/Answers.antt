@@ -1,6 +1,8 @@
-use Rattle.std.proofs.Common.{◌-◌, List, length, take, false, ap, sym, ◌∙◌}
+use Rattle.std.proofs.Common.{◌≡◌, ◌-◌, List, [], length, take, false, ap, sym, subst, ◌∙◌}
+use Rattle.std.specs.List.{AllByRecursion}
+use Rattle.std_lemmas.proofs.AllOf.{all_between}
 use Rattle.buffer_pool.specs.Listing.{struck}
-use Rattle.buffer_pool.proofs.Known.{framed-last, knows}
+use Rattle.buffer_pool.proofs.Known.{framed_in, framed-last, each_known, known, knows}
 use Rattle.buffer_pool.proofs.Listed.{index_last}
 use Rattle.buffer_pool.proofs.Cached.{Entry, frames-last, pool-last, split_last}
 use Rattle.buffer_pool.proofs.pool.Pool.take_coldest.Goals as goal
@@ -29,3 +31,12 @@ returns-clause-framed c =
     rw (← c.self.view_is, c.in_ok-page.ensures.entries)
     (knows c.self.inside.size e.0 false es (take (length es - 1) es) c.self.invariant.1.distinct (pool-last c.self.inside.size es e is c.self.invariant.1).distinct
     (framed-last es e is c.self.invariant.1.distinct))
+
+pub returns-clause-told : goal.returns-clause-told
+returns-clause-told c =
+    let es : List Entry = c.self.inside.pages.entries in
+    let e : Entry = (c.in_ok-page.page, c.in_ok-page.kept) in
+    let distinct = c.self.invariant.1.distinct in
+    rw (← c.self.view_is)
+    (sym (all_between (λ (x : Entry). framed_in es x.0 ≡ x.1.framed) (take (length es - 1) es) e [] (subst (AllByRecursion (λ (x : Entry). framed_in es x.0 ≡ x.1.framed)) (split_last es e (sym c.in_ok-page.ensures.value)) (each_known es distinct)))
+    ∙ sym (known c.self.inside.size es distinct e.0))

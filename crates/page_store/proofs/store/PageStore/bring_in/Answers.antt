@@ -1,13 +1,13 @@
-use Rattle.std.proofs.Common.{rules, List, [], ◌≤◌, append-nil, refl, ℕ, sym, subst, ap, ◌∙◌, arith}
-use Rattle.std.specs.Prelude.{if◌then◌else◌}
+use Rattle.std.proofs.Common.{rules, List, [], ◌≤◌, false, length, append-nil, refl, ℕ, sym, subst, ap, ◌∙◌, arith}
+use Rattle.std.specs.Prelude.{if◌then◌else◌, OnOk}
 use Rattle.site.specs.declared.outside.Dev.TheVariants.{Disk}
 use Rattle.site.specs.State.{Image}
 use Rattle.site.specs.Laws.{stays_honest}
 use Rattle.site.proofs.Working.{calls_then}
 use Rattle.image_changes.specs.Changes.{Reaches}
 use Rattle.second_chance.specs.Queue.{has_frame}
-use Rattle.second_chance.specs.Machine.{Cache}
-use Rattle.log_store.specs.LogList.{sealed_if}
+use Rattle.second_chance.specs.Machine.{Cache, in_front}
+use Rattle.log_store.specs.LogList.{LogList, sealed_if}
 use Rattle.image_meaning.specs.Beside.{AreRingsSoundUnder}
 use Rattle.second_chance.specs.Machine.{Staged}
 use Rattle.write_ahead.specs.Forcing.{forces}
@@ -17,7 +17,7 @@ use Rattle.page_store.proofs.Numbers.{way_next}
 use Rattle.page_store.specs.Representation.{current}
 use Rattle.page_store.specs.Ahead.{AreSealed, pushed_for_room}
 use Rattle.page_store.specs.Changing.{room_changes}
-use Rattle.page_store.specs.Leaves.{LeavesPages}
+use Rattle.page_store.specs.Leaves.{AreReady, LeavesPages}
 use Rattle.image_changes.proofs.Counting.{calls_then as counts_then, calls_unchanged}
 use Rattle.page_store.specs.Calls.{Stands}
 use Rattle.page_store.proofs.PushLaws.{ok_four}
@@ -25,41 +25,26 @@ use Rattle.page_store.proofs.Bringing.{snapshot_same, ready_same, current_again,
 use Rattle.page_store.proofs.NextUnits.{next_then, next_read}
 use Rattle.page_store.proofs.Calling.{forces_again, keeps_read}
 use Rattle.page_store.proofs.StagingLaws.{stages_then, stages_as, stages_up}
+use Rattle.site.proofs.Working.{ok_as}
+use Rattle.page_store.proofs.store.PageStore.bring_in.Given.{Over}
+use Rattle.page_store.proofs.store.PageStore.bring_in.Goals.{After-read_in}
 use Rattle.page_store.proofs.store.PageStore.bring_in.Goals as goal
 
-pub returns-in-Err-clause-disk_reads : goal.returns-in-Err-clause-disk_reads
-returns-in-Err-clause-disk_reads g c = omega (arith, c.make_room.ensures.pushes.others Disk (λ same. cc))
+pub returns-in-Err : goal.returns-in-Err
+returns-in-Err g c = record {
+  room = c.in-Err.ensures.room;
+  works = c.in-Err.ensures.pushes.works;
+  ended = c.make_room.ensures.pushes.ended;
+  machine = tt;
+  front = tt;
+  there = tt;
+  flash_reads = omega (arith, c.make_room.ensures.reads);
+  disk_reads = omega (arith, c.make_room.ensures.pushes.others Disk (λ same. cc));
+}
 
-pub returns-in-Ok-clause-disk_reads : goal.returns-in-Ok-clause-disk_reads
-returns-in-Ok-clause-disk_reads g c =
-    let queue = ap {B = ℕ} (λ (k : Cache). if has_frame k.queue c.args.page then 0 else 1) c.in-Ok.ensures.machine in
-    omega (arith, c.make_room.ensures.pushes.others Disk (λ same. cc), c.read_in.ensures.reads.disk_reads, queue)
-
-pub returns-in-Ok-clause-works : goal.returns-in-Ok-clause-works
-returns-in-Ok-clause-works g c =
-    let first = c.in-Ok.ensures.pushes.works in
-    let read = c.read_in.ensures.reads in
-    record {
-      calls = calls_then first.calls read.calls;
-      forces = forces_again c.read_in.result first.forces;
-      going = read.going;
-      log_going = search rules;
-      geometry = read.geometry ∙ first.geometry;
-      size = c.read_in.ensures.size ∙ first.size;
-      log_reads = read.log_reads ∙ first.log_reads;
-      stops = search rules;
-      next = λ honest. next_then first.forces.geometry first.geometry (first.next honest)
-          (next_read c.read_in.result (read.same (stays_honest (g.S.Site.state c.args.site.now) (g.S.Site.state c.make_room.new.site) first.calls.preserves honest)) read.segments read.geometry (search rules) (search rules));
-    }
-
-pub returns-in-Ok-clause-keeps : goal.returns-in-Ok-clause-keeps
-returns-in-Ok-clause-keeps g c list ready =
-    let there = (c.in-Ok.ensures.stands list ready).ready in
-    let read = c.read_in.ensures.reads in
-    keeps_read (c.in-Ok.ensures.pushes.works.calls.stays_quiet ready.blocks.honest) (read.same there.pages.flash.honest) (search rules) (search rules) (λ is. read.foreign is there.pages) (c.in-Ok.ensures.keeps list ready)
-
-pub returns-in-Ok-clause-stands : goal.returns-in-Ok-clause-stands
-returns-in-Ok-clause-stands g c list ready =
+stands_in : (g : Over) (c : After-read_in g) → (list : LogList) → AreReady c.args.self.now c.args.log.now list (g.S.Site.state c.args.site.now) → OnOk c.read_in.result (Stands c.args.log.now c.make_room.new.log c.args.self.now c.read_in.new.self
+    (g.S.Site.state c.args.site.now) (g.S.Site.state c.read_in.new.site) list (forces c.args.log.now (pushed_for_room c.args.self.now)) (room_changes c.args.log.now list c.args.self.now (g.S.Site.state c.args.site.now).image))
+stands_in g c list ready =
     let old = g.S.Site.state c.args.site.now in
     let mid = g.S.Site.state c.make_room.new.site in
     let new = g.S.Site.state c.read_in.new.site in
@@ -70,7 +55,7 @@ returns-in-Ok-clause-stands g c list ready =
     let after = c.read_in.new.self in
     let sealing = forces log (pushed_for_room store) in
     let changes = room_changes log list store old.image in
-    let stands = c.in-Ok.ensures.stands list ready in
+    let stands = c.in-Ok.ensures.room.stands list ready in
     let first = c.in-Ok.ensures.pushes.works in
     let read = c.read_in.ensures.reads in
     let fits = stands.ready.pages in
@@ -89,10 +74,41 @@ returns-in-Ok-clause-stands g c list ready =
     })
     (read.fits fits) (c.read_in.ensures.current fits) c.read_in.ensures.put (c.read_in.ensures.read fits)
 
-pub returns-in-Ok-clause-stages : goal.returns-in-Ok-clause-stages
-returns-in-Ok-clause-stages g c =
+pub returns-in-Ok : goal.returns-in-Ok
+returns-in-Ok g c =
     let store = c.args.self.now in
+    let first = c.in-Ok.ensures.pushes.works in
+    let read = c.read_in.ensures.reads in
+    let found = ap {B = ℕ} (λ (k : Cache). if has_frame k.queue c.args.page then 1 else 0) c.in-Ok.ensures.machine in
+    let missed = ap {B = ℕ} (λ (k : Cache). if has_frame k.queue c.args.page then 0 else 1) c.in-Ok.ensures.machine in
     let some : 1 ≤ (rules_for store).groups = omega (arith, c.requires.going.pages_going.flash.limits.groups) in
     let next = ap next_group c.in-Ok.ensures.machine ∙ way_next store some in
     let staged : List Staged = if is_full store then staged_by_eviction (rules_for store) (cache_of store) else [] in
-    stages_as (append-nil staged) refl (stages_then (λ has. omega arith) c.in-Ok.ensures.stages (stages_up (omega (arith, next)) c.read_in.ensures.stages))
+    record {
+      room = record {
+        keeps = λ list ready.
+            let there = (c.in-Ok.ensures.room.stands list ready).ready in
+            keeps_read (first.calls.stays_quiet ready.blocks.honest) (read.same there.pages.flash.honest) (search rules) (search rules) (λ is. read.foreign is there.pages) (c.in-Ok.ensures.room.keeps list ready);
+        stands = stands_in g (goal.at.returns-in-Ok g c).After-read_in;
+        stages = stages_as (append-nil staged) refl (stages_then (λ has. omega arith) c.in-Ok.ensures.room.stages (stages_up (omega (arith, next)) c.read_in.ensures.stages));
+        worn = search rules;
+      };
+      works = record {
+        calls = calls_then first.calls read.calls;
+        forces = forces_again c.read_in.result first.forces;
+        going = read.going;
+        log_going = search rules;
+        geometry = read.geometry ∙ first.geometry;
+        size = c.read_in.ensures.size ∙ first.size;
+        log_reads = read.log_reads ∙ first.log_reads;
+        stops = search rules;
+        next = λ honest. next_then first.forces.geometry first.geometry (first.next honest)
+            (next_read c.read_in.result (read.same (stays_honest (g.S.Site.state c.args.site.now) (g.S.Site.state c.make_room.new.site) first.calls.preserves honest)) read.segments read.geometry (search rules) (search rules));
+      };
+      ended = read.ended ∙ c.make_room.ensures.pushes.ended;
+      machine = ok_as c.read_in.result _ _ (λ is. is ∙ ap (in_front c.args.page false) c.in-Ok.ensures.machine) c.read_in.ensures.machine;
+      front = ok_as c.read_in.result _ _ (λ put. put.page_is) c.read_in.ensures.put;
+      there = ok_as c.read_in.result _ _ (λ put. omega (arith, ap length put.frames)) c.read_in.ensures.put;
+      flash_reads = omega (arith, c.make_room.ensures.reads, read.flash_reads, found);
+      disk_reads = omega (arith, c.make_room.ensures.pushes.others Disk (λ same. cc), read.disk_reads, missed);
+    }

@@ -1,27 +1,27 @@
-use Rattle.std.proofs.Common.{rules, ◌+◌, ◌≡◌, ◌<◌, ℕ, [], length, map, sym, subst, ◌∙◌, ap, arith, refl}
-use Rattle.std.specs.Prelude.{All, List, reverse}
+use Rattle.std.proofs.Common.{rules, Bool, true, false, ◌+◌, ◌≡◌, ◌<◌, ℕ, [], length, map, sym, subst, ◌∙◌, ap, arith, refl}
+use Rattle.std.specs.Prelude.{All, List, reverse, if◌then◌else◌}
 use Rattle.std_lemmas.proofs.Results.{ok_both}
 use Rattle.buffer_pool.specs.declared.frame.Frame.{Frame}
 use Rattle.buffer_pool.specs.Frames.{State as Pool, AreDistinct, frame_of}
-use Rattle.second_chance.specs.Machine.{Cache, evict_coldest, rules_of, staged_in_eviction, staged_in_push}
+use Rattle.second_chance.specs.Machine.{Cache, evict_coldest, must_be_pushed, rules_of, staged_in_eviction, staged_in_push}
 use Rattle.flash_cache.specs.declared.cache.FlashCache.{FlashCache}
 use Rattle.site.proofs.Working.{ok_as, calls_nothing, no_error}
 use Rattle.write_ahead.specs.Forcing.{end_forced, forces}
 use Rattle.page_store.specs.declared.store.PageStore.{PageStore}
 use Rattle.page_store.specs.Representation.{IsStore, Invariant}
-use Rattle.page_store.specs.Caching.{pool_page, cache_of, rules as rules_for}
+use Rattle.page_store.specs.Caching.{pool_page, cache_of, is_pushed, rules as rules_for}
 use Rattle.page_store.specs.Ahead.{evicted}
 use Rattle.page_store.specs.Changing.{given_changes, eviction_changes}
 use Rattle.page_store.specs.Leaves.{AreReady}
 use Rattle.flash_cache.specs.Pushed.{known_pushed, pushed_queue}
-use Rattle.page_store.specs.Calls.{MayWork, Pushes, KeepsGiven, Stands, StandsGiven}
-use Rattle.page_store.proofs.Departures.{HasLeft, Departs, departs, going_left, logged_left, few_left, absent_left, rest_current, rest_ready, rest_going, rest_logged, none_evicted, none_forced}
-use Rattle.page_store.proofs.Calling.{pushes_as, pushes_still, pushes_with, keeps_as, keeps_still, stands_as, keeps_nothing, stands_still, keeps_given, stands_given}
+use Rattle.page_store.specs.Calls.{MayWork, Pushes, StopsAtEnd, KeepsGiven, Stands, StandsGiven}
+use Rattle.page_store.proofs.Departures.{HasLeft, Departs, departs, must_be, going_left, logged_left, few_left, absent_left, rest_current, rest_ready, rest_going, rest_logged, none_evicted, none_forced}
+use Rattle.page_store.proofs.Calling.{stops_as, pushes_as, pushes_still, pushes_with, keeps_as, keeps_still, stands_as, keeps_nothing, stands_still, keeps_given, stands_given}
 use Rattle.page_store.proofs.Changing.{eviction_is}
 use Rattle.page_store.proofs.PushLaws.{ok_under}
 use Rattle.page_store.proofs.StagingLaws.{stages_none, stages_as, stages_between, evicted_none, evicted_staged, evicted_next}
 use Rattle.page_store.proofs.store.PageStore.evict.Given.{Over}
-use Rattle.page_store.proofs.store.PageStore.evict.Goals.{In-Some, After-deref-in-Ok-2}
+use Rattle.page_store.proofs.store.PageStore.evict.Goals.{After-must_be_pushed, After-deref-in-Ok-2}
 use Rattle.page_store.proofs.store.PageStore.evict.Goals as goal
 
 -- the pool is empty
@@ -31,16 +31,17 @@ returns-in_default-clause-keeps g c list ready = keeps_nothing c.requires.going.
 
 -- the coldest page has left it
 
-abbrev coldest : (g : Over) → In-Some g → Frame
-coldest g c = record { page = c.in-Some.page; changed = c.in-Some.changed; content = c.in-Some.content }
+module _ (g : Over) (c : After-must_be_pushed g) where
+  has_left : HasLeft c.args.self.now c.take_coldest.new.self c.in-Some.coldest
+  has_left = record {
+    is = c.in-Some.ensures.some;
+    one = c.frames_of_pages.ensures.last _ _ (subst AreDistinct c.in-Some.ensures.some c.requires.going.pages_going.own.pool.distinct);
+    size = c.take_coldest.ensures.size;
+    knows = c.in-Some.ensures.framed;
+  }
 
-has_left : (g : Over) (c : In-Some g) → HasLeft c.args.self.now c.take_coldest.new.self (coldest g c)
-has_left g c = record {
-  is = c.in-Some.ensures.some;
-  one = c.frames_of_pages.ensures.last _ _ (subst AreDistinct c.in-Some.ensures.some c.requires.going.pages_going.own.pool.distinct);
-  size = c.take_coldest.ensures.size;
-  knows = c.in-Some.ensures.framed;
-}
+  must_is : must_be_pushed c.args.self.now.flash.directory (pool_page c.in-Some.coldest) ≡ c.must_be_pushed.result
+  must_is = must_be _ _ _ has_left c.requires.going.pages_going.own.told c.in-Some.framed c.in-Some.ensures.told ∙ sym c.must_be_pushed.ensures
 
 -- and isn't pushed
 
@@ -48,16 +49,16 @@ pub returns-then-not-must_be_pushed-clause-stands : goal.returns-then-not-must_b
 returns-then-not-must_be_pushed-clause-stands g c list ready =
     let log = c.args.log.now in
     let site = g.S.Site.state c.args.site.now in
-    let h = has_left g (goal.at.returns-then-not-must_be_pushed-clause-stands g c).In-Some in
-    let must = sym c.must_be_pushed.ensures ∙ c.if-not-must_be_pushed.true in
+    let h = has_left g (goal.at.returns-then-not-must_be_pushed-clause-stands g c).After-must_be_pushed in
+    let must = must_is g (goal.at.returns-then-not-must_be_pushed-clause-stands g c).After-must_be_pushed ∙ c.if-not-must_be_pushed.true in
     stands_still c.requires.going.sizes refl (none_forced _ _ _ h log must) (eviction_is log list c.args.self.now site.image [] (none_evicted _ _ _ h must))
     ready
     (rest_ready _ _ _ h log list site ready) (rest_current _ _ _ h site ready.pages must) (rest_logged _ _ _ h (end_forced log))
 
 pub returns-then-not-must_be_pushed-clause-pushes : goal.returns-then-not-must_be_pushed-clause-pushes
 returns-then-not-must_be_pushed-clause-pushes g c =
-    let h = has_left g (goal.at.returns-then-not-must_be_pushed-clause-pushes g c).In-Some in
-    let none = none_forced _ _ _ h c.args.log.now (sym c.must_be_pushed.ensures ∙ c.if-not-must_be_pushed.true) in
+    let h = has_left g (goal.at.returns-then-not-must_be_pushed-clause-pushes g c).After-must_be_pushed in
+    let none = none_forced _ _ _ h c.args.log.now (must_is g (goal.at.returns-then-not-must_be_pushed-clause-pushes g c).After-must_be_pushed ∙ c.if-not-must_be_pushed.true) in
     pushes_still _ calls_nothing tt (λ says. no_error says) (λ says. no_error says) none c.requires.going (rest_going _ _ _ h (g.S.Site.state c.args.site.now) c.requires.going.pages_going) refl h.size refl
     (rest_logged _ _ _ h (end_forced c.args.log.now))
 
@@ -65,29 +66,29 @@ returns-then-not-must_be_pushed-clause-pushes g c =
 
 pub take_with-requires-clause-store : goal.take_with-requires-clause-store
 take_with-requires-clause-store g c =
-    (rest_going _ _ _ (has_left g (goal.at.take_with-requires-clause-store g c).In-Some) (g.S.Site.state c.args.site.now) c.requires.going.pages_going).own
+    (rest_going _ _ _ (has_left g (goal.at.take_with-requires-clause-store g c).After-must_be_pushed) (g.S.Site.state c.args.site.now) c.requires.going.pages_going).own
 
 departed : (g : Over) (c : After-deref-in-Ok-2 g) → Departs c.args.self.now c.take_with.new.self.pool c.deref.result.now c.deref-in-Ok.result.now
     c.deref-in-Ok-2.result.now
 departed g c =
     let is = c.in-Some.ensures.some in
-    let last : Frame = record { page = c.in-Some.page; changed = c.in-Some.changed; content = c.in-Some.content } in
     let whole = c.requires.going.pages_going.own in
     let laws = c.frames_of_pages.ensures in
-    let h : HasLeft c.args.self.now c.take_coldest.new.self last = record {
+    let h : HasLeft c.args.self.now c.take_coldest.new.self c.in-Some.coldest = record {
       is = is;
       one = laws.last _ _ (subst AreDistinct is whole.pool.distinct);
       size = c.take_coldest.ensures.size;
       knows = c.in-Some.ensures.framed;
     } in
-    departs _ _ _ h c.unframed_is_disk.ensures laws.without whole (sym c.must_be_pushed.ensures ∙ c.if-not-must_be_pushed.false) c.take_with.new.self.pool
+    let must = must_be _ _ _ h whole.told c.in-Some.framed c.in-Some.ensures.told ∙ sym c.must_be_pushed.ensures ∙ c.if-not-must_be_pushed.false in
+    departs _ _ _ h c.unframed_is_disk.ensures laws.without whole must c.take_with.new.self.pool
     c.in-Ok.taken _ _ _
     c.in-Ok.ensures.pool c.in-Ok.ensures.taken c.deref.ensures.value c.deref-in-Ok.ensures.value c.deref-in-Ok-2.ensures.value
 
 pub push-requires-clause-going : goal.push-requires-clause-going
 push-requires-clause-going g c =
     let site = g.S.Site.state c.args.site.now in
-    let h = has_left g (goal.at.push-requires-clause-going g c).In-Some in
+    let h = has_left g (goal.at.push-requires-clause-going g c).After-must_be_pushed in
     subst (λ (s : PageStore). MayWork c.args.log.now s site) (sym c.take_with.ensures.kept)
     (going_left _ _ _ h c.take_with.new.self.pool c.take_with.ensures.part c.args.log.now site (subst IsStore c.take_with.ensures.kept c.take_with.ensures.store) c.requires.going)
 
@@ -123,7 +124,7 @@ returns-in-Ok-clause-stands g c list ready =
     let pages = c.deref.result.now in
     let changed = c.deref-in-Ok.result.now in
     let contents = c.deref-in-Ok-2.result.now in
-    let h = has_left g (goal.at.returns-in-Ok-clause-stands g c).In-Some in
+    let h = has_left g (goal.at.returns-in-Ok-clause-stands g c).After-must_be_pushed in
     let d = departed g (goal.at.returns-in-Ok-clause-stands g c).After-deref-in-Ok-2 in
     let kept = c.take_with.ensures.kept in
     let there = subst (λ (s : PageStore). AreReady s log list old) (sym kept) (d.ready log list old ready) in
@@ -142,7 +143,7 @@ returns-in-Ok-clause-stands g c list ready =
 pub returns-in-Ok-clause-pushes : goal.returns-in-Ok-clause-pushes
 returns-in-Ok-clause-pushes g c =
     let log = c.args.log.now in
-    let h = has_left g (goal.at.returns-in-Ok-clause-pushes g c).In-Some in
+    let h = has_left g (goal.at.returns-in-Ok-clause-pushes g c).After-must_be_pushed in
     let d = departed g (goal.at.returns-in-Ok-clause-pushes g c).After-deref-in-Ok-2 in
     let push = subst (λ (s : PageStore). Pushes c.push.result log c.push.new.log s c.push.new.self (g.S.Site.state c.args.site.now) (g.S.Site.state c.push.new.site) (forces log c.deref-in-Ok-2.result.now)) c.take_with.ensures.kept c.push.ensures.pushes in
     pushes_as (d.forced log) (pushes_with push refl refl push.works.going push.works.geometry (push.works.size ∙ c.take_with.ensures.size ∙ h.size) push.ended
@@ -160,11 +161,11 @@ returns-in-Ok-clause-machine g c =
 pub returns-in-Ok-clause-room_made : goal.returns-in-Ok-clause-room_made
 returns-in-Ok-clause-room_made g c some =
     let now = ap (λ (p : Pool). length p.frames) c.push.ensures.pool in
-    omega (arith, now, few_left _ _ _ (has_left g (goal.at.returns-in-Ok-clause-room_made g c).In-Some) c.take_with.new.self.pool c.take_with.ensures.part)
+    omega (arith, now, few_left _ _ _ (has_left g (goal.at.returns-in-Ok-clause-room_made g c).After-must_be_pushed) c.take_with.new.self.pool c.take_with.ensures.part)
 
 pub returns-in-Ok-clause-absent : goal.returns-in-Ok-clause-absent
 returns-in-Ok-clause-absent g c page none =
-    let h = has_left g (goal.at.returns-in-Ok-clause-absent g c).In-Some in
+    let h = has_left g (goal.at.returns-in-Ok-clause-absent g c).After-must_be_pushed in
     ap (λ (p : Pool). frame_of p.frames page) c.push.ensures.pool ∙ absent_left _ _ _ h c.take_with.new.self.pool c.take_with.ensures.part
     c.frames_of_pages.ensures.without page none
 
@@ -176,7 +177,7 @@ returns-in-Err-clause-keeps g c list ready = keeps_still c.requires.going.sizes 
 pub returns-in-Err-clause-pushes : goal.returns-in-Err-clause-pushes
 returns-in-Err-clause-pushes g c =
     let site = g.S.Site.state c.args.site.now in
-    let h = has_left g (goal.at.returns-in-Err-clause-pushes g c).In-Some in
+    let h = has_left g (goal.at.returns-in-Err-clause-pushes g c).After-must_be_pushed in
     let kept = c.take_with.ensures.kept in
     let going = (going_left _ _ _ h c.take_with.new.self.pool c.take_with.ensures.part c.args.log.now site (subst IsStore kept c.take_with.ensures.store)
     c.requires.going).pages_going in
@@ -185,12 +186,12 @@ returns-in-Err-clause-pushes g c =
     (ap (λ (s : PageStore). s.ended) kept) (logged_left _ _ _ h c.take_with.new.self.pool c.take_with.ensures.part (end_forced c.args.log.now))
 
 pub returns-in-Err-clause-room_made : goal.returns-in-Err-clause-room_made
-returns-in-Err-clause-room_made g c some = few_left _ _ _ (has_left g (goal.at.returns-in-Err-clause-room_made g c).In-Some) c.take_with.new.self.pool
+returns-in-Err-clause-room_made g c some = few_left _ _ _ (has_left g (goal.at.returns-in-Err-clause-room_made g c).After-must_be_pushed) c.take_with.new.self.pool
     c.take_with.ensures.part
 
 pub returns-in-Err-clause-absent : goal.returns-in-Err-clause-absent
 returns-in-Err-clause-absent g c =
-    absent_left _ _ _ (has_left g (goal.at.returns-in-Err-clause-absent g c).In-Some) c.take_with.new.self.pool c.take_with.ensures.part
+    absent_left _ _ _ (has_left g (goal.at.returns-in-Err-clause-absent g c).After-must_be_pushed) c.take_with.new.self.pool c.take_with.ensures.part
     c.frames_of_pages.ensures.without
 
 -- what is written
@@ -207,9 +208,9 @@ pub returns-in-Ok-clause-stages : goal.returns-in-Ok-clause-stages
 returns-in-Ok-clause-stages g c =
     let store = c.args.self.now in
     let rest : Pool = c.take_coldest.new.self in
-    let last = coldest g (goal.at.returns-in-Ok-clause-stages g c).In-Some in
+    let last = c.in-Some.coldest in
     let is = c.in-Some.ensures.some in
-    let must = sym c.must_be_pushed.ensures ∙ c.if-not-must_be_pushed.false in
+    let must = must_is g (goal.at.returns-in-Ok-clause-stages g c).After-must_be_pushed ∙ c.if-not-must_be_pushed.false in
     let kept : c.take_with.new.self.flash ≡ store.flash = ap (λ (s : PageStore). s.flash) c.take_with.ensures.kept in
     stages_as (ap (λ (f : FlashCache). staged_in_push (rules_of 0 f.geometry.groups) f.directory) kept ∙ evicted_staged store rest.frames last is must)
     (ap (λ (f : FlashCache). f.directory.first + length f.directory.groups + 1) kept ∙ evicted_next store rest.frames last is must)
@@ -220,4 +221,27 @@ returns-then-not-must_be_pushed-clause-keeps g c list ready = keeps_nothing c.re
 
 pub returns-then-not-must_be_pushed-clause-stages : goal.returns-then-not-must_be_pushed-clause-stages
 returns-then-not-must_be_pushed-clause-stages g c =
-    stages_none (evicted_none c.args.self.now c.take_coldest.new.self.frames (coldest g (goal.at.returns-then-not-must_be_pushed-clause-stages g c).In-Some) c.in-Some.ensures.some (sym c.must_be_pushed.ensures ∙ c.if-not-must_be_pushed.true)) (omega arith) refl
+    stages_none (evicted_none c.args.self.now c.take_coldest.new.self.frames (c.in-Some.coldest) c.in-Some.ensures.some (must_is g (goal.at.returns-then-not-must_be_pushed-clause-stages g c).After-must_be_pushed ∙ c.if-not-must_be_pushed.true)) (omega arith) refl
+
+-- how it ends
+
+evicts : (b : Bool) (n : ℕ) → n + 1 ≡ n + (if b then 1 else 0) → b ≡ true
+evicts true n is = refl
+evicts false n is = absurd (omega (arith, is))
+
+pushed_then : (g : Over) (c : After-must_be_pushed g) → c.must_be_pushed.result ≡ true → is_pushed (cache_of c.args.self.now) ≡ true
+pushed_then g c must = evicts _ _ (evicted_next c.args.self.now c.take_coldest.new.self.frames c.in-Some.coldest c.in-Some.ensures.some (must_is g c ∙ must))
+
+pub returns-in-Ok-clause-worn : goal.returns-in-Ok-clause-worn
+returns-in-Ok-clause-worn g c =
+    let log = c.args.log.now in
+    let pushed = pushed_then g (goal.at.returns-in-Ok-clause-worn g c).After-must_be_pushed c.if-not-must_be_pushed.false in
+    let d = departed g (goal.at.returns-in-Ok-clause-worn g c).After-deref-in-Ok-2 in
+    let w = subst (λ (s : PageStore). StopsAtEnd c.push.result log s (forces log c.deref-in-Ok-2.result.now) true) c.take_with.ensures.kept c.push.ensures.worn in
+    stops_as (d.forced log) (sym pushed) (record { worn_log = w.worn_log; at_log_end = w.at_log_end; worn_flash = w.worn_flash; never_past = w.never_past })
+
+pub returns-in-Ok-clause-reads : goal.returns-in-Ok-clause-reads
+returns-in-Ok-clause-reads g c =
+    let pushed = pushed_then g (goal.at.returns-in-Ok-clause-reads g c).After-must_be_pushed c.if-not-must_be_pushed.false in
+    let twelve = ap {B = ℕ} (λ (b : Bool). if b then 12 else 0) pushed in
+    omega (arith, c.push.ensures.reads, twelve)

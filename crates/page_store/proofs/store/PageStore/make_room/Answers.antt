@@ -10,7 +10,7 @@ use Rattle.page_store.specs.Calls.{Stands}
 use Rattle.site.specs.State.{Image}
 use Rattle.log_store.specs.LogList.{LogList}
 use Rattle.page_store.proofs.Evictions.{not_forced}
-use Rattle.page_store.proofs.Calling.{keeps_as, stands_as, keeps_nothing, stands_still}
+use Rattle.page_store.proofs.Calling.{keeps_as, stands_as, stops_as, stops_not, keeps_nothing, stands_still}
 use Rattle.page_store.proofs.StagingLaws.{stages_none, stages_as}
 use Rattle.page_store.specs.Caching.{rules as rules_for, next_group}
 use Rattle.page_store.specs.Staging.{staged_by_eviction}
@@ -18,15 +18,18 @@ use Rattle.page_store.proofs.store.PageStore.make_room.Given.{Over}
 use Rattle.page_store.proofs.store.PageStore.make_room.Goals.{After-evict}
 use Rattle.page_store.proofs.store.PageStore.make_room.Goals as goal
 
-pub returns-then-not-is_full-clause-keeps : goal.returns-then-not-is_full-clause-keeps
-returns-then-not-is_full-clause-keeps g c list ready = keeps_nothing c.requires.going.sizes ready
-
-pub returns-then-not-is_full-clause-stands : goal.returns-then-not-is_full-clause-stands
-returns-then-not-is_full-clause-stands g c list ready =
+pub returns-then-not-is_full-clause-room : goal.returns-then-not-is_full-clause-room
+returns-then-not-is_full-clause-room g c =
     let store = c.args.self.now in
     let log = c.args.log.now in
     let is : nat_le store.pool.size (length store.pool.frames) ≡ false = search rules in
-    stands_still c.requires.going.sizes refl (ap (λ b. forces log (cond b (evicted store) [])) is ∙ not_forced log) (ap (λ b. cond b (eviction_changes log list store (g.S.Site.state c.args.site.now).image) []) is) ready ready (search rules) (λ logged. logged)
+    let none = ap (λ b. forces log (cond b (evicted store) [])) is ∙ not_forced log in
+    record {
+      keeps = λ list ready. keeps_nothing c.requires.going.sizes ready;
+      stands = λ list ready. stands_still c.requires.going.sizes refl none (ap (λ b. cond b (eviction_changes log list store (g.S.Site.state c.args.site.now).image) []) is) ready ready (search rules) (λ logged. logged);
+      stages = stages_none (ap (λ b. cond b (staged_by_eviction (rules_for store) (cache_of store)) []) is) (omega arith) refl;
+      worn = stops_not none (ap (λ b. b && is_pushed (cache_of store)) is);
+    }
 
 -- the pool is full
 
@@ -42,25 +45,17 @@ module _ (g : Over) (c : After-evict g) where
       c.args.self.now image
   all_changes list image = ap (λ b. cond b (eviction_changes c.args.log.now list c.args.self.now image) []) is_full
 
-pub returns-clause-keeps : goal.returns-clause-keeps
-returns-clause-keeps g c list ready = keeps_as (all_forced g c) (all_changes g c list (g.S.Site.state c.args.site.now).image) (c.evict.ensures.keeps list ready)
-
-pub returns-clause-stands : goal.returns-clause-stands
-returns-clause-stands g c list ready =
+pub returns-clause-room : goal.returns-clause-room
+returns-clause-room g c =
     let store = c.args.self.now in
     let log = c.args.log.now in
+    let cache = cache_of store in
     let old = g.S.Site.state c.args.site.now in
-    ok_as c.evict.result _ (Stands log c.evict.new.log store c.evict.new.self old (g.S.Site.state c.evict.new.site) list (forces log (pushed_for_room store)) (room_changes log list store old.image))
-    (stands_as (all_forced g c) (all_changes g c list old.image)) (c.evict.ensures.stands list ready)
-
-pub returns-then-not-is_full-clause-stages : goal.returns-then-not-is_full-clause-stages
-returns-then-not-is_full-clause-stages g c =
-    let store = c.args.self.now in
-    let is : nat_le store.pool.size (length store.pool.frames) ≡ false = search rules in
-    stages_none (ap (λ b. cond b (staged_by_eviction (rules_for store) (cache_of store)) []) is) (omega arith) refl
-
-pub returns-clause-stages : goal.returns-clause-stages
-returns-clause-stages g c =
-    let cache = cache_of c.args.self.now in
-    stages_as (ap (λ b. cond b (staged_by_eviction (rules_for c.args.self.now) cache) []) (is_full g c))
-    (ap (λ b. next_group cache + (cond (b && is_pushed cache) 1 0)) (is_full g c)) c.evict.ensures.stages
+    record {
+      keeps = λ list ready. keeps_as (all_forced g c) (all_changes g c list old.image) (c.evict.ensures.keeps list ready);
+      stands = λ list ready.
+          ok_as c.evict.result _ (Stands log c.evict.new.log store c.evict.new.self old (g.S.Site.state c.evict.new.site) list (forces log (pushed_for_room store)) (room_changes log list store old.image))
+          (stands_as (all_forced g c) (all_changes g c list old.image)) (c.evict.ensures.stands list ready);
+      stages = stages_as (ap (λ b. cond b (staged_by_eviction (rules_for store) cache) []) (is_full g c)) (ap (λ b. next_group cache + (cond (b && is_pushed cache) 1 0)) (is_full g c)) c.evict.ensures.stages;
+      worn = stops_as (all_forced g c) (ap (λ b. b && is_pushed cache) (is_full g c)) c.evict.ensures.worn;
+    }

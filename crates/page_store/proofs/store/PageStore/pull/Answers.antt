@@ -1,6 +1,6 @@
 use Rattle.std.proofs.Common.{◌≡◌, ℕ, ◌+◌, ◌<◌, ◌++◌, ◌∷◌, [], List, false, Some, get_or, length, map, take, arith, sym, ap, subst, ◌∙◌, append_assoc}
 use Rattle.std.specs.Prelude.{slice_get}
-use Rattle.std.proofs.lemmas.Option.{none-some, slice_get-get_or}
+use Rattle.std.proofs.lemmas.Option.{none-some, get_or_from_slice_get}
 use Rattle.std.proofs.lemmas.List.{take_more, length-map}
 use Rattle.buffer_pool.specs.declared.frame.Frame.{Frame}
 use Rattle.buffer_pool.specs.Frames.{State as Pool, frame_of, without}
@@ -56,7 +56,7 @@ loop-place-preserved c =
     let both : Some f ≡ Some (get_or xs k no_frame) =
     sym taken ∙ ap (λ (s : PageStore). frame_of s.pool.frames page) so_far ∙ next in
     let is : f ≡ get_or xs k no_frame = cc in
-    let own : get_or ps k 0 ≡ page = get_at ps k page (omega (arith, less, length-map xs page_of)) at in
+    let own : get_or ps k 0 ≡ page = get_or_from_slice_get ps k page 0 at in
     let all : without (without_all (take k ps) frames) page ≡ without_all (take (k + 1) ps) frames =
     sym (without_push (take k ps) page frames)
     ∙ ap (λ (l : List ℕ). without_all l frames) (ap (λ (n : ℕ). take k ps ++ n ∷ []) (sym own) ∙ sym (take_more ps k 0 (omega (arith, less, length-map xs page_of)))) in
@@ -70,9 +70,3 @@ loop-place-preserved c =
       taken = λ before has. subst (Has c.push.new.self) (append_assoc before (take k xs) (f ∷ []) ∙ ap (λ (l : List Frame). before ++ l) (ap (λ (x : Frame). take k xs ++ x ∷ []) is ∙ sym (take_more xs k no_frame less)))
           (c.in_ok-push.ensures.has (before ++ take k xs) (c.loop-place.invariant.taken before has));
     }
-  where
-    get_at : (l : List ℕ) (i n : ℕ) → i < length l → slice_get l i ≡ Some n → get_or l i 0 ≡ n
-    get_at l i n less at = one _ _ (sym (slice_get-get_or l i 0 less) ∙ at)
-      where
-        one : (a b : ℕ) → Some a ≡ Some b → a ≡ b
-        one a b same = cc

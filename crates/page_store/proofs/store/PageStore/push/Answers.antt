@@ -91,7 +91,7 @@ returns-in-Ok g c =
     let flash : after.flash ≡ cache = ap (λ (s : PageStore). s.flash) told in
     let frames : after.pool.frames ≡ store.pool.frames = ap (λ (s : PageStore). s.pool.frames) told in
     let are_told : AreTold after = told_pushed c.push_group-pushed.result store cache _ c.args.pages.now c.args.changed.now c.update_framed_marks.new.self after c.requires.going.pages_going.own.told
-    c.push_group-pushed.ensures.directory c.push_group-pushed.ensures.keeps.kept c.leaving-count.ensures.marks
+    c.push_group-pushed.ensures.directory c.push_group-pushed.ensures.keeps.kept c.requires.plan.front
     (ap (λ (s : PageStore). s.pool.frames) first_told) (ap (λ (s : PageStore). s.pool.frames) c.update_framed_pages.ensures.kept) c.update_framed_marks.ensures.told c.update_framed_pages.ensures.told in
     let h = store.flash.geometry in
     let log = c.args.log.now in
@@ -108,8 +108,7 @@ returns-in-Ok g c =
     let b = λ (list : LogList) (ready : AreReady store log list old). between store log log' sealing list old mid ready
     (c.force_for.ensures.seals.changes ready.blocks.honest) c.force_for.ensures.calls.preserves (c.in-Ok.ensures.seals.finds ready.blocks)
     (c.in-Ok.ensures.holds list ready.blocks ready.records) in
-    let has = λ (list : LogList) (ready : AreReady store log list old). c.push_group-pushed.ensures.frames ready.pages.groups (b list ready).fits
-    (b list ready).holds in
+    let has = λ (list : LogList) (ready : AreReady store log list old). (c.push_group-pushed.ensures.pushes ready.pages.groups (b list ready).fits (b list ready).holds).frames in
     let same = λ (list : LogList) (ready : AreReady store log list old). group_changes_since store.flash pages changed contents old.image mid.image
     (b list ready).flash (b list ready).disk in
     let reached = λ (list : LogList) (ready : AreReady store log list old). subst (λ (k : Geometry). Reaches k (first list) old.image mid.image) sizes
@@ -135,8 +134,8 @@ returns-in-Ok g c =
           let fits = λ (quiet : IsQuiet old). log_fits log old quiet ready.blocks in
           let leaves = λ (quiet : IsQuiet old). subst (λ (k : Geometry). LeavesOnly old mid (LeavesLog k sealing list old.told)) sizes (c.force_for.ensures.seals.any_moment list (fits quiet) ready.records) in
           let front = λ (quiet : IsQuiet old). subst (λ (k : Geometry). LeavesFront k (first list) old mid) sizes (c.force_for.ensures.seals.front list (fits quiet) ready.records quiet) in
-          let pushing = λ (quiet : IsQuiet old). c.push_group-pushed.ensures.front groups b.fits b.holds (still quiet) in
-          let versions = λ (quiet : IsQuiet old). c.push_group-pushed.ensures.versions groups b.fits b.holds (still quiet) b.clean in
+          let pushing = λ (quiet : IsQuiet old). (c.push_group-pushed.ensures.pushes groups b.fits b.holds).front (still quiet) in
+          let versions = λ (quiet : IsQuiet old). (c.push_group-pushed.ensures.pushes groups b.fits b.holds).versions (still quiet) b.clean in
           let untouched = (c.push_group-pushed.ensures.changes b.honest).log in
           record {
             any_moment = λ given quiet are clean.
@@ -144,7 +143,7 @@ returns-in-Ok g c =
                 in_sequence old mid new (Leaves (LeavesPages h given sealing list old)) forced
                 (push_leaves store.flash groups pages changed contents old mid new b.flash b.disk b.told c.ring_kept.ensures (quiet_settled Log mid (still quiet)) (versions quiet) untouched (pushing quiet)
                 (holds_now old mid (LeavesPages h given sealing list old) forced).masters given sealing list are (sealed_blocks list ready)
-                (c.push_group-pushed.ensures.clean_moment groups b.fits b.holds (still quiet) b.clean (clean_given_same store.flash pages changed contents old.image mid.image b.disk clean)));
+                ((c.push_group-pushed.ensures.pushes groups b.fits b.holds).clean_moment (still quiet) b.clean (clean_given_same store.flash pages changed contents old.image mid.image b.disk clean)));
             ahead_moment = λ quiet sealed logged.
                 let at_first = before list ready in
                 in_sequence old mid new (Leaves (LeavesSealed h))
@@ -161,7 +160,7 @@ returns-in-Ok g c =
             quiet = λ quiet. c.push_group-pushed.ensures.keeps.quiet_err b.honest (still quiet);
             worn_log = search rules;
             worn = c.push_group-pushed.ensures.keeps.worn_end b.fits;
-            readable = c.push_group-pushed.ensures.foreign groups b.fits b.holds;
+            readable = (c.push_group-pushed.ensures.pushes groups b.fits b.holds).foreign;
           };
       -- what stands behind the push, whatever is loose
       stands = λ list ready.
@@ -195,8 +194,8 @@ returns-in-Ok g c =
               records = c.stays_beside.ensures.holds log' mid.image new.image (sealed_if sealing list) units b.log_holds;
             };
           })
-          c.push_group-pushed.ensures.directory (c.push_group-pushed.ensures.gives groups b.fits b.holds b.clean) (c.push_group-pushed.ensures.reaches groups b.fits b.holds)
-          (ok_under c.push_group-pushed.result _ _ (c.push_group-pushed.ensures.clean groups b.fits b.holds b.clean)) (c.push_group-pushed.ensures.keeps.fits b.fits) (c.push_group-pushed.ensures.holds groups b.fits b.holds)
+          c.push_group-pushed.ensures.directory ((c.push_group-pushed.ensures.pushes groups b.fits b.holds).gives b.clean) ((c.push_group-pushed.ensures.pushes groups b.fits b.holds).reaches)
+          (ok_under c.push_group-pushed.result _ _ ((c.push_group-pushed.ensures.pushes groups b.fits b.holds).clean b.clean)) (c.push_group-pushed.ensures.keeps.fits b.fits) ((c.push_group-pushed.ensures.pushes groups b.fits b.holds).holds)
           (c.push_group-pushed.ensures.device_calls b.honest);
       pushes =
           let log_reads = c.push_group-pushed.ensures.others Log (λ same. cc) ∙ c.force_for.ensures.seals.reads Log in
@@ -223,10 +222,10 @@ returns-in-Ok g c =
           };
       stages = stages_between {mid = store} refl flash (stages_then {more = staged_in_push (rules_for store) store.flash.directory} {next = next_group (cache_of store)} {next' = next_group (cache_of store) + 1} (λ (has : HasQueueOn store old). omega arith)
           by_forcing (record {
-            holds = λ has. queue_pushed c.push_group-pushed.result c.push_group-pushed.new.self store _ new c.push_group-pushed.ensures.keeps.going (c.push_group-pushed.ensures.keeps.fits has.fits) (c.push_group-pushed.ensures.holds has.groups has.fits has.holds);
+            holds = λ has. queue_pushed c.push_group-pushed.result c.push_group-pushed.new.self store _ new c.push_group-pushed.ensures.keeps.going (c.push_group-pushed.ensures.keeps.fits has.fits) ((c.push_group-pushed.ensures.pushes has.groups has.fits has.holds).holds);
             quiet = λ has quiet. c.push_group-pushed.ensures.keeps.quiet has.fits.honest quiet;
-            writes = λ has quiet. push_writes store (is_due store.flash.ring.hi store.flash.segments.hi) (groups_on store.flash.geometry mid.image) _ mid new has (c.push_group-pushed.ensures.front has.groups has.fits has.holds quiet);
-            last = λ has quiet. c.push_group-pushed.ensures.last has.groups has.fits has.holds quiet;
+            writes = λ has quiet. push_writes store (is_due store.flash.ring.hi store.flash.segments.hi) (groups_on store.flash.geometry mid.image) _ mid new has ((c.push_group-pushed.ensures.pushes has.groups has.fits has.holds).front quiet);
+            last = λ has quiet. (c.push_group-pushed.ensures.pushes has.groups has.fits has.holds).last quiet;
             sizes = c.push_group-pushed.ensures.keeps.geometry;
           }));
       worn = search rules;

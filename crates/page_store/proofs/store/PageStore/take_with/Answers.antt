@@ -2,4 +2,4 @@ use Rattle.std.proofs.Common.{◌∷◌, []}
 use Rattle.page_store.proofs.store.PageStore.take_with.Goals as goal
 
 pub returns-clause-taken : goal.returns-clause-taken
-returns-clause-taken c = c.in_ok-pull.ensures.taken (record { page = c.args.page; changed = c.args.changed; content = c.args.content } ∷ []) (c.in_ok-push.ensures.has [] c.new-taken.ensures)
+returns-clause-taken c = c.in_ok-pull.ensures.taken (c.args.evicted ∷ []) (c.in_ok-push.ensures.has [] c.new-taken.ensures)

@@ -1,0 +1,57 @@
+-- What a touch of a page that isn't in the pool promises, by what bringing it in does.
+use Rattle.std.proofs.Common.{◌≡◌, ℕ, ◌+◌, ◌≤◌, Bool, false, None, arith, ap, ◌∙◌}
+use Rattle.std.specs.Prelude.{Result, OnOk, if◌then◌else◌}
+use Rattle.site.specs.declared.outside.Stop.{Stop}
+use Rattle.site.specs.State.{State}
+use Rattle.site.proofs.Working.{ok_as}
+use Rattle.record_model.specs.Touches.{touch}
+use Rattle.buffer_pool.specs.Frames.{frame_of}
+use Rattle.second_chance.specs.Queue.{has_frame}
+use Rattle.second_chance.specs.Machine.{in_front, touched, finds, misses, staged_by}
+use Rattle.log_store.specs.declared.store.LogStore.{LogStore}
+use Rattle.log_store.specs.LogList.{LogList}
+use Rattle.write_ahead.specs.Forcing.{forces}
+use Rattle.page_store.specs.declared.store.PageStore.{PageStore}
+use Rattle.page_store.specs.Caching.{cache_of, rules as rules_for, next_group, with_way, pushes}
+use Rattle.page_store.specs.Ahead.{pushed_for_room, pushed_by_touch}
+use Rattle.page_store.specs.Leaves.{AreReady}
+use Rattle.page_store.specs.Changing.{touch_changes}
+use Rattle.page_store.specs.Staging.{Stages}
+use Rattle.page_store.specs.Calls.{KeepsInvariant, StopsAtEnd, Keeps, Stands}
+use Rattle.page_store.specs.Rooms.{BringsIn}
+use Rattle.page_store.proofs.Touching.{way, pushed_same, pushes_same, finds_same, misses_same, count_if, other_count, changes_same, room_staged, room_next}
+use Rattle.page_store.proofs.Calling.{works_as, stops_as, keeps_as, stands_as}
+use Rattle.page_store.proofs.StagingLaws.{stages_as}
+
+module _ (store : PageStore) (page : ℕ) (none : frame_of store.pool.frames page ≡ None) {result : Result (Unit {0}) Stop} {log log' : LogStore} {after : PageStore} {old new : State} (b : BringsIn result log log' store after old new page) where
+  forced_same : forces log (pushed_for_room store) ≡ forces log (pushed_by_touch store page)
+  forced_same = ap (forces log) (pushed_same store page none)
+
+  pub its_keeps : (list : LogList) → AreReady store log list old → Keeps result log store old new list (forces log (pushed_by_touch store page)) (touch_changes log list store old.image page)
+  its_keeps list ready = keeps_as forced_same (changes_same store page none log list old.image) (b.keeps list ready)
+
+  pub its_stands : (list : LogList) → AreReady store log list old → OnOk result (Stands log log' store after old new list (forces log (pushed_by_touch store page)) (touch_changes log list store old.image page))
+  its_stands list ready = ok_as result _ _ (stands_as forced_same (changes_same store page none log list old.image)) (b.stands list ready)
+
+  pub its_works : KeepsInvariant result log log' store after old new (forces log (pushed_by_touch store page))
+  its_works = works_as forced_same b.works
+
+  pub its_worn : StopsAtEnd result log store (forces log (pushed_by_touch store page)) (pushes (rules_for store) page (cache_of store))
+  its_worn = stops_as forced_same (pushes_same store page none) b.worn
+
+  pub its_stages : Stages result (staged_by (rules_for store) (touch page false) (cache_of store)) (next_group (cache_of store) + (if pushes (rules_for store) page (cache_of store) then 1 else 0)) store after old new
+  its_stages = stages_as (room_staged store page none) (room_next store page none) b.stages
+
+  pub its_machine : OnOk result (cache_of after ≡ touched (rules_for store) page false (cache_of store))
+  its_machine = ok_as result _ _ (λ is. is ∙ ap (in_front page false) (way store page none)) b.machine
+
+  pub its_flash_reads : new.flash_reads ≤ old.flash_reads + (if pushes (rules_for store) page (cache_of store) then 12 else 0) + (if finds (rules_for store) page (cache_of store) then 1 else 0)
+  its_flash_reads =
+      let some = ap {B = ℕ} (λ (b : Bool). if b then 12 else 0) (pushes_same store page none) in
+      let one = ap {B = ℕ} (λ (b : Bool). if b then 1 else 0) (finds_same store page none) in
+      omega (arith, b.flash_reads, some, one)
+
+  pub its_disk_reads : new.disk_reads ≤ old.disk_reads + (if misses (rules_for store) page (cache_of store) then 1 else 0)
+  its_disk_reads =
+      let one = other_count (has_frame (with_way store).queue page) ∙ ap count_if (misses_same store page none) in
+      omega (arith, b.disk_reads, one)
