@@ -1,5 +1,5 @@
 -- Laws on a new master.
-use Rattle.std.specs.Prelude.{◌≡◌, ◌⊎◌, ℕ, ◌*◌, ◌≤◌, true, List, [], ◌∷◌}
+use Rattle.std.specs.Prelude.{◌≡◌, ◌⊎◌, ℕ, ◌≤◌, List, [], ◌∷◌}
 use Rattle.std.specs.Prelude.{Option, Some}
 use Rattle.std.specs.List.{AllByRecursion}
 use Rattle.site.specs.declared.geometry.Geometry.{Geometry}
@@ -14,7 +14,7 @@ use Rattle.checkpoint.specs.Units.{IsUnit, master_in}
 use Rattle.checkpoint.specs.Newest.{seen}
 use Rattle.image_changes.specs.Changes.{Change, AppendsMaster, Makes, Reaches}
 use Rattle.image_changes.specs.Reached.{LeavesFront}
-use Rattle.image_meaning.specs.Meaning.{master_of, kept_by, logical_image_under, AreOctetsSoundUnder}
+use Rattle.image_meaning.specs.Meaning.{kept_by, logical_image_under, AreOctetsSoundUnder}
 use Rattle.image_meaning.specs.Meaning.{IsSoundUnder}
 use Rattle.image_meaning.specs.Changes.{MaySave, MayMakeAll, SealsNoCommit, SavesNoMaster}
 use Rattle.image_meaning.specs.Changes.{blocks_after, newest_after_all, blocks_after_all}
@@ -136,9 +136,3 @@ SaveStands =
     MaySave newest g mid.image blocks content → LeavesFront g (AppendsMaster content ∷ []) mid new →
     LeavesOnly old new (LeavesFor g table count old.told)
 
--- The master of a sound image keeps the blocks of the transactions that it names as active.
-abbrev pub ActiveAreKept : Type 0
-ActiveAreKept =
-    (newest : Option Master) (g : Geometry) (image : Image) (blocks : List (List LogRecord))
-    → IsSoundUnder newest g image blocks →
-    AllByRecursion (λ a. 512 * kept_by newest ≤ a.begin) (master_of newest).active

@@ -1,10 +1,10 @@
 -- When a checkpoint may be made, as statements over lists.
-use Rattle.std.specs.Prelude.{◌≡◌, ℕ, ◌/◌, ◌==◌, ◌<◌, ◌≤◌, ◌↔◌, true, List, [], ◌∷◌, length}
+use Rattle.std.specs.Prelude.{◌≡◌, ℕ, ◌/◌, ◌==◌, ◌<◌, true, List, [], ◌∷◌, length}
 use Rattle.std.specs.List.{list_any, AllByRecursion}
 use Rattle.log_records.specs.Log.{version_at, is_loser, entries_of}
 use Rattle.log_records.specs.Unfinished.{losers}
 use Rattle.log_records.specs.Sound.{LogicalImage, IsSound, last_lsn, commit_count}
-use Rattle.log_laws.specs.NewImage.{with_master, MayCheckpoint}
+use Rattle.log_laws.specs.NewImage.{with_master}
 use Rattle.checkpoint.specs.declared.master.Master.{Master}
 use Rattle.checkpoint.specs.Actives.{Ascend}
 use Rattle.checkpoint.specs.Newest.{seen}
@@ -22,15 +22,6 @@ first_block none (t ∷ transactions) = t / 512
 -- the block with the oldest Begin of an unfinished transaction, and the next block where none is unfinished
 abbrev pub oldest_needed : LogicalImage → ℕ
 oldest_needed p = first_block p.hi (losers p.log)
-
--- A checkpoint may be made exactly where the pages are flushed and the blocks of all unfinished transactions are kept.
-abbrev pub CheckpointNeeds : Type 0
-CheckpointNeeds = (p : LogicalImage) (kept : ℕ) → IsSound p
-    → MayCheckpoint p kept ↔ (IsFlushed p × (p.master.kept ≤ kept) × (kept ≤ oldest_needed p))
-
--- That block is one of the kept ones, or the next.
-abbrev pub OldestIsThere : Type 0
-OldestIsThere = (p : LogicalImage) → IsSound p → (p.master.kept ≤ oldest_needed p) × (oldest_needed p ≤ p.hi)
 
 -- The master of a checkpoint: redo begins with the next block, all commits count, and it names the unfinished
 -- transactions, each with the LSN of its last record.

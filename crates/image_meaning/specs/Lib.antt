@@ -8,7 +8,6 @@ pub mod Laws
 pub mod PushLaws
 pub mod Moments
 pub mod Reached
-pub mod LogicalImageLaws
 pub mod Beside
 pub mod Flushed
 pub mod Checkpoints

@@ -4,7 +4,6 @@ ghost use Rattle.image_meaning.specs.Checkpoints.{MasterMaySave, EmptyMasterMayS
 ghost use Rattle.image_meaning.specs.Checkpoints.{SavedLogicalImage, SavedIsSound, SavedMeans, SavedIsOrderly};
 ghost use Rattle.image_meaning.specs.Checkpoints.{CheckpointStands};
 ghost use Rattle.image_meaning.specs.Checkpoints.{PushedCheckpointStands, SaveStands};
-ghost use Rattle.image_meaning.specs.Checkpoints.{ActiveAreKept};
 
 /// A master unit may be appended where each page's version knows of all of its records and the blocks of unfinished
 /// transactions are kept: over an orderly log, and over every log where no block is kept. A checkpoint's is one.
@@ -31,9 +30,4 @@ pub fn checkpoint_stands()
     ensures whole { CheckpointStands }
     ensures pushes { PushedCheckpointStands }
     ensures last { SaveStands }
-{}
-
-/// A sound image keeps the blocks of the transactions that its master names as active.
-pub fn active_are_kept()
-    ensures { ActiveAreKept }
 {}
