@@ -1,14 +1,13 @@
 -- The frames that a content says.
-use Rattle.std.specs.List.{AllByRecursion}
 use Rattle.std.proofs.Common.{◌≡◌, ℕ, zero, suc, ◌+◌, ◌-◌, ◌*◌, ◌<◌, ◌≤◌, Bool, true, false, List, [], ◌∷◌, ◌++◌, length, get_or, map, replicate, refl, ap, ◌∙◌, subst, arith}
-use Rattle.std.specs.Prelude.{filter, ◌==◌, flat_map}
+use Rattle.std.specs.Prelude.{filter, ◌==◌}
 use Rattle.std.proofs.lemmas.List.{get_or-append_right, get_or_append_left, get_or-map, get_or-replicate, length-map, append-nil}
 use Rattle.std.proofs.lemmas.Grind.{flat_map-append}
 use Rattle.byte_fields.specs.declared.frame_head.FrameHead.{FrameHead}
 use Rattle.byte_fields.specs.FrameHeads.{flag, blank}
 use Rattle.byte_fields.proofs.HeadParts.{HasParts, parts_of}
 use Rattle.byte_fields.proofs.HeadLists.{head_at}
-use Rattle.frame_group.specs.Groups.{Frame, head_of, heads_of, frame_at, frames_in, group, IsGroup}
+use Rattle.frame_group.specs.Groups.{Frame, head_of, heads_of, frame_at, frames_in, IsGroup}
 use Rattle.frame_group.specs.Versions.{frames_of}
 use Rattle.frame_group.proofs.Front.{length_heads, begins_with_heads}
 use Rattle.frame_group.proofs.Pages.{pages_stand}
@@ -88,9 +87,3 @@ pub frames_more : (contents : List (List ℕ)) (content : List ℕ) (frames : Li
 frames_more contents content frames is =
     flat_map-append frames_in contents (content ∷ []) ∙ ap (λ (xs : List Frame). frames_of contents ++ xs) (append-nil (frames_in content) ∙ frames_are_in content frames is)
 
--- contents of groups have the frames of these groups
-pub frames_of_groups : (groups : List (List Frame)) → AllByRecursion (λ frames. IsGroup (group frames) frames) groups → frames_of (map group groups) ≡ flat_map (λ frames. frames) groups
-frames_of_groups [] are = refl
-frames_of_groups (frames ∷ groups) are =
-    ap (λ (xs : List Frame). xs ++ frames_of (map group groups)) (frames_are_in (group frames) frames are.0)
-    ∙ ap (λ (xs : List Frame). frames ++ xs) (frames_of_groups groups are.1)

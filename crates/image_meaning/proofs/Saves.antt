@@ -1,11 +1,11 @@
 -- A master unit is appended.
+use Rattle.image_meaning.specs.Flushed.{IsFlushed, IsMasterOf, oldest_needed}
 use Rattle.std.proofs.Common.{◌≡◌, ◌⊎◌, inl, inr, true, false, ℕ, zero, suc, ◌+◌, ◌-◌, ◌*◌, ◌<◌, ◌≤◌, List, [], ◌∷◌, ◌++◌, length, drop, flat_map, Option, Some, refl, sym, ap, subst, ◌∙◌, arith}
 use Rattle.std.specs.Prelude.{nat_le}
 use Rattle.std.specs.List.{AllByRecursion}
 use Rattle.std.proofs.lemmas.Bool.{le-leb, lt-leb}
 use Rattle.std.proofs.lemmas.List.{length-drop}
 use Rattle.std.proofs.lemmas.List.Elements.{filter-append}
-use Rattle.std.proofs.Math.ListN.{drop_of_length-le}
 use Rattle.std_lemmas.proofs.AllOf.{all_weaker}
 use Rattle.std_lemmas.proofs.Lists.{filter_all}
 use Rattle.site.specs.declared.geometry.Geometry.{Geometry}
@@ -32,7 +32,7 @@ use Rattle.log_store.specs.Representation.{HasBlocks}
 use Rattle.log_store.proofs.BlockLaws.{blocks_stay, blocks_from}
 use Rattle.image_meaning.specs.Meaning.{kept_by, next_block_under, logical_image_under, IsNewest, IsSoundUnder, versions_on}
 use Rattle.image_meaning.specs.Changes.{MaySave}
-use Rattle.image_meaning.specs.Checkpoints.{blocks_saved, MasterMaySave, EmptyMasterMaySave, CheckpointMaySave, SavedOctets}
+use Rattle.image_meaning.specs.Checkpoints.{blocks_saved, SavedOctets}
 use Rattle.image_meaning.proofs.Flushes.{checkpoint_needs}
 use Rattle.image_meaning.proofs.Naming.{master_is_saved}
 use Rattle.image_meaning.proofs.Versions.{versions_same, version_stays}
@@ -159,20 +159,12 @@ module _ (newest : Option Master) (g : Geometry) (image : Image) (blocks : List 
   may_save : AreOrderly standing.log ⊎ (m.kept ≡ standing.hi) → MaySave newest g image blocks content
   may_save orderly = grind (arith, unit_read)
 
-  none_saved : m.kept ≡ standing.hi → blocks_saved newest blocks content ≡ []
-  none_saved all = grind (arith, unit_read, drop_of_length-le, next_block_is)
-
-pub checkpoint_may_save : CheckpointMaySave
+-- So the unit of a checkpoint's master may be: the pages are flushed, and it keeps the blocks of unfinished
+-- transactions.
+pub checkpoint_may_save : (newest : Option Master) (g : Geometry) (image : Image) (blocks : List (List LogRecord)) (content : List ℕ) (m : Master) → IsSoundUnder newest g image blocks → IsUnit content m → IsMasterOf (logical_image_under newest g image blocks) m → IsFlushed (logical_image_under newest g image blocks) → kept_by newest ≤ m.kept → m.kept ≤ oldest_needed (logical_image_under newest g image blocks) → AreOrderly (logical_image_under newest g image blocks).log ⊎ (m.kept ≡ (logical_image_under newest g image blocks).hi) → MaySave newest g image blocks content
 checkpoint_may_save newest g image blocks content m sound unit is flushed rises within orderly =
     let p = logical_image_under newest g image blocks in
     may_save newest g image blocks content m unit (master_is_saved p m sound.records is) ((checkpoint_needs p m.kept sound.records).1 (flushed, rises, within)) orderly
-
-pub master_may_save : MasterMaySave
-master_may_save newest g image blocks content m unit master may orderly = may_save newest g image blocks content m unit master may (inl orderly)
-
-pub empty_master_may_save : EmptyMasterMaySave
-empty_master_may_save newest g image blocks content m unit master may all =
-    (may_save newest g image blocks content m unit master may (inr all), none_saved newest g image blocks content m unit master may all)
 
 -- The blocks of the transactions that the master names as active.
 

@@ -3,11 +3,9 @@ use Rattle.std.specs.Prelude.{◌≡◌, ℕ, ◌/◌, ◌==◌, ◌<◌, true, 
 use Rattle.std.specs.List.{list_any, AllByRecursion}
 use Rattle.log_records.specs.Log.{version_at, is_loser, entries_of}
 use Rattle.log_records.specs.Unfinished.{losers}
-use Rattle.log_records.specs.Sound.{LogicalImage, IsSound, last_lsn, commit_count}
-use Rattle.log_laws.specs.NewImage.{with_master}
+use Rattle.log_records.specs.Sound.{LogicalImage, last_lsn, commit_count}
 use Rattle.checkpoint.specs.declared.master.Master.{Master}
 use Rattle.checkpoint.specs.Actives.{Ascend}
-use Rattle.checkpoint.specs.Newest.{seen}
 use Rattle.image_meaning.specs.Redone.{AreKnown}
 
 -- Each page's version knows of all of its records, as after a flush.
@@ -33,6 +31,3 @@ pub record IsMasterOf (p : LogicalImage) (m : Master) : Type 0 where
       × (pair.last ≡ last_lsn (entries_of pair.begin p.log))) m.active
   pub all : (t : ℕ) → is_loser p.log t ≡ true → list_any (λ pair. pair.begin == t) m.active ≡ true
 
--- It is the one that such a checkpoint saves.
-abbrev pub MasterIsSaved : Type 0
-MasterIsSaved = (p : LogicalImage) (m : Master) → IsSound p → IsMasterOf p m → seen m ≡ (with_master p m.kept).master

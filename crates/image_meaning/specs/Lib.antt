@@ -7,7 +7,6 @@ pub mod Changes
 pub mod Laws
 pub mod PushLaws
 pub mod Moments
-pub mod Reached
 pub mod Beside
 pub mod Flushed
 pub mod Checkpoints

@@ -5,11 +5,9 @@
 mod change_laws;
 mod checkpoint_laws;
 mod laws;
-mod list_laws;
 mod moment_laws;
 
 pub use change_laws::rings_kept_under;
-pub use checkpoint_laws::{checkpoint_stands, master_may_save, master_saved};
+pub use checkpoint_laws::master_saved;
 pub use laws::{blank_stands, one_master_stands, pushed, replaced, sealed, segment_saved, staged};
-pub use list_laws::master_is_saved;
 pub use moment_laws::{calls_with_commit, calls_without_commit, whole_push};
