@@ -7,9 +7,8 @@ use Rattle.byte_fields.specs.declared.frame_head.FrameHead.{FrameHead}
 use Rattle.byte_fields.specs.FrameHeads.{flag, blank}
 use Rattle.byte_fields.proofs.HeadParts.{HasParts, parts_of}
 use Rattle.byte_fields.proofs.HeadLists.{head_at}
-use Rattle.frame_group.specs.Groups.{Frame, head_of, heads_of, frame_at, frames_in, group, IsGroup}
+use Rattle.frame_group.specs.Groups.{Frame, head_of, heads_of, frame_at, frames_in, IsGroup}
 use Rattle.frame_group.specs.Versions.{frames_of}
-use Rattle.frame_group.specs.Laws.{FramesAreIn, FramesMore, FramesOfGroups}
 use Rattle.frame_group.proofs.Front.{length_heads, begins_with_heads}
 use Rattle.frame_group.proofs.Pages.{pages_stand}
 
@@ -23,8 +22,7 @@ none_pass test a (suc k) h =
     let no : test a ≡ false = h a (omega arith) (omega arith) in
     rw no (none_pass test (suc a) k (λ i low high. h i (omega arith) (omega arith)))
 
-first_pass : (test : ℕ → Bool) (a k n : ℕ) → ((i : ℕ) → a ≤ i → i < a + n → test i ≡ true) → ((i : ℕ) → a + n ≤ i → i < a + k → test i ≡ false) → n ≤ k →
-    filter test (from_on a k) ≡ from_on a n
+first_pass : (test : ℕ → Bool) (a k n : ℕ) → ((i : ℕ) → a ≤ i → i < a + n → test i ≡ true) → ((i : ℕ) → a + n ≤ i → i < a + k → test i ≡ false) → n ≤ k → filter test (from_on a k) ≡ from_on a n
 first_pass test a k zero pass fail room = none_pass test a k (λ i low high. fail i (omega arith) high)
 first_pass test a zero (suc n) pass fail room = absurd (omega (arith, room))
 first_pass test a (suc k) (suc n) pass fail room =
@@ -75,7 +73,8 @@ no_frame = record { page = 0; dirty = false; octets = [] }
 is_present : (content : List ℕ) (frames : List Frame) (i : ℕ) → IsGroup content frames → i < 8 → (get_or content (16 * i) 0 == 1) ≡ (get_or (heads_of frames) i blank).present
 is_present content frames i is less = ap (λ (n : ℕ). n == 1) (head_is content frames i is less).present ∙ flag_is _
 
-pub frames_are_in : FramesAreIn
+-- the frames of a group are those of its content
+pub frames_are_in : (content : List ℕ) (frames : List Frame) → IsGroup content frames → frames_in content ≡ frames
 frames_are_in content frames is =
     let places = first_pass (λ i. get_or content (16 * i) 0 == 1) 0 8 (length frames)
     (λ i low less. is_present content frames i is (omega (arith, less, is.room)) ∙ ap (λ (head : FrameHead). head.present) (head_of_frame frames i no_frame (omega (arith, less))))
@@ -83,12 +82,8 @@ frames_are_in content frames is =
     is.room in
     ap (map (frame_at content)) places ∙ map_is (frame_at content) frames 0 no_frame (λ i less. ap (frame_at content) (omega arith) ∙ frame_is content frames i no_frame is less)
 
-pub frames_more : FramesMore
+-- a group more has its frames behind all others
+pub frames_more : (contents : List (List ℕ)) (content : List ℕ) (frames : List Frame) → IsGroup content frames → frames_of (contents ++ content ∷ []) ≡ frames_of contents ++ frames
 frames_more contents content frames is =
     flat_map-append frames_in contents (content ∷ []) ∙ ap (λ (xs : List Frame). frames_of contents ++ xs) (append-nil (frames_in content) ∙ frames_are_in content frames is)
 
-pub frames_of_groups : FramesOfGroups
-frames_of_groups [] are = refl
-frames_of_groups (frames ∷ groups) are =
-    ap (λ (xs : List Frame). xs ++ frames_of (map group groups)) (frames_are_in (group frames) frames are.0)
-    ∙ ap (λ (xs : List Frame). frames ++ xs) (frames_of_groups groups are.1)

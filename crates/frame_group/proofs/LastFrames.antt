@@ -1,6 +1,6 @@
 -- The last frame of a page, and what pushing and dropping a group make of it.
 use Rattle.std.proofs.Common.{◌≡◌, ℕ, zero, suc, ⊎_elim, true, false, cond, List, [], ◌∷◌, Some, None, refl, sym, ap, subst, ◌∙◌, arith}
-use Rattle.std.specs.Prelude.{Option, ◌==◌, ◌++◌, ◌+◌, ◌<◌, ◌≢◌, length, get_or}
+use Rattle.std.specs.Prelude.{Option, ◌==◌, ◌++◌, ◌<◌, ◌≢◌, length, get_or}
 use Rattle.std.specs.Option.{option_or}
 use Rattle.std.specs.List.{AllByRecursion}
 use Rattle.std.proofs.lemmas.Bool.{eqb-true, eq-eqb, ne_eqb, cases_Bool}

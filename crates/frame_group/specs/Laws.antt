@@ -1,10 +1,9 @@
 -- Laws of groups and of lists of frames.
-use Rattle.std.specs.Prelude.{◌≡◌, ℕ, ◌+◌, true, false, List, [], ◌∷◌, ◌++◌, length, map, flat_map}
+use Rattle.std.specs.Prelude.{◌≡◌, ℕ, true, false, List, [], ◌++◌, length}
 use Rattle.std.specs.Prelude.{replicate, Some, None}
-use Rattle.std.specs.List.{AllByRecursion}
 use Rattle.frame_group.specs.declared.group.TheConstants.{GROUP_LEN}
-use Rattle.frame_group.specs.Groups.{Frame, group, IsGroup, frames_in}
-use Rattle.frame_group.specs.Versions.{frames_of, last_frame, version, CleanAsDisk}
+use Rattle.frame_group.specs.Groups.{Frame, group}
+use Rattle.frame_group.specs.Versions.{last_frame, version, CleanAsDisk}
 
 -- Octets.
 
@@ -12,20 +11,6 @@ use Rattle.frame_group.specs.Versions.{frames_of, last_frame, version, CleanAsDi
 abbrev pub ZerosHaveNoFrames : Type 0
 ZerosHaveNoFrames = (content : List ℕ) → length content ≡ GROUP_LEN → content ≡ replicate (length content) 0
     → content ≡ group []
-
--- the frames of a group are those of its content
-abbrev pub FramesAreIn : Type 0
-FramesAreIn = (content : List ℕ) (frames : List Frame) → IsGroup content frames → frames_in content ≡ frames
-
--- a group more has its frames behind all others
-abbrev pub FramesMore : Type 0
-FramesMore = (contents : List (List ℕ)) (content : List ℕ) (frames : List Frame) → IsGroup content frames
-    → frames_of (contents ++ content ∷ []) ≡ frames_of contents ++ frames
-
--- contents of groups have the frames of these groups
-abbrev pub FramesOfGroups : Type 0
-FramesOfGroups = (groups : List (List Frame)) → AllByRecursion (λ frames. IsGroup (group frames) frames) groups
-    → frames_of (map group groups) ≡ flat_map (λ frames. frames) groups
 
 -- The last frame of a page.
 

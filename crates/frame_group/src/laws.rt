@@ -1,20 +1,11 @@
 // Laws of groups and of lists of frames, for the proofs of code above. They do nothing when called.
 ghost use Rattle.frame_group.specs.Laws.{ZerosHaveNoFrames};
-ghost use Rattle.frame_group.specs.Laws.{FramesAreIn, FramesMore, FramesOfGroups};
 ghost use Rattle.frame_group.specs.Laws.{NewVersion, OtherVersions, PushKeepsClean};
 ghost use Rattle.frame_group.specs.Laws.{StagingKeepsVersions, StagingKeepsClean, DropKeepsVersion, DropKeepsClean};
 
 /// A content of zeros is that of a group which has no frames yet.
 pub fn no_frames()
     ensures { ZerosHaveNoFrames }
-{}
-
-/// A group's frames are those that its content says. A group more has them behind all others, and
-/// contents of groups have those of all.
-pub fn content_frames()
-    ensures frames { FramesAreIn }
-    ensures more { FramesMore }
-    ensures all { FramesOfGroups }
 {}
 
 /// A pushed group changes the versions of its pages alone, and clean frames equal the disk still where

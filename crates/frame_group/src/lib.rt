@@ -8,4 +8,4 @@ mod laws;
 mod tests;
 
 pub use group::{GROUP_LEN, HEADS_LEN, PAGE_LEN, group_heads, put_frame};
-pub use laws::{content_frames, group_dropped, group_pushed, no_frames, staged};
+pub use laws::{group_dropped, group_pushed, no_frames, staged};

@@ -1,4 +1,5 @@
 -- Versions of pages, and records that aren't sealed yet.
+use Rattle.log_laws.specs.NewImage.{Replaces}
 use Rattle.std.proofs.Common.{◌≡◌, ℕ, ◌+◌, ◌*◌, ◌/◌, ◌<◌, ◌≤◌, ◌==◌, ◌||◌, false, List, [], ◌∷◌, ◌++◌, length, Some, None, sym, ap, ◌∙◌, arith, inl, inr}
 use Rattle.std.specs.Prelude.{Option, IsTrue, nat_lt}
 use Rattle.std.specs.List.{AllByRecursion}
@@ -8,17 +9,15 @@ use Rattle.std.proofs.lemmas.Bool.Decides.{nat_tests}
 use Rattle.std_lemmas.proofs.AllOf.{all_left, all_right, all_both}
 use Rattle.record_model.specs.State.{content_at}
 use Rattle.log_records.specs.declared.log_record.LogRecord.{LogRecord}
-use Rattle.log_records.specs.Log.{Entry, Version, number_of, is_on, last_on, value_of}
+use Rattle.log_records.specs.Log.{Entry, Version, number_of, is_on, last_on}
 use Rattle.log_records.specs.Sound.{LogicalImage, InTurn}
 use Rattle.log_laws.specs.Follow.{Follows, next_entries, shown}
 use Rattle.log_laws.proofs.Lists.{or_is_none}
 use Rattle.log_laws.proofs.Orders.{all_from, none_passes, entries_in_order}
-use Rattle.log_laws.proofs.Versions.{table_same}
-use Rattle.log_laws.specs.Tail.{whole}
+use Rattle.log_laws.specs.Tail.{whole, Carries}
 use Rattle.log_laws.proofs.Values.{is_number-Some}
-use Rattle.image_meaning.specs.LogicalImages.{ReplaceAll}
-use Rattle.image_meaning.specs.Redone.{IsLogged, AreKnown, IsCurrent}
-use Rattle.image_meaning.specs.Ahead.{SealedPageReplaces, ShownStays, TableStays, ShowsStill, CarriesStill, GoesOnStill}
+use Rattle.image_meaning.specs.LogicalImages.{ReplaceAll, with_versions}
+use Rattle.image_meaning.specs.Redone.{IsLogged, AreKnown, IsCurrent, ShowsAll}
 use Rattle.image_meaning.proofs.OtherVersions.{slot_same, sound_with}
 use Rattle.image_meaning.proofs.Redos.{page_of_number, current_replaces}
 use Rattle.log_records.proofs.Lists.{last_where-append}
@@ -53,7 +52,10 @@ module _ (p : LogicalImage) (tail : List LogRecord) (page : ℕ) (v : Version) (
   pub current : ((slot : ℕ) → slot < 32 → content_at v.slots slot ≡ shown (whole p tail) p.pages (32 * page + slot)) → IsCurrent p page v
   current slots = grind (arith, all_left, last_sealed)
 
-pub sealed_page_replaces : SealedPageReplaces
+-- A page with all records redone, those of the tail too, may replace its version as soon as its own LSN is one of a
+-- sealed block:
+-- none of the tail's records is on it.
+pub sealed_page_replaces : (p : LogicalImage) (tail : List LogRecord) (page : ℕ) (v : Version) → IsLogged p v → ShowsAll (whole p tail) p.pages page v → Replaces p page v
 sealed_page_replaces p tail page v logged all = current_replaces p page v (current p tail page v logged all.known all.slots)
 
 -- New versions.
@@ -76,10 +78,6 @@ module _ (p : LogicalImage) (versions : List Version) (r : ReplaceAll p versions
   unfolding Extends
   shown_by_last log extends number within = grind (arith, slot_same)
 
-  value_by_last : (log : List Entry) → Extends p log → (number : ℕ) → number < 32 * length p.pages → value_of log versions number ≡ value_of log p.pages number
-  unfolding Extends
-  value_by_last log extends number within = grind (arith, slot_same)
-
   follows_still : (log : List Entry) → Extends p log → (e : Entry) → Follows p.master p.pages log e → Follows p.master versions log e
   follows_still log extends e f = grind (arith, shown_by_last)
 
@@ -88,18 +86,15 @@ module _ (p : LogicalImage) (versions : List Version) (r : ReplaceAll p versions
   all_follow log (e ∷ entries) extends follow =
       (follows_still log extends e follow.0, all_follow (log ++ e ∷ []) entries (extends_more p log (e ∷ []) extends) follow.1)
 
-pub shown_stays : ShownStays
+-- New versions change nothing of what slots show, nor of what counts, whatever stands behind the sealed records.
+pub shown_stays : (p : LogicalImage) (versions : List Version) (more : List Entry) (number : ℕ) → ReplaceAll p versions → number < 32 * length p.pages → shown (p.log ++ more) versions number ≡ shown (p.log ++ more) p.pages number
 shown_stays p versions more number r within = shown_by_last p versions r (p.log ++ more) (extends_more p p.log more (extends_all p)) number within
 
-pub table_stays : TableStays
-table_stays p versions more r =
-    table_same (p.log ++ more) (p.log ++ more) p.pages versions r.count (λ number within. value_by_last p versions r (p.log ++ more) (extends_more p p.log more (extends_all p)) number within)
-
-pub carries_still : CarriesStill
+-- So a tail that followed follows still, and a block that went on goes on.
+pub carries_still : (p : LogicalImage) (versions : List Version) (tail : List LogRecord) → ReplaceAll p versions → Carries p tail → Carries (with_versions p versions) tail
 carries_still p versions tail r carries = grind (arith, sound_with, all_follow, extends_all)
 
-pub goes_on_still : GoesOnStill
-goes_on_still p versions records r goes = grind (arith, all_follow, extends_all)
-
-pub shows_still : ShowsStill
+-- New versions change nothing of what slots show and of what counts, and what followed or went on behind the log does
+-- so still.
+pub shows_still : (p : LogicalImage) (versions : List Version) (more : List Entry) (page : ℕ) (v : Version) → ReplaceAll p versions → page < length p.pages → ShowsAll (p.log ++ more) p.pages page v → ShowsAll (p.log ++ more) versions page v
 shows_still p versions more page v r within all = grind (arith, shown_stays)

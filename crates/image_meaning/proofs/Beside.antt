@@ -1,5 +1,5 @@
 -- Changes that keep the rings sound.
-use Rattle.std.proofs.Common.{◌≡◌, ℕ, ◌-◌, ◌≤◌, List, [], ◌∷◌, ◌++◌, length, drop, Option, sym, ap, subst, ◌∙◌, arith}
+use Rattle.std.proofs.Common.{◌≡◌, ℕ, ◌≤◌, List, [], ◌∷◌, ◌++◌, length, drop, Option, sym, ap, subst, ◌∙◌, arith}
 use Rattle.std.specs.List.{AllByRecursion}
 use Rattle.std.proofs.lemmas.List.{length-append, drop-append-le}
 use Rattle.std_lemmas.proofs.AllOf.{all_append, all_right, all_drop}
@@ -21,8 +21,7 @@ use Rattle.image_meaning.proofs.Saves.{newest_appended}
 use Rattle.image_meaning.proofs.Appends.{frames_before}
 
 -- rings that keep their units
-rings_stay : (newest : Option Master) (g : Geometry) (old new : Image) → SameSizes old new → KeepsUnits (shape_of g Masters) old new → KeepsUnits (shape_of g Segments) old new → KeepsUnits (group_shape g) old new →
-    AreRingsSoundUnder newest g old → AreRingsSoundUnder newest g new
+rings_stay : (newest : Option Master) (g : Geometry) (old new : Image) → SameSizes old new → KeepsUnits (shape_of g Masters) old new → KeepsUnits (shape_of g Segments) old new → KeepsUnits (group_shape g) old new → AreRingsSoundUnder newest g old → AreRingsSoundUnder newest g new
 rings_stay newest g old new sizes masters segments groups sound = record {
   limits = sound.limits;
   lengths = lengths_stay g old new sizes sound.lengths;

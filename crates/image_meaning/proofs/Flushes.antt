@@ -1,6 +1,6 @@
 -- When a checkpoint may be made.
 use Rattle.std.proofs.Common.{◌≡◌, ℕ, ◌+◌, ◌*◌, ◌/◌, ◌<◌, ◌≤◌, List, [], ◌∷◌, length, Some, refl, arith}
-use Rattle.std.specs.Prelude.{◌&&◌, not}
+use Rattle.std.specs.Prelude.{◌&&◌, not, ◌↔◌}
 use Rattle.std.specs.List.{AllByRecursion}
 use Rattle.std.proofs.lemmas.Nat.{mod_below, div-add-mod'}
 use Rattle.std_lemmas.proofs.AllOf.{all_filter, all_weaker, all_map}
@@ -12,7 +12,7 @@ use Rattle.log_laws.proofs.Listing.{Ascends, losers_ascend, above}
 use Rattle.log_laws.proofs.Orders.{all_from}
 use Rattle.log_laws.proofs.Parts.{all_below}
 use Rattle.image_meaning.specs.Redone.{AreKnown}
-use Rattle.image_meaning.specs.Flushed.{IsFlushed, first_block, CheckpointNeeds, OldestIsThere}
+use Rattle.image_meaning.specs.Flushed.{IsFlushed, first_block, oldest_needed}
 use Rattle.log_records.proofs.Values.{page_and_slot}
 
 -- What holds of the LSN of each record holds of each unfinished transaction.
@@ -37,7 +37,8 @@ needed_within : (none : ℕ) (transactions : List ℕ) → AllByRecursion (λ t.
 needed_within none [] all = omega arith
 needed_within none (t ∷ transactions) all = let first = all.0 in omega (arith, first, div-add-mod' t 512)
 
-pub oldest_is_there : OldestIsThere
+-- That block is one of the kept ones, or the next.
+pub oldest_is_there : (p : LogicalImage) → IsSound p → (p.master.kept ≤ oldest_needed p) × (oldest_needed p ≤ p.hi)
 oldest_is_there p sound = (
   needed_before p.hi p.master.kept (losers p.log) (let low = sound.kept_before_redo in let high = sound.redo_before_end in omega (arith, low, high))
       (of_losers (λ t. 512 * p.master.kept ≤ t) p.log (all_from (512 * p.master.kept) p.log (512 * p.hi) sound.in_order)),
@@ -60,7 +61,8 @@ known_flushed p sound flushed = each p.log sound.in_table (λ page within. flush
       each log inside.1 (λ page within. (known page within).1),
     )
 
-pub checkpoint_needs : CheckpointNeeds
+-- A checkpoint may be made exactly where the pages are flushed and the blocks of all unfinished transactions are kept.
+pub checkpoint_needs : (p : LogicalImage) (kept : ℕ) → IsSound p → MayCheckpoint p kept ↔ (IsFlushed p × (p.master.kept ≤ kept) × (kept ≤ oldest_needed p))
 checkpoint_needs p kept sound = (
   λ may. (flushed_known p kept may, may.kept_rises, needed_before p.hi kept (losers p.log) may.kept_in_log may.losers_kept),
   λ needs. record {

@@ -1,4 +1,5 @@
 -- What a crash leaves of calls that change images.
+use Rattle.site.specs.Moments.{LeavesOnly}
 use Rattle.std.proofs.Common.{◌≡◌, ◌⊎◌, inl, inr, ℕ, ◌+◌, List, [], ◌∷◌, ◌++◌, length, take, drop, Option, refl, sym, ap, subst, ◌∙◌, arith, append_assoc}
 use Rattle.std.specs.List.{AllByRecursion}
 use Rattle.std_lemmas.proofs.AllOf.{all_left}
@@ -19,7 +20,7 @@ use Rattle.image_changes.specs.Reached.{IsReached, IsFrontOf}
 use Rattle.flash_cache.specs.Pushed.{LeavesPush}
 use Rattle.image_meaning.specs.Meaning.{kept_by, logical_image_under, IsSoundUnder, StandsUnder}
 use Rattle.image_meaning.specs.Changes.{MayMakeAll, SealsNoCommit, SavesNoMaster, newest_after, blocks_after, newest_after_all, blocks_after_all, next_block_lsn}
-use Rattle.image_meaning.specs.Moments.{LeavesTableUnder, LeavesEitherUnder, LeavesFor, LeavesEitherFor, UnderLeavesFor, UnderLeavesEitherFor, FrontStandsFor, FrontStands, PushStands, CommitStands}
+use Rattle.image_meaning.specs.Moments.{LeavesTableUnder, LeavesEitherUnder, LeavesFor, LeavesEitherFor, FrontStandsFor, FrontStands, PushStands, CommitStands}
 use Rattle.image_meaning.proofs.Versions.{versions_same, version_stays}
 use Rattle.image_meaning.proofs.UnchangedImages.{same_is_sound, same_means, same_logical_image}
 use Rattle.image_meaning.proofs.Seals.{sealed_image_is_sound, sealed_with_commit}
@@ -50,12 +51,14 @@ front_more (z ∷ xs) x (y ∷ front) left same =
       | inr whole ↦ inr (λ i. sym first i ∷ whole i)
     ]
 
-pub under_leaves_for : UnderLeavesFor
+-- which follows where it is known
+pub under_leaves_for : (newest : Option Master) (g : Geometry) (old new : State) (table : List Content) (count : ℕ) (so_far : List ℕ) → LeavesOnly old new (LeavesTableUnder newest g table count so_far) → LeavesOnly old new (LeavesFor g table count so_far)
 under_leaves_for newest g old new table count so_far leaves =
     leaves_weaker old new (LeavesTableUnder newest g table count so_far) (LeavesFor g table count so_far)
     (λ snapshot is. record { told = is.told; stands = record { newest = newest; stands = is.stands } }) leaves
 
-pub under_leaves_either_for : UnderLeavesEitherFor
+-- What stands under a newest master stands whatever it is.
+pub under_leaves_either_for : (newest : Option Master) (g : Geometry) (old new : State) (before after : List Content) (count : ℕ) (so_far : List ℕ) → LeavesOnly old new (LeavesEitherUnder newest g before after count so_far) → LeavesOnly old new (LeavesEitherFor g before after count so_far)
 under_leaves_either_for newest g old new before after count so_far leaves =
     leaves_weaker old new (LeavesEitherUnder newest g before after count so_far) (LeavesEitherFor g before after count so_far) (λ snapshot is. record {
       told = is.told;
@@ -78,8 +81,7 @@ push_stands newest g old new blocks pages contents group frames table count soun
     }) leaves
 
 -- an image that is reached by the first ones
-stands_front : (newest : Option Master) (g : Geometry) (old new : Image) (blocks : List (List LogRecord)) (front left : List Change) (table : List Content) (count : ℕ) → IsSoundUnder newest g old blocks → Means (logical_image_under newest g old blocks) table count →
-    MayMakeAll newest g old blocks (front ++ left) → AllByRecursion SealsNoCommit front → Reaches g front old new → StandsUnder (newest_after_all newest front) g new table count
+stands_front : (newest : Option Master) (g : Geometry) (old new : Image) (blocks : List (List LogRecord)) (front left : List Change) (table : List Content) (count : ℕ) → IsSoundUnder newest g old blocks → Means (logical_image_under newest g old blocks) table count → MayMakeAll newest g old blocks (front ++ left) → AllByRecursion SealsNoCommit front → Reaches g front old new → StandsUnder (newest_after_all newest front) g new table count
 stands_front newest g old new blocks front left table count sound means may none reached = record {
   blocks = blocks_after_all newest blocks front;
   sound = front_keeps_sound newest g old new blocks front left sound may reached;
@@ -87,9 +89,7 @@ stands_front newest g old new blocks front left table count sound means may none
 }
 
 -- a snapshot that the first ones of the changes have led to
-stands_reached : (newest : Option Master) (g : Geometry) (old : State) (blocks : List (List LogRecord)) (changes : List Change) (table : List Content) (count : ℕ) → IsSoundUnder newest g old.image blocks →
-    Means (logical_image_under newest g old.image blocks) table count → MayMakeAll newest g old.image blocks changes → AllByRecursion SealsNoCommit changes →
-    (snapshot : Snapshot) (is : IsReached g (IsFrontOf changes) old snapshot) → StandsUnder (newest_after_all newest is.changes) g snapshot.image table count
+stands_reached : (newest : Option Master) (g : Geometry) (old : State) (blocks : List (List LogRecord)) (changes : List Change) (table : List Content) (count : ℕ) → IsSoundUnder newest g old.image blocks → Means (logical_image_under newest g old.image blocks) table count → MayMakeAll newest g old.image blocks changes → AllByRecursion SealsNoCommit changes → (snapshot : Snapshot) (is : IsReached g (IsFrontOf changes) old snapshot) → StandsUnder (newest_after_all newest is.changes) g snapshot.image table count
 stands_reached newest g old blocks changes table count sound means may none snapshot is = grind (arith, stands_front, all_left)
 
 pub front_stands_for : FrontStandsFor
@@ -108,18 +108,13 @@ front_stands newest g old new blocks changes table count sound means may none ke
     }) leaves
 
 -- once the first of two lists is made, the second may be, on an image that reads as the one that was reached
-may_later : (newest : Option Master) (g : Geometry) (old mid : Image) (blocks : List (List LogRecord)) (first second : List Change) → MayMakeAll newest g old blocks (first ++ second) → Reaches g first old mid → IsSoundUnder newest g old blocks →
-    (end : Image) × MayMakeAll (newest_after_all newest first) g end (blocks_after_all newest blocks first) second × IsSoundUnder (newest_after_all newest first) g end (blocks_after_all newest blocks first) × ReadsAs g end mid
+may_later : (newest : Option Master) (g : Geometry) (old mid : Image) (blocks : List (List LogRecord)) (first second : List Change) → MayMakeAll newest g old blocks (first ++ second) → Reaches g first old mid → IsSoundUnder newest g old blocks → (end : Image) × MayMakeAll (newest_after_all newest first) g end (blocks_after_all newest blocks first) second × IsSoundUnder (newest_after_all newest first) g end (blocks_after_all newest blocks first) × ReadsAs g end mid
 may_later newest g old mid blocks [] second may reads sound = (old, may, sound, reads)
 may_later newest g old mid blocks (change ∷ first) second may reached sound =
     may_later (newest_after newest change) g reached.0 mid (blocks_after newest blocks change) first second (may.1 reached.0 reached.1) reached.2 (change_keeps_sound newest g old reached.0 blocks change sound may.0 reached.1)
 
 -- what all changes leave, the last of which seals a Commit
-stands_after : (newest : Option Master) (g : Geometry) (old new : Image) (blocks : List (List LogRecord)) (changes : List Change) (records : List LogRecord) (table : List Content) (count : ℕ) (before after : List Entry) (lsn t number : ℕ) →
-    IsSoundUnder newest g old blocks → Means (logical_image_under newest g old blocks) table count → MayMakeAll newest g old blocks (changes ++ SealsBlock records ∷ []) → AllByRecursion SealsNoCommit changes →
-    entries_from (next_block_lsn (newest_after_all newest changes) (blocks_after_all newest blocks changes)) records ≡ before ++ record { lsn = lsn; rec = Commit t number } ∷ after → commit_numbers before ≡ [] → commit_numbers after ≡ [] →
-    Reaches g (changes ++ SealsBlock records ∷ []) old new →
-    StandsUnder (newest_after_all newest changes) g new (table_with table (writes_in t (log_from (kept_by (newest_after_all newest changes)) (blocks_after_all newest blocks changes) ++ before))) (count + 1)
+stands_after : (newest : Option Master) (g : Geometry) (old new : Image) (blocks : List (List LogRecord)) (changes : List Change) (records : List LogRecord) (table : List Content) (count : ℕ) (before after : List Entry) (lsn t number : ℕ) → IsSoundUnder newest g old blocks → Means (logical_image_under newest g old blocks) table count → MayMakeAll newest g old blocks (changes ++ SealsBlock records ∷ []) → AllByRecursion SealsNoCommit changes → entries_from (next_block_lsn (newest_after_all newest changes) (blocks_after_all newest blocks changes)) records ≡ before ++ record { lsn = lsn; rec = Commit t number } ∷ after → commit_numbers before ≡ [] → commit_numbers after ≡ [] → Reaches g (changes ++ SealsBlock records ∷ []) old new → StandsUnder (newest_after_all newest changes) g new (table_with table (writes_in t (log_from (kept_by (newest_after_all newest changes)) (blocks_after_all newest blocks changes) ++ before))) (count + 1)
 stands_after newest g old new blocks changes records table count before after lsn t number sound means may none parts first last reached =
     let halves = reaches_parts g changes (SealsBlock records ∷ []) old new reached in
     let n = newest_after_all newest changes in
@@ -138,11 +133,7 @@ stands_after newest g old new blocks changes records table count before after ls
     }
 
 -- they append no master unit
-stands_committed : (newest : Option Master) (g : Geometry) (old new : Image) (blocks : List (List LogRecord)) (changes : List Change) (records : List LogRecord) (table : List Content) (count : ℕ) (before after : List Entry) (lsn t number : ℕ) →
-    IsSoundUnder newest g old blocks → Means (logical_image_under newest g old blocks) table count → MayMakeAll newest g old blocks (changes ++ SealsBlock records ∷ []) → AllByRecursion SealsNoCommit changes →
-    AllByRecursion SavesNoMaster changes →
-    entries_from (next_block_lsn newest (blocks_after_all newest blocks changes)) records ≡ before ++ record { lsn = lsn; rec = Commit t number } ∷ after → commit_numbers before ≡ [] → commit_numbers after ≡ [] →
-    Reaches g (changes ++ SealsBlock records ∷ []) old new → StandsUnder newest g new (table_with table (writes_in t (log_from (kept_by newest) (blocks_after_all newest blocks changes) ++ before))) (count + 1)
+stands_committed : (newest : Option Master) (g : Geometry) (old new : Image) (blocks : List (List LogRecord)) (changes : List Change) (records : List LogRecord) (table : List Content) (count : ℕ) (before after : List Entry) (lsn t number : ℕ) → IsSoundUnder newest g old blocks → Means (logical_image_under newest g old blocks) table count → MayMakeAll newest g old blocks (changes ++ SealsBlock records ∷ []) → AllByRecursion SealsNoCommit changes → AllByRecursion SavesNoMaster changes → entries_from (next_block_lsn newest (blocks_after_all newest blocks changes)) records ≡ before ++ record { lsn = lsn; rec = Commit t number } ∷ after → commit_numbers before ≡ [] → commit_numbers after ≡ [] → Reaches g (changes ++ SealsBlock records ∷ []) old new → StandsUnder newest g new (table_with table (writes_in t (log_from (kept_by newest) (blocks_after_all newest blocks changes) ++ before))) (count + 1)
 stands_committed newest g old new blocks changes records table count before after lsn t number sound means may none kept parts first last reached =
     let all = blocks_after_all newest blocks changes in
     subst (λ (n : Option Master). entries_from (next_block_lsn n all) records ≡ before ++ record { lsn = lsn; rec = Commit t number } ∷ after →

@@ -18,7 +18,5 @@ pub mod Saves
 pub mod Making
 pub mod WholePushes
 pub mod Leaving
-pub mod Rooms
-pub mod Arrivals
 pub mod Beside
 pub mod CheckpointMoments

@@ -14,7 +14,7 @@ use Rattle.checkpoint.specs.declared.master.Master.{Master}
 use Rattle.checkpoint.specs.declared.pairs.Pair.{Pair}
 use Rattle.checkpoint.specs.Actives.{no_pair, Ascend}
 use Rattle.checkpoint.specs.Newest.{seen}
-use Rattle.image_meaning.specs.Flushed.{IsMasterOf, MasterIsSaved}
+use Rattle.image_meaning.specs.Flushed.{IsMasterOf}
 
 -- Lists that ascend.
 
@@ -65,8 +65,7 @@ ascends_of from (p ∷ q ∷ pairs) up first =
     let next = up 0 (omega arith) in (first.0, ascends_of (p.begin + 1) (q ∷ pairs) (ascend_rest p (q ∷ pairs) up) (omega (arith, next), tt))
 
 -- pairs with the last LSNs of their transactions
-pairs_are : (log : List Entry) (pairs : List Pair) → AllByRecursion (λ pair. pair.last ≡ last_lsn (entries_of pair.begin log)) pairs →
-    map {B = Active} (λ (pair : Pair). record { begin = pair.begin; last = pair.last }) pairs ≡ map {B = Active} (λ t. record { begin = t; last = last_lsn (entries_of t log) }) (map (λ (pair : Pair). pair.begin) pairs)
+pairs_are : (log : List Entry) (pairs : List Pair) → AllByRecursion (λ pair. pair.last ≡ last_lsn (entries_of pair.begin log)) pairs → map {B = Active} (λ (pair : Pair). record { begin = pair.begin; last = pair.last }) pairs ≡ map {B = Active} (λ t. record { begin = t; last = last_lsn (entries_of t log) }) (map (λ (pair : Pair). pair.begin) pairs)
 pairs_are log [] all = refl
 pairs_are log (pair ∷ pairs) all = let rest = pairs_are log pairs all.1 in λ i. record { begin = pair.begin; last = all.0 i } ∷ rest i
 
@@ -103,5 +102,6 @@ module _ (p : LogicalImage) (m : Master) (sound : IsSound p) (is : IsMasterOf p 
   pub saved_is : seen m ≡ (with_master p m.kept).master
   saved_is = λ i. record { redo = is.redo i; kept = m.kept; commits = is.commits i; active = active_is i }
 
-pub master_is_saved : MasterIsSaved
+-- It is the one that such a checkpoint saves.
+pub master_is_saved : (p : LogicalImage) (m : Master) → IsSound p → IsMasterOf p m → seen m ≡ (with_master p m.kept).master
 master_is_saved = saved_is

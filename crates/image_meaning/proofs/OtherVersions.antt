@@ -1,12 +1,13 @@
 -- Other versions of the pages keep a logical image sound, and what it stands for.
+use Rattle.log_laws.specs.NewImage.{Replaces}
 use Rattle.std.proofs.Common.{◌≡◌, ℕ, ◌*◌, ◌/◌, ◌%◌, ◌<◌, List, length, None, refl, ap, ◌∙◌, arith}
 use Rattle.std.proofs.lemmas.Nat.{mod_below}
 use Rattle.std_lemmas.proofs.AllOf.{all_weaker}
 use Rattle.record_model.specs.State.{Content}
-use Rattle.log_records.specs.Log.{Version, slot_at, last_on}
+use Rattle.log_records.specs.Log.{Version, slot_at, last_on, version_at}
 use Rattle.log_records.specs.Sound.{LogicalImage, IsSound, Means, FitsLog}
 use Rattle.log_laws.proofs.Versions.{table_same}
-use Rattle.image_meaning.specs.LogicalImages.{with_versions, ReplaceAll, VersionsAreSound, VersionsMean, VersionReplacesItself}
+use Rattle.image_meaning.specs.LogicalImages.{with_versions, ReplaceAll}
 use Rattle.log_records.proofs.Values.{page_and_slot}
 
 -- a slot without records is as it was
@@ -24,11 +25,14 @@ module _ (p : LogicalImage) (versions : List Version) (sound : IsSound p) (r : R
   pub means_with : (table : List Content) (count : ℕ) → Means p table count → Means (with_versions p versions) table count
   means_with table count means = grind (arith, table_same, slot_same)
 
-pub versions_are_sound : VersionsAreSound
+-- they keep a logical image sound
+pub versions_are_sound : (p : LogicalImage) (versions : List Version) → IsSound p → ReplaceAll p versions → IsSound (with_versions p versions)
 versions_are_sound p versions sound r = sound_with p versions sound r
 
-pub versions_mean : VersionsMean
+-- and what it stands for
+pub versions_mean : (p : LogicalImage) (versions : List Version) → IsSound p → ReplaceAll p versions → (table : List Content) (count : ℕ) → Means p table count → Means (with_versions p versions) table count
 versions_mean p versions sound r table count means = means_with p versions sound r table count means
 
-pub version_replaces_itself : VersionReplacesItself
+-- the version that a page has replaces itself
+pub version_replaces_itself : (p : LogicalImage) (page : ℕ) → IsSound p → page < length p.pages → Replaces p page (version_at p.pages page)
 version_replaces_itself p page sound within = record { fits = sound.versions_fit page within; as_before = λ slot less none. refl }

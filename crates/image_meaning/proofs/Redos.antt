@@ -1,21 +1,23 @@
 -- Versions of a page that know of the log up to an LSN.
+use Rattle.image_meaning.specs.Redone.{IsCurrent}
+use Rattle.log_laws.specs.NewImage.{Replaces}
 use Rattle.std.proofs.Common.{◌≡◌, ℕ, ◌+◌, ◌*◌, ◌/◌, ◌%◌, ◌<◌, ◌≤◌, ◌==◌, ◌&&◌, ◌||◌, Bool, true, false, List, [], ◌∷◌, ◌++◌, Some, None, refl, sym, ap, subst, ◌∙◌, arith, inl, inr}
-use Rattle.std.specs.Prelude.{Option, nat_lt, nat_le, IsTrue, if◌then◌else◌}
+use Rattle.std.specs.Prelude.{Option, nat_lt, nat_le, IsTrue, if◌then◌else◌, length}
 use Rattle.std.specs.List.{AllByRecursion}
 use Rattle.std.specs.Option.{option_or}
 use Rattle.std.proofs.lemmas.Bool.{cases_Bool, le-leb, lt-leb, and_right}
 use Rattle.std.proofs.lemmas.Bool.Decides.{nat_tests}
 use Rattle.std.proofs.lemmas.Option.{none-some}
 use Rattle.std.proofs.lemmas.Nat.{div-mul-add, mod-mul-add}
-use Rattle.std_lemmas.proofs.AllOf.{all_push, all_filter, all_weaker}
+use Rattle.std_lemmas.proofs.AllOf.{all_filter, all_weaker}
 use Rattle.record_model.specs.State.{Content, content_at}
 use Rattle.log_records.specs.Log.{Entry, Version, version_at, slot_at, number_of, is_number, is_on, after_of, last_where, last_on}
 use Rattle.log_records.specs.Sound.{LogicalImage, IsSound, IsInOrder, ShowsLast, last_known, before_block}
-use Rattle.log_laws.specs.Follow.{shown_by, shown}
+use Rattle.log_laws.specs.Follow.{shown_by}
 use Rattle.log_laws.proofs.Lists.{or_is_none}
 use Rattle.log_laws.proofs.Orders.{all_from, none_passes}
 use Rattle.log_laws.proofs.Values.{is_number-Some}
-use Rattle.image_meaning.specs.Redone.{AreKnown, redone, IsRedone, Redoes, RedoneReplaces, CurrentReplaces, VersionIsRedone, NextIsRedone, RedoneIsCurrent, ShowsMore, ShowsElsewhere}
+use Rattle.image_meaning.specs.Redone.{AreKnown, redone, IsRedone, Redoes}
 use Rattle.log_records.proofs.Lists.{last_where-append}
 
 -- Numbers.
@@ -78,7 +80,8 @@ shown_last slot content (Some e) shows none = shows
 
 -- Versions.
 
-pub redone_replaces : RedoneReplaces
+-- Either may replace the page's version.
+pub redone_replaces : (p : LogicalImage) (page : ℕ) (v : Version) → IsSound p → page < length p.pages → IsRedone p page v → Replaces p page v
 redone_replaces p page v sound within r = record {
   fits = record {
     logged = r.logged;
@@ -90,7 +93,8 @@ redone_replaces p page v sound within r = record {
       r.slots slot less ∙ ap (shown_by (slot_at p.pages (32 * page + slot))) (none_known p.log (32 * page + slot) v.lsn none) ∙ slot_of_page p.pages page slot less;
 }
 
-pub current_replaces : CurrentReplaces
+-- A version with the records up to an LSN redone, or with all of them, may replace the page's version.
+pub current_replaces : (p : LogicalImage) (page : ℕ) (v : Version) → IsCurrent p page v → Replaces p page v
 current_replaces p page v c = record {
   fits = record {
     logged = c.logged;
@@ -102,7 +106,8 @@ current_replaces p page v c = record {
   as_before = λ slot less none. c.all.slots slot less ∙ ap (shown_by (slot_at p.pages (32 * page + slot))) none ∙ slot_of_page p.pages page slot less;
 }
 
-pub version_is_redone : VersionIsRedone
+-- The page's own version is redone up to its LSN.
+pub version_is_redone : (p : LogicalImage) (page : ℕ) → IsSound p → page < length p.pages → IsRedone p page (version_at p.pages page)
 version_is_redone p page sound within =
     let fits = sound.versions_fit page within in
     let v = version_at p.pages page in
@@ -114,7 +119,8 @@ version_is_redone p page sound within =
           (λ none. sym (slot_of_page p.pages page slot less));
     }
 
-pub redone_is_current : RedoneIsCurrent
+-- Where all records of the page are known, all are redone.
+pub redone_is_current : (p : LogicalImage) (page : ℕ) (v : Version) → IsRedone p page v → AreKnown p.log page v.lsn → IsCurrent p page v
 redone_is_current p page v r known = record {
   logged = r.logged;
   all = record {
@@ -122,40 +128,6 @@ redone_is_current p page v r known = record {
     slots = λ slot less. r.slots slot less ∙ ap (shown_by (slot_at p.pages (32 * page + slot))) (last_of_known p.log (32 * page + slot) v.lsn (known_on_page p.log page slot v.lsn less known));
   };
 }
-
--- One record more.
-
-shown_with : (log : List Entry) (e : Entry) (pages : List Version) (number : ℕ) → shown (log ++ e ∷ []) pages number ≡ (if is_on number e then after_of e.rec else shown log pages number)
-shown_with log e pages number = grind (arith, last_where-append)
-
-pub shows_more : ShowsMore
-shows_more log pages page v w e number all on here late redoes = record {
-  known =
-      let lsn = redoes.lsn in
-      all_push (λ d. (n : ℕ) → number_of d.rec ≡ Some n → n / 32 ≡ page → d.lsn ≤ w.lsn) log e
-      (all_weaker (λ d. (n : ℕ) → number_of d.rec ≡ Some n → n / 32 ≡ page → d.lsn ≤ v.lsn) (λ d. (n : ℕ) → number_of d.rec ≡ Some n → n / 32 ≡ page → d.lsn ≤ w.lsn)
-      (λ d is n there same. let low = is n there same in omega (arith, low, late, lsn)) log all.known)
-      (λ n there same. omega (arith, lsn));
-  slots = λ slot less.
-      redoes.slots slot less ∙ (λ i. if sym (own (32 * page + slot)) i then after_of e.rec else all.slots slot less i)
-      ∙ sym (shown_with log e pages (32 * page + slot));
-}
-  where
-    own : (n : ℕ) → is_on n e ≡ (n == number)
-    own n = ap (is_number n) on ∙ turned where
-      turned : (number == n) ≡ (n == number)
-      turned = grind (arith, nat_tests)
-
-pub shows_elsewhere : ShowsElsewhere
-shows_elsewhere log pages page v e all elsewhere = record {
-  known = all_push (λ d. (n : ℕ) → number_of d.rec ≡ Some n → n / 32 ≡ page → d.lsn ≤ v.lsn) log e all.known (λ n there same. absurd (elsewhere n there same));
-  slots = λ slot less.
-      all.slots slot less ∙ sym (shown_with log e pages (32 * page + slot) ∙ by slot less (is_on (32 * page + slot) e) refl);
-}
-  where
-    by : (slot : ℕ) → slot < 32 → (b : Bool) → is_on (32 * page + slot) e ≡ b → (if b then after_of e.rec else shown log pages (32 * page + slot)) ≡ shown log pages (32 * page + slot)
-    by slot less true here = absurd (elsewhere (32 * page + slot) (is_number-Some (32 * page + slot) (number_of e.rec) here) (page_of_number page slot less))
-    by slot less false here = refl
 
 -- The next record.
 
@@ -222,5 +194,6 @@ module _ (p : LogicalImage) (page : ℕ) (v w : Version) (front rest : List Entr
         slots = λ slot less. slots slot less ∙ ap (λ (n : ℕ). redone p n (32 * page + slot)) (sym lsn);
       }
 
-pub next_is_redone : NextIsRedone
+-- The next record on the page is redone.
+pub next_is_redone : (p : LogicalImage) (page : ℕ) (v w : Version) (front rest : List Entry) (e : Entry) (number : ℕ) → IsSound p → p.log ≡ front ++ e ∷ rest → number_of e.rec ≡ Some number → number / 32 ≡ page → v.lsn < e.lsn → AreKnown front page v.lsn → IsRedone p page v → Redoes page e number v w → IsRedone p page w
 next_is_redone p page v w front rest e number sound split on here next known r redoes = next_redone p page v w front rest e number sound split on here next known r redoes

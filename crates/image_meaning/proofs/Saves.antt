@@ -1,12 +1,12 @@
 -- A master unit is appended.
+use Rattle.image_meaning.specs.Flushed.{IsFlushed, IsMasterOf, oldest_needed}
 use Rattle.std.proofs.Common.{◌≡◌, ◌⊎◌, inl, inr, true, false, ℕ, zero, suc, ◌+◌, ◌-◌, ◌*◌, ◌<◌, ◌≤◌, List, [], ◌∷◌, ◌++◌, length, drop, flat_map, Option, Some, refl, sym, ap, subst, ◌∙◌, arith}
-use Rattle.std.specs.Prelude.{nat_lt, nat_le, filter, ◌&&◌, not}
+use Rattle.std.specs.Prelude.{nat_le}
 use Rattle.std.specs.List.{AllByRecursion}
 use Rattle.std.proofs.lemmas.Bool.{le-leb, lt-leb}
 use Rattle.std.proofs.lemmas.List.{length-drop}
 use Rattle.std.proofs.lemmas.List.Elements.{filter-append}
-use Rattle.std.proofs.Math.ListN.{drop_of_length-le}
-use Rattle.std_lemmas.proofs.AllOf.{all_filter, all_weaker, all_map}
+use Rattle.std_lemmas.proofs.AllOf.{all_weaker}
 use Rattle.std_lemmas.proofs.Lists.{filter_all}
 use Rattle.site.specs.declared.geometry.Geometry.{Geometry}
 use Rattle.site.specs.State.{Image}
@@ -14,8 +14,7 @@ use Rattle.sealed_ring.specs.Ring.{Units}
 use Rattle.record_model.specs.State.{Content}
 use Rattle.log_records.specs.declared.log_record.LogRecord.{LogRecord}
 use Rattle.log_records.specs.Spelling.{spelling, AreBlock}
-use Rattle.log_records.specs.Log.{Entry, entries_from, log_from, is_closed, entries_of}
-use Rattle.log_records.specs.Unfinished.{is_begin, losers}
+use Rattle.log_records.specs.Log.{entries_from, log_from}
 use Rattle.log_records.specs.Sound.{Active, LogicalImage, Means, AreOrderly, before_block, from_block, last_lsn}
 use Rattle.log_records.specs.Sound as lists
 use Rattle.log_laws.specs.NewImage.{with_master, MayCheckpoint}
@@ -31,9 +30,9 @@ use Rattle.image_changes.specs.Rings.{Blocks, Groups, Segments, master_shape, un
 use Rattle.image_changes.specs.Changes.{AppendsMaster, Makes}
 use Rattle.log_store.specs.Representation.{HasBlocks}
 use Rattle.log_store.proofs.BlockLaws.{blocks_stay, blocks_from}
-use Rattle.image_meaning.specs.Meaning.{master_of, kept_by, next_block_under, logical_image_under, IsNewest, IsSoundUnder, versions_on}
+use Rattle.image_meaning.specs.Meaning.{kept_by, next_block_under, logical_image_under, IsNewest, IsSoundUnder, versions_on}
 use Rattle.image_meaning.specs.Changes.{MaySave}
-use Rattle.image_meaning.specs.Checkpoints.{blocks_saved, MasterMaySave, EmptyMasterMaySave, CheckpointMaySave, SavedOctets, ActiveAreKept}
+use Rattle.image_meaning.specs.Checkpoints.{blocks_saved, SavedOctets}
 use Rattle.image_meaning.proofs.Flushes.{checkpoint_needs}
 use Rattle.image_meaning.proofs.Naming.{master_is_saved}
 use Rattle.image_meaning.proofs.Versions.{versions_same, version_stays}
@@ -160,30 +159,12 @@ module _ (newest : Option Master) (g : Geometry) (image : Image) (blocks : List 
   may_save : AreOrderly standing.log ⊎ (m.kept ≡ standing.hi) → MaySave newest g image blocks content
   may_save orderly = grind (arith, unit_read)
 
-  none_saved : m.kept ≡ standing.hi → blocks_saved newest blocks content ≡ []
-  none_saved all = grind (arith, unit_read, drop_of_length-le, next_block_is)
-
-pub checkpoint_may_save : CheckpointMaySave
+-- So the unit of a checkpoint's master may be: the pages are flushed, and it keeps the blocks of unfinished
+-- transactions.
+pub checkpoint_may_save : (newest : Option Master) (g : Geometry) (image : Image) (blocks : List (List LogRecord)) (content : List ℕ) (m : Master) → IsSoundUnder newest g image blocks → IsUnit content m → IsMasterOf (logical_image_under newest g image blocks) m → IsFlushed (logical_image_under newest g image blocks) → kept_by newest ≤ m.kept → m.kept ≤ oldest_needed (logical_image_under newest g image blocks) → AreOrderly (logical_image_under newest g image blocks).log ⊎ (m.kept ≡ (logical_image_under newest g image blocks).hi) → MaySave newest g image blocks content
 checkpoint_may_save newest g image blocks content m sound unit is flushed rises within orderly =
     let p = logical_image_under newest g image blocks in
     may_save newest g image blocks content m unit (master_is_saved p m sound.records is) ((checkpoint_needs p m.kept sound.records).1 (flushed, rises, within)) orderly
 
-pub master_may_save : MasterMaySave
-master_may_save newest g image blocks content m unit master may orderly = may_save newest g image blocks content m unit master may (inl orderly)
-
-pub empty_master_may_save : EmptyMasterMaySave
-empty_master_may_save newest g image blocks content m unit master may all =
-    (may_save newest g image blocks content m unit master may (inr all), none_saved newest g image blocks content m unit master may all)
-
 -- The blocks of the transactions that the master names as active.
 
-pub active_are_kept : ActiveAreKept
-active_are_kept newest g image blocks sound =
-    let first = 512 * kept_by newest in
-    let log = log_from (kept_by newest) blocks in
-    let old = before_block (master_of newest).redo log in
-    let begins = all_from first log _ sound.records.in_order in
-    let here = all_filter (λ (e : Entry). first ≤ e.lsn) (λ e. is_begin e.rec && not (is_closed old e.lsn)) old (all_filter (λ (e : Entry). first ≤ e.lsn) (λ e. nat_lt e.lsn (512 * (master_of newest).redo)) log begins) in
-    subst (AllByRecursion (λ (a : Active). first ≤ a.begin)) (sym sound.records.master_names_the_active)
-    (all_map (λ (a : Active). first ≤ a.begin) (λ t. record { begin = t; last = last_lsn (entries_of t old) }) (losers old)
-    (all_map (λ t. first ≤ t) (λ (e : Entry). e.lsn) (filter (λ e. is_begin e.rec && not (is_closed old e.lsn)) old) here))

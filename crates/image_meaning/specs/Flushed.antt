@@ -1,13 +1,11 @@
 -- When a checkpoint may be made, as statements over lists.
-use Rattle.std.specs.Prelude.{◌≡◌, ℕ, ◌/◌, ◌==◌, ◌<◌, ◌≤◌, ◌↔◌, true, List, [], ◌∷◌, length}
+use Rattle.std.specs.Prelude.{◌≡◌, ℕ, ◌/◌, ◌==◌, ◌<◌, true, List, [], ◌∷◌, length}
 use Rattle.std.specs.List.{list_any, AllByRecursion}
 use Rattle.log_records.specs.Log.{version_at, is_loser, entries_of}
 use Rattle.log_records.specs.Unfinished.{losers}
-use Rattle.log_records.specs.Sound.{LogicalImage, IsSound, last_lsn, commit_count}
-use Rattle.log_laws.specs.NewImage.{with_master, MayCheckpoint}
+use Rattle.log_records.specs.Sound.{LogicalImage, last_lsn, commit_count}
 use Rattle.checkpoint.specs.declared.master.Master.{Master}
 use Rattle.checkpoint.specs.Actives.{Ascend}
-use Rattle.checkpoint.specs.Newest.{seen}
 use Rattle.image_meaning.specs.Redone.{AreKnown}
 
 -- Each page's version knows of all of its records, as after a flush.
@@ -23,15 +21,6 @@ first_block none (t ∷ transactions) = t / 512
 abbrev pub oldest_needed : LogicalImage → ℕ
 oldest_needed p = first_block p.hi (losers p.log)
 
--- A checkpoint may be made exactly where the pages are flushed and the blocks of all unfinished transactions are kept.
-abbrev pub CheckpointNeeds : Type 0
-CheckpointNeeds = (p : LogicalImage) (kept : ℕ) → IsSound p
-    → MayCheckpoint p kept ↔ (IsFlushed p × (p.master.kept ≤ kept) × (kept ≤ oldest_needed p))
-
--- That block is one of the kept ones, or the next.
-abbrev pub OldestIsThere : Type 0
-OldestIsThere = (p : LogicalImage) → IsSound p → (p.master.kept ≤ oldest_needed p) × (oldest_needed p ≤ p.hi)
-
 -- The master of a checkpoint: redo begins with the next block, all commits count, and it names the unfinished
 -- transactions, each with the LSN of its last record.
 pub record IsMasterOf (p : LogicalImage) (m : Master) : Type 0 where
@@ -42,6 +31,3 @@ pub record IsMasterOf (p : LogicalImage) (m : Master) : Type 0 where
       × (pair.last ≡ last_lsn (entries_of pair.begin p.log))) m.active
   pub all : (t : ℕ) → is_loser p.log t ≡ true → list_any (λ pair. pair.begin == t) m.active ≡ true
 
--- It is the one that such a checkpoint saves.
-abbrev pub MasterIsSaved : Type 0
-MasterIsSaved = (p : LogicalImage) (m : Master) → IsSound p → IsMasterOf p m → seen m ≡ (with_master p m.kept).master

@@ -7,8 +7,6 @@ pub mod Changes
 pub mod Laws
 pub mod PushLaws
 pub mod Moments
-pub mod Reached
-pub mod LogicalImageLaws
 pub mod Beside
 pub mod Flushed
 pub mod Checkpoints

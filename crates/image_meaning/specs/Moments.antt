@@ -43,20 +43,6 @@ pub record LeavesEitherFor (g : Geometry) (before after : List Content) (commits
   pub told : snapshot.told ≡ so_far
   pub stands : StandsFor g snapshot.image before commits ⊎ StandsFor g snapshot.image after (commits + 1)
 
--- which follows where it is known
-abbrev pub UnderLeavesFor : Type 0
-UnderLeavesFor =
-    (newest : Option Master) (g : Geometry) (old new : State) (table : List Content) (count : ℕ) (so_far : List ℕ) →
-    LeavesOnly old new (LeavesTableUnder newest g table count so_far)
-    → LeavesOnly old new (LeavesFor g table count so_far)
-
-abbrev pub UnderLeavesEitherFor : Type 0
-UnderLeavesEitherFor =
-    (newest : Option Master) (g : Geometry) (old new : State) (before after : List Content) (count : ℕ)
-    (so_far : List ℕ) →
-    LeavesOnly old new (LeavesEitherUnder newest g before after count so_far)
-    → LeavesOnly old new (LeavesEitherFor g before after count so_far)
-
 -- Where only changes may be left that seal no Commit, the devices stand for the same table at each moment,
 abbrev pub FrontStandsFor : Type 0
 FrontStandsFor =

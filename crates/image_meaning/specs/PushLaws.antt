@@ -6,7 +6,6 @@ use Rattle.site.specs.declared.geometry.Geometry.{Geometry}
 use Rattle.site.specs.State.{Image}
 use Rattle.log_records.specs.declared.log_record.LogRecord.{LogRecord}
 use Rattle.log_laws.specs.NewImage.{Replaces}
-use Rattle.slotted_page.specs.Layout as page
 use Rattle.frame_group.specs.Groups.{Frame}
 use Rattle.frame_group.specs.Versions.{last_frame, CleanAsDisk}
 use Rattle.checkpoint.specs.declared.master.Master.{Master}

@@ -1,12 +1,11 @@
 -- Versions of a page that know of the log up to an LSN, as statements over lists.
-use Rattle.std.specs.Prelude.{◌≡◌, ℕ, ◌+◌, ◌*◌, ◌/◌, ◌<◌, ◌≤◌, ◌==◌, ◌||◌, nat_lt, List, ◌∷◌, ◌++◌, length, Some}
-use Rattle.std.specs.Prelude.{IsTrue, if◌then◌else◌, []}
+use Rattle.std.specs.Prelude.{◌≡◌, ℕ, ◌+◌, ◌*◌, ◌/◌, ◌<◌, ◌≤◌, ◌==◌, ◌||◌, nat_lt, List, Some}
+use Rattle.std.specs.Prelude.{IsTrue, if◌then◌else◌}
 use Rattle.std.specs.List.{AllByRecursion}
 use Rattle.record_model.specs.State.{Content, content_at}
 use Rattle.log_records.specs.Log.{Entry, Version, version_at, slot_at, number_of, after_of}
-use Rattle.log_records.specs.Sound.{LogicalImage, IsSound, last_known}
+use Rattle.log_records.specs.Sound.{LogicalImage, last_known}
 use Rattle.log_laws.specs.Follow.{shown_by, shown}
-use Rattle.log_laws.specs.NewImage.{Replaces}
 
 -- A version doesn't know of a record that isn't in a sealed block.
 abbrev pub IsLogged : LogicalImage → Version → Type 0
@@ -37,47 +36,9 @@ pub record IsCurrent (p : LogicalImage) (page : ℕ) (v : Version) : Type 0 wher
   pub logged : IsLogged p v
   pub all : ShowsAll p.log p.pages page v
 
--- Either may replace the page's version.
-abbrev pub RedoneReplaces : Type 0
-RedoneReplaces = (p : LogicalImage) (page : ℕ) (v : Version) → IsSound p → page < length p.pages → IsRedone p page v
-    → Replaces p page v
-
-abbrev pub CurrentReplaces : Type 0
-CurrentReplaces = (p : LogicalImage) (page : ℕ) (v : Version) → IsCurrent p page v → Replaces p page v
-
--- The page's own version is redone up to its LSN.
-abbrev pub VersionIsRedone : Type 0
-VersionIsRedone = (p : LogicalImage) (page : ℕ) → IsSound p → page < length p.pages
-    → IsRedone p page (version_at p.pages page)
-
 -- A version with the LSN of a record of the page, and what the record has written in its slot.
 pub record Redoes (page : ℕ) (e : Entry) (number : ℕ) (old new : Version) : Type 0 where
   pub lsn : new.lsn ≡ e.lsn
   pub slots : (slot : ℕ) → slot < 32
       → content_at new.slots slot ≡ (if 32 * page + slot == number then after_of e.rec else content_at old.slots slot)
 
--- The next record on the page is redone.
-abbrev pub NextIsRedone : Type 0
-NextIsRedone =
-    (p : LogicalImage) (page : ℕ) (v w : Version) (front rest : List Entry) (e : Entry) (number : ℕ) → IsSound p
-    → p.log ≡ front ++ e ∷ rest →
-    number_of e.rec ≡ Some number → number / 32 ≡ page → v.lsn < e.lsn → AreKnown front page v.lsn →
-    IsRedone p page v → Redoes page e number v w → IsRedone p page w
-
--- Where all records of the page are known, all are redone.
-abbrev pub RedoneIsCurrent : Type 0
-RedoneIsCurrent = (p : LogicalImage) (page : ℕ) (v : Version) → IsRedone p page v → AreKnown p.log page v.lsn
-    → IsCurrent p page v
-
--- With one record more, on the page or elsewhere.
-abbrev pub ShowsMore : Type 0
-ShowsMore =
-    (log : List Entry) (pages : List Version) (page : ℕ) (v w : Version) (e : Entry) (number : ℕ)
-    → ShowsAll log pages page v →
-    number_of e.rec ≡ Some number → number / 32 ≡ page → v.lsn ≤ e.lsn → Redoes page e number v w
-    → ShowsAll (log ++ e ∷ []) pages page w
-
-abbrev pub ShowsElsewhere : Type 0
-ShowsElsewhere =
-    (log : List Entry) (pages : List Version) (page : ℕ) (v : Version) (e : Entry) → ShowsAll log pages page v →
-    ((number : ℕ) → number_of e.rec ≡ Some number → number / 32 ≡ page → ⊥) → ShowsAll (log ++ e ∷ []) pages page v

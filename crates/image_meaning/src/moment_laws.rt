@@ -1,5 +1,5 @@
 // Laws on what a crash leaves of calls.
-ghost use Rattle.image_meaning.specs.Moments.{UnderLeavesFor, UnderLeavesEitherFor, FrontStandsFor, FrontStands};
+ghost use Rattle.image_meaning.specs.Moments.{FrontStandsFor, FrontStands};
 ghost use Rattle.image_meaning.specs.Moments.{PushStands, CommitStands};
 
 /// Calls of which a crash leaves the first ones of changes that may be made leave devices that stand for the same table
@@ -7,12 +7,6 @@ ghost use Rattle.image_meaning.specs.Moments.{PushStands, CommitStands};
 pub fn calls_without_commit()
     ensures whole { FrontStandsFor }
     ensures under { FrontStands }
-{}
-
-/// What stands under a newest master stands whatever it is.
-pub fn under_some_master()
-    ensures table { UnderLeavesFor }
-    ensures either { UnderLeavesEitherFor }
 {}
 
 /// So does a push.

@@ -1,10 +1,10 @@
 -- The list of the unfinished transactions.
 use Rattle.std.proofs.lemmas.Grind.{common_steps}
-use Rattle.std.proofs.Common.{◌≡◌, ℕ, ◌+◌, ◌≤◌, ⊎_elim, Bool, true, false, cond, not, ◌&&◌, ◌||◌, List, [], ◌∷◌, ◌++◌, map, drop, refl, sym, ap, subst, ◌∙◌, arith}
+use Rattle.std.proofs.Common.{◌≡◌, ℕ, ◌+◌, ◌≤◌, ⊎_elim, Bool, true, false, cond, not, ◌&&◌, ◌||◌, List, [], ◌∷◌, ◌++◌, map, drop, refl, ap, subst, ◌∙◌, arith}
 use Rattle.std.specs.Prelude.{filter, ◌==◌}
 use Rattle.std.specs.List.{AllByRecursion, list_any}
 use Rattle.std.proofs.lemmas.List.{append-nil}
-use Rattle.std.proofs.lemmas.Bool.{and_from, and_parts, and_right, cases_Bool, eqb-true, eq-eqb, ne_eqb, or_cases, or_left, or_right}
+use Rattle.std.proofs.lemmas.Bool.{and_from, and_parts, and_right, eqb-true, eq-eqb, ne_eqb, or_cases, or_left, or_right}
 use Rattle.std_lemmas.proofs.AllOf.{all_right, all_weaker}
 use Rattle.std_lemmas.proofs.Lists.{filter_all}
 use Rattle.log_records.specs.declared.log_record.LogRecord.TheVariants.{Begin}
@@ -109,8 +109,3 @@ loser_is_listed log t undoable loser =
     (any_of_those (λ x. is_begin x.rec && (x.lsn == t)) (is_of t) log
     (ap (list_any (λ x. is_begin x.rec && (x.lsn == t))) chain.begins ∙ or_left (t == t) (list_any (λ x. is_begin x.rec && (x.lsn == t)) (drop 1 (entries_of t log))) (eq-eqb t t refl)))
 
-pub none_listed : (log : List Entry) (t : ℕ) → IsUndoable log → losers log ≡ [] → is_loser log t ≡ false
-none_listed log t undoable none = ⊎_elim
-    (λ loser. absurd (let never = sym (ap (list_any (λ s. s == t)) none) ∙ loser_is_listed log t undoable loser in grind arith))
-    (λ no. no)
-    (cases_Bool (is_loser log t))

@@ -1,7 +1,7 @@
 -- The Updates of a transaction that no CLR compensates, as CLR after CLR takes the last of them off.
 use Rattle.std.proofs.lemmas.Grind.{common_steps}
 use Rattle.log_laws.proofs.Parts.{in_order_filter}
-use Rattle.std.proofs.Common.{◌≡◌, ℕ, ◌+◌, ◌≤◌, ◌<◌, true, List, [], ◌∷◌, ◌++◌, true≢false, arith}
+use Rattle.std.proofs.Common.{◌≡◌, ℕ, ◌+◌, ◌≤◌, ◌<◌, true, List, [], ◌∷◌, ◌++◌, arith}
 use Rattle.std.specs.Prelude.{drop, ⊤}
 use Rattle.std.specs.List.{AllByRecursion}
 use Rattle.log_records.specs.declared.log_record.LogRecord.{LogRecord}
@@ -9,12 +9,12 @@ use Rattle.log_records.specs.declared.log_record.LogRecord.TheVariants.{Clr}
 use Rattle.log_records.specs.Log.{Entry, txn_of, is_of, entries_of}
 use Rattle.log_records.specs.Unfinished.{is_clr, open_by, open_updates, left_open}
 use Rattle.log_records.specs.Sound.{IsInOrder}
-use Rattle.log_laws.specs.RoomLaws.{LeftPush}
+use Rattle.log_laws.proofs.Owing.{left_push}
 
 -- What a CLR takes off.
 
-pub left_after_clr : LeftPush → (records : List Entry) (e : Entry) (t : ℕ) → is_clr e.rec ≡ true → txn_of e ≡ t → left_open (records ++ e ∷ []) t ≡ drop 1 (left_open records t)
-left_after_clr push records e t clr own = grind (arith, common_steps)
+pub left_after_clr : (records : List Entry) (e : Entry) (t : ℕ) → is_clr e.rec ≡ true → txn_of e ≡ t → left_open (records ++ e ∷ []) t ≡ drop 1 (left_open records t)
+left_after_clr records e t clr own = grind (arith, common_steps, left_push)
 
 -- The LSNs of what is left fall.
 

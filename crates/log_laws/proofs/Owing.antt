@@ -1,9 +1,8 @@
 -- What undo may take, record by record.
-use Rattle.std.proofs.Common.{◌≡◌, ◌≢◌, ℕ, suc, ◌+◌, ◌*◌, ◌<◌, ◌≤◌, Bool, true, false, cond, not, ◌&&◌, List, [], ◌∷◌, length, refl, sym, ap, subst, ◌∙◌, arith}
+use Rattle.std.proofs.Common.{◌≡◌, ℕ, suc, ◌+◌, ◌<◌, Bool, true, false, cond, not, ◌&&◌, List, [], ◌∷◌, length, refl, sym, ap, subst, ◌∙◌, arith}
 use Rattle.std.specs.Prelude.{drop, filter_map, sum_by, IsTrue, ◌==◌}
 use Rattle.std.specs.List.{AllByRecursion}
 use Rattle.std.proofs.lemmas.List.Elements.{filter-append}
-use Rattle.std.proofs.lemmas.List.{length-append}
 use Rattle.std.proofs.lemmas.Bool.{and_from, and_left, and_right, eqb-true, eq-eqb, ne_eqb}
 use Rattle.std.proofs.lemmas.List.Sums.{sum_by-cons, sum_by-append}
 use Rattle.std_lemmas.proofs.Sums.{sum_both, sum_made, sum_pointwise, sum_within, sum_zero}
@@ -19,7 +18,7 @@ use Rattle.log_laws.specs.Follow.{IsFresh, write_of, writes_in}
 use Rattle.log_laws.proofs.Appends.{fresh_entries, fresh_open}
 use Rattle.log_laws.proofs.Chains.{left_of_chain}
 use Rattle.log_laws.proofs.Parts.{are_losers}
-use Rattle.log_records.specs.Log.{is_loser, updates_in, log_from, entries_from}
+use Rattle.log_records.specs.Log.{is_loser, updates_in}
 use Rattle.log_records.specs.Unfinished.{losers, clrs_in}
 
 -- An unfinished transaction has one Begin.
@@ -129,8 +128,7 @@ owed_begin log lsn fresh =
         ∙ ap (λ (l : List Entry). length (open_updates [] l) + 1) (fresh_entries lsn log fresh)
 
 -- An Update owes one more.
-pub owed_update : (log : List Entry) (e : Entry) → is_update e.rec ≡ true → is_closed log (txn_of e) ≡ false → IsLoserChain (txn_of e) (entries_of (txn_of e) log) →
-    owed (with log e) ≡ owed log + 1
+pub owed_update : (log : List Entry) (e : Entry) → is_update e.rec ≡ true → is_closed log (txn_of e) ≡ false → IsLoserChain (txn_of e) (entries_of (txn_of e) log) → owed (with log e) ≡ owed log + 1
 owed_update log e update lives chain =
     owed_push log e
     ∙ ap (λ n. n + owes (with log e) e)
@@ -178,8 +176,7 @@ owed_update log e update lives chain =
         (λ h. owed_by_same log e x.lsn (and_left (is_of x.lsn e) (is_update e.rec) h) (and_left (is_of x.lsn e) (is_clr e.rec) h))
 
 -- A CLR owes one less.
-pub owed_clr : (log : List Entry) (e : Entry) → is_clr e.rec ≡ true → is_closed log (txn_of e) ≡ false → IsLoserChain (txn_of e) (entries_of (txn_of e) log) →
-    0 < length (left_open log (txn_of e)) → owed log ≡ owed (with log e) + 1
+pub owed_clr : (log : List Entry) (e : Entry) → is_clr e.rec ≡ true → is_closed log (txn_of e) ≡ false → IsLoserChain (txn_of e) (entries_of (txn_of e) log) → 0 < length (left_open log (txn_of e)) → owed log ≡ owed (with log e) + 1
 owed_clr log e clr lives chain some =
     owed_is log
     ∙ sum_pointwise (owes log) (λ x. owes (with log e) x + cond (begun_by (txn_of e) x) 1 0) less log
@@ -225,8 +222,7 @@ owed_clr log e clr lives chain some =
         (λ h. sym (owed_by_same log e x.lsn (and_left (is_of x.lsn e) (is_update e.rec) h) (and_left (is_of x.lsn e) (is_clr e.rec) h)))
 
 -- A Commit or an End takes away all that its transaction owed.
-pub owed_closing : (log : List Entry) (e : Entry) → is_closing e.rec ≡ true → is_closed log (txn_of e) ≡ false → IsLoserChain (txn_of e) (entries_of (txn_of e) log) →
-    owed log ≡ owed (with log e) + owed_by log (txn_of e)
+pub owed_closing : (log : List Entry) (e : Entry) → is_closing e.rec ≡ true → is_closed log (txn_of e) ≡ false → IsLoserChain (txn_of e) (entries_of (txn_of e) log) → owed log ≡ owed (with log e) + owed_by log (txn_of e)
 owed_closing log e closing lives chain =
     owed_is log
     ∙ sum_pointwise (owes log) (λ x. owes (with log e) x + cond (begun_by (txn_of e) x) (owed_by log (txn_of e)) 0) less log
@@ -287,12 +283,3 @@ left_is_written log t chain none =
 
 -- No block is empty.
 
-some_entries : (lsn : ℕ) (records : List LogRecord) → records ≢ [] → 1 ≤ length (entries_from lsn records)
-some_entries lsn [] h = absurd (h refl)
-some_entries lsn (rec ∷ records) h = omega arith
-
-pub blocks_have_records : (first : ℕ) (blocks : List (List LogRecord)) → AllByRecursion (λ records. records ≢ []) blocks → length blocks ≤ length (log_from first blocks)
-blocks_have_records first [] h = omega arith
-blocks_have_records first (records ∷ blocks) h =
-    let a = some_entries (512 * first + 2) records h.0 in
-    omega (arith, a, blocks_have_records (first + 1) blocks h.1, length-append (entries_from (512 * first + 2) records) (log_from (first + 1) blocks))

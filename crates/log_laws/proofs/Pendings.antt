@@ -15,7 +15,7 @@ use Rattle.log_records.specs.declared.log_record.LogRecord.TheVariants.{Clr, End
 use Rattle.log_records.specs.Log.{Entry, txn_of, is_of, is_update, is_closing, is_closed, last_where}
 use Rattle.log_records.specs.Unfinished.{is_clr, open_by, left_open, pending}
 use Rattle.log_records.specs.Sound.{IsInOrder}
-use Rattle.log_laws.specs.RoomLaws.{LeftPush}
+use Rattle.log_laws.proofs.Owing.{left_push}
 use Rattle.log_laws.proofs.OpenUpdates.{left_after_clr}
 use Rattle.std.proofs.Common.{Option}
 use Rattle.std.specs.Option.{option_or}
@@ -70,8 +70,8 @@ closed_stays : (records : List Entry) (c : Entry) (t : ℕ) → (is_of t c && is
 closed_stays records c t not_closed = grind (arith, common_steps)
 
 -- another transaction's record leaves what is left
-left_stays : LeftPush → (records : List Entry) (c : Entry) (t : ℕ) → is_of t c ≡ false → left_open (records ++ c ∷ []) t ≡ left_open records t
-left_stays push records c t other = push records c t ∙ ap (λ (b : Bool). if b then open_by (left_open records t) c c.rec else left_open records t) other
+left_stays : (records : List Entry) (c : Entry) (t : ℕ) → is_of t c ≡ false → left_open (records ++ c ∷ []) t ≡ left_open records t
+left_stays records c t other = left_push records c t ∙ ap (λ (b : Bool). if b then open_by (left_open records t) c c.rec else left_open records t) other
 
 waits_same : (records records' : List Entry) (e : Entry) → is_closed records' (txn_of e) ≡ is_closed records (txn_of e) → left_open records' (txn_of e) ≡ left_open records (txn_of e) → waits records' e ≡ waits records e
 waits_same records records' e closed left = grind arith
@@ -95,7 +95,7 @@ not_closing : (rec : LogRecord) → is_clr rec ≡ true → (is_closing rec ≡ 
 not_closing (Clr txn prev undo_next page slot after) clr = (refl, refl)
 not_closing _ clr = absurd (true≢false (sym clr))
 
-module _ (push : LeftPush) (records : List Entry) (c u : Entry) (rest : List Entry) (clr : is_clr c.rec ≡ true) (left : left_open records (txn_of c) ≡ u ∷ rest) (falls : AllByRecursion (λ v. v.lsn < u.lsn) rest) where
+module _ (records : List Entry) (c u : Entry) (rest : List Entry) (clr : is_clr c.rec ≡ true) (left : left_open records (txn_of c) ≡ u ∷ rest) (falls : AllByRecursion (λ v. v.lsn < u.lsn) rest) where
   abbrev gone : Entry → Bool
   gone e = u.lsn == e.lsn && is_of (txn_of e) c
 
@@ -107,12 +107,12 @@ module _ (push : LeftPush) (records : List Entry) (c u : Entry) (rest : List Ent
     where
       by : (b : Bool) → is_of (txn_of e) c ≡ b → waits (records ++ c ∷ []) e ≡ (waits records e && not (gone e))
       by false other =
-          waits_same records (records ++ c ∷ []) e (closed_still (txn_of e)) (left_stays push records c (txn_of e) other)
+          waits_same records (records ++ c ∷ []) e (closed_still (txn_of e)) (left_stays records c (txn_of e) other)
           ∙ sym (ap (λ (b : Bool). waits records e && not (u.lsn == e.lsn && b)) other ∙ ap (λ (b : Bool). waits records e && not b) (and-false (u.lsn == e.lsn)) ∙ and-true (waits records e))
       by true own =
           let t : txn_of c ≡ txn_of e = eqb-true (txn_of c) (txn_of e) own in
           let was : left_open records (txn_of e) ≡ u ∷ rest = sym (ap (left_open records) t) ∙ left in
-          let is : left_open (records ++ c ∷ []) (txn_of e) ≡ rest = left_after_clr push records c (txn_of e) clr t ∙ ap (drop 1) was in
+          let is : left_open (records ++ c ∷ []) (txn_of e) ≡ rest = left_after_clr records c (txn_of e) clr t ∙ ap (drop 1) was in
           let any : list_any (λ v. v.lsn == e.lsn) rest ≡ ((u.lsn == e.lsn || list_any (λ v. v.lsn == e.lsn) rest) && not (u.lsn == e.lsn && true)) =
           taken_off (list_any (λ v. v.lsn == e.lsn) rest) (u.lsn == e.lsn)
           (λ same. subst (λ (n : ℕ). list_any (λ v. v.lsn == n) rest ≡ false) (eqb-true u.lsn e.lsn same) (none_there u.lsn rest falls)) in
@@ -150,7 +150,7 @@ reversed xs ys u is = ap reverse is ∙ reverse-append ys (u ∷ [])
 
 -- An End of a transaction of which nothing is left.
 
-module _ (push : LeftPush) (records : List Entry) (lsn t : ℕ) (none : left_open records t ≡ []) where
+module _ (records : List Entry) (lsn t : ℕ) (none : left_open records t ≡ []) where
   abbrev closing : Entry
   closing = record { lsn = lsn; rec = End t }
 

@@ -1,5 +1,5 @@
 -- A log that goes on record by record.
-use Rattle.std.proofs.Common.{◌≡◌, ◌-◌, ℕ, ◌+◌, ◌*◌, ◌≤◌, List, [], ◌∷◌, ◌++◌, length, Some, None, ap, ◌∙◌, append_assoc, arith}
+use Rattle.std.proofs.Common.{◌≡◌, ℕ, ◌+◌, ◌*◌, List, [], ◌∷◌, ◌++◌, length, Some, None, ap, ◌∙◌, append_assoc, arith}
 use Rattle.std.specs.Prelude.{Option, flat_map}
 use Rattle.std.specs.List.{AllByRecursion, cons_option}
 use Rattle.std.proofs.lemmas.List.{append-nil, length-append}
@@ -11,14 +11,14 @@ use Rattle.log_records.specs.declared.log_record.LogRecord.TheVariants.{Commit}
 use Rattle.log_records.specs.Spelling.{spelling, AreBlock}
 use Rattle.log_records.specs.Log.{Entry, entries_from, log_from, table_of}
 use Rattle.log_records.specs.Sound.{LogicalImage, IsSound, IsInOrder, InTurn, IsInTable, HasRoom, AreOrderly, commit_number, commit_numbers}
-use Rattle.log_laws.specs.Follow.{Follows, IsUndoable, IsFresh, sealed, next_entries, table_after, writes_in}
+use Rattle.log_laws.specs.Follow.{Follows, IsUndoable, sealed, next_entries, table_after, writes_in}
 use Rattle.log_laws.specs.Tail.{Carries, CommitsOnceAtMost, whole, next_lsn}
 use Rattle.log_laws.proofs.Parts.{InTurn-right}
 use Rattle.log_laws.proofs.Follow.{table_behind}
 use Rattle.log_laws.proofs.Orders.{InTurn-all, InTurn-append, entries_in_order, in_order_to, in_order-append}
 use Rattle.log_laws.proofs.Seals.{undoable_behind_all, table_behind_all, sealed_is_sound, numbered_with}
 use Rattle.log_laws.proofs.Commits.{table_none}
-use Rattle.log_laws.proofs.Orderly.{orderly_behind, fresh_behind}
+use Rattle.log_laws.proofs.Orderly.{orderly_behind}
 use Rattle.log_records.proofs.Entries.{in_order_from}
 
 pub entries_append : (lsn : ℕ) (xs ys : List LogRecord) → entries_from lsn (xs ++ ys) ≡ entries_from lsn xs ++ entries_from (lsn + length (flat_map spelling xs)) ys
@@ -58,9 +58,6 @@ pub whole_stays_orderly : (p : LogicalImage) (tail : List LogRecord) → Carries
 whole_stays_orderly p tail c orderly =
     orderly_behind p (next_entries p tail) (512 * p.hi + 2 + length (flat_map spelling tail)) c.sound orderly
     (in_order_from (512 * p.hi + 2) (512 * p.hi) (next_entries p tail) (512 * p.hi + 2 + length (flat_map spelling tail)) (omega arith) (entries_in_order (512 * p.hi + 2) tail)) c.follow
-
-pub fresh_behind_all : (p : LogicalImage) (tail : List LogRecord) (lsn : ℕ) → Carries p tail → AreOrderly p.log → next_lsn p tail ≤ lsn → IsFresh lsn (whole p tail)
-fresh_behind_all p tail lsn c orderly late = fresh_behind (512 * p.master.kept) (whole p tail) (next_lsn p tail) lsn (whole_in_order p tail c) (whole_stays_orderly p tail c orderly) late
 
 pub table_more : (p : LogicalImage) (tail : List LogRecord) (e : Entry) → Carries p tail → Follows p.master p.pages (whole p tail) e →
     table_of (whole p tail ++ e ∷ []) p.pages ≡ table_after (table_of (whole p tail) p.pages) (whole p tail) e.rec

@@ -1,15 +1,7 @@
 pub mod Follow
 pub mod Tail
 pub mod NewImage
-pub mod SealLaws
-pub mod FollowLaws
-pub mod RoomLaws
-pub mod ShownLaws
-pub mod TailLaws
-pub mod ActiveLaws
 pub mod Rows
-pub mod NewImageLaws
 pub mod UndoLaws
-pub mod LoserLaws
 pub mod Analysis
 pub mod UndoSteps

@@ -1,13 +1,10 @@
 -- A new version of a page, and a new master.
-use Rattle.std.specs.Prelude.{◌≡◌, ℕ, ◌*◌, ◌+◌, ◌/◌, ◌<◌, ◌≤◌, slice_set, Some, None}
+use Rattle.std.specs.Prelude.{◌≡◌, ℕ, ◌*◌, ◌+◌, ◌/◌, ◌<◌, ◌≤◌, Some, None}
 use Rattle.std.specs.List.{AllByRecursion}
 use Rattle.record_model.specs.State.{content_at}
 use Rattle.log_records.specs.Log.{Version, version_at, last_on, number_of}
 use Rattle.log_records.specs.Unfinished.{losers}
 use Rattle.log_records.specs.Sound.{LogicalImage, FitsLog, from_block, active_in, commit_count}
-
-abbrev pub with_version : LogicalImage → ℕ → Version → LogicalImage
-with_version p page v = record p { pages = slice_set p.pages page v }
 
 -- a version fits the log, and is as the one before in each slot that no record stands on
 pub record Replaces (p : LogicalImage) (page : ℕ) (v : Version) : Type 0 where

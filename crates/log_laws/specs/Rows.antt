@@ -4,7 +4,7 @@ use Rattle.log_records.specs.declared.log_record.LogRecord.{LogRecord}
 use Rattle.log_records.specs.declared.log_record.LogRecord.TheVariants.{Begin, Update, Clr, Commit}
 use Rattle.log_records.specs.Log.{Entry, log_from, is_loser, entries_of, table_of}
 use Rattle.log_records.specs.Unfinished.{pending, losers, left_open, owed}
-use Rattle.log_records.specs.Sets.{blank_versions}
+use Rattle.log_records.specs.Log.{blank_versions}
 use Rattle.log_records.specs.Sound.{Master, IsLoserChain, IsOfOpenTransaction, InTurn, AreOrderly, active_in}
 use Rattle.log_records.specs.Sound.{before_block, from_block, commit_numbers, last_known}
 use Rattle.record_model.specs.Touches.{touch, flush}

@@ -1,10 +1,10 @@
 -- Where undoing a transaction goes on.
-use Rattle.std.specs.Prelude.{◌≡◌, ℕ, ◌<◌, ◌≤◌, ◌==◌, true, List, [], ◌∷◌, ◌++◌, find, Some}
+use Rattle.std.specs.Prelude.{◌≡◌, ℕ, ◌<◌, ◌≤◌, ◌==◌, true, List, [], ◌∷◌, find, Some}
 use Rattle.log_records.specs.declared.log_record.LogRecord.{LogRecord}
 use Rattle.log_records.specs.declared.log_record.LogRecord.TheVariants.{Update, Clr}
 use Rattle.log_records.specs.Log.{Entry, txn_of, is_update, entries_of}
-use Rattle.log_records.specs.Unfinished.{left_open, prev_of}
-use Rattle.log_records.specs.Sound.{IsInOrder, IsLoserChain, last_lsn}
+use Rattle.log_records.specs.Unfinished.{prev_of}
+use Rattle.log_records.specs.Sound.{last_lsn}
 
 -- the LSN of the first of these, and of the Begin where there is none
 abbrev pub top_lsn : ℕ → List Entry → ℕ
@@ -36,18 +36,3 @@ pub record IsNext (log : List Entry) (t : ℕ) (u : Entry) (rest : List Entry) :
   pub update : is_update u.rec ≡ true
   pub own : txn_of u ≡ t
 
-abbrev pub NextToUndo : Type 0
-NextToUndo =
-    (from to : ℕ) (log : List Entry) (t : ℕ) (u : Entry) (rest : List Entry) → IsInOrder from log to
-    → IsLoserChain t (entries_of t log) →
-    left_open log t ≡ u ∷ rest → IsNext log t u rest
-
--- where nothing is left it has come to the Begin
-abbrev pub NextOfUndone : Type 0
-NextOfUndone = (from to : ℕ) (log : List Entry) (t : ℕ) → IsInOrder from log to → IsLoserChain t (entries_of t log)
-    → left_open log t ≡ [] → next_of log t ≡ t
-
--- a record in the log is found by its LSN
-abbrev pub FoundByLsn : Type 0
-FoundByLsn = (from to : ℕ) (earlier : List Entry) (e : Entry) (rest : List Entry)
-    → IsInOrder from (earlier ++ e ∷ rest) to → find (λ x. x.lsn == e.lsn) (earlier ++ e ∷ rest) ≡ Some e

@@ -1,15 +1,10 @@
 -- Entries of a log: how many, their order, their kinds.
-use Rattle.std.proofs.Common.{◌≡◌, suc, ℕ, ◌+◌, ◌≤◌, true, false, List, [], ◌∷◌, ◌++◌, length, refl, ap, arith}
+use Rattle.std.proofs.Common.{◌≡◌, ℕ, ◌+◌, ◌≤◌, true, false, List, [], ◌∷◌, ◌++◌, refl, arith}
 use Rattle.log_records.specs.declared.log_record.LogRecord.{LogRecord}
 use Rattle.log_records.specs.declared.log_record.LogRecord.TheVariants.{Begin}
-use Rattle.log_records.specs.Log.{Entry, entries_from, is_closing}
-use Rattle.log_records.specs.Spelling.{spelling}
+use Rattle.log_records.specs.Log.{Entry, is_closing}
 use Rattle.log_records.specs.Unfinished.{is_begin}
 use Rattle.log_records.specs.Sound.{IsInOrder}
-
-pub length_entries : (lsn : ℕ) (records : List LogRecord) → length (entries_from lsn records) ≡ length records
-length_entries lsn [] = refl
-length_entries lsn (rec ∷ records) = ap suc (length_entries (lsn + length (spelling rec)) records)
 
 -- In order from an earlier number too; and the part in front of one.
 

@@ -3,18 +3,11 @@ use Rattle.std.specs.Prelude.{◌≡◌, true, false, List, [], ◌∷◌, map, 
 use Rattle.log_records.specs.declared.log_record.LogRecord.{LogRecord}
 use Rattle.log_records.specs.declared.log_record.LogRecord.TheVariants.{Begin, Update, Clr, Commit, End}
 use Rattle.log_records.specs.Spelling.{spelling, block, used_by}
-use Rattle.log_records.specs.Log.{Entry, Version, is_loser, log_from, value_of, table_of}
-use Rattle.log_records.specs.Sets.{Change, records_of, blank_versions}
+use Rattle.log_records.specs.Log.{Entry, Version, blank_versions, is_loser, log_from, value_of, table_of}
 
 -- record 5 of the table, which has no value, is set to 0a0b by the first transaction of a log
-abbrev first_change : Change
-first_change = record { number = 5; before = None; after = Some (0x0a ∷ 0x0b ∷ []) }
-
 abbrev first_set : List LogRecord
 first_set = Begin ∷ Update 2 2 0 5 None (Some (0x0a ∷ 0x0b ∷ [])) ∷ Commit 2 1 ∷ []
-
-pub example_records : records_of 0 first_change ≡ first_set
-example_records = refl
 
 pub example_used : used_by first_set ≡ 46
 unfolding spelling

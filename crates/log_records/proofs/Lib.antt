@@ -6,6 +6,5 @@ pub mod Places
 pub mod Blocks
 pub mod Lists
 pub mod Values
-pub mod SetBlocks
 pub mod Entries
 pub mod ChangeCounts

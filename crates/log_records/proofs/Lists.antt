@@ -1,5 +1,5 @@
 -- The last item that passes a test.
-use Rattle.std.proofs.Common.{◌≡◌, ⊎_elim, Bool, cond, List, [], ◌∷◌, ◌++◌, Some, None, sym, arith}
+use Rattle.std.proofs.Common.{◌≡◌, Bool, cond, List, [], ◌∷◌, ◌++◌, Some, None, sym, arith}
 use Rattle.std.specs.Prelude.{Option}
 use Rattle.std.specs.List.{AllByRecursion}
 use Rattle.std.specs.Option.{option_or}

@@ -4,6 +4,5 @@ pub mod Reading
 pub mod Log
 pub mod Unfinished
 pub mod Sound
-pub mod Sets
 pub mod Laws
 pub mod Restart

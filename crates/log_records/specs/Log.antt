@@ -1,6 +1,6 @@
 -- What the records of a log say of transactions and of the table.
 use Rattle.std.specs.Prelude.{ℕ, ◌+◌, ◌*◌, ◌/◌, ◌%◌, ◌==◌, Bool, true, false, not, ◌&&◌, List, [], ◌∷◌, ◌++◌, length}
-use Rattle.std.specs.Prelude.{map, filter, find, slice_index_or, Option, Some, None, if◌then◌else◌}
+use Rattle.std.specs.Prelude.{map, filter, find, replicate, slice_index_or, Option, Some, None, if◌then◌else◌}
 use Rattle.std.specs.List.{list_any, range_with_len}
 use Rattle.std.specs.Option.{option_or}
 use Rattle.record_model.specs.State.{Content, content_at}
@@ -113,6 +113,9 @@ pub record Version : Type 0 where
 -- the version of a page that was never written
 abbrev pub blank_version : Version
 blank_version = record { lsn = 0; slots = [] }
+
+abbrev pub blank_versions : ℕ → List Version
+blank_versions pages = replicate pages blank_version
 
 abbrev pub version_at : List Version → ℕ → Version
 version_at versions page = slice_index_or versions page blank_version

@@ -1,5 +1,5 @@
 // Laws of the format and of logs, for the proofs of code above. They do nothing when called.
-ghost use Rattle.log_records.specs.Laws.{OneForm, WrittenIsSpelled, OneSpelled, OneChange, SetIsBlock, SetLsns};
+ghost use Rattle.log_records.specs.Laws.{OneForm, WrittenIsSpelled, OneSpelled};
 
 /// No record's spelling begins another one's, whatever follows it.
 pub fn one_form()
@@ -10,19 +10,4 @@ pub fn one_form()
 pub fn read_again()
     ensures spelled { WrittenIsSpelled }
     ensures only { OneSpelled }
-{}
-
-/// The content of a block that sets one record tells what it sets.
-pub fn one_change()
-    ensures { OneChange }
-{}
-
-/// The records that set one record of the table make a block.
-pub fn set_is_block()
-    ensures { SetIsBlock }
-{}
-
-/// Where the records of a block that sets one record stand.
-pub fn set_lsns()
-    ensures { SetLsns }
 {}

@@ -11,7 +11,7 @@ mod log_record;
 mod reading;
 
 pub use codec::{BadRecord, length, write_record};
-pub use laws::{one_change, one_form, read_again, set_is_block, set_lsns};
+pub use laws::{one_form, read_again};
 pub use log_record::LogRecord;
 pub use reading::{check_block, read_record};
 

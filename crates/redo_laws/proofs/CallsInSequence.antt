@@ -1,4 +1,7 @@
 -- Calls one behind the other, and a site of which only was read.
+use Rattle.page_store.specs.Leaves.{AreReady}
+use Rattle.log_records.specs.Sound.{Means}
+use Rattle.log_records.specs.declared.log_record.LogRecord.{LogRecord}
 use Rattle.page_store.proofs.Beside.{fits_beside}
 use Rattle.image_meaning.proofs.UnchangedImages.{next_block_is}
 use Rattle.log_laws.proofs.Tails.{carries_nothing}
@@ -27,13 +30,11 @@ use Rattle.checkpoint.specs.declared.master.Master.{Master}
 use Rattle.image_meaning.specs.Meaning.{logical_image_under, StandsUnder, kept_by, IsSoundUnder}
 use Rattle.image_meaning.specs.Moments.{LeavesTableUnder}
 use Rattle.image_meaning.specs.Beside.{AreRingsSoundUnder}
-use Rattle.redo_laws.specs.HoldingLaws.{OpenedHolds}
 use Rattle.redo_laws.specs.Running.{RunsOn}
 use Rattle.redo_laws.specs.Holding.{Invariant, Represents, RepresentsIn, ShowRecords}
 
 -- The ring of blocks is found on a site on which log and pages hold together.
-pub found_now : {g : Geometry} {log : LogStore} {pages : PageStore} {site : State} {newest : Option Master} {records : List Entry}
-    {table : List Content} {commits : ℕ} → RepresentsIn g log pages site newest records table commits → Finds log site
+pub found_now : {g : Geometry} {log : LogStore} {pages : PageStore} {site : State} {newest : Option Master} {records : List Entry} {table : List Content} {commits : ℕ} → RepresentsIn g log pages site newest records table commits → Finds log site
 found_now h = let ready = h.log_holds.ready.blocks in record { honest = ready.honest; form = ready.form; hi = ready.hi }
 
 -- A queue on flash has room for a group.
@@ -41,8 +42,7 @@ pub some_group : {log : LogStore} {pages : PageStore} {site : State} → Invaria
 some_group going = let least = going.pages_going.flash.limits.groups in omega (arith, least)
 
 -- one call behind others
-pub and_then : (newest : Option Master) (g g' : Geometry) (old mid new : State) (table : List Content) (commits : ℕ) → g' ≡ g → LeavesOnly old mid (LeavesTableUnder newest g table commits old.told) → LeavesOnly mid new (LeavesTableUnder newest g' table commits mid.told) →
-    LeavesOnly old new (LeavesTableUnder newest g table commits old.told)
+pub and_then : (newest : Option Master) (g g' : Geometry) (old mid new : State) (table : List Content) (commits : ℕ) → g' ≡ g → LeavesOnly old mid (LeavesTableUnder newest g table commits old.told) → LeavesOnly mid new (LeavesTableUnder newest g' table commits mid.told) → LeavesOnly old new (LeavesTableUnder newest g table commits old.told)
 and_then newest g g' old mid new table commits same first second =
     let told : mid.told ≡ old.told = (holds_now old mid (LeavesTableUnder newest g table commits old.told) first).told in
     in_sequence old mid new (Leaves (LeavesTableUnder newest g table commits old.told)) first
@@ -104,8 +104,7 @@ going_still log pages old new goes may = record {
 }
 
 -- what stands there is sound
-pub sound_there : (log : LogStore) (pages : PageStore) (site : State) (newest : Option Master) (records : List Entry) (table : List Content) (commits : ℕ) → log.geometry ≡ pages.flash.geometry → (h : Represents log pages site newest records table commits) →
-    IsSoundUnder newest pages.flash.geometry site.image h.log_holds.blocks
+pub sound_there : (log : LogStore) (pages : PageStore) (site : State) (newest : Option Master) (records : List Entry) (table : List Content) (commits : ℕ) → log.geometry ≡ pages.flash.geometry → (h : Represents log pages site newest records table commits) → IsSoundUnder newest pages.flash.geometry site.image h.log_holds.blocks
 sound_there log pages site newest records table commits sizes h =
     let rings = h.log_holds.rings in
     record {
@@ -127,20 +126,18 @@ pub stands_there : (log : LogStore) (pages : PageStore) (site : State) (newest :
 stands_there log pages site newest records table commits sizes h =
     record { blocks = h.log_holds.blocks; sound = sound_there log pages site newest records table commits sizes h; means = h.log_holds.runs_on.means }
 
-pub nothing_happens : (log : LogStore) (pages : PageStore) (site : State) (newest : Option Master) (records : List Entry) (table : List Content) (commits : ℕ) → log.geometry ≡ pages.flash.geometry → Represents log pages site newest records table commits → IsQuiet site →
-    LeavesOnly site site (LeavesTableUnder newest pages.flash.geometry table commits site.told)
+pub nothing_happens : (log : LogStore) (pages : PageStore) (site : State) (newest : Option Master) (records : List Entry) (table : List Content) (commits : ℕ) → log.geometry ≡ pages.flash.geometry → Represents log pages site newest records table commits → IsQuiet site → LeavesOnly site site (LeavesTableUnder newest pages.flash.geometry table commits site.told)
 nothing_happens log pages site newest records table commits sizes h quiet =
     no_call site (Leaves (LeavesTableUnder newest pages.flash.geometry table commits site.told))
     (λ snapshot left. subst (LeavesTableUnder newest pages.flash.geometry table commits site.told) (sym (quiet_leaves site snapshot quiet left)) (record { told = refl; stands = stands_there log pages site newest records table commits sizes h }))
 
 -- a crash while only was read leaves it
-pub leaves_still : (log : LogStore) (pages : PageStore) (old new : State) (newest : Option Master) (records : List Entry) (table : List Content) (commits : ℕ) → log.geometry ≡ pages.flash.geometry → IsUnchanged old new → Represents log pages old newest records table commits → IsQuiet old →
-    LeavesOnly old new (LeavesTableUnder newest pages.flash.geometry table commits old.told)
+pub leaves_still : (log : LogStore) (pages : PageStore) (old new : State) (newest : Option Master) (records : List Entry) (table : List Content) (commits : ℕ) → log.geometry ≡ pages.flash.geometry → IsUnchanged old new → Represents log pages old newest records table commits → IsQuiet old → LeavesOnly old new (LeavesTableUnder newest pages.flash.geometry table commits old.told)
 leaves_still log pages old new newest records table commits sizes same h quiet =
     unchanged_calm old old new (Leaves (LeavesTableUnder newest pages.flash.geometry table commits old.told)) (nothing_happens log pages old newest records table commits sizes h quiet) same
 
 -- where the tail is empty all records are sealed ones
-pub opened_holds : OpenedHolds
+pub opened_holds : (log : LogStore) (pages : PageStore) (site : State) (newest : Option Master) (blocks : List (List LogRecord)) (table : List Content) (commits : ℕ) → log.geometry ≡ pages.flash.geometry → log.kept ≡ kept_by newest → AreReady pages log (record { first = kept_by newest; blocks = blocks; tail = [] }) site → IsSoundUnder newest pages.flash.geometry site.image blocks → Means (logical_image_under newest pages.flash.geometry site.image blocks) table commits → ShowRecords pages.flash.geometry pages site.image (log_from (kept_by newest) blocks) → IsAhead log pages site.image → ((page : ℕ) → page < pages.flash.geometry.pages → lsn_of (current pages site.image page) < end_of log) → Represents log pages site newest (log_from (kept_by newest) blocks) table commits
 opened_holds log pages site newest blocks table commits sizes kept ready sound means shows are_ahead below =
     let p = logical_image_under newest pages.flash.geometry site.image blocks in
     let empty : log.used ≡ 2 = ready.records.tail.end in

@@ -1,6 +1,5 @@
 -- What a page shows behind one more record.
 use Rattle.page_store.proofs.Fitting.{front_exists}
-use Rattle.redo_laws.specs.HoldingLaws.{FrontShows}
 use Rattle.log_laws.proofs.Shown.{shown_push}
 use Rattle.std.proofs.Common.{◌≡◌, ◌≢◌, ◌⊎◌, inl, inr, ℕ, ◌+◌, ◌*◌, ◌/◌, ◌≤◌, ◌<◌, ◌==◌, cond, false, List, [], ◌∷◌, ◌++◌, length, Option, None, Some, refl, sym, ap, subst, ◌∙◌, arith}
 use Rattle.std.proofs.lemmas.Bool.{cases_eq, ne_eqb, eq-eqb}
@@ -13,14 +12,14 @@ use Rattle.slotted_page.specs.Layout.{lsn_of, slots_of}
 use Rattle.log_store.specs.declared.store.LogStore.{LogStore}
 use Rattle.log_store.specs.Representation.{end_of}
 use Rattle.page_store.specs.declared.store.PageStore.{PageStore}
-use Rattle.page_store.specs.Representation.{current, content_by, Matches}
+use Rattle.page_store.specs.Representation.{current, content_by, Matches, IsStore}
 use Rattle.page_store.specs.Ahead.{IsAhead}
 use Rattle.flash_cache.specs.Representation.{version_on}
 use Rattle.buffer_pool.specs.declared.frame.Frame.{Frame}
 use Rattle.buffer_pool.specs.Frames.{frame_of, front_of}
 use Rattle.checkpoint.specs.declared.master.Master.{Master}
 use Rattle.image_meaning.specs.Meaning.{versions_on, version_in}
-use Rattle.redo_laws.specs.Holding.{RepresentsLog, RepresentsIn, KeepsPages}
+use Rattle.redo_laws.specs.Holding.{RepresentsLog, RepresentsIn, KeepsPages, Represents}
 use Rattle.log_records.specs.Log.{Entry, Version, number_of, after_of, is_on, is_number}
 use Rattle.log_laws.specs.Follow.{shown}
 use Rattle.image_meaning.specs.Redone.{Redoes, AreKnown, ShowsAll}
@@ -117,8 +116,7 @@ module _ (g : Geometry) (log log' : LogStore) (pages : PageStore) (site new : St
           subst (λ (c : List ℕ). lsn_of c < end_of log') (sym (others page other ∙ keeps.current page)) (omega (arith, h.below page exists, behind, below))
 
 -- other pages beside the same log
-pub other_pages : (g : Geometry) (log : LogStore) (pages pages' : PageStore) (site : State) (newest : Option Master) (records : List Entry) (table : List Content) (commits : ℕ) → Matches pages' site → IsAhead log pages' site.image →
-    RepresentsLog g log pages site newest records table commits → RepresentsLog g log pages' site newest records table commits
+pub other_pages : (g : Geometry) (log : LogStore) (pages pages' : PageStore) (site : State) (newest : Option Master) (records : List Entry) (table : List Content) (commits : ℕ) → Matches pages' site → IsAhead log pages' site.image → RepresentsLog g log pages site newest records table commits → RepresentsLog g log pages' site newest records table commits
 other_pages g log pages pages' site newest records table commits fits are_ahead h = record {
   kept = h.kept;
   blocks = h.blocks;
@@ -138,7 +136,7 @@ front_is_current pages image some = ap (λ o. content_by o (version_on pages.fla
     found (frame ∷ frames) some = ap (λ b. cond b (Some frame) (frame_of frames frame.page)) (eq-eqb frame.page frame.page refl)
 
 -- a slot of the page in front has what the last record there has written
-pub front_shows : FrontShows
+pub front_shows : (log : LogStore) (pages : PageStore) (site : State) (newest : Option Master) (records : List Entry) (table : List Content) (commits slot : ℕ) → IsStore pages → 0 < length pages.pool.frames → slot < 32 → Represents log pages site newest records table commits → content_at (slots_of (front_of pages.pool.frames).content) slot ≡ shown records (versions_on pages.flash.geometry site.image) (32 * (front_of pages.pool.frames).page + slot)
 front_shows log pages site newest records table commits slot own some less h =
     let front = (front_of pages.pool.frames).page in
     ap (λ (o : List ℕ). content_at (slots_of o) slot) (sym (front_is_current pages site.image some))

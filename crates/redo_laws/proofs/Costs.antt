@@ -1,4 +1,5 @@
 -- What work costs the cache: the groups that it appends, and the pages that it reads.
+use Rattle.site.specs.State.{State}
 use Rattle.std.proofs.Common.{◌≡◌, ◌==◌, ℕ, ◌+◌, ◌≤◌, Bool, true, false, ◌&&◌, List, [], ◌∷◌, ◌++◌, reverse, arith, refl, sym, append_assoc, ap, ◌∙◌}
 use Rattle.std.specs.Prelude.{if◌then◌else◌}
 use Rattle.second_chance.proofs.GroupCounts.{front_next}
@@ -6,13 +7,14 @@ use Rattle.record_model.specs.Touches.{CacheOp, touch, flush}
 use Rattle.std_lemmas.proofs.Bools.{or_true}
 use Rattle.page_store.specs.Laws.{TouchThenChange}
 use Rattle.second_chance.specs.Machine.{Rules, Cache, is_changed, without, evict_coldest, lacks_room, with_room, touched, apply_op, after_works, Staged, staged_by, staged_by_works}
-use Rattle.page_store.specs.Caching.{is_pushed, pushes}
-use Rattle.redo_laws.specs.MachineSteps.{next_group, finds_in, misses_in, OpsCompose, ReadsAddUp, ReadsForMore, NumbersRise}
+use Rattle.page_store.specs.Caching.{is_pushed, pushes, rules}
+use Rattle.redo_laws.specs.MachineSteps.{next_group, finds_in, misses_in, NumbersRise, ReadsFor}
 use Rattle.page_store.proofs.Numbers.{first_next, flushed_next}
 
 -- Work after work.
 
-pub ops_compose : OpsCompose
+-- work after work
+pub ops_compose : (rules : Rules) (first later : List CacheOp) (cache : Cache) → after_works rules (first ++ later) cache ≡ after_works rules later (after_works rules first cache)
 ops_compose rules [] later cache = refl
 ops_compose rules (work ∷ works) later cache = ops_compose rules works later (apply_op rules work cache)
 
@@ -30,7 +32,9 @@ misses_add_up : (rules : Rules) (first later : List CacheOp) (cache : Cache) →
 misses_add_up rules [] later cache = omega arith
 misses_add_up rules (work ∷ works) later cache = omega (arith, misses_add_up rules works later (apply_op rules work cache))
 
-pub reads_add_up : ReadsAddUp
+-- Law: work adds up, and so do the pages that it reads; the numbers of the groups that it appends never fall. So what
+-- was read for some work was read for it with more behind it.
+pub reads_add_up : (rules : Rules) (first later : List CacheOp) (cache : Cache) (old mid new : State) → ReadsFor rules first cache old mid → ReadsFor rules later (after_works rules first cache) mid new → ReadsFor rules (first ++ later) cache old new
 reads_add_up rules first later cache old mid new one two =
     let all : next_group (after_works rules (first ++ later) cache) ≡ next_group (after_works rules later (after_works rules first cache)) = ap next_group (ops_compose rules first later cache) in
     record {
@@ -46,8 +50,7 @@ touch_then_change rules page cache =
 
 -- The numbers of groups.
 
-room_next : (rules : Rules) (page : ℕ) (cache : Cache) → 1 ≤ rules.groups →
-    next_group (with_room rules page cache) ≡ next_group cache + (if pushes rules page cache then 1 else 0)
+room_next : (rules : Rules) (page : ℕ) (cache : Cache) → 1 ≤ rules.groups → next_group (with_room rules page cache) ≡ next_group cache + (if pushes rules page cache then 1 else 0)
 room_next rules page cache some = by (lacks_room rules page cache)
   where
     by : (b : Bool) → next_group (if b then evict_coldest rules cache else cache) ≡ next_group cache + (if b && is_pushed cache then 1 else 0)
@@ -55,8 +58,7 @@ room_next rules page cache some = by (lacks_room rules page cache)
     by false = omega arith
 
 -- a touch appends a group where it pushes
-pub touched_next : (rules : Rules) (page : ℕ) (change : Bool) (cache : Cache) → 1 ≤ rules.groups →
-    next_group (touched rules page change cache) ≡ next_group cache + (if pushes rules page cache then 1 else 0)
+pub touched_next : (rules : Rules) (page : ℕ) (change : Bool) (cache : Cache) → 1 ≤ rules.groups → next_group (touched rules page change cache) ≡ next_group cache + (if pushes rules page cache then 1 else 0)
 touched_next rules page change cache some = front_next page change (with_room rules page cache) ∙ room_next rules page cache some
 
 work_next : (rules : Rules) (work : CacheOp) (cache : Cache) → 1 ≤ rules.groups → next_group cache ≤ next_group (apply_op rules work cache)
@@ -67,13 +69,13 @@ pub numbers_rise : NumbersRise
 numbers_rise rules [] cache some = omega arith
 numbers_rise rules (work ∷ works) cache some = omega (arith, work_next rules work cache some, numbers_rise rules works (apply_op rules work cache) some)
 
-pub more_next : (rules : Rules) (first later : List CacheOp) (cache : Cache) → 1 ≤ rules.groups →
-    next_group (after_works rules first cache) ≤ next_group (after_works rules (first ++ later) cache)
+pub more_next : (rules : Rules) (first later : List CacheOp) (cache : Cache) → 1 ≤ rules.groups → next_group (after_works rules first cache) ≤ next_group (after_works rules (first ++ later) cache)
 more_next rules first later cache some =
     let all : next_group (after_works rules (first ++ later) cache) ≡ next_group (after_works rules later (after_works rules first cache)) = ap next_group (ops_compose rules first later cache) in
     omega (arith, all, numbers_rise rules later (after_works rules first cache) some)
 
-pub reads_for_more : ReadsForMore
+-- what was read for the first of some work was read for all of it
+pub reads_for_more : (rules : Rules) (first later : List CacheOp) (cache : Cache) (old new : State) → 1 ≤ rules.groups → ReadsFor rules first cache old new → ReadsFor rules (first ++ later) cache old new
 reads_for_more rules first later cache old new some reads = record {
   flash = omega (arith, reads.flash, more_next rules first later cache some, finds_add_up rules first later cache);
   disk = omega (arith, reads.disk, misses_add_up rules first later cache);

@@ -1,13 +1,16 @@
 -- Active transactions in the records that a checkpoint keeps.
+use Rattle.redo_laws.specs.Checkpointing.{AreUnfinished, KeepUnfinished}
+use Rattle.image_meaning.specs.Meaning.{master_of}
+use Rattle.checkpoint.specs.declared.master.Master.{Master}
+use Rattle.record_model.specs.State.{Write}
 use Rattle.std.proofs.Common.{◌≡◌, ℕ, ◌==◌, ◌||◌, ◌&&◌, not, Bool, true, false, true≢false, List, [], ◌∷◌, map, refl, sym, ap, subst, ◌∙◌}
-use Rattle.std.specs.Prelude.{filter_map}
+use Rattle.std.specs.Prelude.{filter_map, Option, Some}
 use Rattle.std.specs.List.{list_any}
-use Rattle.log_records.specs.Log.{is_of, is_closed}
+use Rattle.log_records.specs.Log.{is_of, is_closed, Entry, is_loser}
 use Rattle.log_records.specs.Unfinished.{clrs_in, is_begin}
 use Rattle.log_records.specs.Sound.{Active, IsLoserChain, from_block, last_lsn}
-use Rattle.log_laws.specs.Follow.{write_of}
+use Rattle.log_laws.specs.Follow.{write_of, IsActive}
 use Rattle.checkpoint.specs.declared.pairs.Pair.{Pair}
-use Rattle.redo_laws.specs.SessionLaws.{ActiveOutlives}
 
 named_any : (pairs : List Pair) (t : ℕ) → list_any (λ (a : Active). a.begin == t) (map (λ pair. record { begin = pair.begin; last = pair.last }) pairs) ≡ list_any (λ pair. pair.begin == t) pairs
 named_any [] t = refl
@@ -18,7 +21,8 @@ not_closed_of true true is = absurd (true≢false (sym is))
 not_closed_of true false is = refl
 not_closed_of false closed is = absurd (true≢false (sym is))
 
-pub active_outlives : ActiveOutlives
+-- An active transaction stays one in the records that a checkpoint keeps, under the master that names it.
+pub active_outlives : (newest : Option Master) (m : Master) (records kept : List Entry) (t last : ℕ) (writes : List Write) → KeepUnfinished records kept → AreUnfinished records m.active → is_loser records t ≡ true → IsActive (master_of newest) records t last writes → IsActive (master_of (Some m)) kept t last writes
 active_outlives newest m records kept t last writes keeps are loser active =
     let same = keeps.entries t loser in
     record {

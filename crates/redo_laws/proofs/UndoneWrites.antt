@@ -1,6 +1,9 @@
 -- What undoing an active transaction asks of the page cache: the pages of its writes.
+use Rattle.redo_laws.specs.MachineSteps.{undo_one_works}
+use Rattle.image_meaning.specs.Meaning.{master_of}
+use Rattle.checkpoint.specs.declared.master.Master.{Master}
 use Rattle.std.proofs.Common.{◌≡◌, ◌+◌, ◌*◌, List, [], ◌∷◌, ◌++◌, length, arith, refl, sym, ap, ◌∙◌, append_assoc, append-nil}
-use Rattle.std.specs.Prelude.{if◌then◌else◌, map, filter_map, reverse, option_map}
+use Rattle.std.specs.Prelude.{if◌then◌else◌, map, filter_map, reverse, option_map, ℕ, Option}
 use Rattle.std.specs.List.{cons_option}
 use Rattle.std.proofs.lemmas.List.{reverse-append, map-append}
 use Rattle.record_model.specs.State.{Write}
@@ -10,8 +13,7 @@ use Rattle.log_records.specs.declared.log_record.LogRecord.TheVariants.{Begin, U
 use Rattle.log_records.specs.Log.{Entry, entries_of, number_of}
 use Rattle.log_records.specs.Unfinished.{is_clr, clrs_in, open_by, open_updates}
 use Rattle.log_records.specs.Restart.{undo_touch}
-use Rattle.log_laws.specs.Follow.{write_of}
-use Rattle.redo_laws.specs.MachineSteps.{ActiveIsUndoneBy}
+use Rattle.log_laws.specs.Follow.{write_of, IsActive}
 
 abbrev touches_of : List Write → List CacheOp
 touches_of writes = map (λ write. write_touch write.0) writes
@@ -43,7 +45,8 @@ writes_undone (e ∷ entries) updates none = by e.rec refl none (writes_undone e
     by (Commit txn number) is none later = later updates none
     by (End txn) is none later = later updates none
 
-pub active_is_undone_by : ActiveIsUndoneBy
+-- undoing an active transaction touches the pages of its writes, the last one first
+pub active_is_undone_by : (newest : Option Master) (records : List Entry) (txn last : ℕ) (writes : List Write) → IsActive (master_of newest) records txn last writes → undo_one_works records txn ≡ map (λ write. write_touch write.0) (reverse writes)
 active_is_undone_by newest records txn last writes active =
     writes_undone (entries_of txn records) [] active.no_clrs ∙ append-nil (touches_of (reverse (writes_of (entries_of txn records))))
     ∙ ap (λ (w : List Write). touches_of (reverse w)) (sym active.writes_are)

@@ -1,4 +1,4 @@
--- What a checkpoint rests on, and the laws of the layers below on it.
+-- What a checkpoint rests on.
 use Rattle.std.specs.Prelude.{◌≡◌, ◌⊎◌, ◌==◌, ℕ, true, List, [], map, Some}
 use Rattle.std.specs.List.{list_any, AllByRecursion}
 use Rattle.site.specs.State.{State}
@@ -13,12 +13,6 @@ use Rattle.log_store.specs.declared.store.LogStore.{LogStore}
 use Rattle.page_store.specs.declared.store.PageStore.{PageStore}
 use Rattle.redo_laws.specs.Holding.{Represents}
 use Rattle.checkpoint.specs.declared.pairs.Pair.{Pair}
-use Rattle.checkpoint.specs.Laws.{UnitIsRead}
-use Rattle.image_meaning.specs.Beside.{RingsSaved}
-use Rattle.image_meaning.specs.Flushed.{MasterIsSaved}
-use Rattle.image_meaning.specs.Checkpoints.{CheckpointMaySave, SavedLogicalImage, SavedIsSound, SavedMeans}
-use Rattle.image_meaning.specs.Checkpoints.{SavedIsOrderly}
-use Rattle.image_meaning.specs.Checkpoints.{SaveStands}
 
 -- These are the unfinished transactions of some records, each with the LSN of its last one.
 pub record AreUnfinished (records : List Entry) (active : List Pair) : Type 0 where
@@ -51,15 +45,3 @@ pub record IsSaved (log : LogStore) (pages : PageStore) (masters : Ring) (site :
 -- the LSNs of their Begins
 abbrev pub begins_of : List Pair → List ℕ
 begins_of active = map (λ pair. pair.begin) active
-
--- on masters that are saved
-pub record SaveLaws : Type 0 where
-  pub saved : MasterIsSaved
-  pub may : CheckpointMaySave
-  pub rings : RingsSaved
-  pub logical_image : SavedLogicalImage
-  pub sound : SavedIsSound
-  pub means : SavedMeans
-  pub orderly : SavedIsOrderly
-  pub read : UnitIsRead
-  pub stands : SaveStands

@@ -3,9 +3,7 @@ pub mod Running
 pub mod Holding
 pub mod Numbers
 pub mod UndoingAll
-pub mod HoldingLaws
 pub mod Committing
-pub mod SessionLaws
 pub mod MachineSteps
 pub mod UndoWorks
 pub mod Checkpointing

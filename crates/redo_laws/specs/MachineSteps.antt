@@ -89,31 +89,8 @@ pub record StepsMachine {T : Type 0} (result : Result T Stop) (works : List Cach
 
 -- Laws. A queue on flash has room for a group.
 
--- work after work
-abbrev pub OpsCompose : Type 0
-OpsCompose = (rules : Rules) (first later : List CacheOp) (cache : Cache)
-    → after_works rules (first ++ later) cache ≡ after_works rules later (after_works rules first cache)
-
-abbrev pub ReadsAddUp : Type 0
-ReadsAddUp =
-    (rules : Rules) (first later : List CacheOp) (cache : Cache) (old mid new : State) →
-    ReadsFor rules first cache old mid → ReadsFor rules later (after_works rules first cache) mid new
-    → ReadsFor rules (first ++ later) cache old new
-
--- what was read for the first of some work was read for all of it
-abbrev pub ReadsForMore : Type 0
-ReadsForMore =
-    (rules : Rules) (first later : List CacheOp) (cache : Cache) (old new : State) → 1 ≤ rules.groups →
-    ReadsFor rules first cache old new → ReadsFor rules (first ++ later) cache old new
-
 -- no work takes a group's number back
 abbrev pub NumbersRise : Type 0
 NumbersRise = (rules : Rules) (works : List CacheOp) (cache : Cache) → 1 ≤ rules.groups
     → next_group cache ≤ next_group (after_works rules works cache)
 
--- undoing an active transaction touches the pages of its writes, the last one first
-abbrev pub ActiveIsUndoneBy : Type 0
-ActiveIsUndoneBy =
-    (newest : Option Master) (records : List Entry) (txn last : ℕ) (writes : List Write)
-    → IsActive (master_of newest) records txn last writes →
-    undo_one_works records txn ≡ map (λ write. write_touch write.0) (reverse writes)

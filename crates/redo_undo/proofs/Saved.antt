@@ -60,9 +60,14 @@ use Rattle.image_meaning.specs.Changes.{MaySave}
 use Rattle.image_meaning.specs.Flushed.{IsFlushed, IsMasterOf, first_block, oldest_needed}
 use Rattle.image_meaning.specs.Redone.{AreKnown, ShowsAll}
 use Rattle.redo_laws.specs.Holding.{Represents, blocks_to}
-use Rattle.redo_laws.specs.Checkpointing.{AreUnfinished, MayBeMade, begins_of, SaveLaws, KeepUnfinished, IsSaved}
+use Rattle.redo_laws.specs.Checkpointing.{AreUnfinished, MayBeMade, begins_of, KeepUnfinished, IsSaved}
 use Rattle.redo_laws.proofs.CallsInSequence.{sound_there, nothing_happens}
 use Rattle.redo_laws.proofs.Touched.{hi_is}
+use Rattle.image_meaning.proofs.Naming.{master_is_saved}
+use Rattle.image_meaning.proofs.Beside.{rings_saved}
+use Rattle.image_meaning.proofs.Saves.{checkpoint_may_save, logical_image_saved, sound_saved, means_saved, orderly_saved}
+use Rattle.image_meaning.proofs.CheckpointMoments.{save_stands}
+use Rattle.checkpoint.proofs.UnitParts.{unit_read}
 use Rattle.redo_laws.proofs.Appended.{current_same, more_sealed}
 use Rattle.log_laws.specs.Follow.{IsUndoable}
 use Rattle.std.proofs.lemmas.Bool.{cond-true, cond-false, le-leb, lt-ltb}
@@ -90,8 +95,7 @@ unchanged_frame (x ∷ frames) number frame clean found = by (x.page == number) 
     by true false is none found rest = ap (λ (f : Frame). f.changed) (sym (same_Some x frame found)) ∙ is
     by false false is none found rest = rest none found
 
-pub clean_current : (log : LogStore) (pages : PageStore) (site : State) (newest : Option Master) (records : List Entry) (table : List Content) (commits : ℕ) → Represents log pages site newest records table commits → wants_flush (cache_of pages) ≡ false →
-    (number : ℕ) → current pages site.image number ≡ version_on pages.flash.geometry site.image number
+pub clean_current : (log : LogStore) (pages : PageStore) (site : State) (newest : Option Master) (records : List Entry) (table : List Content) (commits : ℕ) → Represents log pages site newest records table commits → wants_flush (cache_of pages) ≡ false → (number : ℕ) → current pages site.image number ≡ version_on pages.flash.geometry site.image number
 clean_current log pages site newest records table commits h clean number = by (frame_of pages.pool.frames number) refl
   where
     by : (o : Option Frame) → frame_of pages.pool.frames number ≡ o → content_by o (version_on pages.flash.geometry site.image number) ≡ version_on pages.flash.geometry site.image number
@@ -166,7 +170,7 @@ chain_kept n t from to log order chain late =
     let begun : IsInOrder t (entries_of t log) to = subst (λ (l : List Entry). IsInOrder t l to) (sym chain.begins) (omega arith, ordered.1) in
     filter_swap (is_of t) (λ e. nat_le (512 * n) e.lsn) log ∙ all_from n t to (entries_of t log) late begun
 
-module _ (laws : SaveLaws) (log : LogStore) (pages : PageStore) (site : State) (newest : Option Master) (records : List Entry) (table : List Content) (commits : ℕ) (h : Represents log pages site newest records table commits)
+module _ (log : LogStore) (pages : PageStore) (site : State) (newest : Option Master) (records : List Entry) (table : List Content) (commits : ℕ) (h : Represents log pages site newest records table commits)
     (sizes : log.geometry ≡ pages.flash.geometry) (empty : log.used ≡ 2) (clean : wants_flush (cache_of pages) ≡ false) (m : Master) (redo : m.redo ≡ log.ring.hi) (count : m.commits ≡ commits) (ascend : Ascend m.active) (unfinished : AreUnfinished records m.active) where
   abbrev g : Geometry
   g = pages.flash.geometry
@@ -202,7 +206,7 @@ module _ (laws : SaveLaws) (log : LogStore) (pages : PageStore) (site : State) (
   -- the block of the oldest Begin is that of the oldest transaction that is needed
   pub needed_is : oldest_needed p ≡ first_block m.redo (begins_of m.active)
   needed_is =
-      let named : (seen m).active ≡ active_in p.log = ap (λ k. k.active) (laws.saved p m sound.records is_master) in
+      let named : (seen m).active ≡ active_in p.log = ap (λ k. k.active) (master_is_saved p m sound.records is_master) in
       let same : begins_of m.active ≡ losers p.log = sym (named_begins m.active) ∙ ap (map (λ (a : Active). a.begin)) named ∙ active_begins p.log (losers p.log) in
       λ i. first_block (sym is_master.redo i) (sym same i)
 
@@ -221,13 +225,13 @@ module _ (laws : SaveLaws) (log : LogStore) (pages : PageStore) (site : State) (
     rises = let there = needed_there.0 in let before = h.log_holds.kept in omega (arith, there, before, kept)
 
     pub may_save : MaySave newest pages.flash.geometry site.image h.log_holds.blocks (unit m)
-    may_save = laws.may newest g site.image h.log_holds.blocks (unit m) m sound unit_is is_master flushed rises (omega (arith, kept, needed_is)) (orderly_or_none orderly)
+    may_save = checkpoint_may_save newest g site.image h.log_holds.blocks (unit m) m sound unit_is is_master flushed rises (omega (arith, kept, needed_is)) (orderly_or_none orderly)
 
     -- behind it
     -- a crash while the unit is written leaves what stands for the same
     pub save_leaves : (new : State) → IsQuiet site → LeavesFront pages.flash.geometry (AppendsMaster (unit m) ∷ []) site new →
         LeavesOnly site new (LeavesFor pages.flash.geometry table commits site.told)
-    save_leaves new quiet front = laws.stands newest g site site new h.log_holds.blocks _ table commits
+    save_leaves new quiet front = save_stands newest g site site new h.log_holds.blocks _ table commits
         (under_leaves_for newest g site site table commits site.told (nothing_happens log pages site newest records table commits sizes h quiet)) refl sound
         h.log_holds.runs_on.means may_save front
 
@@ -255,7 +259,7 @@ module _ (laws : SaveLaws) (log : LogStore) (pages : PageStore) (site : State) (
           subst (λ (first : ℕ). log_store.Represents log' new.image (record { first = first; blocks = drop (m.kept - kept_by newest) h.log_holds.blocks; tail = h.log_holds.tail })) (later_block (kept_by newest) m.kept rises) held
 
       read : master_in (unit m) ≡ m
-      read = laws.read (unit m) m unit_is
+      read = unit_read (unit m) m unit_is
 
       abbrev n : Master
       n = master_in (unit m)
@@ -267,15 +271,15 @@ module _ (laws : SaveLaws) (log : LogStore) (pages : PageStore) (site : State) (
       q = logical_image_under (Some (master_in (unit m))) pages.flash.geometry new.image (drop ((master_in (unit m)).kept - kept_by newest) h.log_holds.blocks)
 
       sound_now : IsSoundUnder (Some n) g new.image blocks
-      sound_now = laws.sound newest g site.image new.image h.log_holds.blocks (unit m) sound may_save made
+      sound_now = sound_saved newest g site.image new.image h.log_holds.blocks (unit m) sound may_save made
 
       records_now : q.log ≡ from_block n.kept records
-      records_now = ap (λ (x : LogicalImage). x.log) (laws.logical_image newest g site.image new.image h.log_holds.blocks (unit m) sound may_save made) ∙ ap (from_block n.kept) log_is
+      records_now = ap (λ (x : LogicalImage). x.log) (logical_image_saved newest g site.image new.image h.log_holds.blocks (unit m) sound may_save made) ∙ ap (from_block n.kept) log_is
 
       pub orderly_now : AreOrderly (from_block m.kept records)
       orderly_now =
           subst (λ (k : Master). AreOrderly (from_block k.kept records)) read
-          (subst AreOrderly records_now (laws.orderly newest g site.image new.image h.log_holds.blocks (unit m) sound may_save made))
+          (subst AreOrderly records_now (orderly_saved newest g site.image new.image h.log_holds.blocks (unit m) sound may_save made))
 
       undoable_of : (r : LogicalImage) → IsSound r → IsUndoable r.log
       undoable_of r is = subst IsUndoable (append-nil r.log) (whole_is_undoable r [] (carries_nothing r is))
@@ -283,8 +287,8 @@ module _ (laws : SaveLaws) (log : LogStore) (pages : PageStore) (site : State) (
       -- the unfinished transactions are the same
       losers_now : losers q.log ≡ losers p.log
       losers_now =
-          let named : (seen m).active ≡ active_in p.log = ap (λ k. k.active) (laws.saved p m sound.records is_master) in
-          let redo_is : n.redo ≡ q.hi = ap (λ (k : Master). k.redo) read ∙ is_master.redo ∙ sym (ap (λ (x : LogicalImage). x.hi) (laws.logical_image newest g site.image new.image h.log_holds.blocks (unit m) sound may_save made)) in
+          let named : (seen m).active ≡ active_in p.log = ap (λ k. k.active) (master_is_saved p m sound.records is_master) in
+          let redo_is : n.redo ≡ q.hi = ap (λ (k : Master). k.redo) read ∙ is_master.redo ∙ sym (ap (λ (x : LogicalImage). x.hi) (logical_image_saved newest g site.image new.image h.log_holds.blocks (unit m) sound may_save made)) in
           let all : before_block n.redo q.log ≡ q.log = all_before n.redo (512 * q.master.kept) (512 * q.hi) q.log (omega (arith, redo_is)) sound_now.records.in_order in
           let named_now : (seen n).active ≡ active_in q.log = sound_now.records.master_names_the_active ∙ ap active_in all in
           sym (active_begins q.log (losers q.log)) ∙ ap (map (λ (a : Active). a.begin)) (sym named_now) ∙ ap (λ (k : Master). map (λ (a : Active). a.begin) (seen k).active) read
@@ -301,7 +305,7 @@ module _ (laws : SaveLaws) (log : LogStore) (pages : PageStore) (site : State) (
           (all_member (λ s. 512 * n.kept ≤ s) (losers p.log) t may_save.may.losers_kept (loser_is_listed p.log t (undoable_of p sound.records) is))
 
       logical_image_log : q.log ≡ from_block n.kept p.log
-      logical_image_log = ap (λ (x : LogicalImage). x.log) (laws.logical_image newest g site.image new.image h.log_holds.blocks (unit m) sound may_save made)
+      logical_image_log = ap (λ (x : LogicalImage). x.log) (logical_image_saved newest g site.image new.image h.log_holds.blocks (unit m) sound may_save made)
 
       owed_now : owed q.log ≡ owed p.log
       owed_now =
@@ -349,10 +353,10 @@ module _ (laws : SaveLaws) (log : LogStore) (pages : PageStore) (site : State) (
               records = subst (λ (tail : List LogRecord). log_store.Represents log' new.image (record { first = n.kept; blocks = drop (n.kept - kept_by newest) h.log_holds.blocks; tail = tail })) tail_is
                   (subst (λ (k : Master). log_store.Represents log' new.image (record { first = k.kept; blocks = drop (k.kept - kept_by newest) h.log_holds.blocks; tail = h.log_holds.tail })) (sym read) (held_after log' (held finds_log held_log)));
             };
-            rings = laws.rings newest g (unit m) site.image new.image h.log_holds.rings may_save.unit made;
+            rings = rings_saved newest g (unit m) site.image new.image h.log_holds.rings may_save.unit made;
             runs_on = record {
               carries = carries_nothing q sound_now.records;
-              means = laws.means newest g site.image new.image h.log_holds.blocks (unit m) sound may_save made table commits h.log_holds.runs_on.means;
+              means = means_saved newest g site.image new.image h.log_holds.blocks (unit m) sound may_save made table commits h.log_holds.runs_on.means;
               no_commit = refl;
               records_are = append-nil q.log ∙ records_now;
             };
@@ -376,7 +380,7 @@ module _ (laws : SaveLaws) (log : LogStore) (pages : PageStore) (site : State) (
             room_now : blocks_to log' + owed (from_block n.kept records) ≤ log'.kept + (g.blocks - 1)
             room_now =
                 let owed_is : owed q.log ≡ owed (from_block n.kept records) = ap owed records_now in
-                let hi_is_q : q.hi ≡ p.hi = ap (λ (x : LogicalImage). x.hi) (laws.logical_image newest g site.image new.image h.log_holds.blocks (unit m) sound may_save made) in
+                let hi_is_q : q.hi ≡ p.hi = ap (λ (x : LogicalImage). x.hi) (logical_image_saved newest g site.image new.image h.log_holds.blocks (unit m) sound may_save made) in
                 let hi = hi_is log pages site newest records table commits h in
                 let same : blocks_to log' ≡ blocks_to log = ap blocks_to is in
                 let kept_is : log'.kept ≡ n.kept = ap (λ (l : LogStore). l.kept) is ∙ ap (λ (k : Master). k.kept) (sym read) in
@@ -407,8 +411,7 @@ finds_kept masters old new shape keeps finds = record {
 }
 
 -- one call behind others
-pub then_for : (g g' : Geometry) (old mid new : State) (table : List Content) (commits : ℕ) → g' ≡ g → LeavesOnly old mid (LeavesFor g table commits old.told) → LeavesOnly mid new (LeavesFor g' table commits mid.told) →
-    LeavesOnly old new (LeavesFor g table commits old.told)
+pub then_for : (g g' : Geometry) (old mid new : State) (table : List Content) (commits : ℕ) → g' ≡ g → LeavesOnly old mid (LeavesFor g table commits old.told) → LeavesOnly mid new (LeavesFor g' table commits mid.told) → LeavesOnly old new (LeavesFor g table commits old.told)
 then_for g g' old mid new table commits same first second =
     let told : mid.told ≡ old.told = (holds_now old mid (LeavesFor g table commits old.told) first).told in
     in_sequence old mid new (Leaves (LeavesFor g table commits old.told)) first

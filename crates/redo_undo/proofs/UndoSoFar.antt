@@ -10,7 +10,6 @@ use Rattle.log_records.specs.Restart.{undo_touch}
 use Rattle.log_records.specs.Unfinished.{left_open}
 use Rattle.log_laws.specs.Analysis.{Unfinished, IsUnfinished}
 use Rattle.log_laws.proofs.OpenUpdates.{left_after_clr}
-use Rattle.log_laws.proofs.Owing.{left_push}
 use Rattle.log_store.specs.declared.store.LogStore.{LogStore}
 use Rattle.page_store.specs.declared.store.PageStore.{PageStore}
 use Rattle.checkpoint.specs.declared.master.Master.{Master}
@@ -54,7 +53,7 @@ goes_on_undoing {log = log} {log' = log'} {pages = pages} {pages' = pages'} {sit
     let clrs = c.made.clrs in
     let longer : length clrs + 1 ≤ length (clrs ++ undone.e ∷ []) = omega (arith, length-append clrs (undone.e ∷ [])) in
     let more : left_open (records ++ (clrs ++ undone.e ∷ [])) txn ≡ rest =
-    sym (ap (λ (l : List Entry). left_open l txn) (append_assoc records clrs (undone.e ∷ []))) ∙ left_after_clr left_push (records ++ clrs) undone.e txn undone.clr (undone.own ∙ c.made.same) ∙ ap (drop 1) left in
+    sym (ap (λ (l : List Entry). left_open l txn) (append_assoc records clrs (undone.e ∷ []))) ∙ left_after_clr (records ++ clrs) undone.e txn undone.clr (undone.own ∙ c.made.same) ∙ ap (drop 1) left in
     record {
       made = goes_on log pages site newest records table commits txn (blocks_to first) now c.made log' pages' new next undone few;
       done = c.done ++ u ∷ [];

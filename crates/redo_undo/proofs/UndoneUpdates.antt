@@ -4,7 +4,6 @@ use Rattle.std.proofs.lemmas.List.Elements.{filter_map-append}
 use Rattle.redo_laws.specs.Calls.{KeepsInvariant}
 use Rattle.redo_undo.proofs.UndoCalls.{undoes_few, undoes_as, undoes_then, undoes_stopped, undoes_answered}
 use Rattle.redo_undo.specs.UndoCalls.{UndoesWork}
-use Rattle.log_laws.proofs.Owing.{left_push}
 use Rattle.log_laws.proofs.Undoing.{found_by_lsn, next_to_undo}
 use Rattle.std.proofs.Common.{◌≡◌, ℕ, ◌+◌, ◌≤◌, ◌<◌, ◌==◌, true, List, [], ◌∷◌, ◌++◌, length, Option, None, Some, refl, sym, ap, subst, ◌∙◌, append_assoc, append-nil, ◌*◌, arith, length-append, add-one}
 use Rattle.std.proofs.lemmas.List.{length-reverse}
@@ -68,7 +67,7 @@ module _ (log : LogStore) (pages : PageStore) (site : State) (newest : Option Ma
   unfolding one_end one_more
   end_updates t lsn none h is owes orderly = record {
     some = one_end log pages site newest records table commits found t lsn h is owes orderly;
-    left = sym (ap reverse (pending_after_end left_push records lsn t none));
+    left = sym (ap reverse (pending_after_end records lsn t none));
   }
 
   -- a CLR
@@ -84,7 +83,7 @@ module _ (log : LogStore) (pages : PageStore) (site : State) (newest : Option Ma
         some = one_more log pages site newest records table commits found done.e done.holds (subst (λ (e : Entry). IsTable [] (records ++ e ∷ []) (listed found.table)) (sym done.e_is) is)
             (record { ends_first = λ clr. remain; greatest = λ clr. subst (IsGreatest records) (sym done.own) greatest }) done.owes done.orderly;
         left = reversed (pending records) (pending (records ++ done.e ∷ [])) u
-            (pending_after_clr left_push records done.e u rest done.clr own falls from to ordered last.last (last.own ∙ sym done.own));
+            (pending_after_clr records done.e u rest done.clr own falls from to ordered last.last (last.own ∙ sym done.own));
       })
 
 -- More records.

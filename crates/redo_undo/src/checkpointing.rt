@@ -20,7 +20,7 @@ ghost use Rattle.page_store.specs.Stopping.{MayStop};
 ghost use Rattle.image_meaning.specs.Moments.{LeavesTableUnder, LeavesFor};
 ghost use Rattle.image_meaning.specs.Flushed.{first_block};
 ghost use Rattle.redo_laws.specs.Holding.{Invariant, Represents, blocks_to};
-ghost use Rattle.redo_laws.specs.Checkpointing.{MayBeMade, IsSaved, begins_of, SaveLaws};
+ghost use Rattle.redo_laws.specs.Checkpointing.{MayBeMade, IsSaved, begins_of};
 ghost use Rattle.redo_undo.specs.Stores.{MayWork, HasCheckpoint, sizes_of};
 ghost use Rattle.redo_undo.specs.StoreCalls as stores;
 ghost use Rattle.redo_laws.specs.MachineSteps.{StepsMachine, checkpoint_works};
@@ -33,23 +33,11 @@ ghost use Rattle.site.specs.Moments.{ChangesOnly};
 
 use crate::forcing::force;
 use crate::store::TransactionStore;
-use checkpoint::{Master, Pairs, one_master, save};
-use image_meaning::{checkpoint_stands, master_is_saved, master_may_save, master_saved};
+use checkpoint::{Master, Pairs, save};
 use log_store::LogStore;
 use page_store::PageStore;
 use sealed_ring::Ring;
 use site::{Site, Stop};
-
-// On masters that are saved.
-fn save_laws()
-    ensures { SaveLaws }
-{
-    master_is_saved();
-    master_may_save();
-    master_saved();
-    one_master();
-    checkpoint_stands();
-}
 
 // Pushes all changed pages. What log and pages hold together stays, and at each moment the devices stand for the same
 // table. The log's tail is empty, so the log isn't forced.
@@ -158,7 +146,6 @@ fn save_master<S: Site>(
     ensures at_end { IsErrOf result (Stop.Worn Dev.Log) → masters.old.hi ≡ 2 ^ 40 }
     ensures stops { IfErr result (λ stop. (stop ≡ Stop.Device Dev.Log) ⊎ (stop ≡ Stop.Worn Dev.Log)) }
 {
-    save_laws();
     let redo = log.sealed_end() / 512;
     let kept = oldest_block(&active, log.kept(), redo);
     let master = Master {

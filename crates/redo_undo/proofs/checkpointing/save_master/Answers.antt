@@ -64,7 +64,7 @@ module _ (g : Over) (c : After-save g) (pages : PageStore) (newest : Option Mast
 
   kept : m.kept ≡ first_block m.redo (begins_of m.active)
   kept =
-      let there = needed_there c.save_laws.ensures c.args.log.now pages
+      let there = needed_there c.args.log.now pages
       (g.S.Site.state c.args.site.now) newest records table c.args.commits h sizes
       empty clean m redo refl c.requires.ascend may.unfinished in
       within c.args.log.now.kept c.kept.result m.redo m.kept (first_block m.redo (begins_of m.active)) c.kept.ensures there c.oldest_block-kept.ensures.is
@@ -76,7 +76,7 @@ module _ (g : Over) (c : After-save g) (pages : PageStore) (newest : Option Mast
 
   leaves : IsQuiet (g.S.Site.state c.args.site.now) → LeavesOnly (g.S.Site.state c.args.site.now) (g.S.Site.state c.save.new.site)
       (LeavesFor pages.flash.geometry table c.args.commits (g.S.Site.state c.args.site.now).told)
-  leaves quiet = save_leaves c.save_laws.ensures c.args.log.now pages
+  leaves quiet = save_leaves c.args.log.now pages
       (g.S.Site.state c.args.site.now) newest records table c.args.commits h sizes
       empty clean m redo refl c.requires.ascend may.unfinished kept c.save.ensures.unit may.orderly (g.S.Site.state c.save.new.site) quiet (front quiet)
 
@@ -84,7 +84,7 @@ pub returns-clause-saved : goal.returns-clause-saved
 returns-clause-saved g c pages newest records table sizes h empty clean may =
     let s = (goal.at.returns-clause-saved g c).After-save in
     let ready = c.in-Ok.ensures.ready h.log_holds.ready.blocks.honest may.ring in
-    is_saved c.save_laws.ensures c.args.log.now pages (g.S.Site.state c.args.site.now) newest
+    is_saved c.args.log.now pages (g.S.Site.state c.args.site.now) newest
     records table c.args.commits h sizes empty clean
     (m g s pages newest records table sizes h empty clean may) (redo g s pages newest records table sizes h empty clean may) refl c.requires.ascend
     may.unfinished (kept g s pages newest records table sizes h empty clean may)

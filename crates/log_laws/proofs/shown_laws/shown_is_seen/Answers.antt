@@ -1,5 +1,0 @@
-use Rattle.log_laws.proofs.Shown.{shown_is_seen}
-use Rattle.log_laws.proofs.shown_laws.shown_is_seen.Goals as goal
-
-pub returns : goal.returns
-returns c = shown_is_seen

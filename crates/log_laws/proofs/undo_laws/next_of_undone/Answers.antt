@@ -1,5 +1,0 @@
-use Rattle.log_laws.proofs.Undoing.{next_of_undone}
-use Rattle.log_laws.proofs.undo_laws.next_of_undone.Goals as goal
-
-pub returns : goal.returns
-returns c = next_of_undone
