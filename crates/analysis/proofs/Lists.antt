@@ -1,6 +1,6 @@
 -- Transactions in the table, and what the list says of them.
 use Rattle.std.proofs.lemmas.Grind.{common_steps}
-use Rattle.std.proofs.Common.{◌≡◌, ℕ, suc, ◌+◌, ◌<◌, List, [], ◌∷◌, ◌++◌, length, map, take, drop, set, get_or, option_map, Some, None, Result, Ok, Err, refl, sym, ap, subst, ◌∙◌, arith, add-one}
+use Rattle.std.proofs.Common.{◌≡◌, ℕ, zero, suc, ◌+◌, ◌<◌, ◌≤◌, List, [], ◌∷◌, ◌++◌, length, map, take, drop, set, get_or, option_map, Some, None, Result, Ok, Err, refl, sym, ap, subst, ◌∙◌, arith, add-one}
 use Rattle.std.specs.Prelude.{OnOk, OnErr, slice_get, vec_len}
 use Rattle.std.proofs.lemmas.Option.{slice_get-map, slice_get_read}
 use Rattle.std.specs.List.{AllByRecursion, remove, insert}
@@ -14,6 +14,46 @@ use Rattle.analysis.specs.Open.{Open, found_in, AscendFrom, Changes, Replaces, T
 use Rattle.analysis.specs.Table.{open_of, BeginsWith, BeginsBehind, StandsAt, GoesAt, Becomes}
 use Rattle.analysis.specs.Read.{loser_of}
 use Rattle.analysis.proofs.Tables.{there, changed, taken_out, put_in, not_there, ascend_behind, found_place}
+
+-- Halving.
+
+-- the first of these isn't below a transaction
+abbrev pub BeginsFrom : ℕ → List Transaction → Type 0
+BeginsFrom txn [] = Unit {0}
+BeginsFrom txn (x ∷ items) = txn ≤ x.txn
+
+-- those up to one below it are, where they ascend
+pub below_to : (n txn : ℕ) (items : List Transaction) (place : ℕ) (z : Transaction) → AscendFrom n (map open_of items) → place < length items → z ≡ get_or items place z → z.txn < txn →
+    AllByRecursion (λ x. x.txn < txn) (take (suc place) items)
+below_to n txn [] place z ascend inside is less = tt
+below_to n txn (x ∷ items) zero z ascend inside is less = (subst (λ (y : Transaction). y.txn < txn) is less, tt)
+below_to n txn (x ∷ items) (suc place) z ascend inside is less =
+    let rest = below_to (x.txn + 1) txn items place z ascend.1 (omega (arith, inside)) is less in
+    let above = from_at (x.txn + 1) items place z ascend.1 (omega (arith, inside)) is in
+    (omega (arith, above, less), rest)
+  where
+    from_at : (m : ℕ) (ys : List Transaction) (k : ℕ) (y : Transaction) → AscendFrom m (map open_of ys) → k < length ys → y ≡ get_or ys k y → m ≤ y.txn
+    from_at m [] k y h far same = absurd (omega (arith, far))
+    from_at m (u ∷ ys) zero y h far same = subst (λ (v : Transaction). m ≤ v.txn) (sym same) h.0
+    from_at m (u ∷ ys) (suc k) y h far same =
+        let low = h.0 in
+        let later = from_at (u.txn + 1) ys k y h.1 (omega (arith, far)) same in
+        omega (arith, low, later)
+
+pub begins_from : (txn : ℕ) (items : List Transaction) (place : ℕ) (z : Transaction) → place < length items → z ≡ get_or items place z → txn ≤ z.txn → BeginsFrom txn (drop place items)
+begins_from txn [] place z inside is le = absurd (omega (arith, inside))
+begins_from txn (x ∷ items) zero z inside is le = subst (λ (y : Transaction). txn ≤ y.txn) is le
+begins_from txn (x ∷ items) (suc place) z inside is le = begins_from txn items place z (omega (arith, inside)) is le
+
+pub begins_behind : (txn : ℕ) (items : List Transaction) (place : ℕ) (z : Transaction) → place < length items → z ≡ get_or items place z → (z.txn ≡ txn → ⊥) → BeginsFrom txn (drop place items) → BeginsBehind txn (drop place items)
+begins_behind txn [] place z inside is other from = absurd (omega (arith, inside))
+begins_behind txn (x ∷ items) zero z inside is other from =
+    let apart : x.txn ≡ txn → ⊥ = λ same. other (ap (λ (y : Transaction). y.txn) is ∙ same) in
+    less_of txn x.txn from apart
+  where
+    less_of : (a b : ℕ) → a ≤ b → (b ≡ a → ⊥) → a < b
+    less_of a b le apart = grind (arith, le, apart)
+begins_behind txn (x ∷ items) (suc place) z inside is other from = begins_behind txn items place z (omega (arith, inside)) is other from
 
 -- a transaction at its place
 pub record IsSplit (items : List Transaction) (place txn : ℕ) : Type 0 where

@@ -79,20 +79,29 @@ pub struct Table {
     pub transactions: Vec<Transaction>,
 }
 
-// The place of a transaction, or else the place where it goes.
+// The place of a transaction among those that ascend, or else the place where it goes.
 fn place_of(transactions: &[Transaction], txn: u64) -> Result<usize, usize>
+    requires { AscendFrom 0 (map open_of transactions.now) }
     ensures there { IfOk result (λ place. StandsAt transactions.now place txn) }
     ensures absent { IfErr result (λ place. GoesAt transactions.now place txn) }
 {
-    for (place, transaction) in transactions.iter().enumerate() {
-        if transaction.txn == txn {
-            return Ok(place);
-        }
-        if transaction.txn > txn {
-            return Err(place);
+    let mut low = 0;
+    let mut high = transactions.len();
+    while low < high {
+        let middle = low + (high - low) / 2;
+        if transactions[middle].txn < txn {
+            low = middle + 1;
+        } else {
+            high = middle;
         }
     }
-    Err(transactions.len())
+    if low == transactions.len() {
+        return Err(low);
+    }
+    if transactions[low].txn == txn {
+        return Ok(low);
+    }
+    Err(low)
 }
 
 impl Table {
@@ -115,10 +124,10 @@ impl Table {
 
     /// The place of an active transaction.
     pub fn place_of(&self, txn: u64) -> Result<usize, Stop>
+        requires { AscendFrom 0 (listed self.now) }
         ensures there { IfOk result (λ place. StandsAt self.now.transactions.items place txn) }
-        ensures found { AscendFrom 0 (listed self.now)
-            → IfOk result (λ place. (x : Open) × (found_in (listed self.now) txn ≡ Some x)) }
-        ensures absent { AscendFrom 0 (listed self.now) → OnErr result (found_in (listed self.now) txn ≡ None) }
+        ensures found { IfOk result (λ place. (x : Open) × (found_in (listed self.now) txn ≡ Some x)) }
+        ensures absent { OnErr result (found_in (listed self.now) txn ≡ None) }
         ensures stops { IfErr result (λ stop. stop ≡ Stop.Foreign) }
     {
         match place_of(&self.transactions, txn) {
@@ -129,7 +138,8 @@ impl Table {
 
     /// A transaction begins, where it isn't active yet.
     pub fn begin(&mut self, alloc: Global, lsn: u64) -> Result<(), Stop>
-        ensures begun { AscendFrom 0 (listed self.old) → OnOk result (Changes (listed self.old) (listed self.new) lsn
+        requires { AscendFrom 0 (listed self.old) }
+        ensures begun { OnOk result (Changes (listed self.old) (listed self.new) lsn
             (Some (begun lsn (found_in (listed self.old) lsn)))) }
         ensures owed { owed_for (listed self.new) ≤ owed_for (listed self.old) + 1 }
         ensures err { OnErr result (listed self.new ≡ listed self.old) }

@@ -1,5 +1,5 @@
 -- One unfinished transaction after one record more.
-use Rattle.std.proofs.Common.{◌≡◌, ℕ, ◌-◌, Bool, true, false, true≢false, not, ◌||◌, cond, List, [], ◌∷◌, ◌++◌, length, map, take, drop, refl, sym, ap, subst, ◌∙◌, arith}
+use Rattle.std.proofs.Common.{◌≡◌, ℕ, ◌-◌, Bool, true, false, true≢false, not, ◌||◌, cond, List, [], ◌∷◌, ◌++◌, length, map, take, drop, Option, Some, None, refl, sym, ap, subst, ◌∙◌, arith}
 use Rattle.std.specs.Prelude.{reverse}
 use Rattle.std.specs.List.{list_any}
 use Rattle.std.proofs.lemmas.Bool.{not-true, not_from_false}
@@ -13,7 +13,7 @@ use Rattle.log_records.specs.Unfinished.{is_clr, clrs_in, prev_of, open_by, open
 use Rattle.log_records.specs.Sound.{Continues, Undoes, last_number}
 use Rattle.log_laws.proofs.Orders.{InTurn-append}
 use Rattle.image_check.specs.declared.chain.Chain.{Chain}
-use Rattle.image_check.specs.Chaining.{IsKept, begin_at}
+use Rattle.image_check.specs.Chaining.{IsKept, Keeps, begin_at}
 
 -- One record more.
 
@@ -128,7 +128,7 @@ calm_before t c rest lsn rec is k goes = not_from_false c.undoing (k.undoing ∙
 
 -- The records of one transaction.
 
-other_same : (t : ℕ) (records : List Entry) (e : Entry) → is_of t e ≡ false → entries_of t (records ++ e ∷ []) ≡ entries_of t records
+pub other_same : (t : ℕ) (records : List Entry) (e : Entry) → is_of t e ≡ false → entries_of t (records ++ e ∷ []) ≡ entries_of t records
 other_same t records e other = filter-append (is_of t) records (e ∷ []) ∙ ap (λ (b : Bool). entries_of t records ++ cond b (e ∷ []) []) other ∙ append-nil (entries_of t records)
 
 own_more : (t : ℕ) (records : List Entry) (e : Entry) → is_of t e ≡ true → entries_of t (records ++ e ∷ []) ≡ entries_of t records ++ e ∷ []
@@ -145,3 +145,13 @@ kept_begin t c records e own none k =
 
 pub kept_behind : (t : ℕ) (records : List Entry) (e : Entry) → is_of t e ≡ true → entries_of t records ≡ begin_at t ∷ drop 1 (entries_of t records) → drop 1 (entries_of t records) ++ e ∷ [] ≡ drop 1 (entries_of t (records ++ e ∷ []))
 kept_behind t records e own is = sym (ap (drop 1) (own_more t records e own ∙ ap (λ (l : List Entry). l ++ e ∷ []) is))
+
+-- what is kept before the first record
+pub kept_first : (t : ℕ) (c : Chain) → c.last ≡ t → c.updates.items ≡ [] → c.undoing ≡ false → IsKept t c []
+kept_first t c last none calm = record { continues = tt; last = last; left = ap reverse none; undoing = calm }
+
+pub kept_where : (t : ℕ) (c : Chain) (found : Option Chain) → found ≡ Some c → (rest : List Entry) → Keeps t found rest → IsKept t c rest
+kept_where t c found is rest keeps = subst (λ (o : Option Chain). Keeps t o rest) is keeps
+
+pub kept_nowhere : (t : ℕ) (c : Chain) (found : Option Chain) → found ≡ None → c.last ≡ t → c.updates.items ≡ [] → c.undoing ≡ false → (rest : List Entry) → Keeps t found rest → IsKept t c rest
+kept_nowhere t c found is last none calm rest keeps = subst (IsKept t c) (sym (subst (λ (o : Option Chain). Keeps t o rest) is keeps)) (kept_first t c last none calm)

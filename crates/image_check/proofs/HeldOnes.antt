@@ -1,6 +1,6 @@
 -- What unfinished transactions have written, after one record more.
 use Rattle.std.proofs.Common.{◌≡◌, ℕ, inl, inr, Bool, true, false, true≢false, not, ◌&&◌, ◌||◌, cond, nat_eq, List, [], ◌∷◌, ◌++◌, map, drop, Option, Some, None, option_map, refl, sym, ap, ◌∙◌}
-use Rattle.std.specs.Prelude.{filter, ◌==◌}
+use Rattle.std.specs.Prelude.{filter, is_some, ◌==◌}
 use Rattle.std.specs.List.{AllByRecursion, list_any}
 use Rattle.std.specs.Option.{option_or}
 use Rattle.std.specs.Map.{lookup}
@@ -21,19 +21,27 @@ use Rattle.log_laws.proofs.Listing.{listed_is_loser, begun_is_listed}
 use Rattle.log_laws.proofs.Losers.{any_of_those}
 use Rattle.log_laws.proofs.Values.{last_same, last_new}
 use Rattle.image_check.specs.declared.unfinished.Left.{Left}
-use Rattle.image_check.specs.Unended.{AreLeft, left_of}
+use Rattle.image_check.specs.Unended.{AreLeft, entry_of}
+use Rattle.std.specs.BTreeMap.{BTreeMap, is_at}
+use Rattle.std.specs.Cmp.{unsigned_tied}
+use Rattle.std.specs.Ordering.{nat_cmp}
+use Rattle.std_lemmas.proofs.Bools.{eq_turned}
 use Rattle.image_check.specs.Holding.{AreHeld, IsListed, holds, is_others, clashes_by}
 use Rattle.image_form.specs.Verdict.{LosersCanBeUndone}
 use Rattle.log_records.proofs.Lists.{one, all_last}
 
 -- Who is on the list.
 
-left_has : (log : List Entry) (t : ℕ) (ns : List ℕ) → list_any (λ (x : Left). x.txn == t) (map left_of (map (unfinished_at log) ns)) ≡ list_any (λ n. n == t) ns
+left_has : (log : List Entry) (t : ℕ) (ns : List ℕ) → is_some (lookup (is_at (nat_cmp t)) (map entry_of (map (unfinished_at log) ns))) ≡ list_any (λ n. n == t) ns
 left_has log t [] = refl
-left_has log t (n ∷ ns) = ap (λ (b : Bool). (n == t) || b) (left_has log t ns)
+left_has log t (n ∷ ns) = by (is_at (nat_cmp t) n) (lookup (is_at (nat_cmp t)) (map entry_of (map (unfinished_at log) ns))) ∙ (λ i. ((unsigned_tied t n ∙ eq_turned t n) i) || left_has log t ns i)
+  where
+    by : (b : Bool) (o : Option Left) → is_some (cond b (Some (entry_of (unfinished_at log n)).1) o) ≡ (b || is_some o)
+    by true o = refl
+    by false o = refl
 
-pub has_is : (log : List Entry) (items : List Left) (t : ℕ) → AreLeft log items → list_any (λ (x : Left). x.txn == t) items ≡ list_any (λ n. n == t) (losers log)
-has_is log items t is = ap (list_any (λ (x : Left). x.txn == t)) is.are ∙ left_has log t (losers log)
+pub has_is : (log : List Entry) (left : BTreeMap ℕ Left) (t : ℕ) → AreLeft log left → is_some (lookup (is_at (nat_cmp t)) left.entries) ≡ list_any (λ n. n == t) (losers log)
+has_is log left t is = ap (λ (l : List (ℕ × Left)). is_some (lookup (is_at (nat_cmp t)) l)) is.are ∙ left_has log t (losers log)
 
 -- one with its chain is on it
 pub chain_listed : (log : List Entry) (t : ℕ) → is_closed log t ≡ false → IsLoserChain t (entries_of t log) → list_any (λ n. n == t) (losers log) ≡ true

@@ -1,15 +1,22 @@
 -- Which transactions are unfinished after one record more.
-use Rattle.std.proofs.Common.{◌≡◌, ℕ, zero, suc, ◌+◌, ◌*◌, ◌<◌, ◌≤◌, inl, inr, Bool, true, false, true≢false, not, ◌&&◌, ◌||◌, cond, List, [], ◌∷◌, ◌++◌, length, map, drop, get_or, set, Some, None, refl, sym, ap, subst, ◌∙◌, arith, nat_lt}
-use Rattle.std.specs.Prelude.{filter, ◌==◌}
-use Rattle.std.specs.List.{AllByRecursion, position_or_len, position, remove}
-use Rattle.std.proofs.lemmas.Bool.{cases_Bool, eqb-true, ltb-false, lt-ltb}
-use Rattle.std.proofs.lemmas.List.{append-nil, map-append, length-map}
+use Rattle.std.proofs.Common.{◌≡◌, ℕ, ◌+◌, ◌*◌, ◌<◌, ◌≤◌, Bool, true, false, true≢false, not, ◌&&◌, ◌||◌, cond, List, [], ◌∷◌, ◌++◌, length, map, drop, get_or, Option, Some, None, refl, sym, ap, subst, ◌∙◌, arith, nat_lt, add-one}
+use Rattle.std.specs.Prelude.{filter, slice_get, ◌==◌, ◌↔◌}
+use Rattle.std.proofs.Math.Seq.{drop-cons}
+use Rattle.std.specs.BTreeMap.{BTreeMap, insert_entry, is_at}
+use Rattle.std.specs.Cmp.{unsigned_tied}
+use Rattle.std.specs.List.{AllByRecursion}
+use Rattle.std.specs.Map.{lookup, remove_entry, set_value}
+use Rattle.std.specs.Ordering.{nat_cmp}
+use Rattle.std.proofs.lemmas.Bool.{eqb-true, lt-ltb}
+use Rattle.std.proofs.lemmas.List.{append-nil, map-append}
 use Rattle.std.proofs.lemmas.List.Elements.{filter-append}
-use Rattle.std.proofs.lemmas.List.Quantifiers.{position-Some}
 use Rattle.std.proofs.lemmas.List.Sums.{count_by-le-length, length-filter}
-use Rattle.std.proofs.lemmas.Option.{none-some}
+use Rattle.std.proofs.lemmas.Map.{NonePasses, none_passes_from_lookup}
+use Rattle.std.proofs.lemmas.Option.{none-some, get_or_from_slice_get}
 use Rattle.std_lemmas.proofs.AllOf.{all_weaker}
+use Rattle.std_lemmas.proofs.Entries.{AreBelow, insert_last}
 use Rattle.std_lemmas.proofs.Lists.{map_same}
+use Rattle.log_records.proofs.Entries.{closing_is_no_begin}
 use Rattle.log_records.specs.declared.log_record.LogRecord.{LogRecord}
 use Rattle.log_records.specs.declared.log_record.LogRecord.TheVariants.{Begin, Update, Clr, Commit, End}
 use Rattle.log_records.specs.Log.{Entry, txn_of, is_of, is_closing, is_closed, entries_of}
@@ -18,12 +25,12 @@ use Rattle.log_records.specs.Sound.{Active, IsInOrder, last_lsn, before_block, a
 use Rattle.log_laws.specs.Analysis.{Unfinished, unfinished_at, unfinished_in, remaining_by, after_record}
 use Rattle.log_laws.specs.Follow.{IsFresh}
 use Rattle.log_laws.specs.UndoLaws.{next_in}
-use Rattle.log_laws.proofs.Parts.{all_made, filter_same}
+use Rattle.log_laws.proofs.Parts.{all_below, all_made, filter_same}
 use Rattle.log_laws.proofs.Values.{closed_push}
 use Rattle.log_laws.proofs.Analysing.{unfinished_begin, unfinished_more, unfinished_closed, unfinished_there}
 use Rattle.checkpoint.specs.declared.pairs.Pair.{Pair}
 use Rattle.image_check.specs.declared.unfinished.Left.{Left}
-use Rattle.image_check.specs.Unended.{AreLeft, left_of}
+use Rattle.image_check.specs.Unended.{AreLeft, entry_of, left_of}
 use Rattle.image_check.proofs.OpenOnes.{begin_only}
 
 -- A record of a transaction that isn't in the list.
@@ -64,63 +71,65 @@ unfinished_same log e old others =
     ∙ map_same (unfinished_at (log ++ e ∷ [])) (unfinished_at log) (losers log)
     (all_weaker (λ n. (txn_of e == n) ≡ false) (λ n. unfinished_at (log ++ e ∷ []) n ≡ unfinished_at log n) (λ n other. at_other log e n other) (losers log) others)
 
--- Places in the list.
+-- Where one stands in the list.
 
-abbrev is_of_txn : ℕ → Left → Bool
-is_of_txn txn x = x.txn == txn
-
-none_pass : (p : Left → Bool) (xs : List Left) → length xs ≤ position_or_len p xs → AllByRecursion (λ x. p x ≡ false) xs
-none_pass p [] none = tt
-none_pass p (x ∷ xs) none = by (p x) refl none (none_pass p xs)
+absent : (log : List Entry) (t : ℕ) (ns : List ℕ) → lookup (is_at (nat_cmp t)) (map entry_of (map (unfinished_at log) ns)) ≡ None → AllByRecursion (λ n. (t == n) ≡ false) ns
+absent log t [] none = tt
+absent log t (n ∷ ns) none = by (t == n) refl (ap (λ (b : Bool). cond b (Some (left_of (unfinished_at log n))) (lookup (is_at (nat_cmp t)) (map entry_of (map (unfinished_at log) ns)))) (sym (unsigned_tied t n)) ∙ none) (absent log t ns)
   where
-    by : (b : Bool) → p x ≡ b → suc (length xs) ≤ cond (not b) (1 + position_or_len p xs) 0 → (length xs ≤ position_or_len p xs → AllByRecursion (λ y. p y ≡ false) xs) → (p x ≡ false) × AllByRecursion (λ y. p y ≡ false) xs
-    by true is far rest = absurd (omega (arith, far))
-    by false is far rest = (is, rest (omega (arith, far)))
+    by : (b : Bool) → (t == n) ≡ b → cond b (Some (left_of (unfinished_at log n))) (lookup (is_at (nat_cmp t)) (map entry_of (map (unfinished_at log) ns))) ≡ None →
+        (lookup (is_at (nat_cmp t)) (map entry_of (map (unfinished_at log) ns)) ≡ None → AllByRecursion (λ m. (t == m) ≡ false) ns) → ((t == n) ≡ false) × AllByRecursion (λ m. (t == m) ≡ false) ns
+    by true is found rest = absurd (none-some (left_of (unfinished_at log n)) (sym found))
+    by false is none rest = (is, rest none)
 
-none_found : (p : Left → Bool) (xs : List Left) → position p xs ≡ None → AllByRecursion (λ x. p x ≡ false) xs
-none_found p xs none = by (nat_lt (position_or_len p xs) (length xs)) refl none
-  where
-    by : (b : Bool) → nat_lt (position_or_len p xs) (length xs) ≡ b → cond b (Some (position_or_len p xs)) None ≡ None → AllByRecursion (λ x. p x ≡ false) xs
-    by true is found = absurd (none-some (position_or_len p xs) (sym found))
-    by false is found = none_pass p xs (let far = ltb-false _ _ is in omega (arith, far))
-
-others_of : (log : List Entry) (txn : ℕ) (ns : List ℕ) → AllByRecursion (λ x. is_of_txn txn x ≡ false) (map left_of (map (unfinished_at log) ns)) → AllByRecursion (λ n. (txn == n) ≡ false) ns
-others_of log txn [] all = tt
-others_of log txn (n ∷ ns) all = (
-  elim (cases_Bool (txn == n)) [
-    | inl same ↦ absurd (true≢false (sym (ne_refl n txn (sym (eqb-true txn n same))) ∙ all.0))
-    | inr other ↦ other
-  ],
-  others_of log txn ns all.1,
-)
-  where
-    ne_refl : (a b : ℕ) → a ≡ b → (a == b) ≡ true
-    ne_refl a b same = grind arith
-
--- the list at a place, by the transactions that it is made of
-record Split (us : List Unfinished) (k : ℕ) : Type 0 where
+record Split (us : List Unfinished) (t : ℕ) (v : Left) : Type 0 where
   pub front : List Unfinished
   pub x : Unfinished
   pub back : List Unfinished
   pub is : us ≡ front ++ x ∷ back
-  pub read : (d : Left) → get_or (map left_of us) k d ≡ left_of x
-  pub removed : remove (map left_of us) k ≡ map left_of (front ++ back)
-  pub changed : (y : Unfinished) → set (map left_of us) k (left_of y) ≡ map left_of (front ++ y ∷ back)
+  pub own : x.txn ≡ t
+  pub read : v ≡ left_of x
+  pub removed : remove_entry (is_at (nat_cmp t)) (map entry_of us) ≡ map entry_of (front ++ back)
+  pub changed : (y : Unfinished) → y.txn ≡ t → set_value (is_at (nat_cmp t)) (map entry_of us) (left_of y) ≡ map entry_of (front ++ y ∷ back)
 
-split : (us : List Unfinished) (k : ℕ) → k < length us → Split us k
-split [] k less = absurd (omega (arith, less))
-split (u ∷ us) zero less = record { front = []; x = u; back = us; is = refl; read = λ d. refl; removed = refl; changed = λ y. refl }
-split (u ∷ us) (suc k) less =
-    let rest = split us k (omega (arith, less)) in
-    record {
-      front = u ∷ rest.front;
-      x = rest.x;
-      back = rest.back;
-      is = ap (λ (l : List Unfinished). u ∷ l) rest.is;
-      read = rest.read;
-      removed = ap (λ (l : List Left). left_of u ∷ l) rest.removed;
-      changed = λ y. ap (λ (l : List Left). left_of u ∷ l) (rest.changed y);
-    }
+split : (us : List Unfinished) (t : ℕ) (v : Left) → lookup (is_at (nat_cmp t)) (map entry_of us) ≡ Some v → Split us t v
+split [] t v found = absurd (none-some v found)
+split (u ∷ us) t v found = by (is_at (nat_cmp t) u.txn) refl found (split us t v)
+  where
+    rest : List (ℕ × Left)
+    rest = map entry_of us
+
+    by : (b : Bool) → is_at (nat_cmp t) u.txn ≡ b → cond b (Some (left_of u)) (lookup (is_at (nat_cmp t)) rest) ≡ Some v → (lookup (is_at (nat_cmp t)) rest ≡ Some v → Split us t v) → Split (u ∷ us) t v
+    by true here found later =
+        let own : t ≡ u.txn = eqb-true t u.txn (sym (unsigned_tied t u.txn) ∙ here) in
+        record {
+          front = [];
+          x = u;
+          back = us;
+          is = refl;
+          own = sym own;
+          read = let same : left_of u ≡ v = cc in sym same;
+          removed = ap (λ (b : Bool). cond b rest (entry_of u ∷ remove_entry (is_at (nat_cmp t)) rest)) here;
+          changed = λ y named. ap (λ (b : Bool). cond b ((u.txn, left_of y) ∷ rest) (entry_of u ∷ set_value (is_at (nat_cmp t)) rest (left_of y))) here
+              ∙ ap (λ (n : ℕ). (n, left_of y) ∷ rest) (sym own ∙ sym named);
+        }
+    by false other found later =
+        let at = later found in
+        record {
+          front = u ∷ at.front;
+          x = at.x;
+          back = at.back;
+          is = ap (λ (l : List Unfinished). u ∷ l) at.is;
+          own = at.own;
+          read = at.read;
+          removed = ap (λ (b : Bool). cond b rest (entry_of u ∷ remove_entry (is_at (nat_cmp t)) rest)) other ∙ ap (λ (l : List (ℕ × Left)). entry_of u ∷ l) at.removed;
+          changed = λ y named. ap (λ (b : Bool). cond b ((u.txn, left_of y) ∷ rest) (entry_of u ∷ set_value (is_at (nat_cmp t)) rest (left_of y))) other
+              ∙ ap (λ (l : List (ℕ × Left)). entry_of u ∷ l) (at.changed y named);
+        }
+
+remove_none : (test : ℕ → Bool) (es : List (ℕ × Left)) → NonePasses test es → remove_entry test es ≡ es
+remove_none test [] none = refl
+remove_none test (e ∷ es) none = ap (λ (b : Bool). cond b es (e ∷ remove_entry test es)) none.0 ∙ ap (λ (l : List (ℕ × Left)). e ∷ l) (remove_none test es none.1)
 
 -- How many Updates remain at most.
 
@@ -157,61 +166,88 @@ remaining_few log front x back is =
 
 -- One record more.
 
-pub left_begins : (records : List Entry) (lsn : ℕ) (rec : LogRecord) (items : List Left) → is_begin rec ≡ true → IsFresh lsn records → AreLeft records items →
-    AreLeft (records ++ record { lsn = lsn; rec = rec } ∷ []) (items ++ record { txn = lsn; last = lsn; remaining = 0 } ∷ [])
-left_begins records lsn rec items begins fresh is =
-    let first : Left = record { txn = lsn; last = lsn; remaining = 0 } in
-    subst (λ (r : LogRecord). AreLeft (records ++ record { lsn = lsn; rec = r } ∷ []) (items ++ first ∷ [])) (sym (begin_only rec begins)) (record {
-      are = ap (λ (l : List Left). l ++ first ∷ []) is.are ∙ sym (map-append left_of (unfinished_in records) (record { txn = lsn; last = lsn; next = lsn; remaining = 0 } ∷ []))
-          ∙ ap (map left_of) (sym (unfinished_begin records lsn fresh));
+listed_below : (records : List Entry) (test : Entry → Bool) (to : ℕ) (log : List Entry) → AllByRecursion (λ e. e.lsn < to) log → AreBelow to (map entry_of (map (unfinished_at records) (map (λ (x : Entry). x.lsn) (filter test log))))
+listed_below records test to [] all = tt
+listed_below records test to (e ∷ log) all = by (test e) (listed_below records test to log all.1)
+  where
+    ends : Bool → List (ℕ × Left)
+    ends b = map entry_of (map (unfinished_at records) (map (λ (x : Entry). x.lsn) (cond b (e ∷ filter test log) (filter test log))))
+
+    by : (b : Bool) → AreBelow to (ends false) → AreBelow to (ends b)
+    by true rest = (all.0, rest)
+    by false rest = rest
+
+pub left_begins : (records : List Entry) (from lsn : ℕ) (rec : LogRecord) (old new : BTreeMap ℕ Left) → is_begin rec ≡ true → IsInOrder from records lsn → IsFresh lsn records → AreLeft records old →
+    new.entries ≡ insert_entry nat_cmp old.entries lsn (record { last = lsn; remaining = 0 }) → AreLeft (records ++ record { lsn = lsn; rec = rec } ∷ []) new
+left_begins records from lsn rec old new begins order fresh is put =
+    let first : Left = record { last = lsn; remaining = 0 } in
+    subst (λ (r : LogRecord). AreLeft (records ++ record { lsn = lsn; rec = r } ∷ []) new) (sym (begin_only rec begins)) (record {
+      are = put ∙ ap (λ (l : List (ℕ × Left)). insert_entry nat_cmp l lsn first) is.are
+          ∙ insert_last lsn first (map entry_of (unfinished_in records)) (listed_below records (is_listed records) lsn records (all_below from records lsn order))
+          ∙ sym (map-append entry_of (unfinished_in records) (record { txn = lsn; last = lsn; next = lsn; remaining = 0 } ∷ []))
+          ∙ ap (map entry_of) (sym (unfinished_begin records lsn fresh));
     })
 
-pub left_same : (records : List Entry) (e : Entry) (items : List Left) → is_begin e.rec ≡ false → AreLeft records items → position (is_of_txn (txn_of e)) items ≡ None → AreLeft (records ++ e ∷ []) items
-left_same records e items old is none =
-    let all = subst (AllByRecursion (λ x. is_of_txn (txn_of e) x ≡ false)) is.are (none_found (is_of_txn (txn_of e)) items none) in
-    record { are = is.are ∙ ap (map left_of) (sym (unfinished_same records e old (others_of records (txn_of e) (losers records) all))) }
+pub left_same : (records : List Entry) (e : Entry) (left : BTreeMap ℕ Left) → is_begin e.rec ≡ false → AreLeft records left → lookup (is_at (nat_cmp (txn_of e))) left.entries ≡ None → AreLeft (records ++ e ∷ []) left
+left_same records e left old is none = record {
+  are = is.are ∙ ap (map entry_of) (sym (unfinished_same records e old (absent records (txn_of e) (losers records) (ap (lookup (is_at (nat_cmp (txn_of e)))) (sym is.are) ∙ none))));
+}
 
-module _ (records : List Entry) (e : Entry) (items : List Left) (place from to : ℕ) (order : IsInOrder from records to) (is : AreLeft records items) (found : position (is_of_txn (txn_of e)) items ≡ Some place) where
-  no_left : Left
-  no_left = record { txn = 0; last = 0; remaining = 0 }
+module _ (records : List Entry) (e : Entry) (left : BTreeMap ℕ Left) (from to : ℕ) (order : IsInOrder from records to) (is : AreLeft records left) where
+  module _ (v : Left) (found : lookup (is_at (nat_cmp (txn_of e))) left.entries ≡ Some v) where
+    parts : Split (unfinished_in records) (txn_of e) v
+    parts = split (unfinished_in records) (txn_of e) v (ap (lookup (is_at (nat_cmp (txn_of e)))) (sym is.are) ∙ found)
 
-  at : (place < length items) × (is_of_txn (txn_of e) (get_or items place no_left) ≡ true)
-  at = let p = position-Some (is_of_txn (txn_of e)) items place no_left found in (p.0, p.1)
+    closed_there : (new : BTreeMap ℕ Left) → is_closing e.rec ≡ true → new.entries ≡ remove_entry (is_at (nat_cmp (txn_of e))) left.entries → AreLeft (records ++ e ∷ []) new
+    closed_there new closing taken = record {
+      are = taken ∙ ap (remove_entry (is_at (nat_cmp (txn_of e)))) is.are ∙ parts.removed
+          ∙ ap (map entry_of) (sym (unfinished_closed from to records e parts.front parts.x parts.back order closing parts.is parts.own));
+    }
 
-  parts : Split (unfinished_in records) place
-  parts = split (unfinished_in records) place (let size = ap length is.are in let same = length-map (unfinished_in records) left_of in let less = at.0 in omega (arith, size, same, less))
+    pub left_few : v.remaining ≤ length records
+    left_few =
+        let few = remaining_few records parts.front parts.x parts.back parts.is in
+        let same = ap (λ (x : Left). x.remaining) parts.read in
+        omega (arith, few, same)
 
-  own : parts.x.txn ≡ txn_of e
-  own =
-      let here : get_or items place no_left ≡ left_of parts.x = ap (λ (l : List Left). get_or l place no_left) is.are ∙ parts.read no_left in
-      sym (ap (λ (x : Left). x.txn) here) ∙ eqb-true _ (txn_of e) at.1
+    pub left_more : (new : BTreeMap ℕ Left) → is_begin e.rec ≡ false → is_closing e.rec ≡ false →
+        new.entries ≡ set_value (is_at (nat_cmp (txn_of e))) left.entries (record { last = e.lsn; remaining = remaining_by v.remaining e.rec }) → AreLeft (records ++ e ∷ []) new
+    left_more new old goes_on put =
+        let after : Left = left_of (after_record parts.x e) in
+        record {
+          are = put ∙ (λ i. set_value (is_at (nat_cmp (txn_of e))) (is.are i) (record { last = e.lsn; remaining = remaining_by (parts.read i).remaining e.rec })) ∙ parts.changed (after_record parts.x e) parts.own
+              ∙ ap (map entry_of) (sym (unfinished_more from to records e parts.front parts.x parts.back order old goes_on parts.is parts.own));
+        }
 
-  pub left_closed : is_closing e.rec ≡ true → AreLeft (records ++ e ∷ []) (remove items place)
-  left_closed closing = record {
-    are = ap (λ (l : List Left). remove l place) is.are ∙ parts.removed
-        ∙ ap (map left_of) (sym (unfinished_closed from to records e parts.front parts.x parts.back order closing parts.is own));
-  }
-
-  pub left_few : (z : Left) → z ≡ get_or items place z → z.remaining ≤ length records
-  left_few z reads =
-      let here : z ≡ left_of parts.x = reads ∙ ap (λ (l : List Left). get_or l place z) is.are ∙ parts.read z in
-      let few = remaining_few records parts.front parts.x parts.back parts.is in
-      let same = ap (λ (x : Left). x.remaining) here in
-      omega (arith, few, same)
-
-  pub left_more : is_begin e.rec ≡ false → is_closing e.rec ≡ false → (z y : Left) → z ≡ get_or items place z → y ≡ record { txn = z.txn; last = e.lsn; remaining = remaining_by z.remaining e.rec } →
-      AreLeft (records ++ e ∷ []) (set items place y)
-  left_more old goes_on z y reads new =
-      let here : z ≡ left_of parts.x = reads ∙ ap (λ (l : List Left). get_or l place z) is.are ∙ parts.read z in
-      let after : y ≡ left_of (after_record parts.x e) = new ∙ (λ i. record { txn = (here i).txn; last = e.lsn; remaining = remaining_by (here i).remaining e.rec }) in
-      record {
-        are = (λ i. set (is.are i) place (after i)) ∙ parts.changed (after_record parts.x e)
-            ∙ ap (map left_of) (sym (unfinished_more from to records e parts.front parts.x parts.back order old goes_on parts.is own));
-      }
+  pub left_closed : (new : BTreeMap ℕ Left) → is_closing e.rec ≡ true → new.entries ≡ remove_entry (is_at (nat_cmp (txn_of e))) left.entries → AreLeft (records ++ e ∷ []) new
+  left_closed new closing taken = by (lookup (is_at (nat_cmp (txn_of e))) left.entries) refl
+    where
+      by : (o : Option Left) → lookup (is_at (nat_cmp (txn_of e))) left.entries ≡ o → AreLeft (records ++ e ∷ []) new
+      by (Some v) found = closed_there v found new closing taken
+      by None none =
+          let same = left_same records e left (closing_is_no_begin e.rec closing) is none in
+          record { are = taken ∙ remove_none (is_at (nat_cmp (txn_of e))) left.entries (none_passes_from_lookup (is_at (nat_cmp (txn_of e))) left.entries none) ∙ same.are }
 
 -- what a master names of one
-abbrev pub pair_of : Left → Pair
-pair_of x = record { begin = x.txn; last = x.last }
+abbrev pub pair_of : ℕ × Left → Pair
+pair_of e = record { begin = e.0; last = e.1.last }
+
+-- The next of them, and of those that a master names.
+module _ (rest new all : List (ℕ × Left)) (e : ℕ × Left) (active : List Pair) (place : ℕ) (a : Pair) (is : rest ≡ e ∷ new) (inside : length rest + place ≡ length active) (there : slice_get active place ≡ Some a)
+    (same : (map pair_of rest ≡ drop place active) ↔ (map pair_of all ≡ active)) where
+  dropped : drop place active ≡ a ∷ drop (place + 1) active
+  dropped =
+      drop-cons active place a (let long = ap (λ (l : List (ℕ × Left)). length l) is in omega (arith, inside, long))
+      ∙ (λ i. get_or_from_slice_get active place a a there i ∷ drop (sym (add-one place) i) active)
+
+  pub named_more : pair_of e ≡ a → (map pair_of new ≡ drop (place + 1) active) ↔ (map pair_of all ≡ active)
+  named_more named = (
+    λ later. same.0 (ap (map pair_of) is ∙ (λ i. named i ∷ later i) ∙ sym dropped),
+    λ whole. ap (drop 1) (sym (ap (map pair_of) is) ∙ same.1 whole ∙ dropped),
+  )
+
+  pub named_not : (pair_of e ≡ a → ⊥) → map pair_of all ≡ active → ⊥
+  named_not other whole = other (ap (λ (l : List Pair). get_or l 0 a) (sym (ap (map pair_of) is) ∙ same.1 whole ∙ dropped))
 
 -- The records before another one, and those before a block.
 
@@ -231,7 +267,7 @@ active_of pair = record { begin = pair.begin; last = pair.last }
 abbrev pair_back : Active → Pair
 pair_back a = record { begin = a.begin; last = a.last }
 
-actives : (records : List Entry) (ns : List ℕ) → map active_of (map pair_of (map left_of (map (unfinished_at records) ns))) ≡ map (λ t. record { begin = t; last = last_lsn (entries_of t records) }) ns
+actives : (records : List Entry) (ns : List ℕ) → map active_of (map pair_of (map entry_of (map (unfinished_at records) ns))) ≡ map (λ t. record { begin = t; last = last_lsn (entries_of t records) }) ns
 actives records [] = refl
 actives records (n ∷ ns) = ap (λ (l : List Active). record { begin = n; last = last_lsn (entries_of n records) } ∷ l) (actives records ns)
 
@@ -239,11 +275,11 @@ back_again : (pairs : List Pair) → map pair_back (map active_of pairs) ≡ pai
 back_again [] = refl
 back_again (pair ∷ pairs) = ap (λ (l : List Pair). pair ∷ l) (back_again pairs)
 
-pub named_are_active : (records : List Entry) (items : List Left) (pairs : List Pair) → AreLeft records items → map pair_of items ≡ pairs → map active_of pairs ≡ active_in records
-named_are_active records items pairs is same = ap (map active_of) (sym same ∙ ap (map pair_of) is.are) ∙ actives records (losers records)
+pub named_are_active : (records : List Entry) (left : BTreeMap ℕ Left) (pairs : List Pair) → AreLeft records left → map pair_of left.entries ≡ pairs → map active_of pairs ≡ active_in records
+named_are_active records left pairs is same = ap (map active_of) (sym same ∙ ap (map pair_of) is.are) ∙ actives records (losers records)
 
-pub active_are_named : (records : List Entry) (items : List Left) (pairs : List Pair) → AreLeft records items → map active_of pairs ≡ active_in records → map pair_of items ≡ pairs
-active_are_named records items pairs is same =
-    sym (back_again (map pair_of items))
-    ∙ ap (map pair_back) (ap (λ (l : List Left). map active_of (map pair_of l)) is.are ∙ actives records (losers records) ∙ sym same)
+pub active_are_named : (records : List Entry) (left : BTreeMap ℕ Left) (pairs : List Pair) → AreLeft records left → map active_of pairs ≡ active_in records → map pair_of left.entries ≡ pairs
+active_are_named records left pairs is same =
+    sym (back_again (map pair_of left.entries))
+    ∙ ap (map pair_back) (ap (λ (l : List (ℕ × Left)). map active_of (map pair_of l)) is.are ∙ actives records (losers records) ∙ sym same)
     ∙ back_again pairs

@@ -1,10 +1,10 @@
 -- Which transactions are open after one record more.
-use Rattle.std.proofs.Common.{◌≡◌, ℕ, ◌*◌, ◌≤◌, inl, inr, Bool, true, false, true≢false, not, ◌&&◌, ◌||◌, cond, List, [], ◌∷◌, ◌++◌, refl, sym, ap, subst, ◌∙◌}
-use Rattle.std.specs.Prelude.{filter, map, nat_le, ◌==◌}
+use Rattle.std.proofs.Common.{◌≡◌, ℕ, ◌*◌, ◌≤◌, Bool, true, false, true≢false, not, ◌&&◌, ◌||◌, cond, List, [], ◌∷◌, ◌++◌, refl, sym, ap, subst, ◌∙◌}
+use Rattle.std.specs.Prelude.{map, nat_eq, nat_le, ◌==◌}
 use Rattle.std.specs.List.{AllByRecursion, list_any}
 use Rattle.std.proofs.lemmas.List.Elements.{filter-append}
 use Rattle.std.proofs.lemmas.List.Folds.{list_any-append}
-use Rattle.std.proofs.lemmas.Bool.{and_right, cases_Bool, eqb-true, eq-eqb}
+use Rattle.std.proofs.lemmas.Bool.{and_right, eqb-true}
 use Rattle.std_lemmas.proofs.AllOf.{all_right}
 use Rattle.std_lemmas.proofs.Bools.{or_without_last, or_without, or_assoc}
 use Rattle.log_records.specs.declared.log_record.LogRecord.{LogRecord}
@@ -18,6 +18,7 @@ use Rattle.log_laws.proofs.Appends.{fresh_open}
 use Rattle.log_laws.proofs.Orders.{InTurn-weaker, InTurn-all}
 use Rattle.log_laws.proofs.Parts.{InTurn-right}
 use Rattle.checkpoint.specs.declared.pairs.Pair.{Pair}
+use Rattle.indexmap.specs.IndexSet.{IndexSet, contains}
 use Rattle.image_check.specs.Opening.{AreOpen, MayStand}
 use Rattle.image_form.specs.Verdict.{RecordsFollowBegins}
 
@@ -47,21 +48,21 @@ known_push active redo records e t =
 -- Which are open.
 
 -- a transaction begins from the redo block on
-pub open_more : (m : Master) (records : List Entry) (e : Entry) (txns : List ℕ) → is_closing e.rec ≡ false → is_begin e.rec ≡ true → nat_le (512 * m.redo) e.lsn ≡ true → IsFresh e.lsn records →
-    AreOpen m records txns → AreOpen m (records ++ e ∷ []) (txns ++ e.lsn ∷ [])
-open_more m records e txns goes_on begins late fresh is = record {
+pub open_more : {S : Type 0} (m : Master) (records : List Entry) (e : Entry) (old new : IndexSet ℕ S) → is_closing e.rec ≡ false → is_begin e.rec ≡ true → nat_le (512 * m.redo) e.lsn ≡ true → IsFresh e.lsn records →
+    ((t : ℕ) → contains nat_eq new t ≡ cond (e.lsn == t) true (contains nat_eq old t)) → AreOpen m records old → AreOpen m (records ++ e ∷ []) new
+open_more m records e old new goes_on begins late fresh updates is = record {
   are = λ t.
       let k : Bool = is_known m.active (from_block m.redo records) t in
-      let new : is_new m.redo e t ≡ (e.lsn == t) = (λ i. late i && (begins i && (e.lsn == t))) in
-      let known = known_push m.active m.redo records e t ∙ ap (λ (b : Bool). k || b) new in
+      let begun : is_new m.redo e t ≡ (e.lsn == t) = (λ i. late i && (begins i && (e.lsn == t))) in
+      let known = known_push m.active m.redo records e t ∙ ap (λ (b : Bool). k || b) begun in
       let closed = closed_push records e t ∙ or_without_last (is_closed records t) (is_of t e && is_closing e.rec) (ap (λ (b : Bool). is_of t e && b) goes_on ∙ and_right (is_of t e) false refl) in
-      list_any-append (λ x. x == t) txns (e.lsn ∷ [])
-      ∙ ap (λ (b : Bool). b || ((e.lsn == t) || false)) (is.are t)
+      updates t
+      ∙ ap (λ (b : Bool). cond (e.lsn == t) true b) (is.are t)
       ∙ by k (is_closed records t) (e.lsn == t) (λ same. ap (is_closed records) (sym (eqb-true e.lsn t same)) ∙ fresh_open e.lsn records fresh)
       ∙ sym (λ i. known i && not (closed i));
 }
   where
-    by : (k c q : Bool) → (q ≡ true → c ≡ false) → ((k && not c) || (q || false)) ≡ ((k || q) && not c)
+    by : (k c q : Bool) → (q ≡ true → c ≡ false) → cond q true (k && not c) ≡ ((k || q) && not c)
     by true true true h = absurd (true≢false (h refl))
     by true true false h = refl
     by true false true h = refl
@@ -71,64 +72,39 @@ open_more m records e txns goes_on begins late fresh is = record {
     by false false true h = refl
     by false false false h = refl
 
--- those without one
-pub any_without : (s t : ℕ) (xs : List ℕ) → list_any (λ x. x == t) (filter (λ x. not (x == s)) xs) ≡ (list_any (λ x. x == t) xs && not (s == t))
-any_without s t [] = refl
-any_without s t (x ∷ xs) = by (x == s) refl (any_without s t xs)
-  where
-    gone : (a q : Bool) → (a && not q) ≡ ((q || a) && not q)
-    gone true true = refl
-    gone true false = refl
-    gone false true = refl
-    gone false false = refl
-
-    stays : (a p q : Bool) → (p ≡ true → q ≡ false) → (p || (a && not q)) ≡ ((p || a) && not q)
-    stays a true true h = absurd (true≢false (h refl))
-    stays a true false h = refl
-    stays a false q h = refl
-
-    by : (b : Bool) → (x == s) ≡ b → list_any (λ x. x == t) (filter (λ x. not (x == s)) xs) ≡ (list_any (λ x. x == t) xs && not (s == t)) →
-        list_any (λ x. x == t) (cond (not b) (x ∷ filter (λ x. not (x == s)) xs) (filter (λ x. not (x == s)) xs)) ≡ (((x == t) || list_any (λ x. x == t) xs) && not (s == t))
-    by true same rest =
-        let is : x ≡ s = eqb-true x s same in
-        rest ∙ gone (list_any (λ x. x == t) xs) (s == t) ∙ ap (λ (n : ℕ). ((n == t) || list_any (λ x. x == t) xs) && not (s == t)) (sym is)
-    by false other rest =
-        ap (λ (b : Bool). (x == t) || b) rest
-        ∙ stays (list_any (λ x. x == t) xs) (x == t) (s == t) (λ here. elim (cases_Bool (s == t)) [
-          | inl there ↦ let a : x ≡ t = eqb-true x t here in let b : s ≡ t = eqb-true s t there in absurd (true≢false (sym (eq-eqb x s (a ∙ sym b)) ∙ other))
-          | inr apart ↦ apart
-        ])
-
 -- a transaction is closed
-pub open_without : (m : Master) (records : List Entry) (e : Entry) (txns : List ℕ) → is_closing e.rec ≡ true → is_begin e.rec ≡ false →
-    AreOpen m records txns → AreOpen m (records ++ e ∷ []) (filter (λ x. not (x == txn_of e)) txns)
-open_without m records e txns closing old is = record {
+pub open_without : {S : Type 0} (m : Master) (records : List Entry) (e : Entry) (old new : IndexSet ℕ S) → is_closing e.rec ≡ true → is_begin e.rec ≡ false →
+    ((t : ℕ) → contains nat_eq new t ≡ cond (txn_of e == t) false (contains nat_eq old t)) → AreOpen m records old → AreOpen m (records ++ e ∷ []) new
+open_without m records e old new closing no_begin updates is = record {
   are = λ t.
       let k : Bool = is_known m.active (from_block m.redo records) t in
-      let new : is_new m.redo e t ≡ false = ap (λ (b : Bool). nat_le (512 * m.redo) e.lsn && (b && (e.lsn == t))) old ∙ and_right (nat_le (512 * m.redo) e.lsn) false refl in
-      let known = known_push m.active m.redo records e t ∙ or_without k (is_new m.redo e t) new in
+      let begun : is_new m.redo e t ≡ false = ap (λ (b : Bool). nat_le (512 * m.redo) e.lsn && (b && (e.lsn == t))) no_begin ∙ and_right (nat_le (512 * m.redo) e.lsn) false refl in
+      let known = known_push m.active m.redo records e t ∙ or_without k (is_new m.redo e t) begun in
       let closed = closed_push records e t ∙ ap (λ (b : Bool). is_closed records t || ((is_of t e && b) || false)) closing in
-      any_without (txn_of e) t txns
-      ∙ ap (λ (b : Bool). b && not (txn_of e == t)) (is.are t)
+      updates t
+      ∙ ap (λ (b : Bool). cond (txn_of e == t) false b) (is.are t)
       ∙ by k (is_closed records t) (txn_of e == t)
       ∙ sym (λ i. known i && not (closed i));
 }
   where
-    by : (k c q : Bool) → ((k && not c) && not q) ≡ (k && not (c || ((q && true) || false)))
-    by true true q = refl
+    by : (k c q : Bool) → cond q false (k && not c) ≡ (k && not (c || ((q && true) || false)))
+    by true true true = refl
+    by true true false = refl
     by true false true = refl
     by true false false = refl
-    by false c q = refl
+    by false c true = refl
+    by false c false = refl
 
 -- before the first record
-pub open_first : (m : Master) (pairs : List Pair) (txns : List ℕ) → m.active ≡ map (λ pair. record { begin = pair.begin; last = pair.last }) pairs → txns ≡ map (λ pair. pair.begin) pairs → AreOpen m [] txns
+pub open_first : {S : Type 0} (m : Master) (pairs : List Pair) (txns : IndexSet ℕ S) → m.active ≡ map (λ pair. record { begin = pair.begin; last = pair.last }) pairs →
+    ((t : ℕ) → contains nat_eq txns t ≡ list_any (λ (pair : Pair). pair.begin == t) pairs) → AreOpen m [] txns
 open_first m pairs txns named is = record {
   are = λ t.
-      ap (list_any (λ x. x == t)) is ∙ all t pairs ∙ by (list_any (λ (a : Active). a.begin == t) (map (λ (pair : Pair). record { begin = pair.begin; last = pair.last }) pairs))
+      is t ∙ all t pairs ∙ by (list_any (λ (a : Active). a.begin == t) (map (λ (pair : Pair). record { begin = pair.begin; last = pair.last }) pairs))
       ∙ ap (λ (l : List Active). is_known l [] t && true) (sym named);
 }
   where
-    all : (t : ℕ) (xs : List Pair) → list_any (λ x. x == t) (map (λ (pair : Pair). pair.begin) xs) ≡ list_any (λ (a : Active). a.begin == t) (map (λ (pair : Pair). record { begin = pair.begin; last = pair.last }) xs)
+    all : (t : ℕ) (xs : List Pair) → list_any (λ (x : Pair). x.begin == t) xs ≡ list_any (λ (a : Active). a.begin == t) (map (λ (pair : Pair). record { begin = pair.begin; last = pair.last }) xs)
     all t [] = refl
     all t (x ∷ xs) = ap (λ (b : Bool). (x.begin == t) || b) (all t xs)
 

@@ -1,26 +1,29 @@
 -- Unfinished transactions, with their Begin and without.
-use Rattle.std.proofs.Common.{◌≡◌, ℕ, ◌+◌, ◌<◌, ◌≤◌, inl, inr, Bool, true, false, true≢false, not, ◌&&◌, ◌||◌, cond, List, [], ◌∷◌, ◌++◌, map, drop, refl, sym, ap, subst, ◌∙◌, arith}
-use Rattle.std.specs.Prelude.{filter, ◌==◌}
+use Rattle.std.proofs.Common.{◌≡◌, ◌⊎◌, ℕ, ◌+◌, ◌<◌, ◌≤◌, inl, inr, Bool, true, false, true≢false, not, ◌&&◌, ◌||◌, cond, nat_eq, List, [], ◌∷◌, ◌++◌, map, drop, Option, Some, None, refl, sym, ap, subst, ◌∙◌, arith}
+use Rattle.std.specs.Prelude.{filter, slice_get, is_some, IfSome, ◌==◌}
 use Rattle.std.specs.List.{list_any}
+use Rattle.std.specs.Map.{lookup}
 use Rattle.std.proofs.lemmas.Bool.{and_parts, and_from, cases_Bool, eqb-true, eq-eqb, not-true, not_from_false, or_left, or_right}
 use Rattle.std.proofs.lemmas.List.Elements.{filter-append}
 use Rattle.std.proofs.lemmas.List.Folds.{list_any-append}
+use Rattle.std.proofs.lemmas.Option.{none-some, get_or_from_slice_get}
 use Rattle.std_lemmas.proofs.AllOf.{all_left}
-use Rattle.std_lemmas.proofs.Bools.{and_true}
-use Rattle.std_lemmas.proofs.Lists.{any_between}
+use Rattle.indexmap.specs.IndexMap.{IndexMap, get}
 use Rattle.log_records.specs.Log.{Entry, txn_of, is_of, is_closing, is_closed, entries_of}
 use Rattle.log_records.specs.Unfinished.{is_begin, losers}
 use Rattle.log_records.specs.Sound.{LogicalImage, InTurn, IsInOrder, IsLoserChain, Continues, HaveBegunBefore}
 use Rattle.log_laws.proofs.Orders.{filter_none}
-use Rattle.log_laws.proofs.Values.{closed_by, closed_same}
+use Rattle.log_laws.proofs.Values.{closed_push, closed_same}
 use Rattle.log_laws.proofs.Listing.{listed_is_loser}
 use Rattle.image_check.specs.declared.chain.Chain.{Chain}
-use Rattle.image_check.specs.Chaining.{IsKept, StandsThere, Breaks, AreStrays, begin_at}
+use Rattle.image_check.specs.declared.chains.Chains.{Chains}
+use Rattle.image_check.specs.Chaining.{IsKept, Keeps, StandsIn, StandsThere, Breaks, HearsOwn, AreChains, AreStrays, begin_at}
 use Rattle.image_form.specs.Verdict.{LosersCanBeUndone}
 use Rattle.log_laws.proofs.Parts.{InTurn-right, all_below}
 use Rattle.log_records.proofs.Entries.{in_order_left}
+use Rattle.image_check.proofs.ChainOnes.{other_same}
 use Rattle.image_check.proofs.HeldOnes.{chain_listed}
-use Rattle.image_check.proofs.OpenOnes.{any_without, begin_only}
+use Rattle.image_check.proofs.OpenOnes.{begin_only}
 use Rattle.log_laws.proofs.Orderly.{fresh_of}
 
 -- A transaction on the list has its Begin, and this is its first record.
@@ -121,64 +124,206 @@ chain_broken log front e back t split there broken chain =
     let rest : drop 1 (entries_of t log) ≡ drop 1 (entries_of t front) ++ e ∷ entries_of t back = ap (drop 1) (parts ∙ ap (λ (l : List Entry). l ++ e ∷ entries_of t back) first) in
     broken.breaks (InTurn-right Continues (begin_at t ∷ []) (drop 1 (entries_of t front)) (e ∷ entries_of t back) (subst (InTurn Continues (begin_at t ∷ [])) rest chain.continues)).0
 
-pub chain_of : (log : List Entry) (t : ℕ) (c : Chain) → entries_of t log ≡ begin_at t ∷ drop 1 (entries_of t log) → IsKept t c (drop 1 (entries_of t log)) → IsLoserChain t (entries_of t log)
-chain_of log t c first k = record { begins = first; continues = k.continues }
+-- One record more of one of them.
 
--- Strays.
+abbrev Listed : List Entry → ℕ → Type 0
+Listed log t = list_any (λ n. n == t) (losers log) ≡ true
 
-pub not_closed_by : (log : List Entry) (e : Entry) (t : ℕ) → is_closed log t ≡ false → (is_of t e && is_closing e.rec) ≡ false → is_closed (log ++ e ∷ []) t ≡ false
-not_closed_by log e t before off = closed_same log e t off ∙ before
+there_of : (log records : List Entry) (e : Entry) → StandsIn log records e → (t : ℕ) → Listed log t → StandsThere t records e
+there_of log records e at t listed = stands_there log records e at.back t at.from at.to at.is at.in_order at.begun listed
 
-pub closed_at : (front : List Entry) (e : Entry) (back : List Entry) (t : ℕ) → (is_of t e && is_closing e.rec) ≡ true → is_closed (front ++ e ∷ back) t ≡ true
-closed_at front e back t here = any_between (λ x. is_of t x && is_closing x.rec) front e back here
+pub chains_first : (log : List Entry) (chains : Chains) → chains.chains.entries ≡ [] → chains.broken ≡ None → AreChains log [] chains
+chains_first log chains empty whole = record {
+  kept = λ t listed stands. subst (λ (o : Option Chain). Keeps t o []) (sym (ap (lookup (nat_eq t)) empty)) refl;
+  broken = subst (λ (o : Option ℕ). IfSome o (λ t. Listed log t × (IsLoserChain t (entries_of t log) → ⊥))) (sym whole) tt;
+}
 
--- a record closes its transaction, which isn't on the list
-pub strays_closed : (log records : List Entry) (e : Entry) (txns : List ℕ) → is_closing e.rec ≡ true → AreStrays log records txns → AreStrays log (records ++ e ∷ []) (filter (λ x. not (x == txn_of e)) txns)
-strays_closed log records e txns closing is = record {
+module _ (log records : List Entry) (e : Entry) (at : StandsIn log records e) (old new : Chains) (chain : Chain) (goes_on : Bool) (own : Listed log (txn_of e)) (is : AreChains log records old)
+    (hears : Keeps (txn_of e) (get nat_eq old.chains (txn_of e)) (drop 1 (entries_of (txn_of e) records)) → HearsOwn (txn_of e) chain records e goes_on) where
+  elsewhere : (t : ℕ) → (txn_of e == t) ≡ false → get nat_eq new.chains t ≡ get nat_eq old.chains t → (old.broken ≡ None) ⊎ IsLoserChain t (entries_of t log) → Listed log t →
+      Keeps t (get nat_eq new.chains t) (drop 1 (entries_of t (records ++ e ∷ [])))
+  elsewhere t other same stands listed = subst (λ (o : Option Chain). Keeps t o (drop 1 (entries_of t (records ++ e ∷ [])))) (sym same)
+      (subst (λ (l : List Entry). Keeps t (get nat_eq old.chains t) (drop 1 l)) (sym (other_same t records e other)) (is.kept t listed stands))
+
+  pub chains_go_on : goes_on ≡ true → ((t : ℕ) → get nat_eq new.chains t ≡ cond (txn_of e == t) (Some chain) (get nat_eq old.chains t)) → new.broken ≡ old.broken → AreChains log (records ++ e ∷ []) new
+  chains_go_on on updates whole = record {
+    kept = λ t listed stands.
+        let before : (old.broken ≡ None) ⊎ IsLoserChain t (entries_of t log) = elim stands [
+          | inl none ↦ inl (sym whole ∙ none)
+          | inr fits ↦ inr fits
+        ] in
+        elim (cases_Bool (txn_of e == t)) [
+          | inl here ↦
+              let same : txn_of e ≡ t = eqb-true (txn_of e) t here in
+              subst (λ (o : Option Chain). Keeps t o (drop 1 (entries_of t (records ++ e ∷ [])))) (sym (updates t ∙ ap (λ (b : Bool). cond b (Some chain) (get nat_eq old.chains t)) here))
+              (subst (λ (n : ℕ). IsKept n chain (drop 1 (entries_of n (records ++ e ∷ [])))) same
+              ((hears (is.kept (txn_of e) own (subst (λ (n : ℕ). (old.broken ≡ None) ⊎ IsLoserChain n (entries_of n log)) (sym same) before))).heard (there_of log records e at (txn_of e) own) on))
+          | inr other ↦ elsewhere t other (updates t ∙ ap (λ (b : Bool). cond b (Some chain) (get nat_eq old.chains t)) other) before listed
+        ];
+    broken = subst (λ (o : Option ℕ). IfSome o (λ t. Listed log t × (IsLoserChain t (entries_of t log) → ⊥))) (sym whole) is.broken;
+  }
+
+  pub chains_break : goes_on ≡ false → ((t : ℕ) → get nat_eq new.chains t ≡ cond (txn_of e == t) None (get nat_eq old.chains t)) →
+      (least : ℕ) → (least ≡ txn_of e) ⊎ (old.broken ≡ Some least) → new.broken ≡ Some least → AreChains log (records ++ e ∷ []) new
+  chains_break off updates least which found = record {
+    kept = λ t listed stands.
+        let fits : IsLoserChain t (entries_of t log) = elim stands [
+          | inl none ↦ absurd (none-some least (sym none ∙ found))
+          | inr fits ↦ fits
+        ] in
+        elim (cases_Bool (txn_of e == t)) [
+          | inl here ↦ absurd (broken (subst (λ (n : ℕ). IsLoserChain n (entries_of n log)) (sym (eqb-true (txn_of e) t here)) fits))
+          | inr other ↦ elsewhere t other (updates t ∙ ap (λ (b : Bool). cond b None (get nat_eq old.chains t)) other) (inr fits) listed
+        ];
+    broken = subst (λ (o : Option ℕ). IfSome o (λ t. Listed log t × (IsLoserChain t (entries_of t log) → ⊥))) (sym found) (elim which [
+      | inl same ↦ subst (λ (n : ℕ). Listed log n × (IsLoserChain n (entries_of n log) → ⊥)) (sym same) (own, broken)
+      | inr before ↦ subst (λ (o : Option ℕ). IfSome o (λ t. Listed log t × (IsLoserChain t (entries_of t log) → ⊥))) before is.broken
+    ]);
+  }
+    where
+      broken : IsLoserChain (txn_of e) (entries_of (txn_of e) log) → ⊥
+      broken fits =
+          let there = there_of log records e at (txn_of e) own in
+          chain_broken log records e at.back (txn_of e) at.is there ((hears (is.kept (txn_of e) own (inr fits))).wrong off) fits
+
+-- one of another one
+pub chains_same : (log records : List Entry) (e : Entry) (chains : Chains) → list_any (λ n. n == txn_of e) (losers log) ≡ false → AreChains log records chains → AreChains log (records ++ e ∷ []) chains
+chains_same log records e chains unlisted is = record {
+  kept = λ t listed stands. elim (cases_Bool (is_of t e)) [
+    | inl own ↦ absurd (true≢false (sym listed ∙ ap (λ (n : ℕ). list_any (λ m. m == n) (losers log)) (sym (eqb-true (txn_of e) t own)) ∙ unlisted))
+    | inr other ↦ subst (λ (l : List Entry). Keeps t (get nat_eq chains.chains t) (drop 1 l)) (sym (other_same t records e other)) (is.kept t listed stands)
+  ];
+  broken = is.broken;
+}
+
+-- One record more of another one.
+
+before_it : (records : List Entry) (e : Entry) (t : ℕ) → is_of t e ≡ false → list_any (is_of t) (records ++ e ∷ []) ≡ true → list_any (is_of t) records ≡ true
+before_it records e t other some = by (list_any (is_of t) records) (is_of t e) other (sym (list_any-append (is_of t) records (e ∷ [])) ∙ some)
+  where
+    by : (a b : Bool) → b ≡ false → (a || (b || false)) ≡ true → a ≡ true
+    by true b off all = refl
+    by false true off all = absurd (true≢false off)
+    by false false off all = all
+
+still_there : (records : List Entry) (e : Entry) (t : ℕ) → list_any (is_of t) records ≡ true → list_any (is_of t) (records ++ e ∷ []) ≡ true
+still_there records e t some = list_any-append (is_of t) records (e ∷ []) ∙ or_left (list_any (is_of t) records) (list_any (is_of t) (e ∷ [])) some
+
+pub strays_same : {S : Type 0} (log records : List Entry) (e : Entry) (txns : IndexMap ℕ ℕ S) → Listed log (txn_of e) → AreStrays log records txns → AreStrays log (records ++ e ∷ []) txns
+strays_same log records e txns own is = record {
+  covers = λ t some. elim (cases_Bool (is_of t e)) [
+    | inl here ↦
+        let listed : Listed log t = subst (Listed log) (eqb-true (txn_of e) t here) own in
+        or_left (list_any (λ n. n == t) (losers log)) (is_closed (records ++ e ∷ []) t || is_some (get nat_eq txns t)) listed
+    | inr other ↦
+        let same : is_closed (records ++ e ∷ []) t ≡ is_closed records t = closed_same records e t (ap (λ (b : Bool). b && is_closing e.rec) other) in
+        (λ i. list_any (λ n. n == t) (losers log) || (same i || is_some (get nat_eq txns t))) ∙ is.covers t (before_it records e t other some)
+  ];
+  there = λ t some. let old = is.there t some in (still_there records e t old.0, old.1);
+}
+
+pub strays_more : {S : Type 0} (log records : List Entry) (e : Entry) (old new : IndexMap ℕ ℕ S) → list_any (λ n. n == txn_of e) (losers log) ≡ false →
+    ((t : ℕ) → is_some (get nat_eq new t) ≡ cond (txn_of e == t) (not (is_closing e.rec)) (is_some (get nat_eq old t))) → AreStrays log records old → AreStrays log (records ++ e ∷ []) new
+strays_more log records e old new unlisted updates is = record {
   covers = λ t some. elim (cases_Bool (is_of t e)) [
     | inl own ↦
-        let closed : is_closed (records ++ e ∷ []) t ≡ true = closed_by records e t (and_from (is_of t e) (is_closing e.rec) own closing) in
-        ap (λ (b : Bool). list_any (λ n. n == t) (losers log) || (b || list_any (λ x. x == t) (filter (λ x. not (x == txn_of e)) txns))) closed ∙ or_right (list_any (λ n. n == t) (losers log)) true refl
+        let here : is_some (get nat_eq new t) ≡ not (is_closing e.rec) = updates t ∙ ap (λ (b : Bool). cond b (not (is_closing e.rec)) (is_some (get nat_eq old t))) own in
+        let closed : is_closed (records ++ e ∷ []) t ≡ (is_closed records t || is_closing e.rec) =
+        closed_push records e t ∙ ap (λ (b : Bool). is_closed records t || ((b && is_closing e.rec) || false)) own ∙ shorter (is_closed records t) (is_closing e.rec) in
+        (λ i. list_any (λ n. n == t) (losers log) || (closed i || here i)) ∙ all (list_any (λ n. n == t) (losers log)) (is_closed records t) (is_closing e.rec)
     | inr other ↦
-        let before : list_any (is_of t) records ≡ true = without (list_any (is_of t) records) (is_of t e) other (sym (list_any-append (is_of t) records (e ∷ [])) ∙ some) in
+        let before : list_any (is_of t) records ≡ true = before_it records e t other some in
         let same : is_closed (records ++ e ∷ []) t ≡ is_closed records t = closed_same records e t (ap (λ (b : Bool). b && is_closing e.rec) other) in
-        let stays : list_any (λ x. x == t) (filter (λ x. not (x == txn_of e)) txns) ≡ list_any (λ x. x == t) txns = any_without (txn_of e) t txns ∙ ap (λ (b : Bool). list_any (λ x. x == t) txns && not b) other ∙ and_true (list_any (λ x. x == t) txns) in
+        let stays : is_some (get nat_eq new t) ≡ is_some (get nat_eq old t) = updates t ∙ ap (λ (b : Bool). cond b (not (is_closing e.rec)) (is_some (get nat_eq old t))) other in
         (λ i. list_any (λ n. n == t) (losers log) || (same i || stays i)) ∙ is.covers t before
   ];
-  there = λ t some.
-      let both = and_parts (list_any (λ x. x == t) txns) (not (txn_of e == t)) (sym (any_without (txn_of e) t txns) ∙ some) in
-      let old = is.there t both.0 in
-      (list_any-append (is_of t) records (e ∷ []) ∙ or_left (list_any (is_of t) records) (list_any (is_of t) (e ∷ [])) old.0, old.1);
+  there = λ t some. elim (cases_Bool (is_of t e)) [
+    | inl own ↦ (
+      list_any-append (is_of t) records (e ∷ []) ∙ or_right (list_any (is_of t) records) (is_of t e || false) (or_left (is_of t e) false own),
+      ap (λ (n : ℕ). list_any (λ m. m == n) (losers log)) (sym (eqb-true (txn_of e) t own)) ∙ unlisted,
+    )
+    | inr other ↦
+        let old_there = is.there t (sym (updates t ∙ ap (λ (b : Bool). cond b (not (is_closing e.rec)) (is_some (get nat_eq old t))) other) ∙ some) in
+        (still_there records e t old_there.0, old_there.1)
+  ];
 }
   where
-    without : (a b : Bool) → b ≡ false → (a || (b || false)) ≡ true → a ≡ true
-    without true b off all = refl
-    without false true off all = absurd (true≢false off)
-    without false false off all = all
+    shorter : (a k : Bool) → (a || ((true && k) || false)) ≡ (a || k)
+    shorter a true = refl
+    shorter a false = refl
+
+    all : (l c k : Bool) → (l || ((c || k) || not k)) ≡ true
+    all true c k = refl
+    all false true k = refl
+    all false false true = refl
+    all false false false = refl
+
+pub strays_first : {S : Type 0} (log : List Entry) (txns : IndexMap ℕ ℕ S) → txns.entries ≡ [] → AreStrays log [] txns
+strays_first log txns empty = record {
+  covers = λ t some. absurd (true≢false (sym some));
+  there = λ t some. absurd (true≢false (sym some ∙ ap (λ (l : List (ℕ × ℕ)). is_some (lookup (nat_eq t) l)) empty));
+}
+
+pub stray_first : {S : Type 0} (txns : IndexMap ℕ ℕ S) (t lsn : ℕ) → slice_get txns.entries 0 ≡ Some (t, lsn) → is_some (get nat_eq txns t) ≡ true
+stray_first txns t lsn there = by txns.entries there
+  where
+    by : (es : List (ℕ × ℕ)) → slice_get es 0 ≡ Some (t, lsn) → is_some (lookup (nat_eq t) es) ≡ true
+    by [] none = absurd (none-some (t, lsn) none)
+    by (e ∷ es) is =
+        let same : e.0 ≡ t = ap (λ (p : ℕ × ℕ). p.0) (get_or_from_slice_get (e ∷ es) 0 (t, lsn) (t, lsn) is) in
+        ap (λ (b : Bool). is_some (cond b (Some e.1) (lookup (nat_eq t) es))) (eq-eqb t e.0 (sym same))
+
+-- What no record has closed.
+
+pub closing_more : (records : List Entry) (e : Entry) (t : ℕ) (some : Bool) → cond (txn_of e == t && is_closing e.rec) false (some && not (is_closed records t)) ≡ (some && not (is_closed (records ++ e ∷ []) t))
+closing_more records e t some = by some (is_closed records t) (is_of t e) (is_closing e.rec) ∙ ap (λ (b : Bool). some && not b) (sym (closed_push records e t))
+  where
+    by : (s c o k : Bool) → cond (o && k) false (s && not c) ≡ (s && not (c || ((o && k) || false)))
+    by true true true true = refl
+    by true true true false = refl
+    by true true false k = refl
+    by true false true true = refl
+    by true false true false = refl
+    by true false false k = refl
+    by false c true true = refl
+    by false c true false = refl
+    by false c false k = refl
 
 -- The rule.
 
 abbrev pub HaveChains : List Entry → Type 0
 HaveChains log = (t : ℕ) → list_any (λ n. n == t) (losers log) ≡ true → IsLoserChain t (entries_of t log)
 
-abbrev pub AreClosed : List Entry → List ℕ → Type 0
-AreClosed log txns = (t : ℕ) → list_any (λ x. x == t) txns ≡ true → is_closed log t ≡ true
+abbrev pub AreClosed : {S : Type 0} → List Entry → IndexMap ℕ ℕ S → Type 0
+AreClosed log txns = (t : ℕ) → is_some (get nat_eq txns t) ≡ true → is_closed log t ≡ true
 
-pub fourth_of : (p : LogicalImage) (txns : List ℕ) → AreStrays p.log p.log txns → HaveChains p.log → AreClosed p.log txns → LosersCanBeUndone p
+pub fourth_of : {S : Type 0} (p : LogicalImage) (txns : IndexMap ℕ ℕ S) → AreStrays p.log p.log txns → HaveChains p.log → AreClosed p.log txns → LosersCanBeUndone p
 fourth_of p txns strays chains closed t loser =
     let both = and_parts (list_any (is_of t) p.log) (not (is_closed p.log t)) loser in
     let lives = not-true (is_closed p.log t) both.1 in
     elim (cases_Bool (list_any (λ n. n == t) (losers p.log))) [
       | inl listed ↦ chains t listed
       | inr unlisted ↦
-          let stray : list_any (λ x. x == t) txns ≡ true = sym (λ i. unlisted i || (lives i || list_any (λ x. x == t) txns)) ∙ strays.covers t both.0 in
+          let stray : is_some (get nat_eq txns t) ≡ true = sym (λ i. unlisted i || (lives i || is_some (get nat_eq txns t))) ∙ strays.covers t both.0 in
           absurd (true≢false (sym (closed t stray) ∙ lives))
     ]
+
+-- where none was found that can't be undone, each one can
+pub chains_whole : (from to : ℕ) (log : List Entry) (chains : Chains) → IsInOrder from log to → HaveBegunBefore log → AreChains log log chains → chains.broken ≡ None → HaveChains log
+chains_whole from to log chains order begun is whole t listed =
+    by (get nat_eq chains.chains t) (is.kept t listed (inl whole))
+  where
+    first : entries_of t log ≡ begin_at t ∷ drop 1 (entries_of t log)
+    first = first_is log t from to order begun listed
+
+    by : (o : Option Chain) → Keeps t o (drop 1 (entries_of t log)) → IsLoserChain t (entries_of t log)
+    by None none = record { begins = first; continues = subst (InTurn Continues (begin_at t ∷ [])) (sym none) tt }
+    by (Some c) k = record { begins = first; continues = k.continues }
 
 pub chains_of : (p : LogicalImage) → LosersCanBeUndone p → HaveChains p.log
 chains_of p rule t listed = rule t (listed_is_loser p.log t listed)
 
-pub closed_of : (p : LogicalImage) (txns : List ℕ) → AreStrays p.log p.log txns → LosersCanBeUndone p → AreClosed p.log txns
+pub closed_of : {S : Type 0} (p : LogicalImage) (txns : IndexMap ℕ ℕ S) → AreStrays p.log p.log txns → LosersCanBeUndone p → AreClosed p.log txns
 closed_of p txns strays rule t stray = elim (cases_Bool (is_closed p.log t)) [
   | inl closed ↦ closed
   | inr lives ↦

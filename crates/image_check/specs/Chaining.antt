@@ -1,11 +1,15 @@
--- One unfinished transaction, record by record.
-use Rattle.std.specs.Prelude.{◌≡◌, ℕ, Bool, List, [], ◌∷◌, ◌++◌, map, reverse, drop, true, false, ◌==◌, ◌||◌}
+-- Unfinished transactions, record by record.
+use Rattle.std.specs.Prelude.{◌≡◌, ◌⊎◌, ℕ, Bool, List, [], ◌∷◌, ◌++◌, map, reverse, drop, true, false, ◌==◌, ◌||◌, nat_eq}
+use Rattle.std.specs.Prelude.{Option, Some, None, is_some, IfSome}
+use Rattle.indexmap.specs.IndexMap.{IndexMap, get}
 use Rattle.std.specs.List.{list_any}
 use Rattle.log_records.specs.declared.log_record.LogRecord.TheVariants.{Begin}
 use Rattle.log_records.specs.Log.{Entry, is_of, is_closed, entries_of}
 use Rattle.log_records.specs.Unfinished.{is_clr, open_updates, losers}
-use Rattle.log_records.specs.Sound.{InTurn, Continues, last_lsn}
+use Rattle.log_records.specs.Sound.{InTurn, IsInOrder, IsLoserChain, HaveBegunBefore, Continues, last_lsn}
 use Rattle.image_check.specs.declared.chain.Chain.{Chain}
+use Rattle.image_check.specs.declared.chains.Chains.{Chains}
+use Rattle.image_check.specs.declared.undoable.Undoing.{Undoing}
 
 -- its Begin
 abbrev pub begin_at : ℕ → Entry
@@ -35,10 +39,37 @@ pub record HearsOwn (t : ℕ) (new : Chain) (records : List Entry) (e : Entry) (
   pub heard : StandsThere t records e → goes_on ≡ true → IsKept t new (drop 1 (entries_of t (records ++ e ∷ [])))
   pub wrong : goes_on ≡ false → Breaks t records e
 
+-- a record of a log that is in order, behind these, and no record there stands before its Begin
+pub record StandsIn (log records : List Entry) (e : Entry) : Type 0 where
+  pub back : List Entry
+  pub is : log ≡ records ++ e ∷ back
+  pub from : ℕ
+  pub to : ℕ
+  pub in_order : IsInOrder from log to
+  pub begun : HaveBegunBefore log
+
+-- what is kept of it, or that there is no record of it behind its Begin
+abbrev pub Keeps : ℕ → Option Chain → List Entry → Type 0
+Keeps t None rest = rest ≡ []
+Keeps t (Some c) rest = IsKept t c rest
+
+-- Of each unfinished transaction that has its Begin in a log this is kept of these records, as long as none is found
+-- that the log's records don't undo, and beyond that of those that they do; and what is found is one that they don't.
+pub record AreChains (log records : List Entry) (chains : Chains) : Type 0 where
+  pub kept : (t : ℕ) → list_any (λ n. n == t) (losers log) ≡ true →
+      (chains.broken ≡ None) ⊎ IsLoserChain t (entries_of t log) →
+      Keeps t (get nat_eq chains.chains t) (drop 1 (entries_of t records))
+  pub broken : IfSome chains.broken (λ t. (list_any (λ n. n == t) (losers log) ≡ true)
+      × (IsLoserChain t (entries_of t log) → ⊥))
+
 -- of a log: each transaction of these records is unfinished with its Begin in the log, or closed, or one of these; and
 -- each of these has a record, and no Begin that leaves it unfinished
-pub record AreStrays (log records : List Entry) (txns : List ℕ) : Type 0 where
+pub record AreStrays {S : Type 0} (log records : List Entry) (txns : IndexMap ℕ ℕ S) : Type 0 where
   pub covers : (t : ℕ) → list_any (is_of t) records ≡ true →
-      (list_any (λ n. n == t) (losers log) || (is_closed records t || list_any (λ x. x == t) txns)) ≡ true
-  pub there : (t : ℕ) → list_any (λ x. x == t) txns ≡ true →
+      (list_any (λ n. n == t) (losers log) || (is_closed records t || is_some (get nat_eq txns t))) ≡ true
+  pub there : (t : ℕ) → is_some (get nat_eq txns t) ≡ true →
       (list_any (is_of t) records ≡ true) × (list_any (λ n. n == t) (losers log) ≡ false)
+
+pub record IsUndoing (log records : List Entry) (undoing : Undoing) : Type 0 where
+  pub chains : AreChains log records undoing.chains
+  pub strays : AreStrays log records undoing.strays.txns

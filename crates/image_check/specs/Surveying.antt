@@ -9,6 +9,6 @@ use Rattle.image_check.specs.Unended.{AreLeft}
 -- these are the transactions that records leave unfinished, those that the records before the redo block do, and the
 -- numbers of the commits
 pub record Surveys (redo : ℕ) (records : List Entry) (survey : Survey) : Type 0 where
-  pub left : AreLeft records survey.left.left.items
-  pub early : AreLeft (before_block redo records) survey.early.left.items
+  pub left : AreLeft records survey.left.left
+  pub early : AreLeft (before_block redo records) survey.early.left
   pub numbers : NumbersAre redo records survey.numbers

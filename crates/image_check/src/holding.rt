@@ -49,7 +49,7 @@ impl HeldNumbers {
     // Hears the next record of a log that leaves these transactions unfinished: an Update of one of them holds its
     // number.
     fn hear(&mut self, lsn: u64, rec: &LogRecord, left: &LeftTxns) -> Result<(), Stop>
-        ensures { OrMemory result (λ done. (log : List Entry) (records : List Entry) → AreLeft log left.now.left.items
+        ensures { OrMemory result (λ done. (log : List Entry) (records : List Entry) → AreLeft log left.now.left
             → IsListed log (txn_by lsn rec.now) → AreHeld log records self.old.held
             → AreHeld log (records ++ record { lsn = lsn; rec = rec.now } ∷ []) self.new.held) }
     {
@@ -85,7 +85,7 @@ pub fn rule_apart<S: Site>(
 
     ensures { Judges found.now result (S.state site.old) (S.state site.new) (λ blocks failing.
         LosersCanBeUndone (logical_image_of (reading_of found.now blocks) (S.state site.old).image)
-        → AreLeft (records_of found.now blocks) left.now.left.items
+        → AreLeft (records_of found.now blocks) left.now.left
         → (IsTrue (is_none failing)
         ↔ LosersHoldOthersOff (logical_image_of (reading_of found.now blocks) (S.state site.old).image))) }
 {

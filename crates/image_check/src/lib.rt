@@ -2,10 +2,12 @@
 #![tactic(auto)]
 
 mod chain;
+mod chains;
 mod commits;
 mod holding;
 mod laws;
 mod showing;
+mod strays;
 mod survey;
 mod txns;
 mod undoable;

@@ -53,9 +53,9 @@ impl Survey {
     // Hears a record of those before the redo block.
     fn hear_early(&mut self, lsn: u64, rec: &LogRecord, redo: u64) -> Result<(), Stop>
         ensures early { OrMemory result (λ done. (records : List Entry) → Comes records lsn
-            → AreLeft (before_block redo records) self.old.early.left.items
+            → AreLeft (before_block redo records) self.old.early.left
             → AreLeft (before_block redo (records ++ record { lsn = lsn; rec = rec.now } ∷ []))
-            self.new.early.left.items) }
+            self.new.early.left) }
         ensures left { self.new.left ≡ self.old.left }
         ensures numbers { self.new.numbers ≡ self.old.numbers }
     {

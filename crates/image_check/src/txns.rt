@@ -1,5 +1,6 @@
 // The transactions that are open, record by record.
-ghost use Rattle.std.specs.Prelude.{◌≡◌, ◌↔◌, ◌++◌, ◌∷◌, [], not, ◌==◌, filter, List, IsTrue};
+ghost use Rattle.std.specs.Prelude.{◌≡◌, ◌↔◌, ◌++◌, ◌∷◌, [], ◌==◌, ℕ, nat_eq, true, false, if◌then◌else◌, List, IsTrue};
+ghost use Rattle.indexmap.specs.IndexSet.{contains};
 ghost use Rattle.log_records.specs.declared.log_record.LogRecord.{LogRecord};
 ghost use Rattle.log_records.specs.Log.{Entry, txn_by, is_closing};
 ghost use Rattle.log_records.specs.Unfinished.{is_begin};
@@ -10,6 +11,7 @@ ghost use Rattle.image_check.specs.Judging.{OrMemory};
 ghost use Rattle.image_check.specs.Opening.{AreOpen, MayStand};
 
 use checkpoint::Master;
+use indexmap::IndexSet;
 use log_records::LogRecord;
 use site::Stop;
 use std::alloc::Global;
@@ -51,18 +53,18 @@ pub fn closes(rec: &LogRecord) -> bool
 /// The transactions that are known from the redo block on, and that no record has closed.
 #[derive(Drop)]
 pub struct OpenTxns {
-    txns: Vec<u64>,
+    txns: IndexSet<u64>,
 }
 
 impl OpenTxns {
     /// Before the first record: those that the master names.
     pub fn start(alloc: Global, master: &Master) -> Result<OpenTxns, Stop>
-        ensures { OrMemory result (λ set. AreOpen (seen master.now) [] set.txns.items) }
+        ensures { OrMemory result (λ set. AreOpen (seen master.now) [] set.txns) }
     {
-        let mut txns = Vec::new(alloc);
+        let mut txns = IndexSet::new(alloc);
         for place in 0..master.active.len() {
             let (begin, _last) = master.active.at(place);
-            let Ok(()) = txns.push(begin) else {
+            let Ok(_) = txns.insert(begin) else {
                 return Err(Stop::Memory);
             };
         }
@@ -72,7 +74,7 @@ impl OpenTxns {
     /// Whether a record may come next: it isn't before its transaction's Begin, and from the redo block on it is a
     /// Begin or of an open transaction.
     pub fn admits(&self, lsn: u64, rec: &LogRecord, redo: u64) -> bool
-        ensures { (m : sound.Master) (records : List Entry) → m.redo ≡ redo → AreOpen m records self.now.txns.items
+        ensures { (m : sound.Master) (records : List Entry) → m.redo ≡ redo → AreOpen m records self.now.txns
             → IsTrue result ↔ MayStand m records (record { lsn = lsn; rec = rec.now }) }
     {
         let txn = txn_of(lsn, rec);
@@ -90,9 +92,10 @@ impl OpenTxns {
 
     // A transaction begins.
     fn begin(&mut self, txn: u64) -> Result<(), Stop>
-        ensures { OrMemory result (λ done. self.new.txns.items ≡ self.old.txns.items ++ txn ∷ []) }
+        ensures { OrMemory result (λ done. (t : ℕ) → contains nat_eq self.new.txns t
+            ≡ (if txn == t then true else contains nat_eq self.old.txns t)) }
     {
-        let Ok(()) = self.txns.push(txn) else {
+        let Ok(_) = self.txns.insert(txn) else {
             return Err(Stop::Memory);
         };
         Ok(())
@@ -100,16 +103,17 @@ impl OpenTxns {
 
     // A transaction is closed.
     fn close(&mut self, txn: u64)
-        ensures { self.new.txns.items ≡ filter (λ t. not (t == txn)) self.old.txns.items }
+        ensures { (t : ℕ) → contains nat_eq self.new.txns t
+            ≡ (if txn == t then false else contains nat_eq self.old.txns t) }
     {
-        self.txns.retain(|other| *other != txn);
+        self.txns.swap_remove(&txn);
     }
 
     /// Hears a record that may come next.
     pub fn hear(&mut self, lsn: u64, rec: &LogRecord, redo: u64) -> Result<(), Stop>
         ensures { OrMemory result (λ done. (m : sound.Master) (records : List Entry) → m.redo ≡ redo
-            → AreOpen m records self.old.txns.items → IsFresh lsn records
-            → AreOpen m (records ++ record { lsn = lsn; rec = rec.now } ∷ []) self.new.txns.items) }
+            → AreOpen m records self.old.txns → IsFresh lsn records
+            → AreOpen m (records ++ record { lsn = lsn; rec = rec.now } ∷ []) self.new.txns) }
     {
         if closes(rec) {
             self.close(txn_of(lsn, rec));

@@ -1,7 +1,9 @@
 // The transactions that records leave unfinished, record by record.
 ghost use Rattle.std.specs.Prelude.{◌≡◌, ◌==◌, ◌↔◌, ◌^◌, ◌+◌, ◌-◌, ◌<◌, ◌≤◌, ◌++◌, ◌∷◌, [], List, map};
 ghost use Rattle.std.specs.Prelude.{false, IsTrue};
-ghost use Rattle.std.specs.List.{list_any, position};
+ghost use Rattle.std.specs.BTreeMap.{insert_entry, values};
+ghost use Rattle.std.specs.List.{list_any};
+ghost use Rattle.std.specs.Ordering.{nat_cmp};
 ghost use Rattle.site.specs.State.{State};
 ghost use Rattle.log_records.specs.declared.log_record.LogRecord.{LogRecord};
 ghost use Rattle.log_records.specs.Log.{Entry};
@@ -20,12 +22,11 @@ use image_form::Found;
 use log_records::LogRecord;
 use site::Stop;
 use std::alloc::Global;
+use std::collections::BTreeMap;
 
-// An unfinished transaction: the LSNs of its Begin, which names it, and of its last record, and how many of its Updates
-// no CLR compensates.
+/// What is kept of an unfinished transaction: the LSN of its last record, and how many of its Updates no CLR compensates.
 #[derive(Clone, Copy, Debug, Drop)]
 pub struct Left {
-    pub txn: u64,
     pub last: u64,
     pub remaining: u64,
 }
@@ -34,7 +35,7 @@ impl Left {
     // After one more record of its own.
     fn after(&self, lsn: u64, rec: &LogRecord) -> Left
         ensures { self.now.remaining < 2 ^ 62
-            → result ≡ record { txn = self.now.txn; last = lsn; remaining = remaining_by self.now.remaining rec.now } }
+            → result ≡ record { last = lsn; remaining = remaining_by self.now.remaining rec.now } }
     {
         let remaining = match rec {
             LogRecord::Update { .. } => self.remaining.saturating_add(1),
@@ -42,46 +43,37 @@ impl Left {
             _ => self.remaining,
         };
         Left {
-            txn: self.txn,
             last: lsn,
             remaining,
         }
     }
 }
 
-// The place of a transaction.
-fn place_of(left: &[Left], txn: u64) -> Option<usize>
-    ensures { result ≡ position (λ x. x.txn == txn) left.now }
-{
-    left.iter().position(|transaction| transaction.txn == txn)
-}
-
-// The unfinished transactions, in the order of their Begins.
+/// The unfinished transactions, by the LSNs of their Begins.
 #[derive(Drop)]
 pub struct LeftTxns {
-    pub left: Vec<Left>,
+    pub left: BTreeMap<u64, Left>,
 }
 
 impl LeftTxns {
     /// Whether a transaction is one of them.
     pub fn has(&self, txn: u64) -> bool
-        ensures { (records : List Entry) → AreLeft records self.now.left.items
+        ensures { (records : List Entry) → AreLeft records self.now.left
             → result ≡ list_any (λ t. t == txn) (losers records) }
     {
-        self.left.iter().any(|transaction| transaction.txn == txn)
+        self.left.contains_key(&txn)
     }
 
     // A transaction begins.
     fn begin(&mut self, lsn: u64) -> Result<(), Stop>
-        ensures { OrMemory result (λ done. self.new.left.items
-            ≡ self.old.left.items ++ record { txn = lsn; last = lsn; remaining = 0 } ∷ []) }
+        ensures { OrMemory result (λ done. self.new.left.entries
+            ≡ insert_entry nat_cmp self.old.left.entries lsn (record { last = lsn; remaining = 0 })) }
     {
-        let Ok(()) = self.left.push(Left {
-            txn: lsn,
+        let first = Left {
             last: lsn,
             remaining: 0,
-        })
-        else {
+        };
+        let Ok(_) = self.left.insert(lsn, first) else {
             return Err(Stop::Memory);
         };
         Ok(())
@@ -90,34 +82,34 @@ impl LeftTxns {
     // Hears a record that isn't a Begin.
     fn go_on(&mut self, lsn: u64, rec: &LogRecord)
         ensures { (records : List Entry) → Comes records lsn → is_begin rec.now ≡ false
-            → AreLeft records self.old.left.items
-            → AreLeft (records ++ record { lsn = lsn; rec = rec.now } ∷ []) self.new.left.items }
+            → AreLeft records self.old.left
+            → AreLeft (records ++ record { lsn = lsn; rec = rec.now } ∷ []) self.new.left }
     {
-        let Some(place) = place_of(&self.left, txn_of(lsn, rec)) else {
-            return;
-        };
+        let txn = txn_of(lsn, rec);
         if closes(rec) {
-            self.left.remove(place);
+            self.left.remove(&txn);
             return;
         }
-        let after = self.left[place].after(lsn, rec);
-        self.left[place] = after;
+        let Some(left) = self.left.get_mut(&txn) else {
+            return;
+        };
+        *left = left.after(lsn, rec);
     }
 
     /// None.
     pub fn none(alloc: Global) -> LeftTxns
-        ensures { AreLeft [] result.left.items }
+        ensures { AreLeft [] result.left }
     {
         LeftTxns {
-            left: Vec::new(alloc),
+            left: BTreeMap::new(alloc),
         }
     }
 
     /// Hears the next record.
     pub fn hear(&mut self, lsn: u64, rec: &LogRecord) -> Result<(), Stop>
         ensures { OrMemory result (λ done. (records : List Entry) → Comes records lsn
-            → AreLeft records self.old.left.items
-            → AreLeft (records ++ record { lsn = lsn; rec = rec.now } ∷ []) self.new.left.items) }
+            → AreLeft records self.old.left
+            → AreLeft (records ++ record { lsn = lsn; rec = rec.now } ∷ []) self.new.left) }
     {
         if begins(rec) {
             return self.begin(lsn);
@@ -129,33 +121,35 @@ impl LeftTxns {
     // Whether they are those that a master names.
     fn are_named(&self, master: &Master) -> bool
         ensures { IsTrue result
-            ↔ (map (λ x. record { begin = x.txn; last = x.last }) self.now.left.items ≡ master.now.active) }
+            ↔ (map (λ e. record { begin = e.0; last = e.1.last }) self.now.left.entries ≡ master.now.active) }
     {
         if self.left.len() != master.active.len() {
             return false;
         }
-        for (place, transaction) in self.left.iter().enumerate() {
+        let mut place = 0;
+        for (txn, left) in &self.left {
             let (begin, last) = master.active.at(place);
-            if begin != transaction.txn {
+            if begin != *txn {
                 return false;
             }
-            if last != transaction.last {
+            if last != left.last {
                 return false;
             }
+            place += 1;
         }
         true
     }
 
     // Whether undoing them makes no more records than there is room for.
     fn fit(&self, room: u64) -> bool
-        ensures { IsTrue result ↔ (owed_for self.now.left.items ≤ room) }
+        ensures { IsTrue result ↔ (owed_for (values self.now.left) ≤ room) }
     {
         let mut free = room;
-        for transaction in &self.left {
-            if transaction.remaining >= free {
+        for left in self.left.values() {
+            if left.remaining >= free {
                 return false;
             }
-            free = free - transaction.remaining - 1;
+            free = free - left.remaining - 1;
         }
         true
     }
@@ -166,7 +160,7 @@ pub fn rule_room(found: &Found, left: &LeftTxns) -> bool
     requires { (site : State) × MayBeJudged found.now site }
 
     ensures room { (site : State) (blocks : List (List LogRecord)) → Sees found.now blocks site
-        → AreLeft (records_of found.now blocks) left.now.left.items
+        → AreLeft (records_of found.now blocks) left.now.left
         → IsTrue result ↔ UndoHasRoom (logical_image_of (reading_of found.now blocks) site.image) }
 {
     let hi = found.log.sealed_end() / 512;
@@ -177,7 +171,7 @@ pub fn rule_room(found: &Found, left: &LeftTxns) -> bool
 
 /// The tenth rule, by the transactions that were unfinished before the redo block: whether the master names these.
 pub fn rule_named(master: &Master, early: &LeftTxns) -> bool
-    ensures named { (records : List Entry) → AreLeft (before_block master.now.redo records) early.now.left.items
+    ensures named { (records : List Entry) → AreLeft (before_block master.now.redo records) early.now.left
         → IsTrue result ↔ ((seen master.now).active ≡ active_in (before_block master.now.redo records)) }
 {
     early.are_named(master)

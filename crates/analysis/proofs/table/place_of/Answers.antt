@@ -1,15 +1,19 @@
-use Rattle.std.proofs.Common.{sym, subst, ◌∙◌, ap, drop, suc, ◌∷◌}
-use Rattle.std.proofs.Math.Seq.{drop-cons}
+use Rattle.std.proofs.Common.{◌<◌, ◌+◌, ◌-◌, ◌/◌, take, ℕ, sym, subst, arith, add-one}
 use Rattle.analysis.specs.declared.table.Transaction.{Transaction}
-use Rattle.analysis.specs.Table.{BeginsWith}
+use Rattle.std.specs.List.{AllByRecursion}
+use Rattle.analysis.proofs.Lists.{below_to}
 use Rattle.analysis.proofs.table.place_of.Goals as goal
 
-pub returns-then-transaction-txn-clause-there : goal.returns-then-transaction-txn-clause-there
-returns-then-transaction-txn-clause-there c =
-    let x = c.index-transactions-place.result in
+pub loop-low-preserved-then-transactions-middle : goal.loop-low-preserved-then-transactions-middle
+loop-low-preserved-then-transactions-middle c =
+    let middle : ℕ = c.loop-low.low + (c.loop-low.high - c.loop-low.low) / 2 in
+    let test = c.loop-low-test.true in
+    let room = c.loop-low.invariant.inside in
+    let less : middle < c.loop-low.high = omega (arith, test) in
     record {
-      inside = c.loop-place-test.true;
-      before = c.loop-place.invariant;
-      here = subst (BeginsWith c.args.txn) (sym (drop-cons c.args.transactions.now c.loop-place.place x c.loop-place-test.true ∙ ap (λ (y : Transaction). y ∷ drop (suc c.loop-place.place) c.args.transactions.now) (sym c.index-transactions-place.is)))
-          c.if-transaction-txn.true;
+      order = omega (arith, less);
+      inside = room;
+      before = subst (λ (n : ℕ). AllByRecursion (λ x. x.txn < c.args.txn) (take n c.args.transactions.now)) (sym (add-one middle))
+          (below_to 0 c.args.txn c.args.transactions.now middle c.index-transactions-middle.result c.requires (omega (arith, less, room)) c.index-transactions-middle.is (subst (λ (x : Transaction). x.txn < c.args.txn) (sym c.index-transactions-middle.is) c.if-transactions-middle.true));
+      behind = c.loop-low.invariant.behind;
     }

@@ -1,15 +1,14 @@
-use Rattle.std.proofs.Common.{◌≡◌, ◌==◌, ℕ, List, true, take}
-use Rattle.std.specs.Prelude.{Ok}
-use Rattle.std.specs.List.{list_any}
-use Rattle.log_records.specs.declared.log_record.LogRecord.{LogRecord}
+use Rattle.std.proofs.Common.{◌≡◌, ◌&&◌, ℕ, nat_eq, not}
+use Rattle.std.specs.Prelude.{is_some}
+use Rattle.indexmap.specs.IndexMap.{get}
 use Rattle.log_records.specs.Log.{is_closed}
-use Rattle.site.specs.Work.{OnlyReads}
-use Rattle.image_check.specs.Judging.{MayBeJudged, Sees, records_of}
+use Rattle.image_form.specs.Walking.{to_go}
+use Rattle.image_check.proofs.Walking.{WalksOver}
 use Rattle.image_check.proofs.undoable.find_open.Given as goal
 
-abbrev pub invariant-loop-place : goal.invariant-loop-place
-invariant-loop-place g l = record {
-  may : MayBeJudged l.found (g.S.Site.state l.site);
-  closed : (blocks : List (List LogRecord)) → Sees l.found blocks (g.S.Site.state l.fn.site) → (t : ℕ) → list_any (λ x. x == t) (take l.place l.txns) ≡ true → is_closed (records_of l.found blocks) t ≡ true;
-  reads : OnlyReads {T = Unit {0}} (Ok tt) (g.S.Site.state l.fn.site) (g.S.Site.state l.site);
-}
+abbrev pub invariant-loop-strays : goal.invariant-loop-strays
+invariant-loop-strays g l = WalksOver l.found l.walk (g.S.Site.state l.fn.site) (g.S.Site.state l.site) (λ blocks done. (t : ℕ) →
+    is_some (get nat_eq l.strays.txns t) ≡ (is_some (get nat_eq l.fn.strays.txns t) && not (is_closed done t)))
+
+abbrev pub decreases-loop-strays : goal.decreases-loop-strays
+decreases-loop-strays g l = to_go l.found.log l.walk

@@ -1,24 +1,27 @@
-use Rattle.std.proofs.Common.{rules, ◌≡◌, ◌==◌, true≢false, sym, ap, ◌∙◌}
+use Rattle.std.proofs.Common.{rules, ◌≡◌, ◌==◌, ℕ, Option, true, true≢false, sym, subst}
+use Rattle.std.specs.Prelude.{IfSome}
 use Rattle.std.specs.List.{list_any}
+use Rattle.log_records.specs.Log.{entries_of}
+use Rattle.log_records.specs.Unfinished.{losers}
+use Rattle.log_records.specs.Sound.{IsLoserChain}
 use Rattle.image_form.specs.Verdict.{logical_image_of}
-use Rattle.image_form.proofs.FirstRule.{placed, unplaced}
-use Rattle.image_check.specs.Judging.{reading_of}
-use Rattle.image_check.proofs.StrayOnes.{fourth_of, chains_of, closed_of}
-use Rattle.image_check.proofs.Walking.{may_later, sees_later}
+use Rattle.image_check.specs.Judging.{reading_of, records_of}
+use Rattle.image_check.proofs.StrayOnes.{fourth_of, chains_of, chains_whole, closed_of}
+use Rattle.image_check.proofs.Walking.{in_order, may_later, sees_later}
 use Rattle.image_check.proofs.undoable.rule_undoable.Goals as goal
 
-pub find_strays-requires : goal.find_strays-requires
-find_strays-requires g c = may_later c.in-Ok-None.ensures.reads c.requires
-
 pub find_open-requires : goal.find_open-requires
-find_open-requires g c = may_later c.in-Ok.ensures.reads (may_later c.in-Ok-None.ensures.reads c.requires)
+find_open-requires g c = may_later c.in-Ok.ensures.reads c.requires
 
-pub returns-in-Ok-Some : goal.returns-in-Ok-Some
-returns-in-Ok-Some g c = record {
+pub returns-in-Some : goal.returns-in-Some
+returns-in-Some g c = record {
   says = λ blocks sees third left.
-      let p = logical_image_of (reading_of c.args.found.now blocks) (g.S.Site.state c.args.site.now).image in (
+      let p = logical_image_of (reading_of c.args.found.now blocks) (g.S.Site.state c.args.site.now).image in
+      let log = records_of c.args.found.now blocks in
+      let undoing = c.in-Ok.ensures.says blocks sees third.begun left in
+      let found = subst (λ (o : Option ℕ). IfSome o (λ t. (list_any (λ n. n == t) (losers log) ≡ true) × (IsLoserChain t (entries_of t log) → ⊥))) c.in-Some.is undoing.chains.broken in (
         λ wrong. absurd (true≢false (sym wrong)),
-        λ rule. absurd (true≢false (sym ((c.in-Ok-Some.ensures.says blocks sees third.begun left).1 (chains_of p rule)) ∙ placed c.in-Ok-Some.field-0 c.in-Ok-Some.place c.in-Ok-Some.field-0-is)),
+        λ rule. absurd (found.1 (chains_of p rule c.in-Some.txn found.0)),
       );
   reads = search rules;
 }
@@ -27,13 +30,11 @@ pub returns-in-Ok-find_open : goal.returns-in-Ok-find_open
 returns-in-Ok-find_open g c = record {
   says = λ blocks sees third left.
       let p = logical_image_of (reading_of c.args.found.now blocks) (g.S.Site.state c.args.site.now).image in
-      let txns = c.in-Ok.strays.txns.items in
-      let sees1 = sees_later c.in-Ok-None.ensures.reads sees in
-      let strays = c.in-Ok.ensures.says blocks sees1 left in
-      let closed = c.in-Ok-find_open.ensures.says blocks (sees_later c.in-Ok.ensures.reads sees1) in
-      let items : c.deref.result.now ≡ txns = c.deref.ensures.value in (
-        λ stand. fourth_of p txns strays ((c.in-Ok-None.ensures.says blocks sees third.begun left).0 (unplaced c.in-Ok-None.field-0 c.in-Ok-None.field-0-is)) (λ t some. closed.0 stand t (ap (list_any (λ x. x == t)) items ∙ some)),
-        λ rule. closed.1 (λ t some. closed_of p txns strays rule t (sym (ap (list_any (λ x. x == t)) items) ∙ some)),
+      let txns = c.in-Ok.undoing.strays.txns in
+      let undoing = c.in-Ok.ensures.says blocks sees third.begun left in
+      let closed = c.in-Ok-find_open.ensures.says blocks (sees_later c.in-Ok.ensures.reads sees) in (
+        λ stand. fourth_of p txns undoing.strays (chains_whole _ _ (records_of c.args.found.now blocks) c.in-Ok.undoing.chains (in_order sees) third.begun undoing.chains c.in_default.is) (closed.0 stand),
+        λ rule. closed.1 (closed_of p txns undoing.strays rule),
       );
   reads = search rules;
 }

@@ -13,7 +13,7 @@ returns-clause-going c = (c.close.ensures.changes c.args.txn c.in-Ok.ensures.the
 pub returns-clause-read : goal.returns-clause-read
 returns-clause-read c m records lsn is =
     let e : Entry = record { lsn = lsn; rec = End c.args.txn } in
-    let found = c.in-Ok.ensures.found c.requires.going in
+    let found = c.in-Ok.ensures.found in
     closes_read m records e c.args.self.now (record c.args.self.now { table = c.close.new.self }) is (no_commit m records c.args.self.now is) found.0 found.1
     (c.close.ensures.changes c.args.txn c.in-Ok.ensures.there c.requires.going) refl
 

@@ -16,7 +16,7 @@ returns-in-Begin-clause-read c m records is comes =
     let comes_here : MayCome records (record { lsn = c.args.lsn; rec = Begin }) = subst (λ (r : LogRecord). MayCome records (record { lsn = c.args.lsn; rec = r })) c.in-Begin.is comes in
     on_ok_weaker c.begin.result (λ begun.
     subst (λ (r : LogRecord). IsAnalysis m (records ++ record { lsn = c.args.lsn; rec = r } ∷ []) (record c.args.self.now { table = c.begin.new.self })) (sym c.in-Begin.is)
-    (begin_read m records c.args.lsn c.args.self.now (record c.args.self.now { table = c.begin.new.self }) is refl comes_here begun)) (c.begin.ensures.begun is.table.ascend)
+    (begin_read m records c.args.lsn c.args.self.now (record c.args.self.now { table = c.begin.new.self }) is refl comes_here begun)) c.begin.ensures.begun
 
 pub returns-in_ok-place-in-Update-clause-read : goal.returns-in_ok-place-in-Update-clause-read
 returns-in_ok-place-in-Update-clause-read c m records is comes =
@@ -41,7 +41,7 @@ pub returns-in_ok-place-in-Commit-clause-read : goal.returns-in_ok-place-in-Comm
 returns-in_ok-place-in-Commit-clause-read c m records is comes =
     let u = c.in-Commit in
     let e : Entry = record { lsn = c.args.lsn; rec = Commit u.txn u.number } in
-    let found = c.in_ok-place-in-Commit.ensures.found is.table.ascend in
+    let found = c.in_ok-place-in-Commit.ensures.found in
     subst (λ (r : LogRecord). IsAnalysis m (records ++ record { lsn = c.args.lsn; rec = r } ∷ []) (record c.args.self.now { table = c.close.new.self; commits = c.saturating_add-self.result })) (sym u.is)
     (closes_read m records e c.args.self.now (record c.args.self.now { table = c.close.new.self; commits = c.saturating_add-self.result }) is c.saturating_add-self.ensures found.0 found.1
     (c.close.ensures.changes u.txn c.in_ok-place-in-Commit.ensures.there is.table.ascend) refl)
@@ -50,7 +50,7 @@ pub returns-in_ok-place-in-End-clause-read : goal.returns-in_ok-place-in-End-cla
 returns-in_ok-place-in-End-clause-read c m records is comes =
     let u = c.in-End in
     let e : Entry = record { lsn = c.args.lsn; rec = End u.txn } in
-    let found = c.in_ok-place-in-End.ensures.found is.table.ascend in
+    let found = c.in_ok-place-in-End.ensures.found in
     subst (λ (r : LogRecord). IsAnalysis m (records ++ record { lsn = c.args.lsn; rec = r } ∷ []) (record c.args.self.now { table = c.close-in-End.new.self })) (sym u.is)
     (closes_read m records e c.args.self.now (record c.args.self.now { table = c.close-in-End.new.self }) is (no_commit m records c.args.self.now is) found.0 found.1
     (c.close-in-End.ensures.changes u.txn c.in_ok-place-in-End.ensures.there is.table.ascend) refl)

@@ -8,18 +8,18 @@ use Rattle.analysis.proofs.Tables.{begins_again, begins_new}
 use Rattle.analysis.proofs.table.Table.begin.Goals as goal
 
 pub returns-in-Ok-clause-begun : goal.returns-in-Ok-clause-begun
-returns-in-Ok-clause-begun c ascend =
+returns-in-Ok-clause-begun c =
     let items = c.args.self.now.transactions.items in
     let z = c.index_mut.result.now in
     let at : StandsAt items c.in-Ok.place c.args.lsn = subst (λ (l : List Transaction). StandsAt l c.in-Ok.place c.args.lsn) c.deref.ensures.value c.in-Ok.ensures.there in
     begins_again (map open_of items) _ c.args.lsn
-    (becomes_at items c.in-Ok.place c.args.lsn at (record z { last = c.args.lsn }) z (λ (x : Open). record x { last = c.args.lsn }) (λ o. refl) c.index_mut.ensures.value refl ascend)
+    (becomes_at items c.in-Ok.place c.args.lsn at (record z { last = c.args.lsn }) z (λ (x : Open). record x { last = c.args.lsn }) (λ o. refl) c.index_mut.ensures.value refl c.requires)
 
 pub returns-in-Err-clause-begun : goal.returns-in-Err-clause-begun
-returns-in-Err-clause-begun c ascend =
+returns-in-Err-clause-begun c =
     let items = c.args.self.now.transactions.items in
     let at : GoesAt items c.in-Err.place c.args.lsn = subst (λ (l : List Transaction). GoesAt l c.in-Err.place c.args.lsn) c.deref.ensures.value c.in-Err.ensures.absent in
-    on_ok_weaker c.add.result (begins_new (map open_of items) _ c.args.lsn (absent_at items c.in-Err.place c.args.lsn at ascend)) (c.add.ensures.added ascend)
+    on_ok_weaker c.add.result (begins_new (map open_of items) _ c.args.lsn (absent_at items c.in-Err.place c.args.lsn at c.requires)) (c.add.ensures.added c.requires)
 
 pub returns-in-Ok-clause-owed : goal.returns-in-Ok-clause-owed
 returns-in-Ok-clause-owed c =

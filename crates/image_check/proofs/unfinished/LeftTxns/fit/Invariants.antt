@@ -1,6 +1,7 @@
-use Rattle.std.proofs.Common.{◌≡◌, ◌+◌, take}
+use Rattle.std.proofs.Common.{◌≡◌, ◌+◌}
+use Rattle.std.specs.BTreeMap.{values}
 use Rattle.image_check.specs.Unended.{owed_for}
 use Rattle.image_check.proofs.unfinished.LeftTxns.fit.Given as goal
 
-abbrev pub invariant-loop-transaction : goal.invariant-loop-transaction
-invariant-loop-transaction l = l.free + owed_for (take l.transaction-index l.self.left.items) ≡ l.room
+abbrev pub invariant-loop-left : goal.invariant-loop-left
+invariant-loop-left l = l.free + owed_for (values l.self.left) ≡ l.room + owed_for l.left-iterator
