@@ -52,7 +52,7 @@ module _ (pool : ℕ) (run : Run) (old mid new : Site) (image : new.image ≡ mi
   demands_done x y calls d = demands_ok pool run old new y d.room (λ newest blocks sound. ap (λ (i : Image). cache_on run.geometry i) image ∙ d.queue newest blocks sound)
       (λ newest blocks sound. subst (λ (i : Image). VersionsAreSeen run.geometry (cache_by pool run (turns_of run) newest old.image blocks).pool i (left_by run.opening (turns_of run))) (sym image) (d.versions newest blocks sound))
       (λ newest blocks sound. last_still run.geometry (staged_by_run pool run (turns_of run) newest old.image blocks) old mid new (d.reads newest blocks sound).writes.grown tells.grown (ap (λ (i : Image). i.disk) image) (d.staged newest blocks sound))
-      (λ newest blocks sound. subst (λ (i : Image). HasRings run.geometry (machine_by pool run (turns_of run) newest old.image blocks) i) (sym image) (d.rings newest blocks sound))
+      (λ newest blocks sound. subst (λ (i : Image). HasRings run.geometry (machine_by pool run (turns_of run) newest old.image blocks) old.image i) (sym image) (d.rings newest blocks sound))
       (calls_then run.geometry old mid new d.calls calls)
       (skips_still run piece old mid new tells d.numbers) (still_reads d.reads)
 

@@ -93,7 +93,7 @@ module _ (pool : ℕ) (run : Run) (entry mid : Site) (engine : Engine) (i : ℕ)
       (λ newest blocks sound. paged_queue pool run newest entry.image blocks queue engine mid (state_at run i) i so_far.fits so_far.geometry (so_far.paged newest blocks sound))
       (λ newest blocks sound. paged_versions pool run newest entry.image blocks seen engine mid i so_far.fits so_far.geometry (so_far.paged newest blocks sound))
       so_far.staged
-      (λ newest blocks sound. rings_left pool run newest entry.image blocks i engine mid mid.image (state_at run i) (so_far.mirrored newest blocks sound) so_far.fits so_far.going so_far.geometry refl)
+      (λ newest blocks sound. rings_left pool run newest blocks i engine entry mid mid.image (state_at run i) sound (so_far.paged newest blocks sound) so_far.reads (so_far.mirrored newest blocks sound) so_far.fits so_far.going so_far.geometry refl)
       (so_far.counted so_far.opens.newest so_far.opens.blocks so_far.opens.sound).calls
       (λ newest blocks sound. (so_far.counted newest blocks sound).numbers) so_far.reads
 

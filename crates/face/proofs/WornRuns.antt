@@ -1,9 +1,11 @@
 -- Runs as work of the machine of the rings.
-use Rattle.std.proofs.Common.{◌≡◌, ℕ, suc, ◌≤◌, Bool, true, false, List, [], ◌∷◌, ◌++◌, length, drop, take, append_assoc, append-nil, Option, Some, None, refl, sym, ap, subst, ◌∙◌}
+use Rattle.std.proofs.Common.{◌≡◌, ◌≢◌, ◌⊎◌, inl, inr, ℕ, suc, ◌+◌, ◌-◌, ◌*◌, ◌/◌, ◌==◌, ◌<◌, ◌≤◌, arith, Bool, true, false, List, [], ◌∷◌, ◌++◌, length, drop, take, append_assoc, append-nil, Option, Some, None, refl, sym, ap, subst, ◌∙◌}
 use Rattle.std.specs.Prelude.{Ok, if◌then◌else◌, ⊤}
+use Rattle.std.proofs.lemmas.Bool.Decides.{eqb_tells}
 use Rattle.std.proofs.lemmas.Grind.{flat_map-append}
 use Rattle.site.specs.declared.outside.Dev.{Dev}
-use Rattle.site.specs.State.{State as Site, Image}
+use Rattle.site.specs.State.{State as Site, Image, Snapshot}
+use Rattle.site.specs.Laws.{holds_now}
 use Rattle.record_model.specs.declared.words.CacheLine.{CacheLine}
 use Rattle.record_model.specs.Run.{Line, Turn, is_quit, turns, next_listing, later_listings}
 use Rattle.record_model.specs.State.{State}
@@ -11,8 +13,11 @@ use Rattle.record_model.specs.declared.words.Command.TheVariants.{Stat, Quit, Ca
 use Rattle.record_model.specs.Step.{is_accepted}
 use Rattle.log_records.specs.declared.log_record.LogRecord.{LogRecord}
 use Rattle.checkpoint.specs.declared.master.Master.{Master}
-use Rattle.image_meaning.specs.Meaning.{logical_image_under}
-use Rattle.second_chance.specs.Machine.{Rules}
+use Rattle.image_changes.specs.Rings.{group_shape, segment_shape}
+use Rattle.image_meaning.specs.Meaning.{AreSegments, logical_image_under}
+use Rattle.second_chance.specs.Machine.{Rules, Staged, rules_of, after_works, staged_by_works, next_group}
+use Rattle.page_store.specs.Staging.{SavesBefore, WritesOnly}
+use Rattle.redo_laws.proofs.Costs.{numbers_rise}
 use Rattle.sealed_ring.specs.declared.slots.Shape.{Shape}
 use Rattle.sealed_ring.specs.Ring.{hi_of}
 use Rattle.sealed_ring.specs.Ready.{region}
@@ -28,10 +33,15 @@ use Rattle.ring_machine.specs.Performing.{Performs}
 use Rattle.ring_machine.proofs.Performing.{performs_as, performs_answered}
 use Rattle.redo_undo.specs.Mirroring.{MirrorsStore}
 use Rattle.engine.specs.declared.engine.Engine.{Engine}
+use Rattle.engine.specs.Image.{IsSound}
+use Rattle.engine.specs.Paging.{cache_on}
 use Rattle.engine.specs.RingWork.{machine_on}
+use Rattle.engine.proofs.Asking.{opened_next}
 use Rattle.front_end.specs.declared.halt.Halt.TheVariants as halt
 use Rattle.front_end.specs.Lines.{up_to_quit}
 use Rattle.face.specs.Run.{Run, after_lines, answered, first_lines, state_at, step, turns_of}
+use Rattle.face.specs.RunInProgress.{IsPaged}
+use Rattle.face.specs.RunMeaning.{AsksNoMore, works_by}
 use Rattle.face.specs.Worn.{HasRings, IsMirrored, LeavesItsRings, WearsNone, machine_by, rings_by, rings_of, worn_by}
 use Rattle.face.proofs.Fronts.{whole_turns}
 use Rattle.face.proofs.LinesBeforeQuit.{after_cons}
@@ -109,18 +119,57 @@ none_prefix r first later m none = by (first_worn r first m) refl
 
 -- Whole runs.
 
--- what stands there is the machine's
-pub rings_of_store : (g : Geometry) (engine : Engine) (site : Site) (s : State) (m : Machine) → MirrorsStore engine.store site.image m → Matches engine site s → Invariant engine site → sizes_of engine.store ≡ g → HasRings g m site.image
-rings_of_store g engine site s m mirrors fits may sizes = record {
-  blocks = sym (hi_on engine.store.log.geometry g engine.store.log site.image (may.store.both.sizes ∙ sizes) fits.holds.both.log_holds.ready.blocks.hi) ∙ sym mirrors.both.next;
-  masters = sym (subst (λ (x : Shape). engine.store.masters.hi ≡ hi_of x (region x site)) may.store.shape fits.holds.masters.hi) ∙ sym mirrors.masters;
-}
+-- The segments behind an image, by numbers: at most four groups aren't in segments, and a segment that was saved stands before a group that was pushed.
+segments_are : (groups segments groups' segments' : ℕ) → 4 * segments ≤ groups → groups ≤ 4 * segments + 4 → groups' ≤ 4 * segments' + 4 → groups ≤ groups' → SavesBefore groups' segments segments'
+    → segments' ≡ (if groups' == groups then segments else (groups' - 1) / 4)
+segments_are groups segments groups' segments' low high high' up either = elim (eqb_tells groups' groups) [
+  | inl is ↦ stays is.1 either ∙ sym (ap (λ (b : Bool). if b then segments else (groups' - 1) / 4) is.0)
+  | inr other ↦ more (λ same. other.1 same) either ∙ sym (ap (λ (b : Bool). if b then segments else (groups' - 1) / 4) other.0)
+]
+  where
+    stays : groups' ≡ groups → SavesBefore groups' segments segments' → segments' ≡ segments
+    stays is (inl same) = same
+    stays is (inr saved) = absurd (omega (arith, is, high, saved.0, saved.1))
 
-pub rings_left : (pool : ℕ) (run : Run) (newest : Option Master) (image : Image) (blocks : List (List LogRecord)) (i : ℕ) (engine : Engine) (site : Site) (now : Image) (s : State) → IsMirrored pool run newest image blocks engine site i → Matches engine site s → Invariant engine site → sizes_of engine.store ≡ run.geometry → now ≡ site.image →
-    HasRings run.geometry (machine_by pool run (turns_of (first_lines run i)) newest image blocks) now
-rings_left pool run newest image blocks i engine site now s mirrored fits may sizes same =
-    let m = machine_by pool run (turns_of (first_lines run i)) newest image blocks in
-    subst (λ (x : Image). HasRings run.geometry m x) (sym same) (rings_of_store run.geometry engine site s m (mirrored.done (machine_on run.geometry image) refl).1 fits may sizes)
+    more : groups' ≢ groups → SavesBefore groups' segments segments' → segments' ≡ (groups' - 1) / 4
+    more other (inl same) = omega (arith, other, up, same, low, high')
+    more other (inr saved) = omega (arith, saved.1, high')
+
+-- what stands there is the machine's
+pub rings_of_store : (g : Geometry) (engine : Engine) (site : Site) (s : State) (m : Machine) (staged : List Staged) (old : Image) → AreSegments g old → hi_of (group_shape g) old.flash ≤ next_group m.cache → WritesOnly g staged (next_group m.cache) old site.image →
+    MirrorsStore engine.store site.image m → Matches engine site s → Invariant engine site → sizes_of engine.store ≡ g → HasRings g m old site.image
+rings_of_store g engine site s m staged old saved up only mirrors fits may sizes =
+    let pages = engine.store.pages in
+    let flash = may.store.both.pages_going.flash in
+    let fit = fits.holds.both.log_holds.ready.pages.flash in
+    let next = ap next_group mirrors.both.cache in
+    let groups : hi_of (group_shape g) site.image.flash ≡ next_group m.cache = omega (arith, next, flash.next, fit.hi, ap (λ (k : Geometry). hi_of (group_shape k) site.image.flash) sizes) in
+    let segments : pages.flash.segments.hi ≡ hi_of (segment_shape g) site.image.flash = fit.segments_hi ∙ ap (λ (k : Geometry). hi_of (segment_shape k) site.image.flash) sizes in
+    record {
+      blocks = sym (hi_on engine.store.log.geometry g engine.store.log site.image (may.store.both.sizes ∙ sizes) fits.holds.both.log_holds.ready.blocks.hi) ∙ sym mirrors.both.next;
+      masters = sym (subst (λ (x : Shape). engine.store.masters.hi ≡ hi_of x (region x site)) may.store.shape fits.holds.masters.hi) ∙ sym mirrors.masters;
+      groups = groups;
+      segments = segments_are (hi_of (group_shape g) old.flash) (hi_of (segment_shape g) old.flash) (next_group m.cache) (hi_of (segment_shape g) site.image.flash) saved.follow.follow.low saved.follow.follow.high
+          (let high = flash.rings.high in omega (arith, high, segments, next, flash.next)) up only.segments;
+    }
+
+pub rings_left : (pool : ℕ) (run : Run) (newest : Option Master) (blocks : List (List LogRecord)) (i : ℕ) (engine : Engine) (entry site : Site) (now : Image) (s : State) → IsSound newest run.geometry entry.image blocks → IsPaged pool run newest entry.image blocks engine i → AsksNoMore pool (first_lines run i) entry site →
+    IsMirrored pool run newest entry.image blocks engine site i → Matches engine site s → Invariant engine site → sizes_of engine.store ≡ run.geometry → now ≡ site.image →
+    HasRings run.geometry (machine_by pool run (turns_of (first_lines run i)) newest entry.image blocks) entry.image now
+rings_left pool run newest blocks i engine entry site now s sound paged asks mirrored fits may sizes same =
+    let g = run.geometry in
+    let r = rules_of pool g.groups in
+    let works = works_by run (turns_of (first_lines run i)) newest entry.image blocks in
+    let m = machine_by pool run (turns_of (first_lines run i)) newest entry.image blocks in
+    let mirrors = (mirrored.done (machine_on g entry.image) refl).1 in
+    let next : next_group (after_works r works (cache_on g entry.image)) ≡ next_group m.cache = ap next_group (sym paged.machine ∙ sym mirrors.both.cache) in
+    let some : 1 ≤ r.groups = (let least = sound.octets.limits.groups in omega (arith, least)) in
+    let up = numbers_rise r works (cache_on g entry.image) some in
+    let only = λ (s : Snapshot). WritesOnly g (staged_by_works r works (cache_on g entry.image)) (next_group (after_works r works (cache_on g entry.image))) entry.image s.image in
+    let wrote = holds_now entry site only (asks newest blocks sound).writes in
+    subst (λ (x : Image). HasRings g m entry.image x) (sym same)
+    (rings_of_store g engine site s m _ entry.image sound.octets.segments (omega (arith, opened_next g entry.image, up, next))
+    (subst (λ (n : ℕ). WritesOnly g (staged_by_works r works (cache_on g entry.image)) n entry.image site.image) next wrote) mirrors fits may sizes)
 
 -- and has found no ring at its end
 pub none_mirrored : (pool : ℕ) (run : Run) (newest : Option Master) (image : Image) (blocks : List (List LogRecord)) (engine : Engine) (site : Site) (i : ℕ) → IsMirrored pool run newest image blocks engine site i → worn_by pool run (turns_of (first_lines run i)) newest image blocks ≡ None
@@ -130,4 +179,4 @@ pub wears_none : (pool : ℕ) (run : Run) (n : ℕ) → length (answered run) �
 wears_none pool run n few image none newest blocks sound = subst (λ (l : List Turn). worn_by pool run l newest image blocks ≡ None) (whole_turns run n few) (none newest blocks sound)
 
 pub leaves_its_rings : (pool : ℕ) (run : Run) (n : ℕ) → length (answered run) ≤ n → (image now : Image) → LeavesItsRings pool (first_lines run n) image now → LeavesItsRings pool run image now
-leaves_its_rings pool run n few image now left newest blocks sound = subst (λ (l : List Turn). HasRings run.geometry (machine_by pool run l newest image blocks) now) (whole_turns run n few) (left newest blocks sound)
+leaves_its_rings pool run n few image now left newest blocks sound = subst (λ (l : List Turn). HasRings run.geometry (machine_by pool run l newest image blocks) image now) (whole_turns run n few) (left newest blocks sound)

@@ -58,7 +58,7 @@ writes_then g r first later start old mid new some one two =
     let joined : LeavesOnly old new P =
     in_sequence old mid new (Leaves P)
     (leaves_weaker old mid only P (λ s is. written_weaker g staged (staged ++ more) next next' old.image s.image (among_first staged more) up is) one)
-    (leaves_weaker mid new (λ s. WritesOnly g more next' mid.image s.image) P (λ s is. written_then g staged more next next' old.image mid.image s.image stands is) two) in
+    (leaves_weaker mid new (λ s. WritesOnly g more next' mid.image s.image) P (λ s is. written_then g staged more next next' old.image mid.image s.image up stands is) two) in
     subst (λ (n : ℕ). LeavesOnly old new (λ (s : Snapshot). WritesOnly g (staged_by_works r (first ++ later) start) n old.image s.image)) (sym all)
     (subst (λ (l : List Staged). LeavesOnly old new (λ (s : Snapshot). WritesOnly g l next' old.image s.image)) (sym (staged_add_up r first later start)) joined)
 

@@ -1,17 +1,17 @@
 -- Which ring a run finds at its end first, by the machine of the rings.
-use Rattle.std.specs.Prelude.{◌≡◌, ℕ, ◌<◌, ◌++◌, List, [], ◌∷◌, Option}
+use Rattle.std.specs.Prelude.{◌≡◌, ℕ, ◌-◌, ◌/◌, ◌<◌, ◌==◌, if◌then◌else◌, ◌++◌, List, [], ◌∷◌, Option}
 use Rattle.std.specs.Prelude.{Some, None, Ok, ⊤}
 use Rattle.site.specs.declared.outside.Dev.{Dev}
 use Rattle.site.specs.State.{State as Site, Image}
 use Rattle.site.specs.declared.geometry.Geometry.{Geometry}
 use Rattle.sealed_ring.specs.Ring.{hi_of}
-use Rattle.image_changes.specs.Rings.{log_shape, master_shape}
+use Rattle.image_changes.specs.Rings.{log_shape, master_shape, group_shape, segment_shape}
 use Rattle.record_model.specs.State.{State}
 use Rattle.record_model.specs.Run.{Line, Turn}
 use Rattle.log_records.specs.declared.log_record.LogRecord.{LogRecord}
 use Rattle.checkpoint.specs.declared.master.Master.{Master}
 use Rattle.image_meaning.specs.Meaning.{logical_image_under}
-use Rattle.second_chance.specs.Machine.{rules_of}
+use Rattle.second_chance.specs.Machine.{rules_of, next_group}
 use Rattle.ring_machine.specs.Machine.{Machine, RingOp, after_all, first_worn}
 use Rattle.ring_machine.specs.Commands.{line_work, run_work}
 use Rattle.ring_machine.specs.Restart.{restart_work}
@@ -53,17 +53,25 @@ WearsFirst pool run dev image = (newest : Option Master) (blocks : List (List Lo
 abbrev pub WearsNoneBefore : ℕ → Run → ℕ → Image → Type 0
 WearsNoneBefore pool run begun image = (lines : ℕ) → lines < begun → WearsNone pool (first_lines run lines) image
 
--- the rings on the log's device have given the numbers of this machine
-pub record HasRings (g : Geometry) (m : Machine) (image : Image) : Type 0 where
+-- How many segments there are behind an image once the next group has this number: where no group was pushed as many
+-- as it has, and else one for each four groups that the last one stands behind.
+abbrev pub segments_behind : Geometry → Image → ℕ → ℕ
+segments_behind g old next =
+    if next == hi_of (group_shape g) old.flash then hi_of (segment_shape g) old.flash else (next - 1) / 4
+
+-- the rings have given the numbers of this machine, which began over the old image
+pub record HasRings (g : Geometry) (m : Machine) (old image : Image) : Type 0 where
   pub blocks : hi_of (log_shape g) image.log ≡ m.tail.next
   pub masters : hi_of master_shape image.log ≡ m.masters
+  pub groups : hi_of (group_shape g) image.flash ≡ next_group m.cache
+  pub segments : hi_of (segment_shape g) image.flash ≡ segments_behind g old (next_group m.cache)
 
--- When it is over they have those to which the machine comes: a block is sealed where the machine seals one, and a
--- master unit saved for each checkpoint.
+-- When it is over they have those to which the machine comes: a block is sealed where the machine seals one, a master
+-- unit saved for each checkpoint, a group appended where the machine pushes one, and no segment saved early.
 abbrev pub LeavesItsRings : ℕ → Run → Image → Image → Type 0
 LeavesItsRings pool run old now = (newest : Option Master) (blocks : List (List LogRecord)) →
     IsSound newest run.geometry old blocks →
-    HasRings run.geometry (machine_by pool run (turns_of run) newest old blocks) now
+    HasRings run.geometry (machine_by pool run (turns_of run) newest old blocks) old now
 
 -- what lines ask of log and cache, whatever the cache lists
 abbrev pub rings_of : State → List Line → List RingOp

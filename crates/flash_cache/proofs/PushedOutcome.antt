@@ -21,6 +21,7 @@ use Rattle.second_chance.specs.Queue.{Queue, has_frame}
 use Rattle.second_chance.specs.Plans.{Placed, chances_given}
 use Rattle.second_chance.specs.Machine.{chance_frame, rules_of, staged_in_push}
 use Rattle.tail_rebuild.specs.Saving.{is_due, changes_of_save}
+use Rattle.tail_rebuild.specs.Saving.{LeavesGaps}
 use Rattle.flash_cache.specs.declared.cache.FlashCache.{FlashCache}
 use Rattle.flash_cache.specs.Representation.{Invariant, Matches, HasGroups, HasFrames, AreSaved, Represents, AllTogether, Shows, frames_on, disk_on, version_on, IsCleanOn}
 use Rattle.flash_cache.specs.Kept.{KeepsVersions, GivesVersions, LeavesVersions, AreCleanGiven, LeavesClean, PushesGroup}
@@ -310,16 +311,17 @@ module _ (cache : FlashCache) (groups : List (List Frame)) (old : State) (going 
         (has_then cache groups old.image few room holds pages changed contents marks lists differ own new staged (made_by new made)) (saved_then new made)
 
   -- all of it, by the moments, and by what is reached
-  pub pushes_group : {T : Type 0} (result : Result T Stop) (cache' : FlashCache) (new : State) → (IsQuiet old → LeavesOnly old new (PushesBehind (changes_before cache old.image)))
+  pub pushes_group : {T : Type 0} (result : Result T Stop) (cache' : FlashCache) (new : State) → (IsQuiet old → LeavesOnly old new (PushesBehind (changes_before cache old.image))) → (IsQuiet old → LeavesGaps cache.geometry old new)
       → OnOk result (Reaches cache.geometry (changes_of_group cache old.image pages changed contents) old.image new.image) → OnOk result (HasStaged (staged_pages cache) (staged_contents cache groups) old.image.disk new.image.disk)
       → (IsQuiet old → OnOk result (HasLastStaged cache.geometry (staged_in_push (rules_of 0 cache.geometry.groups) cache.directory) old new)) → OnOk result (cache'.directory ≡ pushed_queue cache (known_pushed cache pages changed))
       → cache'.geometry ≡ cache.geometry → (IsErrOf result Foreign → ⊥) → PushesGroup result cache cache' groups pages changed contents old new
-  pushes_group result cache' new any reaches staged last queue geometry foreign =
+  pushes_group result cache' new any gaps reaches staged last queue geometry foreign =
       let Both : Type 0 = HasStaged (staged_pages cache) (staged_contents cache groups) old.image.disk new.image.disk × Reaches cache.geometry (changes_of_group cache old.image pages changed contents) old.image new.image in
       let both = ok_both result _ _ Both (λ s r. (s, r)) staged reaches in
       record {
         any_moment = any;
         front = λ quiet. push_front cache.geometry _ _ _ _ old new (any quiet);
+        gaps = gaps;
         reaches = reaches;
         staged = staged;
         last = last;

@@ -1,5 +1,6 @@
--- Which disk pages some changes of an image rewrite, and how many groups they append.
+-- Which disk pages some changes of an image rewrite, and how many groups and segments they append, by how many calls.
 use Rattle.std.proofs.Common.{◌≡◌, ◌≢◌, inl, inr, Bool, true, false, ℕ, ◌+◌, ◌*◌, ◌<◌, ◌≤◌, List, [], ◌∷◌, ◌++◌, length, get_or, drop, arith, refl, sym, ap, subst, ◌∙◌, append_assoc, append-nil}
+use Rattle.std.specs.Prelude.{if◌then◌else◌}
 use Rattle.std.specs.List.{Contains}
 use Rattle.std.proofs.lemmas.Bool.{cases_order}
 use Rattle.std.proofs.lemmas.List.{same_lists, get_or_default, get_or-take, get_or-drop, length-take, length-drop}
@@ -11,13 +12,14 @@ use Rattle.site.specs.State.{Image}
 use Rattle.sealed_ring.specs.Ring.{Units, hi_of}
 use Rattle.disk_pages.specs.Pages.{page_on}
 use Rattle.disk_pages.specs.Laws.{IsBesidePage}
-use Rattle.image_changes.specs.Rings.{Groups, group_shape}
+use Rattle.image_changes.specs.Rings.{RingName, Groups, Segments, group_shape, segment_shape, shape_of, units_on, KeepsUnits}
 use Rattle.image_changes.specs.Changes.{Change, SealsBlock, RewritesPages, AppendsGroup, AppendsSegment, AppendsMaster, Makes, Reaches}
 use Rattle.image_changes.specs.Reached.{IsFrontOf}
 use Rattle.frame_group.specs.Groups.{Frame as Stored}
 use Rattle.tail_rebuild.specs.Saving.{changes_of_save}
 use Rattle.flash_cache.specs.Representation.{disk_on}
-use Rattle.flash_cache.specs.Pushed.{changes_of_push}
+use Rattle.stage_out.specs.Staged.{changes_of, calls_of}
+use Rattle.flash_cache.specs.Pushed.{changes_of_push, sum_of, calls_by}
 
 -- A page of the disk beside which alone octets differ is as it was, whether it lies on the disk or not.
 
@@ -42,38 +44,45 @@ rewritten (AppendsGroup content ∷ changes) = rewritten changes
 rewritten (AppendsSegment content ∷ changes) = rewritten changes
 rewritten (AppendsMaster content ∷ changes) = rewritten changes
 
-abbrev pub groups_in : List Change → ℕ
-groups_in [] = 0
-groups_in (SealsBlock records ∷ changes) = groups_in changes
-groups_in (RewritesPages pages ∷ changes) = groups_in changes
-groups_in (AppendsGroup content ∷ changes) = 1 + groups_in changes
-groups_in (AppendsSegment content ∷ changes) = groups_in changes
-groups_in (AppendsMaster content ∷ changes) = groups_in changes
+-- how many groups and segments a change appends
+abbrev pub groups_by : Change → ℕ
+groups_by (AppendsGroup content) = 1
+groups_by change = 0
 
--- the ring of groups has so many numbers more, and each page that isn't rewritten is as it was
-pub record Wrote (g : Geometry) (pages : List ℕ) (groups : ℕ) (old new : Image) : Type 0 where
+abbrev pub segments_by : Change → ℕ
+segments_by (AppendsSegment content) = 1
+segments_by change = 0
+
+-- the rings of groups and segments have so many numbers more, and each page that isn't rewritten is as it was
+pub record Wrote (g : Geometry) (pages : List ℕ) (groups segments : ℕ) (old new : Image) : Type 0 where
   pub groups_are : hi_of (group_shape g) new.flash ≡ hi_of (group_shape g) old.flash + groups
+  pub segments_are : hi_of (segment_shape g) new.flash ≡ hi_of (segment_shape g) old.flash + segments
   pub disk : (page : ℕ) → (Contains pages page → ⊥) → disk_on new page ≡ disk_on old page
 
-beside_groups : (g : Geometry) (old new : Image) → hi_of (group_shape g) new.flash ≡ hi_of (group_shape g) old.flash → new.disk ≡ old.disk → Wrote g [] 0 old new
-beside_groups g old new same disk = record { groups_are = omega (arith, same); disk = λ page out. ap (page_on page) disk }
+-- by the units of the two rings
+by_units : (g : Geometry) (pages : List ℕ) (groups segments : ℕ) (old new : Image) → hi_of (group_shape g) new.flash ≡ hi_of (group_shape g) old.flash + groups → hi_of (segment_shape g) new.flash ≡ hi_of (segment_shape g) old.flash + segments → new.disk ≡ old.disk → Wrote g pages groups segments old new
+by_units g pages groups segments old new more others disk = record { groups_are = more; segments_are = others; disk = λ page out. ap (page_on page) disk }
 
-wrote_one : (g : Geometry) (change : Change) (old new : Image) → Makes g change old new → Wrote g (rewritten (change ∷ [])) (groups_in (change ∷ [])) old new
-wrote_one g (SealsBlock records) old new makes = beside_groups g old new (ap (λ (u : Units). u.hi) (makes.1.others Groups (λ h. cc)).units) makes.1.disk
+still : (g : Geometry) (ring : RingName) (old new : Image) → KeepsUnits (shape_of g ring) old new → (units_on (shape_of g ring) new).hi ≡ (units_on (shape_of g ring) old).hi + 0
+still g ring old new keeps = let same = ap (λ (u : Units). u.hi) keeps.units in omega (arith, same)
+
+wrote_one : (g : Geometry) (change : Change) (old new : Image) → Makes g change old new → Wrote g (rewritten (change ∷ [])) (groups_by change) (segments_by change) old new
+wrote_one g (SealsBlock records) old new makes = by_units g [] 0 0 old new (still g Groups old new (makes.1.others Groups (λ h. cc))) (still g Segments old new (makes.1.others Segments (λ h. cc))) makes.1.disk
 wrote_one g (RewritesPages pages) old new makes =
     record {
-      groups_are = omega (arith, ap (λ (u : Units). u.hi) (makes.rings Groups).units);
+      groups_are = still g Groups old new (makes.rings Groups);
+      segments_are = still g Segments old new (makes.rings Segments);
       disk = λ page out. page_beside pages old.disk new.disk page (makes.sizes Disk) makes.others (λ listed. out (Contains-append_left pages [] page listed));
     }
-wrote_one g (AppendsGroup content) old new makes =
-    record { groups_are = omega (arith, ap (λ (u : Units). u.hi) makes.units); disk = λ page out. ap (page_on page) makes.disk }
-wrote_one g (AppendsSegment content) old new makes = beside_groups g old new (ap (λ (u : Units). u.hi) (makes.others Groups (λ h. cc)).units) makes.disk
-wrote_one g (AppendsMaster content) old new makes = beside_groups g old new (ap (λ (u : Units). u.hi) (makes.others Groups (λ h. cc)).units) makes.disk
+wrote_one g (AppendsGroup content) old new makes = by_units g [] 1 0 old new (ap (λ (u : Units). u.hi) makes.units) (still g Segments old new (makes.others Segments (λ h. cc))) makes.disk
+wrote_one g (AppendsSegment content) old new makes = by_units g [] 0 1 old new (still g Groups old new (makes.others Groups (λ h. cc))) (ap (λ (u : Units). u.hi) makes.units) makes.disk
+wrote_one g (AppendsMaster content) old new makes = by_units g [] 0 0 old new (still g Groups old new (makes.others Groups (λ h. cc))) (still g Segments old new (makes.others Segments (λ h. cc))) makes.disk
 
-wrote_then : (g : Geometry) (pages more : List ℕ) (groups others : ℕ) (a b c : Image) → Wrote g pages groups a b → Wrote g more others b c → Wrote g (pages ++ more) (groups + others) a c
-wrote_then g pages more groups others a b c one two =
+wrote_then : (g : Geometry) (pages more : List ℕ) (groups segments groups' segments' : ℕ) (a b c : Image) → Wrote g pages groups segments a b → Wrote g more groups' segments' b c → Wrote g (pages ++ more) (groups + groups') (segments + segments') a c
+wrote_then g pages more groups segments groups' segments' a b c one two =
     record {
       groups_are = omega (arith, one.groups_are, two.groups_are);
+      segments_are = omega (arith, one.segments_are, two.segments_are);
       disk = λ page out. two.disk page (λ is. out (Contains-append_right pages more page is)) ∙ one.disk page (λ is. out (Contains-append_left pages more page is));
     }
 
@@ -84,21 +93,12 @@ rewritten_first (AppendsGroup content) changes = refl
 rewritten_first (AppendsSegment content) changes = refl
 rewritten_first (AppendsMaster content) changes = refl
 
-groups_first : (change : Change) (changes : List Change) → groups_in (change ∷ []) + groups_in changes ≡ groups_in (change ∷ changes)
-groups_first (SealsBlock records) changes = omega arith
-groups_first (RewritesPages pages) changes = omega arith
-groups_first (AppendsGroup content) changes = omega arith
-groups_first (AppendsSegment content) changes = omega arith
-groups_first (AppendsMaster content) changes = omega arith
-
-pub wrote : (g : Geometry) (changes : List Change) (old new : Image) → Reaches g changes old new → Wrote g (rewritten changes) (groups_in changes) old new
-wrote g [] old new reads = beside_groups g old new (ap (λ (u : Units). u.hi) (reads.rings Groups).units) reads.disk
+pub wrote : (g : Geometry) (changes : List Change) (old new : Image) → Reaches g changes old new → Wrote g (rewritten changes) (sum_of groups_by changes) (sum_of segments_by changes) old new
+wrote g [] old new reads = by_units g [] 0 0 old new (still g Groups old new (reads.rings Groups)) (still g Segments old new (reads.rings Segments)) reads.disk
 wrote g (change ∷ changes) old new reaches =
-    let all = wrote_then g (rewritten (change ∷ [])) (rewritten changes) (groups_in (change ∷ [])) (groups_in changes) old reaches.0 new (wrote_one g change old reaches.0 reaches.1) (wrote g changes reaches.0 new reaches.2) in
-    record {
-      groups_are = all.groups_are ∙ ap (λ n. hi_of (group_shape g) old.flash + n) (groups_first change changes);
-      disk = λ page out. all.disk page (λ listed. out (subst (λ (l : List ℕ). Contains l page) (rewritten_first change changes) listed));
-    }
+    subst (λ (l : List ℕ). Wrote g l (sum_of groups_by (change ∷ changes)) (sum_of segments_by (change ∷ changes)) old new) (rewritten_first change changes)
+    (wrote_then g (rewritten (change ∷ [])) (rewritten changes) (groups_by change) (segments_by change) (sum_of groups_by changes) (sum_of segments_by changes) old reaches.0 new
+    (wrote_one g change old reaches.0 reaches.1) (wrote g changes reaches.0 new reaches.2))
 
 -- The first ones of some changes rewrite no other pages, and append no more.
 
@@ -108,16 +108,17 @@ rewritten_joined (change ∷ first) later =
     sym (rewritten_first change (first ++ later)) ∙ ap (λ (l : List ℕ). rewritten (change ∷ []) ++ l) (rewritten_joined first later)
     ∙ sym (append_assoc (rewritten (change ∷ [])) (rewritten first) (rewritten later)) ∙ ap (λ (l : List ℕ). l ++ rewritten later) (rewritten_first change first)
 
-groups_joined : (first later : List Change) → groups_in (first ++ later) ≡ groups_in first + groups_in later
-groups_joined [] later = omega arith
-groups_joined (change ∷ first) later = omega (arith, groups_first change (first ++ later), groups_joined first later, groups_first change first)
+-- numbers of changes add up
+pub sum_joined : (number : Change → ℕ) (first later : List Change) → sum_of number (first ++ later) ≡ sum_of number first + sum_of number later
+sum_joined number [] later = omega arith
+sum_joined number (change ∷ first) later = omega (arith, sum_joined number first later)
 
 pub front_rewritten : (all changes : List Change) → IsFrontOf all changes → (page : ℕ) → Contains (rewritten changes) page → Contains (rewritten all) page
 front_rewritten all changes front page listed =
     subst (λ (l : List ℕ). Contains l page) (sym (ap rewritten front.1 ∙ rewritten_joined changes front.0)) (Contains-append_left (rewritten changes) (rewritten front.0) page listed)
 
-pub front_groups : (all changes : List Change) → IsFrontOf all changes → groups_in changes ≤ groups_in all
-front_groups all changes front = let same = ap groups_in front.1 in omega (arith, same, groups_joined changes front.0)
+pub front_sum : (number : Change → ℕ) (all changes : List Change) → IsFrontOf all changes → sum_of number changes ≤ sum_of number all
+front_sum number all changes front = let same = ap (sum_of number) front.1 in omega (arith, same, sum_joined number changes front.0)
 
 -- Those of a push.
 
@@ -125,15 +126,41 @@ pub push_rewrites : (pages group : List ℕ) (page : ℕ) → Contains (rewritte
 push_rewrites [] group page listed = listed
 push_rewrites (first ∷ pages) group page listed = subst (λ (l : List ℕ). Contains l page) (append-nil (first ∷ pages)) listed
 
-pub push_groups : (pages group : List ℕ) → groups_in (changes_of_push pages group) ≡ 1
+pub push_groups : (pages group : List ℕ) → sum_of groups_by (changes_of_push pages group) ≡ 1
 push_groups [] group = refl
 push_groups (first ∷ pages) group = refl
+
+pub push_segments : (pages group : List ℕ) → sum_of segments_by (changes_of_push pages group) ≡ 0
+push_segments [] group = refl
+push_segments (first ∷ pages) group = refl
 
 -- a segment that is saved before them changes nothing of that
 pub save_rewrites : (due : Bool) (saved : List (List Stored)) (changes : List Change) → rewritten (changes_of_save due saved ++ changes) ≡ rewritten changes
 save_rewrites true saved changes = refl
 save_rewrites false saved changes = refl
 
-pub save_groups : (due : Bool) (saved : List (List Stored)) (changes : List Change) → groups_in (changes_of_save due saved ++ changes) ≡ groups_in changes
-save_groups true saved changes = refl
-save_groups false saved changes = refl
+pub save_groups : (due : Bool) (saved : List (List Stored)) (changes : List Change) → sum_of groups_by (changes_of_save due saved ++ changes) ≡ sum_of groups_by changes
+save_groups true saved changes = omega arith
+save_groups false saved changes = omega arith
+
+-- it is one more of them
+pub save_segments : (due : Bool) (saved : List (List Stored)) (changes : List Change) → sum_of segments_by (changes_of_save due saved ++ changes) ≡ (if due then 1 else 0) + sum_of segments_by changes
+save_segments true saved changes = omega arith
+save_segments false saved changes = omega arith
+
+-- The calls of a push: five for a segment, one for each page that is staged and for their sync, and five for the group.
+
+staged_calls : (pages : List ℕ) → sum_of calls_by (changes_of pages) ≡ calls_of pages
+staged_calls [] = refl
+staged_calls (page ∷ pages) = omega arith
+
+saved_calls : (due : Bool) (saved : List (List Stored)) → sum_of calls_by (changes_of_save due saved) ≡ (if due then 5 else 0)
+saved_calls true saved = refl
+saved_calls false saved = refl
+
+pub push_calls : (due : Bool) (saved : List (List Stored)) (pages group : List ℕ) → sum_of calls_by (changes_of_save due saved ++ changes_of_push pages group) ≡ (if due then 5 else 0) + (calls_of pages + 5)
+push_calls due saved pages group =
+    let all = sum_joined calls_by (changes_of_save due saved) (changes_of_push pages group) in
+    let push = sum_joined calls_by (changes_of pages) (AppendsGroup group ∷ []) in
+    let one : sum_of calls_by (AppendsGroup group ∷ []) ≡ 5 = refl in
+    omega (arith, all, push, one, staged_calls pages, saved_calls due saved)

@@ -12,6 +12,7 @@ use Rattle.stage_out.specs.Staged.{HasStaged}
 use Rattle.frame_group.specs.Groups.{Frame, group}
 use Rattle.second_chance.specs.Queue.{has_frame}
 use Rattle.second_chance.specs.Machine.{rules_of, staged_in_push}
+use Rattle.tail_rebuild.specs.Saving.{LeavesGaps}
 use Rattle.flash_cache.specs.declared.cache.FlashCache.{FlashCache}
 use Rattle.flash_cache.specs.Representation.{HasGroups, HasFrames, AreSaved, Represents, version_on, disk_on, IsCleanOn}
 use Rattle.flash_cache.specs.Pushed.{staged_pages, staged_contents, frames_pushed, known_pushed, pushed_groups}
@@ -62,6 +63,7 @@ pub record PushesGroup {T : Type 0} (result : Result T Stop) (cache new : FlashC
       (group (frames_pushed cache before.image pages changed contents)) before)
   pub front : IsQuiet before →
       LeavesFront cache.geometry (changes_of_group cache before.image pages changed contents) before now
+  pub gaps : IsQuiet before → LeavesGaps cache.geometry before now
   pub reaches : OnOk result
       (Reaches cache.geometry (changes_of_group cache before.image pages changed contents) before.image now.image)
   pub staged : OnOk result

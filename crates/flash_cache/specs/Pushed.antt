@@ -1,11 +1,11 @@
 -- What a push does to the queue and to the devices: pages are staged, then a group is appended.
-use Rattle.std.specs.Prelude.{◌≡◌, ◌⊎◌, ℕ, Bool, false, List, [], ◌∷◌, ◌++◌, map, drop, zip, slice_index_or}
-use Rattle.std.specs.Prelude.{if◌then◌else◌}
+use Rattle.std.specs.Prelude.{◌≡◌, ◌⊎◌, ℕ, ◌+◌, Bool, false, List, [], ◌∷◌, ◌++◌, map, drop, zip, slice_index_or}
+use Rattle.std.specs.Prelude.{length, if◌then◌else◌}
 use Rattle.site.specs.declared.geometry.Geometry.{Geometry}
 use Rattle.site.specs.declared.outside.Dev.TheVariants.{Log}
 use Rattle.site.specs.State.{State, Image, Snapshot}
 use Rattle.site.specs.Moments.{Untouched}
-use Rattle.image_changes.specs.Changes.{Change, AppendsGroup, Reaches}
+use Rattle.image_changes.specs.Changes.{Change, AppendsGroup, RewritesPages, Reaches}
 use Rattle.image_changes.specs.Reached.{IsFrontOf}
 use Rattle.stage_out.specs.Staged.{HasStaged, changes_of}
 use Rattle.frame_group.specs.Groups.{Frame, group}
@@ -85,6 +85,16 @@ pushed_queue cache frames = pushed (front_leaves cache) frames cache.directory
 -- all changes of a push: the staged pages are rewritten, if there are any, and the group is appended
 abbrev pub changes_of_push : List ℕ → List ℕ → List Change
 changes_of_push pages group = changes_of pages ++ AppendsGroup group ∷ []
+
+-- a number of each change, added up
+abbrev pub sum_of : (Change → ℕ) → List Change → ℕ
+sum_of number [] = 0
+sum_of number (change ∷ changes) = number change + sum_of number changes
+
+-- how many calls a change takes: a write for each page and a sync; for a unit three writes and two syncs
+abbrev pub calls_by : Change → ℕ
+calls_by (RewritesPages pages) = length pages + 1
+calls_by change = 5
 
 -- Nothing was told. Either no group was appended: the first of the changes before were made, and staged pages may have
 -- any octets; or the group was, and each staged page has its octets.

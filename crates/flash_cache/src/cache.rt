@@ -17,7 +17,7 @@ ghost use Rattle.image_changes.specs.Rings.{group_shape, Groups as GroupRing};
 ghost use Rattle.image_changes.specs.Changes.{Appends, Reaches};
 ghost use Rattle.frame_group.specs.Groups.{Frame, IsFrame, heads_of, group};
 ghost use Rattle.tail_rebuild.specs.Listing.{ReadsFlash};
-ghost use Rattle.tail_rebuild.specs.Saving.{is_due};
+ghost use Rattle.tail_rebuild.specs.Saving.{is_due, LeavesGaps};
 ghost use Rattle.second_chance.specs.Queue.{has_frame, with_read, marks, front_marks};
 ghost use Rattle.second_chance.specs.Machine.{rules_of, leaving};
 ghost use Rattle.stage_out.specs.Staged.{HasStaged, calls_of};
@@ -218,9 +218,12 @@ impl FlashCache {
         ensures alone { IsTrue (S.state site.old).honest → staged_pages self.old ≡ []
             → Untouched Dev.Disk (S.state site.old) (S.state site.new) }
 
-        // Five calls for the group, five for a segment, and one for each page that is staged and for the sync.
+        // Five calls for a segment that is due, one for each page that is staged and for the sync, and five for the
+        // group.
         ensures device_calls { IsTrue (S.state site.old).honest
-            → OnOk result (length (S.state site.new).past ≤ length (S.state site.old).past + 19) }
+            → OnOk result (length (S.state site.new).past ≡ length (S.state site.old).past
+            + ((if is_due self.old.ring.hi self.old.segments.hi then 5 else 0)
+            + (calls_of (staged_pages self.old) + 5))) }
 
         // Of every site.
         ensures directory { OnOk result (self.new.directory
@@ -228,7 +231,8 @@ impl FlashCache {
         ensures keeps { KeepsCache result self.old self.new (S.state site.old) (S.state site.new) }
         ensures ended { OnOk result (self.new.ended ≡ self.old.ended) }
         ensures err { OnErr result (self.new.ended ≡ true) }
-        ensures reads { (S.state site.new).flash_reads ≤ (S.state site.old).flash_reads + 12 }
+        ensures reads { (S.state site.new).flash_reads ≤ (S.state site.old).flash_reads
+            + ((if is_due self.old.ring.hi self.old.segments.hi then 4 else 0) + 8) }
         ensures others { (d : Dev) → d ≢ Dev.Flash
             → reads_of d (S.state site.new) ≡ reads_of d (S.state site.old) }
 
@@ -293,6 +297,8 @@ impl FlashCache {
             → Matches self.old (S.state site.old) → Represents self.old (S.state site.old).image groups
             → OnOk result (HasStaged (staged_pages self.old) (staged_contents self.old groups)
             (S.state site.old).image.disk (S.state site.new).image.disk) }
+        ensures gaps { Matches self.old (S.state site.old) → IsQuiet (S.state site.old)
+            → LeavesGaps self.old.geometry (S.state site.old) (S.state site.new) }
         ensures shown { IsTrue (S.state site.old).honest → 1 ≤ length (staged_pages self.old)
             → OnOk result (SomeMoment (S.state site.old) (S.state site.new)
             (SameAt Dev.Flash (S.state site.old))) }
@@ -365,6 +371,8 @@ impl FlashCache {
             (S.state site.old).image (S.state site.new).image) }
         ensures staged { Matches self.old (S.state site.old) → OnOk result (HasStaged staged.now octets.now
             (S.state site.old).image.disk (S.state site.new).image.disk) }
+        ensures gaps { Matches self.old (S.state site.old) → IsQuiet (S.state site.old)
+            → LeavesGaps self.old.geometry (S.state site.old) (S.state site.new) }
         ensures shown { IsTrue (S.state site.old).honest → 1 ≤ length staged.now
             → OnOk result (SomeMoment (S.state site.old) (S.state site.new)
             (SameAt Dev.Flash (S.state site.old))) }

@@ -24,7 +24,9 @@ use Rattle.image_meaning.specs.Beside.{AreRingsSoundUnder}
 use Rattle.slotted_page.specs.Layout.{IsSound}
 use Rattle.flash_cache.specs.declared.cache.FlashCache.{FlashCache}
 use Rattle.flash_cache.specs.Representation.{IsWorn}
+use Rattle.flash_cache.specs.Pushed.{sum_of, calls_by}
 use Rattle.flash_cache.specs.Kept.{AreCleanGiven}
+use Rattle.flash_cache.proofs.Written.{sum_joined}
 use Rattle.buffer_pool.specs.Frames.{State as Pool}
 use Rattle.log_store.specs.declared.store.LogStore.{LogStore}
 use Rattle.log_store.specs.Representation.{has_tail, HasRoom}
@@ -133,6 +135,7 @@ stands_still {log = log} {pages = pages} {pages' = pages'} {site = site} {list =
   ahead = λ ahead. record { pool = logged ahead.pool; versions = subst (λ (g : Geometry). AreSealed g site.image) (sym geometry) ahead.versions };
   rings = λ newest rings. rings;
   reaches = subst (λ (l : List Change). Reaches pages.flash.geometry l site.image site.image) (sym unchanged) (reads_itself pages.flash.geometry site.image);
+  calls = omega (arith, ap (sum_of calls_by) unchanged);
   device_calls = calls_none pages.flash.geometry site;
 }
 
@@ -286,6 +289,7 @@ stands_then {new = new} {pages = pages} {between = between} {pages' = pages'} {b
       ahead = λ ahead. second.ahead (first.ahead ahead);
       rings = λ newest rings. subst (λ (k : Geometry). AreRingsSoundUnder newest k now.image) geometry (second.rings newest (subst (λ (k : Geometry). AreRingsSoundUnder newest k middle.image) (sym geometry) (first.rings newest rings)));
       reaches = law g c d before.image middle.image now.image first.reaches (subst (λ (k : Geometry). Reaches k d middle.image now.image) geometry second.reaches);
+      calls = omega (arith, first.calls, second.calls, sum_joined calls_by c d);
       device_calls = counts_then g before middle now first.device_calls (subst (λ (k : Geometry). CallsForUnits k middle now) geometry second.device_calls);
     }
 
@@ -340,5 +344,6 @@ stands_given {store = store} {before = before} {now = now} own geometry ready cu
   ahead = λ ahead. record { pool = logged ahead.pool; versions = subst (λ (g : Geometry). AreSealed g now.image) (sym geometry) (push.sealed ahead.versions (own.logged ahead.pool)) };
   rings = λ newest rings. push.rings newest rings own.sound;
   reaches = push.reaches;
+  calls = push.calls;
   device_calls = push.device_calls;
 }

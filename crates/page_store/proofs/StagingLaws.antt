@@ -1,7 +1,8 @@
 -- What calls on pages write, one after the other.
-use Rattle.std.proofs.Common.{◌≡◌, ◌≢◌, ◌⊎◌, inl, inr, ⊎_elim, IsTrue, ℕ, ◌+◌, ◌≤◌, List, [], ◌∷◌, ◌++◌, length, drop, map, reverse, Bool, true, false, append_assoc, append-nil, arith, refl, sym, ap, subst, ◌∙◌}
+use Rattle.std.proofs.Common.{◌≡◌, ◌≢◌, ◌⊎◌, inl, inr, ⊎_elim, IsTrue, ℕ, zero, suc, ◌+◌, ◌*◌, ◌<◌, ◌≤◌, List, [], ◌∷◌, ◌++◌, length, drop, map, reverse, Bool, true, false, append_assoc, append-nil, arith, refl, sym, ap, subst, ◌∙◌}
 use Rattle.std.specs.Prelude.{Result, Ok, Err, OnOk, if◌then◌else◌}
 use Rattle.std.specs.List.{Contains}
+use Rattle.std.proofs.lemmas.Bool.{eqb-true}
 use Rattle.std.proofs.lemmas.List.{map-append}
 use Rattle.std.proofs.lemmas.List.Elements.{Contains-append_left, Contains-append_right}
 use Rattle.site.specs.declared.outside.Dev.{Dev}
@@ -15,7 +16,7 @@ use Rattle.site.specs.Moments.{Leaves, LeavesOnly, ChangesOnly, since}
 use Rattle.site.specs.Laws.{in_sequence, leaves_weaker, untouched_leaves, others_untouched, each_both, each_weaker, settled_is, quiet_settled, quiet_leaves, no_call, unchanged_calm, holds_now, stays_honest, unchanged}
 use Rattle.site.proofs.Working.{ok_as, ok_always}
 use Rattle.sealed_ring.specs.Ring.{hi_of}
-use Rattle.image_changes.specs.Rings.{group_shape}
+use Rattle.image_changes.specs.Rings.{group_shape, segment_shape}
 use Rattle.image_changes.specs.Changes.{Change}
 use Rattle.image_changes.specs.Reached.{LeavesFront, IsReached, IsFrontOf}
 use Rattle.disk_pages.specs.Pages.{page_on}
@@ -24,11 +25,11 @@ use Rattle.second_chance.specs.Plans.{Placed}
 use Rattle.second_chance.specs.Machine.{Rules, Cache, Staged, PoolPage, must_be_pushed, staged_in_push, staged_in_eviction, staged_by, push_changed, wants_flush}
 use Rattle.second_chance.specs.Laws.{FlushGoesOn, FlushEnds}
 use Rattle.record_model.specs.Touches.{flush}
-use Rattle.tail_rebuild.specs.Saving.{changes_of_save}
+use Rattle.tail_rebuild.specs.Saving.{is_due, changes_of_save}
 use Rattle.flash_cache.specs.declared.cache.FlashCache.{FlashCache}
 use Rattle.flash_cache.specs.Representation as flash_cache
 use Rattle.flash_cache.specs.Representation.{disk_on}
-use Rattle.flash_cache.specs.Pushed.{staged_pages, staged_marks, changes_of_push}
+use Rattle.flash_cache.specs.Pushed.{staged_pages, staged_marks, changes_of_push, sum_of}
 use Rattle.frame_group.specs.Groups.{Frame as Stored}
 use Rattle.buffer_pool.specs.declared.frame.Frame.{Frame}
 use Rattle.page_store.specs.declared.store.PageStore.{PageStore}
@@ -36,21 +37,31 @@ use Rattle.page_store.specs.Caching.{pool_page, cache_of, rules, next_group, fir
 use Rattle.page_store.specs.Representation.{Invariant, Matches}
 use Rattle.flash_cache.specs.OnDisk.{HasFrameAt, HasLastStaged, SomeMoment}
 use Rattle.flash_cache.proofs.SomeMoments.{some_after_reads, some_behind, some_first}
-use Rattle.page_store.specs.Staging.{pages_staged, staged_by_eviction, WritesOnly, HasQueueOn, Stages}
+use Rattle.page_store.specs.Staging.{pages_staged, staged_by_eviction, SavesBefore, WritesOnly, HasQueueOn, Stages}
 use Rattle.page_store.proofs.PushLaws.{flash_fits_same, flash_holds_same}
 use Rattle.page_store.proofs.Evictions.{reverse_last}
-use Rattle.flash_cache.proofs.Written.{wrote, rewritten, groups_in, front_rewritten, front_groups, push_rewrites, push_groups, save_rewrites, save_groups}
+use Rattle.flash_cache.proofs.Written.{wrote, rewritten, groups_by, segments_by, front_rewritten, front_sum, push_rewrites, push_groups, push_segments, save_rewrites, save_groups, save_segments}
 
 -- Images.
 
 -- where flash and disk are as they were nothing is written
 pub nothing_written : (g : Geometry) (staged : List Staged) (next : ℕ) (old now : Image) → hi_of (group_shape g) old.flash ≤ next → now.flash ≡ old.flash → now.disk ≡ old.disk → WritesOnly g staged next old now
 nothing_written g staged next old now low flash disk =
-    record { groups = omega (arith, ap (hi_of (group_shape g)) flash, low); disk = λ page out. ap (page_on page) disk }
+    record { groups = omega (arith, ap (hi_of (group_shape g)) flash, low); segments = inl (ap (hi_of (segment_shape g)) flash); disk = λ page out. ap (page_on page) disk }
+
+saves_up : (next next' old now : ℕ) → next ≤ next' → SavesBefore next old now → SavesBefore next' old now
+saves_up next next' old now up (inl same) = inl same
+saves_up next next' old now up (inr more) = inr (more.0, omega (arith, up, more.1))
+
+saves_then : (next a b c : ℕ) → SavesBefore next a b → SavesBefore next b c → SavesBefore next a c
+saves_then next a b c (inl same) (inl again) = inl (again ∙ same)
+saves_then next a b c (inl same) (inr more) = inr (omega (arith, same, more.0), more.1)
+saves_then next a b c (inr more) (inl again) = inr (omega (arith, again, more.0), omega (arith, again, more.1))
+saves_then next a b c (inr more) (inr later) = inr (omega (arith, more.0, later.0), later.1)
 
 pub written_weaker : (g : Geometry) (staged more : List Staged) (next next' : ℕ) (old now : Image) → ((page : ℕ) → Contains (pages_staged staged) page → Contains (pages_staged more) page) → next ≤ next' →
     WritesOnly g staged next old now → WritesOnly g more next' old now
-written_weaker g staged more next next' old now among up only = record { groups = (let low = only.groups in omega (arith, low, up)); disk = λ page out. only.disk page (λ is. out (among page is)) }
+written_weaker g staged more next next' old now among up only = record { groups = (let low = only.groups in omega (arith, low, up)); segments = saves_up next next' _ _ up only.segments; disk = λ page out. only.disk page (λ is. out (among page is)) }
 
 pub among_first : (staged more : List Staged) (page : ℕ) → Contains (pages_staged staged) page → Contains (pages_staged (staged ++ more)) page
 among_first staged more page is = subst (λ (l : List ℕ). Contains l page) (sym (map-append (λ (f : Staged). f.page) staged more)) (Contains-append_left (pages_staged staged) (pages_staged more) page is)
@@ -59,9 +70,10 @@ pub among_later : (staged more : List Staged) (page : ℕ) → Contains (pages_s
 among_later staged more page is = subst (λ (l : List ℕ). Contains l page) (sym (map-append (λ (f : Staged). f.page) staged more)) (Contains-append_right (pages_staged staged) (pages_staged more) page is)
 
 -- one after the other
-pub written_then : (g : Geometry) (staged more : List Staged) (next next' : ℕ) (a b c : Image) → WritesOnly g staged next a b → WritesOnly g more next' b c → WritesOnly g (staged ++ more) next' a c
-written_then g staged more next next' a b c one two = record {
+pub written_then : (g : Geometry) (staged more : List Staged) (next next' : ℕ) (a b c : Image) → next ≤ next' → WritesOnly g staged next a b → WritesOnly g more next' b c → WritesOnly g (staged ++ more) next' a c
+written_then g staged more next next' a b c up one two = record {
   groups = two.groups;
+  segments = saves_then next' _ _ _ (saves_up next next' _ _ up one.segments) two.segments;
   disk = λ page out. two.disk page (λ is. out (among_later staged more page is)) ∙ one.disk page (λ is. out (among_first staged more page is));
 }
 
@@ -143,15 +155,21 @@ abbrev pub Leaving : Geometry → List Staged → ℕ → State → State → Ty
 Leaving g staged next old now = LeavesOnly old now (λ s. WritesOnly g staged next old.image s.image)
 
 -- of the first ones of some changes
-pub front_writes : (g : Geometry) (changes : List Change) (staged : List Staged) (next : ℕ) (old now : State) → hi_of (group_shape g) old.image.flash + groups_in changes ≤ next →
+pub front_writes : (g : Geometry) (changes : List Change) (staged : List Staged) (next : ℕ) (old now : State) → hi_of (group_shape g) old.image.flash + sum_of groups_by changes ≤ next → (1 ≤ sum_of segments_by changes → 4 * (hi_of (segment_shape g) old.image.flash + sum_of segments_by changes) < next) →
     ((page : ℕ) → Contains (rewritten changes) page → Contains (pages_staged staged) page) → LeavesFront g changes old now → Leaving g staged next old now
-front_writes g changes staged next old now low among front = leaves_weaker old now (IsReached g (IsFrontOf changes) old) (λ s. WritesOnly g staged next old.image s.image) within front
+front_writes g changes staged next old now low early among front = leaves_weaker old now (IsReached g (IsFrontOf changes) old) (λ s. WritesOnly g staged next old.image s.image) within front
   where
+    -- those of the first changes are none, or no more than all
+    by : (s : Snapshot) (n : ℕ) → hi_of (segment_shape g) s.image.flash ≡ hi_of (segment_shape g) old.image.flash + n → n ≤ sum_of segments_by changes → SavesBefore next (hi_of (segment_shape g) old.image.flash) (hi_of (segment_shape g) s.image.flash)
+    by s zero are few = inl (omega (arith, are))
+    by s (suc n) are few = let low = early (omega (arith, few)) in inr (omega (arith, are), omega (arith, are, few, low))
+
     within : (s : Snapshot) → IsReached g (IsFrontOf changes) old s → WritesOnly g staged next old.image s.image
     within s is =
         let made = wrote g is.changes old.image s.image is.reaches in
         record {
-          groups = omega (arith, made.groups_are, front_groups changes is.changes is.made, low);
+          groups = omega (arith, made.groups_are, front_sum groups_by changes is.changes is.made, low);
+          segments = by s (sum_of segments_by is.changes) made.segments_are (front_sum segments_by changes is.changes is.made);
           disk = λ page out. made.disk page (λ listed. out (among page (front_rewritten changes is.changes is.made page listed)));
         }
 
@@ -272,7 +290,7 @@ stages_then {r = r} {staged = staged} {more = more} {next = next} {next' = next'
           let second : Leaving g more next' between now = subst (λ (h : Geometry). Leaving h more next' between now) one.sizes (two.writes (one.holds has) (one.quiet has quiet)) in
           in_sequence before between now (Leaves all)
           (leaves_weaker before between only all (λ s is. written_weaker g staged (staged ++ more) next next' before.image s.image (among_first staged more) (up has) is) first)
-          (leaves_weaker between now (λ s. WritesOnly g more next' between.image s.image) all (λ s is. written_then g staged more next next' before.image between.image s.image stands is) second);
+          (leaves_weaker between now (λ s. WritesOnly g more next' between.image s.image) all (λ s is. written_then g staged more next next' before.image between.image s.image (up has) stands is) second);
       last = λ has quiet.
           let first : Leaving g staged next before between = one.writes has quiet in
           let second : Leaving g more next' between now = subst (λ (h : Geometry). Leaving h more next' between now) one.sizes (two.writes (one.holds has) (one.quiet has quiet)) in
@@ -293,16 +311,26 @@ staged_are queue (frame ∷ frames) = ap (λ (l : List ℕ). frame.1.page ∷ l)
 pub pages_are : (store : PageStore) → staged_pages store.flash ≡ pages_staged (staged_in_push (rules store) store.flash.directory)
 pages_are store = staged_are store.flash.directory (staged_marks store.flash)
 
-pub push_leaves : (store : PageStore) (due : Bool) (saved : List (List Stored)) (group : List ℕ) (old now : State) → HasQueueOn store old →
-    LeavesFront store.flash.geometry (changes_of_save due saved ++ changes_of_push (staged_pages store.flash) group) old now →
+pub push_leaves : (store : PageStore) (saved : List (List Stored)) (group : List ℕ) (old now : State) → HasQueueOn store old →
+    LeavesFront store.flash.geometry (changes_of_save (is_due store.flash.ring.hi store.flash.segments.hi) saved ++ changes_of_push (staged_pages store.flash) group) old now →
     Leaving store.flash.geometry (staged_in_push (rules store) store.flash.directory) (next_group (cache_of store) + 1) old now
-push_leaves store due saved group old now has front =
+push_leaves store saved group old now has front =
+    let due : Bool = is_due store.flash.ring.hi store.flash.segments.hi in
     let pushed = changes_of_push (staged_pages store.flash) group in
     let one = push_groups (staged_pages store.flash) group in
     let none = save_groups due saved pushed in
+    let segments = save_segments due saved pushed in
+    let no_more = push_segments (staged_pages store.flash) group in
     front_writes store.flash.geometry (changes_of_save due saved ++ pushed) (staged_in_push (rules store) store.flash.directory) (next_group (cache_of store) + 1) old now (omega (arith, has.next, one, none))
+    (λ some. early due refl (omega (arith, segments, no_more, some)) (omega (arith, segments, no_more)))
     (λ page listed. subst (λ (l : List ℕ). Contains l page) (pages_are store)
     (push_rewrites (staged_pages store.flash) group page (subst (λ (l : List ℕ). Contains l page) (save_rewrites due saved pushed) listed))) front
+  where
+    early : (due : Bool) → is_due store.flash.ring.hi store.flash.segments.hi ≡ due → 1 ≤ (if due then 1 else 0) → {n : ℕ} → n ≡ (if due then 1 else 0) → 4 * (hi_of (segment_shape store.flash.geometry) old.image.flash + n) < next_group (cache_of store) + 1
+    early true is some are =
+        let four : store.flash.ring.hi ≡ 4 * store.flash.segments.hi + 4 = eqb-true store.flash.ring.hi (4 * store.flash.segments.hi + 4) is in
+        omega (arith, four, are, has.next, has.fits.hi, has.fits.segments_hi)
+    early false is some are = absurd (omega (arith, some))
 
 pub queue_pushed : {T : Type 0} (r : Result T Stop) (flash : FlashCache) (store : PageStore) (groups : List (List Stored)) (now : State) → flash_cache.Invariant flash now → OnOk r (flash_cache.Matches flash now) → OnOk r (flash_cache.Represents flash now.image groups) →
     OnOk r (HasQueueOn (record store { flash = flash }) now)

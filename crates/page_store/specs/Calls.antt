@@ -1,6 +1,6 @@
 -- What the calls on pages ask and say, each as one record, with the call's result as its index where that matters.
 use Rattle.std.specs.Prelude.{◌≡◌, ◌≢◌, ◌⊎◌, ℕ, ◌+◌, ◌*◌, ◌^◌, ◌≤◌, ◌<◌, Bool, true, if◌then◌else◌, IsTrue, List, ◌++◌}
-use Rattle.std.specs.Prelude.{map, Option, Result, OnOk, IfErr, IsErrOf}
+use Rattle.std.specs.Prelude.{length, map, Option, Result, OnOk, IfErr, IsErrOf}
 use Rattle.std.specs.List.{AllByRecursion}
 use Rattle.site.specs.declared.outside.Dev.{Dev}
 use Rattle.site.specs.declared.outside.Dev.TheVariants.{Log, Flash}
@@ -16,7 +16,7 @@ use Rattle.image_changes.specs.Costs.{CallsForUnits}
 use Rattle.slotted_page.specs.Layout.{IsSound}
 use Rattle.flash_cache.specs.Representation as flash_cache
 use Rattle.flash_cache.specs.Representation.{IsWorn}
-use Rattle.flash_cache.specs.Pushed.{chance_marks, pushed_queue}
+use Rattle.flash_cache.specs.Pushed.{chance_marks, pushed_queue, sum_of, calls_by}
 use Rattle.flash_cache.specs.Kept.{AreCleanGiven}
 use Rattle.second_chance.specs.Queue.{has_frame, frame_of as known_of}
 use Rattle.second_chance.specs.Machine.{chance_frame, wants_flush, push_changed, flushed}
@@ -160,7 +160,8 @@ pub record Stands (old new : LogStore) (pages pages' : PageStore) (before now : 
   pub rings : (newest : Option Master) → AreRingsSoundUnder newest pages.flash.geometry before.image →
       AreRingsSoundUnder newest pages.flash.geometry now.image
   pub reaches : Reaches pages.flash.geometry changes before.image now.image
-  -- and no more calls were made than the units cost that were appended
+  -- by the calls of these changes, which are no more than the units cost that were appended
+  pub calls : length now.past ≡ length before.past + sum_of calls_by changes
   pub device_calls : CallsForUnits pages.flash.geometry before now
 
 -- The same of a push of these pages, whatever is given as their contents.
@@ -185,6 +186,7 @@ pub record StandsGiven (log new : LogStore) (pages pages' : PageStore) (numbers 
     (contents : List (List ℕ)) (before now : State) (list : LogList) (changes : List Change) : Type 0 where
   pub gives : Gives pages.flash.geometry numbers contents before.image now.image
   pub reaches : Reaches pages.flash.geometry changes before.image now.image
+  pub calls : length now.past ≡ length before.past + sum_of calls_by changes
   pub device_calls : CallsForUnits pages.flash.geometry before now
   pub leaves : (given : ℕ → List ℕ) → AreGiven given numbers contents →
       AreCleanGiven pages.flash numbers changed contents before.image →

@@ -1,6 +1,6 @@
 -- A segment is appended, where one is due.
 use Rattle.std.proofs.Common.{◌≡◌, ◌⊎◌, inl, inr, ℕ, ◌+◌, ◌*◌, Bool, true, false, List, [], ◌∷◌, length, refl, sym, ap, subst, ◌∙◌, arith}
-use Rattle.std.specs.Prelude.{Ok, Err, IsTrue}
+use Rattle.std.specs.Prelude.{Ok, Err, IsTrue, slice_index}
 use Rattle.site.specs.declared.geometry.Geometry.{Geometry}
 use Rattle.site.specs.declared.outside.Dev.{Dev}
 use Rattle.site.specs.declared.outside.Dev.TheVariants.{Flash}
@@ -8,8 +8,8 @@ use Rattle.site.specs.declared.outside.Stop.{Stop}
 use Rattle.site.specs.Geometry.{HasLimits, HasLengths}
 use Rattle.site.specs.State.{State, Snapshot, IsQuiet}
 use Rattle.site.specs.Calls.{Preserves, IsUnchanged}
-use Rattle.site.specs.Moments.{LeavesOnly, OnlyDevice, SameBut, ChangesOnly}
-use Rattle.site.specs.Laws.{leaves_weaker, unchanged, unchanged_calm, no_call, quiet_settled}
+use Rattle.site.specs.Moments.{Leaves, LeavesOnly, OnlyDevice, SameBut, ChangesOnly}
+use Rattle.site.specs.Laws.{in_sequence, holds_now, leaves_weaker, quiet_leaves, unchanged, unchanged_calm, no_call, quiet_settled}
 use Rattle.sealed_ring.specs.declared.slots.Shape.{Shape}
 use Rattle.sealed_ring.specs.declared.ring.Ring.{Ring}
 use Rattle.sealed_ring.specs.Ring.{Units, IsRing, SameOutside, appended, hi_of}
@@ -25,15 +25,36 @@ use Rattle.image_changes.proofs.Adding.{none_made, fronts_add_up}
 use Rattle.image_changes.proofs.Sequence.{reads_itself}
 use Rattle.frame_group.specs.Groups.{Frame}
 use Rattle.tail_rebuild.specs.Rebuilt.{AreRings}
-use Rattle.tail_rebuild.specs.Saving.{is_due, segment_of, changes_of_save, saved_after, Stands, Saves}
+use Rattle.tail_rebuild.specs.Saving.{is_due, segment_of, changes_of_save, saved_after, Stands, Saves, IsInNoSlot, LeavesGaps}
 use Rattle.tail_rebuild.proofs.Following.{segment_saved}
 use Rattle.tail_rebuild.proofs.Standing.{fits_again}
+
+-- The octets between the slots.
+
+-- while nothing is written
+pub gaps_unchanged : (g : Geometry) (old new : State) → IsQuiet old → IsUnchanged old new → LeavesGaps g old new
+gaps_unchanged g old new quiet same =
+    let P = λ (s : Snapshot). (p : ℕ) → IsInNoSlot (group_shape g) p → IsInNoSlot (segment_shape g) p → slice_index s.image.flash p ≡ slice_index old.image.flash p in
+    unchanged_calm old old new (Leaves P) (no_call old (Leaves P) (λ s left. subst P (sym (quiet_leaves old s quiet left)) (λ p groups segments. refl))) same
+
+-- calls one after the other
+pub gaps_then : (g : Geometry) (old mid new : State) → LeavesGaps g old mid → LeavesGaps g mid new → LeavesGaps g old new
+gaps_then g old mid new first later =
+    let P = λ (c : List ℕ) (s : Snapshot). (p : ℕ) → IsInNoSlot (group_shape g) p → IsInNoSlot (segment_shape g) p → slice_index s.image.flash p ≡ slice_index c p in
+    in_sequence old mid new (Leaves (P old.image.flash)) first
+    (leaves_weaker mid new (P mid.image.flash) (P old.image.flash) (λ s is p groups segments. is p groups segments ∙ holds_now old mid (P old.image.flash) first p groups segments) later)
+
+-- an append to one of the two rings
+pub gaps_appended : (g : Geometry) (content : List ℕ) (old new : State) → LeavesOnly old new (LeavesOldOrNew (group_shape g) old.image.flash content) ⊎ LeavesOnly old new (LeavesOldOrNew (segment_shape g) old.image.flash content) → LeavesGaps g old new
+gaps_appended g content old new (inl leaves) = leaves_weaker old new (LeavesOldOrNew (group_shape g) old.image.flash content) _ (λ s is p groups segments. is.outside p groups) leaves
+gaps_appended g content old new (inr leaves) = leaves_weaker old new (LeavesOldOrNew (segment_shape g) old.image.flash content) _ (λ s is p groups segments. is.outside p segments) leaves
 
 -- where no segment is due nothing is called
 pub none_saved : (g : Geometry) (groups segments : Ring) (first : ℕ) (stand : List (List Frame)) (saved : List (List FrameHead)) (site : State) → is_due groups.hi segments.hi ≡ false
     → Stands g groups segments first stand saved site → Saves g groups segments segments first stand saved site site (Ok tt)
 none_saved g groups segments first stand saved site none stands = record {
   any_moment = λ quiet. subst (λ (b : Bool). LeavesFront g (changes_of_save b stand) site site) (sym none) (none_made g (IsFrontOf []) site site quiet ([], refl) (unchanged site));
+  gaps = λ quiet. gaps_unchanged g site site quiet (unchanged site);
   reaches = subst (λ (b : Bool). Reaches g (changes_of_save b stand) site.image site.image) (sym none) (reads_itself g site.image);
   stands = subst (λ (b : Bool). Stands g groups segments first stand (saved_after b g stand saved) site) (sym none) stands;
 }
@@ -43,6 +64,7 @@ pub read_failed : (g : Geometry) (groups segments : Ring) (first : ℕ) (stand :
     → Saves g groups segments segments first stand saved old new (Err stop)
 read_failed g groups segments first stand saved old new stop same = record {
   any_moment = λ quiet. none_made g (IsFrontOf (changes_of_save (is_due groups.hi segments.hi) stand)) old new quiet (changes_of_save (is_due groups.hi segments.hi) stand, refl) same;
+  gaps = λ quiet. gaps_unchanged g old new quiet same;
   reaches = tt;
   stands = tt;
 }
@@ -86,6 +108,11 @@ module _ (g : Geometry) (groups segments : Ring) (first : ℕ) (stand : List (Li
       (append_front g content mid new limits (subst (HasLengths g) (sym same.image) lengths) (same.loose ∙ quiet) size
       (subst (λ (s : Shape). LeavesOnly mid new (LeavesOldOrNew s (region s mid) content)) rings.segments_shape leaves)
       (subst (λ (s : Shape). OnlyDevice s.dev mid new) rings.segments_shape only))))
+
+  pub save_gaps : (new : State) (content : List ℕ) → LeavesOnly mid new (LeavesOldOrNew segments.shape (region segments.shape mid) content) → IsQuiet old → LeavesGaps g old new
+  save_gaps new content leaves quiet =
+      let moved = subst (λ (s : Shape). LeavesOnly mid new (LeavesOldOrNew s (region s mid) content)) rings.segments_shape leaves in
+      gaps_then g old mid new (gaps_unchanged g old mid quiet same) (gaps_appended g content mid new (inr moved))
 
   module _ (new : State) (ring : Ring) (content : List ℕ) (is : content ≡ bytes) (size : length content ≡ 512) (goes : Preserves mid new) (shape : ring.shape ≡ segments.shape) (ready : IsReady ring new)
       (outside : SameOutside segments.shape (region segments.shape mid) (region segments.shape new)) (only : OnlyDevice segments.shape.dev mid new)

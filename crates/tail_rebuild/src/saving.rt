@@ -1,6 +1,6 @@
 // A segment is saved where one is due.
 ghost use Rattle.std.specs.Prelude.{◌≡◌, ◌≢◌, ◌⊎◌, ◌+◌, ◌*◌, ◌<◌, ◌≤◌, ◌++◌, ℕ, List, take, drop, false, IsTrue, IfOk};
-ghost use Rattle.std.specs.Prelude.{OnOk, OnErr, IfErr, IsErrOf, length};
+ghost use Rattle.std.specs.Prelude.{OnOk, OnErr, IfErr, IsErrOf, length, if◌then◌else◌};
 ghost use Rattle.site.specs.declared.outside.Dev.{Dev};
 ghost use Rattle.site.specs.declared.outside.Stop.{Stop};
 ghost use Rattle.site.specs.Geometry.{HasLimits, HasLengths};
@@ -92,7 +92,8 @@ pub fn save_due<S: Site>(
     ensures quiet { IsTrue (S.state site.old).honest → IsQuiet (S.state site.old)
         → OnOk result (IsQuiet (S.state site.new)) }
     ensures device_calls { IsTrue (S.state site.old).honest
-        → OnOk result (length (S.state site.new).past ≤ length (S.state site.old).past + 5) }
+        → OnOk result (length (S.state site.new).past ≡ length (S.state site.old).past
+        + (if is_due groups.now.hi segments.old.hi then 5 else 0)) }
     ensures quiet_err { IsTrue (S.state site.old).honest → IsQuiet (S.state site.old)
         → IfErr result (λ stop. ((d : Dev) → stop ≢ Stop.Device d) → IsQuiet (S.state site.new)) }
 
@@ -103,7 +104,8 @@ pub fn save_due<S: Site>(
     ensures err { OnErr result (segments.new.hi ≡ segments.old.hi) }
     ensures preserves { Preserves (S.state site.old) (S.state site.new) }
     ensures faults { WorkFaults result (S.state site.old) (S.state site.new) }
-    ensures reads { (S.state site.new).flash_reads ≤ (S.state site.old).flash_reads + 4 }
+    ensures reads { (S.state site.new).flash_reads ≤ (S.state site.old).flash_reads
+        + (if is_due groups.now.hi segments.old.hi then 4 else 0) }
     ensures others { (d : Dev) → d ≢ Dev.Flash
         → reads_of d (S.state site.new) ≡ reads_of d (S.state site.old) }
 

@@ -1,4 +1,4 @@
-use Rattle.std.proofs.Common.{◌≡◌, inl, inr, ⊎_elim, ℕ, ◌+◌, ◌*◌, true, sym, ◌∙◌, ap, subst, arith, Err, length}
+use Rattle.std.proofs.Common.{◌≡◌, ◌≢◌, Bool, false, if◌then◌else◌, inl, inr, ⊎_elim, ℕ, ◌+◌, ◌*◌, true, sym, ◌∙◌, ap, subst, arith, Err, length}
 use Rattle.std.proofs.lemmas.Bool.{eq-eqb, ne_eqb}
 use Rattle.site.specs.declared.outside.Dev.TheVariants.{Flash}
 use Rattle.site.specs.Geometry.{HasLengths}
@@ -10,17 +10,38 @@ use Rattle.site.proofs.Working.{err_again}
 use Rattle.meta_segments.proofs.Whole.{segment_form}
 use Rattle.tail_rebuild.specs.Saving.{is_due}
 use Rattle.tail_rebuild.proofs.Standing.{fits_again}
-use Rattle.tail_rebuild.proofs.Save.{none_saved, read_failed, finds_mid, ready_mid, moments, reached, stands_behind, unchanged_changes, finds_later, both_found}
+use Rattle.tail_rebuild.proofs.Save.{none_saved, read_failed, finds_mid, ready_mid, moments, save_gaps, reached, stands_behind, unchanged_changes, finds_later, both_found}
 use Rattle.tail_rebuild.proofs.saving.save_due.Goals as goal
+
+-- A segment is due exactly where the numbers of the rings say so; a save takes what it takes where it is due.
+
+not_due : (groups segments at at2 : ℕ) → at ≡ groups → at2 ≡ segments → at ≢ 4 * at2 + 4 → is_due groups segments ≡ false
+not_due groups segments at at2 is is2 other = ne_eqb groups (4 * segments + 4) (λ same. other (is ∙ same ∙ ap (λ (n : ℕ). 4 * n + 4) (sym is2)))
+
+now_due : (groups segments at at2 : ℕ) → at ≡ groups → at2 ≡ segments → at ≡ 4 * at2 + 4 → is_due groups segments ≡ true
+now_due groups segments at at2 is is2 same = eq-eqb groups (4 * segments + 4) (sym is ∙ same ∙ ap (λ (n : ℕ). 4 * n + 4) is2)
+
+taken : (n : ℕ) {due is : Bool} → due ≡ is → (if due then n else 0) ≡ (if is then n else 0)
+taken n same = ap (λ (b : Bool). if b then n else 0) same
 
 pub returns-then-hi-clause-saves : goal.returns-then-hi-clause-saves
 returns-then-hi-clause-saves g c first stand saved stands =
     none_saved c.args.geometry.now c.args.groups.now c.args.segments.now first stand saved (g.S.Site.state c.args.site.now)
-    (ne_eqb c.args.groups.now.hi (4 * c.args.segments.now.hi + 4) (λ same. c.if-hi.true (c.hi.ensures ∙ same ∙ ap (λ (n : ℕ). 4 * n + 4) (sym c.hi-2.ensures)))) stands
+    (not_due c.args.groups.now.hi c.args.segments.now.hi c.hi.result c.hi-2.result c.hi.ensures c.hi-2.ensures c.if-hi.true) stands
+
+pub returns-then-hi-clause-device_calls : goal.returns-then-hi-clause-device_calls
+returns-then-hi-clause-device_calls g c honest =
+    let none = taken 5 (not_due c.args.groups.now.hi c.args.segments.now.hi c.hi.result c.hi-2.result c.hi.ensures c.hi-2.ensures c.if-hi.true) in
+    omega (arith, none)
 
 pub returns-in-Err-clause-saves : goal.returns-in-Err-clause-saves
 returns-in-Err-clause-saves g c first stand saved stands =
     read_failed c.args.geometry.now c.args.groups.now c.args.segments.now first stand saved (g.S.Site.state c.args.site.now) (g.S.Site.state c.read_last_four.new.site) c.in-Err.stop (c.in-Err.ensures.reads.same stands.honest)
+
+pub returns-in-Err-clause-reads : goal.returns-in-Err-clause-reads
+returns-in-Err-clause-reads g c =
+    let four = taken 4 (now_due c.args.groups.now.hi c.args.segments.now.hi c.hi.result c.hi-2.result c.hi.ensures c.hi-2.ensures c.if-hi.false) in
+    omega (arith, four, c.in-Err.ensures.reads.reads)
 
 pub returns-in-Err-clause-foreign : goal.returns-in-Err-clause-foreign
 returns-in-Err-clause-foreign g c says first stand saved stands = c.in-Err.ensures.foreign (err_again _ _ says) stands.honest stands.groups_fit first stand stands.has
@@ -49,6 +70,8 @@ returns-in-Err-append-clause-saves g c first stand saved stands =
     record {
       any_moment = λ quiet. moments geometry groups segments first stand saved old mid c.requires.limits c.requires.lengths c.requires.rings due same stands new c.write_segment.new.content is size
           (c.append.ensures.any_moment honest_mid (ready_mid geometry groups segments first stand saved old mid c.requires.limits c.requires.lengths c.requires.rings due same stands quiet)) changes.only quiet;
+      gaps = λ quiet. save_gaps geometry groups segments first stand saved old mid c.requires.limits c.requires.lengths c.requires.rings due same stands new c.write_segment.new.content
+          (c.append.ensures.any_moment honest_mid (ready_mid geometry groups segments first stand saved old mid c.requires.limits c.requires.lengths c.requires.rings due same stands quiet)) quiet;
       reaches = tt;
       stands = tt;
     }
@@ -61,7 +84,9 @@ returns-in-Err-append-clause-changes g c honest =
     (subst (λ (s : Shape). ChangesOnly s.dev mid (g.S.Site.state c.append.new.site)) c.requires.rings.segments_shape (c.append.ensures.changes (stays_honest old mid c.in-Ok.ensures.reads.preserves honest)))
 
 pub returns-in-Err-append-clause-reads : goal.returns-in-Err-append-clause-reads
-returns-in-Err-append-clause-reads g c = omega (arith, c.append.ensures.reads Flash, c.in-Ok.ensures.reads.reads)
+returns-in-Err-append-clause-reads g c =
+    let four = taken 4 (now_due c.args.groups.now.hi c.args.segments.now.hi c.hi.result c.hi-2.result c.hi.ensures c.hi-2.ensures c.if-hi.false) in
+    omega (arith, four, c.append.ensures.reads Flash, c.in-Ok.ensures.reads.reads)
 
 pub returns-clause-saves : goal.returns-clause-saves
 returns-clause-saves g c first stand saved stands =
@@ -87,6 +112,8 @@ returns-clause-saves g c first stand saved stands =
     record {
       any_moment = λ quiet. moments geometry groups segments first stand saved old mid c.requires.limits c.requires.lengths c.requires.rings due same stands new c.write_segment.new.content is size
           (c.append.ensures.any_moment honest_mid (ready_mid geometry groups segments first stand saved old mid c.requires.limits c.requires.lengths c.requires.rings due same stands quiet)) changes.only quiet;
+      gaps = λ quiet. save_gaps geometry groups segments first stand saved old mid c.requires.limits c.requires.lengths c.requires.rings due same stands new c.write_segment.new.content
+          (c.append.ensures.any_moment honest_mid (ready_mid geometry groups segments first stand saved old mid c.requires.limits c.requires.lengths c.requires.rings due same stands quiet)) quiet;
       reaches = reached geometry groups segments first stand saved old mid c.requires.limits c.requires.lengths c.requires.rings due same stands new c.append.new.self c.write_segment.new.content is size goes
           c.append.ensures.shape ready outside changes.only units honest_new;
       stands = stands_behind geometry groups segments first stand saved old mid c.requires.limits c.requires.lengths c.requires.rings due same stands new c.append.new.self c.write_segment.new.content is size goes
@@ -114,13 +141,16 @@ returns-clause-changes g c honest =
     (subst (λ (s : Shape). ChangesOnly s.dev mid (g.S.Site.state c.append.new.site)) c.requires.rings.segments_shape (c.append.ensures.changes (stays_honest old mid c.in-Ok.ensures.reads.preserves honest)))
 
 pub returns-clause-reads : goal.returns-clause-reads
-returns-clause-reads g c = omega (arith, c.append.ensures.reads Flash, c.in-Ok.ensures.reads.reads)
+returns-clause-reads g c =
+    let four = taken 4 (now_due c.args.groups.now.hi c.args.segments.now.hi c.hi.result c.hi-2.result c.hi.ensures c.hi-2.ensures c.if-hi.false) in
+    omega (arith, four, c.append.ensures.reads Flash, c.in-Ok.ensures.reads.reads)
 
 pub returns-clause-device_calls : goal.returns-clause-device_calls
 returns-clause-device_calls g c honest =
     let same = ap length (c.in-Ok.ensures.reads.same honest).past in
+    let due = taken 5 (now_due c.args.groups.now.hi c.args.segments.now.hi c.hi.result c.hi-2.result c.hi.ensures c.hi-2.ensures c.if-hi.false) in
     let five = c.in_default.ensures.device_calls (stays_honest (g.S.Site.state c.args.site.now) (g.S.Site.state c.read_last_four.new.site) c.in-Ok.ensures.reads.preserves honest) in
-    omega (arith, same, five)
+    omega (arith, same, due, five)
 
 pub returns-clause-segments : goal.returns-clause-segments
 returns-clause-segments g c honest fit =

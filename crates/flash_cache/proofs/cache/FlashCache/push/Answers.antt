@@ -26,6 +26,7 @@ use Rattle.flash_cache.proofs.Heads.{heads_make}
 use Rattle.tail_rebuild.proofs.Standing.{group_exists}
 use Rattle.flash_cache.proofs.NextSegments.{next_elsewhere, next_then}
 use Rattle.flash_cache.proofs.Staging.{goes_on_later, fits_read, pages_read, read_untouched, pages_in_sequence, none_pushed, pushed_since}
+use Rattle.tail_rebuild.proofs.Save.{gaps_unchanged, gaps_then}
 use Rattle.flash_cache.proofs.StagedMarks.{places_inside, reads_few, leaving_few, front_live, leaving_some, staged_numbered, staged_among, chances_among, pages_apart, marks_exist}
 use Rattle.flash_cache.proofs.StagedContents.{pages_are, contents_are, dirty_long, contents_long, all_long, again_is, group_has, group_known, pushed_has, with_parts}
 use Rattle.flash_cache.proofs.Pushing.{ring_found}
@@ -60,6 +61,10 @@ pub returns-in-Err-clause-frames : goal.returns-in-Err-clause-frames
 returns-in-Err-clause-frames g c groups fits holds =
     pushed_has c.args.self.now (g.S.Site.state c.args.site.now) groups c.requires.going holds c.args.given.now.pages.now c.args.given.now.changed.now c.args.given.now.contents.now
     c.requires.marks c.requires.lists c.requires.some c.requires.few c.requires.exist c.requires.are_frames
+
+pub returns-in-Err-clause-gaps : goal.returns-in-Err-clause-gaps
+returns-in-Err-clause-gaps g c fits quiet =
+    gaps_unchanged c.args.self.now.geometry (g.S.Site.state c.args.site.now) (g.S.Site.state c.frames_leaving.new.site) quiet (c.frames_leaving.ensures.reads.same fits.honest)
 
 pub returns-in-Err-clause-reads : goal.returns-in-Err-clause-reads
 returns-in-Err-clause-reads g c =
@@ -268,6 +273,15 @@ returns-clause-shown g c honest some =
     on_ok_weaker c.write.result (λ shown. some_after_reads old mid new (SameAt Flash old) same.past
     (some_weaker mid new (SameAt Flash mid) (SameAt Flash old) (λ m is. record { content = is.content ∙ ap (λ (i : Image). i.flash) same.image; loose = is.loose ∙ ap (λ (l : Loose). l.flash) same.loose }) shown))
     (c.write.ensures.shown (still_honest g s honest) (subst (λ (l : List ℕ). 1 ≤ length l) (sym (items ∙ numbers g s)) some))
+
+pub returns-clause-gaps : goal.returns-clause-gaps
+returns-clause-gaps g c fits quiet =
+    let s = (goal.at.returns-clause-gaps g c).In-Ok in
+    let old = g.S.Site.state c.args.site.now in
+    let mid = g.S.Site.state c.frames_leaving.new.site in
+    let same = c.frames_leaving.ensures.reads.same fits.honest in
+    gaps_then c.args.self.now.geometry old mid (g.S.Site.state c.write.new.site) (gaps_unchanged c.args.self.now.geometry old mid quiet same)
+    (c.write.ensures.gaps (still_fits g s fits) (same.loose ∙ quiet))
 
 pub returns-clause-device_calls : goal.returns-clause-device_calls
 returns-clause-device_calls g c honest =

@@ -1,6 +1,6 @@
 use Rattle.std.proofs.Common.{List, true, arith, refl, rules}
 use Rattle.site.specs.declared.outside.Dev.TheVariants.{Flash, Disk}
-use Rattle.site.specs.State.{State}
+use Rattle.site.specs.State.{State, IsQuiet}
 use Rattle.site.specs.Laws.{others_untouched, untouched_in_sequence, stays_honest}
 use Rattle.site.proofs.Working.{err_again}
 use Rattle.frame_group.specs.Groups.{Frame, group}
@@ -9,7 +9,8 @@ use Rattle.flash_cache.specs.Pushed.{frames_pushed}
 use Rattle.flash_cache.specs.Representation.{HasGroups, HasFrames, Matches, Represents}
 use Rattle.flash_cache.proofs.StagedContents.{pushed_has, given_few}
 use Rattle.flash_cache.proofs.Staging.{pages_changed, pages_in_sequence}
-use Rattle.flash_cache.proofs.StagedMarks.{calls_few}
+use Rattle.tail_rebuild.specs.Saving.{LeavesGaps}
+use Rattle.tail_rebuild.proofs.Save.{gaps_then}
 use Rattle.flash_cache.proofs.Pushing.{ring_found}
 use Rattle.flash_cache.proofs.NextSegments.{next_answered, next_then, next_saved}
 use Rattle.flash_cache.proofs.SavedFirst.{IsBehind, stands_there, goes_on_saved, segments_found, fits_behind, is_behind, moment_behind, reaches_behind, staged_behind, failed_moment}
@@ -45,7 +46,7 @@ returns-in-Err-clause-pushes g c groups fits holds =
     let saves = c.save_due.ensures.saves cache.directory.first groups holds.saved.segments stands in
     pushes_group cache groups old c.requires.going fits holds pages changed contents c.requires.marks c.requires.lists c.requires.apart
     (own g (goal.at.returns-in-Err-clause-pushes g c).After-heads_given-heads groups holds) _ _ new
-    (λ quiet. failed_moment cache groups old new (group (frames_pushed cache old.image pages changed contents)) holds (saves.any_moment quiet))
+    (λ quiet. failed_moment cache groups old new (group (frames_pushed cache old.image pages changed contents)) holds (saves.any_moment quiet)) saves.gaps
     tt tt (λ quiet. tt) tt refl (λ says. c.in-Err.ensures.foreign (err_again _ _ says) cache.directory.first groups holds.saved.segments stands)
 
 pub returns-in-Err-clause-changes : goal.returns-in-Err-clause-changes
@@ -81,6 +82,12 @@ module _ (g : Over) (c : In_default g) where
       let found = c.in_default.ensures.fits fits.honest (ring_found cache old rings.groups_shape fits) (segments_found cache old rings.segments_shape fits) in
       fits_behind cache c.save_due.new.segments mid c.save_due.ensures.rings (stays_honest old mid c.save_due.ensures.preserves fits.honest) found.0 found.1
 
+  pushed_gaps : (new : State) (groups : List (List Frame)) → (fits : Matches cache old) → (holds : Represents cache old.image groups)
+      → (Matches (record cache { segments = c.save_due.new.segments }) mid → IsQuiet mid → LeavesGaps cache.geometry mid new) → IsQuiet old → LeavesGaps cache.geometry old new
+  pushed_gaps new groups fits holds later quiet =
+      let saves = c.in_default.ensures.saves cache.directory.first groups holds.saved.segments (stands_there cache groups old c.requires.going fits holds) in
+      gaps_then cache.geometry old mid new (saves.gaps quiet) (later (fits_saved fits) (c.in_default.ensures.quiet fits.honest quiet))
+
 pub returns-in-Err-push-clause-pushes : goal.returns-in-Err-push-clause-pushes
 returns-in-Err-push-clause-pushes g c groups fits holds =
     let cache = c.args.self.now in
@@ -94,6 +101,7 @@ returns-in-Err-push-clause-pushes g c groups fits holds =
     pushes_group cache groups old c.requires.going fits holds pages changed contents c.requires.marks c.requires.lists c.requires.apart
     (own g (goal.at.returns-in-Err-push-clause-pushes g c).After-heads_given-heads groups holds) _ _ new
     (λ quiet. moment_behind cache groups c.save_due.new.segments old mid holds b pages changed contents new quiet (c.push.ensures.any_moment groups b.fits b.holds (c.in_default.ensures.quiet fits.honest quiet)))
+    (pushed_gaps g (goal.at.returns-in-Err-push-clause-pushes g c).In_default new groups fits holds c.push.ensures.gaps)
     tt tt (λ quiet. tt) tt c.push.ensures.keeps.geometry (search rules)
 
 pub returns-in-Err-push-clause-changes : goal.returns-in-Err-push-clause-changes
@@ -124,6 +132,7 @@ returns-clause-pushes g c groups fits holds =
     pushes_group cache groups old c.requires.going fits holds pages changed contents c.requires.marks c.requires.lists c.requires.apart
     (own g (goal.at.returns-clause-pushes g c).After-heads_given-heads groups holds) _ _ new
     (λ quiet. moment_behind cache groups c.save_due.new.segments old mid holds b pages changed contents new quiet (c.push.ensures.any_moment groups b.fits b.holds (c.in_default.ensures.quiet fits.honest quiet)))
+    (pushed_gaps g (goal.at.returns-clause-pushes g c).In_default new groups fits holds c.push.ensures.gaps)
     (reaches_behind cache groups c.save_due.new.segments old mid holds b pages changed contents new.image (c.in_default-push.ensures.reaches groups b.fits b.holds)) staged
     (λ quiet. staged_last cache old groups c.requires.going holds new (λ some.
     some_behind old mid new (c.save_due.ensures.changes fits.honest).only.grown (c.push.ensures.changes honest).log.grown (Leaves (λ s. HasGroups cache.geometry cache.directory.first groups s.image))
@@ -149,8 +158,7 @@ pub returns-clause-device_calls : goal.returns-clause-device_calls
 returns-clause-device_calls g c honest =
     let saved = c.in_default.ensures.device_calls honest in
     let pushed = c.in_default-push.ensures.device_calls (stays_honest (g.S.Site.state c.args.site.now) (g.S.Site.state c.save_due.new.site) c.save_due.ensures.preserves honest) in
-    let nine = calls_few c.args.self.now c.requires.going.sizes in
-    omega (arith, saved, pushed, nine)
+    omega (arith, saved, pushed)
 
 pub returns-in-Err-clause-keeps : goal.returns-in-Err-clause-keeps
 returns-in-Err-clause-keeps g c = record {

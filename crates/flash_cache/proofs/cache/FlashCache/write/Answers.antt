@@ -1,13 +1,16 @@
-use Rattle.std.specs.Prelude.{Ok}
-use Rattle.std.proofs.Common.{rules, refl, ◌≡◌, ◌≤◌, ◌∷◌, List, [], ℕ, length, arith, sym, ap, subst}
+use Rattle.std.specs.Prelude.{Ok, slice_index}
+use Rattle.std.proofs.Common.{inl, rules, refl, ◌≡◌, ◌≤◌, ◌∷◌, List, [], ℕ, length, arith, sym, ap, subst}
 use Rattle.std.proofs.lemmas.Result.{on_ok_weaker}
 use Rattle.std_lemmas.proofs.Results.{on_ok}
 use Rattle.site.specs.declared.outside.Dev.TheVariants.{Flash, Disk}
-use Rattle.site.specs.State.{State}
+use Rattle.site.specs.declared.geometry.Geometry.{Geometry}
+use Rattle.site.specs.State.{State, IsQuiet, MayStand}
 use Rattle.site.proofs.Working.{no_error}
-use Rattle.site.specs.Laws.{each_weaker, stays_honest, others_untouched, quiet_settled}
-use Rattle.site.specs.Moments.{SameAt, SameBut, Untouched}
+use Rattle.site.specs.Laws.{each_weaker, leaves_weaker, untouched_leaves, settled_is, stays_honest, others_untouched, quiet_settled}
+use Rattle.site.specs.Moments.{OnlyDevice, SameAt, SameBut, Untouched}
 use Rattle.stage_out.specs.Staged.{HasStaged, calls_of}
+use Rattle.tail_rebuild.specs.Saving.{LeavesGaps}
+use Rattle.tail_rebuild.proofs.Save.{gaps_then, gaps_appended}
 use Rattle.flash_cache.proofs.PushLaws.{push_leaves, stage_only}
 use Rattle.flash_cache.proofs.NextSegments.{next_elsewhere, next_then}
 use Rattle.flash_cache.proofs.Staging.{goes_on_later, fits_on, pages_changed, pages_in_sequence, all_made}
@@ -27,6 +30,28 @@ returns-in-Err-clause-any_moment g c fits quiet =
 
 pub returns-in-Err-clause-changes : goal.returns-in-Err-clause-changes
 returns-in-Err-clause-changes g c honest = pages_changed Disk (g.S.Site.state c.args.site.now) (g.S.Site.state c.stage.new.site) (λ h. cc) (c.stage.ensures.changes honest)
+
+-- staging leaves the flash
+staged_gaps : (g : Geometry) (old mid : State) → IsQuiet old → OnlyDevice Disk old mid → LeavesGaps g old mid
+staged_gaps g old mid quiet only =
+    leaves_weaker old mid _ _ (λ s stands p groups segments. ap (λ (c : List ℕ). slice_index c p) (settled_is old.image.flash s.image.flash
+    (subst (λ rs. MayStand rs old.image.flash s.image.flash) (quiet_settled Flash old quiet) stands)))
+    (untouched_leaves Flash old mid (others_untouched Disk Flash old mid (λ h. cc) only))
+
+pub returns-in-Err-clause-gaps : goal.returns-in-Err-clause-gaps
+returns-in-Err-clause-gaps g c fits quiet =
+    staged_gaps c.args.self.now.geometry (g.S.Site.state c.args.site.now) (g.S.Site.state c.stage.new.site) quiet (c.stage.ensures.changes fits.honest).only
+
+pub returns-clause-gaps : goal.returns-clause-gaps
+returns-clause-gaps g c fits quiet =
+    let cache = c.args.self.now in
+    let old = g.S.Site.state c.args.site.now in
+    let mid = g.S.Site.state c.stage.new.site in
+    let new = g.S.Site.state c.append.new.site in
+    let changes = c.stage.ensures.changes fits.honest in
+    gaps_then cache.geometry old mid new (staged_gaps cache.geometry old mid quiet changes.only)
+    (gaps_appended cache.geometry c.args.content.now mid new (inl (c.append.ensures.any_moment (fits_on cache old mid fits c.stage.ensures.writes.preserves changes)
+    (quiet_settled Flash mid (c.in_default.ensures.quiet fits.honest quiet)))))
 
 pub append-requires-clause-going : goal.append-requires-clause-going
 append-requires-clause-going g c = goes_on_later c.args.self.now (g.S.Site.state c.args.site.now) (g.S.Site.state c.stage.new.site) c.requires.going c.stage.ensures.writes.preserves

@@ -70,6 +70,7 @@ stands_in g c list ready =
           (stands.ahead ahead).pool put content;
       rings = λ newest rings. subst (AreRingsSoundUnder newest store.flash.geometry) (sym same.image) (stands.rings newest rings);
       reaches = subst (λ (i : Image). Reaches store.flash.geometry changes old.image i) (sym same.image) stands.reaches;
+      calls = ap length same.past ∙ stands.calls;
       device_calls = counts_then store.flash.geometry old mid new stands.device_calls (calls_unchanged store.flash.geometry mid new same);
     })
     (read.fits fits) (c.read_in.ensures.current fits) c.read_in.ensures.put (c.read_in.ensures.read fits)

@@ -34,7 +34,7 @@ use Rattle.site.proofs.Working.{no_error, ok_as}
 use Rattle.page_store.proofs.NextUnits.{next_logged, next_pushed, next_then, next_with}
 use Rattle.flash_cache.specs.declared.cache.FlashCache.{FlashCache}
 use Rattle.page_store.specs.Representation.{AreTold, Invariant}
-use Rattle.page_store.proofs.PushCalls.{paid_group, push_calls}
+use Rattle.page_store.proofs.PushCalls.{push_takes, push_calls, four_most}
 use Rattle.page_store.proofs.ToldPages.{fits_told, going_told, told_pushed}
 use Rattle.page_store.proofs.store.PageStore.push.Goals as goal
 
@@ -175,11 +175,12 @@ returns-in-Ok g c =
           let now = pushed_now store.flash groups pages changed contents old mid new b.flash b.disk b.told (sym own.log.now.content) own.told
           (subst (λ (q : Queue). GivesVersions h q.first (pushed_groups store.flash groups (frames_pushed store.flash mid.image pages changed contents)) pages contents mid.image new.image) queue is) in
           let made = subst (λ (l : List Change). Reaches h (first list ++ l) old.image new.image) (same list ready) (c.changes_add_up.ensures h (first list) second old.image mid.image new.image (reached list ready) reaches) in
+          let takes = push_takes list sealing store.flash old.image pages changed contents log.ring.hi log'.ring.hi old mid new c.requires.going.pages_going.flash.sizes c.in-Ok.ensures.forces.next (c.in-Ok.ensures.seals.device_calls ready.blocks.honest) past in
           record {
             gives = gives;
             reaches = made;
-            device_calls = push_calls h list sealing (changes_of_group store.flash old.image pages changed contents) log.ring.hi log'.ring.hi old mid new made (paid_group store.flash old.image pages changed contents)
-                c.in-Ok.ensures.forces.next (c.in-Ok.ensures.seals.device_calls ready.blocks.honest) past (own.told ∙ b.told) (c.force_for.ensures.seals.changes ready.blocks.honest).only.grown own.log.grown;
+            calls = takes.calls;
+            device_calls = push_calls h (given_changes log list store old.image pages changed contents) old mid new made takes (own.told ∙ b.told) (c.force_for.ensures.seals.changes ready.blocks.honest).only.grown own.log.grown;
             leaves = λ given are given_clean. pushed_pages store.flash groups pages changed contents old mid new b.flash b.disk b.told c.ring_kept.ensures
                 (masters_kept c.ring_kept.ensures h (first list) old (snapshot_of mid) (own_sealing sealing list) (reached_all h (first list) old mid b.told (reached list ready))) given sealing list are (sealed_blocks list ready)
                 (snapshot_of new) now (clean (cleaned given_clean)) (reached_all h _ mid new own.told reaches);
@@ -224,7 +225,7 @@ returns-in-Ok g c =
           by_forcing (record {
             holds = λ has. queue_pushed c.push_group-pushed.result c.push_group-pushed.new.self store _ new c.push_group-pushed.ensures.keeps.going (c.push_group-pushed.ensures.keeps.fits has.fits) ((c.push_group-pushed.ensures.pushes has.groups has.fits has.holds).holds);
             quiet = λ has quiet. c.push_group-pushed.ensures.keeps.quiet has.fits.honest quiet;
-            writes = λ has quiet. push_writes store (is_due store.flash.ring.hi store.flash.segments.hi) (groups_on store.flash.geometry mid.image) _ mid new has ((c.push_group-pushed.ensures.pushes has.groups has.fits has.holds).front quiet);
+            writes = λ has quiet. push_writes store (groups_on store.flash.geometry mid.image) _ mid new has ((c.push_group-pushed.ensures.pushes has.groups has.fits has.holds).front quiet);
             last = λ has quiet. (c.push_group-pushed.ensures.pushes has.groups has.fits has.holds).last quiet;
             sizes = c.push_group-pushed.ensures.keeps.geometry;
           }));
@@ -234,5 +235,5 @@ returns-in-Ok g c =
           ap (λ (f : FlashCache). f.ring.hi) flash ∙ omega (arith, c.push_group-pushed.ensures.keeps.worn says, c.push_group-pushed.ensures.keeps.going.next, c.requires.going.pages_going.flash.next, kept);
       pool = ap (λ (s : PageStore). s.pool) told;
       directory = ok_as c.push_group-pushed.result _ _ (λ is. ap (λ (f : FlashCache). f.directory) flash ∙ is) c.push_group-pushed.ensures.directory;
-      reads = omega (arith, c.force_for.ensures.seals.reads Flash, c.push_group-pushed.ensures.reads);
+      reads = omega (arith, c.force_for.ensures.seals.reads Flash, c.push_group-pushed.ensures.reads, four_most (is_due store.flash.ring.hi store.flash.segments.hi));
     }
