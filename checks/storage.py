@@ -102,30 +102,42 @@ def files_before_new(random, sizes):
     return files
 
 
-def try_new(random, program, sizes, tally):
-    """A `new`, and images of its crashes."""
-    before = files_before_new(random, sizes)
-    outcome = recorded(program, before, sizes.new(), [])
+def new_over(program, sizes, files):
+    """A `new` over these files, which must make the database."""
+    outcome = recorded(program, files, sizes.new(), [])
     if (outcome.status, outcome.told) != (0, sizes.ready()):
         raise Wrong(f'new has status {outcome.status} and tells {outcome.told}')
+    return outcome
+
+
+def try_new(random, program, sizes, disk, tally):
+    """A `new` over a disk, and images of its crashes."""
+    outcome = new_over(program, sizes, disk.now())
     made = program.files()
-    for image, told in crash_images(random, Disk(before), outcome.calls, IMAGES_OF_A_LIFE // 4):
+    for image, told in crash_images(random, disk, outcome.calls, IMAGES_OF_A_LIFE // 4):
         find_new(program, sizes, image, told == sizes.ready())
         tally['images'] += 1
     return made
 
 
-def try_run_behind_kill(random, program, sizes, tally):
-    """A run over what a `new` has left that was killed before it made the folder's names stable, and images of its
-    crashes. Once it has written no name may be lost."""
+def killed_new(random, program, sizes, named):
+    """A disk as a `new` has left it that was killed before it made the folder's names stable: at any call, or behind the
+    last name."""
     before = files_before_new(random, sizes)
-    calls = recorded(program, before, sizes.new(), []).calls
-    named = max((number for number, call in enumerate(calls, 1) if call.kind in ('link', 'rename')), default=0)
-    synced = next(at for at, call in enumerate(calls) if at >= named and (call.kind, call.file) == ('fsync', FOLDER))
+    calls = new_over(program, sizes, before).calls
+    last = max((number for number, call in enumerate(calls, 1) if call.kind in ('link', 'rename')), default=0)
+    synced = next(at for at, call in enumerate(calls) if at >= last and (call.kind, call.file) == ('fsync', FOLDER))
     disk = Disk(before)
-    for call in calls[:random.randint(named, synced)]:
+    for call in calls[:random.randint(last if named else 0, synced)]:
         disk.make(call)
     disk.told, disk.written = b'', False
+    return disk
+
+
+def try_run_behind_kill(random, program, sizes, tally):
+    """A run over what a killed `new` has left that had given each name, and images of its crashes. Once it has written no
+    name may be lost."""
+    disk = killed_new(random, program, sizes, True)
     lines = some_lines(random, sizes, 5)
     outcome = recorded(program, disk.now(), ['run', '1'], lines)
     course = course_of(outcome, sizes, {0: {}}, lines)
@@ -141,7 +153,8 @@ def try_run_behind_kill(random, program, sizes, tally):
 def try_images(random, program, tally):
     sizes = Sizes.some(random)
     try_run_behind_kill(random, program, sizes, tally)
-    files, allowed = try_new(random, program, sizes, tally), {0: {}}
+    try_new(random, program, sizes, killed_new(random, program, sizes, False), tally)
+    files, allowed = try_new(random, program, sizes, Disk(files_before_new(random, sizes)), tally), {0: {}}
     for _ in range(LIVES):
         files, allowed = try_life(random, program, sizes, files, allowed, tally)
 
