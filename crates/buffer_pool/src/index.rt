@@ -1,4 +1,4 @@
-ghost use Rattle.std.specs.Prelude.{◌≡◌, ◌+◌, true, false, [], map, take, IfOk};
+ghost use Rattle.std.specs.Prelude.{◌≡◌, ◌+◌, ◌-◌, ◌^◌, ◌<◌, true, false, [], map, take, IfOk, OnOk};
 ghost use Rattle.buffer_pool.specs.Listing.{struck, enlisted};
 
 use std::alloc::{AllocError, Global};
@@ -11,14 +11,16 @@ pub(crate) struct Index {
     pub(crate) listed: BTreeMap<u64, (u32, bool)>,
     /// The number of the next touch.
     pub(crate) next: u64,
-    /// Whether all of them are there. Once memory was wanting for one they aren't, and the index is out of use.
-    pub(crate) whole: bool,
+    /// Whether all of them are there. Once memory was wanting for one they aren't, and the index is out of use. Nothing
+    /// outside this module writes it.
+    whole: bool,
 }
 
 impl Index {
     /// An index of no pages.
     pub(crate) fn new(alloc: Global) -> Index
         ensures none { result.listed.entries ≡ [] }
+        ensures whole { result.whole ≡ true }
     {
         Index {
             listed: BTreeMap::new(alloc),
@@ -38,34 +40,49 @@ impl Index {
         }
     }
 
-    /// Lists a page under its number, where that is wanted.
-    pub(crate) fn list(&mut self, stamp: u64, page: u32, changed: bool, wanted: bool)
+    /// Lists a page under its number, where that is wanted. The index stays whole unless memory is wanting.
+    pub(crate) fn list(
+        &mut self,
+        stamp: u64,
+        page: u32,
+        changed: bool,
+        wanted: bool,
+    ) -> Result<(), AllocError>
         ensures listed { self.new.whole ≡ true
             → self.new.listed.entries ≡ enlisted stamp (page, changed) wanted self.old.listed.entries }
         ensures next { self.new.next ≡ self.old.next }
         ensures whole { self.new.whole ≡ true → self.old.whole ≡ true }
+        ensures kept { OnOk result (self.new.whole ≡ self.old.whole) }
     {
         if wanted && self.listed.insert(stamp, (page, changed)).is_err() {
             self.whole = false;
+            return Err(AllocError);
         }
+        Ok(())
     }
 
     /// Takes the number of the next touch for a page, and lists it under that where it is wanted.
-    pub(crate) fn add(&mut self, page: u32, changed: bool, wanted: bool) -> u64
-        ensures stamp { result ≡ self.old.next }
+    pub(crate) fn add(&mut self, page: u32, changed: bool, wanted: bool) -> Result<(), AllocError>
         ensures listed { self.new.whole ≡ true
             → self.new.listed.entries ≡ enlisted self.old.next (page, changed) wanted self.old.listed.entries }
         ensures next { self.new.whole ≡ true → self.new.next ≡ self.old.next + 1 }
         ensures whole { self.new.whole ≡ true → self.old.whole ≡ true }
+        ensures kept { self.old.next < 2 ^ 64 - 1 → OnOk result (self.new.whole ≡ self.old.whole) }
     {
-        let stamp = self.next;
-        self.list(stamp, page, changed, wanted);
+        let listed = self.list(self.next, page, changed, wanted);
         match self.next.checked_add(1) {
             Some(next) => self.next = next,
             // No caller makes so many touches.
             None => self.whole = false,
         }
-        stamp
+        listed
+    }
+
+    /// Whether all of the pages are there.
+    pub(crate) fn is_whole(&self) -> bool
+        ensures { result ≡ self.now.whole }
+    {
+        self.whole
     }
 
     /// The first pages of the list, so many at most, and whether each was changed.

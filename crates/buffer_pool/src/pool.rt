@@ -122,7 +122,8 @@ impl Pool {
         };
         let listed = kept.is_listed();
         self.index.strike(kept.stamp, listed);
-        kept.stamp = self.index.add(page, kept.changed, listed);
+        kept.stamp = self.index.next;
+        let _ = self.index.add(page, kept.changed, listed);
         true
     }
 
@@ -148,7 +149,7 @@ impl Pool {
             content: Box::new(*self.pages.allocator(), content)?,
         };
         self.pages.put(page, kept)?;
-        self.index.add(page, false, !framed);
+        let _ = self.index.add(page, false, !framed);
         Ok(())
     }
 
@@ -188,7 +189,7 @@ impl Pool {
         let before = kept.is_listed();
         self.index.strike(kept.stamp, before);
         kept.changed = true;
-        self.index.list(kept.stamp, page, true, true);
+        let _ = self.index.list(kept.stamp, page, true, true);
     }
 
     /// Takes out the page that was touched longest ago, and tells whether it has a frame in the queue on flash, as the
@@ -244,7 +245,7 @@ impl Pool {
         self.index.strike(kept.stamp, before);
         kept.changed = false;
         let after = kept.is_listed();
-        self.index.list(kept.stamp, page, false, after);
+        let _ = self.index.list(kept.stamp, page, false, after);
     }
 
     /// Tells whether a page has a frame in the queue on flash; of a page that isn't there nothing is kept. The order
@@ -261,7 +262,7 @@ impl Pool {
         self.index.strike(kept.stamp, before);
         kept.framed = framed;
         let after = kept.is_listed();
-        self.index.list(kept.stamp, page, kept.changed, after);
+        let _ = self.index.list(kept.stamp, page, kept.changed, after);
     }
 
     /// What a page holds; none exactly where it isn't there. The order stays.
@@ -313,8 +314,14 @@ impl Pool {
         Ok(pages)
     }
 
-    // The pages that are listed, found without the index.
-    fn walk_to_listed(&self, alloc: Global, most: usize) -> Result<Vec<(u32, bool)>, AllocError>
+    // The pages that are listed, found without the index, which isn't whole.
+    fn walk_to_listed(
+        &self,
+        _index: &Index,
+        alloc: Global,
+        most: usize,
+    ) -> Result<Vec<(u32, bool)>, AllocError>
+        requires { _index.now.whole ≡ false }
         ensures marks { IfOk result (λ marks. marks.items ≡ map mark_of (coldest_movable most self.now)) }
     {
         let mut marks = Vec::new(alloc);
@@ -338,9 +345,9 @@ impl Pool {
     ) -> Result<Vec<(u32, bool)>, AllocError>
         ensures marks { IfOk result (λ marks. marks.items ≡ map mark_of (coldest_movable most self.now)) }
     {
-        if self.index.whole {
+        if self.index.is_whole() {
             return self.index.coldest(alloc, most);
         }
-        self.walk_to_listed(alloc, most)
+        self.walk_to_listed(&self.index, alloc, most)
     }
 }

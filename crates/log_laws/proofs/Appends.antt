@@ -113,21 +113,7 @@ module _ (m : Master) (pages : List Version) (log : List Entry) where
   closed_no_loser e h loser = grind (arith, common_steps)
 
   pub commit_follows : (lsn t n : ℕ) → IsOpen m log t → Follows m pages log (record { lsn = lsn; rec = Commit t n })
-  commit_follows lsn t n lives = record {
-    in_table = λ number h. absurd (grind arith);
-    of_open = λ other. lives;
-    can_be_undone = closed_no_loser (record { lsn = lsn; rec = Commit t n }) refl;
-    held_off = off_nothing log log (record { lsn = lsn; rec = Commit t n }) (λ number. refl);
-    from_shown = λ number h. absurd (grind arith);
-    ends_undone = λ h. absurd (grind arith);
-  }
+  commit_follows lsn t n lives = grind (arith, common_steps, closed_no_loser, off_nothing)
 
   pub end_follows : (lsn t : ℕ) → IsOpen m log t → IsUndone log t → Follows m pages log (record { lsn = lsn; rec = End t })
-  end_follows lsn t lives undone = record {
-    in_table = λ number h. absurd (grind arith);
-    of_open = λ other. lives;
-    can_be_undone = closed_no_loser (record { lsn = lsn; rec = End t }) refl;
-    held_off = off_nothing log log (record { lsn = lsn; rec = End t }) (λ number. refl);
-    from_shown = λ number h. absurd (grind arith);
-    ends_undone = λ h. undone;
-  }
+  end_follows lsn t lives undone = grind (arith, common_steps, closed_no_loser, off_nothing)

@@ -1,6 +1,7 @@
 -- What an unfinished transaction has on a record of the table.
+use Rattle.std.proofs.lemmas.Grind.{common_steps}
 use Rattle.std.proofs.Common.{◌≡◌, ℕ, ◌+◌, ◌*◌, ◌⊎◌, inl, inr, ⊎_elim, Bool, true, false, cond, ◌||◌, List, [], ◌∷◌, ◌++◌, length, drop, Some, None, refl, sym, ap, subst, ◌∙◌, append_assoc, arith}
-use Rattle.std.specs.Prelude.{Option, find, IsTrue, ⊤}
+use Rattle.std.specs.Prelude.{Option, find, ⊤}
 use Rattle.std.specs.List.{list_any}
 use Rattle.std.specs.Option.{option_or}
 use Rattle.std.proofs.lemmas.List.{append-nil}
@@ -10,7 +11,7 @@ use Rattle.std.proofs.lemmas.Bool.{or_left, or_right, or_cases}
 use Rattle.std_lemmas.proofs.Options.{option_or_none}
 use Rattle.log_records.specs.declared.log_record.LogRecord.{LogRecord}
 use Rattle.log_records.specs.declared.log_record.LogRecord.TheVariants.{Begin, Update, Clr, Commit, End}
-use Rattle.log_records.specs.Log.{Entry, is_on, is_number, number_of, is_update, updates_in, last_where, before_of, before_first, after_of}
+use Rattle.log_records.specs.Log.{Entry, is_on, number_of, is_update, updates_in, last_where, before_of, before_first, after_of}
 use Rattle.log_records.specs.Unfinished.{clrs_in, open_by, open_updates}
 use Rattle.log_records.specs.Sound.{Compensates, Undoes, Continues, IsLoserChain, InTurn}
 use Rattle.log_laws.proofs.Lists.{or_is_none, some_or_none, last_any, any_find}
@@ -54,23 +55,7 @@ any_updates test xs ys h = ap (list_any test) (filter-append (λ x. is_update x.
 
 -- a record of a chain on a number has an Update there
 here_updates : (number : ℕ) (earlier : List Entry) (e : Entry) → Continues earlier e → is_on number e ≡ true → list_any (is_on number) (updates_in (with_entry earlier e)) ≡ true
-here_updates number earlier e c on = by_rec e.lsn e.rec (open_updates [] earlier) refl c.undoes on
-  where
-    by_rec : (lsn : ℕ) (rec : LogRecord) (stack : List Entry) → open_updates [] earlier ≡ stack → Undoes stack rec → is_on number (record { lsn = lsn; rec = rec }) ≡ true →
-        list_any (is_on number) (updates_in (with_entry earlier (record { lsn = lsn; rec = rec }))) ≡ true
-    by_rec lsn (Update txn prev page slot before after) stack s u on =
-        ap (list_any (is_on number)) (filter-append (λ x. is_update x.rec) earlier (record { lsn = lsn; rec = Update txn prev page slot before after } ∷ []))
-        ∙ list_any-append (is_on number) (updates_in earlier) (record { lsn = lsn; rec = Update txn prev page slot before after } ∷ [])
-        ∙ or_right (list_any (is_on number) (updates_in earlier)) (is_on number (record { lsn = lsn; rec = Update txn prev page slot before after }) || false) (or_left (is_on number (record { lsn = lsn; rec = Update txn prev page slot before after })) false on)
-    by_rec lsn (Clr txn prev undo_next page slot after) [] s u on = absurd u
-    by_rec lsn (Clr txn prev undo_next page slot after) (v ∷ stack) s u on =
-        any_updates (is_on number) earlier (record { lsn = lsn; rec = Clr txn prev undo_next page slot after } ∷ [])
-        (⊎_elim (λ a. absurd (grind arith)) (λ b. b)
-        (any_open (is_on number) [] earlier (ap (list_any (is_on number)) s ∙ or_left (is_on number v) (list_any (is_on number) stack)
-        (sym (ap (is_number number) (same_number (Clr txn prev undo_next page slot after) v.rec u)) ∙ on))))
-    by_rec lsn Begin stack s u on = absurd (grind arith)
-    by_rec lsn (Commit txn n) stack s u on = absurd (grind arith)
-    by_rec lsn (End txn) stack s u on = absurd (grind arith)
+here_updates number earlier e c on = grind (arith, common_steps, filter-append, list_any-append, or_right, or_left, any_updates, any_open, same_number)
 
 any_of_chain : (number : ℕ) (earlier entries : List Entry) → InTurn Continues earlier entries → list_any (is_on number) entries ≡ true → list_any (is_on number) (updates_in (earlier ++ entries)) ≡ true
 any_of_chain number earlier [] c h = absurd (grind arith)
@@ -172,35 +157,7 @@ none_first number entries n h = ⊎_elim (λ a. a)
     (some_or_none (find (is_on number) (updates_in entries)))
 
 agrees_more : (number : ℕ) (earlier : List Entry) (e : Entry) → Continues earlier e → AgreesAt number earlier → AgreesAt number (with_entry earlier e)
-agrees_more number earlier e c h =
-    subst (λ (o : Option Entry). Agrees (find (is_on number) (updates_in (with_entry earlier e))) (last_where (is_on number) (with_entry earlier e)) o) (sym (ap (last_where (is_on number)) (open_append [] earlier (e ∷ []))))
-    (subst (λ (o : Option Entry). Agrees (find (is_on number) (updates_in (with_entry earlier e))) o (last_where (is_on number) (open_by (open_updates [] earlier) e e.rec))) (sym (last_where-append (is_on number) earlier (e ∷ [])))
-    (subst (λ (o : Option Entry). Agrees o (option_or (one (is_on number) e) (last_where (is_on number) earlier)) (last_where (is_on number) (open_by (open_updates [] earlier) e e.rec)))
-    (sym (ap (find (is_on number)) (filter-append (λ x. is_update x.rec) earlier (e ∷ [])) ∙ find-append (is_on number) (updates_in earlier) (updates_in (e ∷ []))))
-    (by_rec e.lsn e.rec (open_updates [] earlier) refl c.undoes c.updates_first h)))
-  where
-    by_rec : (lsn : ℕ) (rec : LogRecord) (stack : List Entry) → open_updates [] earlier ≡ stack → Undoes stack rec → (IsTrue (is_update rec) → clrs_in earlier ≡ []) →
-        Agrees (find (is_on number) (updates_in earlier)) (last_where (is_on number) earlier) (last_where (is_on number) stack) →
-        Agrees (option_or (find (is_on number) (updates_in earlier)) (find (is_on number) (updates_in (record { lsn = lsn; rec = rec } ∷ []))))
-        (option_or (one (is_on number) (record { lsn = lsn; rec = rec })) (last_where (is_on number) earlier))
-        (last_where (is_on number) (open_by stack (record { lsn = lsn; rec = rec }) rec))
-    by_rec lsn (Update txn prev page slot before after) stack s u first h =
-        let e : Entry = record { lsn = lsn; rec = Update txn prev page slot before after } in
-        update_step (find (is_on number) (updates_in earlier)) (last_where (is_on number) earlier) (last_where (is_on number) stack) e (is_on number e) h
-        (λ none. none_first number earlier (first refl) (ap (last_where (is_on number)) s ∙ none))
-    by_rec lsn (Clr txn prev undo_next page slot after) [] s u first h = absurd u
-    by_rec lsn (Clr txn prev undo_next page slot after) (v ∷ stack) s u first h =
-        let e : Entry = record { lsn = lsn; rec = Clr txn prev undo_next page slot after } in
-        subst (λ (o : Option Entry). Agrees o (option_or (one (is_on number) e) (last_where (is_on number) earlier)) (last_where (is_on number) stack)) (sym (option_or_none (find (is_on number) (updates_in earlier))))
-        (clr_step (find (is_on number) (updates_in earlier)) (last_where (is_on number) earlier) (last_where (is_on number) stack) e v (is_on number e) (puts_back e.rec v.rec u)
-        (subst (λ b. Agrees (find (is_on number) (updates_in earlier)) (last_where (is_on number) earlier) (option_or (last_where (is_on number) stack) (cond b (Some v) None)))
-        (sym (ap (is_number number) (same_number e.rec v.rec u))) h))
-    by_rec lsn Begin [] s u first h = absurd u
-    by_rec lsn Begin (v ∷ stack) s u first h = absurd u
-    by_rec lsn (Commit txn n) [] s u first h = absurd u
-    by_rec lsn (Commit txn n) (v ∷ stack) s u first h = absurd u
-    by_rec lsn (End txn) [] s u first h = absurd u
-    by_rec lsn (End txn) (v ∷ stack) s u first h = absurd u
+agrees_more number earlier e c h = grind (arith, common_steps, open_append, last_where-append, one, filter-append, find-append, update_step, none_first, option_or_none, clr_step, puts_back, same_number)
 
 agrees_all : (number : ℕ) (earlier entries : List Entry) → InTurn Continues earlier entries → AgreesAt number earlier → AgreesAt number (earlier ++ entries)
 agrees_all number earlier [] c h = subst (AgreesAt number) (sym (append-nil earlier)) h
@@ -241,6 +198,4 @@ left_count earlier (e ∷ entries) c =
 
 -- so as many are left as the transaction has more Updates than CLRs
 pub left_of_chain : (t : ℕ) (entries : List Entry) → IsLoserChain t entries → length (open_updates [] entries) + length (clrs_in entries) ≡ length (updates_in entries)
-left_of_chain t entries chain =
-    subst (λ (l : List Entry). length (open_updates [] l) + length (clrs_in l) ≡ length (updates_in l)) (sym chain.begins)
-    (let all = left_count (record { lsn = t; rec = Begin } ∷ []) (drop 1 entries) chain.continues in omega (arith, all))
+left_of_chain t entries chain = grind (arith, common_steps, left_count)

@@ -1,7 +1,8 @@
 -- The table behind one more record.
-use Rattle.std.proofs.Common.{◌≡◌, ℕ, ◌*◌, ⊎_elim, true, false, cond, not, ◌&&◌, List, [], ◌∷◌, ◌++◌, length, map, Some, None, refl, sym, ap, subst, ◌∙◌, arith}
+use Rattle.std.proofs.lemmas.Grind.{common_steps}
+use Rattle.std.proofs.Common.{◌≡◌, ℕ, ◌*◌, ⊎_elim, true, false, cond, ◌&&◌, List, [], ◌∷◌, ◌++◌, length, map, Some, None, refl, sym, ap, ◌∙◌, arith}
 use Rattle.std.specs.Prelude.{Option, option_map, unwrap_or, ◌==◌}
-use Rattle.std.specs.List.{AllByRecursion, list_any, range_with_len}
+use Rattle.std.specs.List.{AllByRecursion, range_with_len}
 use Rattle.std.specs.Option.{option_or}
 use Rattle.std.proofs.lemmas.List.Folds.{list_any-append}
 use Rattle.std.proofs.lemmas.List.Elements.{filter-append}
@@ -14,8 +15,8 @@ use Rattle.record_model.specs.State.{Content}
 use Rattle.log_records.specs.declared.log_record.LogRecord.{LogRecord}
 use Rattle.log_records.specs.declared.log_record.LogRecord.TheVariants.{Begin, Update, Clr, Commit, End}
 use Rattle.log_records.specs.Log.{Entry, Version, slot_at, txn_of, is_of, is_on, number_of, is_update, is_loser, is_closed, is_closing, entries_of, last_where, last_on, first_update, before_of, before_first, after_of, value_after, value_of, table_of}
-use Rattle.log_records.specs.Sound.{Master, IsLoserChain, Pairwise, HoldsOff}
-use Rattle.log_laws.specs.Follow.{Follows, CanBeUndone, IsUndoable, IsUndone, table_after}
+use Rattle.log_records.specs.Sound.{Master, Pairwise}
+use Rattle.log_laws.specs.Follow.{Follows, IsUndoable, IsUndone, table_after}
 use Rattle.log_laws.proofs.Tables.{table_written}
 use Rattle.log_laws.proofs.Chains.{undone_by_chain}
 use Rattle.log_laws.proofs.Values.{with, closed_same, closed_by, open_before, first_push, first_same, last_same, last_new, last_of_own, value_same, value_open, value_closed, is_loser_with, update_of, last_is_own, value_held, value_free, updates_there, is_number-Some}
@@ -24,12 +25,7 @@ use Rattle.log_records.proofs.Lists.{one}
 module _ (m : Master) (pages : List Version) (log : List Entry) (undoable : IsUndoable log) where
   -- a record that closes nothing leaves the value where it isn't on it
   pub value_elsewhere : (e : Entry) (number : ℕ) → is_closing e.rec ≡ false → is_on number e ≡ false → value_of (with log e) pages number ≡ value_of log pages number
-  value_elsewhere e number c off = ap (value_after (with log e) number (slot_at pages number)) (last_same log e number off) ∙ by_last (last_on log number)
-    where
-      by_last : (o : Option Entry) → value_after (with log e) number (slot_at pages number) o ≡ value_after log number (slot_at pages number) o
-      by_last None = refl
-      by_last (Some x) = value_same log (with log e) (slot_at pages number) number x (closed_same log e (txn_of x) (and_right (is_of (txn_of x) e) (is_closing e.rec) c))
-          (first_same log e (txn_of x) number (and_right (is_update e.rec) (is_on number e) off))
+  value_elsewhere e number c off = grind (arith, common_steps, with, last_same, value_same, closed_same, and_right, first_same)
 
   -- and where it is on it too
   pub value_there : (e : Entry) (number : ℕ) → is_closing e.rec ≡ false → is_on number e ≡ true → is_closed log (txn_of e) ≡ false → number_of e.rec ≡ Some number → Follows m pages log e →
@@ -62,26 +58,7 @@ module _ (m : Master) (pages : List Version) (log : List Entry) (undoable : IsUn
 
   -- an End leaves it, since its transaction is undone
   pub value_ended : (lsn t number : ℕ) → is_closed log t ≡ false → IsUndone log t → value_of (with log (record { lsn = lsn; rec = End t })) pages number ≡ value_of log pages number
-  value_ended lsn t number lives undone = ap (value_after (with log e) number (slot_at pages number)) (last_same log e number refl) ∙ by_last (last_on log number) refl
-    where
-      e : Entry
-      e = record { lsn = lsn; rec = End t }
-
-      own : (x : Entry) → last_on log number ≡ Some x → t ≡ txn_of x → value_after (with log e) number (slot_at pages number) (Some x) ≡ value_of log pages number
-      own x last same =
-          let last_own = last_of_own log t number x last (sym same) in
-          ap (λ b. cond b (after_of x.rec) (before_first (first_update (with log e) (txn_of x) number))) (closed_by log e (txn_of x) (and_from (t == txn_of x) true (eq-eqb t (txn_of x) same) refl))
-          ∙ undone_by_chain number t (entries_of t log) x (undoable.undone t (is_loser_with log t number x lives last_own)) undone last_own
-          ∙ ap (λ s. before_first (first_update log s number)) same
-          ∙ sym (value_open log pages number x last (ap (is_closed log) (sym same) ∙ lives))
-
-      by_last : (o : Option Entry) → last_on log number ≡ o → value_after (with log e) number (slot_at pages number) o ≡ value_of log pages number
-      by_last None last = sym (ap (value_after log number (slot_at pages number)) last)
-      by_last (Some x) last = ⊎_elim
-          (λ h. own x last (eqb-true t (txn_of x) h))
-          (λ h. value_same log (with log e) (slot_at pages number) number x (closed_same log e (txn_of x) (and_left (t == txn_of x) true h)) (first_same log e (txn_of x) number refl)
-          ∙ sym (ap (value_after log number (slot_at pages number)) last))
-          (cases_Bool (t == txn_of x))
+  value_ended lsn t number lives undone = grind (arith, common_steps, with, last_same, last_of_own, closed_by, and_from, eq-eqb, undone_by_chain, is_loser_with, value_open, eqb-true, value_same, closed_same, and_left, first_same, cases_Bool)
 
   -- a Commit makes what its transaction has written last count
   pub value_committed : (lsn t n number : ℕ) → is_closed log t ≡ false →
@@ -134,9 +111,7 @@ module _ (m : Master) (pages : List Version) (log : List Entry) (undoable : IsUn
   entries_other e t h = filter-append (is_of t) log (e ∷ []) ∙ ap (λ b. entries_of t log ++ cond b (e ∷ []) []) h ∙ append-nil (entries_of t log)
 
   loser_other : (e : Entry) (t : ℕ) → is_of t e ≡ false → is_loser (with log e) t ≡ is_loser log t
-  loser_other e t h =
-      ap (λ b. b && not (is_closed (with log e) t)) (list_any-append (is_of t) log (e ∷ []) ∙ or_without_last (list_any (is_of t) log) (is_of t e) h)
-      ∙ ap (λ b. list_any (is_of t) log && not b) (closed_same log e t (and_left (is_of t e) (is_closing e.rec) h))
+  loser_other e t h = grind (arith, common_steps, with, list_any-append, or_without_last, closed_same, and_left)
 
   pairwise_weaker : (R S : Entry → Entry → Type 0) → ((u x : Entry) → R u x → S u x) → (xs : List Entry) → Pairwise R xs → Pairwise S xs
   pairwise_weaker R S w [] h = tt
@@ -147,15 +122,4 @@ module _ (m : Master) (pages : List Version) (log : List Entry) (undoable : IsUn
   pairwise_push R (x ∷ xs) e h k = (all_push (R x) xs e h.0 k.0, pairwise_push R xs e h.1 k.1)
 
   pub undoable_behind : (e : Entry) → Follows m pages log e → IsUndoable (with log e)
-  undoable_behind e f = record {
-    undone = λ t. ⊎_elim
-        (λ h. subst (CanBeUndone (with log e)) (eqb-true (txn_of e) t h) f.can_be_undone)
-        (λ h loser. subst (IsLoserChain t) (sym (entries_other e t h)) (undoable.undone t (sym (loser_other e t h) ∙ loser)))
-        (cases_Bool (is_of t e));
-    held = pairwise_push (HoldsOff (with log e)) log e
-        (pairwise_weaker (HoldsOff log) (HoldsOff (with log e)) (λ u x h. weaker u x h) log undoable.held)
-        (all_weaker (λ u. HoldsOff log u e) (λ u. HoldsOff (with log e) u e) (λ u h. weaker u e h) log f.held_off);
-  }
-    where
-      weaker : (u x : Entry) → HoldsOff log u x → HoldsOff (with log e) u x
-      weaker u x h number a b c d = h number a b c (open_before log e (txn_of u) d)
+  undoable_behind e f = grind (arith, common_steps, with, eqb-true, entries_other, loser_other, cases_Bool, pairwise_push, pairwise_weaker, all_weaker, open_before)

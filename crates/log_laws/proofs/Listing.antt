@@ -108,4 +108,3 @@ loser_is_listed log t undoable loser =
     begun_is_listed log t (loser_is_not_closed log t loser) log
     (any_of_those (λ x. is_begin x.rec && (x.lsn == t)) (is_of t) log
     (ap (list_any (λ x. is_begin x.rec && (x.lsn == t))) chain.begins ∙ or_left (t == t) (list_any (λ x. is_begin x.rec && (x.lsn == t)) (drop 1 (entries_of t log))) (eq-eqb t t refl)))
-

@@ -1,4 +1,5 @@
 -- Transactions at work, and transactions that are undone.
+use Rattle.std.proofs.lemmas.Grind.{common_steps}
 use Rattle.std.proofs.Common.{◌≡◌, ℕ, ◌+◌, ◌*◌, ◌<◌, ◌≤◌, ⊎_elim, Bool, true, false, cond, not, ◌&&◌, ◌||◌, List, [], ◌∷◌, ◌++◌, length, map, drop, Some, refl, sym, ap, subst, ◌∙◌, arith}
 use Rattle.std.specs.Prelude.{filter, filter_map, IsTrue, ◌==◌, nat_lt}
 use Rattle.std.specs.List.{AllByRecursion, list_any}
@@ -15,7 +16,7 @@ use Rattle.log_records.specs.declared.log_record.LogRecord.{LogRecord}
 use Rattle.log_records.specs.declared.log_record.LogRecord.TheVariants.{Begin, Update, Clr}
 use Rattle.log_records.specs.Log.{Entry, Version, txn_of, is_of, is_on, is_update, is_closing, is_closed, is_loser, entries_of, updates_in, first_update}
 use Rattle.log_records.specs.Unfinished.{is_begin, is_clr, clrs_in, open_by, open_updates, left_open, losers, owed_by}
-use Rattle.log_records.specs.Sound.{Active, Master, LogicalImage, IsOpen, IsLoserChain, IsInTable, is_known, before_block, from_block, last_lsn, last_number}
+use Rattle.log_records.specs.Sound.{Active, Master, LogicalImage, IsOpen, IsInTable, is_known, before_block, from_block, last_lsn, last_number}
 use Rattle.log_laws.specs.Follow.{Follows, IsActive, IsFresh, IsFreeFor, IsUndoable, next_entries, write_of, shown}
 use Rattle.log_laws.specs.Tail.{Carries, whole, next_lsn}
 use Rattle.log_laws.proofs.Lists.{any_find, some_or_none}
@@ -56,15 +57,7 @@ open_more m log e t o h = record { known = known_more m.active m.redo log e t o.
 -- Transactions at work.
 
 pub active_begun : (m : Master) (log : List Entry) (lsn : ℕ) → IsFresh lsn log → 512 * m.redo ≤ lsn → IsActive m (with log (record { lsn = lsn; rec = Begin })) lsn lsn []
-active_begun m log lsn fresh late =
-    let entries : entries_of lsn (with log (begins lsn)) ≡ begins lsn ∷ [] = entries_own log (begins lsn) lsn (eq-eqb lsn lsn refl) ∙ ap (λ (l : List Entry). l ++ begins lsn ∷ []) (fresh_entries lsn log fresh) in
-    record {
-      lives = record { known = known_begun m.active m.redo log lsn late; not_closed = closed_same log (begins lsn) lsn (and_right (lsn == lsn) false refl) ∙ fresh_open lsn log fresh };
-      chain = subst (IsLoserChain lsn) (sym entries) (chain_start lsn);
-      no_clrs = ap clrs_in entries;
-      last_is = sym (ap last_lsn entries);
-      writes_are = sym (ap (λ (l : List Entry). filter_map (λ e. write_of e.rec) l) entries);
-    }
+active_begun m log lsn fresh late = grind (arith, common_steps, with, begins, entries_own, eq-eqb, fresh_entries, known_begun, closed_same, and_right, fresh_open, chain_start)
 
 pub active_may_write : (m : Master) (pages : List Version) (log : List Entry) (lsn t last page slot : ℕ) (writes : List Write) (before after : Content) →
     IsActive m log t last writes → 32 * page + slot < 32 * length pages → IsFreeFor log t (32 * page + slot) → before ≡ shown log pages (32 * page + slot) →
@@ -87,15 +80,7 @@ active_writes m log lsn t last page slot writes before after a =
     }
 
 pub active_stays : (m : Master) (log : List Entry) (e : Entry) (t last : ℕ) (writes : List Write) → IsActive m log t last writes → is_of t e ≡ false → IsActive m (with log e) t last writes
-active_stays m log e t last writes a h =
-    let same = entries_other log e t h in
-    record {
-      lives = open_more m log e t a.lives (and_left (is_of t e) (is_closing e.rec) h);
-      chain = subst (IsLoserChain t) (sym same) a.chain;
-      no_clrs = ap clrs_in same ∙ a.no_clrs;
-      last_is = a.last_is ∙ sym (ap last_lsn same);
-      writes_are = a.writes_are ∙ sym (ap (λ (l : List Entry). filter_map (λ e. write_of e.rec) l) same);
-    }
+active_stays m log e t last writes a h = grind (arith, common_steps, entries_other, open_more, and_left)
 
 pub active_owes : (m : Master) (log : List Entry) (t last : ℕ) (writes : List Write) → IsActive m log t last writes → owed_by log t ≡ length writes + 1
 active_owes m log t last writes a = ap (λ n. n + 1) (left_is_written log t a.chain a.no_clrs ∙ sym (ap length a.writes_are))
@@ -182,11 +167,7 @@ module _ (p : LogicalImage) (tail : List LogRecord) (t : ℕ) (c : Carries p tai
       ∙ begin_is_listed (is_closed old) t old open_before there
 
   pub loser_is_known : IsOpen p.master (whole p tail) t
-  loser_is_known = record {
-    known = ⊎_elim (λ there. or_left (list_any (λ a. a.begin == t) p.master.active) (begins_there new) (named there)) (λ there. or_right (list_any (λ a. a.begin == t) p.master.active) (begins_there new) there)
-        (or_cases (begins_there old) (begins_there new) begun);
-    not_closed = not_closed;
-  }
+  loser_is_known = grind (arith, common_steps, or_left, named, or_right, or_cases, begun, not_closed)
 
 -- what is left to be undone are Updates among these records
 pub all_left_open : (P : Entry → Type 0) (updates entries : List Entry) → AllByRecursion P updates → AllByRecursion (λ e. is_update e.rec ≡ true → P e) entries → AllByRecursion P (open_updates updates entries)

@@ -1,6 +1,7 @@
 -- A new master keeps a logical image sound, and what it means.
+use Rattle.std.proofs.lemmas.Grind.{common_steps}
 use Rattle.std.proofs.Common.{◌≡◌, ℕ, ◌+◌, ◌-◌, ◌*◌, ◌/◌, ◌%◌, ◌<◌, ◌≤◌, ⊎_elim, Bool, true, false, cond, not, ◌&&◌, ◌||◌, List, [], ◌∷◌, ◌++◌, length, map, drop, Some, None, refl, sym, ap, subst, ◌∙◌, append_assoc, arith}
-use Rattle.std.specs.Prelude.{Option, filter, find, sum_by, IsTrue, nat_lt, nat_le}
+use Rattle.std.specs.Prelude.{Option, filter, find, IsTrue, nat_lt, nat_le}
 use Rattle.std.specs.List.{AllByRecursion, list_any, range_with_len}
 use Rattle.std.specs.Option.{option_or}
 use Rattle.std.proofs.lemmas.List.{append-nil, length-append, drop_at}
@@ -12,8 +13,8 @@ use Rattle.std_lemmas.proofs.AllOf.{all_left, all_right, all_both, all_filter, a
 use Rattle.std_lemmas.proofs.Lists.{map_same, filter_all}
 use Rattle.record_model.specs.State.{Content, content_at}
 use Rattle.log_records.specs.Log.{Entry, Version, version_at, slot_at, txn_of, is_of, is_on, is_loser, is_closed, is_closing, entries_of, updates_in, last_where, last_on, first_update, number_of, before_first, after_of, value_after, value_of}
-use Rattle.log_records.specs.Unfinished.{open_updates, is_begin, losers, owed, owed_by}
-use Rattle.log_records.specs.Sound.{Active, LogicalImage, IsSound, Means, InTurn, IsOfOpenTransaction, IsOrderly, AreOrderly, IsLoserChain, Pairwise, HoldsOff, FitsLog, ShowsLast, IsInTable, before_block, from_block, last_known, last_lsn, active_in, commit_number, commit_numbers, commit_count}
+use Rattle.log_records.specs.Unfinished.{is_begin, losers, owed}
+use Rattle.log_records.specs.Sound.{LogicalImage, IsSound, Means, InTurn, IsOfOpenTransaction, IsOrderly, AreOrderly, IsLoserChain, Pairwise, HoldsOff, FitsLog, ShowsLast, IsInTable, before_block, from_block, last_known, active_in, commit_number, commit_numbers, commit_count}
 use Rattle.log_laws.specs.NewImage.{with_master, MayCheckpoint}
 use Rattle.log_laws.proofs.Lists.{all_find, any_find, find_passes, last_passes}
 use Rattle.log_laws.proofs.Values.{closed_push, value_same, value_closed, last_of_own, is_loser_with, is_number-Some}
@@ -84,10 +85,7 @@ module _ (p : LogicalImage) (kept : ℕ) (sound : IsSound p) (may : MayCheckpoin
   closed_kept t h = closed_is t ∙ ap (λ b. b || is_closed (from_block kept p.log) t) h
 
   open_here : (t : ℕ) → list_any (is_of t) (from_block kept p.log) ≡ true → is_closed (before_block kept p.log) t ≡ false
-  open_here t h =
-      let x = any_find (is_of t) (from_block kept p.log) h in
-      subst (λ s. is_closed (before_block kept p.log) s ≡ false) (eqb-true (txn_of x.0) t (find_passes (is_of t) (from_block kept p.log) x.0 x.1))
-      (all_find (λ e. is_closed (before_block kept p.log) (txn_of e) ≡ false) (is_of t) (from_block kept p.log) x.0 open_kept x.1)
+  open_here t h = grind (arith, common_steps, any_find, eqb-true, find_passes, all_find)
 
   -- the begins of unfinished transactions are kept
   begins_kept : AllByRecursion (λ e. (is_begin e.rec && not (is_closed p.log e.lsn)) ≡ true → 512 * kept ≤ e.lsn) p.log
@@ -97,10 +95,7 @@ module _ (p : LogicalImage) (kept : ℕ) (sound : IsSound p) (may : MayCheckpoin
   entries_parts t = ap (entries_of t) parts ∙ filter-append (is_of t) (before_block kept p.log) (from_block kept p.log)
 
   begin_late : (t : ℕ) → IsTrue (is_loser p.log t) → 512 * kept ≤ t
-  begin_late t h =
-      let chain = sound.losers_can_be_undone t h in
-      let each = subst (AllByRecursion (λ e. (is_begin e.rec && not (is_closed p.log e.lsn)) ≡ true → 512 * kept ≤ e.lsn)) chain.begins (all_filter (λ e. (is_begin e.rec && not (is_closed p.log e.lsn)) ≡ true → 512 * kept ≤ e.lsn) (is_of t) p.log begins_kept) in
-      each.0 (and_parts (list_any (is_of t) p.log) (not (is_closed p.log t)) h).1
+  begin_late t h = grind (arith, common_steps, all_filter, begins_kept, and_parts)
 
   -- so all records of unfinished ones are
   none_old : (t : ℕ) → IsTrue (is_loser p.log t) → entries_of t (before_block kept p.log) ≡ []
@@ -119,11 +114,7 @@ module _ (p : LogicalImage) (kept : ℕ) (sound : IsSound p) (may : MayCheckpoin
   entries_kept t h = entries_parts t ∙ ap (λ (l : List Entry). l ++ entries_of t (from_block kept p.log)) (none_old t h)
 
   loser_still : (t : ℕ) → IsTrue (is_loser (from_block kept p.log) t) → IsTrue (is_loser p.log t)
-  loser_still t h =
-      let both = and_parts (list_any (is_of t) (from_block kept p.log)) (not (is_closed (from_block kept p.log) t)) h in
-      and_from (list_any (is_of t) p.log) (not (is_closed p.log t))
-      (ap (λ (l : List Entry). list_any (is_of t) l) parts ∙ list_any-append (is_of t) (before_block kept p.log) (from_block kept p.log) ∙ or_right (list_any (is_of t) (before_block kept p.log)) (list_any (is_of t) (from_block kept p.log)) both.0)
-      (ap not (closed_kept t (open_here t both.0)) ∙ both.1)
+  loser_still t h = grind (arith, common_steps, and_parts, and_from, parts, list_any-append, or_right, closed_kept, open_here)
 
   -- The unfinished transactions are the same, with the same records.
 
@@ -148,22 +139,10 @@ module _ (p : LogicalImage) (kept : ℕ) (sound : IsSound p) (may : MayCheckpoin
       (from_block kept p.log) open_kept))
 
   active_same : active_in p.log ≡ active_in (from_block kept p.log)
-  active_same =
-      map_same (λ t. active_by p.log t) (λ t. active_by (from_block kept p.log) t) (losers p.log)
-      (all_weaker (λ t. IsTrue (is_loser p.log t)) (λ t. active_by p.log t ≡ active_by (from_block kept p.log) t) (λ t h. ap (λ (es : List Entry). active_of t es) (entries_kept t h)) (losers p.log) (are_losers p.log))
-      ∙ ap (map (λ t. active_by (from_block kept p.log) t)) losers_same
-    where
-      active_of : ℕ → List Entry → Active
-      active_of t es = record { begin = t; last = last_lsn es }
-
-      active_by : List Entry → ℕ → Active
-      active_by log t = active_of t (entries_of t log)
+  active_same = grind (arith, common_steps, map_same, all_weaker, entries_kept, are_losers, losers_same)
 
   owed_same : owed p.log ≡ owed (from_block kept p.log)
-  owed_same =
-      sum_same (owed_by p.log) (owed_by (from_block kept p.log)) (losers p.log)
-      (all_weaker (λ t. IsTrue (is_loser p.log t)) (λ t. owed_by p.log t ≡ owed_by (from_block kept p.log) t) (λ t h. ap (λ (es : List Entry). length (open_updates [] es) + 1) (entries_kept t h)) (losers p.log) (are_losers p.log))
-      ∙ ap (sum_by (owed_by (from_block kept p.log))) losers_same
+  owed_same = grind (arith, common_steps, sum_same, all_weaker, entries_kept, are_losers, losers_same)
 
   held_kept : Pairwise (HoldsOff (from_block kept p.log)) (from_block kept p.log)
   held_kept =
@@ -178,14 +157,7 @@ module _ (p : LogicalImage) (kept : ℕ) (sound : IsSound p) (may : MayCheckpoin
   last_parts test = ap (last_where test) parts ∙ last_where-append test (before_block kept p.log) (from_block kept p.log)
 
   shows_kept : (v : Version) (slot number : ℕ) → ShowsLast (content_at v.slots slot) (last_known p.log v.lsn number) → ShowsLast (content_at v.slots slot) (last_known (from_block kept p.log) v.lsn number)
-  shows_kept v slot number h = by_last (last_known (from_block kept p.log) v.lsn number) refl
-    where
-      test : Entry → Bool
-      test e = is_on number e && nat_le e.lsn v.lsn
-
-      by_last : (o : Option Entry) → last_known (from_block kept p.log) v.lsn number ≡ o → ShowsLast (content_at v.slots slot) (last_known (from_block kept p.log) v.lsn number)
-      by_last None e = subst (ShowsLast (content_at v.slots slot)) (sym e) tt
-      by_last (Some x) e = subst (ShowsLast (content_at v.slots slot)) (last_parts (λ y. is_on number y && nat_le y.lsn v.lsn) ∙ ap (λ (o : Option Entry). option_or o (last_known (before_block kept p.log) v.lsn number)) e ∙ sym e) h
+  shows_kept v slot number h = grind (arith, common_steps, last_parts)
 
   below : AllByRecursion (λ e. e.lsn < 512 * p.hi) (from_block kept p.log)
   below = right (λ e. e.lsn < 512 * p.hi) (all_below (512 * p.master.kept) p.log (512 * p.hi) sound.in_order)
@@ -301,10 +273,7 @@ module _ (p : LogicalImage) (kept : ℕ) (sound : IsSound p) (may : MayCheckpoin
           (cases_Bool (is_closed p.log (txn_of x)))
 
   pub master_with_means : (table : List Content) (count : ℕ) → Means p table count → Means (with_master p kept) table count
-  master_with_means table count means = record {
-    table_is = means.table_is ∙ sym (table_same p.log (from_block kept p.log) p.pages p.pages refl value_kept);
-    count_is = means.count_is ∙ sym count_same;
-  }
+  master_with_means table count means = grind (arith, common_steps, table_same, value_kept, count_same)
 
 pub master_is_sound : (p : LogicalImage) (kept : ℕ) → IsSound p → AreOrderly p.log → MayCheckpoint p kept → IsSound (with_master p kept)
 master_is_sound p kept sound orderly may = master_with_sound p kept sound may (orderly_open p kept sound orderly)

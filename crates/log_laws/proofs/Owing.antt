@@ -1,4 +1,5 @@
 -- What undo may take, record by record.
+use Rattle.std.proofs.lemmas.Grind.{common_steps}
 use Rattle.std.proofs.Common.{◌≡◌, ℕ, suc, ◌+◌, ◌<◌, Bool, true, false, cond, not, ◌&&◌, List, [], ◌∷◌, length, refl, sym, ap, subst, ◌∙◌, arith}
 use Rattle.std.specs.Prelude.{drop, filter_map, sum_by, IsTrue, ◌==◌}
 use Rattle.std.specs.List.{AllByRecursion}
@@ -8,7 +9,7 @@ use Rattle.std.proofs.lemmas.List.Sums.{sum_by-cons, sum_by-append}
 use Rattle.std_lemmas.proofs.Sums.{sum_both, sum_made, sum_pointwise, sum_within, sum_zero}
 use Rattle.log_records.specs.declared.log_record.LogRecord.{LogRecord}
 use Rattle.log_records.specs.declared.log_record.LogRecord.TheVariants.{Begin, Update, Clr, Commit, End}
-use Rattle.log_records.specs.Log.{Entry, txn_of, txn_by, is_of, is_update, is_closing, is_closed, entries_of}
+use Rattle.log_records.specs.Log.{Entry, txn_of, is_of, is_update, is_closing, is_closed, entries_of}
 use Rattle.log_records.specs.Unfinished.{left_open, open_by, open_updates, is_begin, is_clr, owed, owed_by}
 use Rattle.log_records.specs.Sound.{IsLoserChain, Undoes, Continues}
 use Rattle.log_laws.proofs.Chains.{open_append}
@@ -27,14 +28,7 @@ abbrev pub begun_by : ℕ → Entry → Bool
 begun_by t e = is_begin e.rec && (t == e.lsn)
 
 begun_is_of : (t : ℕ) (e : Entry) → is_of t e ≡ false → begun_by t e ≡ false
-begun_is_of t e h = by_rec e.lsn e.rec h
-  where
-    by_rec : (lsn : ℕ) (rec : LogRecord) → (txn_by lsn rec == t) ≡ false → (is_begin rec && (t == lsn)) ≡ false
-    by_rec lsn Begin h = ne_eqb t lsn (λ same. (let never = sym h ∙ eq-eqb lsn t (sym same) in grind arith))
-    by_rec lsn (Update txn prev page slot before after) h = refl
-    by_rec lsn (Clr txn prev undo_next page slot after) h = refl
-    by_rec lsn (Commit txn number) h = refl
-    by_rec lsn (End txn) h = refl
+begun_is_of t e h = grind (arith, common_steps, ne_eqb, eq-eqb)
 
 pub once : (log : List Entry) (t c : ℕ) → IsLoserChain t (entries_of t log) → sum_by (λ e. cond (begun_by t e) c 0) log ≡ c
 once log t c chain =
@@ -67,17 +61,10 @@ owed_is : (log : List Entry) → owed log ≡ sum_by (owes log) log
 owed_is log = sum_made (owed_by log) (λ (e : Entry). e.lsn) (λ e. is_begin e.rec && not (is_closed log e.lsn)) log
 
 owed_push : (log : List Entry) (e : Entry) → owed (with log e) ≡ sum_by (owes (with log e)) log + owes (with log e) e
-owed_push log e = owed_is (with log e) ∙ sum_by-append (owes (with log e)) log (e ∷ []) ∙ ap (λ n. sum_by (owes (with log e)) log + n) (sum_by-cons (owes (with log e)) e [] ∙ plus_none (owes (with log e) e))
-  where
-    plus_none : (n : ℕ) → n + 0 ≡ n
-    plus_none n = omega arith
+owed_push log e = grind (arith, common_steps, owed_is, with, sum_by-append, sum_by-cons)
 
 pub left_push : (log : List Entry) (e : Entry) (t : ℕ) → left_open (with log e) t ≡ cond (is_of t e) (open_by (left_open log t) e e.rec) (left_open log t)
-left_push log e t = ap (open_updates []) (filter-append (is_of t) log (e ∷ [])) ∙ open_append [] (entries_of t log) (cond (is_of t e) (e ∷ []) []) ∙ by_test (is_of t e)
-  where
-    by_test : (b : Bool) → open_updates (left_open log t) (cond b (e ∷ []) []) ≡ cond b (open_by (left_open log t) e e.rec) (left_open log t)
-    by_test true = refl
-    by_test false = refl
+left_push log e t = grind (arith, common_steps, filter-append, open_append)
 
 -- where one transaction owes more
 more_at : (g c c' h : Bool) (o o' k : ℕ) → c' ≡ c → (h ≡ true → (c ≡ false) × (o' ≡ o + k)) → (h ≡ false → o' ≡ o) → cond (g && not c') o' 0 ≡ cond (g && not c) o 0 + cond (g && h) k 0
@@ -95,37 +82,11 @@ less_at true c c' true o o' k at other = let a = at refl in ap (λ b. cond (not 
 less_at true c c' false o o' k at other = let a = other refl in sym (ap (λ b. cond (not b) o' 0) a.0 ∙ ap (λ n. cond (not c) n 0) a.1) ∙ omega arith
 
 owed_by_same : (log : List Entry) (e : Entry) (t : ℕ) → (is_of t e && is_update e.rec) ≡ false → (is_of t e && is_clr e.rec) ≡ false → owed_by (with log e) t ≡ owed_by log t
-owed_by_same log e t u c = ap (λ (l : List Entry). length l + 1) (left_push log e t ∙ by_tests (is_of t e) e.rec u c)
-  where
-    by_tests : (b : Bool) (rec : LogRecord) → (b && is_update rec) ≡ false → (b && is_clr rec) ≡ false → cond b (open_by (left_open log t) e rec) (left_open log t) ≡ left_open log t
-    by_tests false rec u c = refl
-    by_tests true Begin u c = refl
-    by_tests true (Commit txn number) u c = refl
-    by_tests true (End txn) u c = refl
-    by_tests true (Update txn prev page slot before after) u c = absurd (grind arith)
-    by_tests true (Clr txn prev undo_next page slot after) u c = absurd (grind arith)
+owed_by_same log e t u c = grind (arith, common_steps, left_push)
 
 -- A Begin.
 pub owed_begin : (log : List Entry) (lsn : ℕ) → IsFresh lsn log → owed (with log (record { lsn = lsn; rec = Begin })) ≡ owed log + 1
-owed_begin log lsn fresh =
-    owed_push log e
-    ∙ ap (λ n. n + owes (with log e) e) (sum_pointwise (owes (with log e)) (owes log) same log ∙ sym (owed_is log))
-    ∙ ap (λ n. owed log + n) new
-  where
-    e : Entry
-    e = record { lsn = lsn; rec = Begin }
-
-    still : (t : ℕ) → is_closed (with log e) t ≡ is_closed log t
-    still t = closed_same log e t (and_right (is_of t e) false refl)
-
-    same : (x : Entry) → owes (with log e) x ≡ owes log x
-    same x = ap (λ b. cond (is_begin x.rec && not b) (owed_by (with log e) x.lsn) 0) (still x.lsn)
-        ∙ ap (λ n. cond (is_begin x.rec && not (is_closed log x.lsn)) n 0) (owed_by_same log e x.lsn (and_right (is_of x.lsn e) false refl) (and_right (is_of x.lsn e) false refl))
-
-    new : owes (with log e) e ≡ 1
-    new = ap (λ b. cond (not b) (owed_by (with log e) lsn) 0) (still lsn ∙ fresh_open lsn log fresh)
-        ∙ owed_by_same log e lsn (and_right (is_of lsn e) false refl) (and_right (is_of lsn e) false refl)
-        ∙ ap (λ (l : List Entry). length (open_updates [] l) + 1) (fresh_entries lsn log fresh)
+owed_begin log lsn fresh = grind (arith, common_steps, owed_push, with, sum_pointwise, owed_is, closed_same, and_right, owed_by_same, fresh_open, fresh_entries)
 
 -- An Update owes one more.
 pub owed_update : (log : List Entry) (e : Entry) → is_update e.rec ≡ true → is_closed log (txn_of e) ≡ false → IsLoserChain (txn_of e) (entries_of (txn_of e) log) → owed (with log e) ≡ owed log + 1
@@ -276,10 +237,6 @@ writes_count (e ∷ entries) h = by_rec e.lsn e.rec h (writes_count entries)
     by_rec lsn (Update txn prev page slot before after) h f = ap suc (f h)
 
 pub left_is_written : (log : List Entry) (t : ℕ) → IsLoserChain t (entries_of t log) → clrs_in (entries_of t log) ≡ [] → length (left_open log t) ≡ length (writes_in t log)
-left_is_written log t chain none =
-    let a = left_of_chain t (entries_of t log) chain in
-    let b = ap length none in
-    omega (arith, a, b, writes_count (entries_of t log) none)
+left_is_written log t chain none = grind (arith, common_steps, left_of_chain, writes_count)
 
 -- No block is empty.
-

@@ -1,12 +1,13 @@
 -- No more Updates wait to be undone than undo owes blocks.
-use Rattle.std.proofs.Common.{◌≡◌, ℕ, ◌+◌, ◌<◌, ◌≤◌, ◌==◌, Bool, true, false, cond, not, ◌&&◌, ◌||◌, List, [], ◌∷◌, length, refl, ap, subst, ◌∙◌, arith}
+use Rattle.std.proofs.lemmas.Grind.{common_steps}
+use Rattle.std.proofs.Common.{◌≡◌, ℕ, ◌+◌, ◌<◌, ◌≤◌, ◌==◌, Bool, true, false, cond, not, ◌&&◌, ◌||◌, List, [], ◌∷◌, length, refl, ap, ◌∙◌, arith}
 use Rattle.std.specs.Prelude.{sum_by, IsTrue}
 use Rattle.std.specs.List.{AllByRecursion, list_any}
 use Rattle.std.proofs.lemmas.Bool.{eqb-true, ne_eqb}
 use Rattle.std.proofs.lemmas.List.Sums.{length-filter, sum_by-cons}
 use Rattle.log_records.specs.Log.{Entry, entries_of, is_closed, is_loser, is_of, is_update, txn_of}
 use Rattle.log_records.specs.Sound.{IsInOrder, IsLoserChain}
-use Rattle.log_records.specs.Unfinished.{is_begin, left_open, owed, owed_by, pending}
+use Rattle.log_records.specs.Unfinished.{is_begin, left_open, owed, pending}
 use Rattle.std_lemmas.proofs.AllOf.{all_each}
 use Rattle.std_lemmas.proofs.Sums.{sum_both, sum_le, sum_made, sum_of_zeros, sum_swap}
 use Rattle.log_laws.proofs.Owing.{begun_by, once}
@@ -88,19 +89,7 @@ module _ (log : List Entry) (chains : (t : ℕ) → IsTrue (is_loser log t) → 
 
   -- those of one transaction
   own_few : (e b : Entry) → for_begin e b ≤ cond (lives log b) (among (left_open log b.lsn) e) 0
-  own_few e b = by (is_begin b.rec) (txn_of e == b.lsn) refl
-    where
-      both : (u c a : Bool) → cond (u && not c && a) 1 0 ≤ cond (not c) (cond a 1 0) 0
-      both true true a = omega arith
-      both true false a = omega arith
-      both false true a = omega arith
-      both false false a = omega arith
-
-      by : (begins own : Bool) → (txn_of e == b.lsn) ≡ own → cond (begins && own) (waiting e) 0 ≤ cond (begins && not (is_closed log b.lsn)) (among (left_open log b.lsn) e) 0
-      by false own is = omega arith
-      by true false is = omega arith
-      by true true is = subst (λ (t : ℕ). waiting e ≤ cond (not (is_closed log t)) (among (left_open log t) e) 0) (eqb-true (txn_of e) b.lsn is)
-          (both (is_update e.rec) (is_closed log (txn_of e)) (list_any (λ u. u.lsn == e.lsn) (left_open log (txn_of e))))
+  own_few e b = grind (arith, common_steps, eqb-true)
 
   all_begun : (xs : List Entry) → AllByRecursion (λ e. list_any (is_of (txn_of e)) log ≡ true) xs → AllByRecursion (λ e. waiting e ≤ sum_by (for_begin e) log) xs
   all_begun [] all = tt
@@ -121,15 +110,5 @@ module _ (log : List Entry) (chains : (t : ℕ) → IsTrue (is_loser log t) → 
       let all = sum_le (λ b. sum_by (λ e. for_begin e b) log) (left_by log) log (all_each _ (one_leaves from to order) log) in
       omega (arith, many, each, turned, all)
 
-  abbrev owes : Entry → ℕ
-  owes b = cond (lives log b) (owed_by log b.lsn) 0
-
   pub pending_few : (from to : ℕ) → IsInOrder from log to → length (pending log) ≤ owed log
-  pending_few from to order =
-      let owed_is : owed log ≡ sum_by owes log = sum_made (owed_by log) (λ (e : Entry). e.lsn) (lives log) log in
-      let each = sum_le (left_by log) owes log (all_each _ (λ b. one_more (lives log b) (length (left_open log b.lsn))) log) in
-      omega (arith, pending_left from to order, each, owed_is)
-    where
-      one_more : (live : Bool) (n : ℕ) → cond live n 0 ≤ cond live (n + 1) 0
-      one_more true n = omega arith
-      one_more false n = omega arith
+  pending_few from to order = grind (arith, common_steps, sum_made, sum_le, all_each, pending_left)

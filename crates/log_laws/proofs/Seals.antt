@@ -1,8 +1,8 @@
 -- Sealing a block that goes on keeps a logical image sound, and changes what it means by the block's commits alone.
-use Rattle.std.proofs.Common.{◌≡◌, ℕ, ◌+◌, ◌-◌, ◌*◌, ◌<◌, ◌≤◌, ◌⊎◌, inl, inr, false, ◌&&◌, List, [], ◌∷◌, ◌++◌, length, sym, ap, subst, ◌∙◌, append_assoc, arith}
-use Rattle.std.specs.Prelude.{Option, flat_map, IsTrue, ◌==◌, ◌||◌, nat_lt, nat_le}
+use Rattle.std.proofs.lemmas.Grind.{common_steps}
+use Rattle.std.proofs.Common.{◌≡◌, ℕ, ◌+◌, ◌-◌, ◌*◌, ◌<◌, ◌≤◌, ◌⊎◌, inl, inr, List, [], ◌∷◌, ◌++◌, length, sym, ap, subst, ◌∙◌, append_assoc, arith}
+use Rattle.std.specs.Prelude.{flat_map, IsTrue, ◌==◌, ◌||◌, nat_lt}
 use Rattle.std.specs.List.{AllByRecursion, range_with_len}
-use Rattle.std.specs.Option.{option_or}
 use Rattle.std.proofs.lemmas.Bool.{le-ltb, le-leb, lt-leb, and_right}
 use Rattle.std.proofs.lemmas.Bool.Decides.{nat_tests}
 use Rattle.std.proofs.lemmas.List.{append-nil, length-append}
@@ -12,7 +12,7 @@ use Rattle.std_lemmas.proofs.Lists.{range_push, filter_all}
 use Rattle.record_model.specs.State.{Content}
 use Rattle.log_records.specs.declared.log_record.LogRecord.{LogRecord}
 use Rattle.log_records.specs.Spelling.{spelling, AreBlock}
-use Rattle.log_records.specs.Log.{Entry, Version, version_at, is_on, table_of}
+use Rattle.log_records.specs.Log.{Entry, Version, version_at, table_of}
 use Rattle.log_records.specs.Sound.{Master, AreNumbered, LogicalImage, InTurn, IsInOrder, IsSound, Means, IsOfOpenTransaction, before_block, from_block, last_known, FitsLog, IsInTable, active_in, commit_number, commit_numbers, commit_count}
 use Rattle.log_laws.specs.Follow.{Follows, IsUndoable, GoesOn, sealed, next_entries, table_after_all}
 use Rattle.log_laws.proofs.Values.{with}
@@ -64,12 +64,7 @@ module _ (p : LogicalImage) (records : List LogRecord) (sound : IsSound p) (bloc
 
   -- a version knows of none of the new records
   known_same : (lsn number : ℕ) → lsn < 512 * p.hi + 2 → last_known (p.log ++ next_entries p records) lsn number ≡ last_known p.log lsn number
-  known_same lsn number l =
-      last_where-append (λ e. is_on number e && nat_le e.lsn lsn) p.log (next_entries p records)
-      ∙ ap (λ (o : Option Entry). option_or o (last_known p.log lsn number))
-      (none_passes (λ e. is_on number e && nat_le e.lsn lsn) (next_entries p records)
-      (all_weaker (λ e. 512 * p.hi + 2 ≤ e.lsn) (λ e. (is_on number e && nat_le e.lsn lsn) ≡ false)
-      (λ e h. and_right (is_on number e) (nat_le e.lsn lsn) (lt-leb e.lsn lsn (omega (arith, l, h)))) (next_entries p records) behind))
+  known_same lsn number l = grind (arith, common_steps, last_where-append, none_passes, all_weaker, and_right, lt-leb, behind)
 
   logged_more : (lsn : ℕ) → IsTrue ((lsn == 0) || nat_lt lsn (512 * p.hi)) → IsTrue ((lsn == 0) || nat_lt lsn (512 * (p.hi + 1)))
   logged_more lsn h = grind (arith, nat_tests)

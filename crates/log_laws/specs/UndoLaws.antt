@@ -35,4 +35,3 @@ pub record IsNext (log : List Entry) (t : ℕ) (u : Entry) (rest : List Entry) :
   pub found : find (λ e. e.lsn == u.lsn) log ≡ Some u
   pub update : is_update u.rec ≡ true
   pub own : txn_of u ≡ t
-

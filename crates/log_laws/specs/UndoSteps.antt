@@ -13,4 +13,3 @@ IsToUndo p log x (Update txn prev page slot before after) =
     (txn ≡ x.txn) × (x.txn ≤ prev) × (prev < x.next) × (x.next ≤ x.last) × (32 * page + slot < 32 * length p.pages)
     × ((lsn : ℕ) → Follows p.master p.pages log (record { lsn = lsn; rec = Clr x.txn x.last prev page slot before }))
 IsToUndo p log x _ = ⊥
-

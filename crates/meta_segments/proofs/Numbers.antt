@@ -1,4 +1,5 @@
 -- Segments follow the groups, when one more comes.
+use Rattle.std.proofs.lemmas.Grind.{common_steps}
 use Rattle.std.proofs.Common.{◌≡◌, ℕ, ◌+◌, ◌-◌, ◌*◌, ◌/◌, ◌%◌, ◌<◌, ◌≤◌, ◌⊎◌, inl, inr, ⊎_elim, List, [], ◌∷◌, ◌++◌, length, get_or, drop, ap, sym, ◌∙◌, arith, subst, length-append}
 use Rattle.std.proofs.lemmas.Bool.{cases_lt}
 use Rattle.std.proofs.lemmas.List.{get_or-drop, get_or_append_left, get_or_push, length-drop}
@@ -27,14 +28,7 @@ pub none_follow : NoneFollow
 none_follow = grind arith
 
 pub group_follows : GroupFollows
-group_follows k h gone segments groups heads follow room = record {
-  low = omega (arith, follow.low);
-  high = omega (arith, room);
-  same = λ n group segment.
-      let old = older_same h gone n groups heads group (omega (arith, segment.before, follow.low)) in
-      follow.same n old.0 segment ∙ sym old.1;
-  saved = λ n group less. follow.saved n (older_same h gone n groups heads group (omega (arith, less, follow.low))).0 less;
-}
+group_follows k h gone segments groups heads follow room = grind (arith, common_steps, older_same)
 
 reach : (k h gone n : ℕ) (segments groups : List Heads) (heads : Heads) → Follow k segments h groups → h ≡ 4 * k + 4 → IsLive h groups n →
     (gone ≡ 0) ⊎ (length groups ≤ 4 * length (drop gone (segments ++ heads ∷ []))) → k + 1 ≤ n / 4 + length (drop gone (segments ++ heads ∷ []))

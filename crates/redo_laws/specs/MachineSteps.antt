@@ -1,18 +1,14 @@
 -- What calls on pages ask of the cache: work for the machine, the groups that it appends, and the pages that it reads
 -- at most.
-use Rattle.std.specs.Prelude.{◌≡◌, ℕ, ◌+◌, ◌*◌, ◌≤◌, true, false, List, [], ◌∷◌, ◌++◌, map, filter_map, reverse}
-use Rattle.std.specs.Prelude.{if◌then◌else◌, Result, OnOk, Option}
+use Rattle.std.specs.Prelude.{◌≡◌, ℕ, ◌+◌, ◌*◌, ◌≤◌, true, false, List, [], ◌∷◌, filter_map, reverse}
+use Rattle.std.specs.Prelude.{if◌then◌else◌, Result, OnOk}
 use Rattle.site.specs.declared.outside.Stop.{Stop}
 use Rattle.site.specs.State.{State}
-use Rattle.record_model.specs.State.{Write}
-use Rattle.record_model.specs.Touches.{CacheOp, touch, flush, write_touch}
+use Rattle.record_model.specs.Touches.{CacheOp, touch, flush}
 use Rattle.log_records.specs.Log.{Entry}
 use Rattle.log_records.specs.Unfinished.{pending, left_open}
 use Rattle.log_records.specs.Restart.{redo_touch, undo_touch}
 use Rattle.log_records.specs.Sound.{LogicalImage, from_block}
-use Rattle.log_laws.specs.Follow.{IsActive}
-use Rattle.checkpoint.specs.declared.master.Master.{Master}
-use Rattle.image_meaning.specs.Meaning.{master_of}
 use Rattle.page_store.specs.declared.store.PageStore.{PageStore}
 use Rattle.page_store.specs.Caching.{cache_of, rules}
 pub use Rattle.page_store.specs.Caching.{next_group}

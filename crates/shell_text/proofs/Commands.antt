@@ -1,6 +1,8 @@
 -- The words of a line: what is read as a command is spelled so, and what is spelled so is read.
+use Rattle.std.proofs.Common.{arith}
+use Rattle.std.proofs.lemmas.Grind.{common_steps}
 use Rattle.std.proofs.Common.{◌≡◌, ℕ, ◌≤◌, Bool, List, [], ◌∷◌, Option, Some, None, refl, ap, ◌∙◌, subst, inl, inr}
-use Rattle.std.specs.Prelude.{◌&&◌, nat_le, option_map, option_and_then, if◌then◌else◌, codes, decimal}
+use Rattle.std.specs.Prelude.{nat_le, option_map, option_and_then, if◌then◌else◌, codes, decimal}
 use Rattle.std.specs.Str.{bytes_eq}
 use Rattle.std.proofs.lemmas.Bool.{and_parts, and_from, leb-true, le-leb}
 use Rattle.std.proofs.lemmas.Option.{option_and_then_some, same_Some}
@@ -15,11 +17,7 @@ use Rattle.shell_text.proofs.Values.{value_of-some, value_of-hex}
 
 -- a test for a name: where it is the name, the command is this one
 by_name : (name text : List ℕ) (this : Command) (others : Option Command) (c : Command) (P : Command → Type 0) → (name ≡ text → P this) → (others ≡ Some c → P c) → (if bytes_eq name text then Some this else others) ≡ Some c → P c
-by_name name text this others c P here there e =
-    elim (chosen (bytes_eq name text) (Some this) others (Some c) e) [
-      | inl is ↦ subst P (same_Some this c is.1) (here ((bytes_eq-Decides name text).0 is.0))
-      | inr other ↦ there other.1
-    ]
+by_name name text this others c P here there e = grind (arith, common_steps, chosen, same_Some, bytes_eq-Decides)
 
 bare_spelled : (name : List ℕ) (c : Command) → bare_command name ≡ Some c → IsSpelled (name ∷ []) c
 bare_spelled name c =
@@ -60,15 +58,7 @@ two_spelled name a b n c first e =
     ]
 
 scan_spelled : (name a b d : List ℕ) (n m k : ℕ) (c : Command) → name ≡ codes "scan" → IsNumber n × (a ≡ decimal n) → IsNumber m × (b ≡ decimal m) → IsNumber k × (d ≡ decimal k) → scan_of n m k ≡ Some c → IsSpelled (name ∷ a ∷ b ∷ d ∷ []) c
-scan_spelled name a b d n m k c is first second third e =
-    elim (chosen (nat_le 1 k && nat_le k COUNT_MAX) (Some (Scan n m k)) None (Some c) e) [
-      | inl within ↦
-          let parts = and_parts (nat_le 1 k) (nat_le k COUNT_MAX) within.0 in
-          let scan : IsSpelled (name ∷ a ∷ b ∷ d ∷ []) (Scan n m k) =
-          (((λ i. is i ∷ first.1 i ∷ second.1 i ∷ third.1 i ∷ []), (first.0, (second.0, (third.0, tt)))), leb-true 1 k parts.0, leb-true k COUNT_MAX parts.1) in
-          subst (IsSpelled (name ∷ a ∷ b ∷ d ∷ [])) (same_Some _ c within.1) scan
-      | inr outside ↦ cc outside.1
-    ]
+scan_spelled name a b d n m k c is first second third e = grind (arith, common_steps, chosen, and_parts, leb-true, same_Some)
 
 three_spelled : (name a b d : List ℕ) (n m : ℕ) (c : Command) → IsNumber n × (a ≡ decimal n) → IsNumber m × (b ≡ decimal m) → three_words name d n m ≡ Some c → IsSpelled (name ∷ a ∷ b ∷ d ∷ []) c
 three_spelled name a b d n m c first second e =
@@ -109,9 +99,7 @@ two_again : (name b : List ℕ) (n : ℕ) → IsNumber n → command_in (name �
 two_again name b n small = ap (option_and_then (two_words name b)) (number_of-decimal n small)
 
 three_again : (name d : List ℕ) (n m : ℕ) → IsNumber n → IsNumber m → command_in (name ∷ decimal n ∷ decimal m ∷ d ∷ []) ≡ three_words name d n m
-three_again name d n m first second =
-    ap (option_and_then (λ (session : ℕ). option_and_then (three_words name d session) (number_of (decimal m)))) (number_of-decimal n first)
-    ∙ ap (option_and_then (three_words name d n)) (number_of-decimal m second)
+three_again name d n m first second = grind (arith, common_steps, number_of-decimal)
 
 scan_again : (n m k : ℕ) → 1 ≤ k → k ≤ COUNT_MAX → scan_of n m k ≡ Some (Scan n m k)
 scan_again n m k least most =

@@ -1,5 +1,6 @@
 -- How a text is cut at its spaces.
-use Rattle.std.proofs.Common.{◌≡◌, ℕ, ◌+◌, ◌≤◌, ◌<◌, Bool, List, [], ◌∷◌, length, take, drop, Option, Some, None, refl, sym, ap, ◌∙◌, arith, inl, inr}
+use Rattle.std.proofs.lemmas.Grind.{common_steps}
+use Rattle.std.proofs.Common.{◌≡◌, ℕ, ◌+◌, ◌≤◌, ◌<◌, Bool, List, [], ◌∷◌, length, take, drop, Option, Some, None, refl, ap, ◌∙◌, arith, inl, inr}
 use Rattle.std.specs.Prelude.{◌==◌, position, not, if◌then◌else◌, IfNone}
 use Rattle.std.specs.List.{position_or_len, onto_first}
 use Rattle.std.proofs.lemmas.List.Splits.{slice_split_first, length-slice_split}
@@ -24,27 +25,15 @@ one_word (x ∷ text) all =
 
 -- where no space was found
 pub words_of-none : (text : List ℕ) → position is_space text ≡ None → words_of text ≡ text ∷ []
-words_of-none text none =
-    elim (cases_lt (position_or_len is_space text) (length text)) [
-      | inl found ↦ cc (sym none ∙ (λ i. if lt-ltb (position_or_len is_space text) (length text) found i then Some (position_or_len is_space text) else None))
-      | inr all ↦ one_word text all
-    ]
+words_of-none text none = grind (arith, common_steps, cases_lt, lt-ltb, one_word)
 
 -- the place of the first space
 place_is : (text : List ℕ) (place : ℕ) → position is_space text ≡ Some place → (position_or_len is_space text ≡ place) × (position_or_len is_space text < length text)
-place_is text place some =
-    elim (cases_lt (position_or_len is_space text) (length text)) [
-      | inl found ↦
-          let is : Some (position_or_len is_space text) ≡ Some place = sym (λ i. if lt-ltb (position_or_len is_space text) (length text) found i then Some (position_or_len is_space text) else None) ∙ some in
-          (cc, found)
-      | inr all ↦ cc (sym some ∙ (λ i. if le-ltb (position_or_len is_space text) (length text) all i then Some (position_or_len is_space text) else None))
-    ]
+place_is text place some = grind (arith, common_steps, cases_lt, lt-ltb, le-ltb)
 
 -- where one was found
 pub words_of-some : (text : List ℕ) (place : ℕ) → position is_space text ≡ Some place → words_of text ≡ take place text ∷ words_of (drop (place + 1) text)
-words_of-some text place some =
-    let at = place_is text place some in
-    slice_split_first is_space text 0 at.1 ∙ ap (λ (n : ℕ). take n text ∷ words_of (drop (n + 1) text)) at.0
+words_of-some text place some = grind (arith, common_steps, place_is, slice_split_first)
 
 pub if_none : {X : Type 0} (o : Option X) (P : Type 0) → P → IfNone o P
 if_none None P p = p
@@ -56,6 +45,4 @@ five_words a b c d [] some = absurd (omega (arith, some))
 five_words a b c d (e ∷ more) some = refl
 
 pub too_many : (line one two three four a b c d : List ℕ) → words_of line ≡ a ∷ words_of one → words_of one ≡ b ∷ words_of two → words_of two ≡ c ∷ words_of three → words_of three ≡ d ∷ words_of four → command_in (words_of line) ≡ None
-too_many line one two three four a b c d first second third fourth =
-    ap command_in (first ∙ ap (λ (w : List (List ℕ)). a ∷ w) (second ∙ ap (λ (w : List (List ℕ)). b ∷ w) (third ∙ ap (λ (w : List (List ℕ)). c ∷ w) fourth)))
-    ∙ five_words a b c d (words_of four) (omega (arith, length-slice_split is_space four))
+too_many line one two three four a b c d first second third fourth = grind (arith, common_steps, five_words, length-slice_split)

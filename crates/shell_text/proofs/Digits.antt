@@ -1,8 +1,7 @@
 -- Decimal digits that are read on from the left.
-use Rattle.std.proofs.Common.{◌≡◌, ℕ, ◌+◌, ◌*◌, ◌≤◌, ◌<◌, Bool, List, [], ◌∷◌, length, get_or, drop, Some, None, ap, ◌∙◌, arith, suc, drop-cons}
-use Rattle.std.specs.Prelude.{nat_lt, if◌then◌else◌}
+use Rattle.std.proofs.lemmas.Grind.{common_steps}
+use Rattle.std.proofs.Common.{◌≡◌, ℕ, ◌+◌, ◌*◌, ◌≤◌, ◌<◌, List, [], ◌∷◌, length, get_or, drop, None, ap, ◌∙◌, arith, suc, drop-cons}
 use Rattle.std.specs.Char.{digit_value}
-use Rattle.std.specs.Str.{all_ascii_digits}
 use Rattle.std.specs.Str.Parse.{digits_value, digits_value_after}
 use Rattle.std.proofs.lemmas.Bool.{and_right, le-ltb}
 use Rattle.shell_text.specs.Reading.{small_number}
@@ -14,9 +13,7 @@ le-digits_value_after n (c ∷ cs) = let more = le-digits_value_after (n * 10 + 
 
 -- digits that write a thousand million or more
 too_large : (text : List ℕ) → 1000000000 ≤ digits_value 10 text → small_number text ≡ None
-too_large text large =
-    ap (λ (b : Bool). if b then Some (digits_value 10 text) else None)
-    (and_right (all_ascii_digits text) (nat_lt (digits_value 10 text) 1000000000) (le-ltb (digits_value 10 text) 1000000000 large))
+too_large text large = grind (arith, common_steps, and_right, le-ltb)
 
 -- a digit more behind a hundred million
 pub small_number-too_large : (text : List ℕ) (n i : ℕ) → digits_value 10 text ≡ digits_value_after 10 n (drop i text) → i < length text → 100000000 ≤ n → small_number text ≡ None

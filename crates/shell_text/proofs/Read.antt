@@ -1,5 +1,7 @@
 -- A line is read as what it is in the grammar.
-use Rattle.std.proofs.Common.{◌≡◌, ℕ, ◌≤◌, List, length, Some, None, Result, Ok, Err, sym, ap, ◌∙◌, inl, inr}
+use Rattle.std.proofs.Common.{arith}
+use Rattle.std.proofs.lemmas.Grind.{common_steps}
+use Rattle.std.proofs.Common.{◌≡◌, ℕ, ◌≤◌, List, length, Some, None, Result, Ok, Err, sym, ◌∙◌, inl, inr}
 use Rattle.std.specs.Prelude.{nat_lt, if◌then◌else◌, IsErr, IfOk}
 use Rattle.std.specs.List.{join_with_byte}
 use Rattle.std.specs.Result.{result_ok}
@@ -30,14 +32,10 @@ line_of-some line c e =
 
 -- the words of a line that is spelled so
 words_of-line : (line : List ℕ) (c : Command) (words : List (List ℕ)) → line ≡ join_with_byte 32 words → IsSpelled words c → words_of line ≡ words
-words_of-line line c words spaced spelled =
-    let w = spelled_words words c spelled in
-    ap words_of (spaced ∙ ap (join_with_byte 32) w.are) ∙ words_of-join w.name w.others w.none ∙ sym w.are
+words_of-line line c words spaced spelled = grind (arith, common_steps, spelled_words, words_of-join)
 
 pub line_of-command : (line : List ℕ) (c : Command) → IsCommandLine line c → line_of line ≡ Some c
-line_of-command line c is =
-    (λ i. if le-ltb LINE_MAX (length line) is.short i then None else command_in (words_of line))
-    ∙ ap command_in (words_of-line line c is.words is.spaced is.spelled) ∙ command_in-spelled is.words c is.spelled
+line_of-command line c is = grind (arith, common_steps, le-ltb, words_of-line, command_in-spelled)
 
 pub lines_are_read : LinesAreRead
 lines_are_read line c = (line_of-some line c, line_of-command line c)

@@ -1,4 +1,6 @@
 -- What is told is in serial order.
+use Rattle.std.proofs.Common.{arith}
+use Rattle.std.proofs.lemmas.Grind.{common_steps}
 use Rattle.std.proofs.Common.{◌≡◌, ℕ, suc, ◌+◌, ◌*◌, ◌≤◌, Bool, true, false, List, [], ◌∷◌, ◌++◌, length, map, Option, Some, None, refl, ap, sym, ◌∙◌, subst}
 use Rattle.std.specs.Prelude.{not, ◌&&◌, reverse, if◌then◌else◌}
 use Rattle.std.specs.List.{AllByRecursion}
@@ -145,11 +147,7 @@ length_is (t ∷ own) = ap suc (length_is own)
 told_again : (alone : State) (own : List Turn) (said : List Exchange) → map exchange own ≡ said →
     replies (turns alone (lines_of own) []) ≡ replies own →
     texts alone (map line_of_exchange said) [] ≡ open_text alone.commits ∷ map text_of_exchange said
-told_again alone own said e again =
-    subst (λ (l : List Exchange). texts alone (map line_of_exchange l) [] ≡ open_text alone.commits ∷ map text_of_exchange l) e
-    (ap (λ (lines : List Line). texts alone lines []) (lines_are own)
-    ∙ ap (λ (l : List Reply). open_text alone.commits ∷ map reply_text l) again
-    ∙ ap (λ (l : List (List ℕ)). open_text alone.commits ∷ l) (sym (texts_are own)))
+told_again alone own said e again = grind (arith, common_steps, lines_are, texts_are)
 
 -- The law.
 

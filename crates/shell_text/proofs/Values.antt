@@ -1,6 +1,7 @@
 -- The values of a line: what is read as one is written so, and what is written so is read.
+use Rattle.std.proofs.lemmas.Grind.{common_steps}
 use Rattle.std.proofs.Common.{◌≡◌, ℕ, ◌≤◌, false, List, [], length, Some, None, Result, Ok, Err, sym, ap, ◌∙◌, arith, inl, inr}
-use Rattle.std.specs.Prelude.{nat_lt, if◌then◌else◌, codes}
+use Rattle.std.specs.Prelude.{if◌then◌else◌, codes}
 use Rattle.std.specs.Result.{result_ok}
 use Rattle.std.specs.Str.{bytes_eq}
 use Rattle.std.proofs.lemmas.Bool.{ltb-false, le-ltb, false_from_ne_true}
@@ -17,15 +18,7 @@ ok_is (Ok x) value e = ap Ok (same_Some x value e)
 ok_is (Err f) value e = cc e
 
 pub value_of-some : (text value : List ℕ) → value_of text ≡ Some value → IsHex text value
-value_of-some text value e =
-    elim (chosen (bytes_eq text (codes "-")) (Some []) (if nat_lt (length text) 2 then None else result_ok (decode_of text)) (Some value) e) [
-      | inl dash ↦ inl ((bytes_eq-Decides text (codes "-")).0 dash.0, sym (same_Some [] value dash.1))
-      | inr digits ↦
-          elim (chosen (nat_lt (length text) 2) None (result_ok (decode_of text)) (Some value) digits.1) [
-            | inl short ↦ cc short.1
-            | inr long ↦ inr (ltb-false (length text) 2 long.0, ok_is (decode_of text) value long.1)
-          ]
-    ]
+value_of-some text value e = grind (arith, common_steps, chosen, bytes_eq-Decides, same_Some, ltb-false, ok_is)
 
 -- a text of two digits or more is no dash
 no_dash : (text : List ℕ) → 2 ≤ length text → bytes_eq text (codes "-") ≡ false

@@ -31,15 +31,15 @@ pub invariant_of-self-2 : goal.invariant_of-self-2
 invariant_of-self-2 c =
     let es : List Entry = c.self.inside.pages.entries in
     let kept : PoolEntry = c.in-Some.kept.now in
-    let now : PoolEntry = record { changed = kept.changed; framed = kept.framed; stamp = c.add-kept.result; content = kept.content } in
+    let now : PoolEntry = record { changed = kept.changed; framed = kept.framed; stamp = c.strike.new.self.next; content = kept.content } in
     let is : lookup (nat_eq c.args.page) es ≡ Some kept = sym c.in-Some.ensures.value in
     let entries : set_value (nat_eq c.args.page) (promoted (nat_eq c.args.page) es) now ≡ (c.args.page, now) ∷ remove_entry (nat_eq c.args.page) es = set_promoted es c.args.page kept now is in
     let left = index_leaves c.self.inside.index c.strike.new.self es c.args.page kept is c.self.invariant.2
     (c.strike.ensures.listed ∙ ap (λ b. struck kept.stamp b c.self.inside.index.listed.entries) c.is_listed-listed.ensures) c.strike.ensures.next c.strike.ensures.whole in
-    let entered : IsIndex c.add-kept.new.self ((c.args.page, now) ∷ remove_entry (nat_eq c.args.page) es) =
-    index_enters c.strike.new.self c.add-kept.new.self (remove_entry (nat_eq c.args.page) es) c.args.page now c.add-kept.ensures.stamp left
-    (λ whole. c.add-kept.ensures.listed whole ∙ ap (λ b. enlisted c.strike.new.self.next (c.args.page, kept.changed) b c.strike.new.self.listed.entries) c.is_listed-listed.ensures)
-    c.add-kept.ensures.next c.add-kept.ensures.whole in
+    let entered : IsIndex c.add.new.self ((c.args.page, now) ∷ remove_entry (nat_eq c.args.page) es) =
+    index_enters c.strike.new.self c.add.new.self (remove_entry (nat_eq c.args.page) es) c.args.page now refl left
+    (λ whole. c.add.ensures.listed whole ∙ ap (λ b. enlisted c.strike.new.self.next (c.args.page, kept.changed) b c.strike.new.self.listed.entries) c.is_listed-listed.ensures)
+    c.add.ensures.next c.add.ensures.whole in
     let pool : IsPool (state_in c.self.inside.size ((c.args.page, now) ∷ remove_entry (nat_eq c.args.page) es)) = pool-renewed c.self.inside.size es c.args.page kept now is refl refl c.self.invariant.1 in
     rw entries (c.self.invariant.0, pool, entered)
 
@@ -50,7 +50,7 @@ pub returns-clause-after : goal.returns-clause-after
 returns-clause-after c =
     let es : List Entry = c.self.inside.pages.entries in
     let kept : PoolEntry = c.in-Some.kept.now in
-    let now : PoolEntry = record { changed = kept.changed; framed = kept.framed; stamp = c.add-kept.result; content = kept.content } in
+    let now : PoolEntry = record { changed = kept.changed; framed = kept.framed; stamp = c.strike.new.self.next; content = kept.content } in
     let is : lookup (nat_eq c.args.page) es ≡ Some kept = sym c.in-Some.ensures.value in
     let entries : set_value (nat_eq c.args.page) (promoted (nat_eq c.args.page) es) now ≡ (c.args.page, now) ∷ remove_entry (nat_eq c.args.page) es = set_promoted es c.args.page kept now is in
     let after : state_in c.self.inside.size ((c.args.page, now) ∷ remove_entry (nat_eq c.args.page) es)
@@ -62,7 +62,7 @@ pub returns-clause-framed : goal.returns-clause-framed
 returns-clause-framed c =
     let es : List Entry = c.self.inside.pages.entries in
     let kept : PoolEntry = c.in-Some.kept.now in
-    let now : PoolEntry = record { changed = kept.changed; framed = kept.framed; stamp = c.add-kept.result; content = kept.content } in
+    let now : PoolEntry = record { changed = kept.changed; framed = kept.framed; stamp = c.strike.new.self.next; content = kept.content } in
     let is : lookup (nat_eq c.args.page) es ≡ Some kept = sym c.in-Some.ensures.value in
     let entries : set_value (nat_eq c.args.page) (promoted (nat_eq c.args.page) es) now ≡ (c.args.page, now) ∷ remove_entry (nat_eq c.args.page) es = set_promoted es c.args.page kept now is in
     let same : KnowsSame (state_in c.self.inside.size es) (state_in c.self.inside.size ((c.args.page, now) ∷ remove_entry (nat_eq c.args.page) es)) =
@@ -77,7 +77,7 @@ pub returns-clause-front : goal.returns-clause-front
 returns-clause-front c = λ really.
     let es : List Entry = c.self.inside.pages.entries in
     let kept : PoolEntry = c.in-Some.kept.now in
-    let now : PoolEntry = record { changed = kept.changed; framed = kept.framed; stamp = c.add-kept.result; content = kept.content } in
+    let now : PoolEntry = record { changed = kept.changed; framed = kept.framed; stamp = c.strike.new.self.next; content = kept.content } in
     let is : lookup (nat_eq c.args.page) es ≡ Some kept = sym c.in-Some.ensures.value in
     let entries : set_value (nat_eq c.args.page) (promoted (nat_eq c.args.page) es) now ≡ (c.args.page, now) ∷ remove_entry (nat_eq c.args.page) es = set_promoted es c.args.page kept now is in
     let frames = frames-renewed es c.args.page kept now c.self.invariant.1.distinct is refl refl in
@@ -89,7 +89,7 @@ pub returns-clause-there : goal.returns-clause-there
 returns-clause-there c = λ really.
     let es : List Entry = c.self.inside.pages.entries in
     let kept : PoolEntry = c.in-Some.kept.now in
-    let now : PoolEntry = record { changed = kept.changed; framed = kept.framed; stamp = c.add-kept.result; content = kept.content } in
+    let now : PoolEntry = record { changed = kept.changed; framed = kept.framed; stamp = c.strike.new.self.next; content = kept.content } in
     let is : lookup (nat_eq c.args.page) es ≡ Some kept = sym c.in-Some.ensures.value in
     let entries : set_value (nat_eq c.args.page) (promoted (nat_eq c.args.page) es) now ≡ (c.args.page, now) ∷ remove_entry (nat_eq c.args.page) es = set_promoted es c.args.page kept now is in
     let frames = frames-renewed es c.args.page kept now c.self.invariant.1.distinct is refl refl in
