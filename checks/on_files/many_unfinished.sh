@@ -1,0 +1,66 @@
+#!/usr/bin/env bash
+# Logs with very many unfinished transactions: a check, and a restart, take no more than a log of that length may cost.
+. "$(dirname "$(readlink -f "$0")")/helpers.bash"
+
+if ! has python3; then
+    skip 'many unfinished transactions: needs python3'
+    finish
+fi
+
+# log HOW BLOCKS makes three files whose log has so many full blocks: all Begins, or transactions of a Begin and an End,
+# or Begins with an End behind for each, the first one first.
+log() {
+    python3 - "$@" <<'EOF'
+import struct
+import sys
+
+how, blocks, slots = sys.argv[1], int(sys.argv[2]), 2 * int(sys.argv[2])
+
+
+def block(number, records):
+    content = struct.pack('>H', 2 + len(records)) + records
+    return b'\xa5' + struct.pack('>Q', number) + content.ljust(503, b'\0')
+
+
+def ends(txns):
+    return b''.join(b'\x05' + struct.pack('>Q', txn) for txn in txns)
+
+
+begins = [512 * number + 2 + place for number in range(blocks) for place in range(501)]
+units = [b'\x01' * 501] * blocks
+if how == 'sound':
+    units = [b''.join(b'\x01' + ends([512 * number + 2 + 10 * place]) for place in range(50)) for number in range(blocks)]
+if how == 'ended':
+    few = begins[: 501 * (blocks // 56)]
+    units = units[: blocks // 56] + [ends(few[at : at + 55]) for at in range(0, len(few), 55)]
+with open('face.log', 'wb') as file:
+    file.write(bytes(3 * 512) + b''.join(block(*unit) for unit in enumerate(units)))
+    file.truncate(512 * (3 + slots))
+open('face.flash', 'wb').truncate(33280 * 8 + 1024 * 5)
+open('face.disk', 'wb').truncate(4096)
+EOF
+}
+
+# costs WORDS .. leaves in `cost` the milliseconds of a processor that the program takes, at most half a minute
+costs() {
+    out=$(TIMEFORMAT='%3U'; { time timeout 30 "$face" "$@" >replies 2>/dev/null </dev/null; } 2>&1)
+    cost=$((10#${out/./}))
+}
+
+log sound 400
+costs check
+[ "$(cat replies)" = 'sound records 0 commits 0' ]
+verdict 'a check of a sound log' $?
+most=$((20 * cost + 500))
+log begins 400
+costs check
+[ "$(cat replies)" = 'unsound S9' ] && [ "$cost" -lt "$most" ]
+verdict "a check of 200,400 unfinished transactions in $cost of $most ms" $?
+costs run 4
+[ "$(cat replies)" = 'fault foreign' ] && [ "$cost" -lt "$most" ]
+verdict "a run over them in $cost of $most ms" $?
+log ended 5600
+costs check
+[ "$(cat replies)" = 'sound records 0 commits 0' ] && [ "$cost" -lt "$most" ]
+verdict "a check of 50,100 transactions that end one after the other in $cost of $most ms" $?
+finish
