@@ -1,8 +1,7 @@
 -- The numbers of the rings, life after life.
-use Rattle.std.proofs.Common.{◌≡◌, ◌⊎◌, inl, inr, ℕ, zero, suc, ◌+◌, ◌*◌, ◌≤◌, List, [], ◌++◌, map, true, refl, sym, ap, subst, arith}
+use Rattle.std.proofs.Common.{◌≡◌, ◌⊎◌, inl, inr, ℕ, zero, suc, ◌+◌, ◌*◌, ◌≤◌, List, [], ◌++◌, true, refl, sym, ap, subst, arith}
 use Rattle.std.specs.Prelude.{Contains, Option}
 use Rattle.std.proofs.Math.Nat.{suc-mul}
-use Rattle.std.proofs.lemmas.List.{length-map}
 use Rattle.std.proofs.lemmas.List.Elements.{All-contains, All-from_recursion}
 use Rattle.site.specs.State.{State as Site, Image, Moment, Snapshot, now_of}
 use Rattle.site.specs.Geometry.{HasLimits, blank_image}
@@ -10,9 +9,7 @@ use Rattle.site.specs.Moments.{Leaves, LeavesOnly, since}
 use Rattle.site.specs.declared.geometry.Geometry.{Geometry}
 use Rattle.sealed_ring.specs.Laws.{BlankIsRing}
 use Rattle.sealed_ring.specs.Ring.{hi_of}
-use Rattle.sealed_ring.proofs.Units.{live_count}
-use Rattle.image_changes.specs.Rings.{Blocks, Groups, Masters, group_shape, log_shape, master_shape, units_on}
-use Rattle.frame_group.specs.Groups.{Frame, frames_in}
+use Rattle.image_changes.specs.Rings.{Blocks, Groups, Masters, group_shape, log_shape, master_shape}
 use Rattle.record_model.specs.declared.words.CacheLine.{CacheLine}
 use Rattle.record_model.specs.State.{State}
 use Rattle.record_model.specs.Run.{Line}
@@ -23,7 +20,6 @@ use Rattle.image_meaning.proofs.Blanks.{unused}
 use Rattle.image_meaning.specs.Meaning.{logical_image_under}
 use Rattle.second_chance.specs.Groups.{LinesPushFew, WorkPushesFew, reads_in}
 use Rattle.second_chance.specs.Machine.{rules_of}
-use Rattle.second_chance.specs.Queue.{frame_of as known_of}
 use Rattle.second_chance.proofs.GroupCounts.{groups_add_up}
 use Rattle.engine.specs.Image.{IsSound, log_under}
 use Rattle.engine.specs.Paging.{cache_on, restart_works}
@@ -37,6 +33,7 @@ use Rattle.face.specs.Run.{Run, turns_of}
 use Rattle.face.specs.Workload.{load_run}
 use Rattle.face.specs.Worn.{WearsNone}
 use Rattle.face.proofs.RestartGroups.{restart_few}
+use Rattle.face.proofs.WornRuns.{number_at_entry}
 use Rattle.face.proofs.RingCounts.{never_by_counts}
 
 -- what holds of all that a crash may leave
@@ -48,15 +45,6 @@ left_has old new P leaves s left = by left.at
     by (inr now) = subst (λ (m : Moment). Leaves P m) (sym now) leaves.now s left.left
 
 -- Groups.
-
--- a run begins with the number that flash has
-number_at_entry : (g : Geometry) (image : Image) → next_group (cache_on g image) ≡ hi_of (group_shape g) image.flash
-number_at_entry g image =
-    let groups = map frames_in (units_on (group_shape g) image).live in
-    let known = length-map groups (map (λ (frame : Frame). known_of frame.page frame.dirty)) in
-    let frames = length-map (units_on (group_shape g) image).live frames_in in
-    let count = live_count (group_shape g) image.flash in
-    omega (arith, known, frames, count)
 
 module _ (work_pushes : WorkPushesFew) (lines_push : LinesPushFew) where
   -- the restart and the lines of a run push no more than so

@@ -1,8 +1,9 @@
 -- Runs as work of the machine of the rings.
-use Rattle.std.proofs.Common.{◌≡◌, ◌≢◌, ◌⊎◌, inl, inr, ℕ, suc, ◌+◌, ◌-◌, ◌*◌, ◌/◌, ◌==◌, ◌<◌, ◌≤◌, arith, Bool, true, false, List, [], ◌∷◌, ◌++◌, length, drop, take, append_assoc, append-nil, Option, Some, None, refl, sym, ap, subst, ◌∙◌}
+use Rattle.std.proofs.Common.{◌≡◌, ◌≢◌, ◌⊎◌, inl, inr, ℕ, suc, ◌+◌, ◌-◌, ◌*◌, ◌/◌, ◌==◌, ◌<◌, ◌≤◌, arith, Bool, true, false, List, [], ◌∷◌, ◌++◌, length, map, drop, take, append_assoc, append-nil, Option, Some, None, refl, sym, ap, subst, ◌∙◌}
 use Rattle.std.specs.Prelude.{Ok, if◌then◌else◌, ⊤}
 use Rattle.std.proofs.lemmas.Bool.Decides.{eqb_tells}
 use Rattle.std.proofs.lemmas.Grind.{flat_map-append}
+use Rattle.std.proofs.lemmas.List.{length-map}
 use Rattle.site.specs.declared.outside.Dev.{Dev}
 use Rattle.site.specs.State.{State as Site, Image, Snapshot}
 use Rattle.site.specs.Laws.{holds_now}
@@ -13,7 +14,7 @@ use Rattle.record_model.specs.declared.words.Command.TheVariants.{Stat, Quit, Ca
 use Rattle.record_model.specs.Step.{is_accepted}
 use Rattle.log_records.specs.declared.log_record.LogRecord.{LogRecord}
 use Rattle.checkpoint.specs.declared.master.Master.{Master}
-use Rattle.image_changes.specs.Rings.{group_shape, segment_shape}
+use Rattle.image_changes.specs.Rings.{group_shape, segment_shape, units_on}
 use Rattle.image_meaning.specs.Meaning.{AreSegments, logical_image_under}
 use Rattle.second_chance.specs.Machine.{Rules, Staged, rules_of, after_works, staged_by_works, next_group}
 use Rattle.page_store.specs.Staging.{SavesBefore, WritesOnly}
@@ -21,6 +22,9 @@ use Rattle.redo_laws.proofs.Costs.{numbers_rise}
 use Rattle.sealed_ring.specs.declared.slots.Shape.{Shape}
 use Rattle.sealed_ring.specs.Ring.{hi_of}
 use Rattle.sealed_ring.specs.Ready.{region}
+use Rattle.sealed_ring.proofs.Units.{live_count}
+use Rattle.frame_group.specs.Groups.{Frame, frames_in}
+use Rattle.second_chance.specs.Queue.{frame_of as known_of}
 use Rattle.redo_laws.proofs.RingNumbers.{hi_on}
 use Rattle.engine.specs.Representation.{Matches}
 use Rattle.engine.specs.Invariant.{Invariant, sizes_of}
@@ -36,7 +40,6 @@ use Rattle.engine.specs.declared.engine.Engine.{Engine}
 use Rattle.engine.specs.Image.{IsSound}
 use Rattle.engine.specs.Paging.{cache_on}
 use Rattle.engine.specs.RingWork.{machine_on}
-use Rattle.engine.proofs.Asking.{opened_next}
 use Rattle.front_end.specs.declared.halt.Halt.TheVariants as halt
 use Rattle.front_end.specs.Lines.{up_to_quit}
 use Rattle.face.specs.Run.{Run, after_lines, answered, first_lines, state_at, step, turns_of}
@@ -119,6 +122,15 @@ none_prefix r first later m none = by (first_worn r first m) refl
 
 -- Whole runs.
 
+-- a run begins with the number that flash has
+pub number_at_entry : (g : Geometry) (image : Image) → next_group (cache_on g image) ≡ hi_of (group_shape g) image.flash
+number_at_entry g image =
+    let groups = map frames_in (units_on (group_shape g) image).live in
+    let known = length-map groups (map (λ (frame : Frame). known_of frame.page frame.dirty)) in
+    let frames = length-map (units_on (group_shape g) image).live frames_in in
+    let count = live_count (group_shape g) image.flash in
+    omega (arith, known, frames, count)
+
 -- The segments behind an image, by numbers: at most four groups aren't in segments, and a segment that was saved stands before a group that was pushed.
 segments_are : (groups segments groups' segments' : ℕ) → 4 * segments ≤ groups → groups ≤ 4 * segments + 4 → groups' ≤ 4 * segments' + 4 → groups ≤ groups' → SavesBefore groups' segments segments'
     → segments' ≡ (if groups' == groups then segments else (groups' - 1) / 4)
@@ -168,7 +180,7 @@ rings_left pool run newest blocks i engine entry site now s sound paged asks mir
     let only = λ (s : Snapshot). WritesOnly g (staged_by_works r works (cache_on g entry.image)) (next_group (after_works r works (cache_on g entry.image))) entry.image s.image in
     let wrote = holds_now entry site only (asks newest blocks sound).writes in
     subst (λ (x : Image). HasRings g m entry.image x) (sym same)
-    (rings_of_store g engine site s m _ entry.image sound.octets.segments (omega (arith, opened_next g entry.image, up, next))
+    (rings_of_store g engine site s m _ entry.image sound.octets.segments (omega (arith, number_at_entry g entry.image, up, next))
     (subst (λ (n : ℕ). WritesOnly g (staged_by_works r works (cache_on g entry.image)) n entry.image site.image) next wrote) mirrors fits may sizes)
 
 -- and has found no ring at its end

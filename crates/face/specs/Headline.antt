@@ -110,7 +110,7 @@ pub record Resources (pool : ℕ) (run : Run) (begun : ℕ) (fault : List ℕ) (
   pub frames : status ≡ 0 → LeavesItsQueue pool run old.image new.image
   -- and the versions of pages that its pool doesn't hold as changed show what is seen of each record
   pub versions : status ≡ 0 → LeavesVersions pool run old.image new.image
-  -- and the log has as many blocks and master units as the machine of the rings appends
+  -- and the rings have as many units as the machine of the rings appends
   pub rings : status ≡ 0 → LeavesItsRings pool run old.image new.image
   -- and each page that it has staged is on the disk as the frame that was staged last
   pub staged : status ≡ 0 → LeavesStaged pool run old new

@@ -169,8 +169,8 @@ AsksNoMore pool run old new =
     (log_reads_by_turns run (turns_of run) newest blocks) old new
 
 -- What a crash leaves while at most so many lines are begun. Some number of them was begun by then: what the run tells
--- before the last of these is told. It has no more groups than the restart and these append, and each disk page that
--- they don't stage as it was at entry.
+-- before the last of these is told. It has no more groups than the restart and these append, no segment early, and each
+-- disk page that they don't stage as it was at entry.
 pub record WritesSoFar (pool : ℕ) (run : Run) (lines : ℕ) (newest : Option Master) (blocks : List (List LogRecord))
     (old : Site) (snapshot : Snapshot) : Type 0 where
   pub begun : ℕ

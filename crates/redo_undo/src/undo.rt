@@ -67,7 +67,7 @@ pub(crate) fn has_room(log: &LogStore) -> bool
 }
 
 // Reads the Update of a transaction that is to be compensated. It stands in the kept log, is on a page that exists, and
-// names an earlier record.
+// names an earlier record. Over devices that aren't sound it may be another transaction's.
 fn read_update<S: Site>(log: &LogStore, site: &mut S, at: &UndoCursor) -> Result<Wanted, Stop>
     requires going { log_store.Invariant log.now (S.state site.old) }
     requires last { at.now.last < end_of log.now }
@@ -313,8 +313,8 @@ fn goes_on(rec: &LogRecord, lsn: u64) -> Option<(u64, u64)>
 }
 
 // Reads the last record of a transaction, which says where undoing it goes on: with an Update itself, behind a CLR with
-// the record that this names, and with a Begin nowhere. The record is of the transaction, and what a CLR names stands
-// before it.
+// the record that this names, and with a Begin nowhere. What a CLR names stands before it. Over devices that aren't
+// sound the record may be another transaction's.
 fn read_last<S: Site>(log: &LogStore, site: &mut S, txn: u64, last: u64) -> Result<UndoCursor, Stop>
     requires going { log_store.Invariant log.now (S.state site.old) }
     requires last { last < end_of log.now }

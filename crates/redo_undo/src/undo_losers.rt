@@ -117,7 +117,7 @@ fn end_one<S: Site>(
     Ok(lsn)
 }
 
-// Ends the transactions of which nothing remains to be undone, by ascending transaction. `known` is an LSN before the
+// Ends the transactions of which nothing remains to be undone. `known` is an LSN before the
 // log's end, and so is the answer: that of the last record that undo has logged, or `known`.
 fn end_undone<S: Site>(
     site: &mut S,
@@ -280,8 +280,8 @@ fn undo_next<S: Site>(
     end_one(site, log, found, next.0)
 }
 
-/// Undoes all transactions that analysis has found unfinished. Those of which nothing remains are ended first, by
-/// ascending transaction; then always the Update with the greatest LSN of all that remain is compensated, and its
+/// Undoes all transactions that analysis has found unfinished. Those of which nothing remains are ended first, in any
+/// order; then always the Update with the greatest LSN of all that remain is compensated, and its
 /// transaction ended as soon as nothing of it remains. Undo reads no record outside of the kept log. Where what it
 /// reads isn't what analysis says, or there is no room for what it logs, it answers Foreign.
 pub fn undo_all<S: Site>(
