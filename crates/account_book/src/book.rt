@@ -2,107 +2,60 @@
 // they were, or both as they are to be.
 ghost use Rattle.account_book.specs.Payments.{MakesCalls, MakesOneCommit};
 
-use crate::trouble::Trouble;
+use anyhow::{Context, Result, bail};
 use database::{Database, calls_are_durable};
 use record_model::{Octets, Reply};
 use site::Site;
 
-// The balance that a record has; one without a value has none.
-fn balance(reply: Reply) -> Result<u64, Trouble> {
-    let value = match reply {
-        Reply::Value(value) => value,
-        Reply::Nothing => return Ok(0),
-        _ => return Err(Trouble::Refused),
-    };
-    match <[u8; 8]>::try_from(value.as_slice()) {
-        Ok(octets) => Ok(u64::from_be_bytes(octets)),
-        Err(_) => Err(Trouble::Refused),
+/// The balance that an answer tells; an account without a value has none.
+pub fn balance(reply: Reply) -> Result<u64> {
+    match reply {
+        Reply::Value(value) => Ok(u64::from_be_bytes(value.as_slice().try_into()?)),
+        Reply::Nothing => Ok(0),
+        _ => bail!("refused"),
+    }
+}
+
+fn done(reply: Reply) -> Result<()> {
+    match reply {
+        Reply::Done | Reply::Committed(_) => Ok(()),
+        _ => bail!("refused"),
     }
 }
 
 fn value_of(amount: u64) -> Octets {
-    match Octets::from_slice(&amount.to_be_bytes()) {
-        Some(value) => value,
-        None => unreachable!(),
-    }
-}
-
-fn done(reply: Reply) -> Result<(), Trouble> {
-    match reply {
-        Reply::Done | Reply::Committed(_) => Ok(()),
-        _ => Err(Trouble::Refused),
-    }
+    Octets::from_slice(&amount.to_be_bytes()).unwrap()
 }
 
 /// Sets the balance of an account.
-pub fn open<S: Site + Drop>(
-    book: &mut Database<S>,
-    account: u32,
-    amount: u64,
-) -> Result<(), Trouble>
+pub fn open<S: Site + Drop>(book: &mut Database<S>, account: u32, amount: u64) -> Result<()>
     ensures one { MakesOneCommit book.old book.new }
 {
     calls_are_durable();
-    let reply = book.set(account, &value_of(amount))?;
-    done(reply)
-}
-
-/// The balance of an account.
-pub fn show<S: Site + Drop>(book: &mut Database<S>, account: u32) -> Result<u64, Trouble>
-    ensures calls { MakesCalls 0 book.old book.new }
-{
-    let reply = book.get(account)?;
-    balance(reply)
-}
-
-// The same in a transaction.
-fn read<S: Site + Drop>(book: &mut Database<S>, account: u32) -> Result<u64, Trouble>
-    ensures calls { MakesCalls 0 book.old book.new }
-{
-    let reply = book.read(0, account)?;
-    balance(reply)
-}
-
-fn write<S: Site + Drop>(book: &mut Database<S>, account: u32, amount: u64) -> Result<(), Trouble>
-    ensures calls { MakesCalls 0 book.old book.new }
-{
-    let reply = book.write(0, account, &value_of(amount))?;
-    done(reply)
+    done(book.set(account, &value_of(amount))?)
 }
 
 // Moves an amount, in a transaction that has begun.
-fn transfer<S: Site + Drop>(
-    book: &mut Database<S>,
-    from: u32,
-    to: u32,
-    amount: u64,
-) -> Result<(), Trouble>
+fn transfer<S: Site + Drop>(book: &mut Database<S>, from: u32, to: u32, amount: u64) -> Result<()>
     ensures calls { MakesCalls 0 book.old book.new }
 {
-    let own = read(book, from)?;
-    let left = own.checked_sub(amount).ok_or(Trouble::Amount)?;
-    write(book, from, left)?;
-    let other = read(book, to)?;
-    let more = other.checked_add(amount).ok_or(Trouble::Amount)?;
-    write(book, to, more)
+    let own = balance(book.read(0, from)?)?;
+    let left = own.checked_sub(amount).context("no such amount")?;
+    done(book.write(0, from, &value_of(left))?)?;
+    let other = balance(book.read(0, to)?)?;
+    let more = other.checked_add(amount).context("no such amount")?;
+    done(book.write(0, to, &value_of(more))?)
 }
 
 /// Moves an amount from one account to another.
-pub fn pay<S: Site + Drop>(
-    book: &mut Database<S>,
-    from: u32,
-    to: u32,
-    amount: u64,
-) -> Result<(), Trouble>
+pub fn pay<S: Site + Drop>(book: &mut Database<S>, from: u32, to: u32, amount: u64) -> Result<()>
     ensures one { MakesOneCommit book.old book.new }
 {
     calls_are_durable();
-    let begun = book.begin(0)?;
-    done(begun)?;
+    done(book.begin(0)?)?;
     if let Err(trouble) = transfer(book, from, to, amount) {
-        let _ = book.abort(0);
+        book.abort(0)?;
         return Err(trouble);
     }
-    let reply = book.commit(0)?;
-    done(reply)
+    done(book.commit(0)?)
 }

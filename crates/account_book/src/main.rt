@@ -1,15 +1,15 @@
-//! An account book, the example of a program that links the database. Its lines are `open ACCOUNT AMOUNT`,
-//! `pay FROM TO AMOUNT` and `show ACCOUNT`.
+//! An account book, the example of a program that links the database. Its word is the folder of the book, its lines are
+//! `open ACCOUNT AMOUNT`, `pay FROM TO AMOUNT` and `show ACCOUNT`.
 #![tactic(auto)]
 
 mod book;
-mod trouble;
 
-use book::{open, pay, show};
+use anyhow::{Context, Result, bail};
+use book::{balance, open, pay};
 use database::Database;
-use file_site::FileSite;
+use file_site::{Absence, FileSite, Folder, file_name};
 use site::{Dev, Geometry, Site};
-use trouble::Trouble;
+use std::env;
 
 const SIZES: Geometry = Geometry {
     pages: 16,
@@ -17,38 +17,44 @@ const SIZES: Geometry = Geometry {
     blocks: 64,
 };
 
-// The files of the current folder, which are made where there are none.
-fn files<'a>(rt: &'a HostRuntime) -> Result<FileSite<&'a HostRuntime>, Trouble> {
-    let there = FileSite::existing(rt, rt.alloc())?;
-    if there.len(Dev::Log) > 0 {
-        return Ok(there);
-    }
+// The files of a book in this folder, which are made where they are missing.
+fn files<'a>(rt: &'a HostRuntime, path: &str) -> Result<FileSite<&'a HostRuntime>> {
+    let folder = Folder::new(rt.alloc(), path)?;
     let (log, flash, disk) = SIZES.lengths();
-    Ok(FileSite::fresh(rt, rt.alloc(), log, flash, disk)?)
-}
-
-fn number(word: Option<&str>) -> Option<u32> {
-    word?.parse::<u32>().ok()
+    let files = FileSite::fresh_in(rt, rt.alloc(), &folder, log, flash, disk)?;
+    for dev in [Dev::Log, Dev::Flash, Dev::Disk] {
+        match files.absence(dev) {
+            None => {}
+            Some(Absence::Busy(_)) => bail!("another program works in {path}"),
+            Some(_) => bail!("{} of {path} can't be opened or made", file_name(dev)),
+        }
+    }
+    Ok(files)
 }
 
 // Carries out a line, and answers the balance of its account.
-fn carry_out<S: Site + Drop>(book: &mut Database<S>, line: &str) -> Result<u64, Trouble> {
+fn carry_out<S: Site + Drop>(book: &mut Database<S>, line: &str) -> Result<u64> {
     let mut words = line.split_whitespace();
-    let word = words.next().unwrap_or("");
-    let account = number(words.next()).ok_or(Trouble::Line)?;
-    match (word, number(words.next()), number(words.next())) {
-        ("open", Some(amount), None) => open(book, account, amount as u64)?,
-        ("pay", Some(to), Some(amount)) => pay(book, account, to, amount as u64)?,
-        ("show", None, None) => {}
-        _ => return Err(Trouble::Line),
+    let word = words.next();
+    let mut number = || words.next()?.parse::<u32>().ok();
+    let account = number().context("no such line")?;
+    match (word, number(), number()) {
+        (Some("open"), Some(amount), None) => open(book, account, amount as u64)?,
+        (Some("pay"), Some(to), Some(amount)) => pay(book, account, to, amount as u64)?,
+        (Some("show"), None, None) => {}
+        _ => bail!("no such line"),
     }
-    show(book, account)
+    balance(book.get(account)?)
 }
 
-fn main(rt: HostRuntime) -> Result<(), Trouble> {
-    let mut book = match Database::open(rt.alloc(), files(&rt)?, 64) {
+fn main(rt: HostRuntime) -> Result<()> {
+    let mut words = env::args(&rt)?.skip(1);
+    let (Some(path), None) = (words.next(), words.next()) else {
+        bail!("its word is the folder of the book");
+    };
+    let mut book = match Database::open(rt.alloc(), files(&rt, path.as_str())?, 64) {
         Ok(book) => book,
-        Err(left) => return Err(Trouble::from(left.stop)),
+        Err(left) => bail!("the files of {path} hold no book: {}", left.stop),
     };
     for line in rt.lines(rt.alloc()) {
         match carry_out(&mut book, &line?) {
