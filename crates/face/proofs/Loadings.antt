@@ -18,7 +18,6 @@ use Rattle.engine.specs.Leaves.{LeavesEither}
 use Rattle.engine.specs.Listings.{QueueIsOnFlash}
 use Rattle.engine.specs.SeenVersions.{WhereItFits}
 use Rattle.front_end.specs.declared.halt.Halt.{Halt}
-use Rattle.front_end.specs.declared.halt.Halt.TheVariants as halt
 use Rattle.front_end.specs.Texts.{status_of}
 use Rattle.command_line.specs.declared.request.Load.{Load}
 use Rattle.face.specs.Carrying.{CarriesUntold}

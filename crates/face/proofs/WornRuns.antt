@@ -29,7 +29,6 @@ use Rattle.ring_machine.proofs.Performing.{performs_as, performs_answered}
 use Rattle.redo_undo.specs.Mirroring.{MirrorsStore}
 use Rattle.engine.specs.declared.engine.Engine.{Engine}
 use Rattle.engine.specs.RingWork.{machine_on}
-use Rattle.front_end.specs.declared.halt.Halt.TheVariants as halt
 use Rattle.front_end.specs.Lines.{up_to_quit}
 use Rattle.face.specs.Run.{Run, after_lines, answered, first_lines, state_at, step, turns_of}
 use Rattle.face.specs.Worn.{HasRings, IsMirrored, LeavesItsRings, WearsNone, machine_by, rings_by, rings_of, worn_by}

@@ -1,5 +1,5 @@
 -- What `new` tells after it has only read.
-use Rattle.std.proofs.Common.{◌≡◌, inl, inr, ⊎_elim, ◌++◌, ℕ, List, length, take, refl, arith, le_trans, ◌∙◌, ap, IsTrue}
+use Rattle.std.proofs.Common.{◌≡◌, inl, inr, ⊎_elim, ◌++◌, ℕ, List, take, refl, arith, le_trans, ◌∙◌, ap, IsTrue}
 use Rattle.std.specs.Prelude.{Result}
 use Rattle.site.specs.declared.geometry.Geometry.{Geometry}
 use Rattle.site.specs.declared.outside.Failed.{Failed as CallFailed}

@@ -1,7 +1,6 @@
 use Rattle.std.proofs.Common.{◌≡◌, ◌-◌, ◌+◌, ◌*◌, ◌<◌, ◌≤◌, ◌&&◌, ⊎_elim, ℕ, suc, List, [], ◌∷◌, drop, false, true≢false, refl, sym, ◌∙◌, ap, subst, arith, add-one}
 use Rattle.std.proofs.lemmas.Bool.{cases_lt}
 use Rattle.site.specs.declared.geometry.Geometry.{Geometry}
-use Rattle.site.specs.State.{State as Site}
 use Rattle.record_model.specs.State.{State, is_due}
 use Rattle.record_model.specs.Run.{Line, is_cache}
 use Rattle.workload.specs.Generator.{following, generated, record_of, value_of}
